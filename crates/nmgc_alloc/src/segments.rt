@@ -1,0 +1,448 @@
+//! All segments, by number.
+//!
+//! Placing must take constant time but for the search within one segment, so nothing here looks
+//! through all segments for each object. A table has the number of each mutator's current segment of
+//! each class. For the active segments of a class, the free ones and the ones to be swept there is a
+//! number below which none lies, and a search begins there. What a search found moves it on, and a
+//! sweep that makes a segment free or active moves it back to that segment. So between two cycles the
+//! searches for one class go over the segments once in all. Only the counts look at every segment;
+//! a stop asks for them once.
+//!
+//! Easy to get wrong: a table's number may be of a segment that was filled or retired since, so its
+//! state is looked at; and the table is right about the absence of a current segment only because it
+//! is written each time that one becomes current.
+ghost use Rattle.std.specs.Prelude.{ℕ, ◌≡◌, ◌≢◌, ◌↔◌, ◌<◌, ◌≤◌, map, replicate, count_by, slice_set, IsTrue, IfOk, IfSome, IfNone};
+ghost use Rattle.nmgc_object.specs.Places.{IsLayout};
+ghost use Rattle.nmgc_segment.specs.Marks.{IsEpoch};
+ghost use Rattle.nmgc_segment.specs.Segment.{free_segment, block_count};
+ghost use Rattle.nmgc_alloc.specs.Turns.{prepared, carried_over, retired};
+ghost use Rattle.nmgc_alloc.specs.Search.{is, nth};
+
+use crate::search::{self, Wanted};
+use crate::tables::{CLASSES, PAIRS};
+use crate::turns;
+use nmgc_graph::{MAKERS, NoMemory};
+use nmgc_object::{Address, FIRST_PLACE, Layout, block_words};
+use nmgc_segment::{Segment, State, Swept};
+use std::alloc::Global;
+use std::marker::Model;
+
+/// The segments of a heap, in order of their numbers.
+#[derive(Drop)]
+pub struct Segments {
+    layout: Layout,
+    segments: Vec<Segment>,
+    fresh: u32,
+    current: Vec<u32>,
+    active_from: Vec<u32>,
+    free_from: u32,
+    sweep_from: u32,
+}
+
+impl Model for Segments {
+    ghost use Rattle.nmgc_alloc.specs.Segments.{Segments as Shown, IsSegments, Leads};
+
+    ghost Value = { Shown };
+
+    ghost view = { λ s. record {
+      layout = s.layout;
+      segments = s.segments.items;
+      fresh = s.fresh;
+    } };
+
+    ghost invariant = { λ s. let shown : Shown = record {
+      layout = s.layout;
+      segments = s.segments.items;
+      fresh = s.fresh;
+    } in IsSegments shown × Leads s.segments.items s.current.items s.active_from.items s.free_from s.sweep_from };
+}
+
+// So many free segments.
+fn free_segments(alloc: Global, layout: Layout) -> Result<Vec<Segment>, NoMemory>
+    requires { IsLayout layout }
+    ensures { IfOk result (λ segments. segments.items ≡ replicate layout.segments (free_segment layout.words)) }
+{
+    let mut segments = Vec::new(alloc);
+    for _ in 0..layout.segments {
+        segments.push(Segment::new(alloc, layout.words)?)?;
+    }
+    Ok(segments)
+}
+
+// A table of one number.
+fn table(alloc: Global, length: usize, number: u32) -> Result<Vec<u32>, NoMemory>
+    ensures { IfOk result (λ table. table.items ≡ replicate length number) }
+{
+    Ok(vec![in alloc; number; length]?)
+}
+
+impl Segments {
+    ghost use Rattle.nmgc_alloc.specs.Segments.{all_free, IsMutator, IsClass, IsCurrent, HasNumber, HasRoom, HasNone, HasNoCurrent, Allocates, SweepsNext, IsBlockAt, IsSegments, IsOwn, IsLeast, IsOpen, SearchesFrom, CountsFilled, TakesBlock, IsChosen, SweepsSegment, Marks, IsToMark, as_current, block_place, marked_if};
+
+    /// All segments of a layout, free.
+    pub fn new(alloc: Global, layout: Layout) -> Result<Self, NoMemory>
+        requires { IsLayout layout }
+        ensures { IfOk result (λ segments. segments ≡ all_free layout) }
+    {
+        let segments = free_segments(alloc, layout)?;
+        let current = table(alloc, PAIRS, 0)?;
+        let active_from = table(alloc, CLASSES, layout.segments)?;
+        Ok(Segments {
+            layout,
+            segments,
+            fresh: 0,
+            current,
+            active_from,
+            free_from: 0,
+            sweep_from: layout.segments,
+        })
+    }
+
+    /// The layout. Takes no memory, as every call but `new`.
+    pub fn layout(&self) -> Layout
+        ensures layout { result ≡ self.now.layout }
+        ensures sound { IsSegments self.now }
+    {
+        let _ = &self.segments;
+        self.layout
+    }
+
+    /// How many segments were filled by placing since the last cycle began.
+    pub fn fresh(&self) -> u32
+        ensures { result ≡ self.now.fresh }
+    {
+        self.fresh
+    }
+
+    /// A segment.
+    pub fn segment(&self, number: u32) -> &Segment
+        requires { HasNumber self.now number }
+        ensures { result.now ≡ nth self.now.segments number }
+    {
+        &self.segments[number as usize]
+    }
+
+    /// How many segments are free.
+    pub fn free_count(&self) -> u32
+        ensures { result ≡ count_by (λ segment. is segment.state State.Free) self.now.segments }
+    {
+        search::count(self.segments.as_slice(), State::Free)
+    }
+
+    /// How many segments are filled.
+    pub fn filled_count(&self) -> u32
+        ensures { result ≡ count_by (λ segment. is segment.state State.Filled) self.now.segments }
+    {
+        search::count(self.segments.as_slice(), State::Filled)
+    }
+
+    /// How many segments are to be swept.
+    pub fn sweep_count(&self) -> u32
+        ensures { result ≡ count_by (λ segment. is segment.state State.Sweeping) self.now.segments }
+    {
+        search::count(self.segments.as_slice(), State::Sweeping)
+    }
+
+    // The number that the table has for the mutator and the class.
+    fn noted(&self, mutator: u8, class: u8) -> u32
+        requires mutator { mutator < MAKERS }
+        requires class { class < CLASSES }
+        ensures noted { (number : ℕ) → HasNumber self.now number → IsCurrent mutator class (nth self.now.segments number) → result ≡ number }
+        ensures sound { IsSegments self.now }
+    {
+        let _ = &self.segments;
+        self.current[usize::from(mutator) * CLASSES + usize::from(class)]
+    }
+
+    // The mutator's current segment of the class.
+    fn current_of(&self, mutator: u8, class: u8) -> Option<u32>
+        requires mutator { mutator < MAKERS }
+        requires class { class < CLASSES }
+        ensures some { IfSome result (λ number. IsOwn self.now mutator class number) }
+        ensures none { IfNone result (HasNoCurrent self.now mutator class) }
+    {
+        let number = self.noted(mutator, class);
+        if number as usize >= self.segments.len() {
+            return None;
+        }
+        let segment = &self.segments[number as usize];
+        if segment.state() == (State::Current { mutator }) && segment.class() == class {
+            Some(number)
+        } else {
+            None
+        }
+    }
+
+    // The active segment of the class of least number.
+    fn least_active(&self, class: u8) -> Option<u32>
+        requires { class < CLASSES }
+        ensures some { IfSome result (λ number. IsLeast (Wanted.Active class) self.now number) }
+        ensures none { IfNone result (HasNone (Wanted.Active class) self.now) }
+    {
+        let from = self.active_from[usize::from(class)];
+        let number = search::first(self.segments.as_slice(), from, Wanted::Active { class });
+        if (number as usize) < self.segments.len() {
+            Some(number)
+        } else {
+            None
+        }
+    }
+
+    // The free segment of least number.
+    fn least_free(&self) -> Option<u32>
+        ensures some { IfSome result (λ number. IsLeast Wanted.Free self.now number) }
+        ensures none { IfNone result (HasNone Wanted.Free self.now) }
+    {
+        let number = search::first(self.segments.as_slice(), self.free_from, Wanted::Free);
+        if (number as usize) < self.segments.len() {
+            Some(number)
+        } else {
+            None
+        }
+    }
+
+    // The segment to be swept of least number.
+    fn least_sweeping(&self) -> Option<u32>
+        ensures some { IfSome result (λ number. IsLeast Wanted.Sweeping self.now number) }
+        ensures none { IfNone result (HasNone Wanted.Sweeping self.now) }
+    {
+        let number = search::first(self.segments.as_slice(), self.sweep_from, Wanted::Sweeping);
+        if (number as usize) < self.segments.len() {
+            Some(number)
+        } else {
+            None
+        }
+    }
+
+    // Makes the segment the mutator's current one of the class, and notes below which numbers the
+    // search found no active one of the class and no free one.
+    fn make_current(
+        &mut self,
+        number: u32,
+        mutator: u8,
+        class: u8,
+        active_from: u32,
+        free_from: u32,
+    )
+        requires mutator { mutator < MAKERS }
+        requires class { class < CLASSES }
+        requires fits { IsClass self.old.layout class }
+        requires exists { HasNumber self.old number }
+        requires no_current { HasNoCurrent self.old mutator class }
+        requires open { IsOpen class (nth self.old.segments number) }
+        requires active_from { SearchesFrom (Wanted.Active class) self.old active_from }
+        requires free_from { SearchesFrom Wanted.Free self.old free_from }
+        ensures { self.new ≡ record self.old { segments = slice_set self.old.segments number (as_current mutator class (nth self.old.segments number)) } }
+    {
+        let segment = &mut self.segments[number as usize];
+        turns::open(segment, mutator, class);
+        self.current[usize::from(mutator) * CLASSES + usize::from(class)] = number;
+        self.active_from[usize::from(class)] = active_from;
+        self.free_from = free_from;
+    }
+
+    // Takes the first unused block of a current segment, which is filled where it was the last.
+    fn take_in(&mut self, number: u32) -> u32
+        requires exists { HasNumber self.old number }
+        requires current { (mutator : ℕ) × ((nth self.old.segments number).state ≡ State.Current mutator) }
+        ensures takes { TakesBlock (nth self.old.segments number) (nth self.new.segments number) result }
+        ensures others { self.new.segments ≡ slice_set self.old.segments number (nth self.new.segments number) }
+        ensures layout { self.new.layout ≡ self.old.layout }
+        ensures fresh { CountsFilled (nth self.new.segments number) self.old.fresh self.new.fresh }
+    {
+        let segment = &mut self.segments[number as usize];
+        let block = turns::take_block(segment);
+        if !segment.has_free() {
+            self.fresh = self.fresh.saturating_add(1);
+        }
+        block
+    }
+
+    // Makes the next segment for the mutator's objects of the class current, where none is, and
+    // answers the current one.
+    fn choose(&mut self, mutator: u8, class: u8) -> u32
+        requires mutator { mutator < MAKERS }
+        requires class { class < CLASSES }
+        requires fits { IsClass self.old.layout class }
+        requires room { HasRoom self.old mutator class }
+        ensures chosen { IsChosen self.old mutator class result }
+        ensures value { self.new ≡ record self.old { segments = slice_set self.old.segments result (as_current mutator class (nth self.old.segments result)) } }
+        ensures exists { HasNumber self.new result }
+        ensures current { (nth self.new.segments result).state ≡ State.Current mutator }
+    {
+        if let Some(number) = self.current_of(mutator, class) {
+            return number;
+        }
+        let count = self.segments.len() as u32;
+        let free_from = self.free_from;
+        if let Some(number) = self.least_active(class) {
+            self.make_current(number, mutator, class, number, free_from);
+            return number;
+        }
+        match self.least_free() {
+            Some(number) => {
+                self.make_current(number, mutator, class, count, number);
+                number
+            }
+            None => unreachable!(),
+        }
+    }
+
+    /// Whether an object of the class finds a place: the mutator has a current segment of the class,
+    /// which always has a free block, or there is an active one, or a free one.
+    pub fn has_room(&self, mutator: u8, class: u8) -> bool
+        requires mutator { IsMutator self.now.layout mutator }
+        requires class { IsClass self.now.layout class }
+        ensures { IsTrue result ↔ HasRoom self.now mutator class }
+    {
+        let _ = &self.segments;
+        self.current_of(mutator, class).is_some()
+            || self.least_active(class).is_some()
+            || self.least_free().is_some()
+    }
+
+    /// Places an object of the class for the mutator, and answers where. Constant time but for the
+    /// search of the next unused block, and for the search of the next segment where one was filled.
+    pub fn allocate(&mut self, mutator: u8, class: u8) -> Address
+        requires mutator { IsMutator self.old.layout mutator }
+        requires class { IsClass self.old.layout class }
+        requires room { HasRoom self.old mutator class }
+        ensures { Allocates self.old self.new mutator class result.0 }
+    {
+        let _ = &self.segments;
+        let number = self.choose(mutator, class);
+        let block = self.take_in(number);
+        self.address(number, block)
+    }
+
+    /// The segment and the number of the block that begins at a place. `None` comes exactly where no
+    /// block of a segment that isn't free begins there. Constant time.
+    pub fn block_at(&self, at: Address) -> Option<(u32, u32)>
+        ensures some { IfSome result (λ p. IsBlockAt self.now p.0 p.1 at.0) }
+        ensures none { IfNone result ((number block : ℕ) → IsBlockAt self.now number block at.0 → ⊥) }
+    {
+        let (number, block) = self.candidate(at)?;
+        if self.begins(number, block, at) {
+            Some((number, block))
+        } else {
+            None
+        }
+    }
+
+    /// Marks the block that begins there, and answers whether it is in the snapshot and wasn't marked.
+    /// Where it isn't, nothing changes. Constant time.
+    pub fn mark_at(&mut self, at: Address, epoch: u8) -> bool
+        requires epoch { IsEpoch epoch }
+        requires begins { (number : ℕ) × (block : ℕ) × IsBlockAt self.old number block at.0 }
+        ensures { Marks self.old self.new at.0 epoch result }
+    {
+        match self.candidate(at) {
+            Some((number, block)) => self.mark(number, block, epoch),
+            None => unreachable!(),
+        }
+    }
+
+    // Marks a block where it is in the snapshot and wasn't marked.
+    fn mark(&mut self, number: u32, block: u32, epoch: u8) -> bool
+        requires epoch { IsEpoch epoch }
+        requires exists { HasNumber self.old number }
+        requires block { block < block_count (nth self.old.segments number) }
+        ensures answer { IsTrue result ↔ IsToMark (nth self.old.segments number) epoch block }
+        ensures value { self.new ≡ record self.old { segments = slice_set self.old.segments number (marked_if result epoch block (nth self.old.segments number)) } }
+    {
+        let segment = &mut self.segments[number as usize];
+        turns::mark(segment, block, epoch)
+    }
+
+    // The only block that may begin there.
+    fn candidate(&self, at: Address) -> Option<(u32, u32)>
+        ensures some { IfSome result (λ p. HasNumber self.now p.0 × ((number block : ℕ) → IsBlockAt self.now number block at.0 → (number ≡ p.0) × (block ≡ p.1))) }
+        ensures none { IfNone result ((number block : ℕ) → IsBlockAt self.now number block at.0 → ⊥) }
+    {
+        let words = self.layout.words;
+        let offset = at.0.saturating_sub(FIRST_PLACE);
+        let number = offset / words;
+        if number as usize >= self.segments.len() {
+            return None;
+        }
+        let segment = &self.segments[number as usize];
+        Some((number, offset % words / block_words(segment.class())))
+    }
+
+    // Whether a block of a segment that isn't free begins there.
+    fn begins(&self, number: u32, block: u32, at: Address) -> bool
+        requires { HasNumber self.now number }
+        ensures { IsTrue result ↔ IsBlockAt self.now number block at.0 }
+    {
+        let segment = &self.segments[number as usize];
+        segment.state() != State::Free
+            && block < segment.blocks()
+            && self.address(number, block).0 == at.0
+    }
+
+    // Where a block begins.
+    fn address(&self, number: u32, block: u32) -> Address
+        requires exists { HasNumber self.now number }
+        requires block { block < block_count (nth self.now.segments number) }
+        ensures { result.0 ≡ block_place self.now.layout number (nth self.now.segments number).class block }
+    {
+        let segment = &self.segments[number as usize];
+        Address(self.layout.segment_base(number) + block * block_words(segment.class()))
+    }
+
+    /// Begins a cycle: takes the snapshot of every segment that isn't free, and turns the filled ones
+    /// into ones to be swept.
+    pub fn prepare(&mut self)
+        requires { HasNone Wanted.Sweeping self.old }
+        ensures { self.new ≡ record self.old { segments = map prepared self.old.segments; fresh = 0 } }
+    {
+        turns::prepare_all(self.segments.as_mut_slice());
+        self.fresh = 0;
+        self.sweep_from = 0;
+    }
+
+    /// Carries the marks of every segment that is neither free nor to be swept.
+    pub fn carry(&mut self, epoch: u8)
+        requires { IsEpoch epoch }
+        ensures { self.new ≡ record self.old { segments = map (carried_over epoch) self.old.segments } }
+    {
+        turns::carry_all(self.segments.as_mut_slice(), epoch);
+    }
+
+    /// Sweeps the segment to be swept of least number, and answers the number. `None` comes exactly
+    /// where there is none. Constant time but for the search of that segment and the sweep.
+    pub fn sweep_next(&mut self, epoch: u8) -> Option<u32>
+        requires { IsEpoch epoch }
+        ensures none { IfNone result (HasNone Wanted.Sweeping self.old × (self.new ≡ self.old)) }
+        ensures some { IfSome result (λ number. SweepsNext self.old self.new epoch number) }
+    {
+        let number = self.least_sweeping()?;
+        self.sweep(number, epoch);
+        Some(number)
+    }
+
+    // Sweeps a segment, and notes where it can be found again.
+    fn sweep(&mut self, number: u32, epoch: u8)
+        requires epoch { IsEpoch epoch }
+        requires least { IsLeast Wanted.Sweeping self.old number }
+        ensures sweeps { SweepsSegment (nth self.old.segments number) (nth self.new.segments number) epoch }
+        ensures others { self.new ≡ record self.old { segments = slice_set self.old.segments number (nth self.new.segments number) } }
+    {
+        let segment = &mut self.segments[number as usize];
+        let class = usize::from(segment.class());
+        let swept = turns::sweep(segment, epoch);
+        self.sweep_from = number;
+        match swept {
+            Swept::Free => self.free_from = self.free_from.min(number),
+            Swept::Active => self.active_from[class] = self.active_from[class].min(number),
+            Swept::Filled => {}
+        }
+    }
+
+    /// Files every current and every active segment as filled, before a full cycle.
+    pub fn retire_all(&mut self)
+        ensures { self.new ≡ record self.old { segments = map retired self.old.segments } }
+    {
+        turns::retire_all(self.segments.as_mut_slice());
+    }
+}

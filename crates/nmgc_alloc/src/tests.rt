@@ -1,0 +1,113 @@
+//! Placing, a cycle and a full cycle in a small heap, and a large heap of one-block segments.
+use crate::Segments;
+use nmgc_object::{Address, Layout, block_words};
+use nmgc_segment::State;
+use std::process::Abort;
+use std::test::Fail;
+
+// Places an object, and answers where.
+fn place(rt: &impl Abort, segments: &mut Segments, mutator: u8, class: u8) -> u32 {
+    let layout = segments.layout();
+    assert!(rt; mutator < layout.mutators && class <= 10);
+    assert!(rt; block_words(class) <= layout.words);
+    assert!(rt; segments.has_room(mutator, class));
+    segments.allocate(mutator, class).0
+}
+
+// Begins a cycle. No segment may be left to be swept.
+fn begin(rt: &impl Abort, segments: &mut Segments) {
+    let left = segments.sweep_next(1);
+    assert!(rt; left.is_none());
+    segments.prepare();
+}
+
+// Marks the block at a place, and compares the answer.
+fn mark(rt: &impl Abort, segments: &mut Segments, at: u32, epoch: u8, marked: bool) {
+    assert!(rt; 1 <= epoch && epoch <= 2);
+    let found = segments.block_at(Address(at));
+    assert!(rt; found.is_some(), "no block at {at}");
+    assert_eq!(rt; segments.mark_at(Address(at), epoch), marked, "at {at}");
+}
+
+// Compares the numbers of free, filled and sweeping segments, and of freshly filled ones.
+fn counts(rt: &impl Abort, segments: &Segments, free: u32, filled: u32, sweep: u32, fresh: u32) {
+    assert_eq!(rt; segments.free_count(), free);
+    assert_eq!(rt; segments.filled_count(), filled);
+    assert_eq!(rt; segments.sweep_count(), sweep);
+    assert_eq!(rt; segments.fresh(), fresh);
+}
+
+#[test]
+fn a_cycle(rt: HostRuntime) -> Result<(), Fail> {
+    let layout = Layout {
+        segments: 32,
+        words: 64,
+        nursery: 64,
+        mutators: 2,
+    };
+    assert!(rt; layout.words.is_power_of_two());
+    let mut segments = Segments::new(rt.alloc(), layout)?;
+    counts(&rt, &segments, 32, 0, 0, 0);
+    for block in 0..15u32 {
+        assert_eq!(rt; place(&rt, &mut segments, 0, 0), 32 + 4 * block);
+    }
+    assert_eq!(rt; place(&rt, &mut segments, 1, 0), 96);
+    assert_eq!(rt; place(&rt, &mut segments, 0, 1), 160);
+    counts(&rt, &segments, 29, 0, 0, 0);
+    assert_eq!(rt; place(&rt, &mut segments, 0, 0), 92);
+    counts(&rt, &segments, 29, 1, 0, 1);
+
+    begin(&rt, &mut segments);
+    counts(&rt, &segments, 29, 0, 1, 0);
+    assert_eq!(rt; place(&rt, &mut segments, 0, 0), 224);
+    mark(&rt, &mut segments, 36, 1, true);
+    mark(&rt, &mut segments, 36, 1, false);
+    mark(&rt, &mut segments, 96, 1, true);
+    mark(&rt, &mut segments, 224, 1, false);
+    assert!(rt; segments.block_at(Address(38)).is_none());
+    assert!(rt; segments.block_at(Address(288)).is_none());
+    segments.carry(1);
+    assert_eq!(rt; segments.sweep_next(1), Some(0));
+    assert_eq!(rt; segments.sweep_next(1), None);
+    counts(&rt, &segments, 28, 0, 0, 0);
+
+    segments.retire_all();
+    counts(&rt, &segments, 28, 4, 0, 0);
+    begin(&rt, &mut segments);
+    mark(&rt, &mut segments, 36, 2, true);
+    segments.carry(2);
+    for number in 0..4u32 {
+        assert_eq!(rt; segments.sweep_next(2), Some(number));
+    }
+    counts(&rt, &segments, 31, 0, 0, 0);
+    assert!(rt; 0 < segments.layout().segments);
+    assert!(rt; segments.segment(0).state() == State::Active);
+    assert_eq!(rt; place(&rt, &mut segments, 1, 0), 32);
+    assert_eq!(rt; place(&rt, &mut segments, 1, 0), 40);
+    assert_eq!(rt; place(&rt, &mut segments, 0, 0), 96);
+    Ok(())
+}
+
+// Each placing fills a segment and each sweep frees one, so a search through all segments for each
+// would take minutes.
+#[test]
+fn one_block_segments(rt: HostRuntime) -> Result<(), Fail> {
+    let layout = Layout {
+        segments: 65_536,
+        words: 16,
+        nursery: 16,
+        mutators: 1,
+    };
+    assert!(rt; layout.words.is_power_of_two());
+    let mut segments = Segments::new(rt.alloc(), layout)?;
+    for number in 0..65_536u32 {
+        assert_eq!(rt; place(&rt, &mut segments, 0, 2), 32 + 16 * number);
+    }
+    counts(&rt, &segments, 0, 65_536, 0, 65_536);
+    begin(&rt, &mut segments);
+    for number in 0..65_536u32 {
+        assert_eq!(rt; segments.sweep_next(1), Some(number));
+    }
+    counts(&rt, &segments, 65_536, 0, 0, 0);
+    Ok(())
+}

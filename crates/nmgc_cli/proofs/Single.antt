@@ -1,0 +1,18 @@
+-- A list of one word.
+use Rattle.std.proofs.Common.{◌≡◌, ◌≤◌, ◌<◌, ◌∙◌, ℕ, List, [], ◌∷◌, length, get_or, sym, ap, arith, Bool}
+use Rattle.std.specs.Prelude.{IsTrue}
+use Rattle.std.specs.Str.{bytes_eq}
+use Rattle.std.proofs.lemmas.Slice.Eq.{bytes_eq-Decides}
+
+-- a list of one item is that item alone
+pub single : {A : Type 0} (xs : List A) (x : A) → 1 ≤ length xs → length xs < 2 → x ≡ get_or xs 0 x → xs ≡ x ∷ []
+single [] x some few e = absurd (omega arith)
+single (y ∷ []) x some few e = ap (λ z. z ∷ []) (sym e)
+single (y ∷ z ∷ xs) x some few e = absurd (omega arith)
+
+-- the test of one word is the test of the list of it
+pub is_word : (x y word : List ℕ) (r : Bool) → y ≡ x → r ≡ bytes_eq y word → (IsTrue r → x ∷ [] ≡ word ∷ []) × (x ∷ [] ≡ word ∷ [] → IsTrue r)
+is_word x y word r e test = (
+  (λ (t : IsTrue r). ap (λ (z : List ℕ). z ∷ []) (sym e ∙ (bytes_eq-Decides y word).0 (sym test ∙ t))),
+  (λ (q : x ∷ [] ≡ word ∷ []). let same : x ≡ word = cc in test ∙ (bytes_eq-Decides y word).1 (e ∙ same)),
+)

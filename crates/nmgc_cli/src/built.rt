@@ -1,0 +1,43 @@
+//! Which scripts are built so far. Every other script is told to be unbuilt, and nothing of it is run.
+ghost use Rattle.std.specs.Prelude.{◌≡◌, ◌↔◌, IsTrue, All};
+ghost use Rattle.nmgc_cli.specs.Built.{IsBuilt, IsBuiltCommand};
+
+use nmgc_graph::Command;
+use nmgc_script::Script;
+
+/// Whether the run of a script is built.
+pub fn is_built(script: &Script) -> bool
+    ensures { IsTrue result ↔ IsBuilt script.now }
+{
+    match script.threads.items() {
+        [program] => script.config.trigger == 0 && are_built(program.items()),
+        _ => false,
+    }
+}
+
+// Whether each command is built.
+fn are_built(commands: &[Command]) -> bool
+    ensures { IsTrue result ↔ All IsBuiltCommand commands.now }
+{
+    commands.iter().all(is_built_command)
+}
+
+// Whether a command is built.
+fn is_built_command(command: &Command) -> bool
+    ensures { IsTrue result ↔ IsBuiltCommand command.now }
+{
+    match command {
+        Command::Num { .. }
+        | Command::Nil { .. }
+        | Command::Mov { .. }
+        | Command::Con { .. }
+        | Command::Var { .. }
+        | Command::Arr { .. }
+        | Command::Get { .. }
+        | Command::Set { .. }
+        | Command::Show { .. }
+        | Command::Same { .. }
+        | Command::Yield => true,
+        _ => false,
+    }
+}

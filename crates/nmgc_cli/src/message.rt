@@ -1,0 +1,51 @@
+//! What is written where no report is.
+ghost use Rattle.std.specs.Prelude.{◌≡◌, IfOk};
+ghost use Rattle.nmgc_cli.specs.Told.{message_of, cause_text, bad_line};
+
+use crate::Status;
+use nmgc_graph::NoMemory;
+use nmgc_io::push_number;
+use nmgc_script::Cause;
+use std::alloc::Global;
+
+/// The text of a refusal that has always the same. Takes no memory.
+pub fn message(status: Status) -> &'static [u8]
+    ensures { result.now ≡ message_of status }
+{
+    match status {
+        Status::Usage => b"usage: nmgc run\n",
+        Status::ReadFault => b"read fault\n",
+        Status::TooLong => b"too long\n",
+        Status::NoMemory => b"no memory\n",
+        Status::Unbuilt => b"unbuilt\n",
+        Status::Done | Status::WriteFault | Status::BadScript => b"",
+    }
+}
+
+/// The text that tells the first bad line of a script, from 1, and its cause.
+pub fn bad_line(alloc: Global, line: u32, cause: Cause) -> Result<Vec<u8>, NoMemory>
+    ensures { IfOk result (λ text. text.items ≡ bad_line line cause) }
+{
+    let mut text = Vec::from_slice(alloc, b"bad line ")?;
+    push_number(&mut text, u64::from(line))?;
+    text.push(b' ')?;
+    text.extend_from_slice(cause_text(cause))?;
+    text.push(b'\n')?;
+    Ok(text)
+}
+
+// The word of a cause.
+fn cause_text(cause: Cause) -> &'static [u8]
+    ensures { result.now ≡ cause_text cause }
+{
+    match cause {
+        Cause::Version => b"version",
+        Cause::Heap => b"heap",
+        Cause::Thread => b"thread",
+        Cause::Total => b"total",
+        Cause::Command => b"command",
+        Cause::Arity => b"arity",
+        Cause::Operand => b"operand",
+        Cause::Size => b"size",
+    }
+}

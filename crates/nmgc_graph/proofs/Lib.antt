@@ -1,0 +1,12 @@
+pub mod Closings
+pub mod Follows
+pub mod Growth
+pub mod Kepts
+pub mod Lent
+pub mod Lives
+pub mod Nodes
+pub mod Orders
+pub mod Rows
+pub mod Searches
+pub mod Weaks
+pub mod Worlds

@@ -1,0 +1,81 @@
+-- A set of names as rows of marks: what adding a name changes, and listing the names.
+use Rattle.std.proofs.Common.{◌≡◌, ◌≢◌, ◌<◌, ◌≤◌, ◌+◌, ℕ, List, [], length, get_or, set, inl, inr, refl, sym, ap, ◌∙◌, arith, Bool, true, false, cond, ◌⊎◌, not}
+use Rattle.std.specs.Prelude.{count_by}
+use Rattle.std.proofs.lemmas.Bool.{cases_lt, cases_eq, false≢true}
+use Rattle.std.proofs.lemmas.List.{get_or-set_same, get_or-set_other, get_or_past, length-set}
+use Rattle.std.proofs.lemmas.List.Sums.{sum_by-set}
+use Rattle.nmgc_graph.specs.declared.value.Name.{Name}
+use Rattle.nmgc_graph.specs.Marks.{row_of, mark_of, IsMarked, HasPlace, with_mark, unmarked_count}
+use Rattle.nmgc_graph.specs.Order.{ListsBefore}
+use Rattle.nmgc_graph.proofs.Orders.{lists_maker, same_name}
+
+-- a name of the set has a place
+pub marked_place : (marks : List (List Bool)) (name : Name) → IsMarked marks name → HasPlace marks name
+marked_place marks name m = elim (cases_lt name.serial (length (row_of marks name.maker))) [
+  | inl lt ↦ lt
+  | inr le ↦ absurd (false≢true (sym (get_or_past (row_of marks name.maker) name.serial false le) ∙ m))
+]
+
+-- a name that has a place has a row
+pub place_maker : (marks : List (List Bool)) (name : Name) → HasPlace marks name → name.maker < length marks
+place_maker marks name p = elim (cases_lt name.maker (length marks)) [
+  | inl lt ↦ lt
+  | inr le ↦ let none : row_of marks name.maker ≡ [] = get_or_past marks name.maker [] le in let bad = rw none at p in absurd (omega arith)
+]
+
+-- all marks of a maker were passed
+pub marks_listed : (marks : List (List Bool)) (maker serial : ℕ) (names : List Name) → length (row_of marks maker) ≤ serial → ListsBefore (IsMarked marks) maker serial names → ListsBefore (IsMarked marks) (maker + 1) 0 names
+marks_listed marks maker serial names le l =
+    lists_maker (IsMarked marks) maker serial names (λ n m e. let p : n.serial < length (row_of marks n.maker) = marked_place marks n m in let q = rw e at p in omega arith) l
+
+-- adding a name
+module _ (marks : List (List Bool)) (name : Name) (place : HasPlace marks name) where
+  row_same : row_of (with_mark marks name) name.maker ≡ set (row_of marks name.maker) name.serial true
+  row_same = get_or-set_same marks name.maker (set (row_of marks name.maker) name.serial true) [] (place_maker marks name place)
+
+  row_other : (maker : ℕ) → maker ≢ name.maker → row_of (with_mark marks name) maker ≡ row_of marks maker
+  row_other maker ne = get_or-set_other marks name.maker maker (set (row_of marks name.maker) name.serial true) [] ne
+
+  pub added : IsMarked (with_mark marks name) name
+  added = rw row_same (get_or-set_same (row_of marks name.maker) name.serial true false place)
+
+  pub kept_others : (other : Name) → other ≢ name → mark_of (with_mark marks name) other ≡ mark_of marks other
+  kept_others other ne = elim (cases_eq other.maker name.maker) [
+    | inl e ↦ elim (cases_eq other.serial name.serial) [
+      | inl f ↦ absurd (ne (same_name other name e f))
+      | inr g ↦ rw (e, row_same) (get_or-set_other (row_of marks name.maker) name.serial other.serial true false g)
+    ]
+    | inr g ↦ rw (row_other other.maker g) refl
+  ]
+
+  pub places_kept : (maker : ℕ) → length (row_of (with_mark marks name) maker) ≡ length (row_of marks maker)
+  places_kept maker = elim (cases_eq maker name.maker) [
+    | inl e ↦ rw (e, row_same) (length-set (row_of marks name.maker) name.serial true)
+    | inr g ↦ rw (row_other maker g) refl
+  ]
+
+  pub makers_kept : length (with_mark marks name) ≡ length marks
+  makers_kept = length-set marks name.maker (set (row_of marks name.maker) name.serial true)
+
+count-set : (row : List Bool) (serial : ℕ) → serial < length row → get_or row serial false ≡ false → count_by not (set row serial true) + 1 ≡ count_by not row
+count-set row serial lt e =
+    let h = sum_by-set (λ (x : Bool). cond (not x) 1 0) row serial true false lt in
+    let k = rw e at h in
+    omega arith
+
+-- adding a new name takes it off those that aren't in the set
+pub one_fewer : (marks : List (List Bool)) (name : Name) → HasPlace marks name → mark_of marks name ≡ false → unmarked_count (with_mark marks name) + 1 ≡ unmarked_count marks
+one_fewer marks name place new =
+    let row = row_of marks name.maker in
+    let whole = sum_by-set (count_by not) marks name.maker (set row name.serial true) [] (place_maker marks name place) in
+    let part = count-set row name.serial place new in
+    omega arith
+
+pub name_cases : (a b : Name) → (a ≡ b) ⊎ (a ≢ b)
+name_cases a b = elim (cases_eq a.maker b.maker) [
+  | inl e ↦ elim (cases_eq a.serial b.serial) [
+    | inl f ↦ inl (same_name a b e f)
+    | inr g ↦ inr (λ s. g (ap (λ (n : Name). n.serial) s))
+  ]
+  | inr g ↦ inr (λ s. g (ap (λ (n : Name). n.maker) s))
+]

@@ -1,0 +1,164 @@
+-- Passing over the weak pointers: what a pass marks, and that it is live.
+use Rattle.std.proofs.Common.{◌≡◌, List, [], ◌∷◌, ◌++◌, inl, inr, refl, ap, subst, arith, Bool, true, ◌⊎◌, Option, Some, None}
+use Rattle.std.specs.Prelude.{Contains, All, IsSome, IfSome, option_and_then}
+use Rattle.std.proofs.lemmas.Bool.{cases_Bool}
+use Rattle.std.proofs.lemmas.List.Elements.{All-cons, All-tail}
+use Rattle.nmgc_graph.specs.declared.value.Name.{Name}
+use Rattle.nmgc_graph.specs.declared.value.Value.{Value}
+use Rattle.nmgc_graph.specs.declared.value.Value.TheVariants.{Nil, Number, Ref}
+use Rattle.nmgc_graph.specs.declared.node.Parts.{Parts}
+use Rattle.nmgc_graph.specs.declared.node.Node.{Node}
+use Rattle.nmgc_graph.specs.declared.node.Node.TheVariants.{Con, Var, Arr, Thunk, Weak, Stack}
+use Rattle.nmgc_graph.specs.declared.search.Search.{Search}
+use Rattle.nmgc_graph.specs.World.{World, node_of, AreKnown, IsNodeOf, IsWorld, parts_held}
+use Rattle.nmgc_graph.specs.Marks.{IsMarked, IsPlaced, HasPlaces}
+use Rattle.nmgc_graph.specs.Reach.{IsAlive, IsAliveWeak, IsKeptBy, IsLive}
+use Rattle.nmgc_graph.specs.Search.{with_weak, with_weaks, parts_in, parts_of, is_shown, AreRevived}
+use Rattle.nmgc_graph.proofs.Orders.{contains_head, contains_tail, contains_cases}
+use Rattle.nmgc_graph.proofs.Searches.{Marks, no_marks, then_marks, values_mark, are_placed, name_placed}
+use Rattle.nmgc_graph.proofs.Follows.{places_stay}
+
+-- the parts of a weak pointer are there where it is alive
+parts_alive : (o : Option Node) (parts : Parts) → option_and_then parts_in o ≡ Some parts → o ≡ Some (Weak (Some parts))
+parts_alive None parts e = absurd cc
+parts_alive (Some (Con tag values)) parts e = absurd cc
+parts_alive (Some (Var v)) parts e = absurd cc
+parts_alive (Some (Arr values)) parts e = absurd cc
+parts_alive (Some (Thunk free result)) parts e = absurd cc
+parts_alive (Some (Stack size values)) parts e = absurd cc
+parts_alive (Some (Weak found)) parts e = ap (λ (p : Option Parts). Some (Weak p)) e
+
+pub alive_from_parts : (w : World) (weak : Name) (parts : Parts) → parts_of w weak ≡ Some parts → IsAlive w weak parts
+alive_from_parts w weak parts e = parts_alive (node_of w weak) parts e
+
+pub parts_from_alive : (w : World) (weak : Name) (parts : Parts) → IsAlive w weak parts → parts_of w weak ≡ Some parts
+parts_from_alive w weak parts e = ap (λ (o : Option Node). option_and_then parts_in o) e
+
+-- what an alive weak pointer holds is known
+pub parts_known : (w : World) (o : Option Node) → IfSome o (IsNodeOf w) → (parts : Parts) → option_and_then parts_in o ≡ Some parts → AreKnown w (parts_held (Some parts))
+parts_known w None is parts e = absurd cc
+parts_known w (Some node) is parts e =
+    let there : Some node ≡ Some (Weak (Some parts)) = parts_alive (Some node) parts e in
+    let same : node ≡ Weak (Some parts) = cc in
+    (rw same at is).known
+
+-- what marks the values of a weak pointer
+abbrev pub weak_values : Name → Parts → List Value
+weak_values weak parts = Ref weak ∷ parts.value ∷ parts.finaliser ∷ []
+
+weak_hits : (weak target : Name) (parts : Parts) → IsKeptBy weak parts target → Contains (weak_values weak parts) (Ref target)
+weak_hits weak target parts (inl e) = rw e (contains_head (Ref weak) (parts.value ∷ parts.finaliser ∷ []))
+weak_hits weak target parts (inr (inl e)) =
+    let P : Value → Type 0 = Contains (weak_values weak parts) in
+    subst P e (contains_tail (Ref weak) (parts.value ∷ parts.finaliser ∷ []) parts.value (contains_head parts.value (parts.finaliser ∷ [])))
+weak_hits weak target parts (inr (inr e)) =
+    let P : Value → Type 0 = Contains (weak_values weak parts) in
+    subst P e (contains_tail (Ref weak) (parts.value ∷ parts.finaliser ∷ []) parts.finaliser (contains_tail parts.value (parts.finaliser ∷ []) parts.finaliser (contains_head parts.finaliser [])))
+
+same_ref : (a b : Name) → Ref a ≡ Ref b → b ≡ a
+same_ref a b e = cc
+
+hits_weak : (weak target : Name) (parts : Parts) → Contains (weak_values weak parts) (Ref target) → IsKeptBy weak parts target
+hits_weak weak target parts c = elim (contains_cases (Ref weak) (parts.value ∷ parts.finaliser ∷ []) (Ref target) c) [
+  | inl e ↦ inl (same_ref weak target e)
+  | inr d ↦ elim (contains_cases parts.value (parts.finaliser ∷ []) (Ref target) d) [
+    | inl e ↦ inr (inl e)
+    | inr f ↦ elim (contains_cases parts.finaliser [] (Ref target) f) [
+      | inl e ↦ inr (inr e)
+      | inr none ↦ absurd (omega (arith, none.1))
+    ]
+  ]
+]
+
+-- the key of a weak pointer lets it live
+pub shown_live : (w : World) (extra : List Name) (marks : List (List Bool)) (weak target : Name) (parts : Parts) (key : Value) → parts.key ≡ key → ((n : Name) → IsMarked marks n → IsLive w extra n) → IsAlive w weak parts → is_shown marks key ≡ true → IsKeptBy weak parts target → IsLive w extra target
+shown_live w extra marks weak target parts Nil is sound alive shown kept = IsLive.plain_key weak target parts alive (rw is tt) kept
+shown_live w extra marks weak target parts (Number n) is sound alive shown kept = IsLive.plain_key weak target parts alive (rw is tt) kept
+shown_live w extra marks weak target parts (Ref key) is sound alive shown kept = IsLive.live_key weak target key parts alive is (sound key shown) kept
+
+module _ (w : World) (h : IsWorld w) where
+  module _ (s : Search) (places : HasPlaces w s.marks) (weak : Name) where
+    pub weak_placed : (parts : Parts) → parts_of w weak ≡ Some parts → All (IsPlaced s.marks) (weak_values weak parts)
+    weak_placed parts e =
+        let alive = alive_from_parts w weak parts e in
+        let there : IsSome (node_of w weak) = rw alive refl in
+        All-cons (IsPlaced s.marks) (Ref weak) (parts.value ∷ parts.finaliser ∷ []) (name_placed w s.marks places weak there)
+        (All-tail (IsPlaced s.marks) parts.key (parts.value ∷ parts.finaliser ∷ []) (are_placed w s.marks places (parts_held (Some parts)) (parts_known w (node_of w weak) (h.nodes weak) parts e)))
+
+    -- what a weak pointer marks: what it keeps, where its key is shown
+    step : (o : Option Parts) → parts_of w weak ≡ o → (values : List Value) × Marks s (with_weak s weak o) values × ((n : Name) → Contains values (Ref n) → (parts : Parts) × IsAlive w weak parts × (is_shown s.marks parts.key ≡ true) × IsKeptBy weak parts n)
+    step None e = ([], no_marks s, λ n c. absurd (omega (arith, c.1)))
+    step (Some parts) e = elim (cases_Bool (is_shown s.marks parts.key)) [
+      | inl shown ↦ rw shown (weak_values weak parts, values_mark (weak_values weak parts) s (weak_placed parts e), λ n c. (parts, alive_from_parts w weak parts e, shown, hits_weak weak n parts c))
+      | inr fails ↦ rw fails ([], no_marks s, λ n c. absurd (omega (arith, c.1)))
+    ]
+
+    pub weak_marks : (values : List Value) × Marks s (with_weak s weak (parts_of w weak)) values
+    weak_marks = let t = step (parts_of w weak) refl in (t.0, t.1)
+
+    pub weak_sound : (extra : List Name) → ((n : Name) → IsMarked s.marks n → IsLive w extra n) → (n : Name) → IsMarked (with_weak s weak (parts_of w weak)).marks n → IsLive w extra n
+    weak_sound extra sound n m =
+        let t = step (parts_of w weak) refl in
+        elim (t.1.fresh n m) [
+          | inl old ↦ sound n old
+          | inr new ↦ let p = t.2 n new.0 in shown_live w extra s.marks weak n p.0 p.0.key refl sound p.1 p.2 p.3
+        ]
+
+    pub weak_done : (parts : Parts) (target : Name) → IsAlive w weak parts → is_shown s.marks parts.key ≡ true → IsKeptBy weak parts target → IsMarked (with_weak s weak (parts_of w weak)).marks target
+    weak_done parts target alive shown kept =
+        let e = parts_from_alive w weak parts alive in
+        rw (e, shown) ((values_mark (weak_values weak parts) s (weak_placed parts e)).hit target (weak_hits weak target parts kept))
+
+  pub weaks_mark : (weaks : List Name) (s : Search) → HasPlaces w s.marks → (values : List Value) × Marks s (with_weaks w s weaks) values
+  weaks_mark [] s places = ([], no_marks s)
+  weaks_mark (weak ∷ weaks) s places =
+      let one = weak_marks s places weak in
+      let t = with_weak s weak (parts_of w weak) in
+      let rest = weaks_mark weaks t (places_stay w s t one.0 one.1 places) in
+      (one.0 ++ rest.0, then_marks s t (with_weaks w t weaks) one.0 rest.0 one.1 rest.1)
+
+  pub weaks_sound : (extra : List Name) (weaks : List Name) (s : Search) → HasPlaces w s.marks → ((n : Name) → IsMarked s.marks n → IsLive w extra n) → (n : Name) → IsMarked (with_weaks w s weaks).marks n → IsLive w extra n
+  weaks_sound extra [] s places sound = sound
+  weaks_sound extra (weak ∷ weaks) s places sound =
+      let one = weak_marks s places weak in
+      let t = with_weak s weak (parts_of w weak) in
+      weaks_sound extra weaks t (places_stay w s t one.0 one.1 places) (weak_sound s places weak extra sound)
+
+  -- a key that is shown in the end was shown at the start, or waits
+  key_cases : (s t : Search) (values : List Value) → Marks s t values → (key : Value) → is_shown t.marks key ≡ true → (is_shown s.marks key ≡ true) ⊎ ((name : Name) × (key ≡ Ref name) × Contains t.work name)
+  key_cases s t values m Nil shown = inl refl
+  key_cases s t values m (Number n) shown = inl refl
+  key_cases s t values m (Ref name) shown = elim (m.fresh name shown) [
+    | inl old ↦ inl old
+    | inr new ↦ inr (name, refl, new.1)
+  ]
+
+  pub weaks_done : (weaks : List Name) (s : Search) → HasPlaces w s.marks → (weak target : Name) (parts : Parts) → Contains weaks weak → IsAlive w weak parts → is_shown (with_weaks w s weaks).marks parts.key ≡ true → IsKeptBy weak parts target → ((key : Name) × (parts.key ≡ Ref key) × Contains (with_weaks w s weaks).work key) ⊎ IsMarked (with_weaks w s weaks).marks target
+  weaks_done [] s places weak target parts c alive shown kept = absurd (omega (arith, c.1))
+  weaks_done (x ∷ xs) s places weak target parts c alive shown kept =
+      let one = weak_marks s places x in
+      let t = with_weak s x (parts_of w x) in
+      let placed = places_stay w s t one.0 one.1 places in
+      let rest = weaks_mark xs t placed in
+      elim (contains_cases x xs weak c) [
+        | inl e ↦
+            let both = then_marks s t (with_weaks w t xs) one.0 rest.0 one.1 rest.1 in
+            elim (key_cases s (with_weaks w s (x ∷ xs)) (one.0 ++ rest.0) both parts.key shown) [
+              | inl begun ↦ inr (rest.1.kept target (weak_done s places x parts target (rw e alive) begun (rw e kept)))
+              | inr waits ↦ inl waits
+            ]
+        | inr d ↦ weaks_done xs t placed weak target parts d alive shown kept
+      ]
+
+  -- after a pass over all that are alive, each has done its part
+  pub revived : (weaks : List Name) (s : Search) → HasPlaces w s.marks → ((weak : Name) → IsAliveWeak w weak → Contains weaks weak) → AreRevived w (with_weaks w s weaks)
+  revived weaks s places all weak target parts alive shown kept = weaks_done weaks s places weak target parts (all weak (parts, alive)) alive shown kept
+
+pub in_node_known : (w : World) (node : Node) → IsNodeOf w node → IfSome (parts_in node) (λ parts. AreKnown w (parts_held (Some parts)))
+in_node_known w (Con tag values) is = tt
+in_node_known w (Var v) is = tt
+in_node_known w (Arr values) is = tt
+in_node_known w (Thunk free result) is = tt
+in_node_known w (Stack size values) is = tt
+in_node_known w (Weak None) is = tt
+in_node_known w (Weak (Some parts)) is = is.known

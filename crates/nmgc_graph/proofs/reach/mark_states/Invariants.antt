@@ -1,0 +1,7 @@
+use Rattle.std.proofs.Common.{◌≡◌, take}
+use Rattle.std.specs.Prelude.{flat_map}
+use Rattle.nmgc_graph.specs.Search.{with_values, values_held}
+use Rattle.nmgc_graph.proofs.reach.mark_states.Given as goal
+
+abbrev pub invariant-loop-state : goal.invariant-loop-state
+invariant-loop-state l = l.search ≡ with_values l.initial.search (flat_map values_held (take l.state-index l.states))

@@ -1,0 +1,6 @@
+use Rattle.std.proofs.Common.{◌≡◌, take}
+use Rattle.nmgc_graph.specs.Search.{with_values}
+use Rattle.nmgc_graph.proofs.search.Search.mark_values.Given as goal
+
+abbrev pub invariant-loop-value : goal.invariant-loop-value
+invariant-loop-value l = l.self ≡ with_values l.initial.self (take l.value-index l.values)

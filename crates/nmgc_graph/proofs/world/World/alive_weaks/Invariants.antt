@@ -1,0 +1,6 @@
+use Rattle.nmgc_graph.specs.Reach.{IsAliveWeak}
+use Rattle.nmgc_graph.specs.Order.{ListsBefore}
+use Rattle.nmgc_graph.proofs.world.World.alive_weaks.Given as goal
+
+abbrev pub invariant-loop-maker : goal.invariant-loop-maker
+invariant-loop-maker l = ListsBefore (IsAliveWeak l.self) l.maker 0 l.weaks

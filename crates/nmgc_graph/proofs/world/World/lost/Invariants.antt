@@ -1,0 +1,7 @@
+use Rattle.std.proofs.Common.{◌≡◌, take}
+use Rattle.std.specs.Prelude.{filter}
+use Rattle.nmgc_graph.specs.Search.{is_lost, parts_of}
+use Rattle.nmgc_graph.proofs.world.World.lost.Given as goal
+
+abbrev pub invariant-loop-weak : goal.invariant-loop-weak
+invariant-loop-weak l = l.names ≡ filter (λ weak. is_lost l.search.marks l.set-inside.rows weak (parts_of l.self weak)) (take l.weak-index l.weaks)

@@ -1,0 +1,6 @@
+use Rattle.std.proofs.Common.{◌≡◌, replicate}
+use Rattle.nmgc_graph.specs.World.{new_mutator}
+use Rattle.nmgc_graph.proofs.world.new_mutators.Given as goal
+
+abbrev pub invariant-loop : goal.invariant-loop
+invariant-loop l = l.states ≡ replicate l.counter new_mutator

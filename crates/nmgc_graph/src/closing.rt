@@ -1,0 +1,100 @@
+//! Closing: weak pointers die, and their finalisers are queued.
+//!
+//! The collector finds the dead weak pointers of a snapshot and closes the world with them at a
+//! stop. Each of them dies, and its finaliser, unless nil, joins the end of the finaliser queue of
+//! its maker, in order of the weak pointers' names. So two runs that find the same dead weak
+//! pointers hand out the same finalisers in the same order.
+ghost use Rattle.std.specs.Prelude.{◌≡◌, ◌<◌, All, OnOk, OnErr, length, slice_get, Some, None};
+ghost use Rattle.nmgc_graph.specs.Reach.{queued};
+ghost use Rattle.nmgc_graph.specs.Step.{with_nth};
+ghost use Rattle.nmgc_graph.specs.Closing.{finaliser_of};
+
+use crate::{MutatorState, Name, NoMemory, Node, Value, World};
+
+impl World {
+    ghost use Rattle.nmgc_graph.specs.World.{IsWorld, node_of};
+    ghost use Rattle.nmgc_graph.specs.Reach.{IsAliveWeak, IsInOrder, closed, closed_by};
+    ghost use Rattle.nmgc_graph.specs.Closing.{IsPartlyClosed};
+
+    /// Closes the world with dead weak pointers: each dies, and its finaliser, unless nil, joins the
+    /// end of the queue of the weak pointer's maker, in the order of the names. After `NoMemory` the
+    /// world is closed with the first of them only. Takes time in proportion to their number.
+    pub fn close(&mut self, dead: &[Name]) -> Result<(), NoMemory>
+        requires ordered { IsInOrder dead.now }
+        requires alive { All (IsAliveWeak self.old) dead.now }
+        ensures ok { OnOk result (self.new ≡ closed self.old dead.now) }
+        ensures err { OnErr result (IsPartlyClosed self.old dead.now self.new) }
+        ensures closed { IsWorld self.new }
+    {
+        let answer = self.close_all(dead);
+        let _ = &self.mutators;
+        answer
+    }
+
+    // Each of the weak pointers dies.
+    fn close_all(&mut self, dead: &[Name]) -> Result<(), NoMemory>
+        requires ordered { IsInOrder dead.now }
+        requires alive { All (IsAliveWeak self.old) dead.now }
+        ensures ok { OnOk result (self.new ≡ closed self.old dead.now) }
+        ensures err { OnErr result (IsPartlyClosed self.old dead.now self.new) }
+    {
+        let _ = &self.mutators;
+        for weak in dead {
+            self.close_one(*weak)?;
+        }
+        Ok(())
+    }
+
+    // One weak pointer dies.
+    fn close_one(&mut self, weak: Name) -> Result<(), NoMemory>
+        requires { IsAliveWeak self.old weak }
+        ensures ok { OnOk result (self.new ≡ closed_by self.old weak (node_of self.old weak)) }
+        ensures err { OnErr result (self.new ≡ self.old) }
+    {
+        die(
+            &mut self.mutators.items_mut()[weak.maker as usize],
+            weak.serial,
+        )
+    }
+}
+
+// A weak pointer of this mutator dies, and its finaliser is queued.
+fn die(state: &mut MutatorState, serial: u32) -> Result<(), NoMemory>
+    requires { serial < length state.old.nodes }
+    ensures ok { OnOk result (state.new ≡ queued (with_nth state.old serial (Node.Weak None)) (finaliser_of (slice_get state.old.nodes serial))) }
+    ensures err { OnErr result (state.new ≡ state.old) }
+{
+    let finaliser = finaliser_of(&state.nodes.items()[serial as usize]);
+    enqueue(state, finaliser)?;
+    kill(state, serial);
+    Ok(())
+}
+
+// The finaliser of an alive weak pointer, or else nil.
+fn finaliser_of(node: &Node) -> Value
+    ensures { result ≡ finaliser_of (Some node.now) }
+{
+    match node {
+        Node::Weak { parts: Some(parts) } => parts.finaliser,
+        _ => Value::Nil,
+    }
+}
+
+// A finaliser joins the end of the queue, unless it is nil.
+fn enqueue(state: &mut MutatorState, finaliser: Value) -> Result<(), NoMemory>
+    ensures ok { OnOk result (state.new ≡ queued state.old finaliser) }
+    ensures err { OnErr result (state.new ≡ state.old) }
+{
+    match finaliser {
+        Value::Nil => Ok(()),
+        value => state.queue.push(value),
+    }
+}
+
+// The object at a serial becomes a dead weak pointer.
+fn kill(state: &mut MutatorState, serial: u32)
+    requires { serial < length state.old.nodes }
+    ensures { state.new ≡ with_nth state.old serial (Node.Weak None) }
+{
+    state.nodes.items_mut()[serial as usize] = Node::Weak { parts: None };
+}

@@ -1,0 +1,13 @@
+//! What the world has for one mutator.
+use crate::{List, Node, Queue, Value};
+
+/// The registers and the finaliser queue of a mutator, and the objects that it made.
+///
+/// A node's place in `nodes` is its serial, so the next serial is the number of nodes, looking up a
+/// name takes constant time, and the order of the list is the order of names.
+#[derive(Drop)]
+pub struct MutatorState {
+    pub registers: List<Value>,
+    pub queue: Queue<Value>,
+    pub nodes: List<Node>,
+}

@@ -1,0 +1,312 @@
+//! Live names, dead weak pointers and kept names.
+//!
+//! Each is a least set: what its rules give, and nothing else. The search marks the roots, follows
+//! strong fields until nothing waits, and then passes over the weak pointers that are alive: where a
+//! key is live, the weak pointer, its value and its finaliser are live too. These may lead to the key
+//! of a weak pointer that the pass has gone by, so it follows the fields again and makes another
+//! pass, until a pass marks nothing new. A pass is needed for each weak pointer that revives one
+//! before it, and never more.
+//!
+//! Easy to get wrong: a single pass is not enough, and the weak pointer itself need not be referred to.
+ghost use Rattle.std.specs.Prelude.{◌≡◌, ◌+◌, ◌<◌, [], false, IsSome, IfSome, IfOk, OnOk, All, Contains, length, flat_map, map};
+ghost use Rattle.nmgc_graph.specs.declared.value.Value.TheVariants.{Ref};
+ghost use Rattle.nmgc_graph.specs.declared.value.Name.{Name as NameAt};
+ghost use Rattle.nmgc_graph.specs.Marks.{IsPlaced, mark_of};
+ghost use Rattle.nmgc_graph.specs.Search.{with_values, values_held, parts_in};
+
+use crate::marks::Marks;
+use crate::search::Search;
+use crate::{List, MutatorState, Name, NoMemory, Node, Parts, SHARED_MAKER, Value, World};
+
+impl World {
+    ghost use Rattle.nmgc_graph.specs.World.{AreKnown, parts_held, node_of};
+    ghost use Rattle.nmgc_graph.specs.Reach.{IsAliveWeak, IsLive, IsDead, IsKept, Lists};
+    ghost use Rattle.nmgc_graph.specs.Order.{ListsBefore};
+    ghost use Rattle.nmgc_graph.specs.Marks.{HasPlaces, count_of};
+    ghost use Rattle.nmgc_graph.specs.Search.{IsSearch, IsFollowed, parts_of, with_weak, with_weaks, starts_of, IsLiveSearch, IsLiveFound, IsKeptFound, IsLost, IsSetOf, is_lost, finalisers_of};
+
+    /// The live names in order: g, what registers and finaliser queues refer to, the further names,
+    /// and what these reach along strong fields and by live keys. After `NoMemory` there is no
+    /// answer. Takes time in proportion to the names and their fields, and to a pass over the weak
+    /// pointers for each that revives one before it.
+    pub fn live(&self, extra: &[Name]) -> Result<List<Name>, NoMemory>
+        requires { All (λ name. IsSome (node_of self.now name)) extra.now }
+        ensures { IfOk result (λ names. Lists (IsLive self.now extra.now) names) }
+    {
+        let _ = &self.mutators;
+        let weaks = self.alive_weaks()?;
+        let search = self.find_live(extra, weaks.items())?;
+        search.marks.names(self.alloc)
+    }
+
+    /// The dead weak pointers in order: those that are alive so far and not among `finalised`, and
+    /// whose key is a reference to a name that isn't live. Names of `finalised` that aren't in the
+    /// map count for nothing. Takes as long as `live`.
+    pub fn dead_weaks(&self, extra: &[Name], finalised: &[Name]) -> Result<List<Name>, NoMemory>
+        requires { All (λ name. IsSome (node_of self.now name)) extra.now }
+        ensures { IfOk result (λ names. Lists (IsDead self.now extra.now finalised.now) names) }
+    {
+        let weaks = self.alive_weaks()?;
+        let search = self.find_live(extra, weaks.items())?;
+        self.lost(&search, weaks.items(), finalised)
+    }
+
+    /// The kept names in order: the live ones, the finalisers of the dead weak pointers, and what
+    /// these reach along strong fields. Takes as long as `live`.
+    pub fn kept(&self, extra: &[Name], finalised: &[Name]) -> Result<List<Name>, NoMemory>
+        requires { All (λ name. IsSome (node_of self.now name)) extra.now }
+        ensures { IfOk result (λ names. Lists (IsKept self.now extra.now finalised.now) names) }
+    {
+        let _ = &self.mutators;
+        let search = self.find_kept(extra, finalised)?;
+        search.marks.names(self.alloc)
+    }
+
+    // Marks the kept names.
+    fn find_kept(&self, extra: &[Name], finalised: &[Name]) -> Result<Search, NoMemory>
+        requires { All (λ name. IsSome (node_of self.now name)) extra.now }
+        ensures { IfOk result (IsKeptFound self.now extra.now finalised.now) }
+    {
+        let _ = &self.mutators;
+        let weaks = self.alive_weaks()?;
+        let mut search = self.find_live(extra, weaks.items())?;
+        let dead = self.lost(&search, weaks.items(), finalised)?;
+        self.mark_finalisers(dead.items(), &mut search)?;
+        self.follow(&mut search)?;
+        Ok(search)
+    }
+
+    // The weak pointers that are alive, in order.
+    fn alive_weaks(&self) -> Result<List<Name>, NoMemory>
+        ensures { IfOk result (λ names. Lists (IsAliveWeak self.now) names) }
+    {
+        let mut weaks = List::new(self.alloc);
+        for maker in 0..self.mutators() {
+            self.list_weaks(maker, &mut weaks)?;
+        }
+        Ok(weaks)
+    }
+
+    // Adds the alive weak pointers of one maker to those of the makers before it.
+    fn list_weaks(&self, maker: u8, weaks: &mut List<Name>) -> Result<(), NoMemory>
+        requires maker { maker < length self.now.mutators }
+        requires before { ListsBefore (IsAliveWeak self.now) maker 0 weaks.old }
+        ensures { OnOk result (ListsBefore (IsAliveWeak self.now) (maker + 1) 0 weaks.new) }
+    {
+        let _ = &self.mutators;
+        for serial in 0..self.serial(maker) {
+            let weak = Name { maker, serial };
+            if self.parts(weak).is_some() {
+                weaks.push(weak)?;
+            }
+        }
+        Ok(())
+    }
+
+    // The weak pointers that are lost, in order.
+    fn lost(
+        &self,
+        search: &Search,
+        weaks: &[Name],
+        finalised: &[Name],
+    ) -> Result<List<Name>, NoMemory>
+        requires { Lists (IsAliveWeak self.now) weaks.now }
+        ensures { IfOk result (λ names. Lists (IsLost self.now search.now.marks finalised.now) names) }
+    {
+        let set = self.set_of(finalised)?;
+        let mut names = List::new(self.alloc);
+        for weak in weaks {
+            if self.is_lost(search, *weak, &set) {
+                names.push(*weak)?;
+            }
+        }
+        Ok(names)
+    }
+
+    // Whether a weak pointer is alive and not finalised, and its key isn't live.
+    fn is_lost(&self, search: &Search, weak: Name, finalised: &Marks) -> bool
+        ensures { result ≡ is_lost search.now.marks finalised.now weak (parts_of self.now weak) }
+    {
+        match self.parts(weak) {
+            Some(parts) => !search.shows(parts.key) && !finalised.contains(weak),
+            None => false,
+        }
+    }
+
+    // Those of the names that are in the map, as a set.
+    fn set_of(&self, names: &[Name]) -> Result<Marks, NoMemory>
+        ensures { IfOk result (IsSetOf self.now names.now) }
+    {
+        let mut marks = self.no_names()?;
+        for name in names {
+            if self.node(*name).is_some() {
+                marks.insert(*name);
+            }
+        }
+        Ok(marks)
+    }
+
+    // Marks the finalisers of alive weak pointers.
+    fn mark_finalisers(&self, weaks: &[Name], search: &mut Search) -> Result<(), NoMemory>
+        requires { HasPlaces self.now search.old.marks }
+        ensures { OnOk result (search.new ≡ with_values search.old (finalisers_of self.now weaks.now)) }
+    {
+        let _ = &self.mutators;
+        for weak in weaks {
+            if let Some(parts) = self.parts(*weak) {
+                search.mark_value(parts.finaliser)?;
+            }
+        }
+        Ok(())
+    }
+
+    // Marks all that the names which wait reach along strong fields.
+    fn follow(&self, search: &mut Search) -> Result<(), NoMemory>
+        requires { IsSearch self.now search.old }
+        ensures followed { OnOk result (IsFollowed self.now search.old search.new) }
+        ensures empty { OnOk result (search.new.work ≡ []) }
+    {
+        while let Some(name) = search.work.pop() {
+            if let Some(node) = self.object(Value::Ref(name)) {
+                search.mark_fields(node)?;
+            }
+        }
+        Ok(())
+    }
+
+    // The parts of a weak pointer, where the name is that of an alive one.
+    fn parts(&self, weak: Name) -> Option<Parts>
+        ensures parts { result ≡ parts_of self.now weak }
+        ensures known { IfSome result (λ parts. AreKnown self.now (parts_held (Some parts))) }
+    {
+        match self.object(Value::Ref(weak)) {
+            Some(node) => parts_in(node),
+            None => None,
+        }
+    }
+
+    // A weak pointer marks itself, its value and its finaliser, where its key is live.
+    fn mark_weak(&self, weak: Name, search: &mut Search) -> Result<(), NoMemory>
+        requires { HasPlaces self.now search.old.marks }
+        ensures { OnOk result (search.new ≡ with_weak search.old weak (parts_of self.now weak)) }
+    {
+        let _ = &self.mutators;
+        match self.parts(weak) {
+            Some(parts) if search.shows(parts.key) => {
+                search.mark_values(&[Value::Ref(weak), parts.value, parts.finaliser])
+            }
+            _ => Ok(()),
+        }
+    }
+
+    // Each of the weak pointers does that, one after the other.
+    fn mark_weaks(&self, weaks: &[Name], search: &mut Search) -> Result<(), NoMemory>
+        requires { HasPlaces self.now search.old.marks }
+        ensures { OnOk result (search.new ≡ with_weaks self.now search.old weaks.now) }
+    {
+        let _ = &self.mutators;
+        for weak in weaks {
+            self.mark_weak(*weak, search)?;
+        }
+        Ok(())
+    }
+
+    // How many names a maker has.
+    fn count(&self, maker: u8) -> usize
+        ensures { result ≡ count_of self.now maker }
+    {
+        if maker == SHARED_MAKER {
+            return 1;
+        }
+        match self.mutators.items().get(maker as usize) {
+            Some(state) => state.nodes.items().len(),
+            None => 0,
+        }
+    }
+
+    // The empty set of names of this world.
+    fn no_names(&self) -> Result<Marks, NoMemory>
+        ensures places { IfOk result (λ marks. HasPlaces self.now marks) }
+        ensures none { IfOk result (λ marks. (name : NameAt) → mark_of marks name ≡ false) }
+    {
+        let mut marks = Marks::new(self.alloc);
+        for maker in 0..SHARED_MAKER + 1 {
+            marks.add_maker(self.alloc, self.count(maker))?;
+        }
+        Ok(marks)
+    }
+
+    // Marks g, what the mutators hold, and the further names.
+    fn mark_starts(&self, extra: &[Name], search: &mut Search) -> Result<(), NoMemory>
+        requires extra { All (λ name. IsSome (node_of self.now name)) extra.now }
+        requires places { HasPlaces self.now search.old.marks }
+        ensures { OnOk result (search.new ≡ with_values search.old (starts_of self.now extra.now)) }
+    {
+        let shared = Name {
+            maker: SHARED_MAKER,
+            serial: 0,
+        };
+        search.mark(shared)?;
+        mark_states(self.mutators.items(), search)?;
+        search.mark_names(extra)
+    }
+
+    // The search that has marked what it begins with.
+    fn start(&self, extra: &[Name]) -> Result<Search, NoMemory>
+        requires { All (λ name. IsSome (node_of self.now name)) extra.now }
+        ensures { IfOk result (IsLiveSearch self.now extra.now) }
+    {
+        let mut search = Search {
+            marks: self.no_names()?,
+            work: List::new(self.alloc),
+        };
+        self.mark_starts(extra, &mut search)?;
+        Ok(search)
+    }
+
+    // Marks the live names.
+    fn find_live(&self, extra: &[Name], weaks: &[Name]) -> Result<Search, NoMemory>
+        requires extra { All (λ name. IsSome (node_of self.now name)) extra.now }
+        requires weaks { Lists (IsAliveWeak self.now) weaks.now }
+        ensures { IfOk result (IsLiveFound self.now extra.now) }
+    {
+        let _ = &self.mutators;
+        let mut search = self.start(extra)?;
+        self.mark_weaks(weaks, &mut search)?;
+        while !search.work.items().is_empty() {
+            self.follow(&mut search)?;
+            self.mark_weaks(weaks, &mut search)?;
+        }
+        Ok(search)
+    }
+}
+
+// Marks what the mutators hold.
+fn mark_states(states: &[MutatorState], search: &mut Search) -> Result<(), NoMemory>
+    requires { All (λ state. All (IsPlaced search.old.marks) (values_held state)) states.now }
+    ensures { OnOk result (search.new ≡ with_values search.old (flat_map values_held states.now)) }
+{
+    for state in states {
+        mark_state(state, search)?;
+    }
+    Ok(())
+}
+
+// Marks what a mutator's registers and finaliser queue hold.
+fn mark_state(state: &MutatorState, search: &mut Search) -> Result<(), NoMemory>
+    requires { All (IsPlaced search.old.marks) (values_held state.now) }
+    ensures { OnOk result (search.new ≡ with_values search.old (values_held state.now)) }
+{
+    search.mark_values(state.registers.items())?;
+    search.mark_values(state.queue.items())
+}
+
+// The parts of an alive weak pointer.
+fn parts_in(node: &Node) -> Option<Parts>
+    ensures { result ≡ parts_in node.now }
+{
+    match node {
+        Node::Weak { parts } => *parts,
+        _ => None,
+    }
+}

@@ -1,0 +1,128 @@
+//! What a world has, for reading, and a copy of it.
+ghost use Rattle.std.specs.Prelude.{◌≡◌, ◌<◌, length, IfOk};
+
+use crate::{List, MutatorState, NoMemory, Node, Queue, Value, World};
+use std::alloc::Global;
+
+impl World {
+    ghost use Rattle.nmgc_graph.specs.World.{state_of, serial_of, AreKnown, IsWorld};
+
+    /// The number of mutators. Takes no memory, and constant time.
+    pub fn mutators(&self) -> u8
+        ensures count { result ≡ length self.now.mutators }
+        ensures closed { IsWorld self.now }
+    {
+        self.mutators.items().len() as u8
+    }
+
+    /// The registers of a mutator. Takes no memory, and constant time.
+    pub fn registers(&self, mutator: u8) -> &[Value]
+        requires { mutator < length self.now.mutators }
+        ensures { result.now ≡ (state_of self.now mutator).registers }
+    {
+        self.mutators.items()[mutator as usize].registers.items()
+    }
+
+    /// The serial of the next object that a mutator makes, which is also the number of objects that
+    /// it made. Takes no memory, and constant time.
+    pub fn serial(&self, mutator: u8) -> u32
+        requires { mutator < length self.now.mutators }
+        ensures { result ≡ serial_of self.now mutator }
+    {
+        self.mutators.items()[mutator as usize].nodes.items().len() as u32
+    }
+
+    /// The finaliser queue of a mutator, from the front. Takes no memory, and constant time.
+    pub fn queue(&self, mutator: u8) -> &[Value]
+        requires { mutator < length self.now.mutators }
+        ensures { result.now ≡ (state_of self.now mutator).queue }
+    {
+        self.mutators.items()[mutator as usize].queue.items()
+    }
+
+    /// An equal world, in memory of its own.
+    pub fn copy(&self) -> Result<World, NoMemory>
+        ensures { IfOk result (λ world. world ≡ self.now) }
+    {
+        let shared = copy_node(self.alloc, &self.shared)?;
+        let mutators = copy_states(self.alloc, self.mutators.items())?;
+        Ok(World {
+            alloc: self.alloc,
+            shared,
+            mutators,
+        })
+    }
+}
+
+// An equal node.
+fn copy_node(alloc: Global, node: &Node) -> Result<Node, NoMemory>
+    ensures { IfOk result (λ copy. copy ≡ node.now) }
+{
+    let copy = match node {
+        Node::Con { tag, values } => Node::Con {
+            tag: *tag,
+            values: values.copy(alloc)?,
+        },
+        Node::Var { value } => Node::Var { value: *value },
+        Node::Arr { values } => Node::Arr {
+            values: values.copy(alloc)?,
+        },
+        Node::Thunk { free, result } => Node::Thunk {
+            free: free.copy(alloc)?,
+            result: *result,
+        },
+        Node::Weak { parts } => Node::Weak { parts: *parts },
+        Node::Stack { size, values } => Node::Stack {
+            size: *size,
+            values: values.copy(alloc)?,
+        },
+    };
+    Ok(copy)
+}
+
+// Equal nodes, in the same order.
+fn copy_nodes(alloc: Global, nodes: &[Node]) -> Result<List<Node>, NoMemory>
+    ensures { IfOk result (λ copies. copies ≡ nodes.now) }
+{
+    let mut copies = List::new(alloc);
+    for node in nodes {
+        copies.push(copy_node(alloc, node)?)?;
+    }
+    Ok(copies)
+}
+
+// A queue of the same values.
+fn copy_queue(alloc: Global, values: &[Value]) -> Result<Queue<Value>, NoMemory>
+    ensures { IfOk result (λ queue. queue ≡ values.now) }
+{
+    let mut queue = Queue::new(alloc);
+    for value in values {
+        queue.push(*value)?;
+    }
+    Ok(queue)
+}
+
+// An equal state of a mutator.
+fn copy_state(alloc: Global, state: &MutatorState) -> Result<MutatorState, NoMemory>
+    ensures { IfOk result (λ copy. copy ≡ state.now) }
+{
+    let registers = state.registers.copy(alloc)?;
+    let queue = copy_queue(alloc, state.queue.items())?;
+    let nodes = copy_nodes(alloc, state.nodes.items())?;
+    Ok(MutatorState {
+        registers,
+        queue,
+        nodes,
+    })
+}
+
+// Equal states, in the same order.
+fn copy_states(alloc: Global, states: &[MutatorState]) -> Result<List<MutatorState>, NoMemory>
+    ensures { IfOk result (λ copies. copies ≡ states.now) }
+{
+    let mut copies = List::new(alloc);
+    for state in states {
+        copies.push(copy_state(alloc, state)?)?;
+    }
+    Ok(copies)
+}

@@ -1,0 +1,97 @@
+//! The search for names: which are marked, and which of these still wait.
+//!
+//! A name is marked once and joins the worklist once, as it is found, so a search takes time in
+//! proportion to the names that it marks and the fields that it reads, and it needs no recursion.
+//! Names that are marked and not on the worklist have been dealt with: whoever takes a name off the
+//! worklist has to mark all that it refers to, before anything else is taken off.
+ghost use Rattle.std.specs.Prelude.{◌≡◌, [], All, OnOk, map};
+ghost use Rattle.nmgc_graph.specs.declared.value.Value.TheVariants.{Ref};
+ghost use Rattle.nmgc_graph.specs.Marks.{HasPlace, IsPlaced};
+ghost use Rattle.nmgc_graph.specs.Reach.{strong_fields};
+
+use crate::marks::Marks;
+use crate::{List, Name, NoMemory, Node, Value};
+
+/// The marked names, and those of them that wait.
+#[derive(Drop)]
+pub(crate) struct Search {
+    pub(crate) marks: Marks,
+    pub(crate) work: List<Name>,
+}
+
+impl Search {
+    ghost use Rattle.nmgc_graph.specs.Search.{with_name, with_value, with_values, is_shown};
+
+    /// Marks a name, which then waits, unless it was marked before.
+    pub(crate) fn mark(&mut self, name: Name) -> Result<(), NoMemory>
+        requires { HasPlace self.old.marks name }
+        ensures { OnOk result (self.new ≡ with_name self.old name) }
+    {
+        if self.marks.insert(name) {
+            self.work.push(name)?;
+        }
+        Ok(())
+    }
+
+    /// Marks the name that a value refers to, if it refers to one.
+    pub(crate) fn mark_value(&mut self, value: Value) -> Result<(), NoMemory>
+        requires { IsPlaced self.old.marks value }
+        ensures { OnOk result (self.new ≡ with_value self.old value) }
+    {
+        match value {
+            Value::Ref(name) => self.mark(name),
+            _ => Ok(()),
+        }
+    }
+
+    /// Marks the names that values refer to.
+    pub(crate) fn mark_values(&mut self, values: &[Value]) -> Result<(), NoMemory>
+        requires { All (IsPlaced self.old.marks) values.now }
+        ensures { OnOk result (self.new ≡ with_values self.old values.now) }
+    {
+        for value in values {
+            self.mark_value(*value)?;
+        }
+        Ok(())
+    }
+
+    /// Marks names.
+    pub(crate) fn mark_names(&mut self, names: &[Name]) -> Result<(), NoMemory>
+        requires { All (HasPlace self.old.marks) names.now }
+        ensures { OnOk result (self.new ≡ with_values self.old (map Ref names.now)) }
+    {
+        for name in names {
+            self.mark(*name)?;
+        }
+        Ok(())
+    }
+
+    /// Marks what a node's strong fields refer to.
+    pub(crate) fn mark_fields(&mut self, node: &Node) -> Result<(), NoMemory>
+        requires { All (IsPlaced self.old.marks) (strong_fields node.now) }
+        ensures { OnOk result (self.new ≡ with_values self.old (strong_fields node.now)) }
+    {
+        match node {
+            Node::Con { values, .. } | Node::Arr { values } | Node::Stack { values, .. } => {
+                self.mark_values(values.items())
+            }
+            Node::Var { value } => self.mark_values(&[*value]),
+            Node::Thunk {
+                result: Some(value),
+                ..
+            } => self.mark_values(&[*value]),
+            Node::Thunk { free, result: None } => self.mark_values(free.items()),
+            Node::Weak { .. } => Ok(()),
+        }
+    }
+
+    /// Whether a value is nil, a number, or a reference to a marked name.
+    pub(crate) fn shows(&self, value: Value) -> bool
+        ensures { result ≡ is_shown self.now.marks value }
+    {
+        match value {
+            Value::Ref(name) => self.marks.contains(name),
+            _ => true,
+        }
+    }
+}

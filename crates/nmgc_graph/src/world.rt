@@ -1,0 +1,569 @@
+//! The world of a heap that is never collected.
+//!
+//! A world is a finite map from names to nodes that only grows, with the registers, the finaliser
+//! queue and the next serial of each mutator. Its invariant is that it is closed: every reference in
+//! a register, a queue or a node names a node of the map. The collector is judged by it: a reply of
+//! a run is right where this world gives it.
+//!
+//! Each command works on one level at a time, the state of a mutator or a node, in a function of its
+//! own; a method here only lends the part. Nothing is ever taken off the map, so a reference that
+//! was known stays known, and that is all that closedness needs.
+ghost use Rattle.std.specs.Prelude.{replicate, ◌≡◌, ◌+◌, ◌-◌, ◌<◌, ◌≤◌, ◌^◌, ◌∷◌, ◌++◌, [], length, map, drop, IfOk, IfSome, IsSome, OnOk, OnErr, List as Items, slice_get, option_copied, All};
+ghost use Rattle.nmgc_graph.specs.World.{new_mutator};
+ghost use Rattle.nmgc_graph.specs.Command.{IsOperand, IsRegister};
+ghost use Rattle.nmgc_graph.specs.Step.{value_of, with_new, next_name, holding, with_finaliser, with_nth};
+ghost use Rattle.nmgc_graph.specs.declared.node.Node.{Node as NodeAt};
+ghost use Rattle.nmgc_graph.specs.Change.{given_or, changed, field_read, result_read, value_read};
+
+use crate::change::{Change, change_in_place, read_field, read_result, read_value, same};
+use crate::{
+    Command, List, MAKERS, MutatorState, Name, NoMemory, Node, Operand, Parts, Queue, REGISTERS,
+    Reply, SHARED_MAKER, SHARED_SLOTS, Value,
+};
+use std::alloc::Global;
+use std::marker::Model;
+
+/// Every object that was ever made, and what each mutator has.
+#[derive(Drop)]
+pub struct World {
+    pub(crate) alloc: Global,
+    pub(crate) shared: Node,
+    pub(crate) mutators: List<MutatorState>,
+}
+
+impl Model for World {
+    ghost use Rattle.nmgc_graph.specs.World.{World as Shown, IsWorld};
+
+    ghost Value = { Shown };
+
+    ghost view = { λ w. record { shared = w.shared; mutators = w.mutators } };
+
+    ghost invariant = { λ w. IsWorld (record { shared = w.shared; mutators = w.mutators }) };
+}
+
+impl World {
+    ghost use Rattle.nmgc_graph.specs.World.{node_of, state_of, new_world, IsKnown, IsKnownReply, IsKnownChange, AreKnown, IsNodeOf, IsWorld, serial_of, Grows};
+    ghost use Rattle.nmgc_graph.specs.Command.{HasRegisters, IsMaking, IsReading, IsChanging};
+    ghost use Rattle.nmgc_graph.specs.Step.{step, value_for, values_for, born, with_register, keeping, object_of, read_object, change_object, change_node, next_finaliser, same_reply};
+
+    /// The world of 1 to `MAKERS` mutators before any command: registers are nil, queues are empty,
+    /// g is full of nil, and no mutator has made anything.
+    pub fn new(alloc: Global, mutators: u8) -> Result<Self, NoMemory>
+        requires some { 1 ≤ mutators }
+        requires few { mutators ≤ MAKERS }
+        ensures { IfOk result (λ w. w ≡ new_world mutators) }
+    {
+        let shared = Node::Arr {
+            values: copies(alloc, Value::Nil, SHARED_SLOTS as usize)?,
+        };
+        let mutators = new_mutators(alloc, mutators)?;
+        Ok(World {
+            alloc,
+            shared,
+            mutators,
+        })
+    }
+
+    /// Does one command of a mutator, and answers as the step of the world does. A refusal, or
+    /// `NoMemory`, changes nothing.
+    pub fn apply(&mut self, mutator: u8, command: &Command) -> Result<Reply, NoMemory>
+        requires mutator { mutator < length self.old.mutators }
+        requires registers { HasRegisters command.now }
+        requires serial { serial_of self.old mutator < 2 ^ 32 - 1 }
+        ensures step { IfOk result (λ reply. step self.old mutator command.now ≡ (self.new, reply)) }
+        ensures err { OnErr result (self.new ≡ self.old) }
+        ensures closed { IsWorld self.new }
+        ensures grows { Grows self.old self.new mutator }
+    {
+        let answer = self.answer(mutator, command);
+        let _ = &self.mutators;
+        answer
+    }
+
+    // Does one command of a mutator.
+    fn answer(&mut self, mutator: u8, command: &Command) -> Result<Reply, NoMemory>
+        requires mutator { mutator < length self.old.mutators }
+        requires registers { HasRegisters command.now }
+        requires serial { serial_of self.old mutator < 2 ^ 32 - 1 }
+        ensures step { IfOk result (λ reply. step self.old mutator command.now ≡ (self.new, reply)) }
+        ensures err { OnErr result (self.new ≡ self.old) }
+    {
+        match command {
+            Command::Num { dest, number } => Ok(self.take(mutator, *dest, Value::Number(*number))),
+            Command::Nil { dest } => Ok(self.take(mutator, *dest, Value::Nil)),
+            Command::Mov { dest, value } => Ok(self.take_operand(mutator, *dest, *value)),
+            Command::Show { value } => Ok(Reply::Given(self.value(mutator, *value))),
+            Command::Same { left, right } => Ok(self.compare(mutator, *left, *right)),
+            Command::NextFin { dest } => Ok(self.next_finaliser(mutator, *dest)),
+            Command::Yield | Command::Collect | Command::Full => Ok(Reply::Fine),
+            Command::Get { .. } | Command::Force { .. } | Command::Deref { .. } => {
+                Ok(self.read(mutator, command))
+            }
+            Command::Set { .. }
+            | Command::Cas { .. }
+            | Command::Update { .. }
+            | Command::Push { .. }
+            | Command::Pop { .. }
+            | Command::Finalise { .. } => self.change(mutator, command),
+            _ => self.make(mutator, command),
+        }
+    }
+
+    // Does a command that makes an object.
+    fn make(&mut self, mutator: u8, command: &Command) -> Result<Reply, NoMemory>
+        requires mutator { mutator < length self.old.mutators }
+        requires registers { HasRegisters command.now }
+        requires serial { serial_of self.old mutator < 2 ^ 32 - 1 }
+        requires making { IsMaking command.now }
+        ensures step { IfOk result (λ reply. step self.old mutator command.now ≡ (self.new, reply)) }
+        ensures err { OnErr result (self.new ≡ self.old) }
+    {
+        match command {
+            Command::Con { dest, tag, fields } => {
+                let values = self.values(mutator, fields.items())?;
+                self.add(mutator, *dest, Node::Con { tag: *tag, values })
+            }
+            Command::Var { dest, value } => {
+                let value = self.value(mutator, *value);
+                self.add(mutator, *dest, Node::Var { value })
+            }
+            Command::Arr { dest, count, value } => {
+                let value = self.value(mutator, *value);
+                let values = copies(self.alloc, value, *count as usize)?;
+                self.add(mutator, *dest, Node::Arr { values })
+            }
+            Command::Thunk { dest, free } => {
+                let free = self.values(mutator, free.items())?;
+                self.add(mutator, *dest, Node::Thunk { free, result: None })
+            }
+            Command::Weak {
+                dest,
+                key,
+                value,
+                finaliser,
+            } => {
+                let parts = Parts {
+                    key: self.value(mutator, *key),
+                    value: self.value(mutator, *value),
+                    finaliser: self.value(mutator, *finaliser),
+                };
+                self.add(mutator, *dest, Node::Weak { parts: Some(parts) })
+            }
+            Command::Stack { dest, size } => {
+                let values = List::new(self.alloc);
+                self.add(
+                    mutator,
+                    *dest,
+                    Node::Stack {
+                        size: *size,
+                        values,
+                    },
+                )
+            }
+            _ => unreachable!(),
+        }
+    }
+
+    // Does a command that reads an object and leaves it.
+    fn read(&mut self, mutator: u8, command: &Command) -> Reply
+        requires mutator { mutator < length self.old.mutators }
+        requires registers { HasRegisters command.now }
+        requires reading { IsReading command.now }
+        ensures { step self.old mutator command.now ≡ (self.new, result) }
+    {
+        match command {
+            Command::Get {
+                dest,
+                object,
+                index,
+            } => {
+                let reply = self.field(self.value(mutator, *object), *index);
+                self.keep(mutator, *dest, reply)
+            }
+            Command::Force { dest, object } => {
+                let reply = self.result_of(self.value(mutator, *object));
+                self.keep(mutator, *dest, reply)
+            }
+            Command::Deref { dest, object } => {
+                let reply = self.weak_value(self.value(mutator, *object));
+                self.keep(mutator, *dest, reply)
+            }
+            _ => unreachable!(),
+        }
+    }
+
+    // Reads a field of the object that a value refers to.
+    fn field(&self, object: Value, index: u32) -> Reply
+        ensures reply { result ≡ read_object (object_of self.now object) (λ node. field_read node index) }
+        ensures known { IsKnownReply self.now result }
+    {
+        match self.object(object) {
+            Some(node) => read_field(node, index),
+            None => Reply::NoPointer,
+        }
+    }
+
+    // Reads the result of the thunk that a value refers to.
+    fn result_of(&self, object: Value) -> Reply
+        ensures reply { result ≡ read_object (object_of self.now object) result_read }
+        ensures known { IsKnownReply self.now result }
+    {
+        match self.object(object) {
+            Some(node) => read_result(node),
+            None => Reply::NoPointer,
+        }
+    }
+
+    // Reads the value of the weak pointer that a value refers to.
+    fn weak_value(&self, object: Value) -> Reply
+        ensures reply { result ≡ read_object (object_of self.now object) value_read }
+        ensures known { IsKnownReply self.now result }
+    {
+        match self.object(object) {
+            Some(node) => read_value(node),
+            None => Reply::NoPointer,
+        }
+    }
+
+    // Does a command that may change an object.
+    fn change(&mut self, mutator: u8, command: &Command) -> Result<Reply, NoMemory>
+        requires mutator { mutator < length self.old.mutators }
+        requires registers { HasRegisters command.now }
+        requires changing { IsChanging command.now }
+        ensures step { IfOk result (λ reply. step self.old mutator command.now ≡ (self.new, reply)) }
+        ensures err { OnErr result (self.new ≡ self.old) }
+    {
+        match command {
+            Command::Set {
+                object,
+                index,
+                value,
+            } => {
+                let value = self.value(mutator, *value);
+                let change = Change::Set {
+                    index: *index,
+                    value,
+                };
+                self.change_object(self.value(mutator, *object), change)
+            }
+            Command::Cas {
+                object,
+                index,
+                expected,
+                value,
+            } => {
+                let change = Change::Exchange {
+                    index: *index,
+                    expected: self.value(mutator, *expected),
+                    value: self.value(mutator, *value),
+                };
+                self.change_object(self.value(mutator, *object), change)
+            }
+            Command::Update { object, value } => {
+                let value = self.value(mutator, *value);
+                self.change_object(self.value(mutator, *object), Change::Update { value })
+            }
+            Command::Push { object, value } => {
+                let value = self.value(mutator, *value);
+                self.change_object(
+                    self.value(mutator, *object),
+                    Change::Push { mutator, value },
+                )
+            }
+            Command::Pop { dest, object } => {
+                let reply = self.change_object(
+                    self.value(mutator, *object),
+                    Change::Pop { mutator },
+                )?;
+                Ok(self.keep(mutator, *dest, reply))
+            }
+            Command::Finalise { dest, object } => {
+                let reply = self.change_object(self.value(mutator, *object), Change::Finalise)?;
+                Ok(self.keep(mutator, *dest, reply))
+            }
+            _ => unreachable!(),
+        }
+    }
+
+    // The value of an operand.
+    fn value(&self, mutator: u8, operand: Operand) -> Value
+        requires mutator { mutator < length self.now.mutators }
+        requires operand { IsOperand operand }
+        ensures value { result ≡ value_for self.now mutator operand }
+        ensures known { IsKnown self.now result }
+    {
+        value_at(
+            self.mutators.items()[mutator as usize].registers.items(),
+            operand,
+        )
+    }
+
+    // The values of operands in order.
+    fn values(&self, mutator: u8, operands: &[Operand]) -> Result<List<Value>, NoMemory>
+        requires mutator { mutator < length self.now.mutators }
+        requires operands { All IsOperand operands.now }
+        ensures values { IfOk result (λ values. values ≡ values_for self.now mutator operands.now) }
+        ensures known { IfOk result (AreKnown self.now) }
+    {
+        values_at(
+            self.alloc,
+            self.mutators.items()[mutator as usize].registers.items(),
+            operands,
+        )
+    }
+
+    // The object that a value refers to.
+    pub(crate) fn object(&self, value: Value) -> Option<&Node>
+        ensures object { option_copied result ≡ object_of self.now value }
+        ensures node { IfSome (option_copied result) (IsNodeOf self.now) }
+    {
+        let _ = &self.mutators;
+        match value {
+            Value::Ref(name) => self.node(name),
+            _ => None,
+        }
+    }
+
+    /// The node of a name. `None` comes exactly where the name isn't in the map.
+    /// Takes constant time.
+    pub fn node(&self, name: Name) -> Option<&Node>
+        ensures { option_copied result ≡ node_of self.now name }
+    {
+        if name.maker == SHARED_MAKER {
+            return if name.serial == 0 {
+                Some(&self.shared)
+            } else {
+                None
+            };
+        }
+        let state = self.mutators.items().get(name.maker as usize)?;
+        state.nodes.items().get(name.serial as usize)
+    }
+
+    // A register takes a value.
+    fn take(&mut self, mutator: u8, register: u8, value: Value) -> Reply
+        requires mutator { mutator < length self.old.mutators }
+        requires register { IsRegister register }
+        requires known { IsKnown self.old value }
+        ensures world { self.new ≡ with_register self.old mutator register value }
+        ensures reply { result ≡ Reply.Fine }
+    {
+        hold(
+            &mut self.mutators.items_mut()[mutator as usize],
+            register,
+            value,
+        );
+        Reply::Fine
+    }
+
+    // A register takes an operand's value.
+    fn take_operand(&mut self, mutator: u8, register: u8, operand: Operand) -> Reply
+        requires mutator { mutator < length self.old.mutators }
+        requires register { IsRegister register }
+        requires operand { IsOperand operand }
+        ensures world { self.new ≡ with_register self.old mutator register (value_for self.old mutator operand) }
+        ensures reply { result ≡ Reply.Fine }
+    {
+        let value = self.value(mutator, operand);
+        self.take(mutator, register, value)
+    }
+
+    // Whether two operands have the same value.
+    fn compare(&self, mutator: u8, left: Operand, right: Operand) -> Reply
+        requires mutator { mutator < length self.now.mutators }
+        requires left { IsOperand left }
+        requires right { IsOperand right }
+        ensures { result ≡ same_reply (value_for self.now mutator left) (value_for self.now mutator right) }
+    {
+        if same(self.value(mutator, left), self.value(mutator, right)) {
+            Reply::Yes
+        } else {
+            Reply::No
+        }
+    }
+
+    // A register takes the value that was given, if one was.
+    fn keep(&mut self, mutator: u8, register: u8, reply: Reply) -> Reply
+        requires mutator { mutator < length self.old.mutators }
+        requires register { IsRegister register }
+        requires known { IsKnownReply self.old reply }
+        ensures world { self.new ≡ keeping self.old mutator register reply }
+        ensures reply { result ≡ reply }
+    {
+        if let Reply::Given(value) = reply {
+            self.take(mutator, register, value);
+        }
+        reply
+    }
+
+    // A new node: its reference goes into a register, and its name is the answer.
+    fn add(&mut self, mutator: u8, register: u8, made: Node) -> Result<Reply, NoMemory>
+        requires mutator { mutator < length self.old.mutators }
+        requires register { IsRegister register }
+        requires serial { serial_of self.old mutator < 2 ^ 32 - 1 }
+        requires node { IsNodeOf self.old made }
+        ensures ok { IfOk result (λ reply. born self.old mutator register made ≡ (self.new, reply)) }
+        ensures err { OnErr result (self.new ≡ self.old) }
+    {
+        let state = &mut self.mutators.items_mut()[mutator as usize];
+        let name = add_node(state, mutator, register, made)?;
+        Ok(Reply::Given(Value::Ref(name)))
+    }
+
+    // Changes the object that a value refers to.
+    fn change_object(&mut self, object: Value, change: Change) -> Result<Reply, NoMemory>
+        requires object { IsKnown self.old object }
+        requires known { IsKnownChange self.old change }
+        ensures ok { IfOk result (λ reply. change_object self.old object change ≡ (self.new, reply)) }
+        ensures reply { IfOk result (IsKnownReply self.new) }
+        ensures err { OnErr result (self.new ≡ self.old) }
+    {
+        let _ = &self.mutators;
+        match object {
+            Value::Ref(name) => self.change_node(name, change),
+            _ => Ok(Reply::NoPointer),
+        }
+    }
+
+    // Changes the node of a name.
+    fn change_node(&mut self, name: Name, change: Change) -> Result<Reply, NoMemory>
+        requires there { IsSome (node_of self.old name) }
+        requires known { IsKnownChange self.old change }
+        ensures ok { IfOk result (λ reply. change_node self.old name (node_of self.old name) change ≡ (self.new, reply)) }
+        ensures reply { IfOk result (IsKnownReply self.new) }
+        ensures err { OnErr result (self.new ≡ self.old) }
+    {
+        if name.maker == SHARED_MAKER {
+            return change_in_place(&mut self.shared, SHARED_MAKER, change);
+        }
+        change_nth(
+            &mut self.mutators.items_mut()[name.maker as usize],
+            name,
+            change,
+        )
+    }
+
+    // The first of a mutator's finaliser queue goes off into a register.
+    fn next_finaliser(&mut self, mutator: u8, register: u8) -> Reply
+        requires mutator { mutator < length self.old.mutators }
+        requires register { IsRegister register }
+        ensures { next_finaliser self.old mutator register ≡ (self.new, result) }
+    {
+        take_finaliser(&mut self.mutators.items_mut()[mutator as usize], register)
+    }
+}
+
+// Puts a value into a register.
+fn hold(state: &mut MutatorState, register: u8, value: Value)
+    requires registers { length state.old.registers ≡ REGISTERS }
+    requires register { IsRegister register }
+    ensures { state.new ≡ holding state.old register value }
+{
+    state.registers.items_mut()[register as usize] = value;
+}
+
+// Takes the first finaliser off the queue into a register.
+fn take_finaliser(state: &mut MutatorState, register: u8) -> Reply
+    requires registers { length state.old.registers ≡ REGISTERS }
+    requires register { IsRegister register }
+    ensures state { state.new ≡ with_finaliser state.old register }
+    ensures reply { result ≡ given_or Reply.Nothing (slice_get state.old.queue 0) }
+{
+    let Some(value) = state.queue.take_first() else {
+        return Reply::Nothing;
+    };
+    hold(state, register, value);
+    Reply::Given(value)
+}
+
+// The value of an operand, with these registers.
+fn value_at(registers: &[Value], operand: Operand) -> Value
+    requires operand { IsOperand operand }
+    requires registers { length registers.now ≡ REGISTERS }
+    ensures { result ≡ value_of registers.now operand }
+{
+    match operand {
+        Operand::Register(register) => registers[register as usize],
+        Operand::Shared => Value::Ref(Name {
+            maker: SHARED_MAKER,
+            serial: 0,
+        }),
+    }
+}
+
+// The values of operands in order.
+fn values_at(
+    alloc: Global,
+    registers: &[Value],
+    operands: &[Operand],
+) -> Result<List<Value>, NoMemory>
+    requires operands { All IsOperand operands.now }
+    requires registers { length registers.now ≡ REGISTERS }
+    ensures { IfOk result (λ values. values ≡ map (value_of registers.now) operands.now) }
+{
+    let mut values = Vec::with_capacity(alloc, operands.len())?;
+    for operand in operands {
+        values.push(value_at(registers, *operand))?;
+    }
+    Ok(List::from_vec(values))
+}
+
+// Adds a node to those that a mutator made, and puts its reference into a register.
+fn add_node(
+    state: &mut MutatorState,
+    mutator: u8,
+    register: u8,
+    made: Node,
+) -> Result<Name, NoMemory>
+    requires registers { length state.old.registers ≡ REGISTERS }
+    requires register { IsRegister register }
+    requires serial { length state.old.nodes < 2 ^ 32 - 1 }
+    ensures state { OnOk result (state.new ≡ with_new state.old mutator register made) }
+    ensures name { IfOk result (λ name. name ≡ next_name state.old mutator) }
+    ensures err { OnErr result (state.new ≡ state.old) }
+{
+    let name = Name {
+        maker: mutator,
+        serial: state.nodes.items().len() as u32,
+    };
+    state.nodes.push(made)?;
+    hold(state, register, Value::Ref(name));
+    Ok(name)
+}
+
+// Changes an object that this mutator made.
+fn change_nth(state: &mut MutatorState, name: Name, change: Change) -> Result<Reply, NoMemory>
+    requires { name.serial < length state.old.nodes }
+    ensures state { (old : NodeAt) → slice_get state.old.nodes name.serial ≡ Some old → OnOk result (state.new ≡ with_nth state.old name.serial (changed change name.maker old).0) }
+    ensures reply { (old : NodeAt) → slice_get state.old.nodes name.serial ≡ Some old → IfOk result (λ reply. reply ≡ (changed change name.maker old).1) }
+    ensures err { OnErr result (state.new ≡ state.old) }
+{
+    change_in_place(
+        &mut state.nodes.items_mut()[name.serial as usize],
+        name.maker,
+        change,
+    )
+}
+
+// A list of copies of a value.
+fn copies(alloc: Global, value: Value, count: usize) -> Result<List<Value>, NoMemory>
+    ensures { IfOk result (λ values. values ≡ replicate count value) }
+{
+    Ok(List::from_vec(vec![in alloc; value; count]?))
+}
+
+// So many mutators before any command.
+fn new_mutators(alloc: Global, mutators: u8) -> Result<List<MutatorState>, NoMemory>
+    ensures { IfOk result (λ states. states ≡ replicate mutators new_mutator) }
+{
+    let mut states = List::new(alloc);
+    for _ in 0..mutators {
+        let registers = copies(alloc, Value::Nil, REGISTERS as usize)?;
+        states.push(MutatorState {
+            registers,
+            queue: Queue::new(alloc),
+            nodes: List::new(alloc),
+        })?;
+    }
+    Ok(states)
+}

@@ -1,0 +1,56 @@
+-- The value of a text of digits, read from its front.
+use Rattle.std.proofs.Common.{rules, ◌≡◌, ◌≤◌, ◌<◌, ◌∙◌, ℕ, zero, suc, ◌+◌, ◌-◌, ◌*◌, ◌^◌, List, [], ◌∷◌, true, arith, decimal, get_or, drop, length, ap, sym, drop-cons}
+use Rattle.std.specs.Int.{IsInRange}
+use Rattle.std.specs.Str.{all_ascii_digits}
+use Rattle.std.proofs.lemmas.List.{drop_all}
+use Rattle.std.proofs.lemmas.Str.Parse.{IsDigitsTest, IsNumeralModel, numerals_by_fold}
+use Rattle.std.proofs.lemmas.Fmt.{digits_decimal, digits_value-decimal, decimal-digits_value, decimal_digit, decimal_nonempty, first_decimal}
+
+-- the value of the digits, after a value that was read
+abbrev pub value_after : ℕ → List ℕ → ℕ
+value_after n [] = n
+value_after n (c ∷ cs) = value_after (10 * n + (c - 48)) cs
+
+digits_test : IsDigitsTest (λ ds. all_ascii_digits ds ≡ true)
+digits_test = search rules
+
+pub numerals : IsNumeralModel (λ ds. all_ascii_digits ds ≡ true) (value_after 0)
+numerals = numerals_by_fold _ digits_test value_after (search rules)
+
+-- more digits never make it less
+value_after-le : (n : ℕ) (cs : List ℕ) → n ≤ value_after n cs
+value_after-le n [] = omega arith
+value_after-le n (c ∷ cs) = omega (arith, value_after-le (10 * n + (c - 48)) cs)
+
+-- what a number's text begins with
+pub begins : (n : ℕ) (word : List ℕ) → n < 2 ^ 64 → word ≡ decimal n → (0 < length word) × (get_or word 0 0 ≡ 48 → length word ≡ 1)
+begins zero word small e =
+    let one : length word ≡ 1 = ap length (e ∙ decimal_digit 0 (omega arith)) in
+    (omega arith, λ _. one)
+begins (suc n) word small e =
+    let some : 0 < length word = omega (arith, decimal_nonempty (suc n) small, ap length e) in
+    (some, λ is_zero. absurd (omega (arith, first_decimal (suc n) (omega arith) small, ap (λ (ds : List ℕ). get_or ds 0 0) e)))
+
+-- a digit that makes the value too large, or a byte that is none
+exceeds : (number limit c : ℕ) (cs : List ℕ) → all_ascii_digits (c ∷ cs) ≡ true → (IsInRange 48 57 c → limit < 10 * number + (c - 48)) → limit < value_after number (c ∷ cs)
+exceeds number limit c cs digits none =
+    let large = none (digits_test.parts c cs digits).0 in
+    omega (arith, large, value_after-le (10 * number + (c - 48)) cs)
+
+-- a word is no number's text, where it can't be read on at a place
+pub stops : (number limit n i : ℕ) (word : List ℕ) → n < 2 ^ 64 → i < length word → value_after 0 word ≡ value_after number (drop i word) → all_ascii_digits word ≡ all_ascii_digits (drop i word) → (IsInRange 48 57 (get_or word i 0) → limit < 10 * number + (get_or word i 0 - 48)) → n ≤ limit → word ≡ decimal n → ⊥
+stops number limit n i word small within value digits none le e =
+    let here : drop i word ≡ get_or word i 0 ∷ drop (suc i) word = drop-cons word i 0 within in
+    let all : all_ascii_digits word ≡ true = ap all_ascii_digits e ∙ digits_decimal numerals n small in
+    let rest : all_ascii_digits (get_or word i 0 ∷ drop (suc i) word) ≡ true = sym (ap all_ascii_digits here) ∙ sym digits ∙ all in
+    let large : limit < value_after number (get_or word i 0 ∷ drop (suc i) word) = exceeds number limit (get_or word i 0) (drop (suc i) word) rest none in
+    let is_n : value_after 0 word ≡ n = ap (value_after 0) e ∙ digits_value-decimal numerals n small in
+    omega (arith, ap (value_after number) here)
+
+-- a word that was read to its end is the text of its value
+pub reads_whole : (number i : ℕ) (word : List ℕ) → number < 2 ^ 64 → length word ≤ i → value_after 0 word ≡ value_after number (drop i word) → all_ascii_digits word ≡ all_ascii_digits (drop i word) → (0 < length word) × (get_or word 0 0 ≡ 48 → length word ≡ 1) → word ≡ decimal number
+reads_whole number i word small end value digits begin =
+    let none : drop i word ≡ [] = drop_all i word end in
+    let is_number : value_after 0 word ≡ number = value ∙ ap (value_after number) none in
+    let all : all_ascii_digits word ≡ true = digits ∙ ap all_ascii_digits none in
+    sym (decimal-digits_value numerals word all begin.0 begin.1 (omega arith)) ∙ ap decimal is_number

@@ -1,0 +1,36 @@
+//! Bytes in and out: sources, sinks and numbers as text.
+//!
+//! The program reads a script from a `Source` and writes a report to a `Sink`, and knows nothing else of
+//! the world outside. Both are traits whose contracts name the bytes that are left and taken, so that the
+//! crates above prove 'the bytes read spell this script' and 'the bytes written are this report'. Both
+//! count their faults, and a fault is told upwards only where the count rose, so that no layer can give
+//! up and call it a fault.
+//!
+//! - `source`, `sink`: the two traits; `ends`: how a call may end.
+//! - `memory_source`, `memory_sink`: both over memory, with faults where a caller wants them.
+//! - `standard`: both over the program's standard streams, the trusted edge.
+//! - `transfer`: `read_all` and `write_all`.
+//! - `numbers`: decimal text of numbers, written and read.
+//!
+//! It stands on `nmgc_graph` for `NoMemory` alone. The grammar, the report and the program stand on it.
+#![tactic(auto)]
+
+pub mod ends;
+pub mod memory_sink;
+pub mod memory_source;
+pub mod numbers;
+pub mod sink;
+pub mod source;
+pub mod standard;
+#[cfg(test)]
+mod tests;
+pub mod transfer;
+
+pub use ends::{Failed, ReadEnd, WriteEnd};
+pub use memory_sink::MemorySink;
+pub use memory_source::MemorySource;
+pub use numbers::{push_number, read_number};
+pub use sink::Sink;
+pub use source::Source;
+pub use standard::{StdSink, StdSource};
+pub use transfer::{read_all, write_all};

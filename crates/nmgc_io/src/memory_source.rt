@@ -1,0 +1,100 @@
+//! A source in memory, for tests and for callers that have the bytes.
+//!
+//! It gives its bytes in chunks, and fails at the calls that it was told to fail at, so that every way
+//! in which a reader can be cut short is tried without a real device. Contracts see the bytes that are
+//! left, and never the place at which the reading stands.
+//! Easy to get wrong: a failing call is counted as a call too, and takes no byte.
+ghost use Rattle.std.specs.Prelude.{◌≡◌, ◌↔◌, ◌<◌, ◌≤◌, ◌+◌, ◌++◌, min, length, take, drop, IfOk, IsErr, Contains, Some};
+ghost use Rattle.std.specs.Io.{ReadsAtMost};
+ghost use Rattle.std.specs.Io.KnownBytes.{ReadConsumes};
+ghost use Rattle.nmgc_io.specs.Causes.{HasCause, next};
+
+use crate::{Failed, Source};
+use std::marker::Model;
+
+/// A source that gives the bytes of a vector in chunks, and fails at listed calls.
+#[derive(Drop)]
+pub struct MemorySource {
+    bytes: Vec<u8>,
+    at: usize,
+    chunk: usize,
+    failing: Vec<u64>,
+    calls: u64,
+    faults: u64,
+}
+
+impl Model for MemorySource {
+    ghost use Rattle.std.specs.Prelude.{◌≤◌, drop, vec_len};
+    ghost use Rattle.nmgc_io.specs.Memory.{Supply};
+
+    ghost Value = { Supply };
+
+    ghost view = { λ s. record {
+      bytes = drop s.at s.bytes.items;
+      chunk = s.chunk;
+      failing = s.failing.items;
+      calls = s.calls;
+      faults = s.faults;
+    } };
+
+    ghost invariant = { λ s. (s.at ≤ vec_len s.bytes) × (1 ≤ s.chunk) };
+}
+
+impl MemorySource {
+    /// A source that gives at most `chunk` of these bytes a call, and fails at exactly the calls whose
+    /// numbers, from 1, are listed: with an empty list at none. A call past number 2^64 - 1 has that
+    /// number, and its count of faults, the number of failed calls, stops there too. Takes no memory.
+    pub fn new(bytes: Vec<u8>, chunk: usize, failing: Vec<u64>) -> Self
+        requires { 1 ≤ chunk }
+        ensures { result ≡ record { bytes = bytes.items; chunk = chunk; failing = failing.items; calls = 0; faults = 0 } }
+    {
+        MemorySource {
+            bytes,
+            at: 0,
+            chunk,
+            failing,
+            calls: 0,
+            faults: 0,
+        }
+    }
+}
+
+impl Source for MemorySource {
+    ghost use Rattle.nmgc_io.specs.Memory.{Reads};
+
+    ghost left = { λ s. Some s.bytes };
+
+    ghost faults = { λ s. s.faults };
+
+    fn read(&mut self, buf: &mut [u8]) -> Result<usize, Failed>
+        requires { 0 < length buf.old }
+        ensures bound { ReadsAtMost result buf.new }
+        ensures bytes { ReadConsumes (Some self.old.bytes) (Some self.new.bytes) result buf.new }
+        ensures cause { HasCause self.old.faults self.new.faults result }
+
+        ensures count { IfOk result (λ n. n ≡ min (min (length self.old.bytes) self.old.chunk) (length buf.old)) }
+        ensures fails { IsErr result ↔ Contains self.old.failing (next self.old.calls) }
+        ensures call { Reads self.old self.new result }
+    {
+        self.calls = self.calls.saturating_add(1);
+        if self.failing.contains(&self.calls) {
+            self.faults = self.faults.saturating_add(1);
+            return Err(Failed);
+        }
+        let count = copy_front(&self.bytes, self.at, self.chunk, buf);
+        self.at += count;
+        Ok(count)
+    }
+}
+
+// Copies the bytes from a place on, as many as fit and at most `chunk`, and answers how many.
+fn copy_front(bytes: &[u8], at: usize, chunk: usize, buf: &mut [u8]) -> usize
+    requires { at ≤ length bytes.now }
+    ensures count { result ≡ min (min (length (drop at bytes.now)) chunk) (length buf.old) }
+    ensures given { drop at bytes.now ≡ take result buf.new ++ drop (at + result) bytes.now }
+{
+    let left = &bytes[at..];
+    let count = left.len().min(chunk).min(buf.len());
+    buf[..count].copy_from_slice(&left[..count]);
+    count
+}

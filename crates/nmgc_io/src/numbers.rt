@@ -1,0 +1,65 @@
+//! Numbers as decimal text, as scripts and reports spell them.
+//!
+//! A number is its decimal digits, without sign or leading zeros, so that it has one text and a text has
+//! one number. Both calls run once for each number of a script or a report of many megabytes: `itoa`
+//! writes two digits at a time, and the reading goes over the digits once, with the value so far.
+//! Easy to get wrong: the value is compared with the limit at each digit, since the text of a number past
+//! 64 bits must not wrap round to a small one.
+ghost use Rattle.std.specs.Prelude.{◌≡◌, ◌≢◌, ℕ, ◌+◌, ◌-◌, ◌*◌, ◌<◌, ◌≤◌, ◌++◌, decimal, IfSome, IfNone, IsTrue, ◌↔◌, OnOk, OnErr, length, slice_index};
+ghost use Rattle.std.specs.Int.{IsInRange};
+
+use itoa::Buffer;
+use nmgc_graph::NoMemory;
+
+/// Appends a number's decimal text. After `NoMemory` nothing was appended.
+pub fn push_number(out: &mut Vec<u8>, number: u64) -> Result<(), NoMemory>
+    ensures ok { OnOk result (out.new.items ≡ out.old.items ++ decimal number) }
+    ensures err { OnErr result (out.new.items ≡ out.old.items) }
+{
+    out.extend_from_slice(Buffer::new().format(number).as_bytes())?;
+    Ok(())
+}
+
+/// Reads the decimal text of a number of at most `limit`, without leading zeros. It answers `None`
+/// exactly where the word isn't such a text. Takes no memory.
+pub fn read_number(word: &[u8], limit: u64) -> Option<u64>
+    ensures found { IfSome result (λ n. (word.now ≡ decimal n) × (n ≤ limit)) }
+    ensures none { IfNone result ((n : ℕ) → n ≤ limit → word.now ≢ decimal n) }
+{
+    if !begins_number(word) {
+        return None;
+    }
+    let mut number = 0;
+    for byte in word {
+        number = with_digit(number, *byte, limit)?;
+    }
+    Some(number)
+}
+
+// Whether a word begins as a number's text does: it isn't empty, and a zero stands alone.
+#[inline]
+fn begins_number(word: &[u8]) -> bool
+    ensures { IsTrue result ↔ ((0 < length word.now) × (slice_index word.now 0 ≡ 48 → length word.now ≡ 1)) }
+{
+    match word {
+        [] => false,
+        [first, rest @ ..] => *first != b'0' || rest.is_empty(),
+    }
+}
+
+// The number with one more digit at its end, where the byte is a digit and the limit allows it.
+#[inline(always)]
+fn with_digit(number: u64, byte: u8, limit: u64) -> Option<u64>
+    ensures digit { IfSome result (λ n. IsInRange 48 57 byte × (n ≡ 10 * number + (byte - 48))) }
+    ensures within { IfSome result (λ n. n ≤ limit) }
+    ensures none { IfNone result (IsInRange 48 57 byte → limit < 10 * number + (byte - 48)) }
+{
+    if !byte.is_ascii_digit() {
+        return None;
+    }
+    let more = number.checked_mul(10)?.checked_add((byte - b'0') as u64)?;
+    if more > limit {
+        return None;
+    }
+    Some(more)
+}

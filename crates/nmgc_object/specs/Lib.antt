@@ -1,0 +1,4 @@
+pub mod FinQueue
+pub mod Places
+pub mod Size
+pub mod Words

@@ -1,0 +1,67 @@
+-- What is a header, a name and a field, and the word of each.
+use Rattle.std.specs.Prelude.{ℕ, ◌≡◌, ◌+◌, ◌*◌, ◌<◌, ◌≤◌, ◌^◌}
+use Rattle.nmgc_graph.specs.declared.value.TheConstants.{SHARED_MAKER}
+use Rattle.nmgc_graph.specs.declared.value.Name.{Name}
+use Rattle.nmgc_graph.specs.declared.node.Kind.{Kind}
+use Rattle.nmgc_graph.specs.declared.node.Kind.TheVariants.{Con, Var, Arr, Thunk, Weak, Stack}
+use Rattle.nmgc_object.specs.declared.words.TheConstants.{TAGS, MAX_FIELDS, MAX_THUNK_FIELDS, VAR_FIELDS, WEAK_FIELDS, NUMBER_LIMIT, TAG_UNIT, FIELDS_UNIT, SERIAL_UNIT, NIL_WORD, ZERO_WORD}
+use Rattle.nmgc_object.specs.declared.words.Header.{Header}
+use Rattle.nmgc_object.specs.declared.words.Field.{Field}
+use Rattle.nmgc_object.specs.declared.words.Field.TheVariants.{Unset, Nil, Number, Pointer}
+
+-- the number of a kind in a header word
+abbrev pub kind_number : Kind → ℕ
+kind_number Con = 1
+kind_number Var = 2
+kind_number Arr = 3
+kind_number Thunk = 4
+kind_number Weak = 5
+kind_number Stack = 6
+
+-- only constructors have a tag
+abbrev pub HasTag : Kind → ℕ → Type 0
+HasTag Con tag = tag < TAGS
+HasTag Var tag = tag ≡ 0
+HasTag Arr tag = tag ≡ 0
+HasTag Thunk tag = tag ≡ 0
+HasTag Weak tag = tag ≡ 0
+HasTag Stack tag = tag ≡ 0
+
+-- an object of the kind may have so many fields
+abbrev pub HasFields : Kind → ℕ → Type 0
+HasFields Con fields = fields ≤ MAX_FIELDS
+HasFields Var fields = fields ≡ VAR_FIELDS
+HasFields Arr fields = fields ≤ MAX_FIELDS
+HasFields Thunk fields = (1 ≤ fields) × (fields ≤ MAX_THUNK_FIELDS)
+HasFields Weak fields = fields ≡ WEAK_FIELDS
+HasFields Stack fields = fields ≤ MAX_FIELDS
+
+-- an object may have the header
+abbrev pub IsHeader : Header → Type 0
+IsHeader header = HasTag header.kind header.tag × HasFields header.kind header.fields
+
+-- the word of a header
+abbrev pub header_word : Header → ℕ
+header_word header = kind_number header.kind + TAG_UNIT * header.tag + FIELDS_UNIT * header.fields
+
+-- some object may have the name: g has but one
+abbrev pub IsName : Name → Type 0
+IsName name = (name.maker ≤ SHARED_MAKER) × (name.serial < 2 ^ 32) × (name.maker ≡ SHARED_MAKER → name.serial ≡ 0)
+
+-- the word of a name
+abbrev pub name_word : Name → ℕ
+name_word name = SERIAL_UNIT * name.serial + name.maker
+
+-- a field may hold it
+abbrev pub IsField : Field → Type 0
+IsField Unset = Unit {0}
+IsField Nil = Unit {0}
+IsField (Number n) = n < NUMBER_LIMIT
+IsField (Pointer at) = (1 ≤ at.0) × (at.0 < 2 ^ 32)
+
+-- the word of a field
+abbrev pub field_word : Field → ℕ
+field_word Unset = 0
+field_word Nil = NIL_WORD
+field_word (Number n) = 2 * n + ZERO_WORD
+field_word (Pointer at) = 2 * at.0

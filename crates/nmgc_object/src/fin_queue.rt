@@ -1,0 +1,113 @@
+//! The queue of a mutator's finalisers, as field words.
+//!
+//! A dead weak pointer's finaliser waits here until the mutator takes it. The words are pointers into
+//! the heap, so promotion reads the queue as roots and writes forwarded pointers back.
+//!
+//! Deaths are queued at a stop that must not run out of memory, so room is made before: `add` only
+//! uses it. Taking the first word moves an index and no words. What was taken keeps its memory until
+//! the queue is empty, or until room is made while more words were taken than are left.
+ghost use Rattle.std.specs.Prelude.{◌≡◌, ◌+◌, ◌-◌, ◌<◌, ◌≤◌, [], ◌∷◌, ◌++◌, length, drop, slice_get, slice_set, OnOk, OnErr};
+
+use nmgc_graph::NoMemory;
+use std::alloc::Global;
+use std::marker::Model;
+
+/// Field words in order, and room for more.
+#[derive(Drop)]
+pub struct FinQueue {
+    words: Vec<u64>,
+    first: usize,
+}
+
+impl Model for FinQueue {
+    ghost use Rattle.std.specs.Prelude.{◌-◌, ◌≤◌, drop, vec_len, vec_capacity};
+    ghost use Rattle.nmgc_object.specs.FinQueue.{FinQueue as Shown};
+
+    ghost Value = { Shown };
+
+    ghost view = { λ q. record {
+      words = drop q.first q.words.items;
+      spare = vec_capacity q.words - vec_len q.words;
+    } };
+
+    ghost invariant = { λ q. q.first ≤ vec_len q.words };
+}
+
+impl FinQueue {
+    /// An empty queue without room. Takes no memory.
+    pub fn new(alloc: Global) -> Self
+        ensures words { result.words ≡ [] }
+        ensures spare { result.spare ≡ 0 }
+    {
+        FinQueue {
+            words: Vec::new(alloc),
+            first: 0,
+        }
+    }
+
+    /// Makes room for at least so many more words. After `NoMemory` the words are unchanged. The
+    /// memory of words that were taken is used again once they outnumber those that are left, so the
+    /// moves cost no more than the taking did.
+    pub fn reserve(&mut self, more: u32) -> Result<(), NoMemory>
+        ensures words { self.new.words ≡ self.old.words }
+        ensures room { OnOk result (more ≤ self.new.spare) }
+        ensures kept { self.old.spare ≤ self.new.spare }
+    {
+        if self.words.len() - self.first < self.first {
+            self.forget_taken();
+        }
+        self.words.reserve(more as usize)?;
+        Ok(())
+    }
+
+    // Moves the words to the front of their memory.
+    fn forget_taken(&mut self)
+        ensures words { self.new.words ≡ self.old.words }
+        ensures kept { self.old.spare ≤ self.new.spare }
+    {
+        let left = self.words.len() - self.first;
+        self.words.copy_within(self.first.., 0);
+        self.words.truncate(left);
+        self.first = 0;
+    }
+
+    /// Adds a word at the end. Takes no memory.
+    pub fn add(&mut self, word: u64)
+        requires { 0 < self.old.spare }
+        ensures words { self.new.words ≡ self.old.words ++ word ∷ [] }
+        ensures spare { self.new.spare + 1 ≡ self.old.spare }
+    {
+        self.words.push_reserved(word);
+    }
+
+    /// Takes the first word off. `None` comes exactly where the queue is empty. Constant time.
+    pub fn take_first(&mut self) -> Option<u64>
+        ensures first { result ≡ slice_get self.old.words 0 }
+        ensures rest { self.new.words ≡ drop 1 self.old.words }
+        ensures kept { self.old.spare ≤ self.new.spare }
+    {
+        let word = self.words.get(self.first).copied()?;
+        self.first += 1;
+        if self.first == self.words.len() {
+            self.words.clear();
+            self.first = 0;
+        }
+        Some(word)
+    }
+
+    /// The words in order. Takes no memory.
+    pub fn words(&self) -> &[u64]
+        ensures { result.now ≡ self.now.words }
+    {
+        &self.words[self.first..]
+    }
+
+    /// Changes the word at a place of the queue, and no other. Takes no memory.
+    pub fn set(&mut self, place: u32, word: u64)
+        requires { place < length self.old.words }
+        ensures words { self.new.words ≡ slice_set self.old.words place word }
+        ensures spare { self.new.spare ≡ self.old.spare }
+    {
+        self.words[self.first + place as usize] = word;
+    }
+}

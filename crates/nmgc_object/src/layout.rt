@@ -1,0 +1,107 @@
+//! Which words belong to whom.
+//!
+//! Word 0 belongs to nobody. The shared array g has the words from `SHARED_PLACE`, and what is left
+//! below `FIRST_PLACE` is unused. Then come the segments, one after the other, and then a nursery
+//! for each mutator. Every part of the collector takes places from here, so that no two of them ever
+//! write the same word: `laws` has the promise that the parts lie apart.
+ghost use Rattle.std.specs.Prelude.{ℕ, ◌≡◌, ◌↔◌, ◌+◌, ◌-◌, ◌<◌, ◌≤◌};
+ghost use Rattle.nmgc_object.specs.Size.{block_size};
+ghost use Rattle.nmgc_object.specs.Places.{IsLayout, segment_place, nursery_place, word_total, class_count, reserve_count};
+
+use crate::size::{HEADER_WORDS, class_of};
+use nmgc_graph::SHARED_SLOTS;
+
+/// Where the shared array begins.
+pub const SHARED_PLACE: u32 = 1;
+
+/// Where the first segment begins.
+pub const FIRST_PLACE: u32 = 32;
+
+const _: () = prove!(SHARED_PLACE + HEADER_WORDS + SHARED_SLOTS as u32 <= FIRST_PLACE);
+
+/// The most segments.
+pub const MAX_SEGMENTS: u32 = 65_536;
+
+/// The fewest words of a segment.
+pub const MIN_SEGMENT_WORDS: u32 = 16;
+
+/// The most words of a segment.
+pub const MAX_SEGMENT_WORDS: u32 = 4096;
+
+/// The most words of all segments and nurseries together.
+pub const MAX_HEAP_WORDS: u32 = 4_194_304;
+
+/// The sizes of a heap: how many segments of how many words, and how many mutators with a nursery
+/// of how many words.
+#[derive(Clone, Copy, Debug, PartialEq, Eq)]
+pub struct Layout {
+    pub segments: u32,
+    pub words: u32,
+    pub nursery: u32,
+    pub mutators: u8,
+}
+
+/// A mutator's nursery: its words from `base` to `end`, of which those from `top` on are unused.
+#[derive(Clone, Copy, Debug, PartialEq, Eq)]
+pub struct Nursery {
+    pub base: u32,
+    pub top: u32,
+    pub end: u32,
+}
+
+impl Layout {
+    /// The place of a segment's first word. Takes no memory.
+    pub fn segment_base(&self, segment: u32) -> u32
+        requires layout { IsLayout self.now }
+        requires segment { segment < self.now.segments }
+        ensures { result ≡ segment_place self.now segment }
+    {
+        FIRST_PLACE + segment * self.words
+    }
+
+    /// The place of the first word of a mutator's nursery. Takes no memory.
+    pub fn nursery_base(&self, mutator: u8) -> u32
+        requires layout { IsLayout self.now }
+        requires mutator { mutator < self.now.mutators }
+        ensures { result ≡ nursery_place self.now mutator }
+    {
+        FIRST_PLACE + self.segments * self.words + u32::from(mutator) * self.nursery
+    }
+
+    /// How many words the heap has. Takes no memory.
+    pub fn total(&self) -> u32
+        requires { IsLayout self.now }
+        ensures { result ≡ word_total self.now }
+    {
+        FIRST_PLACE + self.segments * self.words + u32::from(self.mutators) * self.nursery
+    }
+
+    /// How many classes of blocks there are: those whose block fits into a segment. Takes no memory.
+    pub fn classes(&self) -> u8
+        requires { IsLayout self.now }
+        ensures count { result ≡ class_count self.now }
+        ensures fitting { (class : ℕ) → class < result ↔ block_size class ≤ self.now.words }
+    {
+        class_of(self.words) + 1
+    }
+
+    /// How many free segments suffice to promote every nursery: those that the words of full
+    /// nurseries take at twice their size, and one for each class of each mutator. Takes no memory.
+    pub fn reserve(&self) -> u32
+        requires { IsLayout self.now }
+        ensures { result ≡ reserve_count self.now }
+    {
+        let mutators = u32::from(self.mutators);
+        2 * mutators * self.nursery / self.words + u32::from(self.classes()) * mutators
+    }
+}
+
+impl Nursery {
+    /// How many words are left. Takes no memory.
+    pub fn left(&self) -> u32
+        requires { self.now.top ≤ self.now.end }
+        ensures { result ≡ self.now.end - self.now.top }
+    {
+        self.end - self.top
+    }
+}

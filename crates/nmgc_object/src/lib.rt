@@ -1,0 +1,31 @@
+//! The layout of the heap's words: what a word means, how many words an object has, and which words
+//! belong to whom.
+//!
+//! The collector's heap is one array of 64-bit words. This crate is the only one that knows how a
+//! header, a name and a field are written there, and where segments and nurseries begin. Everything
+//! above it speaks of headers, names, fields and places, and cites the definitions in `specs/`.
+//!
+//! `words` has the three kinds of word, `size` the words of an object and the classes of blocks,
+//! `layout` the places, and `fin_queue` the queue of finalisers, which is kept as field words
+//! because the collector has to find and forward the pointers in it.
+#![tactic(auto)]
+
+pub mod fin_queue;
+pub mod laws;
+pub mod layout;
+pub mod size;
+pub mod words;
+
+pub use fin_queue::FinQueue;
+pub use layout::{
+    FIRST_PLACE, Layout, MAX_HEAP_WORDS, MAX_SEGMENT_WORDS, MAX_SEGMENTS, MIN_SEGMENT_WORDS,
+    Nursery, SHARED_PLACE,
+};
+pub use size::{HEADER_WORDS, MAX_PARTS, MIN_BLOCK_WORDS, block_words, class_of, words_of};
+pub use words::{
+    Address, Field, Header, MAX_FIELDS, NUMBER_LIMIT, decode_header, decode_name, decode_value,
+    encode_header, encode_name, encode_value,
+};
+
+#[cfg(test)]
+mod tests;

@@ -1,0 +1,66 @@
+//! How many words an object has, and the classes of blocks.
+//!
+//! Blocks have 4, 8, 16 words and so on, one class for each size up to a whole segment. An object
+//! goes into a block of the least class that holds it, so less than half of a block of more than 4
+//! words is wasted.
+ghost use Rattle.std.specs.Prelude.{ℕ, ◌≡◌, ◌+◌, ◌*◌, ◌^◌, ◌<◌, ◌≤◌};
+ghost use Rattle.nmgc_object.specs.Size.{word_count, block_size};
+
+use crate::words::{VAR_FIELDS, WEAK_FIELDS};
+use nmgc_graph::Kind;
+
+/// The words before an object's fields: the header and the name.
+pub const HEADER_WORDS: u32 = 2;
+
+/// The most parts that `words_of` is asked for.
+pub const MAX_PARTS: u32 = 4094;
+
+/// The words of a block of class 0.
+pub const MIN_BLOCK_WORDS: u32 = 4;
+
+/// The greatest class. Its block is the largest segment.
+pub const MAX_CLASS: u8 = 10;
+
+/// The words of a block of the greatest class.
+pub const MAX_BLOCK_WORDS: u32 = 4096;
+
+/// The words of an object of this kind with so many parts: the values of a constructor or an array,
+/// the free variables of a thunk, the slots of a stack. A thunk has one word more, for its result;
+/// a variable and a weak pointer have a fixed size. Takes no memory.
+pub fn words_of(kind: Kind, parts: u32) -> u32
+    requires { parts ≤ MAX_PARTS }
+    ensures { result ≡ word_count kind parts }
+{
+    let fields = match kind {
+        Kind::Con | Kind::Arr | Kind::Stack => parts,
+        Kind::Var => VAR_FIELDS,
+        Kind::Weak => WEAK_FIELDS,
+        Kind::Thunk => parts + 1,
+    };
+    HEADER_WORDS + fields
+}
+
+/// The words of a block of this class. Takes no memory.
+pub fn block_words(class: u8) -> u32
+    requires { class ≤ MAX_CLASS }
+    ensures size { result ≡ block_size class }
+    ensures most { result ≤ MAX_BLOCK_WORDS }
+{
+    MIN_BLOCK_WORDS << class
+}
+
+/// The least class whose block holds so many words. Takes no memory.
+pub fn class_of(words: u32) -> u8
+    requires least { 2 ≤ words }
+    requires most { words ≤ MAX_BLOCK_WORDS }
+    ensures holds { words ≤ block_size result }
+    ensures least { (class : ℕ) → class < result → block_size class < words }
+    ensures most { result ≤ MAX_CLASS }
+{
+    for class in 0..MAX_CLASS {
+        if words <= block_words(class) {
+            return class;
+        }
+    }
+    MAX_CLASS
+}

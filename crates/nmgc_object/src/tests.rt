@@ -1,0 +1,138 @@
+//! Worked numbers of words, sizes and places, and a queue from end to end.
+use crate::{
+    Address, Field, FinQueue, Header, Layout, Nursery, block_words, class_of, decode_header,
+    decode_name, decode_value, encode_header, encode_name, encode_value, words_of,
+};
+use nmgc_graph::{Kind, Name};
+use std::test::Fail;
+
+#[test]
+fn headers(rt: HostRuntime) {
+    let rows = [
+        (Kind::Con, 7, 2, 4153),
+        (Kind::Arr, 0, 16, 32_771),
+        (Kind::Stack, 0, 4094, 8_384_518),
+    ];
+    for (kind, tag, fields, word) in rows {
+        let header = Header { kind, tag, fields };
+        assert!(rt; header.is_valid());
+        assert_eq!(rt; encode_header(header), word);
+        assert_eq!(rt; decode_header(word), Some(header));
+    }
+    for word in [
+        0,
+        7,
+        11,
+        2,
+        2 + 2 * 2048,
+        4,
+        4 + 10 * 2048,
+        5 + 2 * 2048,
+        1 + 4095 * 2048,
+    ] {
+        assert_eq!(rt; decode_header(word), None, "at {word}");
+    }
+}
+
+#[test]
+fn names(rt: HostRuntime) {
+    for (maker, serial, word) in [(3, 10, 163), (8, 0, 8)] {
+        let name = Name { maker, serial };
+        assert!(rt; maker < 8 || serial == 0);
+        assert_eq!(rt; encode_name(name), word);
+        assert_eq!(rt; decode_name(word), Some(name));
+    }
+    for word in [9, 24, 16 * 4_294_967_296] {
+        assert_eq!(rt; decode_name(word), None, "at {word}");
+    }
+}
+
+#[test]
+fn fields(rt: HostRuntime) {
+    let greatest = 4_611_686_018_427_387_903;
+    assert_eq!(rt; encode_value(Field::Unset), 0);
+    assert_eq!(rt; encode_value(Field::Nil), 1);
+    assert_eq!(rt; encode_value(Field::Number(5)), 13);
+    assert_eq!(rt;
+        encode_value(Field::Number(greatest)),
+        9_223_372_036_854_775_809
+    );
+    assert_eq!(rt; encode_value(Field::Pointer(Address(33))), 66);
+    let rows = [
+        (0, Some(Field::Unset)),
+        (1, Some(Field::Nil)),
+        (13, Some(Field::Number(5))),
+        (66, Some(Field::Pointer(Address(33)))),
+        (9_223_372_036_854_775_809, Some(Field::Number(greatest))),
+        (9_223_372_036_854_775_811, None),
+        (8_589_934_592, None),
+    ];
+    for (word, field) in rows {
+        assert_eq!(rt; decode_value(word), field, "at {word}");
+    }
+}
+
+#[test]
+fn sizes(rt: HostRuntime) {
+    let rows = [
+        (Kind::Con, 2, 4, 0, 4),
+        (Kind::Weak, 3, 5, 1, 8),
+        (Kind::Var, 1, 3, 0, 4),
+        (Kind::Arr, 0, 2, 0, 4),
+        (Kind::Thunk, 8, 11, 2, 16),
+        (Kind::Stack, 4094, 4096, 10, 4096),
+    ];
+    for (kind, parts, words, class, block) in rows {
+        assert!(rt; parts <= 4094);
+        assert_eq!(rt; words_of(kind, parts), words);
+        assert!(rt; 2 <= words && words <= 4096 && class <= 10);
+        assert_eq!(rt; class_of(words), class);
+        assert_eq!(rt; block_words(class), block);
+    }
+}
+
+#[test]
+fn places(rt: HostRuntime) {
+    for (nursery, total, reserve) in [(64, 2144, 7), (128, 2208, 9), (256, 2336, 13)] {
+        assert!(rt; 64 <= nursery && nursery <= 1000);
+        let layout = Layout {
+            segments: 32,
+            words: 64,
+            nursery,
+            mutators: 1,
+        };
+        assert!(rt; layout.words.is_power_of_two());
+        assert_eq!(rt; layout.segment_base(0), 32);
+        assert_eq!(rt; layout.segment_base(31), 2016);
+        assert_eq!(rt; layout.nursery_base(0), 2080);
+        assert_eq!(rt; layout.total(), total);
+        assert_eq!(rt; layout.classes(), 5);
+        assert_eq!(rt; layout.reserve(), reserve);
+    }
+    let nursery = Nursery {
+        base: 2080,
+        top: 2083,
+        end: 2144,
+    };
+    assert_eq!(rt; nursery.left(), 61);
+}
+
+#[test]
+fn finalisers(rt: HostRuntime) -> Result<(), Fail> {
+    let mut queue = FinQueue::new(rt.alloc());
+    queue.reserve(3)?;
+    queue.add(66);
+    queue.add(1);
+    queue.add(13);
+    assert_eq!(rt; queue.take_first(), Some(66));
+    assert_eq!(rt; queue.take_first(), Some(1));
+    queue.reserve(1)?;
+    queue.add(68);
+    assert_eq!(rt; queue.words(), [13, 68].as_slice());
+    queue.set(1, 70);
+    assert_eq!(rt; queue.words(), [13, 70].as_slice());
+    assert_eq!(rt; queue.take_first(), Some(13));
+    assert_eq!(rt; queue.take_first(), Some(70));
+    assert_eq!(rt; queue.take_first(), None);
+    Ok(())
+}

@@ -1,0 +1,219 @@
+//! Headers, names and fields as words.
+//!
+//! Each of the three has its own code, and a reader knows from the place which one to expect: the
+//! first word of an object is its header, the second its name, the rest are fields. Header and name
+//! never change after birth, so they may be read without order among threads.
+//!
+//! A field's code keeps apart what the collector follows and what it doesn't: 0 is a field that is
+//! unset, or a weak pointer's value once it is dead; an even word is a pointer; an odd one is nil or
+//! a number. Easy to get wrong: a word is not valid because its parts look sound one by one. A tag
+//! belongs to constructors alone, and the number of fields depends on the kind, so decoding tests
+//! both together.
+ghost use Rattle.std.specs.Prelude.{◌≡◌, ◌≢◌, ◌↔◌, ◌+◌, ◌*◌, ◌<◌, ◌≤◌, IfSome, IfNone, IsTrue};
+ghost use Rattle.nmgc_graph.specs.declared.value.Name.{Name};
+ghost use Rattle.nmgc_graph.specs.declared.node.Kind.{Kind};
+ghost use Rattle.nmgc_object.specs.Words.{kind_number, header_word, name_word, field_word, IsHeader, IsName, IsField};
+ghost use Rattle.nmgc_object.specs.declared.words.Header.{Header};
+ghost use Rattle.nmgc_object.specs.declared.words.Field.{Field};
+
+use nmgc_graph::{Kind, Name, SHARED_MAKER};
+
+/// How many tags there are: a header's tag is below it.
+pub const TAGS: u64 = 256;
+
+/// The most fields that an object may have.
+pub const MAX_FIELDS: u32 = 4094;
+
+/// The most fields of a thunk: its result, and its free variables.
+pub const MAX_THUNK_FIELDS: u32 = 9;
+
+/// The fields of a variable.
+pub const VAR_FIELDS: u32 = 1;
+
+/// The fields of a weak pointer: key, value, finaliser.
+pub const WEAK_FIELDS: u32 = 3;
+
+/// Numbers in fields are below it.
+pub const NUMBER_LIMIT: u64 = 1 << 62;
+
+/// What one more tag adds to a header. The kind is below it.
+pub const TAG_UNIT: u64 = 8;
+
+/// What one more field adds to a header.
+pub const FIELDS_UNIT: u64 = 2048;
+
+/// What one more object of the same maker adds to a name. The maker is below it.
+pub const SERIAL_UNIT: u64 = 16;
+
+/// The field word of nil.
+pub const NIL_WORD: u64 = 1;
+
+/// The field word of the number 0. A number n has the word `2 * n + 3`.
+pub const ZERO_WORD: u64 = 3;
+
+/// A word's place in the heap, at least 1. Word 0 belongs to nobody, so that no pointer has the word
+/// of an unset field.
+#[derive(Clone, Copy, Debug, PartialEq, Eq)]
+pub struct Address(pub u32);
+
+/// What the first word of an object says.
+#[derive(Clone, Copy, Debug, PartialEq, Eq)]
+pub struct Header {
+    pub kind: Kind,
+    pub tag: u8,
+    pub fields: u32,
+}
+
+/// What a field holds. `Unset` is a thunk without a result, a slot above a stack's depth, or the
+/// value of a dead weak pointer.
+#[derive(Clone, Copy, Debug, PartialEq, Eq)]
+pub enum Field {
+    Unset,
+    Nil,
+    Number(u64),
+    Pointer(Address),
+}
+
+impl Header {
+    /// Whether an object of this kind may have the tag and the number of fields.
+    pub fn is_valid(&self) -> bool
+        ensures { IsTrue result ↔ IsHeader self.now }
+    {
+        let Header { kind, tag, fields } = *self;
+        match kind {
+            Kind::Con => fields <= MAX_FIELDS,
+            Kind::Arr | Kind::Stack => tag == 0 && fields <= MAX_FIELDS,
+            Kind::Var => tag == 0 && fields == VAR_FIELDS,
+            Kind::Weak => tag == 0 && fields == WEAK_FIELDS,
+            Kind::Thunk => tag == 0 && 1 <= fields && fields <= MAX_THUNK_FIELDS,
+        }
+    }
+}
+
+// The number of a kind in a header word.
+fn number_of_kind(kind: Kind) -> u64
+    ensures { result ≡ kind_number kind }
+{
+    match kind {
+        Kind::Con => 1,
+        Kind::Var => 2,
+        Kind::Arr => 3,
+        Kind::Thunk => 4,
+        Kind::Weak => 5,
+        Kind::Stack => 6,
+    }
+}
+
+// The kind of a number in a header word.
+fn kind_of_number(number: u64) -> Option<Kind>
+    ensures some { IfSome result (λ kind. kind_number kind ≡ number) }
+    ensures none { IfNone result ((kind : Kind) → kind_number kind ≢ number) }
+{
+    match number {
+        1 => Some(Kind::Con),
+        2 => Some(Kind::Var),
+        3 => Some(Kind::Arr),
+        4 => Some(Kind::Thunk),
+        5 => Some(Kind::Weak),
+        6 => Some(Kind::Stack),
+        _ => None,
+    }
+}
+
+/// The word of a valid header. Takes no memory.
+pub fn encode_header(header: Header) -> u64
+    requires { IsHeader header }
+    ensures { result ≡ header_word header }
+{
+    number_of_kind(header.kind)
+        + TAG_UNIT * u64::from(header.tag)
+        + FIELDS_UNIT * u64::from(header.fields)
+}
+
+/// The valid header that has this word. `None` comes exactly where there is none. Takes no memory.
+pub fn decode_header(word: u64) -> Option<Header>
+    ensures some { IfSome result (λ header. IsHeader header × (header_word header ≡ word)) }
+    ensures none { IfNone result ((header : Header) → IsHeader header → header_word header ≢ word) }
+{
+    let fields = word / FIELDS_UNIT;
+    if fields > u64::from(MAX_FIELDS) {
+        return None;
+    }
+    let kind = kind_of_number(word % TAG_UNIT)?;
+    let header = Header {
+        kind,
+        tag: (word / TAG_UNIT % TAGS) as u8,
+        fields: fields as u32,
+    };
+    if header.is_valid() {
+        Some(header)
+    } else {
+        None
+    }
+}
+
+/// The word of a name. The maker is at most `SHARED_MAKER`, whose one serial is 0. Takes no memory.
+pub fn encode_name(name: Name) -> u64
+    requires { IsName name }
+    ensures { result ≡ name_word name }
+{
+    SERIAL_UNIT * u64::from(name.serial) + u64::from(name.maker)
+}
+
+/// The name that has this word. `None` comes exactly where there is none. Takes no memory.
+pub fn decode_name(word: u64) -> Option<Name>
+    ensures some { IfSome result (λ name. IsName name × (name_word name ≡ word)) }
+    ensures none { IfNone result ((name : Name) → IsName name → name_word name ≢ word) }
+{
+    let maker = (word % SERIAL_UNIT) as u8;
+    let serial = word / SERIAL_UNIT;
+    if serial > u64::from(u32::MAX)
+        || maker > SHARED_MAKER
+        || (maker == SHARED_MAKER && serial > 0)
+    {
+        return None;
+    }
+    Some(Name {
+        maker,
+        serial: serial as u32,
+    })
+}
+
+/// The word of a field. A number is below `NUMBER_LIMIT`, and a pointer isn't 0. Takes no memory.
+pub fn encode_value(field: Field) -> u64
+    requires { IsField field }
+    ensures { result ≡ field_word field }
+{
+    match field {
+        Field::Unset => 0,
+        Field::Nil => NIL_WORD,
+        Field::Number(number) => 2 * number + ZERO_WORD,
+        Field::Pointer(at) => 2 * u64::from(at.0),
+    }
+}
+
+/// The field that has this word. `None` comes exactly where there is none. Takes no memory.
+pub fn decode_value(word: u64) -> Option<Field>
+    ensures some { IfSome result (λ field. IsField field × (field_word field ≡ word)) }
+    ensures none { IfNone result ((field : Field) → IsField field → field_word field ≢ word) }
+{
+    if word == 0 {
+        return Some(Field::Unset);
+    }
+    if word == NIL_WORD {
+        return Some(Field::Nil);
+    }
+    let half = word / 2;
+    if word % 2 == 1 {
+        let number = half - 1;
+        return if number < NUMBER_LIMIT {
+            Some(Field::Number(number))
+        } else {
+            None
+        };
+    }
+    if half > u64::from(u32::MAX) {
+        return None;
+    }
+    Some(Field::Pointer(Address(half as u32)))
+}

@@ -1,0 +1,61 @@
+-- A text is cut at its first separator.
+use Rattle.std.proofs.Common.{◌≡◌, ◌≢◌, ◌<◌, ℕ, List, [], ◌∷◌, ◌++◌, ◌+◌, true, false, length, refl, ap, ◌∙◌, arith}
+use Rattle.std.specs.Prelude.{◌==◌, if◌then◌else◌, All}
+use Rattle.std.specs.List.{AllByRecursion}
+use Rattle.std.proofs.lemmas.List.Elements.{recursion_from_All}
+use Rattle.std.proofs.lemmas.Bool.{eq-eqb, ne_eqb}
+use Rattle.nmgc_script.specs.Text.{onto_first, lines_of, words_of, is_passed, kept_from}
+
+-- f cuts at a byte
+pub record CutsAt (separator : ℕ) (f : List ℕ → List (List ℕ)) : Type 0 where
+  pub more : (b : ℕ) (bytes : List ℕ) → f (b ∷ bytes) ≡ (if b == separator then [] ∷ f bytes else onto_first b (f bytes))
+
+pub lines_cut : CutsAt 10 lines_of
+lines_cut = record { more = λ b bytes. refl }
+
+pub words_cut : CutsAt 32 words_of
+words_cut = record { more = λ b bytes. refl }
+
+-- the first part ends at the first separator
+pub cut_on : (s : ℕ) (f : List ℕ → List (List ℕ)) (cuts : CutsAt s f) (front back : List ℕ) → AllByRecursion (λ b. b ≢ s) front → f (front ++ s ∷ back) ≡ front ∷ f back
+cut_on s f cuts [] back none = rw (cuts.more s back, eq-eqb s s refl) refl
+cut_on s f cuts (b ∷ front) back none = rw (cuts.more b (front ++ s ∷ back), ne_eqb b s none.0, cut_on s f cuts front back none.1) refl
+
+pub cut_first : (s : ℕ) (f : List ℕ → List (List ℕ)) (cuts : CutsAt s f) (bytes front back : List ℕ) → All (λ b. b ≢ s) front → bytes ≡ front ++ s ∷ back → f bytes ≡ front ∷ f back
+cut_first s f cuts bytes front back none e = ap f e ∙ cut_on s f cuts front back (recursion_from_All (λ b. b ≢ s) front none)
+
+last_on : (b : ℕ) (bytes : List ℕ) → AllByRecursion (λ b. b ≢ 10) (b ∷ bytes) → lines_of (b ∷ bytes) ≡ (b ∷ bytes) ∷ []
+last_on b [] none = rw (ne_eqb b 10 none.0) refl
+last_on b (c ∷ bytes) none = rw (lines_cut.more b (c ∷ bytes), ne_eqb b 10 none.0, last_on c bytes none.1) refl
+
+-- a line without a line feed is the last
+pub last_line : (bytes : List ℕ) → 0 < length bytes → All (λ b. b ≢ 10) bytes → lines_of bytes ≡ bytes ∷ []
+last_line [] some none = absurd (omega arith)
+last_line (b ∷ bytes) some none = last_on b bytes (recursion_from_All (λ b. b ≢ 10) (b ∷ bytes) none)
+
+word_on : (bytes : List ℕ) → AllByRecursion (λ b. b ≢ 32) bytes → words_of bytes ≡ bytes ∷ []
+word_on [] none = refl
+word_on (b ∷ bytes) none = rw (words_cut.more b bytes, ne_eqb b 32 none.0, word_on bytes none.1) refl
+
+-- a word without a space after it is the last
+pub last_word : (bytes : List ℕ) → All (λ b. b ≢ 32) bytes → words_of bytes ≡ bytes ∷ []
+last_word bytes none = word_on bytes (recursion_from_All (λ b. b ≢ 32) bytes none)
+
+module _ (n : ℕ) (bytes line rest : List ℕ) (split : lines_of bytes ≡ line ∷ lines_of rest) where
+  -- a line that is passed over is counted
+  pub passed : is_passed line ≡ true → kept_from (n + 1) (lines_of rest) ≡ kept_from n (lines_of bytes)
+  unfolding kept_from
+  passed h = rw (split, h) refl
+
+  -- a line that is kept has its number
+  pub kept : is_passed line ≡ false → kept_from n (lines_of bytes) ≡ (n, line) ∷ kept_from (n + 1) (lines_of rest)
+  unfolding kept_from
+  kept h = rw (split, h) refl
+
+  pub counted : (n + 1) + length (lines_of rest) ≡ n + length (lines_of bytes)
+  counted = rw split (omega arith)
+
+-- nothing is kept of nothing
+pub kept_none : (n : ℕ) (bytes : List ℕ) → lines_of bytes ≡ [] → kept_from n (lines_of bytes) ≡ []
+unfolding kept_from
+kept_none n bytes none = rw none refl

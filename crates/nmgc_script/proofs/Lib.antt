@@ -1,0 +1,14 @@
+pub mod CauseLaws
+pub mod CommandLaws
+pub mod ConfigLaws
+pub mod Cut
+pub mod Each
+pub mod Entries
+pub mod FaultLaws
+pub mod LineLaws
+pub mod OneFault
+pub mod PrintLaws
+pub mod ScriptLaws
+pub mod SectionLaws
+pub mod Totals
+pub mod WordLaws

@@ -1,0 +1,154 @@
+-- A text spells a script or has one first bad line with one first cause, and never both.
+use Rattle.std.proofs.Common.{◌≡◌, ◌≢◌, ℕ, zero, suc, List, [], ◌∷◌, refl, sym, ap, subst, ◌∙◌, arith, inl, inr, codes, Ok}
+use Rattle.std.specs.Str.{bytes_eq}
+use Rattle.std.proofs.lemmas.Bool.{cases_order}
+use Rattle.std.proofs.lemmas.Slice.Eq.{bytes_eq-Decides}
+use Rattle.nmgc_graph.specs.declared.command.Command.{Command}
+use Rattle.nmgc_script.specs.declared.fault.Cause.{Cause}
+use Rattle.nmgc_script.specs.declared.fault.Cause.TheVariants as cause
+use Rattle.nmgc_script.specs.declared.script.Config.{Config}
+use Rattle.nmgc_script.specs.declared.script.Script.{Script}
+use Rattle.nmgc_script.specs.Limits.{FitsConfig}
+use Rattle.nmgc_script.specs.Spelling.{spaced, heap_words, Spells}
+use Rattle.nmgc_script.specs.Text.{words_of, kept_lines, end_of}
+use Rattle.nmgc_script.specs.Faults.{order_of, IsFirstFault, begun_with, TellsRest, TellsHeap, Tells}
+use Rattle.nmgc_script.specs.Reading.{heap_words_at, section_at, entry_at, begun_after, at_line, rest_at, programs_at, threads_at, version_at, heap_at, script_at}
+use Rattle.nmgc_script.proofs.WordLaws.{bind_ok, guard_ok, ok_is}
+use Rattle.nmgc_script.proofs.ConfigLaws.{heap_takes, heap_again}
+use Rattle.nmgc_script.proofs.LineLaws.{spaced-words_of, words_of-line, heap_line_words}
+use Rattle.nmgc_script.proofs.SectionLaws.{at_line_ok, section_takes}
+use Rattle.nmgc_script.proofs.ScriptLaws.{script_again}
+use Rattle.nmgc_script.proofs.FaultLaws.{entry_good, section_faultless, some_after}
+
+-- the cause at a place of the order
+cause_of : ℕ → Cause
+cause_of zero = cause.Version
+cause_of (suc zero) = cause.Heap
+cause_of (suc (suc zero)) = cause.Thread
+cause_of (suc (suc (suc zero))) = cause.Total
+cause_of (suc (suc (suc (suc zero)))) = cause.Command
+cause_of (suc (suc (suc (suc (suc zero))))) = cause.Arity
+cause_of (suc (suc (suc (suc (suc (suc zero)))))) = cause.Operand
+cause_of (suc (suc (suc (suc (suc (suc (suc n))))))) = cause.Size
+
+cause_back : (c : Cause) → cause_of (order_of c) ≡ c
+unfolding cause_of
+cause_back cause.Version = refl
+cause_back cause.Heap = refl
+cause_back cause.Thread = refl
+cause_back cause.Total = refl
+cause_back cause.Command = refl
+cause_back cause.Arity = refl
+cause_back cause.Operand = refl
+cause_back cause.Size = refl
+
+-- a line has one first fault
+one_first : (h : Config) (n : ℕ) (words : List (List ℕ)) (c d : Cause) → IsFirstFault h n words c → IsFirstFault h n words d → c ≡ d
+one_first h n words c d p q =
+    elim (cases_order (order_of c) (order_of d)) [
+      | inl same ↦ sym (cause_back c) ∙ ap cause_of same ∙ cause_back d
+      | inr other ↦ elim other [
+        | inl lt ↦ absurd (q.none_before c lt p.here)
+        | inr lt ↦ absurd (p.none_before d lt q.here)
+      ]
+    ]
+
+-- the same line and the same cause
+abbrev pub Same : ℕ → Cause → ℕ → Cause → Type 0
+Same a c b d = (a ≡ b) × (c ≡ d)
+
+one_rest : (h : Config) (n end : ℕ) (lines : List (ℕ × List ℕ)) (a : ℕ) (c : Cause) (b : ℕ) (d : Cause) → TellsRest h n end lines a c → TellsRest h n end lines b d → Same a c b d
+one_rest h n end [] a c b d p q = (p.1 ∙ sym q.1, p.2 ∙ sym q.2)
+one_rest h n end (line ∷ lines) a c b d (inl p) (inl q) = (p.0 ∙ sym q.0, one_first h n (words_of line.1) c d p.1 q.1)
+one_rest h n end (line ∷ lines) a c b d (inl p) (inr q) = absurd (q.0 c p.1.here)
+one_rest h n end (line ∷ lines) a c b d (inr p) (inl q) = absurd (p.0 d q.1.here)
+one_rest h n end (line ∷ lines) a c b d (inr p) (inr q) = one_rest h (begun_with n (words_of line.1)) end lines a c b d p.1 q.1
+
+-- a heap line has one config
+one_config : (line : List ℕ) (g h : Config) → FitsConfig g → FitsConfig h → line ≡ spaced (heap_words g) → line ≡ spaced (heap_words h) → g ≡ h
+one_config line g h fg fh eg eh =
+    let rg : heap_words_at (words_of line) ≡ Ok g = ap (λ (l : List ℕ). heap_words_at (words_of l)) eg ∙ ap heap_words_at (words_of-line (heap_words g) (heap_line_words g fg)) ∙ heap_again g fg in
+    let rh : heap_words_at (words_of line) ≡ Ok h = ap (λ (l : List ℕ). heap_words_at (words_of l)) eh ∙ ap heap_words_at (words_of-line (heap_words h) (heap_line_words h fh)) ∙ heap_again h fh in
+    ok_is {E = Cause} g h (sym rg ∙ rh)
+
+one_heap : (end : ℕ) (lines : List (ℕ × List ℕ)) (a : ℕ) (c : Cause) (b : ℕ) (d : Cause) → TellsHeap end lines a c → TellsHeap end lines b d → Same a c b d
+one_heap end [] a c b d p q = (p.0 ∙ sym q.0, p.1 ∙ sym q.1)
+one_heap end (line ∷ lines) a c b d (inl p) (inl q) = (p.0 ∙ sym q.0, p.1 ∙ sym q.1)
+one_heap end (line ∷ lines) a c b d (inl p) (inr q) = absurd (p.2 q.0 q.1 q.2)
+one_heap end (line ∷ lines) a c b d (inr p) (inl q) = absurd (q.2 p.0 p.1 p.2)
+one_heap end (line ∷ lines) a c b d (inr p) (inr q) =
+    let same : p.0 ≡ q.0 = one_config line.1 p.0 q.0 p.1 q.1 p.2 q.2 in
+    one_rest q.0 0 end lines a c b d (subst (λ (k : Config). TellsRest k 0 end lines a c) same p.3) q.3
+
+pub one_fault : (end : ℕ) (lines : List (ℕ × List ℕ)) (a : ℕ) (c : Cause) (b : ℕ) (d : Cause) → Tells end lines a c → Tells end lines b d → Same a c b d
+one_fault end [] a c b d p q = (p.0 ∙ sym q.0, p.1 ∙ sym q.1)
+one_fault end (line ∷ lines) a c b d (inl p) (inl q) = (p.0 ∙ sym q.0, p.1 ∙ sym q.1)
+one_fault end (line ∷ lines) a c b d (inl p) (inr q) = absurd (p.2 q.0)
+one_fault end (line ∷ lines) a c b d (inr p) (inl q) = absurd (q.2 p.0)
+one_fault end (line ∷ lines) a c b d (inr p) (inr q) = one_heap end lines a c b d p.1 q.1
+
+-- NEVER BOTH
+
+rest_good : (h : Config) (n end : ℕ) (lines : List (ℕ × List ℕ)) (p : List Command × List (List Command)) (a : ℕ) (c : Cause) → n ≢ 0 → rest_at h n lines ≡ Ok p → TellsRest h n end lines a c → ⊥
+unfolding rest_at
+rest_good h n end [] p a c some good t = some t.0
+rest_good h n end (line ∷ lines) p a c some good t =
+    let words = words_of line.1 in
+    let b = bind_ok (at_line line.0 (entry_at h n words)) _ p good in
+    let o = bind_ok (rest_at h (begun_after b.0 n) lines) _ p b.2 in
+    let g = entry_good h n words b.0 some (at_line_ok line.0 (entry_at h n words) b.0 b.1) in
+    elim t [
+      | inl q ↦ g.0 c q.1.here
+      | inr q ↦ rest_good h (begun_after b.0 n) end lines o.0 a c (some_after b.0 n some) o.1 (subst (λ (k : ℕ). TellsRest h k end lines a c) g.1 q.1)
+    ]
+
+threads_good : (h : Config) (end : ℕ) (lines : List (ℕ × List ℕ)) (threads : List (List Command)) (a : ℕ) (c : Cause) → threads_at end h lines ≡ Ok threads → TellsRest h 0 end lines a c → ⊥
+unfolding threads_at programs_at
+threads_good h end [] threads a c good t = absurd cc
+threads_good h end (line ∷ lines) threads a c good t =
+    let words = words_of line.1 in
+    let b = bind_ok (at_line line.0 (section_at h 0 words)) _ threads good in
+    let o = bind_ok (rest_at h 1 lines) _ threads b.2 in
+    let g = section_takes h 0 words b.0 (at_line_ok line.0 (section_at h 0 words) b.0 b.1) in
+    let begun : begun_with 0 words ≡ 1 = ap (begun_with 0) g.0.0 in
+    elim t [
+      | inl q ↦ section_faultless h 0 words (inr refl) g.0 c q.1.here
+      | inr q ↦ rest_good h 1 end lines o.0 a c (λ e. omega arith) o.1 (subst (λ (k : ℕ). TellsRest h k end lines a c) begun q.1)
+    ]
+
+heap_good : (end : ℕ) (lines : List (ℕ × List ℕ)) (h : Config × List (ℕ × List ℕ)) (threads : List (List Command)) (a : ℕ) (c : Cause) → heap_at end lines ≡ Ok h → threads_at end h.0 h.1 ≡ Ok threads → TellsHeap end lines a c → ⊥
+unfolding heap_at
+heap_good end [] h threads a c good more t = absurd cc
+heap_good end (line ∷ lines) h threads a c good more t =
+    let b = bind_ok (at_line line.0 (heap_words_at (words_of line.1))) (λ config. Ok (config, lines)) h good in
+    let g = heap_takes (words_of line.1) b.0 (at_line_ok line.0 (heap_words_at (words_of line.1)) b.0 b.1) in
+    let is : line.1 ≡ spaced (heap_words b.0) = sym (spaced-words_of line.1) ∙ ap spaced g.0 in
+    let parts : (b.0, lines) ≡ h = ok_is {E = ℕ × Cause} (b.0, lines) h b.2 in
+    let later : threads_at end b.0 lines ≡ Ok threads = rw (← parts) at more in
+    elim t [
+      | inl q ↦ q.2 b.0 g.1 is
+      | inr q ↦ threads_good b.0 end lines threads a c later (subst (λ (k : Config). TellsRest k 0 end lines a c) (one_config line.1 q.0 b.0 q.1 g.1 q.2 is) q.3)
+    ]
+
+version_good : (end : ℕ) (lines body : List (ℕ × List ℕ)) (h : Config × List (ℕ × List ℕ)) (threads : List (List Command)) (a : ℕ) (c : Cause) → version_at end lines ≡ Ok body → heap_at end body ≡ Ok h → threads_at end h.0 h.1 ≡ Ok threads → Tells end lines a c → ⊥
+unfolding version_at
+version_good end [] body h threads a c good heap more t = absurd cc
+version_good end (line ∷ lines) body h threads a c good heap more t =
+    let g = guard_ok (bytes_eq line.1 (codes "nmgc 1")) (line.0, cause.Version) lines body good in
+    elim t [
+      | inl q ↦ q.2 ((bytes_eq-Decides line.1 (codes "nmgc 1")).0 g.0)
+      | inr q ↦ heap_good end lines h threads a c (rw (← g.1) at heap) more q.1
+    ]
+
+-- lines that are read as a script have no fault to tell
+pub none_told : (end : ℕ) (lines : List (ℕ × List ℕ)) (s : Script) (a : ℕ) (c : Cause) → script_at end lines ≡ Ok s → Tells end lines a c → ⊥
+unfolding script_at
+none_told end lines s a c good t =
+    let b = bind_ok (version_at end lines) _ s good in
+    let h = bind_ok (heap_at end b.0) _ s b.2 in
+    let p = bind_ok (threads_at end h.0.0 h.0.1) _ s h.2 in
+    version_good end lines b.0 h.0 p.0 a c b.1 h.1 p.1 t
+
+-- bytes that spell a script have no fault to tell
+pub never_both : (bytes : List ℕ) (s : Script) (a : ℕ) (c : Cause) → Spells bytes s → Tells (end_of bytes) (kept_lines bytes) a c → ⊥
+never_both bytes s a c h t = none_told (end_of bytes) (kept_lines bytes) s a c (script_again (end_of bytes) (kept_lines bytes) s h.fits h.lines) t

@@ -1,0 +1,10 @@
+use Rattle.std.proofs.Common.{◌≡◌, ℕ, List, rules, subst, sym, append_assoc}
+use Rattle.nmgc_script.specs.Spelling.{plain, Spells}
+use Rattle.nmgc_script.proofs.PrintLaws.{plain_spells}
+use Rattle.nmgc_script.proofs.printing.print.Goals as goal
+
+pub returns-clause-back : goal.returns-clause-back
+returns-clause-back c =
+    let s = c.args.script.now in
+    let text : c.push_sections.new.out.items ≡ plain s = search (rules, append_assoc) in
+    subst (λ (bytes : List ℕ). Spells bytes s) (sym text) (plain_spells s c.requires)

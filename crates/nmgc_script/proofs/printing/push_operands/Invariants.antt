@@ -1,0 +1,8 @@
+use Rattle.std.proofs.Common.{◌≡◌, ◌++◌, map, drop}
+use Rattle.nmgc_script.specs.Printing.{after_spaces}
+use Rattle.nmgc_script.specs.Spelling.{operand_word}
+use Rattle.nmgc_script.proofs.printing.push_operands.Given as goal
+
+-- the words so far were appended
+abbrev pub invariant-loop-operand : goal.invariant-loop-operand
+invariant-loop-operand l = l.out.items ++ after_spaces (map operand_word (drop l.operand-index l.operands)) ≡ l.initial.out.items ++ after_spaces (map operand_word l.operands)

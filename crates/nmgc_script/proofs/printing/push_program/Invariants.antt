@@ -1,0 +1,7 @@
+use Rattle.std.proofs.Common.{◌≡◌, ◌++◌, drop}
+use Rattle.nmgc_script.specs.Spelling.{ended, program_lines}
+use Rattle.nmgc_script.proofs.printing.push_program.Given as goal
+
+-- the lines so far, and those of the rest, are all
+abbrev pub invariant-loop-command : goal.invariant-loop-command
+invariant-loop-command l = l.out.items ++ ended (program_lines (drop l.command-index l.program)) ≡ l.initial.out.items ++ ended (program_lines l.program)

@@ -1,0 +1,7 @@
+use Rattle.std.proofs.Common.{◌≡◌, ◌++◌, drop}
+use Rattle.nmgc_script.specs.Spelling.{ended, section_lines}
+use Rattle.nmgc_script.proofs.printing.push_sections.Given as goal
+
+-- the sections so far, and those of the rest, are all
+abbrev pub invariant-loop-thread : goal.invariant-loop-thread
+invariant-loop-thread l = l.out.items ++ ended (section_lines l.thread (drop l.thread l.threads)) ≡ l.initial.out.items ++ ended (section_lines 0 l.threads)

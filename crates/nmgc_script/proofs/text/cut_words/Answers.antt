@@ -1,0 +1,15 @@
+use Rattle.std.proofs.Common.{append_assoc}
+use Rattle.std.proofs.lemmas.List.{map_push}
+use Rattle.nmgc_script.specs.Text.{words_of}
+use Rattle.nmgc_script.proofs.Cut.{cut_first, words_cut, last_word}
+use Rattle.nmgc_script.proofs.text.cut_words.Goals as goal
+
+pub loop-word-preserved : goal.loop-word-preserved
+loop-word-preserved c =
+    let split = cut_first 32 words_of words_cut c.loop-word.rest.now c.in-Some.word.now c.in-Some.after.now c.in-Some.ensures.first c.in-Some.ensures.parts in
+    rw (c.in_ok-push.ensures.items, map_push (λ w. w.now) c.loop-word.words.items c.in-Some.word, append_assoc) (rw split at c.loop-word.invariant)
+
+pub returns : goal.returns
+returns c =
+    let last = last_word c.loop-word.rest.now c.in_default.ensures.none in
+    rw (c.in_ok-push-2.ensures.items, map_push (λ w. w.now) c.loop-word.words.items c.loop-word.rest) (rw last at c.loop-word.invariant)

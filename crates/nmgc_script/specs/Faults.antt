@@ -1,0 +1,141 @@
+-- Which fault a line has, cause by cause, and which line is told.
+use Rattle.std.specs.Prelude.{◌≡◌, ◌≢◌, ◌<◌, ◌≤◌, ◌+◌, ℕ, List, [], ◌∷◌, ◌⊎◌, length, codes, if◌then◌else◌}
+use Rattle.std.specs.Str.{bytes_eq}
+use Rattle.nmgc_graph.specs.declared.value.TheConstants.{MAKERS}
+use Rattle.nmgc_graph.specs.declared.command.Command.{Command}
+use Rattle.nmgc_graph.specs.Command.{HasRegisters, HasNumbers, words_made}
+use Rattle.nmgc_script.specs.declared.fault.Cause.{Cause}
+use Rattle.nmgc_script.specs.declared.fault.Cause.TheVariants as cause
+use Rattle.nmgc_script.specs.declared.fault.ScriptFault.{ScriptFault}
+use Rattle.nmgc_script.specs.declared.fault.ScriptFault.TheVariants as script_fault
+use Rattle.nmgc_script.specs.declared.script.Config.{Config}
+use Rattle.nmgc_script.specs.declared.script.TheConstants.{MAX_TOTAL}
+use Rattle.nmgc_script.specs.declared.verbs.Verb.{Verb}
+use Rattle.nmgc_script.specs.declared.verbs.Verb.TheVariants as verb
+use Rattle.nmgc_script.specs.Limits.{FitsConfig, total_words}
+use Rattle.nmgc_script.specs.Spelling.{spaced, command_words, heap_words, section_words}
+use Rattle.nmgc_script.specs.Text.{words_of, kept_lines, end_of}
+
+-- the name of a verb
+abbrev pub verb_name : Verb → List ℕ
+verb_name verb.Num = codes "num"
+verb_name verb.Nil = codes "nil"
+verb_name verb.Mov = codes "mov"
+verb_name verb.Con = codes "con"
+verb_name verb.Var = codes "var"
+verb_name verb.Arr = codes "arr"
+verb_name verb.Thunk = codes "thunk"
+verb_name verb.Weak = codes "weak"
+verb_name verb.Stack = codes "stack"
+verb_name verb.Get = codes "get"
+verb_name verb.Set = codes "set"
+verb_name verb.Cas = codes "cas"
+verb_name verb.Update = codes "update"
+verb_name verb.Force = codes "force"
+verb_name verb.Push = codes "push"
+verb_name verb.Pop = codes "pop"
+verb_name verb.Deref = codes "deref"
+verb_name verb.Finalise = codes "finalise"
+verb_name verb.NextFin = codes "nextfin"
+verb_name verb.Show = codes "show"
+verb_name verb.Same = codes "same"
+verb_name verb.Yield = codes "yield"
+verb_name verb.Collect = codes "collect"
+verb_name verb.Full = codes "full"
+
+-- a command of the verb has so many words, its name included
+abbrev pub HasArity : Verb → ℕ → Type 0
+HasArity verb.Num n = n ≡ 3
+HasArity verb.Nil n = n ≡ 2
+HasArity verb.Mov n = n ≡ 3
+HasArity verb.Con n = 3 ≤ n
+HasArity verb.Var n = n ≡ 3
+HasArity verb.Arr n = n ≡ 4
+HasArity verb.Thunk n = (2 ≤ n) × (n ≤ 10)
+HasArity verb.Weak n = n ≡ 5
+HasArity verb.Stack n = n ≡ 3
+HasArity verb.Get n = n ≡ 4
+HasArity verb.Set n = n ≡ 4
+HasArity verb.Cas n = n ≡ 5
+HasArity verb.Update n = n ≡ 3
+HasArity verb.Force n = n ≡ 3
+HasArity verb.Push n = n ≡ 3
+HasArity verb.Pop n = n ≡ 3
+HasArity verb.Deref n = n ≡ 3
+HasArity verb.Finalise n = n ≡ 3
+HasArity verb.NextFin n = n ≡ 2
+HasArity verb.Show n = n ≡ 2
+HasArity verb.Same n = n ≡ 3
+HasArity verb.Yield n = n ≡ 1
+HasArity verb.Collect n = n ≡ 1
+HasArity verb.Full n = n ≡ 1
+
+-- the first word of a line
+abbrev pub first_of : List (List ℕ) → List ℕ
+first_of [] = []
+first_of (word ∷ words) = word
+
+-- a line with such words has to begin a section: it says so, or none was begun before
+abbrev pub HasToBegin : ℕ → List (List ℕ) → Type 0
+HasToBegin n words = (first_of words ≡ codes "thread") ⊎ (n ≡ 0)
+
+-- A line after the heap line, where n sections were begun before it, has these words and this fault.
+-- The causes are tried in the order of `Cause`, so each case speaks of lines that have no fault of an
+-- earlier cause: no section line, no bad total, a known name, the right number of words, good words.
+abbrev pub HasFault : Config → ℕ → List (List ℕ) → Cause → Type 0
+HasFault h n words cause.Version = ⊥
+HasFault h n words cause.Heap = ⊥
+HasFault h n words cause.Thread = HasToBegin n words × (n < MAKERS → words ≢ section_words n)
+HasFault h n words cause.Total = HasToBegin n words × (MAX_TOTAL < total_words h (n + 1))
+HasFault h n words cause.Command = (HasToBegin n words → ⊥) × ((v : Verb) → first_of words ≢ verb_name v)
+HasFault h n words cause.Arity = (HasToBegin n words → ⊥) × ((v : Verb) × (first_of words ≡ verb_name v) × (HasArity v (length words) → ⊥))
+HasFault h n words cause.Operand = (HasToBegin n words → ⊥) × ((c : Command) → HasRegisters c → HasNumbers c → words ≢ command_words c)
+HasFault h n words cause.Size = (HasToBegin n words → ⊥) × ((c : Command) × HasRegisters c × HasNumbers c × (words ≡ command_words c) × (h.words < words_made c))
+
+-- the place of a cause in the order in which causes are tried
+abbrev pub order_of : Cause → ℕ
+order_of cause.Version = 0
+order_of cause.Heap = 1
+order_of cause.Thread = 2
+order_of cause.Total = 3
+order_of cause.Command = 4
+order_of cause.Arity = 5
+order_of cause.Operand = 6
+order_of cause.Size = 7
+
+-- the line has this fault and none that is tried before it
+pub record IsFirstFault (h : Config) (n : ℕ) (words : List (List ℕ)) (c : Cause) : Type 0 where
+  pub here : HasFault h n words c
+  pub none_before : (e : Cause) → order_of e < order_of c → HasFault h n words e → ⊥
+
+-- the line has no fault
+abbrev pub IsFaultless : Config → ℕ → List (List ℕ) → Type 0
+IsFaultless h n words = (e : Cause) → HasFault h n words e → ⊥
+
+-- how many sections were begun after the line
+abbrev pub begun_with : ℕ → List (List ℕ) → ℕ
+begun_with n words = if bytes_eq (first_of words) (codes "thread") then n + 1 else n
+
+-- The first bad line of those after the heap line, where n sections were begun before them, and its
+-- first cause. Where they end before a section, it is the line after the last of the text.
+abbrev pub TellsRest : Config → ℕ → ℕ → List (ℕ × List ℕ) → ℕ → Cause → Type 0
+TellsRest h n end [] number c = (n ≡ 0) × (number ≡ end) × (c ≡ cause.Thread)
+TellsRest h n end (line ∷ lines) number c =
+    ((number ≡ line.0) × IsFirstFault h n (words_of line.1) c) ⊎ (IsFaultless h n (words_of line.1) × TellsRest h (begun_with n (words_of line.1)) end lines number c)
+
+-- the same, from the heap line on
+abbrev pub TellsHeap : ℕ → List (ℕ × List ℕ) → ℕ → Cause → Type 0
+TellsHeap end [] number c = (number ≡ end) × (c ≡ cause.Heap)
+TellsHeap end (line ∷ lines) number c =
+    ((number ≡ line.0) × (c ≡ cause.Heap) × ((h : Config) → FitsConfig h → line.1 ≢ spaced (heap_words h))) ⊎ ((h : Config) × FitsConfig h × (line.1 ≡ spaced (heap_words h)) × TellsRest h 0 end lines number c)
+
+-- the same, of a whole text
+abbrev pub Tells : ℕ → List (ℕ × List ℕ) → ℕ → Cause → Type 0
+Tells end [] number c = (number ≡ end) × (c ≡ cause.Version)
+Tells end (line ∷ lines) number c =
+    ((number ≡ line.0) × (c ≡ cause.Version) × (line.1 ≢ codes "nmgc 1")) ⊎ ((line.1 ≡ codes "nmgc 1") × TellsHeap end lines number c)
+
+-- what is told of bytes that spell no script: the first bad line and its first cause
+abbrev pub IsToldOf : List ℕ → ScriptFault → Type 0
+IsToldOf bytes script_fault.NoMemory = Unit {0}
+IsToldOf bytes (script_fault.Bad line c) = Tells (end_of bytes) (kept_lines bytes) line c

@@ -1,0 +1,6 @@
+pub mod Faults
+pub mod Limits
+pub mod Printing
+pub mod Reading
+pub mod Spelling
+pub mod Text

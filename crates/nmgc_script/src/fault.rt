@@ -1,0 +1,80 @@
+//! Why a script could not be read.
+//!
+//! The causes stand in the order in which they are tried on a line, and the first that fits is told.
+//! Easy to get wrong: a line with too few words and an unknown name has the cause `Command`, and one
+//! with a bad word and too few words has the cause `Arity`.
+ghost use Rattle.std.specs.Prelude.{◌≡◌};
+ghost use Rattle.nmgc_script.specs.declared.fault.LineFault.TheVariants.{NoMemory as no_memory};
+
+use nmgc_graph::NoMemory;
+use std::alloc::{AllocError, AllocFailed};
+use thiserror::Error;
+
+/// What is wrong with a line, in the order in which it is tried.
+#[derive(Clone, Copy, Debug, PartialEq, Eq, Error)]
+pub enum Cause {
+    /// The first line isn't `nmgc 1`.
+    #[error("version")]
+    Version,
+    /// The second line isn't a heap line within the limits.
+    #[error("heap")]
+    Heap,
+    /// A section line isn't that of the next thread, or a command stands before the first section.
+    #[error("thread")]
+    Thread,
+    /// The section's nursery makes the heap too large.
+    #[error("total")]
+    Total,
+    /// The first word is no command's name.
+    #[error("command")]
+    Command,
+    /// The command has another number of words.
+    #[error("arity")]
+    Arity,
+    /// A word isn't of the form that stands in its place.
+    #[error("operand")]
+    Operand,
+    /// The object is larger than a segment.
+    #[error("size")]
+    Size,
+}
+
+/// Why a line could not be read.
+#[derive(Clone, Copy, Debug, PartialEq, Eq)]
+pub enum LineFault {
+    Bad(Cause),
+    NoMemory,
+}
+
+/// Why a script could not be read: the number of the first bad line, from 1, and its cause.
+#[derive(Clone, Copy, Debug, PartialEq, Eq, Error)]
+pub enum ScriptFault {
+    #[error("bad line {line} {cause}")]
+    Bad { line: u32, cause: Cause },
+    #[error("no memory")]
+    NoMemory,
+}
+
+impl From<NoMemory> for LineFault {
+    ghost from_gives = { λ _ e. e ≡ no_memory };
+
+    fn from(_: NoMemory) -> Self {
+        LineFault::NoMemory
+    }
+}
+
+impl From<AllocError> for LineFault {
+    ghost from_gives = { λ _ e. e ≡ no_memory };
+
+    fn from(_: AllocError) -> Self {
+        LineFault::NoMemory
+    }
+}
+
+impl<T: Drop> From<AllocFailed<T>> for LineFault {
+    ghost from_gives = { λ _ e. e ≡ no_memory };
+
+    fn from(_: AllocFailed<T>) -> Self {
+        LineFault::NoMemory
+    }
+}

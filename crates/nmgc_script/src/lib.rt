@@ -1,0 +1,29 @@
+//! Scripts: what they are, how they are spelled, and how they are read and printed.
+//!
+//! A script gives the sizes of a heap and a program of commands for each mutator. Its text is cut
+//! into lines and the lines into words; the first line that has a fault is told by its number and
+//! cause. `specs/Spelling.antt` says which bytes spell a script, and `specs/Reading.antt` which fault
+//! a line has. The run, the report and the program stand on this crate, and no run begins before
+//! `parse` has answered.
+#![tactic(auto)]
+
+mod commands;
+mod config;
+mod effects;
+mod fault;
+mod makers;
+mod parsing;
+mod printing;
+pub mod script;
+mod sections;
+#[cfg(test)]
+mod tests;
+mod text;
+mod verbs;
+mod words;
+
+pub(crate) use fault::LineFault;
+pub use fault::{Cause, ScriptFault};
+pub use parsing::{parse, spells_one_script};
+pub use printing::print;
+pub use script::{Config, Script};

@@ -1,0 +1,96 @@
+//! Sections: a line that begins one, and the commands up to the next.
+//!
+//! Sections are numbered from 0 in order, and each brings a nursery, so the total is looked at where a
+//! section begins and not at the heap line. Easy to get wrong: the section that begins counts towards
+//! the total itself, and a first word `thread` makes a section line of any line after the heap line.
+ghost use Rattle.std.specs.Prelude.{◌≡◌, ◌+◌, ◌<◌, ◌≤◌, map, IfOk};
+ghost use Rattle.nmgc_script.specs.Limits.{FitsConfig, total_words};
+ghost use Rattle.nmgc_script.specs.Reading.{Gives, thread_at, section_at, is_section, entry_at};
+
+use crate::commands::command;
+use crate::script::MAX_TOTAL;
+use crate::words::small;
+use crate::{Cause, Config, LineFault};
+use nmgc_graph::{Command, MAKERS};
+use std::alloc::Global;
+
+/// What a line is after the heap line.
+#[derive(Drop)]
+pub enum Entry {
+    /// It begins the section of the next thread.
+    Section,
+    /// It is a command of the section that was begun last.
+    Order(Command),
+}
+
+// The number of the thread whose section begins.
+#[tactic(auto, unfolding(crate::specs::Reading::thread_at))]
+fn thread(words: &[&[u8]]) -> Result<u8, LineFault>
+    ensures gives { Gives result (thread_at (map (λ w. w.now) words.now)) }
+    ensures within { IfOk result (λ n. n < MAKERS) }
+{
+    let [name, number] = words else {
+        return Err(LineFault::Bad(Cause::Thread));
+    };
+    if *name != b"thread".as_slice() {
+        return Err(LineFault::Bad(Cause::Thread));
+    }
+    match small(number, (MAKERS - 1) as u32) {
+        Ok(number) => Ok(number as u8),
+        Err(LineFault::NoMemory) => Err(LineFault::NoMemory),
+        Err(LineFault::Bad(_)) => Err(LineFault::Bad(Cause::Thread)),
+    }
+}
+
+// The words of all segments, and of a nursery for each of so many threads.
+fn total_words(config: &Config, threads: u8) -> u32
+    requires fits { FitsConfig config.now }
+    requires few { threads ≤ MAKERS }
+    ensures { result ≡ total_words config.now threads }
+{
+    config.segments * config.words + threads as u32 * config.nursery
+}
+
+// The line that begins the section of the next thread, where so many were begun before.
+#[tactic(auto, unfolding(crate::specs::Reading::section_at))]
+pub fn section(config: &Config, begun: u8, words: &[&[u8]]) -> Result<Entry, LineFault>
+    requires { FitsConfig config.now }
+    ensures gives { Gives result (section_at config.now begun (map (λ w. w.now) words.now)) }
+    ensures within { IfOk result (λ e. begun < MAKERS) }
+{
+    if thread(words)? != begun {
+        return Err(LineFault::Bad(Cause::Thread));
+    }
+    if total_words(config, begun + 1) > MAX_TOTAL {
+        return Err(LineFault::Bad(Cause::Total));
+    }
+    Ok(Entry::Section)
+}
+
+// Whether the first word is that of a section line.
+fn is_section(words: &[&[u8]]) -> bool
+    ensures { result ≡ is_section (map (λ w. w.now) words.now) }
+{
+    match words {
+        [name, ..] => *name == b"thread".as_slice(),
+        [] => false,
+    }
+}
+
+// A line after the first section line, where so many sections were begun before.
+#[tactic(auto, unfolding(crate::specs::Reading::entry_at))]
+pub fn read_entry(
+    alloc: Global,
+    config: &Config,
+    begun: u8,
+    words: &[&[u8]],
+) -> Result<Entry, LineFault>
+    requires { FitsConfig config.now }
+    ensures gives { Gives result (entry_at config.now begun (map (λ w. w.now) words.now)) }
+    ensures within { IfOk result (λ e. e ≡ Entry.Section → begun < MAKERS) }
+{
+    if is_section(words) {
+        return section(config, begun, words);
+    }
+    Ok(Entry::Order(command(alloc, words, config.words)?))
+}

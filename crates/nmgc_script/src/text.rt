@@ -1,0 +1,110 @@
+//! Lines and words of a text.
+//!
+//! A text is cut at line feeds, the last of which may be missing, and a line at single spaces, so two
+//! spaces in a row make an empty word. `Lines` goes over the lines that are read, and keeps the number
+//! of the next line of the text. Easy to get wrong: a line that is passed over still has a number, and
+//! where the text ends too early the line told is one that isn't there.
+ghost use Rattle.std.specs.Prelude.{◌≡◌, ◌≢◌, ◌+◌, ◌<◌, ◌≤◌, ◌^◌, [], ◌∷◌, ◌++◌, All, length, map, IfSome, IfNone, OnOk};
+ghost use Rattle.nmgc_script.specs.Text.{lines_of, words_of, is_passed, kept_after, end_after, kept_lines, end_of};
+
+use nmgc_graph::NoMemory;
+
+/// A place in a text: at the begin of a line.
+#[derive(Drop)]
+pub struct Lines<'a> {
+    rest: &'a [u8],
+    number: u32,
+    ghost small: { number + length rest.now < 2 ^ 32 },
+}
+
+impl<'a> Lines<'a> {
+    /// The begin of a text. Takes no memory.
+    pub fn new(bytes: &'a [u8]) -> Self
+        requires { length bytes.now ≤ 2 ^ 31 }
+        ensures kept { kept_after result.number result.rest.now ≡ kept_lines bytes.now }
+        ensures end { end_after result.number result.rest.now ≡ end_of bytes.now }
+    {
+        Lines {
+            rest: bytes,
+            number: 1,
+        }
+    }
+
+    /// The number of the next line of the text.
+    pub fn number(&self) -> u32
+        ensures { result ≡ self.now.number }
+    {
+        self.number
+    }
+
+    /// The next line that isn't passed over, with its number. After `None` the text is at its end.
+    pub fn next(&mut self) -> Option<(u32, &'a [u8])>
+        ensures line { IfSome result (λ line. kept_after self.old.number self.old.rest.now ≡ (line.0, line.1.now) ∷ kept_after self.new.number self.new.rest.now) }
+        ensures none { IfNone result (kept_after self.old.number self.old.rest.now ≡ []) }
+        ensures last { IfNone result (self.new.number ≡ end_after self.old.number self.old.rest.now) }
+        ensures end { end_after self.new.number self.new.rest.now ≡ end_after self.old.number self.old.rest.now }
+        ensures less { IfSome result (λ line. length self.new.rest.now < length self.old.rest.now) }
+    {
+        while let Some((line, rest)) = split_line(self.rest) {
+            let number = self.number;
+            self.rest = rest;
+            self.number += 1;
+            if !is_passed(line) {
+                return Some((number, line));
+            }
+        }
+        None
+    }
+}
+
+// Whether a line is empty or a remark.
+fn is_passed(line: &[u8]) -> bool
+    ensures { result ≡ is_passed line.now }
+{
+    match line {
+        [] => true,
+        [first, ..] => *first == b'#',
+    }
+}
+
+// The first line, and what comes after it.
+fn split_line(bytes: &[u8]) -> Option<(&[u8], &[u8])>
+    ensures line { IfSome result (λ parts. lines_of bytes.now ≡ parts.0.now ∷ lines_of parts.1.now) }
+    ensures less { IfSome result (λ parts. length parts.1.now < length bytes.now) }
+    ensures none { IfNone result (lines_of bytes.now ≡ []) }
+{
+    if bytes.is_empty() {
+        return None;
+    }
+    match cut(bytes, b'\n') {
+        Some(parts) => Some(parts),
+        None => Some((bytes, &[])),
+    }
+}
+
+/// Cuts a line into its words, which take the place of those that are there.
+pub fn cut_words<'a>(words: &mut Vec<&'a [u8]>, line: &'a [u8]) -> Result<(), NoMemory>
+    ensures { OnOk result (map (λ w. w.now) words.new.items ≡ words_of line.now) }
+{
+    words.clear();
+    let mut rest = line;
+    while let Some((word, after)) = cut(rest, b' ') {
+        words.push(word)?;
+        rest = after;
+    }
+    words.push(rest)?;
+    Ok(())
+}
+
+// What comes before the first such byte, and what comes after it.
+fn cut(bytes: &[u8], byte: u8) -> Option<(&[u8], &[u8])>
+    ensures parts { IfSome result (λ parts. bytes.now ≡ parts.0.now ++ byte ∷ parts.1.now) }
+    ensures first { IfSome result (λ parts. All (λ b. b ≢ byte) parts.0.now) }
+    ensures less { IfSome result (λ parts. length parts.1.now < length bytes.now) }
+    ensures none { IfNone result (All (λ b. b ≢ byte) bytes.now) }
+{
+    let Some(at) = bytes.iter().position(|b| *b == byte) else {
+        return None;
+    };
+    Some((&bytes[..at], &bytes[at + 1..]))
+}
