@@ -1,9 +1,9 @@
 -- What the program tells, and when.
-use Rattle.std.specs.Prelude.{◌≡◌, ◌≢◌, ◌⊎◌, ◌≤◌, ◌+◌, ℕ, List, [], ◌∷◌, ◌++◌, length, codes, decimal, Option, Some, None, Err}
+use Rattle.std.specs.Prelude.{◌≡◌, ◌≢◌, ◌⊎◌, ◌≤◌, ◌+◌, ℕ, List, [], ◌∷◌, ◌++◌, length, codes, decimal, Option, Some, None}
 use Rattle.std.specs.Io.KnownBytes.{Consumes, Appends, Keeps, IsAtEnd}
 use Rattle.nmgc_io.specs.Counts.{Takes, TakesUpTo, AppendsFront}
 use Rattle.nmgc_script.specs.Spelling.{Spells}
-use Rattle.nmgc_script.specs.Reading.{script_at}
+use Rattle.nmgc_script.specs.Faults.{Tells}
 use Rattle.nmgc_script.specs.Text.{kept_lines, end_of}
 use Rattle.nmgc_script.specs.declared.script.Script.{Script}
 use Rattle.nmgc_script.specs.declared.fault.Cause.{Cause}
@@ -35,7 +35,7 @@ pub record SpellsOnly (bytes : List ℕ) (script : Script) : Type 0 where
 -- the bytes spell no script, and this is the first bad line with its cause
 pub record SpellsNone (bytes : List ℕ) (line : ℕ) (c : Cause) : Type 0 where
   pub none : (script : Script) → Spells bytes script → ⊥
-  pub fault : script_at (end_of bytes) (kept_lines bytes) ≡ Err (line, c)
+  pub fault : Tells (end_of bytes) (kept_lines bytes) line c
 
 abbrev pub cause_text : Cause → List ℕ
 cause_text cause.Version = codes "version"
