@@ -1,7 +1,8 @@
 //! A queue: items go in at the end and come off at the front.
 //!
-//! Taking the first item moves an index and no items, so a queue of any length takes constant time.
-//! What was taken stays in memory until the queue is empty.
+//! Taking the first item moves an index and no items, so it takes constant time however long the
+//! queue is. What was taken stays in memory: a queue of finalisers gets at most one item for each weak
+//! pointer that was ever made, and the model keeps every one of these anyway.
 ghost use Rattle.std.specs.Prelude.{◌≡◌, [], ◌∷◌, ◌++◌, drop, slice_get, OnOk, OnErr};
 
 use crate::NoMemory;
