@@ -90,12 +90,16 @@ IsReading (Force dest object) = Unit {0}
 IsReading (Deref dest object) = Unit {0}
 IsReading _ = ⊥
 
--- the command may change an object
+-- the command may change an object, and takes no value from it
 abbrev pub IsChanging : Command → Type 0
 IsChanging (Set object index value) = Unit {0}
 IsChanging (Cas object index expected value) = Unit {0}
 IsChanging (Update object value) = Unit {0}
 IsChanging (Push object value) = Unit {0}
-IsChanging (Pop dest object) = Unit {0}
-IsChanging (Finalise dest object) = Unit {0}
 IsChanging _ = ⊥
+
+-- the command may change an object, and takes a value from it
+abbrev pub IsTaking : Command → Type 0
+IsTaking (Pop dest object) = Unit {0}
+IsTaking (Finalise dest object) = Unit {0}
+IsTaking _ = ⊥

@@ -43,7 +43,7 @@ impl Model for World {
 
 impl World {
     ghost use Rattle.nmgc_graph.specs.World.{node_of, state_of, new_world, IsKnown, IsKnownReply, IsKnownChange, AreKnown, IsNodeOf, IsWorld, serial_of, Grows};
-    ghost use Rattle.nmgc_graph.specs.Command.{HasRegisters, IsMaking, IsReading, IsChanging};
+    ghost use Rattle.nmgc_graph.specs.Command.{HasRegisters, IsMaking, IsReading, IsChanging, IsTaking};
     ghost use Rattle.nmgc_graph.specs.Step.{step, value_for, values_for, born, with_register, keeping, object_of, read_object, change_object, change_node, next_finaliser, same_reply};
 
     /// The world of 1 to `MAKERS` mutators before any command: registers are nil, queues are empty,
@@ -102,9 +102,8 @@ impl World {
             Command::Set { .. }
             | Command::Cas { .. }
             | Command::Update { .. }
-            | Command::Push { .. }
-            | Command::Pop { .. }
-            | Command::Finalise { .. } => self.change(mutator, command),
+            | Command::Push { .. } => self.change(mutator, command),
+            Command::Pop { .. } | Command::Finalise { .. } => self.take_from(mutator, command),
             _ => self.make(mutator, command),
         }
     }
@@ -225,7 +224,7 @@ impl World {
         }
     }
 
-    // Does a command that may change an object.
+    // Does a command that may change an object, and takes no value from it.
     fn change(&mut self, mutator: u8, command: &Command) -> Result<Reply, NoMemory>
         requires mutator { mutator < length self.old.mutators }
         requires registers { HasRegisters command.now }
@@ -270,6 +269,19 @@ impl World {
                     Change::Push { mutator, value },
                 )
             }
+            _ => unreachable!(),
+        }
+    }
+
+    // Does a command that may change an object, and takes a value from it.
+    fn take_from(&mut self, mutator: u8, command: &Command) -> Result<Reply, NoMemory>
+        requires mutator { mutator < length self.old.mutators }
+        requires registers { HasRegisters command.now }
+        requires taking { IsTaking command.now }
+        ensures step { IfOk result (λ reply. step self.old mutator command.now ≡ (self.new, reply)) }
+        ensures err { OnErr result (self.new ≡ self.old) }
+    {
+        match command {
             Command::Pop { dest, object } => {
                 let reply = self.change_object(
                     self.value(mutator, *object),

@@ -4,6 +4,7 @@
 //! same for each reader. Every word after the first stands behind one space. Easy to get wrong: a
 //! thunk without free variables ends with its register and no space after it.
 ghost use Rattle.std.specs.Prelude.{◌≡◌, ◌∷◌, [], ◌++◌, decimal, map, IfOk, OnOk};
+ghost use Rattle.nmgc_graph.specs.Command.{IsMaking, IsReading, IsChanging};
 ghost use Rattle.nmgc_script.specs.Limits.{FitsScript};
 ghost use Rattle.nmgc_script.specs.Printing.{word_text, after_spaces};
 ghost use Rattle.nmgc_script.specs.Spelling.{Spells, command_words, ended, heap_words, operand_word, plain, program_lines, section_lines, section_words, spaced};
@@ -20,6 +21,8 @@ pub enum Word {
     Number(u64),
     Operand(Operand),
 }
+
+use Word::{Number, Operand as Value, Register};
 
 /// Writes the plain spelling of a script that is within the limits. `parse` reads it back.
 pub fn print(alloc: Global, script: &Script) -> Result<Vec<u8>, NoMemory>
@@ -100,152 +103,137 @@ fn push_long_line(
     push_operands(out, operands)
 }
 
-// Appends a command.
+// Appends the line of a command, without its end.
 fn push_command(out: &mut Vec<u8>, command: &Command) -> Result<(), NoMemory>
     ensures { OnOk result (out.new.items ≡ out.old.items ++ spaced (command_words command.now)) }
 {
     match command {
-        Command::Num { dest, number } => {
-            push_line(out, b"num", &[Word::Register(*dest), Word::Number(*number)])
-        }
-        Command::Nil { dest } => push_line(out, b"nil", &[Word::Register(*dest)]),
-        Command::Mov { dest, value } => {
-            push_line(out, b"mov", &[Word::Register(*dest), Word::Operand(*value)])
-        }
-        Command::Con { dest, tag, fields } => push_long_line(
+        Command::Num { dest, number } => push_line(
             out,
-            b"con",
-            &[Word::Register(*dest), Word::Number(*tag as u64)],
-            fields.items(),
+            b"num",
+            &[Register(*dest), Number(*number)],
         ),
-        Command::Var { dest, value } => {
-            push_line(out, b"var", &[Word::Register(*dest), Word::Operand(*value)])
+        Command::Nil { dest } => push_line(out, b"nil", &[Register(*dest)]),
+        Command::Mov { dest, value } => push_line(out, b"mov", &[Register(*dest), Value(*value)]),
+        Command::NextFin { dest } => push_line(out, b"nextfin", &[Register(*dest)]),
+        Command::Show { value } => push_line(out, b"show", &[Value(*value)]),
+        Command::Same { left, right } => push_line(out, b"same", &[Value(*left), Value(*right)]),
+        Command::Yield => push_line(out, b"yield", &[]),
+        Command::Collect => push_line(out, b"collect", &[]),
+        Command::Full => push_line(out, b"full", &[]),
+        Command::Get { .. } | Command::Force { .. } | Command::Deref { .. } => push_reading(
+            out, command,
+        ),
+        Command::Set { .. } | Command::Cas { .. } | Command::Update { .. } | Command::Push { .. } =>
+            push_changing(out, command),
+        Command::Pop { dest, object } => {
+            push_line(out, b"pop", &[Register(*dest), Value(*object)])
         }
-        Command::Arr { dest, count, value } => push_line(
-            out,
-            b"arr",
-            &[
-                Word::Register(*dest),
-                Word::Number(*count as u64),
-                Word::Operand(*value),
-            ],
-        ),
+        Command::Finalise { dest, object } => {
+            push_line(out, b"finalise", &[Register(*dest), Value(*object)])
+        }
+        _ => push_making(out, command),
+    }
+}
+
+// Appends the line of a command that makes an object.
+fn push_making(out: &mut Vec<u8>, command: &Command) -> Result<(), NoMemory>
+    requires { IsMaking command.now }
+    ensures { OnOk result (out.new.items ≡ out.old.items ++ spaced (command_words command.now)) }
+{
+    match command {
+        Command::Con { dest, tag, fields } => {
+            let front = [Register(*dest), Number(*tag as u64)];
+            push_long_line(out, b"con", &front, fields.items())
+        }
+        Command::Var { dest, value } => push_line(out, b"var", &[Register(*dest), Value(*value)]),
+        Command::Arr { dest, count, value } => {
+            let words = [Register(*dest), Number(*count as u64), Value(*value)];
+            push_line(out, b"arr", &words)
+        }
         Command::Thunk { dest, free } => {
-            push_long_line(out, b"thunk", &[Word::Register(*dest)], free.items())
+            push_long_line(out, b"thunk", &[Register(*dest)], free.items())
         }
         Command::Weak {
             dest,
             key,
             value,
             finaliser,
-        } => push_line(
-            out,
-            b"weak",
-            &[
-                Word::Register(*dest),
-                Word::Operand(*key),
-                Word::Operand(*value),
-                Word::Operand(*finaliser),
-            ],
-        ),
-        Command::Stack { dest, size } => {
-            push_line(
-                out,
-                b"stack",
-                &[Word::Register(*dest), Word::Number(*size as u64)],
-            )
+        } => {
+            let words = [
+                Register(*dest),
+                Value(*key),
+                Value(*value),
+                Value(*finaliser),
+            ];
+            push_line(out, b"weak", &words)
         }
+        Command::Stack { dest, size } => {
+            push_line(out, b"stack", &[Register(*dest), Number(*size as u64)])
+        }
+        _ => unreachable!(),
+    }
+}
+
+// Appends the line of a command that reads an object.
+fn push_reading(out: &mut Vec<u8>, command: &Command) -> Result<(), NoMemory>
+    requires { IsReading command.now }
+    ensures { OnOk result (out.new.items ≡ out.old.items ++ spaced (command_words command.now)) }
+{
+    match command {
         Command::Get {
             dest,
             object,
             index,
-        } => push_line(
-            out,
-            b"get",
-            &[
-                Word::Register(*dest),
-                Word::Operand(*object),
-                Word::Number(*index as u64),
-            ],
-        ),
+        } => {
+            let words = [Register(*dest), Value(*object), Number(*index as u64)];
+            push_line(out, b"get", &words)
+        }
+        Command::Force { dest, object } => {
+            push_line(out, b"force", &[Register(*dest), Value(*object)])
+        }
+        Command::Deref { dest, object } => {
+            push_line(out, b"deref", &[Register(*dest), Value(*object)])
+        }
+        _ => unreachable!(),
+    }
+}
+
+// Appends the line of a command that may change an object, and takes no value from it.
+fn push_changing(out: &mut Vec<u8>, command: &Command) -> Result<(), NoMemory>
+    requires { IsChanging command.now }
+    ensures { OnOk result (out.new.items ≡ out.old.items ++ spaced (command_words command.now)) }
+{
+    match command {
         Command::Set {
             object,
             index,
             value,
-        } => push_line(
-            out,
-            b"set",
-            &[
-                Word::Operand(*object),
-                Word::Number(*index as u64),
-                Word::Operand(*value),
-            ],
-        ),
+        } => {
+            let words = [Value(*object), Number(*index as u64), Value(*value)];
+            push_line(out, b"set", &words)
+        }
         Command::Cas {
             object,
             index,
             expected,
             value,
-        } => push_line(
-            out,
-            b"cas",
-            &[
-                Word::Operand(*object),
-                Word::Number(*index as u64),
-                Word::Operand(*expected),
-                Word::Operand(*value),
-            ],
-        ),
-        Command::Update { object, value } => {
-            push_line(
-                out,
-                b"update",
-                &[Word::Operand(*object), Word::Operand(*value)],
-            )
+        } => {
+            let words = [
+                Value(*object),
+                Number(*index as u64),
+                Value(*expected),
+                Value(*value),
+            ];
+            push_line(out, b"cas", &words)
         }
-        Command::Force { dest, object } => {
-            push_line(
-                out,
-                b"force",
-                &[Word::Register(*dest), Word::Operand(*object)],
-            )
+        Command::Update { object, value } => {
+            push_line(out, b"update", &[Value(*object), Value(*value)])
         }
         Command::Push { object, value } => {
-            push_line(
-                out,
-                b"push",
-                &[Word::Operand(*object), Word::Operand(*value)],
-            )
+            push_line(out, b"push", &[Value(*object), Value(*value)])
         }
-        Command::Pop { dest, object } => {
-            push_line(
-                out,
-                b"pop",
-                &[Word::Register(*dest), Word::Operand(*object)],
-            )
-        }
-        Command::Deref { dest, object } => {
-            push_line(
-                out,
-                b"deref",
-                &[Word::Register(*dest), Word::Operand(*object)],
-            )
-        }
-        Command::Finalise { dest, object } => {
-            push_line(
-                out,
-                b"finalise",
-                &[Word::Register(*dest), Word::Operand(*object)],
-            )
-        }
-        Command::NextFin { dest } => push_line(out, b"nextfin", &[Word::Register(*dest)]),
-        Command::Show { value } => push_line(out, b"show", &[Word::Operand(*value)]),
-        Command::Same { left, right } => {
-            push_line(out, b"same", &[Word::Operand(*left), Word::Operand(*right)])
-        }
-        Command::Yield => push_line(out, b"yield", &[]),
-        Command::Collect => push_line(out, b"collect", &[]),
-        Command::Full => push_line(out, b"full", &[]),
+        _ => unreachable!(),
     }
 }
 
