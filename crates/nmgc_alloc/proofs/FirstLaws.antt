@@ -28,7 +28,7 @@ quarters words h =
     let power : 2 ^ k ≡ 2 ^ (k - 2) * 2 ^ 2 = ap (λ (n : ℕ). 2 ^ n) split ∙ pow-add 2 (k - 2) 2 in
     omega arith
 
-unmarked : (n b : ℕ) → slice_index (replicate n 0) b ≡ 0
+pub unmarked : (n b : ℕ) → slice_index (replicate n 0) b ≡ 0
 unmarked n b = elim (cases_lt b n) [ inl lt ↦ get_or-replicate n b 0 0 lt | inr ge ↦ get_or-eq_default (replicate n 0) 0 (omega (arith, length-replicate {A = ℕ} n 0)) ]
 
 pub free_member : (layout : Layout) → IsLayout layout → IsMember layout (free_segment layout.words)
@@ -64,7 +64,7 @@ never_active c layout h = let e = h.0 in cc
 never_sweeping : (layout : Layout) → Is wanted.Sweeping (free_segment layout.words) → ⊥
 never_sweeping layout h = cc
 
-nth_free : (layout : Layout) (n i : ℕ) → i < n → nth (replicate n (free_segment layout.words)) i ≡ free_segment layout.words
+pub nth_free : (layout : Layout) (n i : ℕ) → i < n → nth (replicate n (free_segment layout.words)) i ≡ free_segment layout.words
 nth_free layout n i h = get_or-replicate n i (free_segment layout.words) (free_segment 0) h
 
 -- the invariant of the code before the first use

@@ -4,3 +4,10 @@ pub mod OneLaws
 pub mod SweepLaws
 pub mod PlaceLaws
 pub mod MarkLaws
+pub mod StateLaws
+pub mod StatePlaced
+pub mod StateSwept
+pub mod StateKept
+pub mod StateOne
+pub mod StateRoom
+pub mod StateApart

@@ -154,7 +154,7 @@ prepared_active s Active c h = h
 prepared_active s Filled c h = absurd (let e = h.0 in cc)
 prepared_active s Sweeping c h = h
 
-prepared_free : (state : State) → prepared_state state ≡ Free → state ≡ Free
+pub prepared_free : (state : State) → prepared_state state ≡ Free → state ≡ Free
 prepared_free Free h = h
 prepared_free (Current k) h = h
 prepared_free Active h = h
@@ -183,7 +183,7 @@ retired_active s Active c h = absurd (let e = h.0 in cc)
 retired_active s Filled c h = h
 retired_active s Sweeping c h = h
 
-retired_free : (state : State) → retired_state state ≡ Free → state ≡ Free
+pub retired_free : (state : State) → retired_state state ≡ Free → state ≡ Free
 retired_free Free h = h
 retired_free (Current k) h = absurd (cc)
 retired_free Active h = absurd (cc)

@@ -1,3 +1,4 @@
 pub mod Search
 pub mod Turns
 pub mod Segments
+pub mod AllocState

@@ -3,9 +3,11 @@
 //! Promotion allocates here, the marker marks here, and the sweeper sweeps here, one segment at a
 //! time. The rule of placing is fixed, so that a run's report doesn't depend on what was tried first:
 //! a mutator's current segment of the class, else the active one of least number, else the free one
-//! of least number, and in it the least block that isn't in use.
+//! of least number, and in it the least block that isn't in use. `laws` has the promise that each call
+//! is a step of that rule.
 #![tactic(auto)]
 
+pub mod laws;
 mod search;
 pub mod segments;
 mod tables;
