@@ -6,6 +6,7 @@ pub mod Lent
 pub mod Lives
 pub mod Nodes
 pub mod Orders
+pub mod Queues
 pub mod Rows
 pub mod Searches
 pub mod Weaks

@@ -1,7 +1,8 @@
 -- What a command does to a world: the next world, and the reply. It is the whole behaviour of a heap
 -- that is never collected.
-use Rattle.std.specs.Prelude.{ℕ, List, [], ◌∷◌, ◌++◌, length, map, drop, replicate, slice_get, slice_index_or, slice_set, Option, Some, None, if◌then◌else◌, ◌==◌}
-use Rattle.nmgc_graph.specs.World.{World, state_of, node_of}
+use Rattle.std.specs.Prelude.{ℕ, ◌-◌, ◌<◌, ◌^◌, List, [], ◌∷◌, ◌++◌, length, map, drop, replicate, slice_get, slice_index_or, slice_set, Option, Some, None, if◌then◌else◌, ◌==◌}
+use Rattle.nmgc_graph.specs.World.{World, state_of, serial_of, node_of}
+use Rattle.nmgc_graph.specs.Command.{HasRegisters}
 use Rattle.nmgc_graph.specs.Change.{is_same, given_or, field_read, result_read, value_read, changed}
 use Rattle.nmgc_graph.specs.declared.value.TheConstants.{SHARED_MAKER}
 use Rattle.nmgc_graph.specs.declared.value.Name.{Name}
@@ -18,6 +19,12 @@ use Rattle.nmgc_graph.specs.declared.command.Command.{Command}
 use Rattle.nmgc_graph.specs.declared.command.Command.TheVariants.{Num, Nil, Mov, Con, Var, Arr, Thunk, Weak, Stack, Get, Set, Cas, Update, Force, Push, Pop, Deref, Finalise, NextFin, Show, Same, Yield, Collect, Full}
 use Rattle.nmgc_graph.specs.declared.command.Reply.{Reply}
 use Rattle.nmgc_graph.specs.declared.command.Reply.TheVariants.{Fine, Yes, No, Given, NoPointer, Nothing}
+
+-- a world takes a command: the mutator and the registers exist, and one more object still has a serial
+pub record CanApply (w : World) (m : ℕ) (c : Command) : Type 0 where
+  pub mutator : m < length w.mutators
+  pub registers : HasRegisters c
+  pub serial : serial_of w m < 2 ^ 32 - 1
 
 -- the name of the shared array
 abbrev pub shared_name : Name

@@ -1,7 +1,4 @@
 //! Rows of commands, with the replies that the rules of the heap give.
-ghost use Rattle.std.specs.Prelude.{IsTrue};
-ghost use Rattle.nmgc_graph.specs.Command.{IsRegister, IsOperand, HasRegisters};
-
 use super::*;
 use std::alloc::Global;
 use std::process::Abort;
@@ -35,66 +32,6 @@ pub(crate) fn thunk(alloc: Global, dest: u8, variable: Operand) -> Result<Comman
     Ok(Command::Thunk { dest, free })
 }
 
-fn is_register(register: u8) -> bool
-    ensures { IsTrue result → IsRegister register }
-{
-    register < REGISTERS
-}
-
-fn is_operand(operand: Operand) -> bool
-    ensures { IsTrue result → IsOperand operand }
-{
-    match operand {
-        Operand::Register(register) => is_register(register),
-        Operand::Shared => true,
-    }
-}
-
-// Whether the registers of a command of a row exist.
-pub(crate) fn has_registers(command: &Command) -> bool
-    ensures { IsTrue result → HasRegisters command.now }
-{
-    match command {
-        Command::Num { dest, number: _ } | Command::Nil { dest } => is_register(*dest),
-        Command::Stack { dest, size: _ } | Command::NextFin { dest } => is_register(*dest),
-        Command::Mov { dest, value } | Command::Var { dest, value } => {
-            is_register(*dest) && is_operand(*value)
-        }
-        Command::Get { dest, object, .. }
-        | Command::Force { dest, object }
-        | Command::Pop { dest, object }
-        | Command::Deref { dest, object }
-        | Command::Finalise { dest, object } => is_register(*dest) && is_operand(*object),
-        Command::Set { object, value, .. }
-        | Command::Update { object, value }
-        | Command::Push { object, value } => is_operand(*object) && is_operand(*value),
-        Command::Same { left, right } => is_operand(*left) && is_operand(*right),
-        Command::Show { value } => is_operand(*value),
-        Command::Yield | Command::Collect | Command::Full => true,
-        Command::Arr { dest, value, .. } => is_register(*dest) && is_operand(*value),
-        Command::Cas {
-            object,
-            expected,
-            value,
-            ..
-        } => is_operand(*object) && is_operand(*expected) && is_operand(*value),
-        Command::Weak {
-            dest,
-            key,
-            value,
-            finaliser,
-        } => {
-            is_register(*dest) && is_operand(*key) && is_operand(*value) && is_operand(*finaliser)
-        }
-        Command::Con { dest, fields, .. } => {
-            is_register(*dest) && fields.items().iter().all(|field| is_operand(*field))
-        }
-        Command::Thunk { dest, free } => {
-            is_register(*dest) && free.items().iter().all(|variable| is_operand(*variable))
-        }
-    }
-}
-
 // Gives a row's command, and compares the reply.
 fn expect(
     rt: &impl Abort,
@@ -103,9 +40,7 @@ fn expect(
     command: &Command,
     reply: Reply,
 ) -> Result<(), NoMemory> {
-    assert!(rt; mutator < world.mutators());
-    assert!(rt; world.serial(mutator) < 1000);
-    assert!(rt; has_registers(command));
+    assert!(rt; world.can_apply(mutator, command));
     let got = world.apply(mutator, command)?;
     assert_eq!(rt; got, reply);
     Ok(())
@@ -521,5 +456,59 @@ fn queues_and_lists(rt: HostRuntime) -> Result<(), Fail> {
     assert_eq!(rt; copy.items(), [7, 2].as_slice());
     assert_eq!(rt; list.pop(), Some(2));
     assert_eq!(rt; list.into_vec().as_slice(), [7].as_slice());
+    Ok(())
+}
+
+#[test]
+fn a_queue_changes_in_place(rt: HostRuntime) -> Result<(), Fail> {
+    let mut queue = Queue::new(rt.alloc());
+    assert!(rt; queue.is_empty());
+    queue.extend([3, 4, 5].as_slice())?;
+    assert!(rt; queue.items().len() == 3);
+    queue.truncate(2);
+    assert_eq!(rt; queue.items(), [3, 4].as_slice());
+    queue.set_first(7);
+    assert_eq!(rt; queue.first(), Some(7));
+    assert!(rt; !queue.is_empty());
+    Ok(())
+}
+
+#[test]
+fn looking_at_a_world(rt: HostRuntime) -> Result<(), Fail> {
+    let mut world = World::new(rt.alloc(), 1)?;
+    let five = Command::Num { dest: 1, number: 5 };
+    expect(&rt, &mut world, 0, &five, Reply::Fine)?;
+    let variable = Command::Var {
+        dest: 0,
+        value: r(1),
+    };
+    expect(&rt, &mut world, 0, &variable, name(0, 0))?;
+    assert!(rt; 0 < world.mutators());
+    let object = world.value(0, Operand::Register(0));
+    assert_eq!(rt; Reply::Given(object), name(0, 0));
+    assert!(rt; world.object(object).is_some());
+    assert_eq!(rt; world.field(object, 0), number(5));
+    assert_eq!(rt; world.result_of(object), Reply::WrongKind);
+    assert_eq!(rt; world.weak_value(object), Reply::WrongKind);
+    assert_eq!(rt;
+        world.compare(0, Operand::Register(0), Operand::Shared),
+        Reply::No
+    );
+    Ok(())
+}
+
+#[test]
+fn a_set_of_names(rt: HostRuntime) -> Result<(), Fail> {
+    let world = World::new(rt.alloc(), 1)?;
+    let shared = Name {
+        maker: SHARED_MAKER,
+        serial: 0,
+    };
+    let mut names = world.no_names()?;
+    assert!(rt; !names.contains(shared));
+    assert!(rt; names.insert(shared));
+    assert!(rt; !names.insert(shared));
+    let listed = names.names(world.alloc())?;
+    assert_eq!(rt; listed.items(), [shared].as_slice());
     Ok(())
 }

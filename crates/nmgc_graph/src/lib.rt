@@ -5,15 +5,16 @@
 //! finaliser queue of each mutator. Every other crate stands on this one, and cites its definitions
 //! (`specs/`) for what a command does.
 //!
-//! It also has the small types that all crates share: `List`, which contracts see as a list, and
-//! `NoMemory`, the one answer for want of memory.
+//! It also has the small types that all crates share: `List` and `Queue`, which contracts see as
+//! lists, `Marks`, a set of names, and `NoMemory`, the one answer for want of memory.
 #![tactic(auto)]
 
 pub mod change;
 mod closing;
 pub mod command;
+mod giving;
 pub mod list;
-mod marks;
+pub mod marks;
 pub mod memory;
 pub mod mutator_state;
 pub mod node;
@@ -27,6 +28,7 @@ pub mod world;
 
 pub use command::{Command, Operand, Reply};
 pub use list::List;
+pub use marks::Marks;
 pub use memory::NoMemory;
 pub use mutator_state::MutatorState;
 pub use node::{Kind, Node, Parts};

@@ -15,7 +15,7 @@ use std::marker::Model;
 
 /// A set of names, with a place for so many names of each maker.
 #[derive(Drop)]
-pub(crate) struct Marks {
+pub struct Marks {
     rows: List<List<bool>>,
 }
 
@@ -45,8 +45,9 @@ impl Marks {
         self.rows.push(row)
     }
 
-    /// Adds a name, and says whether it is new. Constant time.
-    pub(crate) fn insert(&mut self, name: Name) -> bool
+    /// Adds a name, and says whether it is new. The set has a place for it. Takes no memory, and
+    /// constant time.
+    pub fn insert(&mut self, name: Name) -> bool
         requires { HasPlace self.old name }
         ensures new { result ≡ not (mark_of self.old name) }
         ensures marks { self.new ≡ with_mark self.old name }
@@ -54,8 +55,8 @@ impl Marks {
         set_mark(&mut self.rows.items_mut()[name.maker as usize], name.serial)
     }
 
-    /// Whether the name is in the set. Constant time.
-    pub(crate) fn contains(&self, name: Name) -> bool
+    /// Whether the name is in the set. Takes no memory, and constant time.
+    pub fn contains(&self, name: Name) -> bool
         ensures { result ≡ mark_of self.now name }
     {
         match self.rows.items().get(name.maker as usize) {
@@ -64,8 +65,8 @@ impl Marks {
         }
     }
 
-    /// The names of the set in order.
-    pub(crate) fn names(&self, alloc: Global) -> Result<List<Name>, NoMemory>
+    /// The names of the set in order. After `NoMemory` there is no answer. Takes time for each place.
+    pub fn names(&self, alloc: Global) -> Result<List<Name>, NoMemory>
         requires makers { length self.now ≤ 256 }
         requires serials { All (λ row. length row ≤ 2 ^ 32) self.now }
         ensures { IfOk result (λ names. Lists (IsMarked self.now) names) }

@@ -2,8 +2,9 @@
 //!
 //! Taking the first item moves an index and no items, so it takes constant time however long the
 //! queue is. What was taken stays in memory: a queue of finalisers gets at most one item for each weak
-//! pointer that was ever made, and the model keeps every one of these anyway.
-ghost use Rattle.std.specs.Prelude.{◌≡◌, [], ◌∷◌, ◌++◌, drop, slice_get, OnOk, OnErr};
+//! pointer that was ever made, and the model keeps every one of these anyway. A mark queue gets each
+//! name once.
+ghost use Rattle.std.specs.Prelude.{◌≡◌, ◌↔◌, ◌<◌, ◌≤◌, [], ◌∷◌, ◌++◌, drop, take, length, slice_get, slice_set, IsTrue, OnOk, OnErr};
 
 use crate::NoMemory;
 use std::alloc::Global;
@@ -48,6 +49,37 @@ impl<T> Queue<T> {
         Ok(())
     }
 
+    /// Adds items at the end. After `NoMemory` the queue is unchanged.
+    pub fn extend(&mut self, items: &[T]) -> Result<(), NoMemory>
+    where
+        T: Copy,
+        ensures ok { OnOk result (self.new ≡ self.old ++ items.now) }
+        ensures err { OnErr result (self.new ≡ self.old) }
+    {
+        self.items.extend_from_slice(items)?;
+        Ok(())
+    }
+
+    /// Keeps the first `count` items. Takes no memory.
+    pub fn truncate(&mut self, count: usize)
+    where
+        T: Drop,
+        requires { count ≤ length self.old }
+        ensures { self.new ≡ take count self.old }
+    {
+        self.items.truncate(self.first + count);
+    }
+
+    /// Puts another item in the place of the first one. Takes no memory, and constant time.
+    pub fn set_first(&mut self, item: T)
+    where
+        T: Drop,
+        requires { 0 < length self.old }
+        ensures { self.new ≡ slice_set self.old 0 item }
+    {
+        self.items[self.first] = item;
+    }
+
     /// Takes the first item off. `None` comes exactly where the queue is empty.
     pub fn take_first(&mut self) -> Option<T>
     where
@@ -58,6 +90,22 @@ impl<T> Queue<T> {
         let first = self.items.get(self.first).copied()?;
         self.first += 1;
         Some(first)
+    }
+
+    /// The first item. `None` comes exactly where the queue is empty.
+    pub fn first(&self) -> Option<T>
+    where
+        T: Copy,
+        ensures { result ≡ slice_get self.now 0 }
+    {
+        self.items().first().copied()
+    }
+
+    /// Whether the queue is empty.
+    pub fn is_empty(&self) -> bool
+        ensures { IsTrue result ↔ (self.now ≡ []) }
+    {
+        self.items().is_empty()
     }
 
     /// The items in order.

@@ -224,8 +224,9 @@ impl World {
         }
     }
 
-    // The empty set of names of this world.
-    fn no_names(&self) -> Result<Marks, NoMemory>
+    /// The empty set of names, with a place for each name of this world and no other. Takes memory and
+    /// time for each name.
+    pub fn no_names(&self) -> Result<Marks, NoMemory>
         ensures places { IfOk result (λ marks. HasPlaces self.now marks) }
         ensures none { IfOk result (λ marks. (name : NameAt) → mark_of marks name ≡ false) }
     {

@@ -7,6 +7,11 @@ use std::alloc::Global;
 impl World {
     ghost use Rattle.nmgc_graph.specs.World.{state_of, serial_of, AreKnown, IsWorld};
 
+    /// The allocator that the world takes its memory from. Takes constant time.
+    pub fn alloc(&self) -> Global {
+        self.alloc
+    }
+
     /// The number of mutators. Takes no memory, and constant time.
     pub fn mutators(&self) -> u8
         ensures count { result ≡ length self.now.mutators }
@@ -96,9 +101,7 @@ fn copy_queue(alloc: Global, values: &[Value]) -> Result<Queue<Value>, NoMemory>
     ensures { IfOk result (λ queue. queue ≡ values.now) }
 {
     let mut queue = Queue::new(alloc);
-    for value in values {
-        queue.push(*value)?;
-    }
+    queue.extend(values)?;
     Ok(queue)
 }
 

@@ -191,8 +191,9 @@ impl World {
         }
     }
 
-    // Reads a field of the object that a value refers to.
-    fn field(&self, object: Value, index: u32) -> Reply
+    /// What `get` answers: a field of the object that a value refers to. Takes no memory, and
+    /// constant time.
+    pub fn field(&self, object: Value, index: u32) -> Reply
         ensures reply { result ≡ read_object (object_of self.now object) (λ node. field_read node index) }
         ensures known { IsKnownReply self.now result }
     {
@@ -202,8 +203,9 @@ impl World {
         }
     }
 
-    // Reads the result of the thunk that a value refers to.
-    fn result_of(&self, object: Value) -> Reply
+    /// What `force` answers: the result of the thunk that a value refers to. Takes no memory, and
+    /// constant time.
+    pub fn result_of(&self, object: Value) -> Reply
         ensures reply { result ≡ read_object (object_of self.now object) result_read }
         ensures known { IsKnownReply self.now result }
     {
@@ -213,8 +215,9 @@ impl World {
         }
     }
 
-    // Reads the value of the weak pointer that a value refers to.
-    fn weak_value(&self, object: Value) -> Reply
+    /// What `deref` answers: the value of the weak pointer that a value refers to. Takes no memory, and
+    /// constant time.
+    pub fn weak_value(&self, object: Value) -> Reply
         ensures reply { result ≡ read_object (object_of self.now object) value_read }
         ensures known { IsKnownReply self.now result }
     {
@@ -297,8 +300,8 @@ impl World {
         }
     }
 
-    // The value of an operand.
-    fn value(&self, mutator: u8, operand: Operand) -> Value
+    /// The value that an operand has for a mutator. Takes no memory, and constant time.
+    pub fn value(&self, mutator: u8, operand: Operand) -> Value
         requires mutator { mutator < length self.now.mutators }
         requires operand { IsOperand operand }
         ensures value { result ≡ value_for self.now mutator operand }
@@ -324,8 +327,9 @@ impl World {
         )
     }
 
-    // The object that a value refers to.
-    pub(crate) fn object(&self, value: Value) -> Option<&Node>
+    /// The object that a value refers to. `None` comes exactly where it isn't a reference to a name
+    /// of the map. Takes no memory, and constant time.
+    pub fn object(&self, value: Value) -> Option<&Node>
         ensures object { option_copied result ≡ object_of self.now value }
         ensures node { IfSome (option_copied result) (IsNodeOf self.now) }
     {
@@ -380,8 +384,9 @@ impl World {
         self.take(mutator, register, value)
     }
 
-    // Whether two operands have the same value.
-    fn compare(&self, mutator: u8, left: Operand, right: Operand) -> Reply
+    /// What `same` answers: whether two operands have the same value. Takes no memory, and constant
+    /// time.
+    pub fn compare(&self, mutator: u8, left: Operand, right: Operand) -> Reply
         requires mutator { mutator < length self.now.mutators }
         requires left { IsOperand left }
         requires right { IsOperand right }

@@ -1,0 +1,108 @@
+//! Whether a mutator can give a command.
+//!
+//! A script never asks for a register that isn't there, or for more objects than there are serials. A
+//! caller that gets its commands from elsewhere has to ask.
+ghost use Rattle.std.specs.Prelude.{◌≡◌, ◌↔◌, IsTrue, All};
+ghost use Rattle.nmgc_graph.specs.Command.{HasRegisters, IsOperand, IsRegister};
+
+use crate::{Command, Operand, REGISTERS, World};
+
+impl World {
+    ghost use Rattle.nmgc_graph.specs.Step.{CanApply};
+
+    /// Whether the mutator and the command's registers exist, and one more object still has a serial:
+    /// what `apply` asks for. Takes no memory, and as long as `Command::has_registers`.
+    pub fn can_apply(&self, mutator: u8, command: &Command) -> bool
+        ensures { IsTrue result ↔ CanApply self.now mutator command.now }
+    {
+        mutator < self.mutators() && command.has_registers() && self.serial(mutator) < u32::MAX
+    }
+}
+
+impl Command {
+    /// Whether the registers of the command exist. Takes no memory, and constant time but for a
+    /// constructor or a thunk, whose operands are looked at one by one.
+    pub fn has_registers(&self) -> bool
+        ensures { IsTrue result ↔ HasRegisters self.now }
+    {
+        match self {
+            Command::Num { dest, number: _ } => is_register(*dest),
+            Command::Nil { dest } => is_register(*dest),
+            Command::Mov { dest, value } => is_register(*dest) && is_operand(*value),
+            Command::Con {
+                dest,
+                tag: _,
+                fields,
+            } => is_register(*dest) && are_operands(fields.items()),
+            Command::Var { dest, value } => is_register(*dest) && is_operand(*value),
+            Command::Arr {
+                dest,
+                count: _,
+                value,
+            } => is_register(*dest) && is_operand(*value),
+            Command::Thunk { dest, free } => is_register(*dest) && are_operands(free.items()),
+            Command::Weak {
+                dest,
+                key,
+                value,
+                finaliser,
+            } => {
+                is_register(*dest)
+                    && is_operand(*key)
+                    && is_operand(*value)
+                    && is_operand(*finaliser)
+            }
+            Command::Stack { dest, size: _ } => is_register(*dest),
+            Command::Get {
+                dest,
+                object,
+                index: _,
+            } => is_register(*dest) && is_operand(*object),
+            Command::Set {
+                object,
+                index: _,
+                value,
+            } => is_operand(*object) && is_operand(*value),
+            Command::Cas {
+                object,
+                index: _,
+                expected,
+                value,
+            } => is_operand(*object) && is_operand(*expected) && is_operand(*value),
+            Command::Update { object, value } => is_operand(*object) && is_operand(*value),
+            Command::Force { dest, object } => is_register(*dest) && is_operand(*object),
+            Command::Push { object, value } => is_operand(*object) && is_operand(*value),
+            Command::Pop { dest, object } => is_register(*dest) && is_operand(*object),
+            Command::Deref { dest, object } => is_register(*dest) && is_operand(*object),
+            Command::Finalise { dest, object } => is_register(*dest) && is_operand(*object),
+            Command::NextFin { dest } => is_register(*dest),
+            Command::Show { value } => is_operand(*value),
+            Command::Same { left, right } => is_operand(*left) && is_operand(*right),
+            Command::Yield | Command::Collect | Command::Full => true,
+        }
+    }
+}
+
+// Whether the register exists.
+fn is_register(register: u8) -> bool
+    ensures { IsTrue result ↔ IsRegister register }
+{
+    register < REGISTERS
+}
+
+// Whether the operand's register exists, if it has one.
+fn is_operand(operand: Operand) -> bool
+    ensures { IsTrue result ↔ IsOperand operand }
+{
+    match operand {
+        Operand::Register(register) => is_register(register),
+        Operand::Shared => true,
+    }
+}
+
+// Whether the registers of all operands exist.
+fn are_operands(operands: &[Operand]) -> bool
+    ensures { IsTrue result ↔ All IsOperand operands.now }
+{
+    operands.iter().all(|operand| is_operand(*operand))
+}
