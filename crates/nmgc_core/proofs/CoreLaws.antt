@@ -1,0 +1,178 @@
+-- The set of a core, and the queues of its mutators, as they change.
+use Rattle.std.proofs.Common.{◌≡◌, ◌<◌, ◌+◌, ℕ, zero, suc, List, [], ◌∷◌, ◌++◌, length, get_or, set, take, inl, inr, refl, sym, ap, ◌∙◌, arith, Option, Some, None, Result, Ok, Err, Bool, true, false, not}
+use Rattle.std.specs.Prelude.{Contains, slice_get, is_some, ◌&&◌, ◌||◌, IfOk, IfSome, IfNone}
+use Rattle.std.proofs.lemmas.List.{take_more, get_or-set_same, set-get_or, take-append-le, take_all}
+use Rattle.nmgc_graph.specs.declared.value.Name.{Name}
+use Rattle.nmgc_graph.specs.World.{World, node_of}
+use Rattle.nmgc_graph.specs.Change.{is_same_name}
+use Rattle.nmgc_graph.specs.Reach.{Lists}
+use Rattle.nmgc_graph.specs.declared.command.Command.{Command}
+use Rattle.nmgc_graph.specs.declared.command.Reply.{Reply}
+use Rattle.nmgc_graph.specs.Step.{step}
+use Rattle.nmgc_core.specs.Owed.{owed_by}
+use Rattle.nmgc_core.specs.Machine.{after_command}
+use Rattle.nmgc_core.specs.Weakless.{IsStrong}
+use Rattle.nmgc_core.proofs.Commands.{after_strong}
+use Rattle.nmgc_core.specs.declared.event.Entry.{Entry}
+use Rattle.nmgc_graph.specs.declared.memory.NoMemory.{NoMemory}
+use Rattle.nmgc_graph.specs.declared.value.Value.{Value}
+use Rattle.nmgc_graph.specs.declared.value.Value.TheVariants as value
+use Rattle.nmgc_core.specs.State.{State, is_listed, is_new, names_of, mark_name, mark_value, mark_values, mark_read, entry_of}
+use Rattle.nmgc_core.proofs.Marking.{mark_cases}
+use Rattle.nmgc_graph.specs.Marks.{HasPlace, HasPlaces, IsMarked, mark_of, with_mark}
+use Rattle.nmgc_graph.proofs.Rows.{added, kept_others, places_kept, makers_kept, name_cases}
+use Rattle.nmgc_graph.proofs.Searches.{name_placed}
+use Rattle.nmgc_core.specs.Sound.{IsCore}
+use Rattle.nmgc_core.proofs.Listed.{contains_listed, not_listed, same_name, is_same_name-refl}
+
+is_listed-push : (name : Name) (xs : List Name) (x : Name) → is_listed name (xs ++ x ∷ []) ≡ (is_listed name xs || is_same_name x name)
+is_listed-push name [] x = by_test (is_same_name x name)
+  where
+    by_test : (b : Bool) → (b || false) ≡ b
+    by_test true = refl
+    by_test false = refl
+is_listed-push name (y ∷ ys) x = by_test (is_same_name y name) (is_listed-push name ys x)
+  where
+    by_test : (b : Bool) → is_listed name (ys ++ x ∷ []) ≡ (is_listed name ys || is_same_name x name) → (b || is_listed name (ys ++ x ∷ [])) ≡ ((b || is_listed name ys) || is_same_name x name)
+    by_test true e = refl
+    by_test false e = e
+
+listed_last : (name : Name) (xs : List Name) → is_listed name (xs ++ name ∷ []) ≡ true
+listed_last name xs = is_listed-push name xs name ∙ by_test (is_listed name xs)
+  where
+    by_test : (b : Bool) → (b || is_same_name name name) ≡ true
+    by_test true = refl
+    by_test false = is_same_name-refl name
+
+listed_other : (other name : Name) (xs : List Name) → (other ≡ name → ⊥) → is_listed other (xs ++ name ∷ []) ≡ is_listed other xs
+listed_other other name xs ne = is_listed-push other xs name ∙ by_test (is_listed other xs) (is_same_name name other) refl
+  where
+    by_test : (b c : Bool) → is_same_name name other ≡ c → (b || c) ≡ b
+    by_test true c e = refl
+    by_test false true e = absurd (ne (sym (same_name name other e)))
+    by_test false false e = refl
+
+not_empty : (xs : List Name) (x : Name) → xs ++ x ∷ [] ≡ [] → ⊥
+not_empty [] x e = absurd cc
+not_empty (y ∷ xs) x e = absurd cc
+
+-- lists that are the same with one more item each are the same
+snoc_front : (xs ys : List Name) (x y : Name) → xs ++ x ∷ [] ≡ ys ++ y ∷ [] → xs ≡ ys
+snoc_front [] [] x y e = refl
+snoc_front [] (z ∷ ys) x y e = let t : [] ≡ ys ++ y ∷ [] = cc in absurd (not_empty ys y (sym t))
+snoc_front (z ∷ xs) [] x y e = let t : xs ++ x ∷ [] ≡ [] = cc in absurd (not_empty xs x t)
+snoc_front (z ∷ xs) (w ∷ ys) x y e =
+    let t : xs ++ x ∷ [] ≡ ys ++ y ∷ [] = cc in
+    let h : z ≡ w = cc in
+    rw (h, snoc_front xs ys x y t) refl
+
+-- a set and a list that have the same names still do after both got one more
+pub set_more : (marks : List (List Bool)) (name : Name) (names : List Name) → HasPlace marks name → ((n : Name) → mark_of marks n ≡ is_listed n names) → (n : Name) → mark_of (with_mark marks name) n ≡ is_listed n (names ++ name ∷ [])
+set_more marks name names place same n = elim (name_cases n name) [
+  | inl e ↦ rw e (added marks name place ∙ sym (listed_last name names))
+  | inr ne ↦ kept_others marks name place n ne ∙ same n ∙ sym (listed_other n name names ne)
+]
+
+-- and the set has the same places
+pub places_more : (w : World) (marks : List (List Bool)) (name : Name) → HasPlace marks name → HasPlaces w marks → HasPlaces w (with_mark marks name)
+places_more w marks name place p = record { makers = makers_kept marks name place ∙ p.makers; counts = λ maker. places_kept marks name place maker ∙ p.counts maker }
+
+-- a new name has a place
+pub new_placed : (marks : List (List Bool)) (s : State) (name : Name) → IsCore marks s → is_new s name ≡ true → HasPlace marks name
+new_placed marks s name c new = name_placed s.snapshot marks c.places name (there (is_some (node_of s.snapshot name)) new)
+  where
+    there : (b : Bool) → (b && not (is_listed name s.marked)) ≡ true → b ≡ true
+    there true h = refl
+    there false h = absurd cc
+
+-- what came on last comes off
+pub taken_off : (r : Option Name) (xs ys zs : List Name) (x : Name) → zs ≡ xs ++ x ∷ [] → IfSome r (λ (y : Name). zs ≡ ys ++ y ∷ []) → IfNone r ((zs ≡ []) × (ys ≡ [])) → ys ≡ xs
+taken_off (Some y) xs ys zs x e last none = snoc_front ys xs y x (sym last ∙ e)
+taken_off None xs ys zs x e last none = absurd (not_empty xs x (sym e ∙ none.0))
+
+-- a core after a name was marked
+pub core_marked : (marks marks' : List (List Bool)) (s : State) (name : Name) (marked : List Name) (queue : List Entry) → IsCore marks s → is_new s name ≡ true → marks' ≡ with_mark marks name → marked ≡ s.marked ++ name ∷ [] → IsCore marks' (record s { marked = marked; queue = queue })
+core_marked marks marks' s name marked queue c new e f =
+    let place : HasPlace marks name = new_placed marks s name c new in
+    rw (e, f) (record {
+      places = places_more s.snapshot marks name place c.places;
+      same = set_more marks name s.marked place c.same;
+      owed = c.owed;
+      pushed = c.pushed;
+      weakless = c.weakless;
+      snapshot = c.snapshot;
+      world = c.world;
+    })
+
+-- the names of the set are the marked names
+pub set_marked : (marks : List (List Bool)) (s : State) (names : List Name) → IsCore marks s → Lists (IsMarked marks) names → Lists (Contains s.marked) names
+set_marked marks s names c l = record {
+  ordered = l.ordered;
+  sound = λ name h. contains_listed name s.marked (sym (c.same name) ∙ l.sound name h);
+  complete = λ name h. l.complete name (c.same name ∙ listed name h);
+}
+  where
+    listed : (name : Name) → Contains s.marked name → is_listed name s.marked ≡ true
+    listed name h = by_test (is_listed name s.marked) refl
+      where
+        by_test : (b : Bool) → is_listed name s.marked ≡ b → b ≡ true
+        by_test true e = refl
+        by_test false e = absurd (not_listed name s.marked e h)
+
+set_twice : {A : Type 0} (xs : List A) (i : ℕ) (x y : A) → set (set xs i x) i y ≡ set xs i y
+set_twice [] i x y = refl
+set_twice (z ∷ xs) zero x y = refl
+set_twice (z ∷ xs) (suc i) x y = ap (λ l. z ∷ l) (set_twice xs i x y)
+
+-- names that were added are taken back
+pub taken_back : (lists lists' : List (List Name)) (m : ℕ) (names : List Name) (count : ℕ) → m < length lists → lists' ≡ set lists m (names_of lists m ++ names) → count ≡ length (names_of lists m) → set lists' m (take count (names_of lists' m)) ≡ lists
+taken_back lists lists' m names count lt e f =
+    let back : take (length (names_of lists m)) (names_of lists m ++ names) ≡ names_of lists m = take-append-le (length (names_of lists m)) (names_of lists m) names (omega arith) ∙ take_all (length (names_of lists m)) (names_of lists m) (omega arith) in
+    rw (e, f, get_or-set_same lists m (names_of lists m ++ names) [] lt, back, set_twice) (set-get_or lists m [])
+
+pub none_first : {A : Type 0} (xs : List A) → slice_get xs 0 ≡ None → xs ≡ []
+none_first [] h = refl
+none_first (x ∷ xs) h = absurd cc
+
+pub some_first : {A : Type 0} (xs : List A) (x : A) → slice_get xs 0 ≡ Some x → 0 < length xs
+some_first [] x h = absurd cc
+some_first (y ∷ xs) x h = omega arith
+
+first_append : {A : Type 0} (xs ys : List A) (x : A) → slice_get xs 0 ≡ Some x → slice_get (xs ++ ys) 0 ≡ Some x
+first_append [] ys x h = absurd cc
+first_append (y ∷ xs) ys x h = h
+
+mark_first : (s : State) (name : Name) (entry : Entry) → slice_get s.queue 0 ≡ Some entry → slice_get (mark_name s name).queue 0 ≡ Some entry
+mark_first s name entry h = mark_cases (λ t. slice_get t.queue 0 ≡ Some entry) s name (λ e. first_append s.queue (entry_of name ∷ []) entry h) (λ e. h)
+
+-- marking leaves the first entry
+pub read_first : (s : State) (o : Option Value) (entry : Entry) → slice_get s.queue 0 ≡ Some entry → slice_get (mark_read s o).queue 0 ≡ Some entry
+read_first s None entry h = h
+read_first s (Some value.Nil) entry h = h
+read_first s (Some (value.Number n)) entry h = h
+read_first s (Some (value.Ref name)) entry h = mark_first s name entry h
+
+-- and what was pushed
+pub mark_pushed : (s : State) (name : Name) → (mark_name s name).pushed ≡ s.pushed
+mark_pushed s name = mark_cases (λ t. t.pushed ≡ s.pushed) s name (λ e. refl) (λ e. refl)
+
+pub names_listed : (r : Result (List Name) NoMemory) (marks : List (List Bool)) (s : State) → IsCore marks s → IfOk r (Lists (IsMarked marks)) → IfOk r (Lists (Contains s.marked))
+names_listed (Ok names) marks s c l = set_marked marks s names c l
+names_listed (Err e) marks s c l = tt
+
+-- a command that wanted memory leaves everything as it was
+pub command_undone : (s : State) (world : World) (lists lists' : List (List Name)) (m : ℕ) (names : List Name) (count : ℕ) → m < length s.owed → world ≡ s.world → lists ≡ set s.owed m (names_of s.owed m ++ names) → count ≡ length (names_of s.owed m) → lists' ≡ set lists m (take count (names_of lists m)) → record s { world = world; owed = lists' } ≡ s
+command_undone s world lists lists' m names count lt e f g h = let back : lists' ≡ s.owed = h ∙ taken_back s.owed lists m names count lt f g in rw (e, back) refl
+
+-- a command that was given
+pub command_done : (s : State) (m : ℕ) (c : Command) (r : Reply) (world : World) (lists : List (List Name)) (names : List Name) → IsStrong c → step s.world m c ≡ (world, r) → names ≡ owed_by s.world m c → lists ≡ set s.owed m (names_of s.owed m ++ names) → record s { world = world; owed = lists } ≡ after_command s m c
+command_done s m c r world lists names strong e f g = let w : world ≡ (step s.world m c).0 = ap (λ (p : World × Reply). p.0) (sym e) in rw (w, g, f) (sym (after_strong s m c strong))
+
+-- one more value
+pub values_more : (s : State) (values : List Value) (v : Value) → mark_values s (values ++ v ∷ []) ≡ mark_value (mark_values s values) v
+values_more s [] v = refl
+values_more s (x ∷ values) v = values_more (mark_value s x) values v
+
+-- the step of a loop that marks values
+pub values_step : (s t u : State) (values : List Value) (i : ℕ) (d : Value) → i < length values → t ≡ mark_values s (take i values) → u ≡ mark_value t (get_or values i d) → u ≡ mark_values s (take (i + 1) values)
+values_step s t u values i d lt e f = rw (take_more values i d lt, values_more s (take i values) (get_or values i d), ← e) f

@@ -1,0 +1,17 @@
+mod Barrier
+mod Commands
+mod CoreLaws
+mod Ending
+mod Facts
+mod Handing
+mod ItemLaws
+mod Listed
+mod Lives
+mod Marking
+mod Moves
+mod NodeLaws
+mod Openings
+mod OpenLaws
+mod Runs
+mod Scans
+mod WeaklessLaws

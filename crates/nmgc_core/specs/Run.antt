@@ -1,0 +1,59 @@
+-- A run of the machine, and the snapshot theorem: what a run has marked.
+use Rattle.std.specs.Prelude.{◌≡◌, ◌↔◌, List, [], ◌∷◌, ◌++◌, Contains, Bool, true, false, if◌then◌else◌}
+use Rattle.nmgc_graph.specs.declared.value.Name.{Name}
+use Rattle.nmgc_graph.specs.World.{World, IsWorld}
+use Rattle.nmgc_graph.specs.History.{Row, replayed, IsLegal, opened, finalised}
+use Rattle.nmgc_graph.specs.Reach.{IsLive, IsDead, IsKept, Lists, closed}
+use Rattle.nmgc_core.specs.declared.event.Event.{Event}
+use Rattle.nmgc_core.specs.declared.event.Event.TheVariants as event
+use Rattle.nmgc_core.specs.State.{State, opening}
+use Rattle.nmgc_core.specs.Machine.{Passes}
+use Rattle.nmgc_core.specs.Closing.{IsMarkedFirst, IsClosing}
+
+-- the row of an event that is a command
+abbrev pub row_of : Event → List Row
+row_of (event.Command m c answer) = (record { mutator = m; command = c; reply = answer }) ∷ []
+row_of (event.Push m) = []
+row_of event.Scan = []
+row_of (event.Take m) = []
+row_of event.Close = []
+
+-- the rows of an event, if it happened
+abbrev pub rows_if : Bool → Event → List Row
+rows_if done e = if done then row_of e else []
+
+-- from one state to another by events, each in turn, and the commands that happened
+abbrev pub Runs : State → List Event → List Row → State → Type 0
+Runs s [] rows last = (rows ≡ []) × (last ≡ s)
+Runs s (e ∷ es) rows last = (done : Bool) × (next : State) × (rest : List Row) × Passes s e done next × (rows ≡ rows_if done e ++ rest) × Runs next es rest last
+
+-- before the closing, after these rows: the world is their replay, and what is marked is live in the snapshot
+pub record IsMarking (w : World) (rows : List Row) (s : State) : Type 0 where
+  pub legal : IsLegal w rows
+  pub snapshot : s.snapshot ≡ w
+  pub world : s.world ≡ replayed w rows
+  pub opened : s.opened ≡ opened w rows
+  pub finalised : s.finalised ≡ finalised w rows
+  pub live : (name : Name) → Contains s.marked name → IsLive w s.opened name
+
+-- at the closing, from the state before it: what is marked is what is live, what dies is what is dead, and what is marked in the end is what is kept
+pub record IsExact (w : World) (rows : List Row) (s : State) : Type 0 where
+  pub before : State
+  pub marking : IsMarking w rows before
+  pub closing : IsClosing before s
+  pub live : (name : Name) → IsMarkedFirst before name ↔ IsLive w before.opened name
+  pub dead : Lists (IsDead w before.opened before.finalised) closing.dead
+  pub kept : (name : Name) → Contains s.marked name ↔ IsKept w before.opened before.finalised name
+  pub world : s.world ≡ closed (replayed w rows) closing.dead
+
+-- the snapshot theorem, for the state after these rows
+pub record IsSnapshotMarking (w : World) (rows : List Row) (s : State) : Type 0 where
+  pub before : s.is_closed ≡ false → IsMarking w rows s
+  pub after : s.is_closed ≡ true → IsExact w rows s
+
+-- a run from a world: its end is what the machine does, each event in turn, and the snapshot theorem holds there
+pub record IsRun (w : World) (events : List Event) (s : State) : Type 0 where
+  pub rows : List Row
+  pub runs : Runs (opening w) events rows s
+  pub theorem : IsSnapshotMarking w rows s
+  pub closed : IsWorld s.world
