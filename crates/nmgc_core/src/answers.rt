@@ -4,9 +4,9 @@
 //! the answer is looked up before anything changes: a world that has stepped can't step back.
 ghost use Rattle.std.specs.Prelude.{◌≡◌, ◌<◌, length, option_copied, IsTrue, ◌↔◌, ◌^◌, ◌-◌, All};
 ghost use Rattle.nmgc_graph.specs.World.{serial_of};
-ghost use Rattle.nmgc_graph.specs.Command.{HasRegisters, IsOperand, IsRegister, IsReading, IsChanging, IsMaking};
+ghost use Rattle.nmgc_graph.specs.Command.{HasRegisters, IsOperand, IsRegister, IsReading, IsMaking};
 ghost use Rattle.nmgc_graph.specs.Change.{changed, field_set, field_exchanged, thunk_updated, stack_pushed, stack_popped, weak_finalised};
-ghost use Rattle.nmgc_graph.specs.Step.{step, value_for, object_of, change_object};
+ghost use Rattle.nmgc_graph.specs.Step.{step, value_for, object_of, asked, change_asked, change_object};
 ghost use Rattle.nmgc_graph.specs.declared.value.Value.{Value as ValueAt};
 
 use nmgc_graph::change::{Change, given_or, same};
@@ -37,18 +37,12 @@ pub(crate) fn answer(world: &World, mutator: u8, command: &Command) -> Reply
         Command::Get { .. } | Command::Force { .. } | Command::Deref { .. } => {
             reading_answer(world, mutator, command)
         }
-        Command::Set { .. } | Command::Cas { .. } | Command::Update { .. } | Command::Push { .. } =>
-            changing_answer(world, mutator, command),
-        Command::Pop { dest: _, object } => object_answer(
-            world,
-            world.value(mutator, *object),
-            Change::Pop { mutator },
-        ),
-        Command::Finalise { dest: _, object } => object_answer(
-            world,
-            world.value(mutator, *object),
-            Change::Finalise,
-        ),
+        Command::Set { .. }
+        | Command::Cas { .. }
+        | Command::Update { .. }
+        | Command::Push { .. }
+        | Command::Pop { .. }
+        | Command::Finalise { .. } => asked_answer(world, mutator, command),
         Command::Con { .. }
         | Command::Var { .. }
         | Command::Arr { .. }
@@ -81,58 +75,15 @@ fn reading_answer(world: &World, mutator: u8, command: &Command) -> Reply
     }
 }
 
-// The answer to a command that may change an object, and takes no value from it.
-fn changing_answer(world: &World, mutator: u8, command: &Command) -> Reply
+// The answer to a command that asks for a change.
+fn asked_answer(world: &World, mutator: u8, command: &Command) -> Reply
     requires mutator { mutator < length world.now.mutators }
     requires registers { HasRegisters command.now }
-    requires changing { IsChanging command.now }
-    ensures { result ≡ (step world.now mutator command.now).1 }
+    ensures { result ≡ (change_asked world.now (asked world.now mutator command.now)).1 }
 {
-    match command {
-        Command::Set {
-            object,
-            index,
-            value: operand,
-        } => {
-            let change = Change::Set {
-                index: *index,
-                value: world.value(mutator, *operand),
-            };
-            object_answer(world, world.value(mutator, *object), change)
-        }
-        Command::Cas {
-            object,
-            index,
-            expected,
-            value: operand,
-        } => {
-            let change = Change::Exchange {
-                index: *index,
-                expected: world.value(mutator, *expected),
-                value: world.value(mutator, *operand),
-            };
-            object_answer(world, world.value(mutator, *object), change)
-        }
-        Command::Update {
-            object,
-            value: operand,
-        } => {
-            let change = Change::Update {
-                value: world.value(mutator, *operand),
-            };
-            object_answer(world, world.value(mutator, *object), change)
-        }
-        Command::Push {
-            object,
-            value: operand,
-        } => {
-            let change = Change::Push {
-                mutator,
-                value: world.value(mutator, *operand),
-            };
-            object_answer(world, world.value(mutator, *object), change)
-        }
-        _ => unreachable!(),
+    match world.asked(mutator, command) {
+        Some((object, change)) => object_answer(world, object, change),
+        None => Reply::Fine,
     }
 }
 

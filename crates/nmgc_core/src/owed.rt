@@ -44,57 +44,16 @@ fn values_owed(world: &World, mutator: u8, command: &Command) -> Result<List<Val
     ensures { IfOk result (λ values. values ≡ values_owed world.now mutator command.now) }
 {
     match command {
-        Command::Set {
-            object,
-            index,
-            value: operand,
-        } => {
-            let change = Change::Set {
-                index: *index,
-                value: world.value(mutator, *operand),
-            };
-            owed_of(world, world.value(mutator, *object), change)
+        Command::Deref { dest: _, object } => {
+            match world.object(world.value(mutator, *object)) {
+                Some(node) => one(world.alloc(), value_held(node)),
+                None => Ok(List::new(world.alloc())),
+            }
         }
-        Command::Cas {
-            object,
-            index,
-            expected,
-            value: operand,
-        } => {
-            let change = Change::Exchange {
-                index: *index,
-                expected: world.value(mutator, *expected),
-                value: world.value(mutator, *operand),
-            };
-            owed_of(world, world.value(mutator, *object), change)
-        }
-        Command::Update {
-            object,
-            value: operand,
-        } => {
-            let change = Change::Update {
-                value: world.value(mutator, *operand),
-            };
-            owed_of(world, world.value(mutator, *object), change)
-        }
-        Command::Pop { dest: _, object } => owed_of(
-            world,
-            world.value(mutator, *object),
-            Change::Pop { mutator },
-        ),
-        Command::Finalise { dest: _, object } => owed_of(
-            world,
-            world.value(mutator, *object),
-            Change::Finalise,
-        ),
-        Command::Deref {
-            dest: _,
-            object: operand,
-        } => match world.object(world.value(mutator, *operand)) {
-            Some(node) => one(world.alloc(), value_held(node)),
+        _ => match world.asked(mutator, command) {
+            Some((object, change)) => owed_of(world, object, change),
             None => Ok(List::new(world.alloc())),
         },
-        _ => Ok(List::new(world.alloc())),
     }
 }
 

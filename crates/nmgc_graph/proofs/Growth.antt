@@ -19,7 +19,7 @@ use Rattle.nmgc_graph.specs.declared.node.Node.{Node}
 use Rattle.nmgc_graph.specs.declared.mutator_state.MutatorState.{MutatorState}
 use Rattle.nmgc_graph.specs.World.{World, state_of, node_of, serial_of, no_mutator, Grows}
 use Rattle.nmgc_graph.specs.Change.{changed}
-use Rattle.nmgc_graph.specs.Step.{with_state, with_new, with_nth, with_node, holding_given, keeping, born, change_node, change_object, change_into, value_for, step}
+use Rattle.nmgc_graph.specs.Step.{with_state, with_new, with_nth, with_node, holding_given, keeping, born, change_node, change_object, change_asked, change_into, value_for, step}
 use Rattle.nmgc_graph.proofs.Worlds.{is_some_get, get_is_some}
 
 -- as many mutators, each of which made as many objects
@@ -81,6 +81,14 @@ change_same : (w : World) (v : Value) (c : Change) → SameCounts w (change_obje
 change_same w value.Nil c = same_counts w
 change_same w (value.Number n) c = same_counts w
 change_same w (value.Ref name) c = change_node_same w name (node_of w name) c
+
+asked_mutators : (w : World) (a : Option (Value × Change)) → length (change_asked w a).0.mutators ≡ length w.mutators
+asked_mutators w None = refl
+asked_mutators w (Some (object, c)) = (change_same w object c).mutators
+
+-- a mutator is still there after the change that was asked for
+pub asked_keeps : (w v : World) (r : Reply) (a : Option (Value × Change)) (m : ℕ) → change_asked w a ≡ (v, r) → m < length w.mutators → m < length v.mutators
+asked_keeps w v r a m e lt = let count : length v.mutators ≡ length w.mutators = sym (ap (λ (p : World × Reply). length p.0.mutators) e) ∙ asked_mutators w a in omega arith
 
 -- a name in the map is still there where no serial fell
 names_stay : (w v : World) → ((k : ℕ) → serial_of w k ≤ serial_of v k) → (name : Name) → IsSome (node_of w name) → IsSome (node_of v name)

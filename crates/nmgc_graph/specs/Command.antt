@@ -97,9 +97,3 @@ IsChanging (Cas object index expected value) = Unit {0}
 IsChanging (Update object value) = Unit {0}
 IsChanging (Push object value) = Unit {0}
 IsChanging _ = ⊥
-
--- the command may change an object, and takes a value from it
-abbrev pub IsTaking : Command → Type 0
-IsTaking (Pop dest object) = Unit {0}
-IsTaking (Finalise dest object) = Unit {0}
-IsTaking _ = ⊥

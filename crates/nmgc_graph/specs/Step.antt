@@ -110,6 +110,25 @@ change_object w value.Nil c = (w, NoPointer)
 change_object w (value.Number n) c = (w, NoPointer)
 change_object w (value.Ref name) c = change_node w name (node_of w name) c
 
+-- the write of a field that a command asks for, with the value that refers to the object
+abbrev pub asked_write : World → ℕ → Command → Option (Value × Change)
+asked_write w m (Set object index v) = Some (value_for w m object, change.Set index (value_for w m v))
+asked_write w m (Cas object index expected v) = Some (value_for w m object, change.Exchange index (value_for w m expected) (value_for w m v))
+asked_write w m _ = None
+
+-- the change that a command asks for, with the value that refers to the object
+abbrev pub asked : World → ℕ → Command → Option (Value × Change)
+asked w m (Update object v) = Some (value_for w m object, change.Update (value_for w m v))
+asked w m (Push object v) = Some (value_for w m object, change.Push m (value_for w m v))
+asked w m (Pop dest object) = Some (value_for w m object, change.Pop m)
+asked w m (Finalise dest object) = Some (value_for w m object, change.Finalise)
+asked w m c = asked_write w m c
+
+-- the change that was asked for, if one was
+abbrev pub change_asked : World → Option (Value × Change) → World × Reply
+change_asked w None = (w, Fine)
+change_asked w (Some (object, c)) = change_object w object c
+
 -- the register takes the value that was read, if one was
 abbrev pub read_into : World → ℕ → ℕ → Reply → World × Reply
 read_into w m dest reply = (keeping w m dest reply, reply)

@@ -1,5 +1,6 @@
 //! Rows of commands, with the replies that the rules of the heap give.
 use super::*;
+use crate::change::Change;
 use std::alloc::Global;
 use std::process::Abort;
 use std::test::Fail;
@@ -490,6 +491,15 @@ fn looking_at_a_world(rt: HostRuntime) -> Result<(), Fail> {
     assert_eq!(rt; world.field(object, 0), number(5));
     assert_eq!(rt; world.result_of(object), Reply::WrongKind);
     assert_eq!(rt; world.weak_value(object), Reply::WrongKind);
+    let update = Command::Update {
+        object: Operand::Register(0),
+        value: Operand::Register(1),
+    };
+    let change = Change::Update {
+        value: Value::Number(5),
+    };
+    assert!(rt; world.asked(0, &update) == Some((object, change)));
+    assert!(rt; world.asked(0, &five).is_none());
     assert_eq!(rt;
         world.compare(0, Operand::Register(0), Operand::Shared),
         Reply::No

@@ -26,20 +26,12 @@ impl Command {
         ensures { IsTrue result ↔ HasRegisters self.now }
     {
         match self {
-            Command::Num { dest, number: _ } => is_register(*dest),
-            Command::Nil { dest } => is_register(*dest),
-            Command::Mov { dest, value } => is_register(*dest) && is_operand(*value),
-            Command::Con {
-                dest,
-                tag: _,
-                fields,
-            } => is_register(*dest) && are_operands(fields.items()),
-            Command::Var { dest, value } => is_register(*dest) && is_operand(*value),
-            Command::Arr {
-                dest,
-                count: _,
-                value,
-            } => is_register(*dest) && is_operand(*value),
+            Command::Num { dest, .. } | Command::Nil { dest } => is_register(*dest),
+            Command::Stack { dest, .. } | Command::NextFin { dest } => is_register(*dest),
+            Command::Mov { dest, value }
+            | Command::Var { dest, value }
+            | Command::Arr { dest, value, .. } => is_register(*dest) && is_operand(*value),
+            Command::Con { dest, fields, .. } => is_register(*dest) && are_operands(fields.items()),
             Command::Thunk { dest, free } => is_register(*dest) && are_operands(free.items()),
             Command::Weak {
                 dest,
@@ -52,30 +44,20 @@ impl Command {
                     && is_operand(*value)
                     && is_operand(*finaliser)
             }
-            Command::Stack { dest, size: _ } => is_register(*dest),
-            Command::Get {
-                dest,
-                object,
-                index: _,
-            } => is_register(*dest) && is_operand(*object),
-            Command::Set {
-                object,
-                index: _,
-                value,
-            } => is_operand(*object) && is_operand(*value),
+            Command::Get { dest, object, .. }
+            | Command::Force { dest, object }
+            | Command::Pop { dest, object }
+            | Command::Deref { dest, object }
+            | Command::Finalise { dest, object } => is_register(*dest) && is_operand(*object),
             Command::Cas {
                 object,
                 index: _,
                 expected,
                 value,
-            } => is_operand(*object) && is_operand(*expected) && is_operand(*value),
-            Command::Update { object, value } => is_operand(*object) && is_operand(*value),
-            Command::Force { dest, object } => is_register(*dest) && is_operand(*object),
-            Command::Push { object, value } => is_operand(*object) && is_operand(*value),
-            Command::Pop { dest, object } => is_register(*dest) && is_operand(*object),
-            Command::Deref { dest, object } => is_register(*dest) && is_operand(*object),
-            Command::Finalise { dest, object } => is_register(*dest) && is_operand(*object),
-            Command::NextFin { dest } => is_register(*dest),
+            } => { is_operand(*object) && is_operand(*expected) && is_operand(*value) }
+            Command::Set { object, value, .. }
+            | Command::Update { object, value }
+            | Command::Push { object, value } => is_operand(*object) && is_operand(*value),
             Command::Show { value } => is_operand(*value),
             Command::Same { left, right } => is_operand(*left) && is_operand(*right),
             Command::Yield | Command::Collect | Command::Full => true,

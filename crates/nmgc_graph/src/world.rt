@@ -43,8 +43,8 @@ impl Model for World {
 
 impl World {
     ghost use Rattle.nmgc_graph.specs.World.{node_of, state_of, new_world, IsKnown, IsKnownReply, IsKnownChange, AreKnown, IsNodeOf, IsWorld, serial_of, Grows};
-    ghost use Rattle.nmgc_graph.specs.Command.{HasRegisters, IsMaking, IsReading, IsChanging, IsTaking};
-    ghost use Rattle.nmgc_graph.specs.Step.{step, value_for, values_for, born, with_register, keeping, object_of, read_object, change_object, change_node, next_finaliser, same_reply};
+    ghost use Rattle.nmgc_graph.specs.Command.{HasRegisters, IsMaking, IsReading};
+    ghost use Rattle.nmgc_graph.specs.Step.{step, value_for, values_for, born, with_register, keeping, object_of, read_object, asked, asked_write, change_asked, change_into, change_object, change_node, next_finaliser, same_reply};
 
     /// The world of 1 to `MAKERS` mutators before any command: registers are nil, queues are empty,
     /// g is full of nil, and no mutator has made anything.
@@ -64,8 +64,8 @@ impl World {
         })
     }
 
-    /// Does one command of a mutator, and answers as the step of the world does. A refusal, or
-    /// `NoMemory`, changes nothing.
+    /// Does one command of a mutator, and answers as the step of the world does. `can_apply` tells
+    /// whether the conditions hold. A refusal, or `NoMemory`, changes nothing.
     pub fn apply(&mut self, mutator: u8, command: &Command) -> Result<Reply, NoMemory>
         requires mutator { mutator < length self.old.mutators }
         requires registers { HasRegisters command.now }
@@ -103,7 +103,9 @@ impl World {
             | Command::Cas { .. }
             | Command::Update { .. }
             | Command::Push { .. } => self.change(mutator, command),
-            Command::Pop { .. } | Command::Finalise { .. } => self.take_from(mutator, command),
+            Command::Pop { dest, object: _ } | Command::Finalise { dest, object: _ } => {
+                self.change_into(mutator, *dest, command)
+            }
             _ => self.make(mutator, command),
         }
     }
@@ -227,13 +229,75 @@ impl World {
         }
     }
 
-    // Does a command that may change an object, and takes no value from it.
+    // Does the change that a command asks for.
     fn change(&mut self, mutator: u8, command: &Command) -> Result<Reply, NoMemory>
         requires mutator { mutator < length self.old.mutators }
         requires registers { HasRegisters command.now }
-        requires changing { IsChanging command.now }
-        ensures step { IfOk result (λ reply. step self.old mutator command.now ≡ (self.new, reply)) }
+        ensures ok { IfOk result (λ reply. change_asked self.old (asked self.old mutator command.now) ≡ (self.new, reply)) }
+        ensures reply { IfOk result (IsKnownReply self.new) }
         ensures err { OnErr result (self.new ≡ self.old) }
+    {
+        match self.asked(mutator, command) {
+            Some((object, change)) => self.change_object(object, change),
+            None => Ok(Reply::Fine),
+        }
+    }
+
+    // Does that of a command that takes a value from the object.
+    fn change_into(
+        &mut self,
+        mutator: u8,
+        register: u8,
+        command: &Command,
+    ) -> Result<Reply, NoMemory>
+        requires mutator { mutator < length self.old.mutators }
+        requires register { IsRegister register }
+        requires registers { HasRegisters command.now }
+        ensures ok { IfOk result (λ reply. change_into mutator register (change_asked self.old (asked self.old mutator command.now)) ≡ (self.new, reply)) }
+        ensures err { OnErr result (self.new ≡ self.old) }
+    {
+        let reply = self.change(mutator, command)?;
+        Ok(self.keep(mutator, register, reply))
+    }
+
+    /// The change that a command asks for, and the value that is to refer to the object. `None` comes
+    /// exactly where it asks for none. Takes no memory, and constant time.
+    pub fn asked(&self, mutator: u8, command: &Command) -> Option<(Value, Change)>
+        requires mutator { mutator < length self.now.mutators }
+        requires registers { HasRegisters command.now }
+        ensures asked { result ≡ asked self.now mutator command.now }
+        ensures object { IfSome result (λ asked. IsKnown self.now asked.0) }
+        ensures change { IfSome result (λ asked. IsKnownChange self.now asked.1) }
+    {
+        match command {
+            Command::Update { object, value } => {
+                let value = self.value(mutator, *value);
+                Some((self.value(mutator, *object), Change::Update { value }))
+            }
+            Command::Push { object, value } => {
+                let value = self.value(mutator, *value);
+                Some((
+                    self.value(mutator, *object),
+                    Change::Push { mutator, value },
+                ))
+            }
+            Command::Pop { dest: _, object } => {
+                Some((self.value(mutator, *object), Change::Pop { mutator }))
+            }
+            Command::Finalise { dest: _, object } => {
+                Some((self.value(mutator, *object), Change::Finalise))
+            }
+            _ => self.asked_write(mutator, command),
+        }
+    }
+
+    // The same for the writes of a field.
+    fn asked_write(&self, mutator: u8, command: &Command) -> Option<(Value, Change)>
+        requires mutator { mutator < length self.now.mutators }
+        requires registers { HasRegisters command.now }
+        ensures asked { result ≡ asked_write self.now mutator command.now }
+        ensures object { IfSome result (λ asked. IsKnown self.now asked.0) }
+        ensures change { IfSome result (λ asked. IsKnownChange self.now asked.1) }
     {
         match command {
             Command::Set {
@@ -241,12 +305,11 @@ impl World {
                 index,
                 value,
             } => {
-                let value = self.value(mutator, *value);
                 let change = Change::Set {
                     index: *index,
-                    value,
+                    value: self.value(mutator, *value),
                 };
-                self.change_object(self.value(mutator, *object), change)
+                Some((self.value(mutator, *object), change))
             }
             Command::Cas {
                 object,
@@ -259,44 +322,9 @@ impl World {
                     expected: self.value(mutator, *expected),
                     value: self.value(mutator, *value),
                 };
-                self.change_object(self.value(mutator, *object), change)
+                Some((self.value(mutator, *object), change))
             }
-            Command::Update { object, value } => {
-                let value = self.value(mutator, *value);
-                self.change_object(self.value(mutator, *object), Change::Update { value })
-            }
-            Command::Push { object, value } => {
-                let value = self.value(mutator, *value);
-                self.change_object(
-                    self.value(mutator, *object),
-                    Change::Push { mutator, value },
-                )
-            }
-            _ => unreachable!(),
-        }
-    }
-
-    // Does a command that may change an object, and takes a value from it.
-    fn take_from(&mut self, mutator: u8, command: &Command) -> Result<Reply, NoMemory>
-        requires mutator { mutator < length self.old.mutators }
-        requires registers { HasRegisters command.now }
-        requires taking { IsTaking command.now }
-        ensures step { IfOk result (λ reply. step self.old mutator command.now ≡ (self.new, reply)) }
-        ensures err { OnErr result (self.new ≡ self.old) }
-    {
-        match command {
-            Command::Pop { dest, object } => {
-                let reply = self.change_object(
-                    self.value(mutator, *object),
-                    Change::Pop { mutator },
-                )?;
-                Ok(self.keep(mutator, *dest, reply))
-            }
-            Command::Finalise { dest, object } => {
-                let reply = self.change_object(self.value(mutator, *object), Change::Finalise)?;
-                Ok(self.keep(mutator, *dest, reply))
-            }
-            _ => unreachable!(),
+            _ => None,
         }
     }
 
