@@ -15,6 +15,7 @@ use Rattle.nmgc_graph.specs.World.{World, state_of, node_of, serial_of, IsWorld,
 use Rattle.nmgc_graph.specs.Step.{shared_name, next_name, step}
 use Rattle.nmgc_graph.specs.Reach.{root}
 use Rattle.nmgc_graph.proofs.Growth.{step_grows}
+use Rattle.nmgc_graph.proofs.Worlds.{not_shared}
 use Rattle.nmgc_core.specs.State.{State, names_of}
 use Rattle.nmgc_core.specs.Owed.{values_owed, owed_by}
 use Rattle.nmgc_core.specs.Machine.{after_command}
@@ -61,10 +62,6 @@ after_strong s m Full strong = no_more s _ _
 pub holds_shared : (s : State) → MayHold s shared_name
 holds_shared s there = root shared_name (inl refl)
 
--- a mutator isn't the maker of g
-pub own_maker : (w : World) (m : ℕ) → IsWorld w → m < length w.mutators → m ≢ SHARED_MAKER
-own_maker w m h lt e = omega (arith, h.few)
-
 -- the next name is none of the snapshot
 pub holds_next : (s : State) (m : ℕ) → Base s → m ≢ SHARED_MAKER → MayHold s (next_name (state_of s.world m) m)
 holds_next s m b own there =
@@ -75,7 +72,7 @@ holds_next s m b own there =
 
 module _ (s : State) (f : Facts s) (w : IsWorld s.world) (m : ℕ) (c : Command) (strong : IsStrong c) (lt : m < length s.world.mutators) where
   moves : Moves (MayHold s) s.world (step s.world m c).0 (values_owed s.world m c)
-  moves = step_moves (MayHold s) s.world m c strong lt (own_maker s.world m w lt) (holds_shared s) (holds_next s m f.base (own_maker s.world m w lt)) f.base.holds
+  moves = step_moves (MayHold s) s.world m c strong lt (not_shared s.world m w lt) (holds_shared s) (holds_next s m f.base (not_shared s.world m w lt)) f.base.holds
 
   grows : Grows s.world (step s.world m c).0 m
   grows = step_grows s.world m c lt

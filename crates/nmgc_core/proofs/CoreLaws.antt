@@ -23,7 +23,7 @@ use Rattle.nmgc_graph.specs.Marks.{HasPlace, HasPlaces, IsMarked, mark_of, with_
 use Rattle.nmgc_graph.proofs.Rows.{added, kept_others, places_kept, makers_kept, name_cases}
 use Rattle.nmgc_graph.proofs.Searches.{name_placed}
 use Rattle.nmgc_core.specs.Sound.{IsCore}
-use Rattle.nmgc_core.proofs.Listed.{contains_listed, not_listed, same_name, is_same_name-refl}
+use Rattle.nmgc_core.proofs.Listed.{contains_listed, not_listed, tested_same, is_same_name-refl}
 
 is_listed-push : (name : Name) (xs : List Name) (x : Name) → is_listed name (xs ++ x ∷ []) ≡ (is_listed name xs || is_same_name x name)
 is_listed-push name [] x = by_test (is_same_name x name)
@@ -49,7 +49,7 @@ listed_other other name xs ne = is_listed-push other xs name ∙ by_test (is_lis
   where
     by_test : (b c : Bool) → is_same_name name other ≡ c → (b || c) ≡ b
     by_test true c e = refl
-    by_test false true e = absurd (ne (sym (same_name name other e)))
+    by_test false true e = absurd (ne (sym (tested_same name other e)))
     by_test false false e = refl
 
 not_empty : (xs : List Name) (x : Name) → xs ++ x ∷ [] ≡ [] → ⊥

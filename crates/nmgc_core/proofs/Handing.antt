@@ -9,8 +9,9 @@ use Rattle.nmgc_graph.specs.Change.{is_same_name}
 use Rattle.nmgc_graph.specs.Step.{shared_name}
 use Rattle.nmgc_core.specs.State.{State, names_of, mark_name, with_mark, is_new}
 use Rattle.nmgc_core.specs.Machine.{pushed_of, after_push, after_take}
-use Rattle.nmgc_core.proofs.ItemLaws.{contains_cases, contains_one}
-use Rattle.nmgc_core.proofs.Listed.{same_name, names_same, names_other, each_names, has_place}
+use Rattle.nmgc_core.proofs.ItemLaws.{contains_one}
+use Rattle.nmgc_graph.proofs.Orders.{contains_cases}
+use Rattle.nmgc_core.proofs.Listed.{tested_same, names_same, names_other, each_names, has_place}
 use Rattle.nmgc_core.proofs.Lives.{target_there, refers}
 use Rattle.nmgc_core.proofs.Marking.{mark_facts, marked_then}
 use Rattle.nmgc_core.proofs.Facts.{MayHold, IsSafe, IsAhead, Kept, Base, Facts, marked, owed, pushed, unmarked, queued}
@@ -23,7 +24,7 @@ push_cases s name there = by_test (is_some (node_of s.snapshot name) && not (is_
     by_test true e = inl (contains_one name)
     by_test false e = elim (and_cases (is_some (node_of s.snapshot name)) (not (is_same_name name shared_name)) e) [
       | inl a ↦ absurd (let k : is_some (node_of s.snapshot name) ≡ true = there in cc)
-      | inr b ↦ inr (same_name name shared_name (not-false (is_same_name name shared_name) b))
+      | inr b ↦ inr (tested_same name shared_name (not-false (is_same_name name shared_name) b))
     ]
 
 module _ (s : State) (f : Facts s) (m : ℕ) (name : Name) (rest : List Name) (first : names_of s.owed m ≡ name ∷ rest) where

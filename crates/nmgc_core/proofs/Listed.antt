@@ -11,12 +11,12 @@ use Rattle.nmgc_graph.specs.Change.{is_same_name}
 use Rattle.nmgc_graph.specs.History.{name_in}
 use Rattle.nmgc_core.specs.State.{is_listed, names_of}
 use Rattle.nmgc_core.specs.Owed.{names_among}
-use Rattle.nmgc_core.proofs.ItemLaws.{nothing_in, contains_cases, contains_first, contains_rest, contains_one, contains_flat}
-use Rattle.nmgc_core.proofs.NodeLaws.{name_is}
+use Rattle.nmgc_core.proofs.ItemLaws.{nothing_in, contains_one, contains_flat}
+use Rattle.nmgc_graph.proofs.Orders.{same_name, contains_cases, contains_head, contains_tail}
 use Rattle.nmgc_core.proofs.Moves.{Names}
 
-pub same_name : (a b : Name) → is_same_name a b ≡ true → a ≡ b
-same_name a b h = let p : (eqb a.maker b.maker ≡ true) × (eqb a.serial b.serial ≡ true) = and_parts (eqb a.maker b.maker) (eqb a.serial b.serial) h in name_is a b (eqb-true a.maker b.maker p.0) (eqb-true a.serial b.serial p.1)
+pub tested_same : (a b : Name) → is_same_name a b ≡ true → a ≡ b
+tested_same a b h = let p : (eqb a.maker b.maker ≡ true) × (eqb a.serial b.serial ≡ true) = and_parts (eqb a.maker b.maker) (eqb a.serial b.serial) h in same_name a b (eqb-true a.maker b.maker p.0) (eqb-true a.serial b.serial p.1)
 
 pub is_same_name-refl : (a : Name) → is_same_name a a ≡ true
 is_same_name-refl a = and_from (eqb a.maker a.maker) (eqb a.serial a.serial) (eq-eqb a.maker a.maker refl) (eq-eqb a.serial a.serial refl)
@@ -24,8 +24,8 @@ is_same_name-refl a = and_from (eqb a.maker a.maker) (eqb a.serial a.serial) (eq
 pub contains_listed : (name : Name) (xs : List Name) → is_listed name xs ≡ true → Contains xs name
 contains_listed name [] h = absurd cc
 contains_listed name (x ∷ xs) h = elim (or_cases (is_same_name x name) (is_listed name xs) h) [
-  | inl e ↦ subst (λ y. Contains (x ∷ xs) y) (same_name x name e) (contains_first x xs)
-  | inr r ↦ contains_rest x xs name (contains_listed name xs r)
+  | inl e ↦ subst (λ y. Contains (x ∷ xs) y) (tested_same x name e) (contains_head x xs)
+  | inr r ↦ contains_tail x xs name (contains_listed name xs r)
 ]
 
 pub not_listed : (name : Name) (xs : List Name) → is_listed name xs ≡ false → Contains xs name → ⊥

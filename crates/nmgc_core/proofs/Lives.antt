@@ -11,7 +11,8 @@ use Rattle.nmgc_graph.specs.World.{World, state_of, node_of, held_by, IsKnown, I
 use Rattle.nmgc_graph.specs.Reach.{IsLive, IsRoot, RefersTo, strong_fields, root, further, field, plain_key, live_key}
 use Rattle.nmgc_core.specs.Weakless.{HasNoWeak}
 use Rattle.nmgc_core.proofs.Barrier.{strong_at, place_of_field, field_at_place}
-use Rattle.nmgc_core.proofs.Moves.{Stands, some_if}
+use Rattle.nmgc_graph.proofs.Worlds.{at_some}
+use Rattle.nmgc_core.proofs.Moves.{Stands}
 
 -- strong fields are among what a node holds
 strong_held : (Q : Value → Type 0) (node : Node) → All Q (held_by node) → All Q (strong_fields node)
@@ -27,7 +28,7 @@ strong_held Q (Stack size values) h = h
 pub target_there : (w : World) → IsWorld w → (name target : Name) → RefersTo w name target → IsSome (node_of w target)
 target_there w h name target (node, is, c) =
     let P : Value → Type 0 = IsKnown w in
-    let mine : IsNodeOf w node = some_if (node_of w name) node (IsNodeOf w) is (h.nodes name) in
+    let mine : IsNodeOf w node = at_some (node_of w name) node (IsNodeOf w) is (h.nodes name) in
     All-contains P (strong_fields node) (value.Ref target) (strong_held P node mine.known) c
 
 pub refers : (w : World) (name target : Name) (i : ℕ) → Stands w name i (value.Ref target) → RefersTo w name target

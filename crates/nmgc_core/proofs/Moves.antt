@@ -22,6 +22,7 @@ use Rattle.nmgc_graph.specs.World.{World, state_of, node_of, given}
 use Rattle.nmgc_graph.specs.Change.{changed, field_read, result_read}
 use Rattle.nmgc_graph.specs.Step.{shared_name, value_of, value_for, with_state, with_register, with_new, with_node, with_finaliser, holding_given, next_name, keeping, born, object_of, read_object, change_node, change_object, change_into, step}
 use Rattle.nmgc_graph.proofs.Nodes.{item_has}
+use Rattle.nmgc_graph.proofs.Worlds.{at_some}
 use Rattle.nmgc_core.specs.Owed.{owed_at, owed_of, values_owed}
 use Rattle.nmgc_core.specs.Weakless.{IsStrong}
 use Rattle.nmgc_core.proofs.Barrier.{strong_at, Fields, IsStrongChange, Writes, changed_fields, owed_fields, field_read_has, result_read_has, answer_has, stays_or_owed, IsLater, same_later, changed_later}
@@ -60,10 +61,6 @@ pub record Moves (P : Name → Type 0) (w v : World) (owed : List Value) : Type 
   pub stays : (name : Name) (i : ℕ) (x : Value) → Stands w name i x → Stands v name i x ⊎ Contains owed x
   pub later : (name : Name) (before : Node) → node_of w name ≡ Some before → StillThere v name before
   pub others : (name : Name) → (P name → ⊥) → IsSome (node_of w name) → node_of v name ≡ node_of w name
-
-pub some_if : {A : Type 0} (o : Option A) (x : A) (R : A → Type 0) → o ≡ Some x → IfSome o R → R x
-some_if None x R e h = absurd cc
-some_if (Some y) x R e h = let same : y ≡ x = cc in subst R same h
 
 module _ (P : Name → Type 0) where
   -- the same nodes
@@ -159,7 +156,7 @@ module _ (P : Name → Type 0) where
   node_moves w name found c there strong writes h p =
       let made : Node = (changed c name.maker found).0 in
       let v : World = with_node w name made in
-      let mine : Fields (Names P) found = some_if (node_of w name) found (Fields (Names P)) there (h.fields name p) in
+      let mine : Fields (Names P) found = at_some (node_of w name) found (Fields (Names P)) there (h.fields name p) in
       let cases : (n : Name) → ((n ≡ name) × (node_of v n ≡ Some made)) ⊎ ((n ≡ name → ⊥) × (node_of v n ≡ node_of w n)) = node_cases w name found made there in
       record {
         mutators = as_many w name found made there;
@@ -202,7 +199,7 @@ module _ (P : Name → Type 0) where
   -- what an object answers is of the names
   change_node_gives : (w : World) (name : Name) (o : Option Node) (c : Change) → node_of w name ≡ o → IsStrongChange c → Holds P w → P name → IfSome (given (change_node w name o c).1) (Names P)
   change_node_gives w name None c there strong h p = tt
-  change_node_gives w name (Some found) c there strong h p = answer_has (Names P) c name.maker found strong (some_if (node_of w name) found (Fields (Names P)) there (h.fields name p))
+  change_node_gives w name (Some found) c there strong h p = answer_has (Names P) c name.maker found strong (at_some (node_of w name) found (Fields (Names P)) there (h.fields name p))
 
   change_moves : (w : World) (v : Value) (c : Change) → IsStrongChange c → Writes (Names P) c → Holds P w → Names P v → Moves P w (change_object w v c).0 (owed_of w v c)
   change_moves w value.Nil c strong writes h p = stays_put w h

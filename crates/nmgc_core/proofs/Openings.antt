@@ -16,7 +16,8 @@ use Rattle.nmgc_core.specs.State.{State, names_of, mark_name, mark_values, root_
 use Rattle.nmgc_core.specs.Weakless.{HasNoWeak}
 use Rattle.std.specs.Prelude.{slice_get}
 use Rattle.std.proofs.lemmas.Option.{get_or_from_slice_get}
-use Rattle.nmgc_core.proofs.ItemLaws.{nothing_in, one_is, contains_one, contains_cases, contains_flat, contains_first, contains_rest, place_of}
+use Rattle.nmgc_core.proofs.ItemLaws.{nothing_in, one_is, contains_one, contains_flat, place_of}
+use Rattle.nmgc_graph.proofs.Orders.{contains_cases, contains_head, contains_tail}
 use Rattle.nmgc_graph.proofs.Rows.{name_cases}
 use Rattle.nmgc_core.proofs.Barrier.{field_at_place, same_later, Fields}
 use Rattle.nmgc_core.proofs.Lives.{target_there, refers, root_there}
@@ -130,7 +131,7 @@ module _ (w : World) (h : IsWorld w) (none : HasNoWeak w) where
   -- the roots' values are live
   each_flat : (P : Name → Type 0) (f : MutatorState → List Value) (states : List MutatorState) → ((s : MutatorState) → Contains states s → All (Names P) (f s)) → All (Names P) (flat_map f states)
   each_flat P f [] g = All-nil (Names P)
-  each_flat P f (s ∷ states) g = All-append (Names P) (f s) (flat_map f states) (g s (contains_first s states)) (each_flat P f states (λ t c. g t (contains_rest s states t c)))
+  each_flat P f (s ∷ states) g = All-append (Names P) (f s) (flat_map f states) (g s (contains_head s states)) (each_flat P f states (λ t c. g t (contains_tail s states t c)))
 
   roots_held : All (Names (MayHold (unmarked w))) (root_values w)
   roots_held =

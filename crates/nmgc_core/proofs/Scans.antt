@@ -16,11 +16,12 @@ use Rattle.nmgc_core.specs.declared.event.Entry.{Entry}
 use Rattle.nmgc_core.specs.State.{State, with_mark, entry_of, mark_name, mark_read}
 use Rattle.nmgc_core.specs.Scan.{read_at, fields_of, has_result, is_last, moved_on}
 use Rattle.nmgc_core.specs.Machine.{advanced, after_scan}
-use Rattle.nmgc_core.proofs.ItemLaws.{nothing_in, one_is, contains_one, contains_cases, contains_first, contains_rest}
+use Rattle.nmgc_core.proofs.ItemLaws.{nothing_in, one_is, contains_one}
+use Rattle.nmgc_graph.proofs.Orders.{contains_cases, contains_head, contains_tail}
 use Rattle.nmgc_core.proofs.Barrier.{strong_at, field_at_place, read_at_place, within_fields, read_cases, free_of}
-use Rattle.nmgc_graph.proofs.Worlds.{is_some_of}
+use Rattle.nmgc_graph.proofs.Worlds.{at_some, is_some_of}
 use Rattle.nmgc_core.proofs.Lives.{live_there, target_there, refers}
-use Rattle.nmgc_core.proofs.Moves.{Names, Stands, StillThere, some_if}
+use Rattle.nmgc_core.proofs.Moves.{Names, Stands, StillThere}
 use Rattle.nmgc_core.proofs.Marking.{mark_cases, mark_facts, marked_then}
 use Rattle.nmgc_core.proofs.Facts.{MayHold, IsLiveIn, IsSafe, Kept, IsPassed, Base, Facts, marked, owed, pushed, unmarked, queued}
 
@@ -77,7 +78,7 @@ has_free (Stack size values) r = absurd cc
 
 module _ (s : State) (f : Facts s) (w : IsWorld s.world) (entry : Entry) (rest : List Entry) (first : s.queue ≡ entry ∷ rest) where
   is_queued : Contains s.queue entry
-  is_queued = rw first (contains_first entry rest)
+  is_queued = rw first (contains_head entry rest)
 
   is_live : IsLiveIn s entry.name
   is_live = f.base.live entry.name (f.base.queued entry is_queued)
@@ -85,7 +86,7 @@ module _ (s : State) (f : Facts s) (w : IsWorld s.world) (entry : Entry) (rest :
   -- what stands in a field of a live object may be held
   from_field : (node : Node) (i : ℕ) (target : Name) → node_of s.world entry.name ≡ Some node → strong_at node i ≡ Some (value.Ref target) → MayHold s target
   from_field node i target e h =
-      let fields : All (Names (MayHold s)) (strong_fields node) = some_if (node_of s.world entry.name) node (λ n. All (Names (MayHold s)) (strong_fields n)) e (f.base.holds.fields entry.name (λ there. is_live)) in
+      let fields : All (Names (MayHold s)) (strong_fields node) = at_some (node_of s.world entry.name) node (λ n. All (Names (MayHold s)) (strong_fields n)) e (f.base.holds.fields entry.name (λ there. is_live)) in
       let P : Value → Type 0 = Names (MayHold s) in
       All-contains P (strong_fields node) (value.Ref target) fields (field_at_place node i (value.Ref target) h)
 
@@ -126,13 +127,13 @@ stepped s node entry rest = record s { queue = moved_on (Some node) entry ++ res
 module _ (s : State) (f : Facts s) (w : IsWorld s.world) (entry : Entry) (rest : List Entry) (first : s.queue ≡ entry ∷ rest) (node : Node) (is : node_of s.world entry.name ≡ Some node)
     (seen : (i : ℕ) (target : Name) → entry.position ≡ i + 1 → strong_at node i ≡ Some (value.Ref target) → IsSome (node_of s.snapshot target) → Contains s.marked target) where
   there : Contains s.queue entry
-  there = rw first (contains_first entry rest)
+  there = rw first (contains_head entry rest)
 
   in_rest : (e : Entry) → Contains rest e → Contains s.queue e
-  in_rest e h = rw first (contains_rest entry rest e h)
+  in_rest e h = rw first (contains_tail entry rest e h)
 
   sized : IsSized node
-  sized = let mine : IsNodeOf s.world node = some_if (node_of s.world entry.name) node (IsNodeOf s.world) is (w.nodes entry.name) in mine.sized
+  sized = let mine : IsNodeOf s.world node = at_some (node_of s.world entry.name) node (IsNodeOf s.world) is (w.nodes entry.name) in mine.sized
 
   -- a result that was not there is not there at the snapshot
   none_before : has_result node ≡ false → (old : Node) → node_of s.snapshot entry.name ≡ Some old → has_result old ≡ false
@@ -270,5 +271,5 @@ module _ (s : State) (f : Facts s) (w : IsWorld s.world) (entry : Entry) (rest :
 pub scan_facts : (s : State) → Facts s → IsWorld s.world → (queue : List Entry) → s.queue ≡ queue → Facts (after_scan s queue)
 scan_facts s f w [] first = f
 scan_facts s f w (entry ∷ rest) first =
-    let n : (node : Node) × (node_of s.world entry.name ≡ Some node) = first_node s f entry (rw first (contains_first entry rest)) in
+    let n : (node : Node) × (node_of s.world entry.name ≡ Some node) = first_node s f entry (rw first (contains_head entry rest)) in
     rw n.1 (scan_read s f w entry rest first n.0 n.1 (read_at (Some n.0) entry.position) refl)

@@ -21,7 +21,7 @@
 //!
 //! Easy to get wrong: the third fact is about the snapshot's fields, so it is the old value that is owed.
 //! A barrier on the new value would leave a target lost whose field was overwritten before the scan.
-ghost use Rattle.std.specs.Prelude.{◌≡◌, ◌≢◌, ◌<◌, ◌≤◌, ◌++◌, ◌∷◌, [], false, true, take, length, slice_get, slice_set, IfOk, OnOk, OnErr, IsTrue, ◌↔◌, Some, All, Contains, if◌then◌else◌};
+ghost use Rattle.std.specs.Prelude.{◌≡◌, ◌∷◌, [], false, slice_get, IfOk, OnOk, OnErr, IsTrue, ◌↔◌, Some, All, Contains, if◌then◌else◌};
 ghost use Rattle.nmgc_graph.specs.declared.value.Name.{Name as NameAt};
 ghost use Rattle.nmgc_graph.specs.Step.{shared_name};
 ghost use Rattle.nmgc_graph.specs.Marks.{HasPlaces, mark_of};
@@ -75,7 +75,7 @@ impl Core {
     ghost use Rattle.nmgc_graph.specs.Reach.{Lists};
     ghost use Rattle.nmgc_core.specs.State.{opening, mark_name, mark_value, mark_read, mark_values, is_new, unmarked};
     ghost use Rattle.nmgc_core.specs.Run.{IsRun};
-    ghost use Rattle.nmgc_core.specs.Machine.{IsPossible, Passes, pushed_of, advanced};
+    ghost use Rattle.nmgc_core.specs.Machine.{Passes, advanced};
     ghost use Rattle.nmgc_core.specs.Weakless.{HasNoWeak, IsStrong, IsStrongEvent};
     ghost use Rattle.nmgc_core.specs.declared.event.Event.TheVariants as event;
 

@@ -34,7 +34,7 @@ pub weak_none : (w : World) (weak : Name) (o : Option Parts) → o ≡ parts_of 
 weak_none w weak None e t a = let there = parts_from_alive w weak a.0 a.1 in cc
 weak_none w weak (Some parts) e t a = cc
 
-not_array : (node : Node) (parts : Option Parts) → IsShared node → node ≡ Weak parts → ⊥
+pub not_array : (node : Node) (parts : Option Parts) → IsShared node → node ≡ Weak parts → ⊥
 not_array (Arr values) parts is e = cc
 not_array (Con tag values) parts is e = absurd is
 not_array (Var v) parts is e = absurd is

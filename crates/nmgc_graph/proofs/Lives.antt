@@ -13,7 +13,7 @@ use Rattle.nmgc_graph.specs.Marks.{mark_of, IsMarked, HasPlace, unmarked_count, 
 use Rattle.nmgc_graph.specs.Reach.{IsRoot, IsLive, IsAliveWeak, IsPlain}
 use Rattle.nmgc_graph.specs.Search.{with_name, with_values, with_weaks, values_held, starts_of, is_shown, IsReached, IsFollowed, IsLiveSearch, AreRevived, IsLiveFound}
 use Rattle.nmgc_graph.proofs.Orders.{contains_head, contains_tail, contains_cases}
-use Rattle.nmgc_graph.proofs.Searches.{Marks, values_mark, name_marks, name_placed, are_placed}
+use Rattle.nmgc_graph.proofs.Searches.{Marks, same_ref, values_mark, name_marks, name_placed, are_placed}
 use Rattle.nmgc_graph.proofs.Follows.{places_stay, search_stays}
 use Rattle.nmgc_graph.proofs.Weaks.{weaks_mark, weaks_sound, revived}
 
@@ -44,9 +44,6 @@ contains_refs (x ∷ xs) n c = elim (contains_cases x xs n c) [
   | inl e ↦ let P : Name → Type 0 = λ m. Contains (map Ref (x ∷ xs)) (Ref m) in subst P e (contains_head (Ref x) (map Ref xs))
   | inr d ↦ contains_tail (Ref x) (map Ref xs) (Ref n) (contains_refs xs n d)
 ]
-
-same_ref : (a b : Name) → Ref a ≡ Ref b → a ≡ b
-same_ref a b e = cc
 
 refs_contain : (names : List Name) (n : Name) → Contains (map Ref names) (Ref n) → Contains names n
 refs_contain [] n c = absurd (omega (arith, c.1))

@@ -80,7 +80,7 @@ plain_marks s v shown = record {
   makers = refl;
 }
 
-same_ref : (a b : Name) → Ref a ≡ Ref b → a ≡ b
+pub same_ref : (a b : Name) → Ref a ≡ Ref b → a ≡ b
 same_ref a b e = cc
 
 fresh_marks : (s : Search) (name : Name) → HasPlace s.marks name → mark_of s.marks name ≡ false → Marks s (record { marks = with_mark s.marks name; work = s.work ++ name ∷ [] }) (Ref name ∷ [])

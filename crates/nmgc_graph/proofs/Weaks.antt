@@ -1,5 +1,5 @@
 -- Passing over the weak pointers: what a pass marks, and that it is live.
-use Rattle.std.proofs.Common.{◌≡◌, List, [], ◌∷◌, ◌++◌, inl, inr, refl, ap, subst, arith, Bool, true, ◌⊎◌, Option, Some, None}
+use Rattle.std.proofs.Common.{◌≡◌, List, [], ◌∷◌, ◌++◌, inl, inr, refl, sym, ap, subst, arith, Bool, true, ◌⊎◌, Option, Some, None}
 use Rattle.std.specs.Prelude.{Contains, All, IsSome, IfSome, option_and_then}
 use Rattle.std.proofs.lemmas.Bool.{cases_Bool}
 use Rattle.std.proofs.lemmas.List.Elements.{All-cons, All-tail}
@@ -15,7 +15,7 @@ use Rattle.nmgc_graph.specs.Marks.{IsMarked, IsPlaced, HasPlaces}
 use Rattle.nmgc_graph.specs.Reach.{IsAlive, IsAliveWeak, IsKeptBy, IsLive}
 use Rattle.nmgc_graph.specs.Search.{with_weak, with_weaks, parts_in, parts_of, is_shown, AreRevived}
 use Rattle.nmgc_graph.proofs.Orders.{contains_head, contains_tail, contains_cases}
-use Rattle.nmgc_graph.proofs.Searches.{Marks, no_marks, then_marks, values_mark, are_placed, name_placed}
+use Rattle.nmgc_graph.proofs.Searches.{same_ref, Marks, no_marks, then_marks, values_mark, are_placed, name_placed}
 use Rattle.nmgc_graph.proofs.Follows.{places_stay}
 
 -- the parts of a weak pointer are there where it is alive
@@ -55,12 +55,9 @@ weak_hits weak target parts (inr (inr e)) =
     let P : Value → Type 0 = Contains (weak_values weak parts) in
     subst P e (contains_tail (Ref weak) (parts.value ∷ parts.finaliser ∷ []) parts.finaliser (contains_tail parts.value (parts.finaliser ∷ []) parts.finaliser (contains_head parts.finaliser [])))
 
-same_ref : (a b : Name) → Ref a ≡ Ref b → b ≡ a
-same_ref a b e = cc
-
 hits_weak : (weak target : Name) (parts : Parts) → Contains (weak_values weak parts) (Ref target) → IsKeptBy weak parts target
 hits_weak weak target parts c = elim (contains_cases (Ref weak) (parts.value ∷ parts.finaliser ∷ []) (Ref target) c) [
-  | inl e ↦ inl (same_ref weak target e)
+  | inl e ↦ inl (sym (same_ref weak target e))
   | inr d ↦ elim (contains_cases parts.value (parts.finaliser ∷ []) (Ref target) d) [
     | inl e ↦ inr (inl e)
     | inr f ↦ elim (contains_cases parts.finaliser [] (Ref target) f) [

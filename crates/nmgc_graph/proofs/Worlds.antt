@@ -41,7 +41,7 @@ pub is_some_of : {A : Type 0} (o : Option A) → IsSome o → (x : A) × (o ≡ 
 is_some_of None h = absurd cc
 is_some_of (Some x) h = (x, refl)
 
-at_some : {A : Type 0} (o : Option A) (x : A) (P : A → Type 0) → o ≡ Some x → IfSome o P → P x
+pub at_some : {A : Type 0} (o : Option A) (x : A) (P : A → Type 0) → o ≡ Some x → IfSome o P → P x
 at_some None x P e h = absurd cc
 at_some (Some y) x P e h = let same : y ≡ x = cc in subst P same h
 
@@ -49,7 +49,7 @@ at_some (Some y) x P e h = let same : y ≡ x = cc in subst P same h
 pub refill_whole : {A : Type 0} (xs ys : List A) → length ys ≡ length xs → refill (length xs) xs ys ≡ ys
 refill_whole xs ys e = rw (drop_all (length ys) xs (omega arith), append-nil) (take_all (length xs) ys (omega arith))
 
-slice_get-set_same : {A : Type 0} (xs : List A) (i : ℕ) (x : A) → i < length xs → slice_get (set xs i x) i ≡ Some x
+pub slice_get-set_same : {A : Type 0} (xs : List A) (i : ℕ) (x : A) → i < length xs → slice_get (set xs i x) i ≡ Some x
 slice_get-set_same [] i x lt = absurd (omega arith)
 slice_get-set_same (y ∷ xs) zero x lt = refl
 slice_get-set_same (y ∷ xs) (suc i) x lt = slice_get-set_same xs i x (omega arith)

@@ -2,7 +2,7 @@
 //!
 //! A script never asks for a register that isn't there, or for more objects than there are serials. A
 //! caller that gets its commands from elsewhere has to ask.
-ghost use Rattle.std.specs.Prelude.{◌≡◌, ◌↔◌, IsTrue, All};
+ghost use Rattle.std.specs.Prelude.{◌↔◌, IsTrue, All};
 ghost use Rattle.nmgc_graph.specs.Command.{HasRegisters, IsOperand, IsRegister};
 
 use crate::{Command, Operand, REGISTERS, World};

@@ -8,8 +8,7 @@
 //! before it, and never more.
 //!
 //! Easy to get wrong: a single pass is not enough, and the weak pointer itself need not be referred to.
-ghost use Rattle.std.specs.Prelude.{◌≡◌, ◌+◌, ◌<◌, [], false, IsSome, IfSome, IfOk, OnOk, All, Contains, length, flat_map, map};
-ghost use Rattle.nmgc_graph.specs.declared.value.Value.TheVariants.{Ref};
+ghost use Rattle.std.specs.Prelude.{◌≡◌, ◌+◌, ◌<◌, [], false, IsSome, IfSome, IfOk, OnOk, All, length, flat_map};
 ghost use Rattle.nmgc_graph.specs.declared.value.Name.{Name as NameAt};
 ghost use Rattle.nmgc_graph.specs.Marks.{IsPlaced, mark_of};
 ghost use Rattle.nmgc_graph.specs.Search.{with_values, values_held, parts_in};

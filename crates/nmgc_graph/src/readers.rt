@@ -5,7 +5,7 @@ use crate::{List, MutatorState, NoMemory, Node, Queue, Value, World};
 use std::alloc::Global;
 
 impl World {
-    ghost use Rattle.nmgc_graph.specs.World.{state_of, serial_of, AreKnown, IsWorld};
+    ghost use Rattle.nmgc_graph.specs.World.{state_of, serial_of, IsWorld};
 
     /// The allocator that the world takes its memory from. Takes constant time.
     pub fn alloc(&self) -> Global {

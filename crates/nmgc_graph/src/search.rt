@@ -4,7 +4,7 @@
 //! proportion to the names that it marks and the fields that it reads, and it needs no recursion.
 //! Names that are marked and not on the worklist have been dealt with: whoever takes a name off the
 //! worklist has to mark all that it refers to, before anything else is taken off.
-ghost use Rattle.std.specs.Prelude.{◌≡◌, [], All, OnOk, map};
+ghost use Rattle.std.specs.Prelude.{◌≡◌, All, OnOk, map};
 ghost use Rattle.nmgc_graph.specs.declared.value.Value.TheVariants.{Ref};
 ghost use Rattle.nmgc_graph.specs.Marks.{HasPlace, IsPlaced};
 ghost use Rattle.nmgc_graph.specs.Reach.{strong_fields};

@@ -8,7 +8,7 @@
 //! Each command works on one level at a time, the state of a mutator or a node, in a function of its
 //! own; a method here only lends the part. Nothing is ever taken off the map, so a reference that
 //! was known stays known, and that is all that closedness needs.
-ghost use Rattle.std.specs.Prelude.{replicate, ◌≡◌, ◌+◌, ◌-◌, ◌<◌, ◌≤◌, ◌^◌, ◌∷◌, ◌++◌, [], length, map, drop, IfOk, IfSome, IsSome, OnOk, OnErr, List as Items, slice_get, option_copied, All};
+ghost use Rattle.std.specs.Prelude.{replicate, ◌≡◌, ◌-◌, ◌<◌, ◌≤◌, ◌^◌, length, map, IfOk, IfSome, IsSome, OnOk, OnErr, slice_get, option_copied, All};
 ghost use Rattle.nmgc_graph.specs.World.{new_mutator};
 ghost use Rattle.nmgc_graph.specs.Command.{IsOperand, IsRegister};
 ghost use Rattle.nmgc_graph.specs.Step.{value_of, with_new, next_name, holding, with_finaliser, with_nth};
@@ -42,7 +42,7 @@ impl Model for World {
 }
 
 impl World {
-    ghost use Rattle.nmgc_graph.specs.World.{node_of, state_of, new_world, IsKnown, IsKnownReply, IsKnownChange, AreKnown, IsNodeOf, IsWorld, serial_of, Grows};
+    ghost use Rattle.nmgc_graph.specs.World.{node_of, new_world, IsKnown, IsKnownReply, IsKnownChange, AreKnown, IsNodeOf, IsWorld, serial_of, Grows};
     ghost use Rattle.nmgc_graph.specs.Command.{HasRegisters, IsMaking, IsReading};
     ghost use Rattle.nmgc_graph.specs.Step.{step, value_for, values_for, born, with_register, keeping, object_of, read_object, asked, asked_write, change_asked, change_into, change_object, change_node, next_finaliser, same_reply};
 

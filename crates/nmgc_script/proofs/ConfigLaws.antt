@@ -12,6 +12,7 @@ use Rattle.nmgc_script.specs.Limits.{IsSegmentSize, FitsConfig}
 use Rattle.nmgc_script.specs.Spelling.{heap_words}
 use Rattle.nmgc_script.specs.Reading.{number_at, between_at, is_power_from, is_segment_size, segment_size_at, sizes_at, pace_at, config_at, numbers_at, or_cause, heap_words_at}
 use Rattle.nmgc_script.proofs.WordLaws.{Reads, bind_ok, guard_ok, chosen, ok_is, number_reads}
+use Rattle.nmgc_script.proofs.SectionLaws.{or_cause_ok}
 use Rattle.nmgc_script.proofs.Totals.{size_small}
 
 -- the number is within two limits
@@ -127,10 +128,6 @@ numbers_takes (s ∷ w ∷ n ∷ l ∷ q ∷ t ∷ []) c e =
         trigger = bw.1.trigger;
       },
     )
-
-or_cause_ok : {A : Type 0} (c : Cause) (r : Result A Cause) (x : A) → or_cause c r ≡ Ok x → r ≡ Ok x
-or_cause_ok c (Ok y) x e = e
-or_cause_ok c (Err d) x e = absurd cc
 
 pub heap_takes : (words : List (List ℕ)) (c : Config) → heap_words_at words ≡ Ok c → (words ≡ heap_words c) × FitsConfig c
 unfolding heap_words_at
