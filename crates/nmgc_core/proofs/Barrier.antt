@@ -16,7 +16,7 @@ use Rattle.nmgc_graph.specs.World.{given, IsSized}
 use Rattle.nmgc_graph.specs.Reach.{strong_fields}
 use Rattle.nmgc_core.specs.Owed.{field_held, if_same, owed_in, free_held, top_held}
 use Rattle.nmgc_core.specs.Scan.{field_at, fields_of, has_result}
-use Rattle.nmgc_graph.proofs.Nodes.{item_has}
+use Rattle.nmgc_graph.specs.laws.Nodes.{item_has}
 use Rattle.std.proofs.lemmas.Bool.{ne_eqb}
 use Rattle.std.proofs.lemmas.Option.{slice_get_within, same_Some}
 use Rattle.nmgc_core.proofs.ItemLaws.{contains_at, place_of, contains_option, kept_or_held, kept_or_last, slice_get-append}

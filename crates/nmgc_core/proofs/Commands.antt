@@ -14,8 +14,8 @@ use Rattle.nmgc_graph.specs.declared.command.Command.TheVariants.{Num, Nil, Mov,
 use Rattle.nmgc_graph.specs.World.{World, state_of, node_of, serial_of, IsWorld, Grows}
 use Rattle.nmgc_graph.specs.Step.{shared_name, next_name, step}
 use Rattle.nmgc_graph.specs.Reach.{root}
-use Rattle.nmgc_graph.proofs.Growth.{step_grows}
-use Rattle.nmgc_graph.proofs.Worlds.{not_shared}
+use Rattle.nmgc_graph.specs.laws.Growth.{step_grows}
+use Rattle.nmgc_graph.specs.laws.Worlds.{not_shared}
 use Rattle.nmgc_core.specs.State.{State, names_of}
 use Rattle.nmgc_core.specs.Owed.{values_owed, owed_by}
 use Rattle.nmgc_core.specs.Machine.{after_command}

@@ -20,7 +20,7 @@ use Rattle.nmgc_graph.specs.declared.value.Value.TheVariants as value
 use Rattle.nmgc_core.specs.State.{State, is_listed, is_new, names_of, mark_name, mark_value, mark_values, mark_read, entry_of}
 use Rattle.nmgc_core.proofs.Marking.{mark_cases}
 use Rattle.nmgc_graph.specs.Marks.{HasPlace, HasPlaces, IsMarked, mark_of, with_mark}
-use Rattle.nmgc_graph.proofs.Rows.{added, kept_others, places_kept, makers_kept, name_cases}
+use Rattle.nmgc_graph.specs.laws.Rows.{added, kept_others, places_kept, makers_kept, name_cases}
 use Rattle.nmgc_graph.proofs.Searches.{name_placed}
 use Rattle.nmgc_core.specs.Sound.{IsCore}
 use Rattle.nmgc_core.proofs.Listed.{contains_listed, not_listed, tested_same, is_same_name-refl}

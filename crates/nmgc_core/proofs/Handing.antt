@@ -10,7 +10,7 @@ use Rattle.nmgc_graph.specs.Step.{shared_name}
 use Rattle.nmgc_core.specs.State.{State, names_of, mark_name, with_mark, is_new}
 use Rattle.nmgc_core.specs.Machine.{pushed_of, after_push, after_take}
 use Rattle.nmgc_core.proofs.ItemLaws.{contains_one}
-use Rattle.nmgc_graph.proofs.Orders.{contains_cases}
+use Rattle.nmgc_graph.specs.laws.Orders.{contains_cases}
 use Rattle.nmgc_core.proofs.Listed.{tested_same, names_same, names_other, each_names, has_place}
 use Rattle.nmgc_core.proofs.Lives.{target_there, refers}
 use Rattle.nmgc_core.proofs.Marking.{mark_facts, marked_then}

@@ -12,7 +12,7 @@ use Rattle.nmgc_graph.specs.History.{name_in}
 use Rattle.nmgc_core.specs.State.{is_listed, names_of}
 use Rattle.nmgc_core.specs.Owed.{names_among}
 use Rattle.nmgc_core.proofs.ItemLaws.{nothing_in, contains_one, contains_flat}
-use Rattle.nmgc_graph.proofs.Orders.{same_name, contains_cases, contains_head, contains_tail}
+use Rattle.nmgc_graph.specs.laws.Orders.{same_name, contains_cases, contains_head, contains_tail}
 use Rattle.nmgc_core.proofs.Moves.{Names}
 
 pub tested_same : (a b : Name) → is_same_name a b ≡ true → a ≡ b

@@ -11,7 +11,7 @@ use Rattle.nmgc_graph.specs.World.{World, state_of, node_of, held_by, IsKnown, I
 use Rattle.nmgc_graph.specs.Reach.{IsLive, IsRoot, RefersTo, strong_fields, root, further, field, plain_key, live_key}
 use Rattle.nmgc_core.specs.Weakless.{HasNoWeak}
 use Rattle.nmgc_core.proofs.Barrier.{strong_at, place_of_field, field_at_place}
-use Rattle.nmgc_graph.proofs.Worlds.{at_some}
+use Rattle.nmgc_graph.specs.laws.Worlds.{at_some}
 use Rattle.nmgc_core.proofs.Moves.{Stands}
 
 -- strong fields are among what a node holds

@@ -10,7 +10,7 @@ use Rattle.nmgc_graph.specs.Reach.{IsRoot}
 use Rattle.nmgc_core.specs.declared.event.Entry.{Entry}
 use Rattle.nmgc_core.specs.State.{State, is_new, is_listed, with_mark, mark_name, entry_of}
 use Rattle.nmgc_core.proofs.Listed.{contains_listed}
-use Rattle.nmgc_graph.proofs.Rows.{name_cases}
+use Rattle.nmgc_graph.specs.laws.Rows.{name_cases}
 use Rattle.nmgc_core.proofs.Moves.{Stands}
 use Rattle.nmgc_core.proofs.Facts.{MayHold, IsLiveIn, IsSafe, IsAhead, Kept, Base, Facts, marked, owed, pushed, unmarked, queued}
 

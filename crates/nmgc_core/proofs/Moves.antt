@@ -21,8 +21,8 @@ use Rattle.nmgc_graph.specs.declared.mutator_state.MutatorState.{MutatorState}
 use Rattle.nmgc_graph.specs.World.{World, state_of, node_of, given}
 use Rattle.nmgc_graph.specs.Change.{changed, field_read, result_read}
 use Rattle.nmgc_graph.specs.Step.{shared_name, value_of, value_for, with_state, with_register, with_new, with_node, with_finaliser, holding_given, next_name, keeping, born, object_of, read_object, change_node, change_object, change_into, step}
-use Rattle.nmgc_graph.proofs.Nodes.{item_has}
-use Rattle.nmgc_graph.proofs.Worlds.{at_some}
+use Rattle.nmgc_graph.specs.laws.Nodes.{item_has}
+use Rattle.nmgc_graph.specs.laws.Worlds.{at_some}
 use Rattle.nmgc_core.specs.Owed.{owed_at, owed_of, values_owed}
 use Rattle.nmgc_core.specs.Weakless.{IsStrong}
 use Rattle.nmgc_core.proofs.Barrier.{strong_at, Fields, IsStrongChange, Writes, changed_fields, owed_fields, field_read_has, result_read_has, answer_has, stays_or_owed, IsLater, same_later, changed_later}

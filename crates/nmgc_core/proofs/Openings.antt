@@ -17,8 +17,8 @@ use Rattle.nmgc_core.specs.Weakless.{HasNoWeak}
 use Rattle.std.specs.Prelude.{slice_get}
 use Rattle.std.proofs.lemmas.Option.{get_or_from_slice_get}
 use Rattle.nmgc_core.proofs.ItemLaws.{nothing_in, one_is, contains_one, contains_flat, place_of}
-use Rattle.nmgc_graph.proofs.Orders.{contains_cases, contains_head, contains_tail}
-use Rattle.nmgc_graph.proofs.Rows.{name_cases}
+use Rattle.nmgc_graph.specs.laws.Orders.{contains_cases, contains_head, contains_tail}
+use Rattle.nmgc_graph.specs.laws.Rows.{name_cases}
 use Rattle.nmgc_core.proofs.Barrier.{field_at_place, same_later, Fields}
 use Rattle.nmgc_core.proofs.Lives.{target_there, refers, root_there}
 use Rattle.nmgc_core.proofs.Moves.{Names, Stands}

@@ -17,9 +17,9 @@ use Rattle.nmgc_core.specs.State.{State, with_mark, entry_of, mark_name, mark_re
 use Rattle.nmgc_core.specs.Scan.{read_at, fields_of, has_result, is_last, moved_on}
 use Rattle.nmgc_core.specs.Machine.{advanced, after_scan}
 use Rattle.nmgc_core.proofs.ItemLaws.{nothing_in, one_is, contains_one}
-use Rattle.nmgc_graph.proofs.Orders.{contains_cases, contains_head, contains_tail}
+use Rattle.nmgc_graph.specs.laws.Orders.{contains_cases, contains_head, contains_tail}
 use Rattle.nmgc_core.proofs.Barrier.{strong_at, field_at_place, read_at_place, within_fields, read_cases, free_of}
-use Rattle.nmgc_graph.proofs.Worlds.{at_some, is_some_of}
+use Rattle.nmgc_graph.specs.laws.Worlds.{at_some, is_some_of}
 use Rattle.nmgc_core.proofs.Lives.{live_there, target_there, refers}
 use Rattle.nmgc_core.proofs.Moves.{Names, Stands, StillThere}
 use Rattle.nmgc_core.proofs.Marking.{mark_cases, mark_facts, marked_then}

@@ -19,10 +19,10 @@ use Rattle.nmgc_graph.specs.World.{World, state_of, node_of, no_mutator, IsKnown
 use Rattle.nmgc_graph.specs.Step.{with_state, with_nth}
 use Rattle.nmgc_graph.specs.Reach.{IsAliveWeak, IsBefore, IsInOrder, queued, closed, closed_by}
 use Rattle.nmgc_graph.specs.Closing.{finaliser_of}
-use Rattle.nmgc_graph.proofs.Orders.{same_name, not_before_itself, in_order_first, in_order_rest, in_order_take, in_order_apart, contains_head, contains_tail}
+use Rattle.nmgc_graph.specs.laws.Orders.{same_name, not_before_itself, in_order_first, in_order_rest, in_order_take, in_order_apart, contains_head, contains_tail}
 use Rattle.nmgc_graph.proofs.Kepts.{weak_within, weak_maker}
 use Rattle.nmgc_graph.proofs.Lent.{back_is}
-use Rattle.nmgc_graph.proofs.Worlds.{not_shared, nth_changed, lent, replaced, same_state, values_keep, still_known, slice_get-set_other}
+use Rattle.nmgc_graph.specs.laws.Worlds.{not_shared, nth_changed, lent, replaced, same_state, values_keep, still_known, slice_get-set_other}
 
 -- queueing a finaliser and the death of a weak pointer go in any order
 pub queued_first : (state : MutatorState) (serial : ℕ) (made : Node) (v : Value) → ◌≡◌ {A = MutatorState} (with_nth (queued state v) serial made) (queued (with_nth state serial made) v)

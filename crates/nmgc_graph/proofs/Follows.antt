@@ -9,8 +9,8 @@ use Rattle.nmgc_graph.specs.declared.node.Node.TheVariants.{Con, Var, Arr, Thunk
 use Rattle.nmgc_graph.specs.declared.search.Search.{Search}
 use Rattle.nmgc_graph.specs.World.{World, node_of, IsKnown, AreKnown, IsNodeOf, held_by}
 use Rattle.nmgc_graph.specs.Marks.{IsMarked, IsPlaced, unmarked_count, HasPlaces}
-use Rattle.nmgc_graph.specs.Reach.{strong_fields, RefersTo}
-use Rattle.nmgc_graph.specs.Search.{with_values, IsReached, IsSearch, IsFollowed}
+use Rattle.nmgc_graph.specs.Reach.{IsReached, strong_fields, RefersTo}
+use Rattle.nmgc_graph.specs.Search.{with_values, IsSearch, IsFollowed}
 use Rattle.nmgc_graph.proofs.Searches.{Marks, values_mark, are_placed}
 
 -- a node's strong fields are among what it holds

@@ -16,11 +16,11 @@ use Rattle.nmgc_graph.specs.declared.node.Node.TheVariants.{Con, Var, Arr, Thunk
 use Rattle.nmgc_graph.specs.declared.search.Search.{Search}
 use Rattle.nmgc_graph.specs.World.{World, node_of, state_of, serial_of, no_mutator, IsKnown, AreKnown, IsWorld, IsShared, parts_held}
 use Rattle.nmgc_graph.specs.Marks.{mark_of, IsMarked, IsPlaced, HasPlaces, with_mark}
-use Rattle.nmgc_graph.specs.Reach.{IsAliveWeak, IsDead, IsKept, Lists}
+use Rattle.nmgc_graph.specs.Reach.{IsReached, IsAliveWeak, IsDead, IsKept, Lists}
 use Rattle.nmgc_graph.specs.Order.{ListsBefore}
-use Rattle.nmgc_graph.specs.Search.{with_values, parts_of, is_shown, is_lost, IsLost, IsSetOf, finaliser_in, finalisers_of, IsReached, IsSearch, IsFollowed, IsLiveFound, IsKeptFound}
-use Rattle.nmgc_graph.proofs.Orders.{contains_head, contains_tail, contains_cases, contains_filter, filter_contains, in_order_filter, lists_maker, lists_all}
-use Rattle.nmgc_graph.proofs.Rows.{added, kept_others, name_cases, places_kept, makers_kept}
+use Rattle.nmgc_graph.specs.Search.{with_values, parts_of, is_shown, is_lost, IsLost, IsSetOf, finaliser_in, finalisers_of, IsSearch, IsFollowed, IsLiveFound, IsKeptFound}
+use Rattle.nmgc_graph.specs.laws.Orders.{contains_head, contains_tail, contains_cases, contains_filter, filter_contains, in_order_filter, lists_maker, lists_all}
+use Rattle.nmgc_graph.specs.laws.Rows.{added, kept_others, name_cases, places_kept, makers_kept}
 use Rattle.nmgc_graph.proofs.Searches.{Marks, values_mark, are_placed, name_placed, known_placed}
 use Rattle.nmgc_graph.proofs.Follows.{places_stay, search_stays}
 use Rattle.nmgc_graph.proofs.Weaks.{alive_from_parts, parts_from_alive, parts_known}

@@ -20,7 +20,7 @@ use Rattle.nmgc_graph.specs.World.{World, state_of, node_of, AreKnown, IsKnownRe
 use Rattle.nmgc_graph.specs.Command.{IsOperand}
 use Rattle.nmgc_graph.specs.Change.{is_same, field_exchanged, without_last, last_of, given_or, changed}
 use Rattle.nmgc_graph.specs.Step.{with_state, with_nth, with_node, value_of, change_node}
-use Rattle.nmgc_graph.proofs.Worlds.{refill_whole, operands_known, replaced, lent, is_shared, shared_changed, shared_reply, within, maker_exists, nth_changed, nth_reply, is_some_of, in_state, same_state}
+use Rattle.nmgc_graph.specs.laws.Worlds.{refill_whole, operands_known, replaced, lent, is_shared, shared_changed, shared_reply, within, maker_exists, nth_changed, nth_reply, is_some_of, in_state, same_state}
 
 -- the values that a call gave are known, if it gave any
 pub values_known : (w : World) (m : ℕ) → IsWorld w → m < length w.mutators → (os : List Operand) → All IsOperand os → (registers : List Value) → registers ≡ (state_of w m).registers → (r : Result (List Value) NoMemory) → IfOk r (λ values. values ≡ map (value_of registers) os) → IfOk r (AreKnown w)

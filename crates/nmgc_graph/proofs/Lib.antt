@@ -1,13 +1,8 @@
 pub mod Closings
 pub mod Follows
-pub mod Growth
 pub mod Kepts
 pub mod Lent
 pub mod Lives
-pub mod Nodes
-pub mod Orders
 pub mod Queues
-pub mod Rows
 pub mod Searches
 pub mod Weaks
-pub mod Worlds

@@ -10,9 +10,9 @@ use Rattle.nmgc_graph.specs.declared.search.Search.{Search}
 use Rattle.nmgc_graph.specs.World.{World, node_of, state_of, no_mutator, IsKnown, AreKnown, IsWorld}
 use Rattle.nmgc_graph.specs.Step.{shared_name}
 use Rattle.nmgc_graph.specs.Marks.{mark_of, IsMarked, HasPlace, unmarked_count, HasPlaces}
-use Rattle.nmgc_graph.specs.Reach.{IsRoot, IsLive, IsAliveWeak, IsPlain}
-use Rattle.nmgc_graph.specs.Search.{with_name, with_values, with_weaks, values_held, starts_of, is_shown, IsReached, IsFollowed, IsLiveSearch, AreRevived, IsLiveFound}
-use Rattle.nmgc_graph.proofs.Orders.{contains_head, contains_tail, contains_cases}
+use Rattle.nmgc_graph.specs.Reach.{IsReached, IsRoot, IsLive, IsAliveWeak, IsPlain}
+use Rattle.nmgc_graph.specs.Search.{with_name, with_values, with_weaks, values_held, starts_of, is_shown, IsFollowed, IsLiveSearch, AreRevived, IsLiveFound}
+use Rattle.nmgc_graph.specs.laws.Orders.{contains_head, contains_tail, contains_cases}
 use Rattle.nmgc_graph.proofs.Searches.{Marks, same_ref, values_mark, name_marks, name_placed, are_placed}
 use Rattle.nmgc_graph.proofs.Follows.{places_stay, search_stays}
 use Rattle.nmgc_graph.proofs.Weaks.{weaks_mark, weaks_sound, revived}

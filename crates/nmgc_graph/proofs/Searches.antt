@@ -12,9 +12,9 @@ use Rattle.nmgc_graph.specs.declared.search.Search.{Search}
 use Rattle.nmgc_graph.specs.World.{World, node_of, state_of, IsKnown, AreKnown}
 use Rattle.nmgc_graph.specs.Marks.{row_of, mark_of, IsMarked, HasPlace, IsPlaced, with_mark, unmarked_count, HasPlaces}
 use Rattle.nmgc_graph.specs.Search.{with_name, with_value, with_values}
-use Rattle.nmgc_graph.proofs.Orders.{contains_head, contains_cases}
-use Rattle.nmgc_graph.proofs.Rows.{added, kept_others, places_kept, makers_kept, one_fewer, name_cases}
-use Rattle.nmgc_graph.proofs.Worlds.{get_is_some}
+use Rattle.nmgc_graph.specs.laws.Orders.{contains_head, contains_cases}
+use Rattle.nmgc_graph.specs.laws.Rows.{added, kept_others, places_kept, makers_kept, one_fewer, name_cases}
+use Rattle.nmgc_graph.specs.laws.Worlds.{get_is_some}
 
 -- what marking the names that these values refer to changes
 pub record Marks (s t : Search) (values : List Value) : Type 0 where

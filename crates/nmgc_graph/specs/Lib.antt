@@ -12,3 +12,4 @@ pub mod RoomLends
 pub mod Search
 pub mod Step
 pub mod World
+pub mod laws

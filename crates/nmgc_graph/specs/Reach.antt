@@ -26,6 +26,11 @@ strong_fields (Stack size values) = values
 abbrev pub RefersTo : World → Name → Name → Type 0
 RefersTo w name target = (node : Node) × (node_of w name ≡ Some node) × Contains (strong_fields node) (value.Ref target)
 
+-- names with P, and what strong fields reach from these
+pub data IsReached (w : World) (P : Name → Type 0) : Name → Type 0 where
+  start : (name : Name) → P name → IsReached w P name
+  field : (name target : Name) → IsReached w P name → RefersTo w name target → IsReached w P target
+
 -- g, or what a register or a finaliser queue refers to
 abbrev pub IsRoot : World → Name → Type 0
 IsRoot w name = (name ≡ shared_name) ⊎ ((m : ℕ) × Contains ((state_of w m).registers ++ (state_of w m).queue) (value.Ref name))

@@ -13,7 +13,7 @@ use Rattle.nmgc_graph.specs.World.{World, node_of}
 use Rattle.nmgc_graph.specs.Marks.{mark_of, IsMarked, with_mark, unmarked_count, HasPlaces}
 use Rattle.nmgc_graph.specs.declared.mutator_state.MutatorState.{MutatorState}
 use Rattle.nmgc_graph.specs.Step.{shared_name}
-use Rattle.nmgc_graph.specs.Reach.{RefersTo, IsAlive, IsKeptBy, IsLive, IsKept}
+use Rattle.nmgc_graph.specs.Reach.{RefersTo, IsReached, IsAlive, IsKeptBy, IsLive, IsKept}
 
 -- a name that wasn't marked is marked, and waits
 abbrev pub with_name : Search → Name → Search
@@ -32,11 +32,6 @@ with_values s values = fold with_value s values
 -- each strong field of a marked name that doesn't wait refers to a marked name
 abbrev pub IsTraced : World → Search → Type 0
 IsTraced w s = (name target : Name) → IsMarked s.marks name → RefersTo w name target → Contains s.work name ⊎ IsMarked s.marks target
-
--- names with P, and what strong fields reach from these
-pub data IsReached (w : World) (P : Name → Type 0) : Name → Type 0 where
-  start : (name : Name) → P name → IsReached w P name
-  field : (name target : Name) → IsReached w P name → RefersTo w name target → IsReached w P target
 
 -- what holds of a search at every step: names that wait are marked, and what doesn't wait was dealt with
 pub record IsSearch (w : World) (s : Search) : Type 0 where

@@ -2,7 +2,7 @@ use Rattle.std.proofs.Common.{sym, ◌∙◌}
 use Rattle.nmgc_graph.specs.World.{IsWorld}
 use Rattle.nmgc_graph.specs.Reach.{IsAliveWeak}
 use Rattle.nmgc_graph.specs.declared.value.Name.{Name}
-use Rattle.nmgc_graph.proofs.Orders.{lists_more, lists_same}
+use Rattle.nmgc_graph.specs.laws.Orders.{lists_more, lists_same}
 use Rattle.nmgc_graph.proofs.Kepts.{weak_some, weak_none, weaks_listed}
 use Rattle.nmgc_graph.proofs.world.World.list_weaks.Goals as goal
 use Rattle.nmgc_graph.proofs.world.World.list_weaks.Goals.{then-is_some+in_ok-push, else-is_some}

@@ -1,5 +1,5 @@
 use Rattle.nmgc_graph.specs.Step.{holding}
-use Rattle.nmgc_graph.proofs.Worlds.{replaced, holding_keeps}
+use Rattle.nmgc_graph.specs.laws.Worlds.{replaced, holding_keeps}
 use Rattle.nmgc_graph.proofs.world.World.take.Goals as goal
 
 pub invariant_of-self : goal.invariant_of-self

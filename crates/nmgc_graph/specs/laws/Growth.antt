@@ -20,7 +20,7 @@ use Rattle.nmgc_graph.specs.declared.mutator_state.MutatorState.{MutatorState}
 use Rattle.nmgc_graph.specs.World.{World, state_of, node_of, serial_of, no_mutator, Grows}
 use Rattle.nmgc_graph.specs.Change.{changed}
 use Rattle.nmgc_graph.specs.Step.{with_state, with_new, with_nth, with_node, holding_given, keeping, born, change_node, change_object, change_asked, change_into, value_for, step}
-use Rattle.nmgc_graph.proofs.Worlds.{is_some_get, get_is_some}
+use Rattle.nmgc_graph.specs.laws.Worlds.{is_some_get, get_is_some}
 
 -- as many mutators, each of which made as many objects
 record SameCounts (w v : World) : Type 0 where

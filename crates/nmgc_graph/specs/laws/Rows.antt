@@ -7,7 +7,7 @@ use Rattle.std.proofs.lemmas.List.Sums.{sum_by-set}
 use Rattle.nmgc_graph.specs.declared.value.Name.{Name}
 use Rattle.nmgc_graph.specs.Marks.{row_of, mark_of, IsMarked, HasPlace, with_mark, unmarked_count}
 use Rattle.nmgc_graph.specs.Order.{ListsBefore}
-use Rattle.nmgc_graph.proofs.Orders.{lists_maker, same_name}
+use Rattle.nmgc_graph.specs.laws.Orders.{lists_maker, same_name}
 
 -- a name of the set has a place
 pub marked_place : (marks : List (List Bool)) (name : Name) → IsMarked marks name → HasPlace marks name

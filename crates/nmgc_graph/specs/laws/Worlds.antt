@@ -21,7 +21,7 @@ use Rattle.nmgc_graph.specs.World.{World, state_of, node_of, no_mutator, held_by
 use Rattle.nmgc_graph.specs.Command.{IsOperand}
 use Rattle.nmgc_graph.specs.Change.{changed}
 use Rattle.nmgc_graph.specs.Step.{with_state, with_register, holding_given, with_new, with_nth, with_finaliser, next_name, value_of, object_of, read_object}
-use Rattle.nmgc_graph.proofs.Nodes.{item_has, changed_known, changed_reply, changed_shared}
+use Rattle.nmgc_graph.specs.laws.Nodes.{item_has, changed_known, changed_reply, changed_shared}
 
 pub is_some_get : {A : Type 0} (xs : List A) (i : ℕ) → i < length xs → IsSome (slice_get xs i)
 is_some_get [] i lt = absurd (omega arith)

@@ -1,0 +1,5 @@
+pub mod Growth
+pub mod Nodes
+pub mod Orders
+pub mod Rows
+pub mod Worlds
