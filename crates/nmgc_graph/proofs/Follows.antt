@@ -1,27 +1,17 @@
 -- Following strong fields: what each step keeps, and what is reached in the end.
 use Rattle.std.proofs.Common.{◌≡◌, ◌+◌, List, [], ◌∷◌, ◌++◌, length, inl, inr, sym, ◌∙◌, arith, ◌⊎◌, length-append, Some, None}
 use Rattle.std.specs.Prelude.{Contains, All}
-use Rattle.std.proofs.lemmas.List.Elements.{Contains-append_left, Contains-push, Contains-push_cases, All-nil, All-cons}
+use Rattle.std.proofs.lemmas.List.Elements.{Contains-append_left, Contains-push, Contains-push_cases}
 use Rattle.nmgc_graph.specs.declared.value.Name.{Name}
 use Rattle.nmgc_graph.specs.declared.value.Value.{Value}
 use Rattle.nmgc_graph.specs.declared.node.Node.{Node}
-use Rattle.nmgc_graph.specs.declared.node.Node.TheVariants.{Con, Var, Arr, Thunk, Weak, Stack}
 use Rattle.nmgc_graph.specs.declared.search.Search.{Search}
-use Rattle.nmgc_graph.specs.World.{World, node_of, IsKnown, AreKnown, IsNodeOf, held_by}
+use Rattle.nmgc_graph.specs.World.{World, node_of, IsNodeOf}
 use Rattle.nmgc_graph.specs.Marks.{IsMarked, IsPlaced, unmarked_count, HasPlaces}
 use Rattle.nmgc_graph.specs.Reach.{IsReached, strong_fields, RefersTo}
 use Rattle.nmgc_graph.specs.Search.{with_values, IsSearch, IsFollowed}
+use Rattle.nmgc_graph.specs.laws.Nodes.{fields_known}
 use Rattle.nmgc_graph.proofs.Searches.{Marks, values_mark, are_placed}
-
--- a node's strong fields are among what it holds
-pub fields_known : (w : World) (node : Node) → AreKnown w (held_by node) → AreKnown w (strong_fields node)
-fields_known w (Con tag values) known = known
-fields_known w (Var v) known = known
-fields_known w (Arr values) known = known
-fields_known w (Thunk free None) known = known
-fields_known w (Thunk free (Some result)) known = All-cons (IsKnown w) result [] (known 0 result (omega arith)) (All-nil (IsKnown w))
-fields_known w (Weak parts) known = All-nil (IsKnown w)
-fields_known w (Stack size values) known = known
 
 same_node : (a b : Node) → Some a ≡ Some b → a ≡ b
 same_node a b e = cc

@@ -1,27 +1,22 @@
 -- From the live names to the dead weak pointers and the kept names.
-use Rattle.std.proofs.Common.{◌≡◌, ◌<◌, ◌≤◌, ◌+◌, ℕ, List, [], ◌∷◌, ◌++◌, length, get_or, inl, inr, refl, sym, ap, subst, ◌∙◌, arith, Bool, true, false, not, Option, Some, None, cond, eqb, Bor}
+use Rattle.std.proofs.Common.{◌≡◌, ◌<◌, ◌≤◌, ◌+◌, ℕ, List, [], ◌∷◌, ◌++◌, length, get_or, inl, inr, refl, sym, ap, subst, ◌∙◌, arith, Bool, true, false, not, Option, Some, None, Bor}
 use Rattle.std.specs.Prelude.{Contains, All, IsSome, filter, option_copied, is_some}
-use Rattle.std.proofs.lemmas.Bool.{false≢true, and_parts, and_from, not-true, not_from_false, cases_lt, false_from_ne_true}
-use Rattle.std.proofs.lemmas.Bool.Decides.{eqb_tells}
-use Rattle.std.proofs.lemmas.Option.{slice_get_within}
-use Rattle.std.proofs.lemmas.List.{get_or_past}
+use Rattle.std.proofs.lemmas.Bool.{false≢true, and_parts, and_from, not-true, not_from_false, false_from_ne_true}
 use Rattle.std.proofs.lemmas.List.Elements.{All-nil, All-tail, All-append, All-get_or, Contains-append_left, Contains-append_right, Contains-append_cases, Contains-push, Contains-push_cases, Contains-get_or}
-use Rattle.nmgc_graph.specs.declared.value.TheConstants.{SHARED_MAKER}
 use Rattle.nmgc_graph.specs.declared.value.Name.{Name}
 use Rattle.nmgc_graph.specs.declared.value.Value.{Value}
 use Rattle.nmgc_graph.specs.declared.value.Value.TheVariants.{Nil, Number, Ref}
 use Rattle.nmgc_graph.specs.declared.node.Parts.{Parts}
-use Rattle.nmgc_graph.specs.declared.node.Node.{Node}
-use Rattle.nmgc_graph.specs.declared.node.Node.TheVariants.{Con, Var, Arr, Thunk, Weak, Stack}
 use Rattle.nmgc_graph.specs.declared.search.Search.{Search}
-use Rattle.nmgc_graph.specs.World.{World, node_of, state_of, serial_of, no_mutator, IsKnown, AreKnown, IsWorld, IsShared, parts_held}
+use Rattle.nmgc_graph.specs.World.{World, node_of, serial_of, IsKnown, AreKnown, IsWorld, parts_held}
 use Rattle.nmgc_graph.specs.Marks.{mark_of, IsMarked, IsPlaced, HasPlaces, with_mark}
 use Rattle.nmgc_graph.specs.Reach.{IsReached, IsAliveWeak, IsDead, IsKept, Lists}
 use Rattle.nmgc_graph.specs.Order.{ListsBefore}
 use Rattle.nmgc_graph.specs.Search.{with_values, parts_of, is_shown, is_lost, IsLost, IsSetOf, finaliser_in, finalisers_of, IsSearch, IsFollowed, IsLiveFound, IsKeptFound}
 use Rattle.nmgc_graph.specs.laws.Orders.{contains_head, contains_tail, contains_cases, contains_filter, filter_contains, in_order_filter, lists_maker, lists_all}
-use Rattle.nmgc_graph.specs.laws.Rows.{added, kept_others, name_cases, places_kept, makers_kept}
-use Rattle.nmgc_graph.proofs.Searches.{Marks, values_mark, are_placed, name_placed, known_placed}
+use Rattle.nmgc_graph.specs.laws.Rows.{added, kept_others, name_cases, places_kept, makers_kept, name_placed}
+use Rattle.nmgc_graph.specs.laws.Weaks.{weak_within, weak_maker}
+use Rattle.nmgc_graph.proofs.Searches.{Marks, values_mark, are_placed, known_placed}
 use Rattle.nmgc_graph.proofs.Follows.{places_stay, search_stays}
 use Rattle.nmgc_graph.proofs.Weaks.{alive_from_parts, parts_from_alive, parts_known}
 
@@ -33,34 +28,6 @@ weak_some w weak (Some parts) e t = (parts, alive_from_parts w weak parts (sym e
 pub weak_none : (w : World) (weak : Name) (o : Option Parts) → o ≡ parts_of w weak → is_some o ≡ false → IsAliveWeak w weak → ⊥
 weak_none w weak None e t a = let there = parts_from_alive w weak a.0 a.1 in cc
 weak_none w weak (Some parts) e t a = cc
-
-pub not_array : (node : Node) (parts : Option Parts) → IsShared node → node ≡ Weak parts → ⊥
-not_array (Arr values) parts is e = cc
-not_array (Con tag values) parts is e = absurd is
-not_array (Var v) parts is e = absurd is
-not_array (Thunk free result) parts is e = absurd is
-not_array (Weak found) parts is e = absurd is
-not_array (Stack size values) parts is e = absurd is
-
-in_shared : (b : Bool) (node made : Node) → cond b (Some node) None ≡ Some made → node ≡ made
-in_shared true node made e = cc
-in_shared false node made e = absurd cc
-
--- a weak pointer was made by a mutator
-module _ (w : World) (h : IsWorld w) (weak : Name) (alive : IsAliveWeak w weak) where
-  pub weak_within : weak.serial < serial_of w weak.maker
-  weak_within = elim (eqb_tells weak.maker SHARED_MAKER) [
-    | inl p ↦ absurd (not_array w.shared (Some alive.0) h.shared (in_shared (eqb weak.serial 0) w.shared (Weak (Some alive.0)) (rw p.0 at alive.1)))
-    | inr p ↦ slice_get_within (state_of w weak.maker).nodes weak.serial (Weak (Some alive.0)) (rw p.0 at alive.1)
-  ]
-
-  pub weak_maker : weak.maker < length w.mutators
-  weak_maker = elim (cases_lt weak.maker (length w.mutators)) [
-    | inl lt ↦ lt
-    | inr le ↦
-        let none : state_of w weak.maker ≡ no_mutator = get_or_past w.mutators weak.maker no_mutator le in
-        let bad : weak.serial < length (no_mutator).nodes = rw none at weak_within in absurd (omega arith)
-  ]
 
 -- all weak pointers of a maker were passed
 pub weaks_listed : (w : World) → IsWorld w → (maker serial : ℕ) (weaks : List Name) → serial_of w maker ≤ serial → ListsBefore (IsAliveWeak w) maker serial weaks → ListsBefore (IsAliveWeak w) (maker + 1) 0 weaks

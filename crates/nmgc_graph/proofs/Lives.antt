@@ -13,7 +13,8 @@ use Rattle.nmgc_graph.specs.Marks.{mark_of, IsMarked, HasPlace, unmarked_count, 
 use Rattle.nmgc_graph.specs.Reach.{IsReached, IsRoot, IsLive, IsAliveWeak, IsPlain}
 use Rattle.nmgc_graph.specs.Search.{with_name, with_values, with_weaks, values_held, starts_of, is_shown, IsFollowed, IsLiveSearch, AreRevived, IsLiveFound}
 use Rattle.nmgc_graph.specs.laws.Orders.{contains_head, contains_tail, contains_cases}
-use Rattle.nmgc_graph.proofs.Searches.{Marks, same_ref, values_mark, name_marks, name_placed, are_placed}
+use Rattle.nmgc_graph.specs.laws.Rows.{name_placed}
+use Rattle.nmgc_graph.proofs.Searches.{Marks, same_ref, values_mark, name_marks, are_placed}
 use Rattle.nmgc_graph.proofs.Follows.{places_stay, search_stays}
 use Rattle.nmgc_graph.proofs.Weaks.{weaks_mark, weaks_sound, revived}
 

@@ -1,20 +1,17 @@
 -- What marking names in a search changes, and what it keeps.
 use Rattle.std.proofs.Common.{◌≡◌, ◌≤◌, ◌+◌, ℕ, List, [], ◌∷◌, ◌++◌, length, inl, inr, refl, sym, subst, ◌∙◌, arith, Bool, false, ◌⊎◌, length-append, map}
-use Rattle.std.specs.Prelude.{Contains, All, IsSome}
+use Rattle.std.specs.Prelude.{Contains, All}
 use Rattle.std.proofs.lemmas.Bool.{cases_Bool}
-use Rattle.std.proofs.lemmas.Bool.Decides.{eqb_tells}
 use Rattle.std.proofs.lemmas.List.Elements.{All-cons, All-nil, All-head, All-tail, All-weaker, All-map, Contains-append_left, Contains-append_right, Contains-append_cases, Contains-push, Contains-push_cases}
-use Rattle.nmgc_graph.specs.declared.value.TheConstants.{SHARED_MAKER}
 use Rattle.nmgc_graph.specs.declared.value.Name.{Name}
 use Rattle.nmgc_graph.specs.declared.value.Value.{Value}
 use Rattle.nmgc_graph.specs.declared.value.Value.TheVariants.{Nil, Number, Ref}
 use Rattle.nmgc_graph.specs.declared.search.Search.{Search}
-use Rattle.nmgc_graph.specs.World.{World, node_of, state_of, IsKnown, AreKnown}
+use Rattle.nmgc_graph.specs.World.{World, IsKnown, AreKnown}
 use Rattle.nmgc_graph.specs.Marks.{row_of, mark_of, IsMarked, HasPlace, IsPlaced, with_mark, unmarked_count, HasPlaces}
 use Rattle.nmgc_graph.specs.Search.{with_name, with_value, with_values}
 use Rattle.nmgc_graph.specs.laws.Orders.{contains_head, contains_cases}
-use Rattle.nmgc_graph.specs.laws.Rows.{added, kept_others, places_kept, makers_kept, one_fewer, name_cases}
-use Rattle.nmgc_graph.specs.laws.Worlds.{get_is_some}
+use Rattle.nmgc_graph.specs.laws.Rows.{name_placed, added, kept_others, places_kept, makers_kept, one_fewer, name_cases}
 
 -- what marking the names that these values refer to changes
 pub record Marks (s t : Search) (values : List Value) : Type 0 where
@@ -155,19 +152,10 @@ refs_placed marks names placed = All-map (IsPlaced marks) Ref names placed
 
 -- a set with a place for each name of a world
 module _ (w : World) (marks : List (List Bool)) (h : HasPlaces w marks) where
-  pub name_placed : (name : Name) → IsSome (node_of w name) → HasPlace marks name
-  name_placed name there = elim (eqb_tells name.maker SHARED_MAKER) [
-    | inl p ↦ elim (eqb_tells name.serial 0) [
-      | inl z ↦ rw (h.counts name.maker, p.0, z.1) (omega arith)
-      | inr z ↦ absurd (let bad = rw (p.0, z.0) at there in cc)
-    ]
-    | inr p ↦ rw (h.counts name.maker, p.0) (get_is_some (state_of w name.maker).nodes name.serial (rw p.0 at there))
-  ]
-
   pub known_placed : (v : Value) → IsKnown w v → IsPlaced marks v
   known_placed Nil known = tt
   known_placed (Number n) known = tt
-  known_placed (Ref name) known = name_placed name known
+  known_placed (Ref name) known = name_placed w marks h name known
 
   pub are_placed : (values : List Value) → AreKnown w values → All (IsPlaced marks) values
   are_placed values known = All-weaker (IsKnown w) (IsPlaced marks) known_placed values known

@@ -15,7 +15,8 @@ use Rattle.nmgc_graph.specs.Marks.{IsMarked, IsPlaced, HasPlaces}
 use Rattle.nmgc_graph.specs.Reach.{IsAlive, IsAliveWeak, IsKeptBy, IsLive}
 use Rattle.nmgc_graph.specs.Search.{with_weak, with_weaks, parts_in, parts_of, is_shown, AreRevived}
 use Rattle.nmgc_graph.specs.laws.Orders.{contains_head, contains_tail, contains_cases}
-use Rattle.nmgc_graph.proofs.Searches.{same_ref, Marks, no_marks, then_marks, values_mark, are_placed, name_placed}
+use Rattle.nmgc_graph.specs.laws.Rows.{name_placed}
+use Rattle.nmgc_graph.proofs.Searches.{same_ref, Marks, no_marks, then_marks, values_mark, are_placed}
 use Rattle.nmgc_graph.proofs.Follows.{places_stay}
 
 -- the parts of a weak pointer are there where it is alive

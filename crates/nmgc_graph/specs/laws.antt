@@ -1,5 +1,7 @@
+pub mod Closings
 pub mod Growth
 pub mod Nodes
 pub mod Orders
 pub mod Rows
+pub mod Weaks
 pub mod Worlds

@@ -75,8 +75,9 @@ impl World {
         Ok(search)
     }
 
-    // The weak pointers that are alive, in order.
-    fn alive_weaks(&self) -> Result<List<Name>, NoMemory>
+    /// The weak pointers that are alive, in order. After `NoMemory` there is no answer. Takes time for
+    /// each name.
+    pub fn alive_weaks(&self) -> Result<List<Name>, NoMemory>
         ensures { IfOk result (λ names. Lists (IsAliveWeak self.now) names) }
     {
         let mut weaks = List::new(self.alloc);
@@ -132,8 +133,9 @@ impl World {
         }
     }
 
-    // Those of the names that are in the map, as a set.
-    fn set_of(&self, names: &[Name]) -> Result<Marks, NoMemory>
+    /// Those of the names that are in the map, as a set. After `NoMemory` there is no answer. Takes
+    /// memory and time for each name of this world, and constant time for each of the names.
+    pub fn set_of(&self, names: &[Name]) -> Result<Marks, NoMemory>
         ensures { IfOk result (IsSetOf self.now names.now) }
     {
         let mut marks = self.no_names()?;
@@ -173,8 +175,9 @@ impl World {
         Ok(())
     }
 
-    // The parts of a weak pointer, where the name is that of an alive one.
-    fn parts(&self, weak: Name) -> Option<Parts>
+    /// The parts of a weak pointer, where the name is that of an alive one. Takes no memory, and
+    /// constant time.
+    pub fn parts(&self, weak: Name) -> Option<Parts>
         ensures parts { result ≡ parts_of self.now weak }
         ensures known { IfSome result (λ parts. AreKnown self.now (parts_held (Some parts))) }
     {

@@ -11,6 +11,7 @@ use Rattle.nmgc_graph.specs.declared.command.Reply.TheVariants.{Fine, Yes, No, N
 use Rattle.nmgc_graph.specs.declared.change.Change.{Change}
 use Rattle.nmgc_graph.specs.declared.change.Change.TheVariants as change
 use Rattle.nmgc_graph.specs.World.{World, held_by, IsShared, AreKnown, IsKnown, IsKnownReply, IsKnownChange, IsNodeOf}
+use Rattle.nmgc_graph.specs.Reach.{strong_fields}
 use Rattle.nmgc_graph.specs.Change.{is_same, given_or, field_read, result_read, value_read, field_set, exchanged_at, field_exchanged, thunk_updated, stack_pushed, stack_popped, last_of, weak_finalised, changed}
 
 -- an item of a list whose items have P has P
@@ -220,3 +221,13 @@ changed_shared (change.Update v) maker (Arr values) h = h
 changed_shared (change.Push m v) maker (Arr values) h = h
 changed_shared (change.Pop m) maker (Arr values) h = h
 changed_shared change.Finalise maker (Arr values) h = h
+
+-- a node's strong fields are among what it holds
+pub fields_known : (w : World) (node : Node) → AreKnown w (held_by node) → AreKnown w (strong_fields node)
+fields_known w (Con tag values) known = known
+fields_known w (Var v) known = known
+fields_known w (Arr values) known = known
+fields_known w (Thunk free None) known = known
+fields_known w (Thunk free (Some result)) known = All-cons (IsKnown w) result [] (known 0 result (omega arith)) (All-nil (IsKnown w))
+fields_known w (Weak parts) known = All-nil (IsKnown w)
+fields_known w (Stack size values) known = known

@@ -1,13 +1,17 @@
 -- A set of names as rows of marks: what adding a name changes, and listing the names.
 use Rattle.std.proofs.Common.{◌≡◌, ◌≢◌, ◌<◌, ◌≤◌, ◌+◌, ℕ, List, [], length, get_or, set, inl, inr, refl, sym, ap, ◌∙◌, arith, Bool, true, false, cond, ◌⊎◌, not}
-use Rattle.std.specs.Prelude.{count_by}
+use Rattle.std.specs.Prelude.{count_by, IsSome}
 use Rattle.std.proofs.lemmas.Bool.{cases_lt, cases_eq, false≢true}
+use Rattle.std.proofs.lemmas.Bool.Decides.{eqb_tells}
 use Rattle.std.proofs.lemmas.List.{get_or-set_same, get_or-set_other, get_or_past, length-set}
 use Rattle.std.proofs.lemmas.List.Sums.{sum_by-set}
+use Rattle.nmgc_graph.specs.declared.value.TheConstants.{SHARED_MAKER}
 use Rattle.nmgc_graph.specs.declared.value.Name.{Name}
-use Rattle.nmgc_graph.specs.Marks.{row_of, mark_of, IsMarked, HasPlace, with_mark, unmarked_count}
+use Rattle.nmgc_graph.specs.World.{World, node_of, state_of}
+use Rattle.nmgc_graph.specs.Marks.{row_of, mark_of, IsMarked, HasPlace, with_mark, unmarked_count, HasPlaces}
 use Rattle.nmgc_graph.specs.Order.{ListsBefore}
 use Rattle.nmgc_graph.specs.laws.Orders.{lists_maker, same_name}
+use Rattle.nmgc_graph.specs.laws.Worlds.{get_is_some}
 
 -- a name of the set has a place
 pub marked_place : (marks : List (List Bool)) (name : Name) → IsMarked marks name → HasPlace marks name
@@ -79,3 +83,14 @@ name_cases a b = elim (cases_eq a.maker b.maker) [
   ]
   | inr g ↦ inr (λ s. g (ap (λ (n : Name). n.maker) s))
 ]
+
+-- a set with a place for each name of a world
+module _ (w : World) (marks : List (List Bool)) (h : HasPlaces w marks) where
+  pub name_placed : (name : Name) → IsSome (node_of w name) → HasPlace marks name
+  name_placed name there = elim (eqb_tells name.maker SHARED_MAKER) [
+    | inl p ↦ elim (eqb_tells name.serial 0) [
+      | inl z ↦ rw (h.counts name.maker, p.0, z.1) (omega arith)
+      | inr z ↦ absurd (let bad = rw (p.0, z.0) at there in cc)
+    ]
+    | inr p ↦ rw (h.counts name.maker, p.0) (get_is_some (state_of w name.maker).nodes name.serial (rw p.0 at there))
+  ]

@@ -1,0 +1,6 @@
+use Rattle.nmgc_reach.specs.laws.Closes.{closes_well}
+use Rattle.nmgc_reach.specs.laws.Reached.{nothing_reachable_is_freed, nothing_reachable_is_ever_freed}
+use Rattle.nmgc_reach.proofs.laws.nothing_reachable_is_freed.Goals as goal
+
+pub returns : goal.returns
+returns c = record { closing = closes_well; since = nothing_reachable_is_freed; run = nothing_reachable_is_ever_freed }
