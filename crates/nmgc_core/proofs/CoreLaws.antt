@@ -1,6 +1,6 @@
 -- The set of a core, and the queues of its mutators, as they change.
-use Rattle.std.proofs.Common.{◌≡◌, ◌<◌, ◌+◌, ℕ, zero, suc, List, [], ◌∷◌, ◌++◌, length, get_or, set, take, inl, inr, refl, sym, ap, ◌∙◌, arith, Option, Some, None, Result, Ok, Err, Bool, true, false, not}
-use Rattle.std.specs.Prelude.{Contains, slice_get, is_some, ◌&&◌, ◌||◌, IfOk, IfSome, IfNone}
+use Rattle.std.proofs.Common.{◌≡◌, ◌<◌, ◌+◌, ℕ, zero, suc, List, [], ◌∷◌, ◌++◌, length, get_or, set, take, inl, inr, refl, sym, ap, subst, length-set, ◌∙◌, arith, Option, Some, None, Result, Ok, Err, Bool, true, false, not}
+use Rattle.std.specs.Prelude.{All, Contains, slice_get, is_some, ◌&&◌, ◌||◌, IfOk, IfSome, IfNone}
 use Rattle.std.proofs.lemmas.List.{take_more, get_or-set_same, set-get_or, take-append-le, take_all}
 use Rattle.nmgc_graph.specs.declared.value.Name.{Name}
 use Rattle.nmgc_graph.specs.World.{World, node_of}
@@ -8,22 +8,27 @@ use Rattle.nmgc_graph.specs.Change.{is_same_name}
 use Rattle.nmgc_graph.specs.Reach.{Lists}
 use Rattle.nmgc_graph.specs.declared.command.Command.{Command}
 use Rattle.nmgc_graph.specs.declared.command.Reply.{Reply}
-use Rattle.nmgc_graph.specs.Step.{step}
-use Rattle.nmgc_core.specs.Owed.{owed_by}
-use Rattle.nmgc_core.specs.Machine.{after_command}
-use Rattle.nmgc_core.specs.Weakless.{IsStrong}
-use Rattle.nmgc_core.proofs.Commands.{after_strong}
+use Rattle.nmgc_graph.specs.Step.{CanApply, step}
+use Rattle.nmgc_graph.specs.declared.node.Parts.{Parts}
+use Rattle.nmgc_graph.specs.World.{state_of, IsWorld}
+use Rattle.nmgc_graph.specs.History.{finalised_by}
+use Rattle.nmgc_graph.specs.Reach.{IsAlive}
+use Rattle.nmgc_graph.specs.laws.Growth.{step_grows}
+use Rattle.nmgc_graph.specs.laws.Worlds.{not_shared}
+use Rattle.std.proofs.lemmas.List.Elements.{Contains-append_left}
+use Rattle.nmgc_reach.specs.Holds.{Names}
+use Rattle.nmgc_core.specs.laws.Turns.{step_alive}
 use Rattle.nmgc_core.specs.declared.event.Entry.{Entry}
 use Rattle.nmgc_graph.specs.declared.memory.NoMemory.{NoMemory}
 use Rattle.nmgc_graph.specs.declared.value.Value.{Value}
 use Rattle.nmgc_graph.specs.declared.value.Value.TheVariants as value
 use Rattle.nmgc_core.specs.State.{State, is_listed, is_new, names_of, mark_name, mark_value, mark_values, mark_read, entry_of}
-use Rattle.nmgc_core.proofs.Marking.{mark_cases}
+use Rattle.nmgc_core.specs.laws.Marking.{mark_cases}
 use Rattle.nmgc_graph.specs.Marks.{HasPlace, HasPlaces, IsMarked, mark_of, with_mark}
 use Rattle.nmgc_graph.specs.laws.Rows.{added, kept_others, places_kept, makers_kept, name_cases}
-use Rattle.nmgc_graph.proofs.Searches.{name_placed}
+use Rattle.nmgc_graph.specs.laws.Rows.{name_placed}
 use Rattle.nmgc_core.specs.Sound.{IsCore}
-use Rattle.nmgc_core.proofs.Listed.{contains_listed, not_listed, tested_same, is_same_name-refl}
+use Rattle.nmgc_core.specs.laws.Listed.{contains_listed, listed_from, tested_same, is_same_name-refl}
 
 is_listed-push : (name : Name) (xs : List Name) (x : Name) → is_listed name (xs ++ x ∷ []) ≡ (is_listed name xs || is_same_name x name)
 is_listed-push name [] x = by_test (is_same_name x name)
@@ -99,7 +104,7 @@ core_marked marks marks' s name marked queue c new e f =
       same = set_more marks name s.marked place c.same;
       owed = c.owed;
       pushed = c.pushed;
-      weakless = c.weakless;
+      alive = c.alive;
       snapshot = c.snapshot;
       world = c.world;
     })
@@ -109,15 +114,8 @@ pub set_marked : (marks : List (List Bool)) (s : State) (names : List Name) → 
 set_marked marks s names c l = record {
   ordered = l.ordered;
   sound = λ name h. contains_listed name s.marked (sym (c.same name) ∙ l.sound name h);
-  complete = λ name h. l.complete name (c.same name ∙ listed name h);
+  complete = λ name h. l.complete name (c.same name ∙ listed_from name s.marked h);
 }
-  where
-    listed : (name : Name) → Contains s.marked name → is_listed name s.marked ≡ true
-    listed name h = by_test (is_listed name s.marked) refl
-      where
-        by_test : (b : Bool) → is_listed name s.marked ≡ b → b ≡ true
-        by_test true e = refl
-        by_test false e = absurd (not_listed name s.marked e h)
 
 set_twice : {A : Type 0} (xs : List A) (i : ℕ) (x y : A) → set (set xs i x) i y ≡ set xs i y
 set_twice [] i x y = refl
@@ -164,9 +162,68 @@ names_listed (Err e) marks s c l = tt
 pub command_undone : (s : State) (world : World) (lists lists' : List (List Name)) (m : ℕ) (names : List Name) (count : ℕ) → m < length s.owed → world ≡ s.world → lists ≡ set s.owed m (names_of s.owed m ++ names) → count ≡ length (names_of s.owed m) → lists' ≡ set lists m (take count (names_of lists m)) → record s { world = world; owed = lists' } ≡ s
 command_undone s world lists lists' m names count lt e f g h = let back : lists' ≡ s.owed = h ∙ taken_back s.owed lists m names count lt f g in rw (e, back) refl
 
--- a command that was given
-pub command_done : (s : State) (m : ℕ) (c : Command) (r : Reply) (world : World) (lists : List (List Name)) (names : List Name) → IsStrong c → step s.world m c ≡ (world, r) → names ≡ owed_by s.world m c → lists ≡ set s.owed m (names_of s.owed m ++ names) → record s { world = world; owed = lists } ≡ after_command s m c
-command_done s m c r world lists names strong e f g = let w : world ≡ (step s.world m c).0 = ap (λ (p : World × Reply). p.0) (sym e) in rw (w, g, f) (sym (after_strong s m c strong))
+-- names that were added at the end are taken back
+pub front_taken : (old new last : List Name) (xs : List Name) (count : ℕ) → new ≡ old ++ xs → count ≡ length old → last ≡ take count new → last ≡ old
+front_taken old new last xs count e f g = rw (g, e, f) (take-append-le (length old) old xs (omega arith) ∙ take_all (length old) old (omega arith))
+
+-- a core with more that is finalised
+pub core_ended : (marks : List (List Bool)) (s : State) (ends : List Name) (now : List Name) → IsCore marks s → now ≡ s.finalised ++ ends → IsCore marks (record s { finalised = now })
+core_ended marks s ends now c e = rw e (record {
+  places = c.places;
+  same = c.same;
+  owed = c.owed;
+  pushed = c.pushed;
+  alive = λ running weak parts a not. c.alive running weak parts a (λ k. not (Contains-append_left s.finalised ends weak k));
+  snapshot = c.snapshot;
+  world = c.world;
+})
+
+-- and with what was finalised before
+pub core_back : (marks marks' : List (List Bool)) (s t : State) (now back : List Name) → IsCore marks s → IsCore marks' t → t ≡ record s { finalised = now } → back ≡ s.finalised → IsCore marks' (record t { finalised = back })
+core_back marks marks' s t now back k k' e f =
+    let R : State → Type 0 = λ u. IsCore marks' u → IsCore marks' (record u { finalised = back }) in
+    subst R (sym e) (λ c. rw f (record {
+      places = c.places;
+      same = c.same;
+      owed = c.owed;
+      pushed = c.pushed;
+      alive = k.alive;
+      snapshot = c.snapshot;
+      world = c.world;
+    })) k'
+
+-- a core whose world took a command, where what the command finalised is among what is finalised
+pub core_given : (marks : List (List Bool)) (s : State) (m : ℕ) (c : Command) (r : Reply) (world : World) (lists : List (List Name)) (names : List Name) → IsCore marks s → CanApply s.world m c → step s.world m c ≡ (world, r) → IsWorld world → ((weak : Name) → Contains (finalised_by s.world m c) weak → Contains s.finalised weak) → lists ≡ set s.owed m (names_of s.owed m ++ names) → IsCore marks (record s { world = world; owed = lists })
+core_given marks s m c r world lists names k can e is ended f =
+    let w : world ≡ (step s.world m c).0 = ap (λ (p : World × Reply). p.0) (sym e) in
+    let count : length world.mutators ≡ length s.world.mutators = rw w (step_grows s.world m c can.mutator).mutators in
+    record {
+      places = k.places;
+      same = k.same;
+      owed = rw f (length-set s.owed m (names_of s.owed m ++ names) ∙ k.owed ∙ sym count);
+      pushed = k.pushed ∙ sym count;
+      alive = λ running weak parts a not. still_alive weak parts w (k.alive running weak parts a not) not;
+      snapshot = k.snapshot;
+      world = is;
+    }
+  where
+    plain : (v : Value) → Names (λ n. Unit {0}) v
+    plain value.Nil = tt
+    plain (value.Number n) = tt
+    plain (value.Ref n) = tt
+
+    all_plain : (values : List Value) → All (Names (λ n. Unit {0})) values
+    all_plain values i d lt = plain (get_or values i d)
+
+    still_alive : (weak : Name) (parts : Parts) → world ≡ (step s.world m c).0 → IsAlive s.world weak parts → (Contains s.finalised weak → ⊥) → IsAlive world weak parts
+    still_alive weak parts w a not = elim (step_alive (λ n. Unit {0}) s.world m can.mutator (not_shared s.world m k.world can.mutator) tt (all_plain (state_of s.world m).registers) c weak parts a) [
+      | inl b ↦ subst (λ (v : World). IsAlive v weak parts) (sym w) b
+      | inr d ↦ absurd (not (ended weak d))
+    ]
+
+-- the state after a command that was given
+pub given_state : (s : State) (m : ℕ) (c : Command) (r : Reply) (world : World) (lists : List (List Name)) (names : List Name) → step s.world m c ≡ (world, r) → lists ≡ set s.owed m (names_of s.owed m ++ names) → record s { world = world; owed = lists } ≡ record s { world = (step s.world m c).0; owed = set s.owed m (names_of s.owed m ++ names) }
+given_state s m c r world lists names e f = let w : world ≡ (step s.world m c).0 = ap (λ (p : World × Reply). p.0) (sym e) in rw (w, f) refl
 
 -- one more value
 pub values_more : (s : State) (values : List Value) (v : Value) → mark_values s (values ++ v ∷ []) ≡ mark_value (mark_values s values) v

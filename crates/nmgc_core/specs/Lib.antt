@@ -1,8 +1,9 @@
 pub mod Closing
+pub mod Facts
+pub mod Finding
 pub mod Machine
-pub mod Owed
 pub mod Run
 pub mod Scan
 pub mod Sound
 pub mod State
-pub mod Weakless
+pub mod laws

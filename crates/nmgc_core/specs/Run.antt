@@ -7,7 +7,8 @@ use Rattle.nmgc_graph.specs.Reach.{IsLive, IsDead, IsKept, Lists, closed}
 use Rattle.nmgc_core.specs.declared.event.Event.{Event}
 use Rattle.nmgc_core.specs.declared.event.Event.TheVariants as event
 use Rattle.nmgc_core.specs.State.{State, opening}
-use Rattle.nmgc_core.specs.Machine.{Passes}
+use Rattle.nmgc_core.specs.Machine.{IsPossible, Passes}
+use Rattle.nmgc_core.specs.Facts.{Facts}
 use Rattle.nmgc_core.specs.Closing.{IsMarkedFirst, IsClosing}
 
 -- the row of an event that is a command
@@ -50,6 +51,31 @@ pub record IsExact (w : World) (rows : List Row) (s : State) : Type 0 where
 pub record IsSnapshotMarking (w : World) (rows : List Row) (s : State) : Type 0 where
   pub before : s.is_closed ≡ false → IsMarking w rows s
   pub after : s.is_closed ≡ true → IsExact w rows s
+
+-- the snapshot theorem, for every run from a closed world, by whomever its events were done
+abbrev pub SnapshotTheorem : Type 0
+SnapshotTheorem = (w : World) → IsWorld w → (events : List Event) (rows : List Row) (s : State) → Runs (opening w) events rows s → IsSnapshotMarking w rows s
+
+-- and until the closing, each state of such a run has the facts
+abbrev pub FactsAreKept : Type 0
+FactsAreKept = (w : World) → IsWorld w → (events : List Event) (rows : List Row) (s : State) → Runs (opening w) events rows s → s.is_closed ≡ false → Facts s
+
+-- the facts hold at the opening of every closed world
+abbrev pub OpeningHasFacts : Type 0
+OpeningHasFacts = (w : World) → IsWorld w → Facts (opening w)
+
+-- every event that happens and doesn't close keeps them, and keeps the world closed
+abbrev pub EventKeepsFacts : Type 0
+EventKeepsFacts = (s next : State) (e : Event) → Facts s → IsWorld s.world → Passes s e true next → next.is_closed ≡ false → Facts next × IsWorld next.world
+
+-- and where they hold, a closing is exact: what is marked first is what is live, what dies is what is dead, and what is marked in the end is what is kept
+pub record IsExactClosing (s next : State) (closing : IsClosing s next) : Type 0 where
+  pub live : (name : Name) → IsMarkedFirst s name ↔ IsLive s.snapshot s.opened name
+  pub dead : Lists (IsDead s.snapshot s.opened s.finalised) closing.dead
+  pub kept : (name : Name) → Contains next.marked name ↔ IsKept s.snapshot s.opened s.finalised name
+
+abbrev pub ClosingIsExact : Type 0
+ClosingIsExact = (s next : State) → Facts s → IsPossible s event.Close → (closing : IsClosing s next) → IsExactClosing s next closing
 
 -- a run from a world: its end is what the machine does, each event in turn, and the snapshot theorem holds there
 pub record IsRun (w : World) (events : List Event) (s : State) : Type 0 where

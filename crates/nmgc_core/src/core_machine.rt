@@ -14,14 +14,21 @@
 //! - For every strong field of the snapshot, its target is marked, owed or pushed, or the field stands as
 //!   it did and the object's scan is still to reach it. A field goes away only by a change of its object,
 //!   which owes the target; the scan passes it only by reading it, which marks the target.
+//! - A weak pointer of the snapshot that is alive and wasn't finalised has the parts that it had there.
 //! - What is marked is live, what is queued is marked, and the roots of the snapshot are marked.
+//! - Every name that was opened, and every weak pointer that was finalised with what it kept, is marked, owed
+//!   or pushed.
+//!
+//! Reading or finalising a weak pointer opens names, which makes more of the snapshot live. So it has to be
+//! known of a field whose object wasn't live until then what it may hold: each strong field in the world was
+//! there in the snapshot, or holds what may be held.
 //!
 //! Where nothing is queued, owed or pushed, only 'marked' is left of the third fact, so what is marked is
 //! closed under the strong fields of the snapshot, and has its roots: it has all that is live.
 //!
 //! Easy to get wrong: the third fact is about the snapshot's fields, so it is the old value that is owed.
 //! A barrier on the new value would leave a target lost whose field was overwritten before the scan.
-ghost use Rattle.std.specs.Prelude.{◌≡◌, ◌∷◌, [], false, slice_get, IfOk, OnOk, OnErr, IsTrue, ◌↔◌, Some, All, Contains, if◌then◌else◌};
+ghost use Rattle.std.specs.Prelude.{◌≡◌, ◌∷◌, ◌++◌, [], false, slice_get, slice_set, IfOk, OnOk, OnErr, IsTrue, IsSome, ◌↔◌, Some, Contains, if◌then◌else◌};
 ghost use Rattle.nmgc_graph.specs.declared.value.Name.{Name as NameAt};
 ghost use Rattle.nmgc_graph.specs.Step.{shared_name};
 ghost use Rattle.nmgc_graph.specs.Marks.{HasPlaces, mark_of};
@@ -29,9 +36,11 @@ ghost use Rattle.nmgc_core.specs.State.{is_listed};
 ghost use Rattle.nmgc_core.specs.Machine.{is_pushed_in, AreEmpty};
 
 use crate::answers::is_answer;
+use crate::closing::find;
 use crate::lists::{
     are_empty, count_at, drop_first_at, empty_lists, extend_at, first_at, truncate_at,
 };
+use crate::opened::{finalised_by, opened_by};
 use crate::owed::owed_by;
 use crate::roots::{SHARED, root_values};
 use crate::scan::{moved_on, read};
@@ -54,8 +63,8 @@ pub struct Core {
     queue: Queue<Entry>,
     owed: List<Queue<Name>>,
     pushed: List<Queue<Name>>,
-    opened: List<Name>,
-    finalised: List<Name>,
+    opened: Queue<Name>,
+    finalised: Queue<Name>,
     is_closed: bool,
 }
 
@@ -71,18 +80,18 @@ impl Model for Core {
 }
 
 impl Core {
-    ghost use Rattle.nmgc_graph.specs.World.{IsWorld};
+    ghost use Rattle.nmgc_graph.specs.World.{IsWorld, node_of};
     ghost use Rattle.nmgc_graph.specs.Reach.{Lists};
-    ghost use Rattle.nmgc_core.specs.State.{opening, mark_name, mark_value, mark_read, mark_values, is_new, unmarked};
+    ghost use Rattle.nmgc_graph.specs.Step.{CanApply, step};
+    ghost use Rattle.nmgc_graph.specs.History.{finalised_by};
+    ghost use Rattle.nmgc_core.specs.State.{names_of, opening, mark_name, mark_value, mark_read, mark_values, is_new, unmarked};
     ghost use Rattle.nmgc_core.specs.Run.{IsRun};
     ghost use Rattle.nmgc_core.specs.Machine.{Passes, advanced};
-    ghost use Rattle.nmgc_core.specs.Weakless.{HasNoWeak, IsStrong, IsStrongEvent};
     ghost use Rattle.nmgc_core.specs.declared.event.Event.TheVariants as event;
 
-    /// Marking begins: the world is the snapshot, and its roots are marked. The world has no weak
-    /// pointer. Takes time and memory for each object of the world, for the snapshot is a copy.
+    /// Marking begins: the world is the snapshot, and its roots are marked. Takes time and memory for
+    /// each object of the world, for the snapshot is a copy.
     pub fn new(world: World) -> Result<Self, NoMemory>
-        requires { HasNoWeak world }
         ensures opening { IfOk result (λ core. core ≡ opening world) }
         ensures closed { IfOk result (λ core. IsWorld core.world) }
     {
@@ -94,7 +103,6 @@ impl Core {
 
     // A world of which g alone is marked.
     fn unmarked(world: World) -> Result<Self, NoMemory>
-        requires { HasNoWeak world }
         ensures { IfOk result (λ core. core ≡ unmarked world) }
     {
         let alloc = world.alloc();
@@ -111,8 +119,8 @@ impl Core {
             queue: Queue::new(alloc),
             owed,
             pushed,
-            opened: List::new(alloc),
-            finalised: List::new(alloc),
+            opened: Queue::new(alloc),
+            finalised: Queue::new(alloc),
             is_closed: false,
         })
     }
@@ -187,10 +195,9 @@ impl Core {
         }
     }
 
-    // A command that is no command on weak pointers.
+    // A mutator gives a command.
     fn command(&mut self, mutator: u8, command: &Command, reply: Reply) -> Result<bool, NoMemory>
-        requires running { self.old.is_closed ≡ false }
-        requires strong { IsStrong command.now }
+        requires { self.old.is_closed ≡ false }
         ensures done { IfOk result (λ done. Passes self.old (event.Command mutator command.now reply) done self.new) }
         ensures err { OnErr result (self.new ≡ self.old) }
     {
@@ -201,13 +208,77 @@ impl Core {
             return Ok(false);
         }
         let names = owed_by(&self.world, mutator, command)?;
+        let opens = opened_by(&self.world, mutator, command)?;
+        let ends = finalised_by(&self.world, mutator, command)?;
+        self.open(
+            mutator,
+            command,
+            names.as_slice(),
+            opens.as_slice(),
+            ends.as_slice(),
+        )?;
+        Ok(true)
+    }
+
+    // The world takes a command, which owes, opens and finalises these names.
+    fn open(
+        &mut self,
+        mutator: u8,
+        command: &Command,
+        names: &[Name],
+        opens: &[Name],
+        ends: &[Name],
+    ) -> Result<(), NoMemory>
+        requires can { CanApply self.old.world mutator command.now }
+        requires ends { ends.now ≡ finalised_by self.old.world mutator command.now }
+        ensures ok { OnOk result (self.new ≡ (record self.old { world = (step self.old.world mutator command.now).0; owed = slice_set self.old.owed mutator (names_of self.old.owed mutator ++ names.now); opened = self.old.opened ++ opens.now; finalised = self.old.finalised ++ ends.now })) }
+        ensures err { OnErr result (self.new ≡ self.old) }
+    {
+        let before = self.opened.items().len();
+        self.opened.extend(opens)?;
+        if let Err(error) = self.finalise(mutator, command, names, ends) {
+            self.opened.truncate(before);
+            return Err(error);
+        }
+        Ok(())
+    }
+
+    // The same where it opens nothing.
+    fn finalise(
+        &mut self,
+        mutator: u8,
+        command: &Command,
+        names: &[Name],
+        ends: &[Name],
+    ) -> Result<(), NoMemory>
+        requires can { CanApply self.old.world mutator command.now }
+        requires ends { ends.now ≡ finalised_by self.old.world mutator command.now }
+        ensures ok { OnOk result (self.new ≡ (record self.old { world = (step self.old.world mutator command.now).0; owed = slice_set self.old.owed mutator (names_of self.old.owed mutator ++ names.now); finalised = self.old.finalised ++ ends.now })) }
+        ensures err { OnErr result (self.new ≡ self.old) }
+    {
+        let before = self.finalised.items().len();
+        self.finalised.extend(ends)?;
+        if let Err(error) = self.give(mutator, command, names) {
+            self.finalised.truncate(before);
+            return Err(error);
+        }
+        Ok(())
+    }
+
+    // The same where it finalises nothing either.
+    fn give(&mut self, mutator: u8, command: &Command, names: &[Name]) -> Result<(), NoMemory>
+        requires can { CanApply self.old.world mutator command.now }
+        requires ended { (weak : NameAt) → Contains (finalised_by self.old.world mutator command.now) weak → Contains self.old.finalised weak }
+        ensures ok { OnOk result (self.new ≡ (record self.old { world = (step self.old.world mutator command.now).0; owed = slice_set self.old.owed mutator (names_of self.old.owed mutator ++ names.now) })) }
+        ensures err { OnErr result (self.new ≡ self.old) }
+    {
         let before = count_at(self.owed.items(), mutator);
-        extend_at(&mut self.owed, mutator, names.as_slice())?;
+        extend_at(&mut self.owed, mutator, names)?;
         if let Err(error) = self.world.apply(mutator, command) {
             truncate_at(&mut self.owed, mutator, before);
             return Err(error);
         }
-        Ok(true)
+        Ok(())
     }
 
     // A mutator pushes the first name that it owes.
@@ -253,16 +324,24 @@ impl Core {
         Ok(true)
     }
 
-    // Marking ends.
-    fn close(&mut self) -> bool
+    // Marking ends: the marks are completed, and the world is closed with what dies.
+    fn close(&mut self) -> Result<bool, NoMemory>
         requires { self.old.is_closed ≡ false }
-        ensures { Passes self.old event.Close result self.new }
+        ensures done { IfOk result (λ done. Passes self.old event.Close done self.new) }
+        ensures err { OnErr result (self.new ≡ self.old) }
     {
         if !self.is_done() {
-            return false;
+            return Ok(false);
         }
+        let found = find(self)?;
+        let marked = found.marks.names(self.world.alloc())?;
+        let mut world = self.world.copy()?;
+        world.close(found.dead.items())?;
+        self.world = world;
+        self.marks = found.marks;
+        self.marked = marked;
         self.is_closed = true;
-        true
+        Ok(true)
     }
 
     // Whether nothing is queued, owed or pushed.
@@ -273,9 +352,10 @@ impl Core {
     }
 
     /// Does an event, if it can happen, and says whether it did. After `false` or `NoMemory` nothing
-    /// has changed. Takes constant time for each operand and each value that is read or owed.
+    /// has changed. Takes constant time for each operand and each value that is read or owed. The
+    /// closing takes time for each object of the world, and for a pass over the weak pointers for each
+    /// link of the longest chain in which one revives the key of the next.
     pub fn step(&mut self, event: &Event) -> Result<bool, NoMemory>
-        requires { IsStrongEvent event.now }
         ensures done { IfOk result (λ done. Passes self.old event.now done self.new) }
         ensures err { OnErr result (self.new ≡ self.old) }
         ensures closed { IsWorld self.new.world }
@@ -288,7 +368,6 @@ impl Core {
 
     // Does an event, if it can happen.
     fn happen(&mut self, event: &Event) -> Result<bool, NoMemory>
-        requires { IsStrongEvent event.now }
         ensures done { IfOk result (λ done. Passes self.old event.now done self.new) }
         ensures err { OnErr result (self.new ≡ self.old) }
     {
@@ -304,15 +383,13 @@ impl Core {
             Event::Push { mutator } => self.push(*mutator),
             Event::Scan => self.scan(),
             Event::Take { mutator } => self.take(*mutator),
-            Event::Close => Ok(self.close()),
+            Event::Close => self.close(),
         }
     }
 
-    /// Begins marking with a world that has no weak pointer, and does each of the events in turn,
-    /// leaving out those that can't happen.
+    /// Begins marking with a world, and does each of the events in turn, leaving out those that can't
+    /// happen.
     pub fn run(world: World, events: &[Event]) -> Result<Self, NoMemory>
-        requires weakless { HasNoWeak world }
-        requires strong { All IsStrongEvent events.now }
         ensures { IfOk result (IsRun world events.now) }
     {
         let mut core = Core::new(world)?;
@@ -341,6 +418,28 @@ impl Core {
         ensures { result ≡ self.now.is_closed }
     {
         self.is_closed
+    }
+
+    /// The names that were opened since the snapshot. Takes no memory, and constant time.
+    pub fn opened(&self) -> &[Name]
+        ensures { result.now ≡ self.now.opened }
+    {
+        self.opened.items()
+    }
+
+    /// The weak pointers that were finalised since the snapshot. Takes no memory, and constant time.
+    pub fn finalised(&self) -> &[Name]
+        ensures { result.now ≡ self.now.finalised }
+    {
+        self.finalised.items()
+    }
+
+    /// The marked names, until the closing in the order of marking. All are names of the snapshot.
+    pub(crate) fn names(&self) -> &[Name]
+        ensures names { result.now ≡ self.now.marked }
+        ensures there { (name : NameAt) → Contains self.now.marked name → IsSome (node_of self.now.snapshot name) }
+    {
+        self.marked.items()
     }
 
     /// The marked names in order. Takes time for each name of the snapshot.

@@ -7,26 +7,27 @@
 //! order, and one that can't happen changes nothing. Threads that do such events and no others do them in
 //! some order, so what holds here of every list of events holds of every run of theirs.
 //!
-//! The snapshot theorem, which is the contract of `Core::run`: until the end, all that is marked is live
-//! in the snapshot; at the end, exactly what is live there is marked, and then exactly what is kept. The
-//! world is at each moment the replay of the commands that happened, so marking disturbs no mutator.
-//! `specs/` has the definitions, none of which speaks of this code; `Facts` in `proofs/` is the induction.
-//!
-//! As it stands there is no weak pointer in the world and no command on one. The definitions have them.
+//! The snapshot theorem, which `laws` states of every run and `Core::run` of its own: until the end, all
+//! that is marked is live in the snapshot; at the end, exactly what is live there is marked, and then exactly
+//! what is kept. The world is at each moment the replay of the commands that happened, so marking disturbs no
+//! mutator. `specs/` has the definitions, none of which speaks of this code; `Facts` there is the induction.
 #![tactic(auto)]
 
 mod answers;
+mod closing;
 pub mod core_machine;
 pub mod event;
+pub mod laws;
 mod lists;
+mod opened;
 mod owed;
 mod roots;
 mod scan;
-mod weakless;
 
 pub use core_machine::Core;
 pub use event::{Entry, Event};
-pub use weakless::{are_strong, is_strong, is_weakless};
 
+#[cfg(test)]
+mod row_tests;
 #[cfg(test)]
 mod tests;

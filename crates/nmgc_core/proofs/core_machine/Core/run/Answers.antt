@@ -1,11 +1,20 @@
-use Rattle.nmgc_core.proofs.Runs.{run_begins, run_event}
+use Rattle.nmgc_graph.specs.World.{IsWorld}
+use Rattle.std.proofs.Common.{subst}
+use Rattle.nmgc_core.specs.State.{State}
+use Rattle.nmgc_core.specs.laws.Runs.{opening_world}
+use Rattle.nmgc_core.proofs.Running.{run_begins, run_event}
 use Rattle.nmgc_core.proofs.core_machine.Core.run.Goals as goal
 
 pub loop-event-init : goal.loop-event-init
-loop-event-init c = record { run = run_begins c.args.world c.in_ok-core.core c.requires.weakless c.in_ok-core.ensures.opening c.in_ok-core.ensures.closed; closed = c.in_ok-core.ensures.closed }
+loop-event-init c = record {
+  run = run_begins c.args.world c.in_ok-core.core c.in_ok-core.ensures.opening c.in_ok-core.ensures.closed;
+  start = subst IsWorld (opening_world c.args.world) (subst (λ (s : State). IsWorld s.world) c.in_ok-core.ensures.opening c.in_ok-core.ensures.closed);
+  closed = c.in_ok-core.ensures.closed;
+}
 
 pub loop-event-preserved : goal.loop-event-preserved
 loop-event-preserved c = record {
-  run = run_event c.args.world c.args.events.now c.loop-event.event-index c.event-item.result c.loop-event.core c.step.new.self c.in_ok-step.field-0 c.loop-event-test.true c.event-item.is c.requires.strong c.loop-event.invariant.run c.loop-event.invariant.closed c.in_ok-step.ensures.done;
+  run = run_event c.args.world c.args.events.now c.loop-event.event-index c.event-item.result c.loop-event.core c.step.new.self c.in_ok-step.field-0 c.loop-event.invariant.start c.loop-event-test.true c.event-item.is c.loop-event.invariant.run c.in_ok-step.ensures.done;
+  start = c.loop-event.invariant.start;
   closed = c.in_ok-step.ensures.closed;
 }

@@ -1,0 +1,94 @@
+-- The machine's own closing: what it found is what a closing does, and leaves a core.
+use Rattle.std.proofs.Common.{◌≡◌, ◌<◌, List, [], ◌∷◌, length, get_or, refl, sym, length-set, ◌∙◌, arith, Option, Some, None, Bool, true, false, cond, inl, inr}
+use Rattle.std.specs.Prelude.{All, Contains, IsSome, ◌==◌, ◌↔◌}
+use Rattle.std.proofs.lemmas.Bool.Decides.{eqb_tells}
+use Rattle.std.proofs.lemmas.List.Elements.{Contains-get_or}
+use Rattle.nmgc_graph.specs.declared.value.Name.{Name}
+use Rattle.nmgc_graph.specs.declared.value.TheConstants.{SHARED_MAKER}
+use Rattle.nmgc_graph.specs.declared.node.Node.{Node}
+use Rattle.nmgc_graph.specs.declared.node.Node.TheVariants.{Con, Var, Arr, Thunk, Weak, Stack}
+use Rattle.nmgc_graph.specs.World.{World, state_of, node_of, IsWorld}
+use Rattle.nmgc_graph.specs.Step.{with_state, with_node, with_nth}
+use Rattle.nmgc_graph.specs.Marks.{HasPlace, HasPlaces, IsMarked, mark_of}
+use Rattle.nmgc_graph.specs.Reach.{IsAliveWeak, Lists, queued, closed, closed_by}
+use Rattle.nmgc_graph.specs.laws.Rows.{marked_place}
+use Rattle.nmgc_graph.specs.laws.Worlds.{is_some_get}
+use Rattle.nmgc_core.specs.declared.closing.Closing.{Closing}
+use Rattle.nmgc_core.specs.State.{State, is_listed}
+use Rattle.nmgc_core.specs.Closing.{IsDying, IsMarkedLast, IsClosing}
+use Rattle.nmgc_core.specs.Sound.{IsCore, IsFound}
+use Rattle.nmgc_core.specs.laws.Listed.{contains_listed, listed_from}
+
+-- two tests that pass together are the same
+same_test : (a b : Bool) → (a ≡ true → b ≡ true) → (b ≡ true → a ≡ true) → a ≡ b
+same_test true b f g = sym (f refl)
+same_test false true f g = g refl
+same_test false false f g = refl
+
+-- closing leaves the number of mutators
+node_mutators : (w : World) (name : Name) (made : Node) → length (with_node w name made).mutators ≡ length w.mutators
+node_mutators w name made = by_test (name.maker == SHARED_MAKER)
+  where
+    by_test : (b : Bool) → length (cond b (record w { shared = made }) (with_state w name.maker (with_nth (state_of w name.maker) name.serial made))).mutators ≡ length w.mutators
+    by_test true = refl
+    by_test false = length-set w.mutators name.maker (with_nth (state_of w name.maker) name.serial made)
+
+one_mutators : (w : World) (weak : Name) (o : Option Node) → length (closed_by w weak o).mutators ≡ length w.mutators
+one_mutators w weak (Some (Weak (Some parts))) =
+    let after : World = with_node w weak (Weak None) in
+    length-set after.mutators weak.maker (queued (state_of after weak.maker) parts.finaliser) ∙ node_mutators w weak (Weak None)
+one_mutators w weak None = refl
+one_mutators w weak (Some (Weak None)) = refl
+one_mutators w weak (Some (Con tag values)) = refl
+one_mutators w weak (Some (Var v)) = refl
+one_mutators w weak (Some (Arr values)) = refl
+one_mutators w weak (Some (Thunk free result)) = refl
+one_mutators w weak (Some (Stack size values)) = refl
+
+closed_mutators : (w : World) (dead : List Name) → length (closed w dead).mutators ≡ length w.mutators
+closed_mutators w [] = refl
+closed_mutators w (weak ∷ dead) = closed_mutators (closed_by w weak (node_of w weak)) dead ∙ one_mutators w weak (node_of w weak)
+
+-- a name that has a place is in the map
+placed_there : (w : World) (marks : List (List Bool)) (name : Name) → HasPlaces w marks → HasPlace marks name → IsSome (node_of w name)
+placed_there w marks name h place = elim (eqb_tells name.maker SHARED_MAKER) [
+  | inl p ↦
+      let few : name.serial < 1 = rw p.0 at (rw (h.counts name.maker) at place) in
+      let zero_is : name.serial ≡ 0 = omega arith in
+      rw (p.0, zero_is) refl
+  | inr p ↦ rw p.0 (is_some_get (state_of w name.maker).nodes name.serial (rw p.0 at (rw (h.counts name.maker) at place)))
+]
+
+-- every marked name is one of the snapshot
+pub marked_there : (marks : List (List Bool)) (s : State) → IsCore marks s → (name : Name) → Contains s.marked name → IsSome (node_of s.snapshot name)
+marked_there marks s c name h = placed_there s.snapshot marks name c.places (marked_place marks name (c.same name ∙ listed_from name s.marked h))
+
+-- the weak pointers that die are alive
+pub dying_alive : (marks : List (List Bool)) (s : State) (dead : List Name) → IsCore marks s → s.is_closed ≡ false → Lists (IsDying s) dead → All (IsAliveWeak s.world) dead
+dying_alive marks s dead c running l = λ k d lt. let dies = l.sound (get_or dead k d) (Contains-get_or dead k d lt) in (dies.parts, c.alive running (get_or dead k d) dies.parts dies.waiting.alive dies.waiting.not_finalised)
+
+-- the names that are marked in the end, as a set and as a list
+last_listed : (s : State) (found : Closing) (marked : List Name) → IsFound s found → Lists (IsMarked found.marks) marked → (name : Name) → Contains marked name ↔ IsMarkedLast s name
+last_listed s found marked f l name = (λ c. (f.marked name).0 (l.sound name c), λ m. l.complete name ((f.marked name).1 m))
+
+pub closing_done : (s : State) (found : Closing) (marked : List Name) (world : World) → IsFound s found → Lists (IsMarked found.marks) marked → world ≡ closed s.world found.dead → IsClosing s (record s { world = world; marked = marked; is_closed = true })
+closing_done s found marked world f l e = record {
+  dead = found.dead;
+  lists = f.dead;
+  marked = last_listed s found marked f l;
+  rest = rw e refl;
+}
+
+-- the core after the closing
+pub core_closed : (marks : List (List Bool)) (s : State) (found : Closing) (marked : List Name) (world : World) → IsCore marks s → IsFound s found → Lists (IsMarked found.marks) marked → world ≡ closed s.world found.dead → IsWorld world → IsCore found.marks (record s { world = world; marked = marked; is_closed = true })
+core_closed marks s found marked world c f l e is =
+    let count : length world.mutators ≡ length s.world.mutators = rw e (closed_mutators s.world found.dead) in
+    record {
+      places = f.places;
+      same = λ name. same_test (mark_of found.marks name) (is_listed name marked) (λ m. listed_from name marked (l.complete name m)) (λ h. l.sound name (contains_listed name marked h));
+      owed = c.owed ∙ sym count;
+      pushed = c.pushed ∙ sym count;
+      alive = λ running. absurd cc;
+      snapshot = c.snapshot;
+      world = is;
+    }

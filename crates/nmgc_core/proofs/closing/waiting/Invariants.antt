@@ -1,0 +1,7 @@
+use Rattle.std.proofs.Common.{◌≡◌, take, not}
+use Rattle.std.specs.Prelude.{filter}
+use Rattle.nmgc_graph.specs.Marks.{mark_of}
+use Rattle.nmgc_core.proofs.closing.waiting.Given as goal
+
+abbrev pub invariant-loop-weak : goal.invariant-loop-weak
+invariant-loop-weak l = l.weaks ≡ filter (λ weak. not (mark_of l.ended-inside.rows weak)) (take l.weak-index l.weak-items)

@@ -1,0 +1,253 @@
+//! How marking ends: by the weak pointers of the snapshot.
+//!
+//! A weak pointer whose key is marked marks itself, its value and its finaliser. These may lead to the key of
+//! another one, also of one before it, so the closing passes over the weak pointers until a pass marks nothing
+//! new. The weak pointers whose keys are unmarked by then die. Their finalisers are still to be run, so these
+//! are marked last, with all that they lead to.
+//!
+//! Fields are followed in the world as it is. Easy to get wrong: only names of the snapshot are marked, a
+//! finaliser may lead to the key of a weak pointer that dies, which dies all the same, and a weak pointer that
+//! a mutator finalised neither keeps anything nor dies again.
+ghost use Rattle.std.specs.Prelude.{◌≡◌, IfOk, OnOk, ◌∷◌, [], All};
+ghost use Rattle.nmgc_graph.specs.Marks.{HasPlaces};
+ghost use Rattle.nmgc_graph.specs.Reach.{Lists, strong_fields};
+ghost use Rattle.nmgc_graph.specs.Search.{parts_of, is_shown, finaliser_in, finalisers_of};
+ghost use Rattle.nmgc_core.specs.Closing.{IsDying};
+ghost use Rattle.nmgc_core.specs.Sound.{IsFound};
+ghost use Rattle.nmgc_core.specs.Finding.{Adds, IsSearch, IsFollowed, IsWaitingWeak, IsReviving, IsPass, IsFirstFound, IsLastFound, values_kept, is_hidden};
+
+use crate::Core;
+use nmgc_graph::{List, Marks, Name, NoMemory, Node, Value, World};
+
+/// The names that are marked, and those of them whose fields are still to be followed.
+#[derive(Drop)]
+struct Finding {
+    marks: Marks,
+    work: List<Name>,
+}
+
+/// What a closing marks, and the weak pointers that die.
+#[derive(Drop)]
+pub(crate) struct Closing {
+    pub(crate) marks: Marks,
+    pub(crate) dead: List<Name>,
+}
+
+/// Finds what is marked in the end, and what dies.
+pub(crate) fn find(core: &Core) -> Result<Closing, NoMemory>
+    ensures { IfOk result (IsFound core.now) }
+{
+    let weaks = waiting(core)?;
+    let mut finding = begin(core)?;
+    finding.revive(core, weaks.items())?;
+    let dead = finding.lost(core, weaks.items())?;
+    finding.rescue(core, dead.items())?;
+    Ok(Closing {
+        marks: finding.marks,
+        dead,
+    })
+}
+
+// The search that begins with what is marked before the closing.
+fn begin(core: &Core) -> Result<Finding, NoMemory>
+    ensures { IfOk result (IsReviving core.now) }
+{
+    let marks = core.snapshot().set_of(core.names())?;
+    let work = List::new(core.snapshot().alloc());
+    Ok(Finding { marks, work })
+}
+
+// The weak pointers of the snapshot that were alive there and were not finalised since, in order.
+fn waiting(core: &Core) -> Result<List<Name>, NoMemory>
+    ensures { IfOk result (Lists (IsWaitingWeak core.now)) }
+{
+    let snapshot = core.snapshot();
+    let ended = snapshot.set_of(core.finalised())?;
+    let alive = snapshot.alive_weaks()?;
+    let mut weaks = List::new(snapshot.alloc());
+    for weak in alive.items() {
+        if !ended.contains(*weak) {
+            weaks.push(*weak)?;
+        }
+    }
+    Ok(weaks)
+}
+
+impl Finding {
+    // Marks a name of the snapshot, whose fields are then still to be followed, unless it was marked before.
+    fn mark(&mut self, snapshot: &World, name: Name) -> Result<(), NoMemory>
+        requires { HasPlaces snapshot.now self.old.marks }
+        ensures { OnOk result (Adds snapshot.now self.old self.new (Value.Ref name ∷ [])) }
+    {
+        if snapshot.node(name).is_none() || self.marks.contains(name) {
+            return Ok(());
+        }
+        self.marks.insert(name);
+        self.work.push(name)
+    }
+
+    // The same for what a value refers to.
+    fn mark_value(&mut self, snapshot: &World, value: Value) -> Result<(), NoMemory>
+        requires { HasPlaces snapshot.now self.old.marks }
+        ensures { OnOk result (Adds snapshot.now self.old self.new (value ∷ [])) }
+    {
+        match value {
+            Value::Ref(name) => self.mark(snapshot, name),
+            _ => Ok(()),
+        }
+    }
+
+    // The same for what values refer to.
+    fn mark_values(&mut self, snapshot: &World, values: &[Value]) -> Result<(), NoMemory>
+        requires { HasPlaces snapshot.now self.old.marks }
+        ensures { OnOk result (Adds snapshot.now self.old self.new values.now) }
+    {
+        for value in values {
+            self.mark_value(snapshot, *value)?;
+        }
+        Ok(())
+    }
+
+    // The same for what a node's strong fields refer to.
+    fn mark_fields(&mut self, snapshot: &World, node: &Node) -> Result<(), NoMemory>
+        requires { HasPlaces snapshot.now self.old.marks }
+        ensures { OnOk result (Adds snapshot.now self.old self.new (strong_fields node.now)) }
+    {
+        match node {
+            Node::Con { values, .. } | Node::Arr { values } | Node::Stack { values, .. } => {
+                self.mark_values(snapshot, values.items())
+            }
+            Node::Var { value } => self.mark_values(snapshot, &[*value]),
+            Node::Thunk {
+                result: Some(value),
+                ..
+            } => self.mark_values(snapshot, &[*value]),
+            Node::Thunk { free, result: None } => self.mark_values(snapshot, free.items()),
+            Node::Weak { .. } => self.mark_values(snapshot, &[]),
+        }
+    }
+
+    // Follows the fields that are still to be followed, until none is.
+    fn follow(&mut self, core: &Core) -> Result<(), NoMemory>
+        requires { IsSearch core.now self.old }
+        ensures followed { OnOk result (IsFollowed core.now self.old self.new) }
+        ensures empty { OnOk result (self.new.work ≡ []) }
+    {
+        let world = core.world();
+        let snapshot = core.snapshot();
+        while let Some(name) = self.work.pop() {
+            if let Some(node) = world.node(name) {
+                self.mark_fields(snapshot, node)?;
+            }
+        }
+        Ok(())
+    }
+
+    // Whether a value is nil, a number, or a reference to a marked name.
+    fn shows(&self, value: Value) -> bool
+        ensures { result ≡ is_shown self.now.marks value }
+    {
+        match value {
+            Value::Ref(name) => self.marks.contains(name),
+            _ => true,
+        }
+    }
+
+    // A weak pointer marks itself, its value and its finaliser, where its key is shown.
+    fn mark_weak(&mut self, snapshot: &World, weak: Name) -> Result<(), NoMemory>
+        requires { HasPlaces snapshot.now self.old.marks }
+        ensures { OnOk result (Adds snapshot.now self.old self.new (values_kept self.old.marks weak (parts_of snapshot.now weak))) }
+    {
+        match snapshot.parts(weak) {
+            Some(parts) if self.shows(parts.key) => self.mark_values(
+                snapshot,
+                &[Value::Ref(weak), parts.value, parts.finaliser],
+            ),
+            _ => self.mark_values(snapshot, &[]),
+        }
+    }
+
+    // Each of the weak pointers does that, one after the other.
+    fn mark_weaks(&mut self, core: &Core, weaks: &[Name]) -> Result<(), NoMemory>
+        requires reviving { IsReviving core.now self.old }
+        requires waiting { All (IsWaitingWeak core.now) weaks.now }
+        ensures { OnOk result (IsPass core.now weaks.now self.old self.new) }
+    {
+        for weak in weaks {
+            self.mark_weak(core.snapshot(), *weak)?;
+        }
+        Ok(())
+    }
+
+    // Passes over the weak pointers until a pass marks nothing new.
+    fn revive(&mut self, core: &Core, weaks: &[Name]) -> Result<(), NoMemory>
+        requires reviving { IsReviving core.now self.old }
+        requires waiting { Lists (IsWaitingWeak core.now) weaks.now }
+        ensures { OnOk result (IsFirstFound core.now self.new) }
+    {
+        self.mark_weaks(core, weaks)?;
+        while !self.work.items().is_empty() {
+            self.follow(core)?;
+            self.mark_weaks(core, weaks)?;
+        }
+        Ok(())
+    }
+
+    // The weak pointers whose key isn't shown, in order.
+    fn lost(&self, core: &Core, weaks: &[Name]) -> Result<List<Name>, NoMemory>
+        requires found { IsFirstFound core.now self.now }
+        requires waiting { Lists (IsWaitingWeak core.now) weaks.now }
+        ensures { IfOk result (Lists (IsDying core.now)) }
+    {
+        let snapshot = core.snapshot();
+        let mut names = List::new(snapshot.alloc());
+        for weak in weaks {
+            if self.is_hidden(snapshot, *weak) {
+                names.push(*weak)?;
+            }
+        }
+        Ok(names)
+    }
+
+    // Whether a weak pointer is alive and its key isn't shown.
+    fn is_hidden(&self, snapshot: &World, weak: Name) -> bool
+        ensures { result ≡ is_hidden self.now.marks (parts_of snapshot.now weak) }
+    {
+        match snapshot.parts(weak) {
+            Some(parts) => !self.shows(parts.key),
+            None => false,
+        }
+    }
+
+    // Marks the finalisers of the weak pointers that die, and what these lead to.
+    fn rescue(&mut self, core: &Core, dead: &[Name]) -> Result<(), NoMemory>
+        requires found { IsFirstFound core.now self.old }
+        requires dying { Lists (IsDying core.now) dead.now }
+        ensures { OnOk result (IsLastFound core.now self.new) }
+    {
+        self.mark_finalisers(core.snapshot(), dead)?;
+        self.follow(core)
+    }
+
+    // Marks the finalisers of weak pointers.
+    fn mark_finalisers(&mut self, snapshot: &World, weaks: &[Name]) -> Result<(), NoMemory>
+        requires { HasPlaces snapshot.now self.old.marks }
+        ensures { OnOk result (Adds snapshot.now self.old self.new (finalisers_of snapshot.now weaks.now)) }
+    {
+        for weak in weaks {
+            self.mark_finaliser(snapshot, *weak)?;
+        }
+        Ok(())
+    }
+
+    // Marks the finaliser of a weak pointer, where it is alive.
+    fn mark_finaliser(&mut self, snapshot: &World, weak: Name) -> Result<(), NoMemory>
+        requires { HasPlaces snapshot.now self.old.marks }
+        ensures { OnOk result (Adds snapshot.now self.old self.new (finaliser_in (parts_of snapshot.now weak))) }
+    {
+        match snapshot.parts(weak) {
+            Some(parts) => self.mark_values(snapshot, &[parts.finaliser]),
+            None => self.mark_values(snapshot, &[]),
+        }
+    }
+}
