@@ -1,19 +1,18 @@
 -- A heap line is read exactly from its words.
-use Rattle.std.proofs.Common.{◌≡◌, ◌≢◌, ◌≤◌, ◌<◌, ◌+◌, ◌^◌, ℕ, zero, suc, List, [], ◌∷◌, refl, sym, subst, ap, ◌∙◌, arith, inl, inr, true, codes, decimal, Result, Ok, Err, leb}
+use Rattle.std.proofs.Common.{◌≡◌, ◌≤◌, ◌<◌, ◌^◌, ℕ, List, [], ◌∷◌, refl, subst, ap, ◌∙◌, arith, inl, inr, codes, decimal, Ok, Err, leb}
+use Rattle.std.specs.Int.{is_power_of_two}
 use Rattle.std.specs.Str.{bytes_eq}
 use Rattle.std.proofs.lemmas.Slice.Eq.{bytes_eq-Decides}
 use Rattle.std.proofs.lemmas.Bool.{le-leb, leb-true}
-use Rattle.std.proofs.lemmas.Bool.Decides.{eqb_tells}
 use Rattle.nmgc_script.specs.declared.fault.Cause.{Cause}
 use Rattle.nmgc_script.specs.declared.fault.Cause.TheVariants as cause
 use Rattle.nmgc_script.specs.declared.script.Config.{Config}
-use Rattle.nmgc_script.specs.declared.script.TheConstants.{MAX_SEGMENTS, MAX_NURSERY, MAX_SLICE, MAX_QUOTA, MAX_TRIGGER}
-use Rattle.nmgc_script.specs.Limits.{IsSegmentSize, FitsConfig}
+use Rattle.nmgc_limits.specs.Limits.{IsSegmentSize, least_segment_words, most_nursery_words, most_quota, most_segment_words, most_segments, most_slice, most_trigger}
+use Rattle.nmgc_script.specs.Limits.{FitsConfig}
 use Rattle.nmgc_script.specs.Spelling.{heap_words}
-use Rattle.nmgc_script.specs.Reading.{number_at, between_at, is_power_from, is_segment_size, segment_size_at, sizes_at, pace_at, config_at, numbers_at, or_cause, heap_words_at}
+use Rattle.nmgc_script.specs.Reading.{number_at, between_at, segment_size_at, sizes_at, pace_at, config_at, numbers_at, or_cause, heap_words_at}
 use Rattle.nmgc_script.proofs.WordLaws.{Reads, bind_ok, guard_ok, chosen, ok_is, number_reads}
 use Rattle.nmgc_script.proofs.SectionLaws.{or_cause_ok}
-use Rattle.nmgc_script.proofs.Totals.{size_small}
 
 -- the number is within two limits
 abbrev pub IsBetween : ℕ → ℕ → ℕ → Type 0
@@ -33,66 +32,55 @@ between_reads low high small = record { takes = takes; again = again }
     again : (n : ℕ) → IsBetween low high n → between_at low high (decimal n) ≡ Ok n
     again n h = rw ((number_reads high small).again n h.1, le-leb low n h.0) refl
 
-power_takes : (m k n : ℕ) → 4 ≤ k → k + m ≤ 13 → is_power_from m k n ≡ true → IsSegmentSize n
-power_takes zero k n least most e = absurd cc
-power_takes (suc m) k n least most e = elim (eqb_tells n (2 ^ k)) [
-  | inl p ↦ (k, least, omega arith, p.1)
-  | inr p ↦ power_takes m (k + 1) n (omega arith) (omega arith) (rw p.0 at e)
-]
-
-power_again : (m k j n : ℕ) → n ≡ 2 ^ j → k ≤ j → j < k + m → is_power_from m k n ≡ true
-power_again zero k j n is least most = absurd (omega arith)
-power_again (suc m) k j n is least most = elim (eqb_tells n (2 ^ k)) [
-  | inl p ↦ rw p.0 refl
-  | inr p ↦ rw p.0 (power_again m (k + 1) j n is (let apart : k ≢ j = λ same. p.1 (is ∙ ap (λ i. 2 ^ i) (sym same)) in omega arith) (omega arith))
-]
-
 pub segment_size_reads : Reads segment_size_at decimal IsSegmentSize
 unfolding segment_size_at
 segment_size_reads = record { takes = takes; again = again }
   where
+    size_between : Reads (between_at least_segment_words most_segment_words) decimal (IsBetween least_segment_words most_segment_words)
+    size_between = between_reads least_segment_words most_segment_words (omega arith)
+
     takes : (x : List ℕ) (n : ℕ) → segment_size_at x ≡ Ok n → (x ≡ decimal n) × IsSegmentSize n
     takes x n e =
-        let b = bind_ok (number_at 4096 x) _ n e in
-        let g = guard_ok (is_segment_size b.0) cause.Operand b.0 n b.2 in
-        let t = (number_reads 4096 (omega arith)).takes x b.0 b.1 in
-        subst (λ (k : ℕ). (x ≡ decimal k) × IsSegmentSize k) g.1 (t.0, power_takes 9 4 b.0 (omega arith) (omega arith) g.0)
+        let b = bind_ok (between_at least_segment_words most_segment_words x) _ n e in
+        let g = guard_ok (is_power_of_two b.0) cause.Operand b.0 n b.2 in
+        let t = size_between.takes x b.0 b.1 in
+        subst (λ (k : ℕ). (x ≡ decimal k) × IsSegmentSize k) g.1 (t.0, record { power = g.0; least = t.1.0; most = t.1.1 })
 
     again : (n : ℕ) → IsSegmentSize n → segment_size_at (decimal n) ≡ Ok n
-    again n h = rw ((number_reads 4096 (omega arith)).again n (size_small n h), power_again 9 4 h.0 n h.3 h.1 (omega (arith, h.2))) refl
+    again n h = rw (size_between.again n (h.least, h.most), h.power) refl
 
 -- the limits of three sizes
 record FitSizes (n : ℕ × ℕ × ℕ) : Type 0 where
-  segments : IsBetween 1 MAX_SEGMENTS n.0
+  segments : IsBetween 1 most_segments n.0
   words : IsSegmentSize n.1
-  nursery : IsBetween n.1 MAX_NURSERY n.2
+  nursery : IsBetween n.1 most_nursery_words n.2
 
 sizes_takes : (x y z : List ℕ) (n : ℕ × ℕ × ℕ) → sizes_at x y z ≡ Ok n → ((x ≡ decimal n.0) × (y ≡ decimal n.1) × (z ≡ decimal n.2)) × FitSizes n
 unfolding sizes_at
 sizes_takes x y z n e =
-    let a = bind_ok (between_at 1 MAX_SEGMENTS x) _ n e in
+    let a = bind_ok (between_at 1 most_segments x) _ n e in
     let b = bind_ok (segment_size_at y) _ n a.2 in
-    let c = bind_ok (between_at b.0 MAX_NURSERY z) _ n b.2 in
-    let aw = (between_reads 1 MAX_SEGMENTS (omega arith)).takes x a.0 a.1 in
+    let c = bind_ok (between_at b.0 most_nursery_words z) _ n b.2 in
+    let aw = (between_reads 1 most_segments (omega arith)).takes x a.0 a.1 in
     let bw = segment_size_reads.takes y b.0 b.1 in
-    let cw = (between_reads b.0 MAX_NURSERY (omega arith)).takes z c.0 c.1 in
+    let cw = (between_reads b.0 most_nursery_words (omega arith)).takes z c.0 c.1 in
     subst (λ (m : ℕ × ℕ × ℕ). ((x ≡ decimal m.0) × (y ≡ decimal m.1) × (z ≡ decimal m.2)) × FitSizes m) (ok_is {E = Cause} (a.0, b.0, c.0) n c.2) ((aw.0, bw.0, cw.0), record { segments = aw.1; words = bw.1; nursery = cw.1 })
 
 -- the limits of three numbers of pace
 record FitPace (n : ℕ × ℕ × ℕ) : Type 0 where
-  slice : IsBetween 1 MAX_SLICE n.0
-  quota : IsBetween 1 MAX_QUOTA n.1
-  trigger : n.2 ≤ MAX_TRIGGER
+  slice : IsBetween 1 most_slice n.0
+  quota : IsBetween 1 most_quota n.1
+  trigger : n.2 ≤ most_trigger
 
 pace_takes : (x y z : List ℕ) (n : ℕ × ℕ × ℕ) → pace_at x y z ≡ Ok n → ((x ≡ decimal n.0) × (y ≡ decimal n.1) × (z ≡ decimal n.2)) × FitPace n
 unfolding pace_at
 pace_takes x y z n e =
-    let a = bind_ok (between_at 1 MAX_SLICE x) _ n e in
-    let b = bind_ok (between_at 1 MAX_QUOTA y) _ n a.2 in
-    let c = bind_ok (number_at MAX_TRIGGER z) _ n b.2 in
-    let aw = (between_reads 1 MAX_SLICE (omega arith)).takes x a.0 a.1 in
-    let bw = (between_reads 1 MAX_QUOTA (omega arith)).takes y b.0 b.1 in
-    let cw = (number_reads MAX_TRIGGER (omega arith)).takes z c.0 c.1 in
+    let a = bind_ok (between_at 1 most_slice x) _ n e in
+    let b = bind_ok (between_at 1 most_quota y) _ n a.2 in
+    let c = bind_ok (number_at most_trigger z) _ n b.2 in
+    let aw = (between_reads 1 most_slice (omega arith)).takes x a.0 a.1 in
+    let bw = (between_reads 1 most_quota (omega arith)).takes y b.0 b.1 in
+    let cw = (number_reads most_trigger (omega arith)).takes z c.0 c.1 in
     subst (λ (m : ℕ × ℕ × ℕ). ((x ≡ decimal m.0) × (y ≡ decimal m.1) × (z ≡ decimal m.2)) × FitPace m) (ok_is {E = Cause} (a.0, b.0, c.0) n c.2) ((aw.0, bw.0, cw.0), record { slice = aw.1; quota = bw.1; trigger = cw.1 })
 
 abbrev pub Settings : List (List ℕ) → Config → Type 0
@@ -144,10 +132,10 @@ pub heap_again : (c : Config) → FitsConfig c → heap_words_at (heap_words c) 
 unfolding heap_words_at numbers_at config_at sizes_at pace_at
 heap_again c h =
     rw (
-      (between_reads 1 MAX_SEGMENTS (omega arith)).again c.segments (h.some_segments, h.segments),
+      (between_reads 1 most_segments (omega arith)).again c.segments (h.some_segments, h.segments),
       segment_size_reads.again c.words h.words,
-      (between_reads c.words MAX_NURSERY (omega arith)).again c.nursery (h.some_nursery, h.nursery),
-      (between_reads 1 MAX_SLICE (omega arith)).again c.slice (h.some_slice, h.slice),
-      (between_reads 1 MAX_QUOTA (omega arith)).again c.quota (h.some_quota, h.quota),
-      (number_reads MAX_TRIGGER (omega arith)).again c.trigger h.trigger,
+      (between_reads c.words most_nursery_words (omega arith)).again c.nursery (h.some_nursery, h.nursery),
+      (between_reads 1 most_slice (omega arith)).again c.slice (h.some_slice, h.slice),
+      (between_reads 1 most_quota (omega arith)).again c.quota (h.some_quota, h.quota),
+      (number_reads most_trigger (omega arith)).again c.trigger h.trigger,
     ) refl

@@ -9,6 +9,7 @@ use Rattle.nmgc_script.specs.declared.fault.LineFault.TheVariants as fault
 use Rattle.nmgc_script.specs.declared.fault.ScriptFault.{ScriptFault}
 use Rattle.nmgc_script.specs.declared.fault.ScriptFault.TheVariants as script_fault
 use Rattle.nmgc_script.specs.declared.script.Config.{Config}
+use Rattle.nmgc_script.specs.declared.version.Version.{Version}
 use Rattle.nmgc_script.specs.declared.sections.Entry.{Entry}
 use Rattle.nmgc_script.specs.declared.sections.Entry.TheVariants as entry
 use Rattle.nmgc_script.specs.Text.{words_of}
@@ -29,9 +30,9 @@ fails_at_bind r f (script_fault.Bad l c) h = rw h refl
 abbrev pub with_before : List (List Command) → List Command → Result (List Command × List (List Command)) (ℕ × Cause) → Result (List (List Command)) (ℕ × Cause)
 with_before threads program read = read >>= λ p. Ok (threads ++ (program ++ p.0) ∷ p.1)
 
-pub starts : (h : Config) (lines : List (ℕ × List ℕ)) → with_before [] [] (rest_at h 1 lines) ≡ programs_at h lines
+pub starts : (v : Version) (h : Config) (lines : List (ℕ × List ℕ)) → with_before [] [] (rest_at v h 1 lines) ≡ programs_at v h lines
 unfolding programs_at
-starts h lines = refl
+starts v h lines = refl
 
 regroup_section : (threads : List (List Command)) (program : List Command) (read : Result (List Command × List (List Command)) (ℕ × Cause)) → with_before threads program (read >>= λ others. Ok (with_entry entry.Section others)) ≡ with_before (threads ++ program ∷ []) [] read
 regroup_section threads program (Ok p) = ap Ok (rw (append-nil program, append_assoc) refl)
@@ -41,23 +42,23 @@ regroup_order : (c : Command) (threads : List (List Command)) (program : List Co
 regroup_order c threads program (Ok p) = ap Ok (rw append_assoc refl)
 regroup_order c threads program (Err e) = refl
 
-module _ (h : Config) (n : ℕ) (threads : List (List Command)) (program : List Command) (before : List (ℕ × List ℕ)) (line : ℕ × List ℕ) (lines : List (ℕ × List ℕ)) (total : Result (List (List Command)) (ℕ × Cause)) (split : before ≡ line ∷ lines) (so_far : with_before threads program (rest_at h n before) ≡ total) where
-  pub begins : at_line line.0 (entry_at h n (words_of line.1)) ≡ Ok entry.Section → with_before (threads ++ program ∷ []) [] (rest_at h (n + 1) lines) ≡ total
+module _ (v : Version) (h : Config) (n : ℕ) (threads : List (List Command)) (program : List Command) (before : List (ℕ × List ℕ)) (line : ℕ × List ℕ) (lines : List (ℕ × List ℕ)) (total : Result (List (List Command)) (ℕ × Cause)) (split : before ≡ line ∷ lines) (so_far : with_before threads program (rest_at v h n before) ≡ total) where
+  pub begins : at_line line.0 (entry_at v h n (words_of line.1)) ≡ Ok entry.Section → with_before (threads ++ program ∷ []) [] (rest_at v h (n + 1) lines) ≡ total
   unfolding rest_at
-  begins e = sym (regroup_section threads program (rest_at h (n + 1) lines)) ∙ (rw (split, e) at so_far)
+  begins e = sym (regroup_section threads program (rest_at v h (n + 1) lines)) ∙ (rw (split, e) at so_far)
 
-  pub goes_on : (c : Command) → at_line line.0 (entry_at h n (words_of line.1)) ≡ Ok (entry.Order c) → with_before threads (program ++ c ∷ []) (rest_at h n lines) ≡ total
+  pub goes_on : (c : Command) → at_line line.0 (entry_at v h n (words_of line.1)) ≡ Ok (entry.Order c) → with_before threads (program ++ c ∷ []) (rest_at v h n lines) ≡ total
   unfolding rest_at
-  goes_on c e = sym (regroup_order c threads program (rest_at h n lines)) ∙ (rw (split, e) at so_far)
+  goes_on c e = sym (regroup_order c threads program (rest_at v h n lines)) ∙ (rw (split, e) at so_far)
 
-  pub fails : (e : ScriptFault) → FailsAt e (at_line line.0 (entry_at h n (words_of line.1))) → FailsAt e total
+  pub fails : (e : ScriptFault) → FailsAt e (at_line line.0 (entry_at v h n (words_of line.1))) → FailsAt e total
   unfolding rest_at
   fails script_fault.NoMemory f = tt
   fails (script_fault.Bad l c) f = sym (rw (split, f) at so_far)
 
-pub is_done : (h : Config) (n : ℕ) (threads : List (List Command)) (program : List Command) (before : List (ℕ × List ℕ)) (total : Result (List (List Command)) (ℕ × Cause)) → before ≡ [] → with_before threads program (rest_at h n before) ≡ total → total ≡ Ok (threads ++ program ∷ [])
+pub is_done : (v : Version) (h : Config) (n : ℕ) (threads : List (List Command)) (program : List Command) (before : List (ℕ × List ℕ)) (total : Result (List (List Command)) (ℕ × Cause)) → before ≡ [] → with_before threads program (rest_at v h n before) ≡ total → total ≡ Ok (threads ++ program ∷ [])
 unfolding rest_at
-is_done h n threads program before total none so_far = sym (rw (none, append-nil) at so_far)
+is_done v h n threads program before total none so_far = sym (rw (none, append-nil) at so_far)
 
 -- what is read of a line's words, with the line's number
 pub line_read : {X : Type 0} (reads : List (List ℕ) → Result X Cause) (number : ℕ) (line : List ℕ) (words : List (List ℕ)) (given : Result X LineFault) (out : Result X ScriptFault) → words ≡ words_of line → Gives given (reads words) → out ≡ placed number given → GivesAt (λ x. x) out (at_line number (reads (words_of line)))
@@ -80,15 +81,15 @@ pub within : (n number limit : ℕ) (given : Result Entry LineFault) (out : Resu
 within n number limit given out is ok h = (rw (placed_ok number given entry.Section (sym is ∙ ok)) at h) refl
 
 -- no section line is there
-pub no_section : (end number : ℕ) (h : Config) (before : List (ℕ × List ℕ)) → before ≡ [] → number ≡ end → threads_at end h before ≡ Err (number, cause.Thread)
+pub no_section : (end number : ℕ) (v : Version) (h : Config) (before : List (ℕ × List ℕ)) → before ≡ [] → number ≡ end → threads_at v end h before ≡ Err (number, cause.Thread)
 unfolding threads_at
-no_section end number h before none is = rw (none, is) refl
+no_section end number v h before none is = rw (none, is) refl
 
-module _ (end : ℕ) (h : Config) (before : List (ℕ × List ℕ)) (line : ℕ × List ℕ) (lines : List (ℕ × List ℕ)) (split : before ≡ line ∷ lines) where
-  pub first_fails : (e : ScriptFault) → FailsAt e (at_line line.0 (section_at h 0 (words_of line.1))) → FailsAt e (threads_at end h before)
+module _ (end : ℕ) (v : Version) (h : Config) (before : List (ℕ × List ℕ)) (line : ℕ × List ℕ) (lines : List (ℕ × List ℕ)) (split : before ≡ line ∷ lines) where
+  pub first_fails : (e : ScriptFault) → FailsAt e (at_line line.0 (section_at v h 0 (words_of line.1))) → FailsAt e (threads_at v end h before)
   unfolding threads_at
-  first_fails e f = rw split (fails_at_bind (at_line line.0 (section_at h 0 (words_of line.1))) _ e f)
+  first_fails e f = rw split (fails_at_bind (at_line line.0 (section_at v h 0 (words_of line.1))) _ e f)
 
-  pub first_begins : (x : Entry) (out : Result (List (List Command)) ScriptFault) → at_line line.0 (section_at h 0 (words_of line.1)) ≡ Ok x → GivesAt (λ t. t) out (programs_at h lines) → GivesAt (λ t. t) out (threads_at end h before)
+  pub first_begins : (x : Entry) (out : Result (List (List Command)) ScriptFault) → at_line line.0 (section_at v h 0 (words_of line.1)) ≡ Ok x → GivesAt (λ t. t) out (programs_at v h lines) → GivesAt (λ t. t) out (threads_at v end h before)
   unfolding threads_at
   first_begins x out e g = rw (split, e) g

@@ -1,3 +1,4 @@
+pub mod ArityLaws
 pub mod CauseLaws
 pub mod CommandLaws
 pub mod ConfigLaws
@@ -10,5 +11,7 @@ pub mod OneFault
 pub mod PrintLaws
 pub mod ScriptLaws
 pub mod SectionLaws
+pub mod ShapeLaws
 pub mod Totals
+pub mod VerbLaws
 pub mod WordLaws

@@ -14,7 +14,6 @@ use Rattle.nmgc_script.specs.declared.script.Config.{Config}
 use Rattle.nmgc_script.specs.Limits.{FitsConfig}
 use Rattle.nmgc_script.specs.Text.{words_of, onto_first}
 use Rattle.nmgc_script.specs.Spelling.{spaced, operand_word, register_word, command_words, heap_words, section_words}
-use Rattle.nmgc_script.proofs.Totals.{size_small}
 
 onto_first_spaced : (b : ℕ) (words : List (List ℕ)) → spaced (onto_first b words) ≡ b ∷ spaced words
 onto_first_spaced b [] = refl
@@ -130,7 +129,7 @@ command_line_words size Collect h = (tested (codes "collect") refl, tt)
 command_line_words size Full h = (tested (codes "full") refl, tt)
 
 pub heap_line_words : (c : Config) → FitsConfig c → MakeLine (heap_words c)
-heap_line_words c h = (tested (codes "heap") refl, (decimal_bare c.segments (omega (arith, h.segments)), (decimal_bare c.words (omega (arith, size_small c.words h.words)), (decimal_bare c.nursery (omega (arith, h.nursery)), (decimal_bare c.slice (omega (arith, h.slice)), (decimal_bare c.quota (omega (arith, h.quota)), (decimal_bare c.trigger (omega (arith, h.trigger)), tt)))))))
+heap_line_words c h = (tested (codes "heap") refl, (decimal_bare c.segments (omega (arith, h.segments)), (decimal_bare c.words (omega (arith, h.words.most)), (decimal_bare c.nursery (omega (arith, h.nursery)), (decimal_bare c.slice (omega (arith, h.slice)), (decimal_bare c.quota (omega (arith, h.quota)), (decimal_bare c.trigger (omega (arith, h.trigger)), tt)))))))
 
 pub section_line_words : (n : ℕ) → n < 2 ^ 64 → MakeLine (section_words n)
 section_line_words n h = (tested (codes "thread") refl, (decimal_bare n h, tt))

@@ -8,7 +8,8 @@ use Rattle.nmgc_script.specs.declared.fault.Cause.{Cause}
 use Rattle.nmgc_script.specs.declared.fault.Cause.TheVariants as cause
 use Rattle.nmgc_script.specs.declared.script.Config.{Config}
 use Rattle.nmgc_script.specs.declared.script.Script.{Script}
-use Rattle.nmgc_script.specs.Limits.{FitsConfig}
+use Rattle.nmgc_script.specs.declared.version.Version.{Version}
+use Rattle.nmgc_script.specs.Limits.{FitsConfig, version_1}
 use Rattle.nmgc_script.specs.Spelling.{spaced, heap_words, Spells}
 use Rattle.nmgc_script.specs.Text.{words_of, kept_lines, end_of}
 use Rattle.nmgc_script.specs.Faults.{order_of, IsFirstFault, begun_with, TellsRest, TellsHeap, Tells}
@@ -89,34 +90,34 @@ one_fault end (line ∷ lines) a c b d (inr p) (inr q) = one_heap end lines a c 
 
 -- NEVER BOTH
 
-rest_good : (h : Config) (n end : ℕ) (lines : List (ℕ × List ℕ)) (p : List Command × List (List Command)) (a : ℕ) (c : Cause) → n ≢ 0 → rest_at h n lines ≡ Ok p → TellsRest h n end lines a c → ⊥
+rest_good : (h : Config) (n end : ℕ) (lines : List (ℕ × List ℕ)) (p : List Command × List (List Command)) (a : ℕ) (c : Cause) → n ≢ 0 → rest_at version_1 h n lines ≡ Ok p → TellsRest h n end lines a c → ⊥
 unfolding rest_at
 rest_good h n end [] p a c some good t = some t.0
 rest_good h n end (line ∷ lines) p a c some good t =
     let words = words_of line.1 in
-    let b = bind_ok (at_line line.0 (entry_at h n words)) _ p good in
-    let o = bind_ok (rest_at h (begun_after b.0 n) lines) _ p b.2 in
-    let g = entry_good h n words b.0 some (at_line_ok line.0 (entry_at h n words) b.0 b.1) in
+    let b = bind_ok (at_line line.0 (entry_at version_1 h n words)) _ p good in
+    let o = bind_ok (rest_at version_1 h (begun_after b.0 n) lines) _ p b.2 in
+    let g = entry_good h n words b.0 some (at_line_ok line.0 (entry_at version_1 h n words) b.0 b.1) in
     elim t [
       | inl q ↦ g.0 c q.1.here
       | inr q ↦ rest_good h (begun_after b.0 n) end lines o.0 a c (some_after b.0 n some) o.1 (subst (λ (k : ℕ). TellsRest h k end lines a c) g.1 q.1)
     ]
 
-threads_good : (h : Config) (end : ℕ) (lines : List (ℕ × List ℕ)) (threads : List (List Command)) (a : ℕ) (c : Cause) → threads_at end h lines ≡ Ok threads → TellsRest h 0 end lines a c → ⊥
+threads_good : (h : Config) (end : ℕ) (lines : List (ℕ × List ℕ)) (threads : List (List Command)) (a : ℕ) (c : Cause) → threads_at version_1 end h lines ≡ Ok threads → TellsRest h 0 end lines a c → ⊥
 unfolding threads_at programs_at
 threads_good h end [] threads a c good t = absurd cc
 threads_good h end (line ∷ lines) threads a c good t =
     let words = words_of line.1 in
-    let b = bind_ok (at_line line.0 (section_at h 0 words)) _ threads good in
-    let o = bind_ok (rest_at h 1 lines) _ threads b.2 in
-    let g = section_takes h 0 words b.0 (at_line_ok line.0 (section_at h 0 words) b.0 b.1) in
+    let b = bind_ok (at_line line.0 (section_at version_1 h 0 words)) _ threads good in
+    let o = bind_ok (rest_at version_1 h 1 lines) _ threads b.2 in
+    let g = section_takes h 0 words b.0 (at_line_ok line.0 (section_at version_1 h 0 words) b.0 b.1) in
     let begun : begun_with 0 words ≡ 1 = ap (begun_with 0) g.0.0 in
     elim t [
       | inl q ↦ section_faultless h 0 words (inr refl) g.0 c q.1.here
       | inr q ↦ rest_good h 1 end lines o.0 a c (λ e. omega arith) o.1 (subst (λ (k : ℕ). TellsRest h k end lines a c) begun q.1)
     ]
 
-heap_good : (end : ℕ) (lines : List (ℕ × List ℕ)) (h : Config × List (ℕ × List ℕ)) (threads : List (List Command)) (a : ℕ) (c : Cause) → heap_at end lines ≡ Ok h → threads_at end h.0 h.1 ≡ Ok threads → TellsHeap end lines a c → ⊥
+heap_good : (end : ℕ) (lines : List (ℕ × List ℕ)) (h : Config × List (ℕ × List ℕ)) (threads : List (List Command)) (a : ℕ) (c : Cause) → heap_at end lines ≡ Ok h → threads_at version_1 end h.0 h.1 ≡ Ok threads → TellsHeap end lines a c → ⊥
 unfolding heap_at
 heap_good end [] h threads a c good more t = absurd cc
 heap_good end (line ∷ lines) h threads a c good more t =
@@ -124,20 +125,20 @@ heap_good end (line ∷ lines) h threads a c good more t =
     let g = heap_takes (words_of line.1) b.0 (at_line_ok line.0 (heap_words_at (words_of line.1)) b.0 b.1) in
     let is : line.1 ≡ spaced (heap_words b.0) = sym (spaced-words_of line.1) ∙ ap spaced g.0 in
     let parts : (b.0, lines) ≡ h = ok_is {E = ℕ × Cause} (b.0, lines) h b.2 in
-    let later : threads_at end b.0 lines ≡ Ok threads = rw (← parts) at more in
+    let later : threads_at version_1 end b.0 lines ≡ Ok threads = rw (← parts) at more in
     elim t [
       | inl q ↦ q.2 b.0 g.1 is
       | inr q ↦ threads_good b.0 end lines threads a c later (subst (λ (k : Config). TellsRest k 0 end lines a c) (one_config line.1 q.0 b.0 q.1 g.1 q.2 is) q.3)
     ]
 
-version_good : (end : ℕ) (lines body : List (ℕ × List ℕ)) (h : Config × List (ℕ × List ℕ)) (threads : List (List Command)) (a : ℕ) (c : Cause) → version_at end lines ≡ Ok body → heap_at end body ≡ Ok h → threads_at end h.0 h.1 ≡ Ok threads → Tells end lines a c → ⊥
+version_good : (end : ℕ) (lines : List (ℕ × List ℕ)) (p : Version × List (ℕ × List ℕ)) (h : Config × List (ℕ × List ℕ)) (threads : List (List Command)) (a : ℕ) (c : Cause) → version_at end lines ≡ Ok p → heap_at end p.1 ≡ Ok h → threads_at p.0 end h.0 h.1 ≡ Ok threads → Tells end lines a c → ⊥
 unfolding version_at
-version_good end [] body h threads a c good heap more t = absurd cc
-version_good end (line ∷ lines) body h threads a c good heap more t =
-    let g = guard_ok (bytes_eq line.1 (codes "nmgc 1")) (line.0, cause.Version) lines body good in
+version_good end [] p h threads a c good heap more t = absurd cc
+version_good end (line ∷ lines) p h threads a c good heap more t =
+    let g = guard_ok (bytes_eq line.1 (codes "nmgc 1")) (line.0, cause.Version) (version_1, lines) p good in
     elim t [
       | inl q ↦ q.2 ((bytes_eq-Decides line.1 (codes "nmgc 1")).0 g.0)
-      | inr q ↦ heap_good end lines h threads a c (rw (← g.1) at heap) more q.1
+      | inr q ↦ heap_good end lines h threads a c (rw (← g.1) at heap) (rw (← g.1) at more) q.1
     ]
 
 -- lines that are read as a script have no fault to tell
@@ -145,8 +146,8 @@ pub none_told : (end : ℕ) (lines : List (ℕ × List ℕ)) (s : Script) (a : �
 unfolding script_at
 none_told end lines s a c good t =
     let b = bind_ok (version_at end lines) _ s good in
-    let h = bind_ok (heap_at end b.0) _ s b.2 in
-    let p = bind_ok (threads_at end h.0.0 h.0.1) _ s h.2 in
+    let h = bind_ok (heap_at end b.0.1) _ s b.2 in
+    let p = bind_ok (threads_at b.0.0 end h.0.0 h.0.1) _ s h.2 in
     version_good end lines b.0 h.0 p.0 a c b.1 h.1 p.1 t
 
 -- bytes that spell a script have no fault to tell

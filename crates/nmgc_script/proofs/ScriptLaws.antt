@@ -7,7 +7,7 @@ use Rattle.std.proofs.lemmas.List.{length-map, length-append}
 use Rattle.std.proofs.lemmas.List.Sums.{sum_by-cons}
 use Rattle.std.proofs.lemmas.List.Elements.{All-from_recursion, recursion_from_All}
 use Rattle.std.proofs.lemmas.Slice.Eq.{bytes_eq-Decides}
-use Rattle.nmgc_graph.specs.declared.value.TheConstants.{MAKERS}
+use Rattle.nmgc_limits.specs.Limits.{most_heap_words}
 use Rattle.nmgc_graph.specs.declared.command.Command.{Command}
 use Rattle.nmgc_graph.specs.Command.{Fits}
 use Rattle.nmgc_script.specs.declared.fault.Cause.{Cause}
@@ -15,9 +15,9 @@ use Rattle.nmgc_script.specs.declared.fault.Cause.TheVariants as cause
 use Rattle.nmgc_script.specs.declared.fault.ScriptFault.{ScriptFault}
 use Rattle.nmgc_script.specs.declared.script.Config.{Config}
 use Rattle.nmgc_script.specs.declared.script.Script.{Script}
-use Rattle.nmgc_script.specs.declared.script.TheConstants.{MAX_TOTAL}
+use Rattle.nmgc_script.specs.declared.version.Version.{Version}
 use Rattle.nmgc_script.specs.declared.sections.Entry.TheVariants as entry
-use Rattle.nmgc_script.specs.Limits.{FitsConfig, FitsScript, total_words}
+use Rattle.nmgc_script.specs.Limits.{FitsConfig, FitsScript, total_words, version_1}
 use Rattle.nmgc_script.specs.Text.{lines_of, words_of, kept_from, kept_lines, end_of, onto_first, is_passed}
 use Rattle.nmgc_script.specs.Spelling.{spaced, heap_words, section_words, command_words, program_lines, section_lines, script_lines, Spells}
 use Rattle.nmgc_script.specs.Reading.{heap_words_at, section_at, rest_at, programs_at, threads_at, version_at, heap_at, script_at, at_line, GivesAt}
@@ -35,13 +35,13 @@ all_to : {X : Type 0} (P : X → Type 0) (xss : List (List X)) → AllByRecursio
 all_to P [] h = tt
 all_to P (xs ∷ xss) h = (recursion_from_All P xs h.0, all_to P xss h.1)
 
-version_takes : (end : ℕ) (lines rest : List (ℕ × List ℕ)) → version_at end lines ≡ Ok rest → map text lines ≡ codes "nmgc 1" ∷ map text rest
+version_takes : (end : ℕ) (lines : List (ℕ × List ℕ)) (p : Version × List (ℕ × List ℕ)) → version_at end lines ≡ Ok p → (map text lines ≡ codes "nmgc 1" ∷ map text p.1) × (p.0 ≡ version_1)
 unfolding version_at
-version_takes end [] rest e = absurd cc
-version_takes end (line ∷ lines) rest e =
-    let g = guard_ok (bytes_eq line.1 (codes "nmgc 1")) (line.0, cause.Version) lines rest e in
+version_takes end [] p e = absurd cc
+version_takes end (line ∷ lines) p e =
+    let g = guard_ok (bytes_eq line.1 (codes "nmgc 1")) (line.0, cause.Version) (version_1, lines) p e in
     let here : line.1 ≡ codes "nmgc 1" = (bytes_eq-Decides line.1 (codes "nmgc 1")).0 g.0 in
-    cc (here, g.1)
+    subst (λ (q : Version × List (ℕ × List ℕ)). (map text (line ∷ lines) ≡ codes "nmgc 1" ∷ map text q.1) × (q.0 ≡ version_1)) g.1 (ap (λ (l : List ℕ). l ∷ map text lines) here, refl)
 
 heap_at_takes : (end : ℕ) (lines : List (ℕ × List ℕ)) (p : Config × List (ℕ × List ℕ)) → heap_at end lines ≡ Ok p → (map text lines ≡ spaced (heap_words p.0) ∷ map text p.1) × FitsConfig p.0
 unfolding heap_at
@@ -56,17 +56,17 @@ heap_at_takes end (line ∷ lines) p e =
 record ThreadsSpelled (h : Config) (lines : List (ℕ × List ℕ)) (threads : List (List Command)) : Type 0 where
   lines_are : map text lines ≡ section_lines 0 threads
   some : 1 ≤ length threads
-  few : length threads ≤ MAKERS
-  total : total_words h (length threads) ≤ MAX_TOTAL
+  few : length threads ≤ version_1.threads
+  total : total_words h (length threads) ≤ most_heap_words
   fit : AllByRecursion (AllByRecursion (Fits h.words)) threads
 
-threads_takes : (end : ℕ) (h : Config) (lines : List (ℕ × List ℕ)) (threads : List (List Command)) → threads_at end h lines ≡ Ok threads → ThreadsSpelled h lines threads
+threads_takes : (end : ℕ) (h : Config) (lines : List (ℕ × List ℕ)) (threads : List (List Command)) → threads_at version_1 end h lines ≡ Ok threads → ThreadsSpelled h lines threads
 unfolding threads_at programs_at
 threads_takes end h [] threads e = absurd cc
 threads_takes end h (line ∷ lines) threads e =
-    let b = bind_ok (at_line line.0 (section_at h 0 (words_of line.1))) _ threads e in
-    let p = bind_ok (rest_at h 1 lines) _ threads b.2 in
-    let s = section_takes h 0 (words_of line.1) b.0 (at_line_ok line.0 (section_at h 0 (words_of line.1)) b.0 b.1) in
+    let b = bind_ok (at_line line.0 (section_at version_1 h 0 (words_of line.1))) _ threads e in
+    let p = bind_ok (rest_at version_1 h 1 lines) _ threads b.2 in
+    let s = section_takes h 0 (words_of line.1) b.0 (at_line_ok line.0 (section_at version_1 h 0 (words_of line.1)) b.0 b.1) in
     let r = rest_takes h 1 lines p.0 (omega arith) s.0.2 p.1 in
     let here : line.1 ≡ spaced (section_words 0) = sym (spaced-words_of line.1) ∙ ap spaced s.0.0 in
     let more : 1 + length p.0.1 ≡ length (p.0.0 ∷ p.0.1) = omega arith in
@@ -74,7 +74,7 @@ threads_takes end h (line ∷ lines) threads e =
       lines_are = cc (here, r.lines_are);
       some = omega (arith, more);
       few = omega (arith, r.few, more);
-      total = subst (λ (k : ℕ). total_words h k ≤ MAX_TOTAL) more r.total;
+      total = subst (λ (k : ℕ). total_words h k ≤ most_heap_words) more r.total;
       fit = (r.first, r.others);
     } in
     subst (ThreadsSpelled h (line ∷ lines)) (ok_is {E = ℕ × Cause} (p.0.0 ∷ p.0.1) threads p.2) all
@@ -83,23 +83,23 @@ script_takes : (end : ℕ) (lines : List (ℕ × List ℕ)) (s : Script) → scr
 unfolding script_at
 script_takes end lines s e =
     let b = bind_ok (version_at end lines) _ s e in
-    let h = bind_ok (heap_at end b.0) _ s b.2 in
-    let t = bind_ok (threads_at end h.0.0 h.0.1) _ s h.2 in
+    let h = bind_ok (heap_at end b.0.1) _ s b.2 in
+    let t = bind_ok (threads_at b.0.0 end h.0.0 h.0.1) _ s h.2 in
     let first = version_takes end lines b.0 b.1 in
-    let second = heap_at_takes end b.0 h.0 h.1 in
-    let third = threads_takes end h.0.0 h.0.1 t.0 t.1 in
-    let made : Script = record { version = 1; config = h.0.0; threads = t.0 } in
+    let second = heap_at_takes end b.0.1 h.0 h.1 in
+    let third = threads_takes end h.0.0 h.0.1 t.0 (subst (λ (v : Version). threads_at v end h.0.0 h.0.1 ≡ Ok t.0) first.1 t.1) in
+    let made : Script = record { version = b.0.0.number; config = h.0.0; threads = t.0 } in
     let fits : FitsScript made = record {
-      version = refl;
+      version = ap (λ (v : Version). v.number) first.1;
       config = second.1;
       some_thread = third.some;
       threads = third.few;
       total = third.total;
       commands = All-from_recursion (λ program. All (Fits h.0.0.words) program) t.0 (all_from (Fits h.0.0.words) t.0 third.fit);
     } in
-    subst (λ (k : Script). (map text lines ≡ script_lines k) × FitsScript k) (ok_is {E = ℕ × Cause} made s t.2) (cc (first, second.0, third.lines_are), fits)
+    subst (λ (k : Script). (map text lines ≡ script_lines k) × FitsScript k) (ok_is {E = ℕ × Cause} made s t.2) (cc (first.0, second.0, third.lines_are), fits)
 
-threads_again : (end : ℕ) (h : Config) (lines : List (ℕ × List ℕ)) (threads : List (List Command)) → 1 ≤ length threads → length threads ≤ MAKERS → total_words h (length threads) ≤ MAX_TOTAL → AllByRecursion (AllByRecursion (Fits h.words)) threads → map text lines ≡ section_lines 0 threads → threads_at end h lines ≡ Ok threads
+threads_again : (end : ℕ) (h : Config) (lines : List (ℕ × List ℕ)) (threads : List (List Command)) → 1 ≤ length threads → length threads ≤ version_1.threads → total_words h (length threads) ≤ most_heap_words → AllByRecursion (AllByRecursion (Fits h.words)) threads → map text lines ≡ section_lines 0 threads → threads_at version_1 end h lines ≡ Ok threads
 unfolding threads_at programs_at
 threads_again end h lines [] some few total fit e = absurd (omega arith)
 threads_again end h [] (program ∷ programs) some few total fit e = absurd cc
@@ -107,10 +107,10 @@ threads_again end h (line ∷ lines) (program ∷ programs) some few total fit e
     let more : 1 + length programs ≡ length (program ∷ programs) = omega arith in
     let here : line.1 ≡ spaced (section_words 0) = cc in
     let words : words_of line.1 ≡ section_words 0 = ap words_of here ∙ words_of-line (section_words 0) (section_line_words 0 (omega arith)) in
-    let room : total_words h 1 ≤ MAX_TOTAL = fewer h 1 (length (program ∷ programs)) MAX_TOTAL (omega (arith, more)) total in
-    let read : section_at h 0 (words_of line.1) ≡ Ok entry.Section = ap (section_at h 0) words ∙ section_again h 0 (omega arith) room in
+    let room : total_words h 1 ≤ most_heap_words = fewer h 1 (length (program ∷ programs)) most_heap_words (omega (arith, more)) total in
+    let read : section_at version_1 h 0 (words_of line.1) ≡ Ok entry.Section = ap (section_at version_1 h 0) words ∙ section_again h 0 (omega arith) room in
     let after : map text lines ≡ program_lines program ++ section_lines 1 programs = cc in
-    rw (read, rest_again h 1 lines program programs fit.0 fit.1 (omega (arith, few, more)) (subst (λ (k : ℕ). total_words h k ≤ MAX_TOTAL) (sym more) total) after) refl
+    rw (read, rest_again h 1 lines program programs fit.0 fit.1 (omega (arith, few, more)) (subst (λ (k : ℕ). total_words h k ≤ most_heap_words) (sym more) total) after) refl
 
 pub script_again : (end : ℕ) (lines : List (ℕ × List ℕ)) (s : Script) → FitsScript s → map text lines ≡ script_lines s → script_at end lines ≡ Ok s
 unfolding script_at version_at heap_at
@@ -123,7 +123,7 @@ script_again end (first ∷ second ∷ lines) s fits e =
     let words : words_of second.1 ≡ heap_words s.config = ap words_of is_second ∙ words_of-line (heap_words s.config) (heap_line_words s.config fits.config) in
     let version : bytes_eq first.1 (codes "nmgc 1") ≡ true = (bytes_eq-Decides first.1 (codes "nmgc 1")).1 is_first in
     let config : heap_words_at (words_of second.1) ≡ Ok s.config = ap heap_words_at words ∙ heap_again s.config fits.config in
-    let threads : threads_at end s.config lines ≡ Ok s.threads = threads_again end s.config lines s.threads fits.some_thread fits.threads fits.total (all_to (Fits s.config.words) s.threads (recursion_from_All (λ program. All (Fits s.config.words) program) s.threads fits.commands)) after in
+    let threads : threads_at version_1 end s.config lines ≡ Ok s.threads = threads_again end s.config lines s.threads fits.some_thread fits.threads fits.total (all_to (Fits s.config.words) s.threads (recursion_from_All (λ program. All (Fits s.config.words) program) s.threads fits.commands)) after in
     let one : 1 ≡ s.version = sym fits.version in
     rw (version, config, threads, one) refl
 

@@ -10,7 +10,7 @@ use Rattle.nmgc_graph.specs.declared.command.Operand.{Operand}
 use Rattle.nmgc_graph.specs.declared.command.Operand.TheVariants.{Register, Shared}
 use Rattle.nmgc_script.specs.declared.fault.Cause.{Cause}
 use Rattle.nmgc_script.specs.declared.fault.Cause.TheVariants as cause
-use Rattle.nmgc_graph.specs.declared.value.TheConstants.{REGISTERS}
+use Rattle.nmgc_script.specs.Limits.{version_1}
 use Rattle.nmgc_graph.specs.Command.{IsRegister, IsOperand}
 use Rattle.nmgc_script.specs.Spelling.{register_word, operand_word}
 use Rattle.nmgc_script.specs.Reading.{◌>>=◌, number_at, register_at, operand_at, each_at}
@@ -34,6 +34,15 @@ guard_ok false d x y e = absurd cc
 pub chosen : {A : Type 0} (b : Bool) (x y z : A) → cond b x y ≡ z → ((b ≡ true) × (x ≡ z)) ⊎ ((b ≡ false) × (y ≡ z))
 chosen true x y z e = inl (refl, e)
 chosen false x y z e = inr (refl, e)
+
+-- reading fails with one cause alone
+abbrev pub FailsBy : {A : Type 0} → Cause → Result A Cause → Type 0
+FailsBy c (Ok x) = Unit {0}
+FailsBy c (Err e) = e ≡ c
+
+pub fails_choose : {A : Type 0} (c : Cause) (b : Bool) (r s : Result A Cause) → FailsBy c r → FailsBy c s → FailsBy c (cond b r s)
+fails_choose c true r s h k = h
+fails_choose c false r s h k = k
 
 pub both_true : (a b : Bool) → (a && b) ≡ true → (a ≡ true) × (b ≡ true)
 both_true true true e = (refl, refl)
@@ -63,36 +72,36 @@ number_takes limit word n e =
 pub number_reads : (limit : ℕ) → limit < 2 ^ 64 → Reads (number_at limit) decimal (λ n. n ≤ limit)
 number_reads limit small = record { takes = number_takes limit; again = λ n le. number_again limit n le (omega arith) }
 
-pub register_reads : Reads register_at register_word IsRegister
+pub register_reads : Reads (register_at version_1) register_word IsRegister
 unfolding register_at
 register_reads = record { takes = takes; again = again }
   where
-    takes : (x : List ℕ) (r : ℕ) → register_at x ≡ Ok r → (x ≡ register_word r) × IsRegister r
+    takes : (x : List ℕ) (r : ℕ) → register_at version_1 x ≡ Ok r → (x ≡ register_word r) × IsRegister r
     takes [] r e = absurd cc
     takes (b ∷ digits) r e =
-        elim (chosen (eqb b 114) (number_at (REGISTERS - 1) digits) (Err cause.Operand) (Ok r) e) [
-          | inl p ↦ let t = number_takes (REGISTERS - 1) digits r p.1 in let first : b ≡ 114 = eqb-true b 114 p.0 in (cc (first, t.0), omega (arith, t.1))
+        elim (chosen (eqb b 114) (number_at (version_1.registers - 1) digits) (Err cause.Operand) (Ok r) e) [
+          | inl p ↦ let t = number_takes (version_1.registers - 1) digits r p.1 in let first : b ≡ 114 = eqb-true b 114 p.0 in (cc (first, t.0), omega (arith, t.1))
           | inr p ↦ absurd (let never : Err cause.Operand ≡ Ok r = p.1 in cc)
         ]
 
-    again : (r : ℕ) → IsRegister r → register_at (register_word r) ≡ Ok r
-    again r le = number_again (REGISTERS - 1) r (omega arith) (omega arith)
+    again : (r : ℕ) → IsRegister r → register_at version_1 (register_word r) ≡ Ok r
+    again r le = number_again (version_1.registers - 1) r (omega arith) (omega arith)
 
-pub operand_reads : Reads operand_at operand_word IsOperand
+pub operand_reads : Reads (operand_at version_1) operand_word IsOperand
 unfolding operand_at
 operand_reads = record { takes = takes; again = again }
   where
-    takes : (x : List ℕ) (o : Operand) → operand_at x ≡ Ok o → (x ≡ operand_word o) × IsOperand o
+    takes : (x : List ℕ) (o : Operand) → operand_at version_1 x ≡ Ok o → (x ≡ operand_word o) × IsOperand o
     takes x o e =
-        elim (chosen (bytes_eq x (codes "g")) (Ok Shared) (register_at x >>= λ r. Ok (Register r)) (Ok o) e) [
+        elim (chosen (bytes_eq x (codes "g")) (Ok Shared) (register_at version_1 x >>= λ r. Ok (Register r)) (Ok o) e) [
           | inl p ↦ subst (λ (k : Operand). (x ≡ operand_word k) × IsOperand k) (ok_is {E = Cause} Shared o p.1) ((bytes_eq-Decides x (codes "g")).0 p.0, tt)
           | inr p ↦
-              let b = bind_ok (register_at x) (λ r. Ok (Register r)) o p.1 in
+              let b = bind_ok (register_at version_1 x) (λ r. Ok (Register r)) o p.1 in
               let t = register_reads.takes x b.0 b.1 in
               subst (λ (k : Operand). (x ≡ operand_word k) × IsOperand k) (ok_is {E = Cause} (Register b.0) o b.2) t
         ]
 
-    again : (o : Operand) → IsOperand o → operand_at (operand_word o) ≡ Ok o
+    again : (o : Operand) → IsOperand o → operand_at version_1 (operand_word o) ≡ Ok o
     again Shared h = refl
     again (Register r) h = rw (register_reads.again r h) refl
 

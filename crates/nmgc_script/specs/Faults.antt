@@ -1,7 +1,7 @@
 -- Which fault a line has, cause by cause, and which line is told.
-use Rattle.std.specs.Prelude.{◌≡◌, ◌≢◌, ◌<◌, ◌≤◌, ◌+◌, ℕ, List, [], ◌∷◌, ◌⊎◌, length, codes, if◌then◌else◌}
+use Rattle.std.specs.Prelude.{◌≡◌, ◌≢◌, ◌<◌, ◌+◌, ℕ, List, [], ◌∷◌, ◌⊎◌, length, codes, if◌then◌else◌}
 use Rattle.std.specs.Str.{bytes_eq}
-use Rattle.nmgc_graph.specs.declared.value.TheConstants.{MAKERS}
+use Rattle.nmgc_limits.specs.Limits.{most_heap_words}
 use Rattle.nmgc_graph.specs.declared.command.Command.{Command}
 use Rattle.nmgc_graph.specs.Command.{HasRegisters, HasNumbers, words_made}
 use Rattle.nmgc_script.specs.declared.fault.Cause.{Cause}
@@ -9,71 +9,19 @@ use Rattle.nmgc_script.specs.declared.fault.Cause.TheVariants as cause
 use Rattle.nmgc_script.specs.declared.fault.ScriptFault.{ScriptFault}
 use Rattle.nmgc_script.specs.declared.fault.ScriptFault.TheVariants as script_fault
 use Rattle.nmgc_script.specs.declared.script.Config.{Config}
-use Rattle.nmgc_script.specs.declared.script.TheConstants.{MAX_TOTAL}
 use Rattle.nmgc_script.specs.declared.verbs.Verb.{Verb}
-use Rattle.nmgc_script.specs.declared.verbs.Verb.TheVariants as verb
-use Rattle.nmgc_script.specs.Limits.{FitsConfig, total_words}
-use Rattle.nmgc_script.specs.Spelling.{spaced, command_words, heap_words, section_words}
+use Rattle.nmgc_script.specs.Limits.{FitsConfig, total_words, version_1}
+use Rattle.nmgc_script.specs.Spelling.{spaced, verb_name, command_words, heap_words, section_words}
 use Rattle.nmgc_script.specs.Text.{words_of, kept_lines, end_of}
-
--- the name of a verb
-abbrev pub verb_name : Verb → List ℕ
-verb_name verb.Num = codes "num"
-verb_name verb.Nil = codes "nil"
-verb_name verb.Mov = codes "mov"
-verb_name verb.Con = codes "con"
-verb_name verb.Var = codes "var"
-verb_name verb.Arr = codes "arr"
-verb_name verb.Thunk = codes "thunk"
-verb_name verb.Weak = codes "weak"
-verb_name verb.Stack = codes "stack"
-verb_name verb.Get = codes "get"
-verb_name verb.Set = codes "set"
-verb_name verb.Cas = codes "cas"
-verb_name verb.Update = codes "update"
-verb_name verb.Force = codes "force"
-verb_name verb.Push = codes "push"
-verb_name verb.Pop = codes "pop"
-verb_name verb.Deref = codes "deref"
-verb_name verb.Finalise = codes "finalise"
-verb_name verb.NextFin = codes "nextfin"
-verb_name verb.Show = codes "show"
-verb_name verb.Same = codes "same"
-verb_name verb.Yield = codes "yield"
-verb_name verb.Collect = codes "collect"
-verb_name verb.Full = codes "full"
-
--- a command of the verb has so many words, its name included
-abbrev pub HasArity : Verb → ℕ → Type 0
-HasArity verb.Num n = n ≡ 3
-HasArity verb.Nil n = n ≡ 2
-HasArity verb.Mov n = n ≡ 3
-HasArity verb.Con n = 3 ≤ n
-HasArity verb.Var n = n ≡ 3
-HasArity verb.Arr n = n ≡ 4
-HasArity verb.Thunk n = (2 ≤ n) × (n ≤ 10)
-HasArity verb.Weak n = n ≡ 5
-HasArity verb.Stack n = n ≡ 3
-HasArity verb.Get n = n ≡ 4
-HasArity verb.Set n = n ≡ 4
-HasArity verb.Cas n = n ≡ 5
-HasArity verb.Update n = n ≡ 3
-HasArity verb.Force n = n ≡ 3
-HasArity verb.Push n = n ≡ 3
-HasArity verb.Pop n = n ≡ 3
-HasArity verb.Deref n = n ≡ 3
-HasArity verb.Finalise n = n ≡ 3
-HasArity verb.NextFin n = n ≡ 2
-HasArity verb.Show n = n ≡ 2
-HasArity verb.Same n = n ≡ 3
-HasArity verb.Yield n = n ≡ 1
-HasArity verb.Collect n = n ≡ 1
-HasArity verb.Full n = n ≡ 1
 
 -- the first word of a line
 abbrev pub first_of : List (List ℕ) → List ℕ
 first_of [] = []
 first_of (word ∷ words) = word
+
+-- some command has this name and so many words, its name included
+abbrev pub HasArity : List ℕ → ℕ → Type 0
+HasArity name n = (c : Command) × HasRegisters c × HasNumbers c × (first_of (command_words c) ≡ name) × (length (command_words c) ≡ n)
 
 -- a line with such words has to begin a section: it says so, or none was begun before
 abbrev pub HasToBegin : ℕ → List (List ℕ) → Type 0
@@ -85,10 +33,10 @@ HasToBegin n words = (first_of words ≡ codes "thread") ⊎ (n ≡ 0)
 abbrev pub HasFault : Config → ℕ → List (List ℕ) → Cause → Type 0
 HasFault h n words cause.Version = ⊥
 HasFault h n words cause.Heap = ⊥
-HasFault h n words cause.Thread = HasToBegin n words × (n < MAKERS → words ≢ section_words n)
-HasFault h n words cause.Total = HasToBegin n words × (MAX_TOTAL < total_words h (n + 1))
+HasFault h n words cause.Thread = HasToBegin n words × (n < version_1.threads → words ≢ section_words n)
+HasFault h n words cause.Total = HasToBegin n words × (most_heap_words < total_words h (n + 1))
 HasFault h n words cause.Command = (HasToBegin n words → ⊥) × ((v : Verb) → first_of words ≢ verb_name v)
-HasFault h n words cause.Arity = (HasToBegin n words → ⊥) × ((v : Verb) × (first_of words ≡ verb_name v) × (HasArity v (length words) → ⊥))
+HasFault h n words cause.Arity = (HasToBegin n words → ⊥) × ((v : Verb) × (first_of words ≡ verb_name v)) × (HasArity (first_of words) (length words) → ⊥)
 HasFault h n words cause.Operand = (HasToBegin n words → ⊥) × ((c : Command) → HasRegisters c → HasNumbers c → words ≢ command_words c)
 HasFault h n words cause.Size = (HasToBegin n words → ⊥) × ((c : Command) × HasRegisters c × HasNumbers c × (words ≡ command_words c) × (h.words < words_made c))
 

@@ -1,12 +1,14 @@
 -- What printing appends.
 use Rattle.std.specs.Prelude.{ℕ, List, [], ◌∷◌, ◌++◌, decimal}
 use Rattle.nmgc_script.specs.declared.printing.Word.{Word}
-use Rattle.nmgc_script.specs.declared.printing.Word.TheVariants.{Register, Number, Operand}
+use Rattle.nmgc_script.specs.declared.printing.Word.TheVariants.{Register, Tag, Short, Number, Operand}
 use Rattle.nmgc_script.specs.Spelling.{register_word, operand_word}
 
 -- the text of a word
 abbrev pub word_text : Word → List ℕ
 word_text (Register r) = register_word r
+word_text (Tag n) = decimal n
+word_text (Short n) = decimal n
 word_text (Number n) = decimal n
 word_text (Operand o) = operand_word o
 

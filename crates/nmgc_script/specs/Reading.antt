@@ -1,10 +1,12 @@
 -- Reading from left to right, with the first fault that is met.
 --
--- Each function tries the causes of its words in the order in which they are told.
-use Rattle.std.specs.Prelude.{◌≡◌, ℕ, zero, suc, ◌+◌, ◌-◌, ◌^◌, List, [], ◌∷◌, length, codes, decimal, Bool, false, Result, Ok, Err, ◌==◌, ◌&&◌, ◌||◌, nat_le, if◌then◌else◌}
+-- This is what the functions of the parser promise each other: each tries the causes of its words in
+-- the order in which they are told. What a caller of `parse` is promised stands in Spelling and Faults.
+use Rattle.std.specs.Prelude.{◌≡◌, ℕ, ◌+◌, ◌-◌, ◌^◌, List, [], ◌∷◌, length, codes, decimal, Bool, false, Result, Ok, Err, ◌==◌, ◌&&◌, nat_le, if◌then◌else◌}
+use Rattle.std.specs.Int.{is_power_of_two}
 use Rattle.std.specs.Str.{bytes_eq}
 use Rattle.std.specs.Str.Parse.{digits_value}
-use Rattle.nmgc_graph.specs.declared.value.TheConstants.{REGISTERS, MAKERS}
+use Rattle.nmgc_limits.specs.Limits.{most_heap_words, most_nursery_words, most_quota, most_segment_words, most_segments, least_segment_words, most_slice, most_trigger}
 use Rattle.nmgc_graph.specs.declared.command.Operand.{Operand}
 use Rattle.nmgc_graph.specs.declared.command.Operand.TheVariants.{Register, Shared}
 use Rattle.nmgc_graph.specs.declared.command.Command.{Command}
@@ -18,12 +20,14 @@ use Rattle.nmgc_script.specs.declared.fault.ScriptFault.{ScriptFault}
 use Rattle.nmgc_script.specs.declared.fault.ScriptFault.TheVariants as script_fault
 use Rattle.nmgc_script.specs.declared.script.Config.{Config}
 use Rattle.nmgc_script.specs.declared.script.Script.{Script}
-use Rattle.nmgc_script.specs.declared.script.TheConstants.{MAX_SEGMENTS, MAX_NURSERY, MAX_SLICE, MAX_QUOTA, MAX_TRIGGER, MAX_TOTAL}
 use Rattle.nmgc_script.specs.declared.verbs.Verb.{Verb}
 use Rattle.nmgc_script.specs.declared.verbs.Verb.TheVariants as verb
+use Rattle.nmgc_script.specs.declared.verbs.TheConstants.{VERBS}
+use Rattle.nmgc_script.specs.declared.version.Version.{Version}
 use Rattle.nmgc_script.specs.declared.sections.Entry.{Entry}
 use Rattle.nmgc_script.specs.declared.sections.Entry.TheVariants as entry
-use Rattle.nmgc_script.specs.Limits.{total_words}
+use Rattle.nmgc_script.specs.Limits.{total_words, version_1}
+use Rattle.nmgc_script.specs.Spelling.{verb_name}
 use Rattle.nmgc_script.specs.Text.{words_of}
 
 infixl 10 ◌>>=◌
@@ -54,14 +58,18 @@ Gives (Err e) read = Fails e read
 unfoldable pub number_at : ℕ → List ℕ → Result ℕ Cause
 number_at limit word = if bytes_eq word (decimal (digits_value 10 word)) && nat_le (digits_value 10 word) limit then Ok (digits_value 10 word) else Err cause.Operand
 
--- an 'r' and the number of a register
-unfoldable pub register_at : List ℕ → Result ℕ Cause
-register_at [] = Err cause.Operand
-register_at (b ∷ digits) = if b == 114 then number_at (REGISTERS - 1) digits else Err cause.Operand
+-- an 'r' and the number of a register of the version
+unfoldable pub register_at : Version → List ℕ → Result ℕ Cause
+register_at version [] = Err cause.Operand
+register_at version (b ∷ digits) = if b == 114 then number_at (version.registers - 1) digits else Err cause.Operand
 
--- a 'g' or a register
-unfoldable pub operand_at : List ℕ → Result Operand Cause
-operand_at word = if bytes_eq word (codes "g") then Ok Shared else register_at word >>= λ r. Ok (Register r)
+-- a 'g' or a register of the version
+unfoldable pub operand_at : Version → List ℕ → Result Operand Cause
+operand_at version word = if bytes_eq word (codes "g") then Ok Shared else register_at version word >>= λ r. Ok (Register r)
+
+-- a tag
+abbrev pub tag_at : List ℕ → Result ℕ Cause
+tag_at word = number_at 255 word
 
 -- a number below 2 ^ 62
 abbrev pub long_at : List ℕ → Result ℕ Cause
@@ -71,121 +79,90 @@ long_at word = number_at (2 ^ 62 - 1) word
 abbrev pub short_at : List ℕ → Result ℕ Cause
 short_at word = number_at 65535 word
 
--- HOW MANY WORDS A COMMAND HAS AFTER ITS NAME, and what each has to be
+-- SHAPES: how many words stand after a name, and what each has to be
 
 unfoldable pub none_at : Command → List (List ℕ) → Result Command Cause
 none_at c [] = Ok c
 none_at c words = Err cause.Arity
 
-unfoldable pub one_at : {A : Type 0} → (List ℕ → Result A Cause) → (A → Command) → List (List ℕ) → Result Command Cause
-one_at f make (x ∷ []) = do
-  a ← f x
-  Ok (make a)
-one_at f make words = Err cause.Arity
+unfoldable pub one_at : {A : Type 0} → (List ℕ → Result A Cause) → List (List ℕ) → Result A Cause
+one_at f (x ∷ []) = f x
+one_at f words = Err cause.Arity
 
-unfoldable pub two_at : {A B : Type 0} → (List ℕ → Result A Cause) → (List ℕ → Result B Cause) → (A → B → Command) → List (List ℕ) → Result Command Cause
-two_at f g make (x ∷ y ∷ []) = do
+unfoldable pub two_at : {A B : Type 0} → (List ℕ → Result A Cause) → (List ℕ → Result B Cause) → List (List ℕ) → Result (A × B) Cause
+two_at f g (x ∷ y ∷ []) = do
   a ← f x
   b ← g y
-  Ok (make a b)
-two_at f g make words = Err cause.Arity
+  Ok (a, b)
+two_at f g words = Err cause.Arity
 
-unfoldable pub three_at : {A B C : Type 0} → (List ℕ → Result A Cause) → (List ℕ → Result B Cause) → (List ℕ → Result C Cause) → (A → B → C → Command) → List (List ℕ) → Result Command Cause
-three_at f g h make (x ∷ y ∷ z ∷ []) = do
+unfoldable pub three_at : {A B C : Type 0} → (List ℕ → Result A Cause) → (List ℕ → Result B Cause) → (List ℕ → Result C Cause) → List (List ℕ) → Result (A × B × C) Cause
+three_at f g h (x ∷ y ∷ z ∷ []) = do
   a ← f x
   b ← g y
   c ← h z
-  Ok (make a b c)
-three_at f g h make words = Err cause.Arity
+  Ok (a, b, c)
+three_at f g h words = Err cause.Arity
 
-unfoldable pub four_at : {A B C D : Type 0} → (List ℕ → Result A Cause) → (List ℕ → Result B Cause) → (List ℕ → Result C Cause) → (List ℕ → Result D Cause) → (A → B → C → D → Command) → List (List ℕ) → Result Command Cause
-four_at f g h i make (x ∷ y ∷ z ∷ w ∷ []) = do
-  a ← f x
-  b ← g y
-  c ← h z
-  d ← i w
-  Ok (make a b c d)
-four_at f g h i make words = Err cause.Arity
+unfoldable pub four_at : {A B C D : Type 0} → (List ℕ → Result A Cause) → (List ℕ → Result B Cause) → (List ℕ → Result C Cause) → (List ℕ → Result D Cause) → List (List ℕ) → Result (A × B × C × D) Cause
+four_at f g h i (x ∷ y ∷ z ∷ w ∷ []) = do
+  front ← two_at f g (x ∷ y ∷ [])
+  back ← two_at h i (z ∷ w ∷ [])
+  Ok (front.0, front.1, back.0, back.1)
+four_at f g h i words = Err cause.Arity
 
 -- a register, a tag and any number of operands
-unfoldable pub con_at : List (List ℕ) → Result Command Cause
-con_at (dest ∷ tag ∷ fields) = do
-  d ← register_at dest
-  t ← number_at 255 tag
-  fs ← each_at operand_at fields
-  Ok (Con d t fs)
-con_at words = Err cause.Arity
+unfoldable pub con_at : Version → List (List ℕ) → Result (ℕ × ℕ × List Operand) Cause
+con_at version (dest ∷ tag ∷ fields) = do
+  d ← register_at version dest
+  t ← tag_at tag
+  fs ← each_at (operand_at version) fields
+  Ok (d, t, fs)
+con_at version words = Err cause.Arity
 
 -- a register and at most eight operands
-unfoldable pub thunk_at : List (List ℕ) → Result Command Cause
-thunk_at [] = Err cause.Arity
-thunk_at (dest ∷ free) =
-    if nat_le (length free) 8 then (register_at dest >>= λ d. each_at operand_at free >>= λ fs. Ok (Thunk d fs)) else Err cause.Arity
+unfoldable pub thunk_at : Version → List (List ℕ) → Result (ℕ × List Operand) Cause
+thunk_at version [] = Err cause.Arity
+thunk_at version (dest ∷ free) =
+    if nat_le (length free) 8 then (register_at version dest >>= λ d. each_at (operand_at version) free >>= λ fs. Ok (d, fs)) else Err cause.Arity
 
--- the words after each name
-abbrev pub operands_at : Verb → List (List ℕ) → Result Command Cause
-operands_at verb.Num words = two_at register_at long_at (λ d n. Num d n) words
-operands_at verb.Nil words = one_at register_at (λ d. Nil d) words
-operands_at verb.Mov words = two_at register_at operand_at (λ d v. Mov d v) words
-operands_at verb.Con words = con_at words
-operands_at verb.Var words = two_at register_at operand_at (λ d v. Var d v) words
-operands_at verb.Arr words = three_at register_at short_at operand_at (λ d n v. Arr d n v) words
-operands_at verb.Thunk words = thunk_at words
-operands_at verb.Weak words = four_at register_at operand_at operand_at operand_at (λ d k v f. Weak d k v f) words
-operands_at verb.Stack words = two_at register_at short_at (λ d n. Stack d n) words
-operands_at verb.Get words = three_at register_at operand_at short_at (λ d o i. Get d o i) words
-operands_at verb.Set words = three_at operand_at short_at operand_at (λ o i v. Set o i v) words
-operands_at verb.Cas words = four_at operand_at short_at operand_at operand_at (λ o i e v. Cas o i e v) words
-operands_at verb.Update words = two_at operand_at operand_at (λ o v. Update o v) words
-operands_at verb.Force words = two_at register_at operand_at (λ d o. Force d o) words
-operands_at verb.Push words = two_at operand_at operand_at (λ o v. Push o v) words
-operands_at verb.Pop words = two_at register_at operand_at (λ d o. Pop d o) words
-operands_at verb.Deref words = two_at register_at operand_at (λ d o. Deref d o) words
-operands_at verb.Finalise words = two_at register_at operand_at (λ d o. Finalise d o) words
-operands_at verb.NextFin words = one_at register_at (λ d. NextFin d) words
-operands_at verb.Show words = one_at operand_at (λ v. Show v) words
-operands_at verb.Same words = two_at operand_at operand_at (λ a b. Same a b) words
-operands_at verb.Yield words = none_at Yield words
-operands_at verb.Collect words = none_at Collect words
-operands_at verb.Full words = none_at Full words
+-- the command of the words after each name
+abbrev pub operands_at : Version → Verb → List (List ℕ) → Result Command Cause
+operands_at v verb.Num words = two_at (register_at v) long_at words >>= λ p. Ok (Num p.0 p.1)
+operands_at v verb.Nil words = one_at (register_at v) words >>= λ p. Ok (Nil p)
+operands_at v verb.Mov words = two_at (register_at v) (operand_at v) words >>= λ p. Ok (Mov p.0 p.1)
+operands_at v verb.Con words = con_at v words >>= λ p. Ok (Con p.0 p.1 p.2)
+operands_at v verb.Var words = two_at (register_at v) (operand_at v) words >>= λ p. Ok (Var p.0 p.1)
+operands_at v verb.Arr words = three_at (register_at v) short_at (operand_at v) words >>= λ p. Ok (Arr p.0 p.1 p.2)
+operands_at v verb.Thunk words = thunk_at v words >>= λ p. Ok (Thunk p.0 p.1)
+operands_at v verb.Weak words = four_at (register_at v) (operand_at v) (operand_at v) (operand_at v) words >>= λ p. Ok (Weak p.0 p.1 p.2 p.3)
+operands_at v verb.Stack words = two_at (register_at v) short_at words >>= λ p. Ok (Stack p.0 p.1)
+operands_at v verb.Get words = three_at (register_at v) (operand_at v) short_at words >>= λ p. Ok (Get p.0 p.1 p.2)
+operands_at v verb.Set words = three_at (operand_at v) short_at (operand_at v) words >>= λ p. Ok (Set p.0 p.1 p.2)
+operands_at v verb.Cas words = four_at (operand_at v) short_at (operand_at v) (operand_at v) words >>= λ p. Ok (Cas p.0 p.1 p.2 p.3)
+operands_at v verb.Update words = two_at (operand_at v) (operand_at v) words >>= λ p. Ok (Update p.0 p.1)
+operands_at v verb.Force words = two_at (register_at v) (operand_at v) words >>= λ p. Ok (Force p.0 p.1)
+operands_at v verb.Push words = two_at (operand_at v) (operand_at v) words >>= λ p. Ok (Push p.0 p.1)
+operands_at v verb.Pop words = two_at (register_at v) (operand_at v) words >>= λ p. Ok (Pop p.0 p.1)
+operands_at v verb.Deref words = two_at (register_at v) (operand_at v) words >>= λ p. Ok (Deref p.0 p.1)
+operands_at v verb.Finalise words = two_at (register_at v) (operand_at v) words >>= λ p. Ok (Finalise p.0 p.1)
+operands_at v verb.NextFin words = one_at (register_at v) words >>= λ p. Ok (NextFin p)
+operands_at v verb.Show words = one_at (operand_at v) words >>= λ p. Ok (Show p)
+operands_at v verb.Same words = two_at (operand_at v) (operand_at v) words >>= λ p. Ok (Same p.0 p.1)
+operands_at v verb.Yield words = none_at Yield words
+operands_at v verb.Collect words = none_at Collect words
+operands_at v verb.Full words = none_at Full words
 
 -- THE NAMES OF COMMANDS
 
-unfoldable pub other_verb_at : List ℕ → Result Verb Cause
-other_verb_at name =
-    if bytes_eq name (codes "deref") then Ok verb.Deref
-    else if bytes_eq name (codes "finalise") then Ok verb.Finalise
-    else if bytes_eq name (codes "nextfin") then Ok verb.NextFin
-    else if bytes_eq name (codes "show") then Ok verb.Show
-    else if bytes_eq name (codes "same") then Ok verb.Same
-    else if bytes_eq name (codes "yield") then Ok verb.Yield
-    else if bytes_eq name (codes "collect") then Ok verb.Collect
-    else if bytes_eq name (codes "full") then Ok verb.Full
-    else Err cause.Command
+-- the first of some verbs that has the name
+unfoldable pub first_named : List ℕ → List Verb → Result Verb Cause
+first_named name [] = Err cause.Command
+first_named name (v ∷ vs) = if bytes_eq name (verb_name v) then Ok v else first_named name vs
 
-unfoldable pub effect_verb_at : List ℕ → Result Verb Cause
-effect_verb_at name =
-    if bytes_eq name (codes "get") then Ok verb.Get
-    else if bytes_eq name (codes "set") then Ok verb.Set
-    else if bytes_eq name (codes "cas") then Ok verb.Cas
-    else if bytes_eq name (codes "update") then Ok verb.Update
-    else if bytes_eq name (codes "force") then Ok verb.Force
-    else if bytes_eq name (codes "push") then Ok verb.Push
-    else if bytes_eq name (codes "pop") then Ok verb.Pop
-    else other_verb_at name
-
-unfoldable pub verb_at : List ℕ → Result Verb Cause
-verb_at name =
-    if bytes_eq name (codes "num") then Ok verb.Num
-    else if bytes_eq name (codes "nil") then Ok verb.Nil
-    else if bytes_eq name (codes "mov") then Ok verb.Mov
-    else if bytes_eq name (codes "con") then Ok verb.Con
-    else if bytes_eq name (codes "var") then Ok verb.Var
-    else if bytes_eq name (codes "arr") then Ok verb.Arr
-    else if bytes_eq name (codes "thunk") then Ok verb.Thunk
-    else if bytes_eq name (codes "weak") then Ok verb.Weak
-    else if bytes_eq name (codes "stack") then Ok verb.Stack
-    else effect_verb_at name
+-- the verb that has the name
+abbrev pub verb_at : List ℕ → Result Verb Cause
+verb_at name = first_named name VERBS
 
 -- A COMMAND LINE: its name, the number of its words, each word, and its size
 
@@ -193,11 +170,11 @@ verb_at name =
 unfoldable pub sized : ℕ → Command → Result Command Cause
 sized size command = if nat_le (words_made command) size then Ok command else Err cause.Size
 
-unfoldable pub command_at : ℕ → List (List ℕ) → Result Command Cause
-command_at size [] = Err cause.Command
-command_at size (name ∷ words) = do
+unfoldable pub command_at : Version → ℕ → List (List ℕ) → Result Command Cause
+command_at version size [] = Err cause.Command
+command_at version size (name ∷ words) = do
   v ← verb_at name
-  command ← operands_at v words
+  command ← operands_at version v words
   sized size command
 
 -- THE HEAP LINE, whose faults all have one cause
@@ -206,33 +183,24 @@ command_at size (name ∷ words) = do
 unfoldable pub between_at : ℕ → ℕ → List ℕ → Result ℕ Cause
 between_at low high word = number_at high word >>= λ n. if nat_le low n then Ok n else Err cause.Operand
 
--- n is one of so many powers of two, from 2 ^ k on
-abbrev pub is_power_from : ℕ → ℕ → ℕ → Bool
-is_power_from zero k n = false
-is_power_from (suc m) k n = n == 2 ^ k || is_power_from m (k + 1) n
-
--- n is one of 16, 32 and so on up to 4096
-abbrev pub is_segment_size : ℕ → Bool
-is_segment_size n = is_power_from 9 4 n
-
--- a power of two from 16 to 4096
+-- a power of two within the limits of a segment
 unfoldable pub segment_size_at : List ℕ → Result ℕ Cause
-segment_size_at word = number_at 4096 word >>= λ n. if is_segment_size n then Ok n else Err cause.Operand
+segment_size_at word = between_at least_segment_words most_segment_words word >>= λ n. if is_power_of_two n then Ok n else Err cause.Operand
 
 -- how large the heap is
 unfoldable pub sizes_at : List ℕ → List ℕ → List ℕ → Result (ℕ × ℕ × ℕ) Cause
 sizes_at segments words nursery = do
-  s ← between_at 1 MAX_SEGMENTS segments
+  s ← between_at 1 most_segments segments
   w ← segment_size_at words
-  n ← between_at w MAX_NURSERY nursery
+  n ← between_at w most_nursery_words nursery
   Ok (s, w, n)
 
 -- how much is done at a time
 unfoldable pub pace_at : List ℕ → List ℕ → List ℕ → Result (ℕ × ℕ × ℕ) Cause
 pace_at slice quota trigger = do
-  l ← between_at 1 MAX_SLICE slice
-  q ← between_at 1 MAX_QUOTA quota
-  t ← number_at MAX_TRIGGER trigger
+  l ← between_at 1 most_slice slice
+  q ← between_at 1 most_quota quota
+  t ← number_at most_trigger trigger
   Ok (l, q, t)
 
 -- the six numbers
@@ -258,15 +226,15 @@ heap_words_at (name ∷ words) = if bytes_eq name (codes "heap") then or_cause c
 -- A SECTION LINE: that of the next thread, and the total
 
 -- the number of the thread whose section begins
-unfoldable pub thread_at : List (List ℕ) → Result ℕ Cause
-thread_at (name ∷ number ∷ []) = if bytes_eq name (codes "thread") then or_cause cause.Thread (number_at (MAKERS - 1) number) else Err cause.Thread
-thread_at words = Err cause.Thread
+unfoldable pub thread_at : Version → List (List ℕ) → Result ℕ Cause
+thread_at version (name ∷ number ∷ []) = if bytes_eq name (codes "thread") then or_cause cause.Thread (number_at (version.threads - 1) number) else Err cause.Thread
+thread_at version words = Err cause.Thread
 
 -- the section of thread n, of which the total has room
-unfoldable pub section_at : Config → ℕ → List (List ℕ) → Result Entry Cause
-section_at h n words = do
-  thread ← thread_at words
-  if thread == n then (if nat_le (total_words h (n + 1)) MAX_TOTAL then Ok entry.Section else Err cause.Total) else Err cause.Thread
+unfoldable pub section_at : Version → Config → ℕ → List (List ℕ) → Result Entry Cause
+section_at v h n words = do
+  thread ← thread_at v words
+  if thread == n then (if nat_le (total_words h (n + 1)) most_heap_words then Ok entry.Section else Err cause.Total) else Err cause.Thread
 
 -- A LINE AFTER THE FIRST SECTION LINE
 
@@ -276,8 +244,8 @@ is_section [] = false
 is_section (name ∷ words) = bytes_eq name (codes "thread")
 
 -- what a line is, where n sections began before it
-unfoldable pub entry_at : Config → ℕ → List (List ℕ) → Result Entry Cause
-entry_at h n words = if is_section words then section_at h n words else command_at h.words words >>= λ c. Ok (entry.Order c)
+unfoldable pub entry_at : Version → Config → ℕ → List (List ℕ) → Result Entry Cause
+entry_at v h n words = if is_section words then section_at v h n words else command_at v h.words words >>= λ c. Ok (entry.Order c)
 
 -- WHOLE SCRIPTS, whose lines have numbers
 
@@ -297,26 +265,26 @@ with_entry entry.Section rest = ([], rest.0 ∷ rest.1)
 with_entry (entry.Order c) rest = (c ∷ rest.0, rest.1)
 
 -- the commands of the section that is read, and the programs of the sections after it
-unfoldable pub rest_at : Config → ℕ → List (ℕ × List ℕ) → Result (List Command × List (List Command)) (ℕ × Cause)
-rest_at h n [] = Ok ([], [])
-rest_at h n (line ∷ lines) = do
-  e ← at_line line.0 (entry_at h n (words_of line.1))
-  others ← rest_at h (begun_after e n) lines
+unfoldable pub rest_at : Version → Config → ℕ → List (ℕ × List ℕ) → Result (List Command × List (List Command)) (ℕ × Cause)
+rest_at v h n [] = Ok ([], [])
+rest_at v h n (line ∷ lines) = do
+  e ← at_line line.0 (entry_at v h n (words_of line.1))
+  others ← rest_at v h (begun_after e n) lines
   Ok (with_entry e others)
 
 -- the programs of all sections, where the first has begun
-unfoldable pub programs_at : Config → List (ℕ × List ℕ) → Result (List (List Command)) (ℕ × Cause)
-programs_at h lines = rest_at h 1 lines >>= λ programs. Ok (programs.0 ∷ programs.1)
+unfoldable pub programs_at : Version → Config → List (ℕ × List ℕ) → Result (List (List Command)) (ℕ × Cause)
+programs_at v h lines = rest_at v h 1 lines >>= λ programs. Ok (programs.0 ∷ programs.1)
 
 -- the programs of all sections
-unfoldable pub threads_at : ℕ → Config → List (ℕ × List ℕ) → Result (List (List Command)) (ℕ × Cause)
-threads_at end h [] = Err (end, cause.Thread)
-threads_at end h (line ∷ lines) = at_line line.0 (section_at h 0 (words_of line.1)) >>= λ first. programs_at h lines
+unfoldable pub threads_at : Version → ℕ → Config → List (ℕ × List ℕ) → Result (List (List Command)) (ℕ × Cause)
+threads_at v end h [] = Err (end, cause.Thread)
+threads_at v end h (line ∷ lines) = at_line line.0 (section_at v h 0 (words_of line.1)) >>= λ first. programs_at v h lines
 
--- the version line, and what comes after it
-unfoldable pub version_at : ℕ → List (ℕ × List ℕ) → Result (List (ℕ × List ℕ)) (ℕ × Cause)
+-- the version that its line names, and what comes after it
+unfoldable pub version_at : ℕ → List (ℕ × List ℕ) → Result (Version × List (ℕ × List ℕ)) (ℕ × Cause)
 version_at end [] = Err (end, cause.Version)
-version_at end (line ∷ lines) = if bytes_eq line.1 (codes "nmgc 1") then Ok lines else Err (line.0, cause.Version)
+version_at end (line ∷ lines) = if bytes_eq line.1 (codes "nmgc 1") then Ok (version_1, lines) else Err (line.0, cause.Version)
 
 -- the heap line, and what comes after it
 unfoldable pub heap_at : ℕ → List (ℕ × List ℕ) → Result (Config × List (ℕ × List ℕ)) (ℕ × Cause)
@@ -326,10 +294,10 @@ heap_at end (line ∷ lines) = at_line line.0 (heap_words_at (words_of line.1)) 
 -- the script of these lines; where they end too early, the line told is the one after the last
 unfoldable pub script_at : ℕ → List (ℕ × List ℕ) → Result Script (ℕ × Cause)
 script_at end lines = do
-  body ← version_at end lines
-  heap ← heap_at end body
-  threads ← threads_at end heap.0 heap.1
-  Ok (record { version = 1; config = heap.0; threads = threads })
+  version ← version_at end lines
+  heap ← heap_at end version.1
+  threads ← threads_at version.0 end heap.0 heap.1
+  Ok (record { version = version.0.number; config = heap.0; threads = threads })
 
 -- What a function returned is what reading gives, unless memory ran out.
 abbrev pub FailsAt : {Y : Type 0} → ScriptFault → Result Y (ℕ × Cause) → Type 0

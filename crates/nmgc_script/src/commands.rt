@@ -1,64 +1,92 @@
 //! A command line: its name, the number of its words, each word, and the size of its object.
 //!
-//! Easy to get wrong: a count that is too large for a segment is a fault of its size and comes after
-//! all faults of words, while one above 65,535 is no count at all.
+//! `operands_of` is the table of commands that are read: for each verb the shape of the words after
+//! its name, and the fields that they are. Easy to get wrong: a count that is too
+//! large for a segment is a fault of its size and comes after all faults of words, while one above
+//! 65,535 is no count at all.
 ghost use Rattle.std.specs.Prelude.{◌≡◌, ◌<◌, map};
 ghost use Rattle.nmgc_graph.specs.Command.{words_made};
-ghost use Rattle.nmgc_script.specs.Reading.{Gives, operands_at, sized, command_at};
+ghost use Rattle.nmgc_script.specs.Reading.{Gives, none_at, operands_at, sized, command_at};
 
-use crate::effects::{
-    cas, collect, deref, finalise, force, full, get, next_fin, pop, push, same, set, show, update,
-    yield_now,
-};
-use crate::makers::{arr, con, mov, nil, num, stack, thunk, var, weak};
 use crate::verbs::{Verb, verb_of};
+use crate::version::Version;
 use crate::{Cause, LineFault};
 use nmgc_graph::Command;
 use std::alloc::Global;
 
 /// The command that words spell, where a segment has so many words.
 #[tactic(auto, unfolding(crate::specs::Reading::command_at))]
-pub fn command(alloc: Global, words: &[&[u8]], size: u32) -> Result<Command, LineFault>
-    ensures { Gives result (command_at size (map (λ w. w.now) words.now)) }
+pub fn command(
+    alloc: Global,
+    version: Version,
+    words: &[&[u8]],
+    size: u32,
+) -> Result<Command, LineFault>
+    ensures { Gives result (command_at version size (map (λ w. w.now) words.now)) }
 {
     let Some((name, words)) = words.split_first() else {
         return Err(LineFault::Bad(Cause::Command));
     };
     let verb = verb_of(name)?;
-    let command = operands_of(alloc, verb, words)?;
+    let command = operands_of(alloc, version, verb, words)?;
     sized(command, size)
 }
 
+// The command whose fields are the words that a shape reads.
+macro_rules! made {
+    ($shape:expr => $command:ident { $($field:ident),* }) => {{
+        let ($($field),*) = $shape?;
+        Ok(Command::$command { $($field),* })
+    }};
+}
+
 // The command of a verb and the words after its name.
-fn operands_of(alloc: Global, verb: Verb, words: &[&[u8]]) -> Result<Command, LineFault>
-    ensures { Gives result (operands_at verb (map (λ w. w.now) words.now)) }
+fn operands_of(
+    alloc: Global,
+    version: Version,
+    verb: Verb,
+    words: &[&[u8]],
+) -> Result<Command, LineFault>
+    ensures { Gives result (operands_at version verb (map (λ w. w.now) words.now)) }
 {
     match verb {
-        Verb::Num => num(words),
-        Verb::Nil => nil(words),
-        Verb::Mov => mov(words),
-        Verb::Con => con(alloc, words),
-        Verb::Var => var(words),
-        Verb::Arr => arr(words),
-        Verb::Thunk => thunk(alloc, words),
-        Verb::Weak => weak(words),
-        Verb::Stack => stack(words),
-        Verb::Get => get(words),
-        Verb::Set => set(words),
-        Verb::Cas => cas(words),
-        Verb::Update => update(words),
-        Verb::Force => force(words),
-        Verb::Push => push(words),
-        Verb::Pop => pop(words),
-        Verb::Deref => deref(words),
-        Verb::Finalise => finalise(words),
-        Verb::NextFin => next_fin(words),
-        Verb::Show => show(words),
-        Verb::Same => same(words),
-        Verb::Yield => yield_now(words),
-        Verb::Collect => collect(words),
-        Verb::Full => full(words),
+        Verb::Num => made!(version.dest_number(words) => Num { dest, number }),
+        Verb::Nil => made!(version.dest(words) => Nil { dest }),
+        Verb::Mov => made!(version.dest_value(words) => Mov { dest, value }),
+        Verb::Con => made!(version.dest_tag_values(alloc, words) => Con { dest, tag, fields }),
+        Verb::Var => made!(version.dest_value(words) => Var { dest, value }),
+        Verb::Arr => made!(version.dest_count_value(words) => Arr { dest, count, value }),
+        Verb::Thunk => made!(version.dest_few_values(alloc, words) => Thunk { dest, free }),
+        Verb::Weak => made!(version.dest_values(words) => Weak { dest, key, value, finaliser }),
+        Verb::Stack => made!(version.dest_count(words) => Stack { dest, size }),
+        Verb::Get => made!(version.dest_value_index(words) => Get { dest, object, index }),
+        Verb::Set => made!(version.value_index_value(words) => Set { object, index, value }),
+        Verb::Cas =>
+            made!(version.value_index_values(words) => Cas { object, index, expected, value }),
+        Verb::Update => made!(version.values(words) => Update { object, value }),
+        Verb::Force => made!(version.dest_value(words) => Force { dest, object }),
+        Verb::Push => made!(version.values(words) => Push { object, value }),
+        Verb::Pop => made!(version.dest_value(words) => Pop { dest, object }),
+        Verb::Deref => made!(version.dest_value(words) => Deref { dest, object }),
+        Verb::Finalise => made!(version.dest_value(words) => Finalise { dest, object }),
+        Verb::NextFin => made!(version.dest(words) => NextFin { dest }),
+        Verb::Show => made!(version.value(words) => Show { value }),
+        Verb::Same => made!(version.values(words) => Same { left, right }),
+        Verb::Yield => alone(Command::Yield, words),
+        Verb::Collect => alone(Command::Collect, words),
+        Verb::Full => alone(Command::Full, words),
     }
+}
+
+// A command with no words after its name.
+#[tactic(auto, unfolding(crate::specs::Reading::none_at))]
+fn alone(command: Command, words: &[&[u8]]) -> Result<Command, LineFault>
+    ensures { Gives result (none_at command (map (λ w. w.now) words.now)) }
+{
+    let [] = words else {
+        return Err(LineFault::Bad(Cause::Arity));
+    };
+    Ok(command)
 }
 
 // A command whose object fits in a segment.

@@ -4,14 +4,14 @@
 //! not seen. Easy to get wrong: the least nursery is the number of words of this line's segments.
 ghost use Rattle.std.specs.Prelude.{◌≡◌, map, IfOk};
 ghost use Rattle.nmgc_script.specs.Limits.{FitsConfig};
-ghost use Rattle.nmgc_script.specs.Reading.{Gives, between_at, is_segment_size, segment_size_at, sizes_at, pace_at, config_at, numbers_at, heap_words_at};
+ghost use Rattle.nmgc_script.specs.Reading.{Gives, between_at, segment_size_at, sizes_at, pace_at, config_at, numbers_at, heap_words_at};
 
-use crate::script::{MAX_NURSERY, MAX_QUOTA, MAX_SEGMENTS, MAX_SLICE, MAX_TRIGGER};
 use crate::words::small;
 use crate::{Cause, Config, LineFault};
-
-/// The greatest number of words of a segment.
-const MAX_WORDS: u32 = 4096;
+use nmgc_limits::{
+    MAX_NURSERY_WORDS, MAX_QUOTA, MAX_SEGMENT_WORDS, MAX_SEGMENTS, MAX_SLICE, MAX_TRIGGER,
+    MIN_SEGMENT_WORDS,
+};
 
 // A number within two limits.
 #[tactic(auto, unfolding(crate::specs::Reading::between_at))]
@@ -25,20 +25,13 @@ fn between(word: &[u8], low: u32, high: u32) -> Result<u32, LineFault>
     Ok(number)
 }
 
-// Whether a segment may have so many words.
-fn is_segment_size(words: u32) -> bool
-    ensures { result ≡ is_segment_size words }
-{
-    matches!(words, 16 | 32 | 64 | 128 | 256 | 512 | 1024 | 2048 | 4096)
-}
-
 // The number of words of a segment.
 #[tactic(auto, unfolding(crate::specs::Reading::segment_size_at))]
 fn segment_size(word: &[u8]) -> Result<u32, LineFault>
     ensures { Gives result (segment_size_at word.now) }
 {
-    let words = small(word, MAX_WORDS)?;
-    if !is_segment_size(words) {
+    let words = between(word, MIN_SEGMENT_WORDS, MAX_SEGMENT_WORDS)?;
+    if !words.is_power_of_two() {
         return Err(LineFault::Bad(Cause::Operand));
     }
     Ok(words)
@@ -51,7 +44,7 @@ fn sizes(segments: &[u8], words: &[u8], nursery: &[u8]) -> Result<(u32, u32, u32
 {
     let segments = between(segments, 1, MAX_SEGMENTS)?;
     let words = segment_size(words)?;
-    Ok((segments, words, between(nursery, words, MAX_NURSERY)?))
+    Ok((segments, words, between(nursery, words, MAX_NURSERY_WORDS)?))
 }
 
 // How much is done at a time.

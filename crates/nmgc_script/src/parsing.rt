@@ -17,6 +17,7 @@ ghost use Rattle.nmgc_script.specs.declared.fault.ScriptFault.TheVariants.{NoMem
 use crate::config::heap_words;
 use crate::sections::{Entry, read_entry, section};
 use crate::text::{Lines, cut_words};
+use crate::version::Version;
 use crate::{Cause, Config, LineFault, Script, ScriptFault};
 use nmgc_graph::{Command, List, NoMemory};
 use std::alloc::Global;
@@ -41,8 +42,6 @@ pub fn parse(alloc: Global, bytes: &[u8]) -> Result<Script, ScriptFault>
     ensures few { IfOk result (λ script. sum_by (λ program. length program) script.threads ≤ length bytes.now) }
     // Of bytes that spell no script, the first bad line and its first cause are told.
     ensures told { IfErr result (λ fault. IsToldOf bytes.now fault) }
-    // The same as reading the lines from left to right, which has one result.
-    ensures exact { GivesAt (λ s. s) result (script_at (end_of bytes.now) (kept_lines bytes.now)) }
 {
     script(alloc, bytes)
 }
@@ -63,11 +62,11 @@ fn script(alloc: Global, bytes: &[u8]) -> Result<Script, ScriptFault>
 {
     let mut lines = Lines::new(bytes);
     let mut words = Vec::new(alloc);
-    version_line(&mut lines)?;
+    let version = version_line(&mut lines)?;
     let config = heap_line(&mut lines, &mut words)?;
-    let threads = threads(alloc, &config, &mut lines, &mut words)?;
+    let threads = threads(alloc, version, &config, &mut lines, &mut words)?;
     Ok(Script {
-        version: 1,
+        version: version.number,
         config,
         threads,
     })
@@ -75,8 +74,8 @@ fn script(alloc: Global, bytes: &[u8]) -> Result<Script, ScriptFault>
 
 // Reads the version line.
 #[tactic(auto, unfolding(crate::specs::Reading::version_at))]
-fn version_line(lines: &mut Lines) -> Result<(), ScriptFault>
-    ensures gives { GivesAt (λ _. kept_after lines.new.number lines.new.rest.now) result (version_at (end_after lines.old.number lines.old.rest.now) (kept_after lines.old.number lines.old.rest.now)) }
+fn version_line(lines: &mut Lines) -> Result<Version, ScriptFault>
+    ensures gives { GivesAt (λ v. (v, kept_after lines.new.number lines.new.rest.now)) result (version_at (end_after lines.old.number lines.old.rest.now) (kept_after lines.old.number lines.old.rest.now)) }
     ensures end { end_after lines.new.number lines.new.rest.now ≡ end_after lines.old.number lines.old.rest.now }
 {
     let Some((number, line)) = lines.next() else {
@@ -91,7 +90,7 @@ fn version_line(lines: &mut Lines) -> Result<(), ScriptFault>
             cause: Cause::Version,
         });
     }
-    Ok(())
+    Ok(Version::first())
 }
 
 // Reads the heap line.
@@ -128,12 +127,13 @@ fn at_line<T>(number: u32, given: Result<T, LineFault>) -> Result<T, ScriptFault
 // Reads the sections.
 fn threads<'a>(
     alloc: Global,
+    version: Version,
     config: &Config,
     lines: &mut Lines<'a>,
     words: &mut Vec<&'a [u8]>,
 ) -> Result<List<List<Command>>, ScriptFault>
     requires { FitsConfig config.now }
-    ensures { GivesAt (λ t. t) result (threads_at (end_after lines.old.number lines.old.rest.now) config.now (kept_after lines.old.number lines.old.rest.now)) }
+    ensures { GivesAt (λ t. t) result (threads_at version (end_after lines.old.number lines.old.rest.now) config.now (kept_after lines.old.number lines.old.rest.now)) }
 {
     let Some((number, line)) = lines.next() else {
         return Err(ScriptFault::Bad {
@@ -142,26 +142,27 @@ fn threads<'a>(
         });
     };
     cut_words(words, line)?;
-    at_line(number, section(config, 0, words))?;
-    programs(alloc, config, lines, words)
+    at_line(number, section(version, config, 0, words))?;
+    programs(alloc, version, config, lines, words)
 }
 
 // Reads the commands of the first section, and the sections after it.
 fn programs<'a>(
     alloc: Global,
+    version: Version,
     config: &Config,
     lines: &mut Lines<'a>,
     words: &mut Vec<&'a [u8]>,
 ) -> Result<List<List<Command>>, ScriptFault>
     requires { FitsConfig config.now }
-    ensures { GivesAt (λ t. t) result (programs_at config.now (kept_after lines.old.number lines.old.rest.now)) }
+    ensures { GivesAt (λ t. t) result (programs_at version config.now (kept_after lines.old.number lines.old.rest.now)) }
 {
     let mut threads = List::new(alloc);
     let mut program = List::new(alloc);
     let mut begun = 1;
     while let Some((number, line)) = lines.next() {
         cut_words(words, line)?;
-        match at_line(number, read_entry(alloc, config, begun, words))? {
+        match at_line(number, read_entry(alloc, version, config, begun, words))? {
             Entry::Section => {
                 threads.push(program)?;
                 program = List::new(alloc);

@@ -4,11 +4,11 @@
 //! same for each reader. Every word after the first stands behind one space. Easy to get wrong: a
 //! thunk without free variables ends with its register and no space after it.
 ghost use Rattle.std.specs.Prelude.{◌≡◌, ◌∷◌, [], ◌++◌, decimal, map, IfOk, OnOk};
-ghost use Rattle.nmgc_graph.specs.Command.{IsMaking, IsReading, IsChanging};
 ghost use Rattle.nmgc_script.specs.Limits.{FitsScript};
 ghost use Rattle.nmgc_script.specs.Printing.{word_text, after_spaces};
 ghost use Rattle.nmgc_script.specs.Spelling.{Spells, command_words, ended, heap_words, operand_word, plain, program_lines, section_lines, section_words, spaced};
 
+use crate::verbs::Verb;
 use crate::{Config, Script};
 use nmgc_graph::{Command, List, NoMemory, Operand};
 use nmgc_io::push_number;
@@ -18,11 +18,13 @@ use std::alloc::Global;
 #[derive(Clone, Copy, Debug, PartialEq, Eq)]
 pub enum Word {
     Register(u8),
+    Tag(u8),
+    Short(u32),
     Number(u64),
     Operand(Operand),
 }
 
-use Word::{Number, Operand as Value, Register};
+use Word::{Number, Operand as Value, Register, Short, Tag};
 
 /// Writes the plain spelling of a script that is within the limits. `parse` reads it back.
 pub fn print(alloc: Global, script: &Script) -> Result<Vec<u8>, NoMemory>
@@ -42,6 +44,8 @@ fn push_word(out: &mut Vec<u8>, word: Word) -> Result<(), NoMemory>
     ensures { OnOk result (out.new.items ≡ out.old.items ++ word_text word) }
 {
     match word {
+        Word::Tag(tag) => push_number(out, tag as u64),
+        Word::Short(number) => push_number(out, number as u64),
         Word::Number(number) => push_number(out, number),
         Word::Register(register) => push_register(out, register),
         Word::Operand(Operand::Register(register)) => push_register(out, register),
@@ -103,138 +107,56 @@ fn push_long_line(
     push_operands(out, operands)
 }
 
+// A match on a command, which appends its verb's name and then its fields, each as a word of this
+// form: commands of such fields alone, commands with a list of operands behind them, commands of
+// none.
+macro_rules! printed {
+    (
+        $out:ident, $command:ident,
+        $($verb:ident { $($field:ident: $form:ident),* })*;
+        $($long:ident { $($front:ident: $shape:ident),* } then $operands:ident)*;
+        $($alone:ident)*
+    ) => {
+        match $command {
+            $(Command::$verb { $($field),* } => {
+                push_line($out, Verb::$verb.name(), &[$($form(*$field)),*])
+            })*
+            $(Command::$long { $($front),*, $operands } => {
+                push_long_line($out, Verb::$long.name(), &[$($shape(*$front)),*], $operands.items())
+            })*
+            $(Command::$alone => push_line($out, Verb::$alone.name(), &[]),)*
+        }
+    };
+}
+
 // Appends the line of a command, without its end.
 fn push_command(out: &mut Vec<u8>, command: &Command) -> Result<(), NoMemory>
     ensures { OnOk result (out.new.items ≡ out.old.items ++ spaced (command_words command.now)) }
 {
-    match command {
-        Command::Num { dest, number } => push_line(
-            out,
-            b"num",
-            &[Register(*dest), Number(*number)],
-        ),
-        Command::Nil { dest } => push_line(out, b"nil", &[Register(*dest)]),
-        Command::Mov { dest, value } => push_line(out, b"mov", &[Register(*dest), Value(*value)]),
-        Command::NextFin { dest } => push_line(out, b"nextfin", &[Register(*dest)]),
-        Command::Show { value } => push_line(out, b"show", &[Value(*value)]),
-        Command::Same { left, right } => push_line(out, b"same", &[Value(*left), Value(*right)]),
-        Command::Yield => push_line(out, b"yield", &[]),
-        Command::Collect => push_line(out, b"collect", &[]),
-        Command::Full => push_line(out, b"full", &[]),
-        Command::Get { .. } | Command::Force { .. } | Command::Deref { .. } => push_reading(
-            out, command,
-        ),
-        Command::Set { .. } | Command::Cas { .. } | Command::Update { .. } | Command::Push { .. } =>
-            push_changing(out, command),
-        Command::Pop { dest, object } => {
-            push_line(out, b"pop", &[Register(*dest), Value(*object)])
-        }
-        Command::Finalise { dest, object } => {
-            push_line(out, b"finalise", &[Register(*dest), Value(*object)])
-        }
-        _ => push_making(out, command),
-    }
-}
-
-// Appends the line of a command that makes an object.
-fn push_making(out: &mut Vec<u8>, command: &Command) -> Result<(), NoMemory>
-    requires { IsMaking command.now }
-    ensures { OnOk result (out.new.items ≡ out.old.items ++ spaced (command_words command.now)) }
-{
-    match command {
-        Command::Con { dest, tag, fields } => {
-            let front = [Register(*dest), Number(*tag as u64)];
-            push_long_line(out, b"con", &front, fields.items())
-        }
-        Command::Var { dest, value } => push_line(out, b"var", &[Register(*dest), Value(*value)]),
-        Command::Arr { dest, count, value } => {
-            let words = [Register(*dest), Number(*count as u64), Value(*value)];
-            push_line(out, b"arr", &words)
-        }
-        Command::Thunk { dest, free } => {
-            push_long_line(out, b"thunk", &[Register(*dest)], free.items())
-        }
-        Command::Weak {
-            dest,
-            key,
-            value,
-            finaliser,
-        } => {
-            let words = [
-                Register(*dest),
-                Value(*key),
-                Value(*value),
-                Value(*finaliser),
-            ];
-            push_line(out, b"weak", &words)
-        }
-        Command::Stack { dest, size } => {
-            push_line(out, b"stack", &[Register(*dest), Number(*size as u64)])
-        }
-        _ => unreachable!(),
-    }
-}
-
-// Appends the line of a command that reads an object.
-fn push_reading(out: &mut Vec<u8>, command: &Command) -> Result<(), NoMemory>
-    requires { IsReading command.now }
-    ensures { OnOk result (out.new.items ≡ out.old.items ++ spaced (command_words command.now)) }
-{
-    match command {
-        Command::Get {
-            dest,
-            object,
-            index,
-        } => {
-            let words = [Register(*dest), Value(*object), Number(*index as u64)];
-            push_line(out, b"get", &words)
-        }
-        Command::Force { dest, object } => {
-            push_line(out, b"force", &[Register(*dest), Value(*object)])
-        }
-        Command::Deref { dest, object } => {
-            push_line(out, b"deref", &[Register(*dest), Value(*object)])
-        }
-        _ => unreachable!(),
-    }
-}
-
-// Appends the line of a command that may change an object, and takes no value from it.
-fn push_changing(out: &mut Vec<u8>, command: &Command) -> Result<(), NoMemory>
-    requires { IsChanging command.now }
-    ensures { OnOk result (out.new.items ≡ out.old.items ++ spaced (command_words command.now)) }
-{
-    match command {
-        Command::Set {
-            object,
-            index,
-            value,
-        } => {
-            let words = [Value(*object), Number(*index as u64), Value(*value)];
-            push_line(out, b"set", &words)
-        }
-        Command::Cas {
-            object,
-            index,
-            expected,
-            value,
-        } => {
-            let words = [
-                Value(*object),
-                Number(*index as u64),
-                Value(*expected),
-                Value(*value),
-            ];
-            push_line(out, b"cas", &words)
-        }
-        Command::Update { object, value } => {
-            push_line(out, b"update", &[Value(*object), Value(*value)])
-        }
-        Command::Push { object, value } => {
-            push_line(out, b"push", &[Value(*object), Value(*value)])
-        }
-        _ => unreachable!(),
-    }
+    printed!(out, command,
+        Num { dest: Register, number: Number }
+        Nil { dest: Register }
+        Mov { dest: Register, value: Value }
+        Var { dest: Register, value: Value }
+        Arr { dest: Register, count: Short, value: Value }
+        Weak { dest: Register, key: Value, value: Value, finaliser: Value }
+        Stack { dest: Register, size: Short }
+        Get { dest: Register, object: Value, index: Short }
+        Set { object: Value, index: Short, value: Value }
+        Cas { object: Value, index: Short, expected: Value, value: Value }
+        Update { object: Value, value: Value }
+        Force { dest: Register, object: Value }
+        Push { object: Value, value: Value }
+        Pop { dest: Register, object: Value }
+        Deref { dest: Register, object: Value }
+        Finalise { dest: Register, object: Value }
+        NextFin { dest: Register }
+        Show { value: Value }
+        Same { left: Value, right: Value };
+        Con { dest: Register, tag: Tag } then fields
+        Thunk { dest: Register } then free;
+        Yield Collect Full
+    )
 }
 
 // Appends the lines of a program.
@@ -276,12 +198,12 @@ fn push_heap(out: &mut Vec<u8>, config: &Config) -> Result<(), NoMemory>
         out,
         b"heap",
         &[
-            Word::Number(config.segments as u64),
-            Word::Number(config.words as u64),
-            Word::Number(config.nursery as u64),
-            Word::Number(config.slice as u64),
-            Word::Number(config.quota as u64),
-            Word::Number(config.trigger as u64),
+            Word::Short(config.segments),
+            Word::Short(config.words),
+            Word::Short(config.nursery),
+            Word::Short(config.slice),
+            Word::Short(config.quota),
+            Word::Short(config.trigger),
         ],
     )?;
     out.push(b'\n')?;

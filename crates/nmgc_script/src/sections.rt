@@ -8,10 +8,11 @@ ghost use Rattle.nmgc_script.specs.Limits.{FitsConfig, total_words};
 ghost use Rattle.nmgc_script.specs.Reading.{Gives, thread_at, section_at, is_section, entry_at};
 
 use crate::commands::command;
-use crate::script::MAX_TOTAL;
+use crate::version::Version;
 use crate::words::small;
 use crate::{Cause, Config, LineFault};
-use nmgc_graph::{Command, MAKERS};
+use nmgc_graph::Command;
+use nmgc_limits::MAX_HEAP_WORDS;
 use std::alloc::Global;
 
 /// What a line is after the heap line.
@@ -25,9 +26,9 @@ pub enum Entry {
 
 // The number of the thread whose section begins.
 #[tactic(auto, unfolding(crate::specs::Reading::thread_at))]
-fn thread(words: &[&[u8]]) -> Result<u8, LineFault>
-    ensures gives { Gives result (thread_at (map (λ w. w.now) words.now)) }
-    ensures within { IfOk result (λ n. n < MAKERS) }
+fn thread(version: Version, words: &[&[u8]]) -> Result<u8, LineFault>
+    ensures gives { Gives result (thread_at version (map (λ w. w.now) words.now)) }
+    ensures within { IfOk result (λ n. n < 255) }
 {
     let [name, number] = words else {
         return Err(LineFault::Bad(Cause::Thread));
@@ -35,7 +36,7 @@ fn thread(words: &[&[u8]]) -> Result<u8, LineFault>
     if *name != b"thread".as_slice() {
         return Err(LineFault::Bad(Cause::Thread));
     }
-    match small(number, (MAKERS - 1) as u32) {
+    match small(number, version.threads.saturating_sub(1) as u32) {
         Ok(number) => Ok(number as u8),
         Err(LineFault::NoMemory) => Err(LineFault::NoMemory),
         Err(LineFault::Bad(_)) => Err(LineFault::Bad(Cause::Thread)),
@@ -44,8 +45,7 @@ fn thread(words: &[&[u8]]) -> Result<u8, LineFault>
 
 // The words of all segments, and of a nursery for each of so many threads.
 fn total_words(config: &Config, threads: u8) -> u32
-    requires fits { FitsConfig config.now }
-    requires few { threads ≤ MAKERS }
+    requires { FitsConfig config.now }
     ensures { result ≡ total_words config.now threads }
 {
     config.segments * config.words + threads as u32 * config.nursery
@@ -53,15 +53,20 @@ fn total_words(config: &Config, threads: u8) -> u32
 
 // The line that begins the section of the next thread, where so many were begun before.
 #[tactic(auto, unfolding(crate::specs::Reading::section_at))]
-pub fn section(config: &Config, begun: u8, words: &[&[u8]]) -> Result<Entry, LineFault>
+pub fn section(
+    version: Version,
+    config: &Config,
+    begun: u8,
+    words: &[&[u8]],
+) -> Result<Entry, LineFault>
     requires { FitsConfig config.now }
-    ensures gives { Gives result (section_at config.now begun (map (λ w. w.now) words.now)) }
-    ensures within { IfOk result (λ e. begun < MAKERS) }
+    ensures gives { Gives result (section_at version config.now begun (map (λ w. w.now) words.now)) }
+    ensures within { IfOk result (λ e. begun < 255) }
 {
-    if thread(words)? != begun {
+    if thread(version, words)? != begun {
         return Err(LineFault::Bad(Cause::Thread));
     }
-    if total_words(config, begun + 1) > MAX_TOTAL {
+    if total_words(config, begun + 1) > MAX_HEAP_WORDS {
         return Err(LineFault::Bad(Cause::Total));
     }
     Ok(Entry::Section)
@@ -81,16 +86,17 @@ fn is_section(words: &[&[u8]]) -> bool
 #[tactic(auto, unfolding(crate::specs::Reading::entry_at))]
 pub fn read_entry(
     alloc: Global,
+    version: Version,
     config: &Config,
     begun: u8,
     words: &[&[u8]],
 ) -> Result<Entry, LineFault>
     requires { FitsConfig config.now }
-    ensures gives { Gives result (entry_at config.now begun (map (λ w. w.now) words.now)) }
-    ensures within { IfOk result (λ e. e ≡ Entry.Section → begun < MAKERS) }
+    ensures gives { Gives result (entry_at version config.now begun (map (λ w. w.now) words.now)) }
+    ensures within { IfOk result (λ e. e ≡ Entry.Section → begun < 255) }
 {
     if is_section(words) {
-        return section(config, begun, words);
+        return section(version, config, begun, words);
     }
-    Ok(Entry::Order(command(alloc, words, config.words)?))
+    Ok(Entry::Order(command(alloc, version, words, config.words)?))
 }

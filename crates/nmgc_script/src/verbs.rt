@@ -1,8 +1,11 @@
 //! The names of commands.
 //!
-//! A name is looked up before anything else of its line is looked at, so an unknown name is told even
-//! where the line has too many words.
-ghost use Rattle.nmgc_script.specs.Reading.{Gives, verb_at, effect_verb_at, other_verb_at};
+//! This is the one table of names, for reading and for printing. A name is looked up before anything
+//! else of its line is looked at, so an unknown name is told even where the line has too many words.
+//! Easy to get wrong: a verb that is missing in `VERBS` could be printed and not be read.
+ghost use Rattle.std.specs.Prelude.{◌≡◌};
+ghost use Rattle.nmgc_script.specs.Reading.{Gives, first_named, verb_at};
+ghost use Rattle.nmgc_script.specs.Spelling.{verb_name};
 
 use crate::{Cause, LineFault};
 
@@ -35,80 +38,86 @@ pub enum Verb {
     Full,
 }
 
+/// Every verb, in the order in which names are looked up.
+pub const VERBS: [Verb; 24] = [
+    Verb::Num,
+    Verb::Nil,
+    Verb::Mov,
+    Verb::Con,
+    Verb::Var,
+    Verb::Arr,
+    Verb::Thunk,
+    Verb::Weak,
+    Verb::Stack,
+    Verb::Get,
+    Verb::Set,
+    Verb::Cas,
+    Verb::Update,
+    Verb::Force,
+    Verb::Push,
+    Verb::Pop,
+    Verb::Deref,
+    Verb::Finalise,
+    Verb::NextFin,
+    Verb::Show,
+    Verb::Same,
+    Verb::Yield,
+    Verb::Collect,
+    Verb::Full,
+];
+
+impl Verb {
+    /// The name. Takes no memory.
+    pub fn name(self) -> &'static [u8]
+        ensures { result.now ≡ verb_name self }
+    {
+        match self {
+            Verb::Num => b"num",
+            Verb::Nil => b"nil",
+            Verb::Mov => b"mov",
+            Verb::Con => b"con",
+            Verb::Var => b"var",
+            Verb::Arr => b"arr",
+            Verb::Thunk => b"thunk",
+            Verb::Weak => b"weak",
+            Verb::Stack => b"stack",
+            Verb::Get => b"get",
+            Verb::Set => b"set",
+            Verb::Cas => b"cas",
+            Verb::Update => b"update",
+            Verb::Force => b"force",
+            Verb::Push => b"push",
+            Verb::Pop => b"pop",
+            Verb::Deref => b"deref",
+            Verb::Finalise => b"finalise",
+            Verb::NextFin => b"nextfin",
+            Verb::Show => b"show",
+            Verb::Same => b"same",
+            Verb::Yield => b"yield",
+            Verb::Collect => b"collect",
+            Verb::Full => b"full",
+        }
+    }
+}
+
 /// The verb of a name. Takes no memory.
-#[tactic(auto, unfolding(crate::specs::Reading::verb_at))]
 pub fn verb_of(name: &[u8]) -> Result<Verb, LineFault>
     ensures { Gives result (verb_at name.now) }
 {
-    if name == b"num".as_slice() {
-        Ok(Verb::Num)
-    } else if name == b"nil".as_slice() {
-        Ok(Verb::Nil)
-    } else if name == b"mov".as_slice() {
-        Ok(Verb::Mov)
-    } else if name == b"con".as_slice() {
-        Ok(Verb::Con)
-    } else if name == b"var".as_slice() {
-        Ok(Verb::Var)
-    } else if name == b"arr".as_slice() {
-        Ok(Verb::Arr)
-    } else if name == b"thunk".as_slice() {
-        Ok(Verb::Thunk)
-    } else if name == b"weak".as_slice() {
-        Ok(Verb::Weak)
-    } else if name == b"stack".as_slice() {
-        Ok(Verb::Stack)
-    } else {
-        effect_verb(name)
-    }
+    first_named(name, &VERBS)
 }
 
-// The verb of a command that makes nothing.
-#[tactic(auto, unfolding(crate::specs::Reading::effect_verb_at))]
-fn effect_verb(name: &[u8]) -> Result<Verb, LineFault>
-    ensures { Gives result (effect_verb_at name.now) }
+// The first of some verbs that has the name.
+#[tactic(auto, unfolding(crate::specs::Reading::first_named))]
+fn first_named(name: &[u8], verbs: &[Verb]) -> Result<Verb, LineFault>
+    ensures { Gives result (first_named name.now verbs.now) }
 {
-    if name == b"get".as_slice() {
-        Ok(Verb::Get)
-    } else if name == b"set".as_slice() {
-        Ok(Verb::Set)
-    } else if name == b"cas".as_slice() {
-        Ok(Verb::Cas)
-    } else if name == b"update".as_slice() {
-        Ok(Verb::Update)
-    } else if name == b"force".as_slice() {
-        Ok(Verb::Force)
-    } else if name == b"push".as_slice() {
-        Ok(Verb::Push)
-    } else if name == b"pop".as_slice() {
-        Ok(Verb::Pop)
-    } else {
-        other_verb(name)
+    let mut left = verbs;
+    while let [verb, rest @ ..] = left {
+        if name == verb.name() {
+            return Ok(*verb);
+        }
+        left = rest;
     }
-}
-
-// The verb of a command about weak pointers, that answers, or that ends the slice.
-#[tactic(auto, unfolding(crate::specs::Reading::other_verb_at))]
-fn other_verb(name: &[u8]) -> Result<Verb, LineFault>
-    ensures { Gives result (other_verb_at name.now) }
-{
-    if name == b"deref".as_slice() {
-        Ok(Verb::Deref)
-    } else if name == b"finalise".as_slice() {
-        Ok(Verb::Finalise)
-    } else if name == b"nextfin".as_slice() {
-        Ok(Verb::NextFin)
-    } else if name == b"show".as_slice() {
-        Ok(Verb::Show)
-    } else if name == b"same".as_slice() {
-        Ok(Verb::Same)
-    } else if name == b"yield".as_slice() {
-        Ok(Verb::Yield)
-    } else if name == b"collect".as_slice() {
-        Ok(Verb::Collect)
-    } else if name == b"full".as_slice() {
-        Ok(Verb::Full)
-    } else {
-        Err(LineFault::Bad(Cause::Command))
-    }
+    Err(LineFault::Bad(Cause::Command))
 }

@@ -1,17 +1,22 @@
 //! Single words: numbers, registers and operands.
 //!
-//! A number has no sign and no leading zero, so each value has one word. Easy to get wrong: the empty
-//! word, which two spaces in a row make, is none of these.
-ghost use Rattle.nmgc_script.specs.Reading.{Gives, number_at, register_at, operand_at, long_at, short_at, each_at};
+//! A number has no sign and no leading zero, so each value has one word. Which registers there are is
+//! the version's choice, so it reads the words of a command. Easy to get wrong: the empty word, which
+//! two spaces in a row make, is none of these.
+ghost use Rattle.nmgc_script.specs.Reading.{Gives, number_at, register_at, operand_at, long_at, short_at, tag_at, each_at};
 ghost use Rattle.std.specs.Prelude.{◌≤◌, map, IfOk};
 
+use crate::version::Version;
 use crate::{Cause, LineFault};
-use nmgc_graph::{List, Operand, REGISTERS};
+use nmgc_graph::{List, Operand};
 use nmgc_io::read_number;
 use std::alloc::Global;
 
 /// The greatest number that a value has.
 const MAX_NUMBER: u64 = 4611686018427387903;
+
+/// The greatest tag of a constructor.
+const MAX_TAG: u64 = 255;
 
 /// The greatest index of a field, and the greatest number of parts of an object.
 const MAX_INDEX: u64 = 65535;
@@ -36,49 +41,60 @@ pub fn small(word: &[u8], limit: u32) -> Result<u32, LineFault>
     Ok(number(word, limit as u64)? as u32)
 }
 
-/// A number that a value may have. Takes no memory.
-pub fn long(word: &[u8]) -> Result<u64, LineFault>
-    ensures { Gives result (long_at word.now) }
-{
-    number(word, MAX_NUMBER)
-}
-
-/// An index or a count. Takes no memory.
-pub fn short(word: &[u8]) -> Result<u32, LineFault>
-    ensures { Gives result (short_at word.now) }
-{
-    Ok(number(word, MAX_INDEX)? as u32)
-}
-
-/// A register's number. Takes no memory.
-#[tactic(auto, unfolding(crate::specs::Reading::register_at))]
-pub fn register(word: &[u8]) -> Result<u8, LineFault>
-    ensures { Gives result (register_at word.now) }
-{
-    match word {
-        [b'r', digits @ ..] => Ok(number(digits, (REGISTERS - 1) as u64)? as u8),
-        _ => Err(LineFault::Bad(Cause::Operand)),
+impl Version {
+    /// A number that a value may have, which is the same in each version. Takes no memory.
+    pub fn long(self, word: &[u8]) -> Result<u64, LineFault>
+        ensures { Gives result (long_at word.now) }
+    {
+        number(word, MAX_NUMBER)
     }
-}
 
-/// An operand. Takes no memory.
-#[tactic(auto, unfolding(crate::specs::Reading::operand_at))]
-pub fn operand(word: &[u8]) -> Result<Operand, LineFault>
-    ensures { Gives result (operand_at word.now) }
-{
-    if word == b"g".as_slice() {
-        return Ok(Operand::Shared);
+    /// An index or a count, which is the same in each version. Takes no memory.
+    pub fn short(self, word: &[u8]) -> Result<u32, LineFault>
+        ensures { Gives result (short_at word.now) }
+    {
+        Ok(number(word, MAX_INDEX)? as u32)
     }
-    Ok(Operand::Register(register(word)?))
-}
 
-/// As many operands as there are words.
-pub fn operands(alloc: Global, words: &[&[u8]]) -> Result<List<Operand>, LineFault>
-    ensures { Gives result (each_at operand_at (map (λ w. w.now) words.now)) }
-{
-    let mut operands = List::new(alloc);
-    for word in words {
-        operands.push(operand(word)?)?;
+    /// A constructor's tag, which is the same in each version. Takes no memory.
+    pub fn tag(self, word: &[u8]) -> Result<u8, LineFault>
+        ensures { Gives result (tag_at word.now) }
+    {
+        Ok(number(word, MAX_TAG)? as u8)
     }
-    Ok(operands)
+
+    /// The number of a register that the version names. Takes no memory.
+    #[tactic(auto, unfolding(crate::specs::Reading::register_at))]
+    pub fn register(self, word: &[u8]) -> Result<u8, LineFault>
+        ensures { Gives result (register_at self word.now) }
+    {
+        match word {
+            [b'r', digits @ ..] => Ok(
+                number(digits, self.registers.saturating_sub(1) as u64)? as u8,
+            ),
+            _ => Err(LineFault::Bad(Cause::Operand)),
+        }
+    }
+
+    /// An operand that the version names. Takes no memory.
+    #[tactic(auto, unfolding(crate::specs::Reading::operand_at))]
+    pub fn operand(self, word: &[u8]) -> Result<Operand, LineFault>
+        ensures { Gives result (operand_at self word.now) }
+    {
+        if word == b"g".as_slice() {
+            return Ok(Operand::Shared);
+        }
+        Ok(Operand::Register(self.register(word)?))
+    }
+
+    /// As many operands as there are words.
+    pub fn operands(self, alloc: Global, words: &[&[u8]]) -> Result<List<Operand>, LineFault>
+        ensures { Gives result (each_at (operand_at self) (map (λ w. w.now) words.now)) }
+    {
+        let mut operands = List::new(alloc);
+        for word in words {
+            operands.push(self.operand(word)?)?;
+        }
+        Ok(operands)
+    }
 }

@@ -1,5 +1,4 @@
-use Rattle.std.proofs.Common.{◌≡◌, ◌≤◌, length}
-use Rattle.nmgc_graph.specs.declared.value.TheConstants.{MAKERS}
+use Rattle.std.proofs.Common.{◌≡◌, length}
 use Rattle.nmgc_script.specs.Text.{lines_of, kept_from}
 use Rattle.nmgc_script.specs.Reading.{rest_at, programs_at}
 use Rattle.nmgc_script.proofs.Entries.{with_before}
@@ -7,10 +6,7 @@ use Rattle.nmgc_script.proofs.parsing.programs.Given as goal
 
 -- the programs so far and those of the rest are all
 abbrev pub invariant-loop-number : goal.invariant-loop-number
-invariant-loop-number l = record {
-  few : l.begun ≤ MAKERS;
-  read : with_before l.threads l.program (rest_at l.config l.begun (kept_from l.lines.number (lines_of l.lines.rest.now))) ≡ programs_at l.config (kept_from l.initial.lines.number (lines_of l.initial.lines.rest.now));
-}
+invariant-loop-number l = with_before l.threads l.program (rest_at l.version l.config l.begun (kept_from l.lines.number (lines_of l.lines.rest.now))) ≡ programs_at l.version l.config (kept_from l.initial.lines.number (lines_of l.initial.lines.rest.now))
 
 abbrev pub decreases-loop-number : goal.decreases-loop-number
 decreases-loop-number l = length l.lines.rest.now

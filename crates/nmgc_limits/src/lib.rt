@@ -1,0 +1,52 @@
+//! How large a heap and the numbers of a run may be.
+//!
+//! The limits keep every place in the words of the heap within 32 bits, and the whole heap within 32
+//! MiB. They stand once as numbers, in `specs/Limits.antt`, which every contract cites, and once as
+//! the constants below, which the code uses; `limits_are_these` ties each to the other. So a crate
+//! that compares with another number, or a constant that is changed alone, is not proved. Easy to get
+//! wrong: a config alone can't keep the limit of the whole heap, since the nurseries are as many as
+//! the threads.
+#![tactic(auto)]
+
+ghost use Rattle.std.specs.Prelude.{◌≡◌};
+ghost use Rattle.nmgc_limits.specs.Limits.{least_segment_words, most_heap_words, most_nursery_words, most_quota, most_script_bytes, most_segment_words, most_segments, most_slice, most_trigger};
+
+/// The most segments.
+pub const MAX_SEGMENTS: u32 = 65_536;
+
+/// The fewest words of a segment.
+pub const MIN_SEGMENT_WORDS: u32 = 16;
+
+/// The most words of a segment.
+pub const MAX_SEGMENT_WORDS: u32 = 4096;
+
+/// The most words of a nursery.
+pub const MAX_NURSERY_WORDS: u32 = 4_194_304;
+
+/// The most words of all segments and nurseries together.
+pub const MAX_HEAP_WORDS: u32 = 4_194_304;
+
+/// The most commands of a slice.
+pub const MAX_SLICE: u32 = 65_536;
+
+/// The most objects that are marked, or segments that are swept, in a round.
+pub const MAX_QUOTA: u32 = 1_048_576;
+
+/// The most filled segments that a trigger may wait for.
+pub const MAX_TRIGGER: u32 = 65_536;
+
+/// The most bytes of a script.
+pub const MAX_SCRIPT_BYTES: usize = 16_777_216;
+
+/// Each constant is the number of its definition. It does nothing: its contract is the law.
+pub fn limits_are_these()
+    ensures segments { MAX_SEGMENTS ≡ most_segments }
+    ensures least_words { MIN_SEGMENT_WORDS ≡ least_segment_words }
+    ensures most_words { MAX_SEGMENT_WORDS ≡ most_segment_words }
+    ensures nursery { MAX_NURSERY_WORDS ≡ most_nursery_words }
+    ensures heap { MAX_HEAP_WORDS ≡ most_heap_words }
+    ensures slice { MAX_SLICE ≡ most_slice }
+    ensures quota { MAX_QUOTA ≡ most_quota }
+    ensures trigger { MAX_TRIGGER ≡ most_trigger }
+    ensures script { MAX_SCRIPT_BYTES ≡ most_script_bytes }
+{}

@@ -1,0 +1,10 @@
+use Rattle.std.proofs.Common.{◌≡◌, length}
+use Rattle.nmgc_script.specs.Reading.{first_named}
+use Rattle.nmgc_script.proofs.verbs.first_named.Given as goal
+
+-- none of those before has the name
+abbrev pub invariant-loop-left : goal.invariant-loop-left
+invariant-loop-left l = first_named l.name l.left ≡ first_named l.name l.verbs
+
+abbrev pub decreases-loop-left : goal.decreases-loop-left
+decreases-loop-left l = length l.left

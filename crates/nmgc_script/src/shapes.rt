@@ -1,0 +1,205 @@
+//! Shapes: the words that stand after a command's name, one function for each.
+//!
+//! `D` is a register that is written, `V` an operand, `N` a number, `I` an index and `COUNT` a count.
+//! Each function looks at the number of words first, and then at each word from left to right. Easy
+//! to get wrong: with one word too many or too few, no word is looked at.
+ghost use Rattle.std.specs.Prelude.{map};
+ghost use Rattle.nmgc_script.specs.Reading.{Gives, register_at, operand_at, long_at, short_at, one_at, two_at, three_at, four_at, con_at, thunk_at};
+
+use crate::version::Version;
+use crate::{Cause, LineFault};
+use nmgc_graph::{List, Operand};
+use std::alloc::Global;
+
+/// The greatest number of free variables of a thunk.
+const MAX_FREE: usize = 8;
+
+impl Version {
+    /// `D`. Takes no memory.
+    #[tactic(auto, unfolding(crate::specs::Reading::one_at))]
+    pub fn dest(self, words: &[&[u8]]) -> Result<u8, LineFault>
+        ensures { Gives result (one_at (register_at self) (map (λ w. w.now) words.now)) }
+    {
+        let [dest] = words else {
+            return Err(LineFault::Bad(Cause::Arity));
+        };
+        self.register(dest)
+    }
+
+    /// `V`. Takes no memory.
+    #[tactic(auto, unfolding(crate::specs::Reading::one_at))]
+    pub fn value(self, words: &[&[u8]]) -> Result<Operand, LineFault>
+        ensures { Gives result (one_at (operand_at self) (map (λ w. w.now) words.now)) }
+    {
+        let [value] = words else {
+            return Err(LineFault::Bad(Cause::Arity));
+        };
+        self.operand(value)
+    }
+
+    /// `D N`. Takes no memory.
+    #[tactic(auto, unfolding(crate::specs::Reading::two_at))]
+    pub fn dest_number(self, words: &[&[u8]]) -> Result<(u8, u64), LineFault>
+        ensures { Gives result (two_at (register_at self) long_at (map (λ w. w.now) words.now)) }
+    {
+        let [dest, number] = words else {
+            return Err(LineFault::Bad(Cause::Arity));
+        };
+        Ok((self.register(dest)?, self.long(number)?))
+    }
+
+    /// `D COUNT`. Takes no memory.
+    #[tactic(auto, unfolding(crate::specs::Reading::two_at))]
+    pub fn dest_count(self, words: &[&[u8]]) -> Result<(u8, u32), LineFault>
+        ensures { Gives result (two_at (register_at self) short_at (map (λ w. w.now) words.now)) }
+    {
+        let [dest, count] = words else {
+            return Err(LineFault::Bad(Cause::Arity));
+        };
+        Ok((self.register(dest)?, self.short(count)?))
+    }
+
+    /// `D V`. Takes no memory.
+    #[tactic(auto, unfolding(crate::specs::Reading::two_at))]
+    pub fn dest_value(self, words: &[&[u8]]) -> Result<(u8, Operand), LineFault>
+        ensures { Gives result (two_at (register_at self) (operand_at self) (map (λ w. w.now) words.now)) }
+    {
+        let [dest, value] = words else {
+            return Err(LineFault::Bad(Cause::Arity));
+        };
+        Ok((self.register(dest)?, self.operand(value)?))
+    }
+
+    /// `V V`. Takes no memory.
+    #[tactic(auto, unfolding(crate::specs::Reading::two_at))]
+    pub fn values(self, words: &[&[u8]]) -> Result<(Operand, Operand), LineFault>
+        ensures { Gives result (two_at (operand_at self) (operand_at self) (map (λ w. w.now) words.now)) }
+    {
+        let [left, right] = words else {
+            return Err(LineFault::Bad(Cause::Arity));
+        };
+        Ok((self.operand(left)?, self.operand(right)?))
+    }
+
+    /// `V I`, with which longer shapes begin. Takes no memory.
+    #[tactic(auto, unfolding(crate::specs::Reading::two_at))]
+    fn value_index(self, words: &[&[u8]]) -> Result<(Operand, u32), LineFault>
+        ensures { Gives result (two_at (operand_at self) short_at (map (λ w. w.now) words.now)) }
+    {
+        let [value, index] = words else {
+            return Err(LineFault::Bad(Cause::Arity));
+        };
+        Ok((self.operand(value)?, self.short(index)?))
+    }
+
+    /// `D COUNT V`. Takes no memory.
+    #[tactic(auto, unfolding(crate::specs::Reading::three_at))]
+    pub fn dest_count_value(self, words: &[&[u8]]) -> Result<(u8, u32, Operand), LineFault>
+        ensures { Gives result (three_at (register_at self) short_at (operand_at self) (map (λ w. w.now) words.now)) }
+    {
+        let [dest, count, value] = words else {
+            return Err(LineFault::Bad(Cause::Arity));
+        };
+        Ok((
+            self.register(dest)?,
+            self.short(count)?,
+            self.operand(value)?,
+        ))
+    }
+
+    /// `D V I`. Takes no memory.
+    #[tactic(auto, unfolding(crate::specs::Reading::three_at))]
+    pub fn dest_value_index(self, words: &[&[u8]]) -> Result<(u8, Operand, u32), LineFault>
+        ensures { Gives result (three_at (register_at self) (operand_at self) short_at (map (λ w. w.now) words.now)) }
+    {
+        let [dest, value, index] = words else {
+            return Err(LineFault::Bad(Cause::Arity));
+        };
+        Ok((
+            self.register(dest)?,
+            self.operand(value)?,
+            self.short(index)?,
+        ))
+    }
+
+    /// `V I V`. Takes no memory.
+    #[tactic(auto, unfolding(crate::specs::Reading::three_at))]
+    pub fn value_index_value(self, words: &[&[u8]]) -> Result<(Operand, u32, Operand), LineFault>
+        ensures { Gives result (three_at (operand_at self) short_at (operand_at self) (map (λ w. w.now) words.now)) }
+    {
+        let [object, index, value] = words else {
+            return Err(LineFault::Bad(Cause::Arity));
+        };
+        Ok((
+            self.operand(object)?,
+            self.short(index)?,
+            self.operand(value)?,
+        ))
+    }
+
+    /// `V I V V`. Takes no memory.
+    #[tactic(auto, unfolding(crate::specs::Reading::four_at))]
+    pub fn value_index_values(
+        self,
+        words: &[&[u8]],
+    ) -> Result<(Operand, u32, Operand, Operand), LineFault>
+        ensures { Gives result (four_at (operand_at self) short_at (operand_at self) (operand_at self) (map (λ w. w.now) words.now)) }
+    {
+        let [object, index, left, right] = words else {
+            return Err(LineFault::Bad(Cause::Arity));
+        };
+        let (object, index) = self.value_index(&[object, index])?;
+        let (left, right) = self.values(&[left, right])?;
+        Ok((object, index, left, right))
+    }
+
+    /// `D V V V`. Takes no memory.
+    #[tactic(auto, unfolding(crate::specs::Reading::four_at))]
+    pub fn dest_values(self, words: &[&[u8]]) -> Result<(u8, Operand, Operand, Operand), LineFault>
+        ensures { Gives result (four_at (register_at self) (operand_at self) (operand_at self) (operand_at self) (map (λ w. w.now) words.now)) }
+    {
+        let [dest, first, second, third] = words else {
+            return Err(LineFault::Bad(Cause::Arity));
+        };
+        let (dest, first) = self.dest_value(&[dest, first])?;
+        let (second, third) = self.values(&[second, third])?;
+        Ok((dest, first, second, third))
+    }
+
+    /// `D TAG V V ..`, with any number of operands.
+    #[tactic(auto, unfolding(crate::specs::Reading::con_at))]
+    pub fn dest_tag_values(
+        self,
+        alloc: Global,
+        words: &[&[u8]],
+    ) -> Result<(u8, u8, List<Operand>), LineFault>
+        ensures { Gives result (con_at self (map (λ w. w.now) words.now)) }
+    {
+        let [dest, tag, values @ ..] = words else {
+            return Err(LineFault::Bad(Cause::Arity));
+        };
+        Ok((
+            self.register(dest)?,
+            self.tag(tag)?,
+            self.operands(alloc, values)?,
+        ))
+    }
+
+    /// `D V V ..`, with at most eight operands.
+    #[tactic(auto, unfolding(crate::specs::Reading::thunk_at))]
+    pub fn dest_few_values(
+        self,
+        alloc: Global,
+        words: &[&[u8]],
+    ) -> Result<(u8, List<Operand>), LineFault>
+        ensures { Gives result (thunk_at self (map (λ w. w.now) words.now)) }
+    {
+        let [dest, values @ ..] = words else {
+            return Err(LineFault::Bad(Cause::Arity));
+        };
+        if values.len() > MAX_FREE {
+            return Err(LineFault::Bad(Cause::Arity));
+        }
+        Ok((self.register(dest)?, self.operands(alloc, values)?))
+    }
+}
