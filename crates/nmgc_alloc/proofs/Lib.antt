@@ -1,13 +1,6 @@
-pub mod TurnLaws
 pub mod FirstLaws
-pub mod OneLaws
-pub mod SweepLaws
-pub mod PlaceLaws
 pub mod MarkLaws
-pub mod StateLaws
-pub mod StatePlaced
-pub mod StateSwept
-pub mod StateKept
-pub mod StateOne
-pub mod StateRoom
-pub mod StateApart
+pub mod OneLaws
+pub mod PlaceLaws
+pub mod SweepLaws
+pub mod TurnLaws

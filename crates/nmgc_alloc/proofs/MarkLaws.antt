@@ -10,7 +10,9 @@ use Rattle.nmgc_segment.specs.Segment.{Segment, IsSegment, free_segment}
 use Rattle.nmgc_alloc.specs.declared.search.Wanted.TheVariants as wanted
 use Rattle.nmgc_alloc.specs.Search.{nth}
 use Rattle.nmgc_alloc.specs.Segments.{Segments, IsMember, IsSegments, IsCurrent, HasNumber, IsBlockAt, Leads, table_index, marked_if}
-use Rattle.nmgc_alloc.proofs.OneLaws.{one_segments, none_below_set, each_set}
+use Rattle.nmgc_alloc.specs.laws.Counts.{filled_stays}
+use Rattle.nmgc_alloc.specs.laws.Numbers.{each_set}
+use Rattle.nmgc_alloc.proofs.OneLaws.{one_both, none_below_set}
 
 -- a place in a segment, from the number of the segment and of the block
 split : (number words block size : ℕ) → 0 < size → block < words / size → ((number * words + block * size) / words ≡ number) × ((number * words + block * size) % words ≡ block * size) × (block * size / size ≡ block)
@@ -80,9 +82,8 @@ marked_invariant s now n epoch block answer x y current active free_from sweep_f
     let here = h.0.members n there in
     let member_x = subst (λ (t : Segment). IsMember s.layout t) (sym x_is) here in
     let sound_y = subst (λ (t : Segment). IsSegment t) is (sound member_x.sound) in
-    let member_y = subst (λ (t : Segment). IsMember s.layout t) (sym is) (marked_member s.layout answer epoch block x sound_y member_x) in (
-      one_segments s n s.fresh y h.0 there member_y,
-      same_leads s.segments n y current active free_from sweep_from h.1 there
-          (ap (λ (t : Segment). t.state) is ∙ ap (λ (t : Segment). t.state) x_is)
-          (ap (λ (t : Segment). t.class) is ∙ ap (λ (t : Segment). t.class) x_is),
-    )
+    let member_y = subst (λ (t : Segment). IsMember s.layout t) (sym is) (marked_member s.layout answer epoch block x sound_y member_x) in
+    let state : y.state ≡ (nth s.segments n).state = ap (λ (t : Segment). t.state) is ∙ ap (λ (t : Segment). t.state) x_is in
+    one_both s n s.fresh y current active free_from sweep_from h.0 there member_y
+    (let few = h.0.fresh in let stays = filled_stays s.segments n y there (λ e. state ∙ e) in omega (arith, few, stays))
+    (same_leads s.segments n y current active free_from sweep_from h.1 there state (ap (λ (t : Segment). t.class) is ∙ ap (λ (t : Segment). t.class) x_is))

@@ -1,5 +1,5 @@
 -- What keeps the invariant of all segments where one of them changes.
-use Rattle.std.proofs.Common.{ℕ, ◌≡◌, ◌≢◌, ◌*◌, ◌/◌, ◌<◌, ◌≤◌, ◌∙◌, inl, inr, ap, subst, sym, arith, List, length, set, slice_index, slice_index_or}
+use Rattle.std.proofs.Common.{ℕ, ◌≡◌, ◌*◌, ◌/◌, ◌<◌, ◌≤◌, ◌∙◌, inl, inr, ap, subst, sym, arith, List, length, set, slice_index, slice_index_or}
 use Rattle.std.proofs.Math.ListN.{length-set}
 use Rattle.std.proofs.lemmas.List.{get_or-set_same, get_or-set_other, get_or_default}
 use Rattle.std.proofs.lemmas.Nat.{same_from_place, pow_pos}
@@ -15,27 +15,34 @@ use Rattle.nmgc_alloc.specs.declared.tables.TheConstants.{CLASSES, PAIRS}
 use Rattle.nmgc_alloc.specs.declared.search.Wanted.{Wanted}
 use Rattle.nmgc_alloc.specs.declared.search.Wanted.TheVariants as wanted
 use Rattle.nmgc_alloc.specs.Search.{nth, Is, NoneBelow}
-use Rattle.nmgc_alloc.specs.Segments.{Segments, IsMember, IsSegments, IsCurrent, IsOpen, HasNoCurrent, SearchesFrom, TakesBlock, Leads, as_current, table_index}
+use Rattle.nmgc_alloc.specs.laws.Numbers.{nth-set_same, nth-set_other, each_set}
+use Rattle.nmgc_alloc.specs.Segments.{Segments, IsMember, IsSegments, IsCurrent, IsOpen, HasNoCurrent, SearchesFrom, TakesBlock, CountsFilled, HasNumber, IsOwn, Leads, as_current, filled_count, table_index}
+use Rattle.nmgc_alloc.specs.laws.Counts.{filled_stays, filled_rises}
 
-pub nth-set_same : (xs : List Segment) (n : ℕ) (y : Segment) → n < length xs → nth (set xs n y) n ≡ y
-nth-set_same xs n y h = get_or-set_same xs n y (free_segment 0) h
+-- a mutator has one current segment of a class at most, since the table leads to it
+pub one_of_leads : (s : Segments) (current active : List ℕ) (free_from sweep_from : ℕ) → ((number : ℕ) → HasNumber s number → IsMember s.layout (nth s.segments number)) → Leads s.segments current active free_from sweep_from → (m c a b : ℕ) → IsOwn s m c a → IsOwn s m c b → a ≡ b
+one_of_leads s current active free_from sweep_from members leads m c a b own other =
+    let member = members a own.exists in
+    let low : m < MAKERS = member.owner m own.is.0 in
+    let most = member.sound.class in
+    let same = own.is.1 in
+    let few : c < CLASSES = omega (arith, most, same) in
+    sym (leads.owned m c a low few own.exists own.is) ∙ leads.owned m c b low few other.exists other.is
 
-pub nth-set_other : (xs : List Segment) (n i : ℕ) (y : Segment) → i ≢ n → nth (set xs n y) i ≡ nth xs i
-nth-set_other xs n i y h = get_or-set_other xs n i y (free_segment 0) h
-
--- what holds of the new segment and of the others holds of each
-pub each_set : (P : ℕ → Segment → Type 0) (xs : List Segment) (n : ℕ) (y : Segment) → n < length xs → P n y → (i : ℕ) → P i (nth xs i) → P i (nth (set xs n y) i)
-each_set P xs n y h here i there = elim (cases_eq i n) [
-  | inl e ↦ subst (λ (k : ℕ). P k (nth (set xs n y) k)) (sym e) (subst (λ (s : Segment). P n s) (sym (nth-set_same xs n y h)) here)
-  | inr ne ↦ subst (λ (s : Segment). P i s) (sym (nth-set_other xs n i y ne)) there
-]
-
-pub one_segments : (s : Segments) (n fresh : ℕ) (y : Segment) → IsSegments s → n < length s.segments → IsMember s.layout y → IsSegments (record s { segments = set s.segments n y; fresh = fresh })
-one_segments s n fresh y h exists member = record {
-  layout = h.layout;
-  count = length-set s.segments n y ∙ h.count;
-  members = λ i there. each_set (λ _ t. IsMember s.layout t) s.segments n y exists member i (h.members i (rw length-set at there));
-}
+-- the invariant of the code after one segment changed
+pub one_both : (s : Segments) (n fresh : ℕ) (y : Segment) (current active : List ℕ) (free_from sweep_from : ℕ) → IsSegments s → n < length s.segments → IsMember s.layout y → fresh ≤ filled_count (set s.segments n y) → Leads (set s.segments n y) current active free_from sweep_from → IsSegments (record s { segments = set s.segments n y; fresh = fresh }) × Leads (set s.segments n y) current active free_from sweep_from
+one_both s n fresh y current active free_from sweep_from h exists member few leads =
+    let new : Segments = record s { segments = set s.segments n y; fresh = fresh } in
+    let members = λ (i : ℕ) (there : HasNumber new i). each_set (λ _ t. IsMember s.layout t) s.segments n y exists member i (h.members i (rw length-set at there)) in (
+      record {
+        layout = h.layout;
+        count = length-set s.segments n y ∙ h.count;
+        members = members;
+        one_current = one_of_leads new current active free_from sweep_from members leads;
+        fresh = few;
+      },
+      leads,
+    )
 
 -- no such segment below: the new one isn't such, or lies above
 pub none_below_set : (w : Wanted) (xs : List Segment) (n k : ℕ) (y : Segment) → n < length xs → (n < k → Is w y → ⊥) → NoneBelow w xs k → NoneBelow w (set xs n y) k
@@ -129,6 +136,15 @@ open_member layout m c s lm h opens sound =
       owner = λ k e. let same : m ≡ k = cc in omega arith;
     }
 
+-- a current segment isn't filled
+current_not_filled : (m : ℕ) (state : State) → state ≡ Current m → state ≡ Filled → ⊥
+current_not_filled m state is e = cc
+
+-- an open segment isn't filled
+open_not_filled : (c : ℕ) (x : Segment) → IsOpen c x → x.state ≡ Filled → ⊥
+open_not_filled c x (inl active) e = let other = active.0 in cc
+open_not_filled c x (inr free) e = cc
+
 -- both, of what the code has
 pub open_invariant : (s now : Segments) (n m c index ci a f : ℕ) (y : Segment) (current active : List ℕ) (free_from sweep_from : ℕ) → s ≡ now → IsSegments s × Leads s.segments current active free_from sweep_from → n < length now.segments → m < MAKERS → c < CLASSES → index ≡ table_index m c → ci ≡ c → y ≡ as_current m c (nth s.segments n) → IsSegment y → IsOpen c (nth now.segments n) → HasNoCurrent now m c → SearchesFrom (wanted.Active c) now a → SearchesFrom wanted.Free now f → IsSegments (record s { segments = set s.segments n y }) × Leads (set s.segments n y) (set current index n) (set active ci a) f sweep_from
 open_invariant s now n m c index ci a f y current active free_from sweep_from seen h exists lm lc at is_class is sound opens none act free =
@@ -139,10 +155,10 @@ open_invariant s now n m c index ci a f y current active free_from sweep_from se
     let act_here = subst (λ (t : Segments). SearchesFrom (wanted.Active c) t a) back act in
     let free_here = subst (λ (t : Segments). SearchesFrom wanted.Free t f) back free in
     let sound_here = subst (λ (t : Segment). IsSegment t) is sound in
-    let member = subst (λ (t : Segment). IsMember s.layout t) (sym is) (open_member s.layout m c (nth s.segments n) lm (h.0.members n there) open_here sound_here) in (
-      one_segments s n s.fresh y h.0 there member,
-      open_leads s.segments n m c index ci a f y current active free_from sweep_from h.1 there lm lc at is_class (ap (λ (t : Segment). t.state) is, ap (λ (t : Segment). t.class) is) none_here act_here free_here,
-    )
+    let member = subst (λ (t : Segment). IsMember s.layout t) (sym is) (open_member s.layout m c (nth s.segments n) lm (h.0.members n there) open_here sound_here) in
+    one_both s n s.fresh y _ _ f sweep_from h.0 there member
+    (let h_fresh = h.0.fresh in let stays = filled_stays s.segments n y there (λ e. absurd (open_not_filled c (nth s.segments n) open_here e)) in omega (arith, h_fresh, stays))
+    (open_leads s.segments n m c index ci a f y current active free_from sweep_from h.1 there lm lc at is_class (ap (λ (t : Segment). t.state) is, ap (λ (t : Segment). t.class) is) none_here act_here free_here)
 
 -- what a taken block leaves of the segment
 taken_class : (x y : Segment) (block : ℕ) → TakesBlock x y block → y.class ≡ x.class
@@ -188,17 +204,31 @@ taken_leads xs n m block y current active free_from sweep_from h exists is takes
       sweep = (omega (arith, h.sweep.0), none_below_set wanted.Sweeping xs n sweep_from y exists (λ _ e. taken_not x y m block Sweeping is takes (λ k. cc) (λ k. cc) e) h.sweep.1);
     }
 
+-- the count of filled segments after a block was taken
+taken_fresh : (xs : List Segment) (n m block old new : ℕ) (y : Segment) → n < length xs → (nth xs n).state ≡ Current m → TakesBlock (nth xs n) y block → old ≤ filled_count xs → CountsFilled y old new → new ≤ filled_count (set xs n y)
+taken_fresh xs n m block old new y exists is takes few counts = elim counts [
+  | inl free ↦
+      let stays = filled_stays xs n y exists (λ e. absurd (current_not_filled m (nth xs n).state is e)) in
+      let same = free.1 in
+      omega (arith, few, stays, same)
+  | inr full ↦
+      let filled : y.state ≡ Filled = elim takes.state [ inl stays ↦ absurd (full.0 stays.0) | inr f ↦ f.1 ] in
+      let rises = filled_rises xs n y exists (λ e. current_not_filled m (nth xs n).state is e) filled in
+      let more = full.1 in
+      omega (arith, few, rises, more)
+]
+
 -- both, of what the code has
-pub taken_invariant : (s now : Segments) (n block fresh : ℕ) (x y : Segment) (current active : List ℕ) (free_from sweep_from : ℕ) → s ≡ now → IsSegments s × Leads s.segments current active free_from sweep_from → n < length now.segments → ((m : ℕ) × ((nth now.segments n).state ≡ Current m)) → x ≡ slice_index_or s.segments n x → TakesBlock x y block → IsSegment y → IsSegments (record s { segments = set s.segments n y; fresh = fresh }) × Leads (set s.segments n y) current active free_from sweep_from
-taken_invariant s now n block fresh x y current active free_from sweep_from seen h exists owner read takes sound =
+pub taken_invariant : (s now : Segments) (n block fresh : ℕ) (x y : Segment) (current active : List ℕ) (free_from sweep_from : ℕ) → s ≡ now → IsSegments s × Leads s.segments current active free_from sweep_from → n < length now.segments → ((m : ℕ) × ((nth now.segments n).state ≡ Current m)) → x ≡ slice_index_or s.segments n x → TakesBlock x y block → IsSegment y → CountsFilled y s.fresh fresh → IsSegments (record s { segments = set s.segments n y; fresh = fresh }) × Leads (set s.segments n y) current active free_from sweep_from
+taken_invariant s now n block fresh x y current active free_from sweep_from seen h exists owner read takes sound counts =
     let back = sym seen in
     let there = subst (λ (t : Segments). n < length t.segments) back exists in
     let own = subst (λ (t : Segments). (nth t.segments n).state ≡ Current owner.0) back owner.1 in
     let is : x ≡ nth s.segments n = read ∙ get_or_default s.segments n x (free_segment 0) there in
-    let takes_here = subst (λ (t : Segment). TakesBlock t y block) is takes in (
-      one_segments s n fresh y h.0 there (taken_member s.layout (nth s.segments n) y owner.0 block own takes_here sound (h.0.members n there)),
-      taken_leads s.segments n owner.0 block y current active free_from sweep_from h.1 there own takes_here,
-    )
+    let takes_here = subst (λ (t : Segment). TakesBlock t y block) is takes in
+    one_both s n fresh y current active free_from sweep_from h.0 there (taken_member s.layout (nth s.segments n) y owner.0 block own takes_here sound (h.0.members n there))
+    (taken_fresh s.segments n owner.0 block s.fresh fresh y there own takes_here h.0.fresh counts)
+    (taken_leads s.segments n owner.0 block y current active free_from sweep_from h.1 there own takes_here)
 
 pub opened_invariant : (s now : Segments) (n m c index ci a f : ℕ) (x y : Segment) (current active : List ℕ) (free_from sweep_from : ℕ) → s ≡ now → IsSegments s × Leads s.segments current active free_from sweep_from → n < length now.segments → m < MAKERS → c < CLASSES → index ≡ table_index m c → ci ≡ c → x ≡ slice_index_or s.segments n x → y ≡ as_current m c x → IsSegment y → IsOpen c (nth now.segments n) → HasNoCurrent now m c → SearchesFrom (wanted.Active c) now a → SearchesFrom wanted.Free now f → IsSegments (record s { segments = set s.segments n y }) × Leads (set s.segments n y) (set current index n) (set active ci a) f sweep_from
 opened_invariant s now n m c index ci a f x y current active free_from sweep_from seen h exists lm lc at is_class read is sound opens none act free =

@@ -12,7 +12,9 @@ use Rattle.nmgc_alloc.specs.declared.tables.TheConstants.{CLASSES}
 use Rattle.nmgc_alloc.specs.declared.search.Wanted.TheVariants as wanted
 use Rattle.nmgc_alloc.specs.Search.{nth, Is, NoneBelow}
 use Rattle.nmgc_alloc.specs.Segments.{Segments, IsMember, IsSegments, IsCurrent, IsLeast, SweepsSegment, Leads, table_index}
-use Rattle.nmgc_alloc.proofs.OneLaws.{one_segments, none_below_set, each_set}
+use Rattle.nmgc_alloc.specs.laws.Counts.{filled_stays}
+use Rattle.nmgc_alloc.specs.laws.Numbers.{each_set}
+use Rattle.nmgc_alloc.proofs.OneLaws.{one_both, none_below_set}
 
 -- a sweep that found some blocks marked, and not all
 pub active_swept : (old mid new : Segment) (epoch : ℕ) → ((block : ℕ) → InUse mid block ↔ IsMarked old epoch block) → mid.marks ≡ map (swept epoch) old.marks → mid ≡ record old { marks = mid.marks; next_free = mid.next_free; snap = 0 } → (found.Active ≡ found.Free) ↔ ((block : ℕ) → IsMarked old epoch block → ⊥) → (found.Active ≡ found.Filled) ↔ ((block : ℕ) → block < block_count old → IsMarked old epoch block) → new ≡ record mid { state = Active } → SweepsSegment old new epoch
@@ -93,10 +95,11 @@ pub swept_invariant : (s now : Segments) (n epoch : ℕ) (x y : Segment) (curren
 swept_invariant s now n epoch x y current active active_to free_from free_to sweep_from seen h least read takes sound low =
     let here = subst (λ (t : Segments). IsLeast wanted.Sweeping t n) (sym seen) least in
     let is : x ≡ nth s.segments n = read ∙ get_or_default s.segments n x (free_segment 0) here.exists in
-    let takes_here = subst (λ (t : Segment). SweepsSegment t y epoch) is takes in (
-      one_segments s n s.fresh y h.0 here.exists (swept_member s.layout (nth s.segments n) y epoch takes_here sound (h.0.members n here.exists)),
-      swept_leads s.segments n epoch y current active active_to free_from free_to sweep_from h.1 here.exists here.none_below takes_here low,
-    )
+    let takes_here = subst (λ (t : Segment). SweepsSegment t y epoch) is takes in
+    let sweeping : (nth s.segments n).state ≡ Sweeping = here.is in
+    one_both s n s.fresh y current active_to free_to n h.0 here.exists (swept_member s.layout (nth s.segments n) y epoch takes_here sound (h.0.members n here.exists))
+    (let few = h.0.fresh in let stays = filled_stays s.segments n y here.exists (λ e. absurd (cc)) in omega (arith, few, stays))
+    (swept_leads s.segments n epoch y current active active_to free_from free_to sweep_from h.1 here.exists here.none_below takes_here low)
 
 -- a segment that is free
 pub low_free : (n free_from free_to : ℕ) (y : Segment) (active : List ℕ) → y.state ≡ Free → free_to ≡ min free_from n → Low n y active active free_from free_to

@@ -1,17 +1,20 @@
 -- What keeps the invariant of all segments where each of them changes.
-use Rattle.std.proofs.Common.{ℕ, ◌≡◌, ◌<◌, ◌≤◌, ◌∙◌, ap, subst, sym, arith, List, length, map, take, drop, ◌++◌}
+use Rattle.std.proofs.Common.{ℕ, ◌≡◌, ◌<◌, ◌≤◌, ◌∙◌, refl, ap, subst, sym, arith, List, length, map, take, drop, ◌++◌}
 use Rattle.std.proofs.Math.ListN.{length-map}
-use Rattle.std.proofs.lemmas.List.{take_at, get_or-map}
+use Rattle.std.proofs.lemmas.List.{take_at}
 use Rattle.nmgc_object.specs.declared.layout.Layout.{Layout}
 use Rattle.nmgc_segment.specs.Marks.{IsEpoch, carried}
-use Rattle.nmgc_segment.specs.Segment.{Segment, IsSegment, free_segment}
+use Rattle.nmgc_segment.specs.Segment.{Segment, IsSegment}
 use Rattle.nmgc_segment.specs.declared.state.State.{State}
 use Rattle.nmgc_segment.specs.declared.state.State.TheVariants.{Free, Current, Active, Filled, Sweeping}
-use Rattle.nmgc_segment.proofs.SegmentLaws.{all_carried}
+use Rattle.nmgc_segment.specs.laws.Segments.{all_carried}
 use Rattle.nmgc_alloc.specs.declared.search.Wanted.{Wanted}
 use Rattle.nmgc_alloc.specs.declared.search.Wanted.TheVariants as wanted
 use Rattle.nmgc_alloc.specs.Search.{nth, Is, NoneBelow}
-use Rattle.nmgc_alloc.specs.Segments.{Segments, IsMember, IsSegments, IsCurrent, Leads}
+use Rattle.nmgc_alloc.specs.laws.Numbers.{nth-map, prepared_free, retired_free}
+use Rattle.nmgc_alloc.specs.Segments.{Segments, HasNumber, IsMember, IsSegments, IsCurrent, Leads, filled_count}
+use Rattle.nmgc_alloc.specs.laws.Counts.{filled_map}
+use Rattle.nmgc_alloc.proofs.OneLaws.{one_of_leads}
 use Rattle.nmgc_alloc.specs.Turns.{prepared, prepared_state, prepared_snap, carried_over, carried_in, retired, retired_state}
 
 -- the segments after a function changed each of them in place
@@ -19,10 +22,6 @@ pub rewritten : (items slice new : List Segment) (len : ℕ) (f : Segment → Se
 rewritten items slice new len f same size is =
     let length_is : length new ≡ len = ap length is ∙ length-map slice f ∙ size in
     sym (take_at new (drop (length new) items) len length_is ∙ is ∙ ap (map f) same)
-
--- a segment by its number, after a change of each
-pub nth-map : (f : Segment → Segment) (segments : List Segment) (number : ℕ) → number < length segments → nth (map f segments) number ≡ f (nth segments number)
-nth-map f segments number h = get_or-map f segments number (free_segment 0) (free_segment 0) h
 
 -- a segment in a state that isn't free, with a snapshot
 pub restated : (s : Segment) (state : State) (snap : ℕ) → IsSegment s → (state ≡ Free → ⊥) → snap ≤ s.next_free → IsSegment (record s { state = state; snap = snap })
@@ -118,13 +117,18 @@ none_below_map : (w : Wanted) (f : Segment → Segment) (segments : List Segment
 none_below_map w f segments number back within none i below is =
     none i below (back (nth segments i) (subst (λ (s : Segment). Is w s) (nth-map f segments i (omega arith)) is))
 
-pub quiet_segments : (s : Segments) (f : Segment → Segment) (fresh : ℕ) → Quiet s.layout f → IsSegments s → IsSegments (record s { segments = map f s.segments; fresh = fresh })
-quiet_segments s f fresh q h = record {
+quiet_members : (s : Segments) (f : Segment → Segment) (fresh : ℕ) → Quiet s.layout f → IsSegments s → (number : ℕ) → HasNumber (record s { segments = map f s.segments; fresh = fresh }) number → IsMember s.layout (nth (map f s.segments) number)
+quiet_members s f fresh q h number exists =
+    let there : number < length s.segments = rw length-map at exists in
+    subst (λ (t : Segment). IsMember s.layout t) (sym (nth-map f s.segments number there)) (q.member _ (h.members number there))
+
+pub quiet_segments : (s : Segments) (f : Segment → Segment) (fresh : ℕ) (current active_from : List ℕ) (free_from sweep_from : ℕ) → Quiet s.layout f → IsSegments s → fresh ≤ filled_count (map f s.segments) → Leads (map f s.segments) current active_from free_from sweep_from → IsSegments (record s { segments = map f s.segments; fresh = fresh })
+quiet_segments s f fresh current active_from free_from sweep_from q h few leads = record {
   layout = h.layout;
   count = length-map s.segments f ∙ h.count;
-  members = λ number exists.
-      let there : number < length s.segments = rw length-map at exists in
-      subst (λ (t : Segment). IsMember s.layout t) (sym (nth-map f s.segments number there)) (q.member _ (h.members number there));
+  members = quiet_members s f fresh q h;
+  one_current = one_of_leads (record s { segments = map f s.segments; fresh = fresh }) current active_from free_from sweep_from (quiet_members s f fresh q h) leads;
+  fresh = few;
 }
 
 pub quiet_leads : (layout : Layout) (f : Segment → Segment) (segments : List Segment) (current active_from : List ℕ) (free_from sweep_from sweep_to : ℕ) → Quiet layout f → Leads segments current active_from free_from sweep_from → (sweep_to ≤ length segments) × NoneBelow wanted.Sweeping (map f segments) sweep_to → Leads (map f segments) current active_from free_from sweep_to
@@ -154,13 +158,6 @@ prepared_active s Active c h = h
 prepared_active s Filled c h = absurd (let e = h.0 in cc)
 prepared_active s Sweeping c h = h
 
-pub prepared_free : (state : State) → prepared_state state ≡ Free → state ≡ Free
-prepared_free Free h = h
-prepared_free (Current k) h = h
-prepared_free Active h = h
-prepared_free Filled h = absurd (cc)
-prepared_free Sweeping h = h
-
 pub quiet_prepared : (layout : Layout) → Quiet layout prepared
 quiet_prepared layout = record {
   member = λ s h. prepared_in layout s s.state h;
@@ -182,13 +179,6 @@ retired_active s (Current k) c h = absurd (let e = h.0 in cc)
 retired_active s Active c h = absurd (let e = h.0 in cc)
 retired_active s Filled c h = h
 retired_active s Sweeping c h = h
-
-pub retired_free : (state : State) → retired_state state ≡ Free → state ≡ Free
-retired_free Free h = h
-retired_free (Current k) h = absurd (cc)
-retired_free Active h = absurd (cc)
-retired_free Filled h = h
-retired_free Sweeping h = h
 
 pub retired_sweeping : (state : State) → retired_state state ≡ Sweeping → state ≡ Sweeping
 retired_sweeping Free h = h
@@ -229,7 +219,25 @@ pub sweep_stays : (f : Segment → Segment) (segments : List Segment) (sweep_fro
 sweep_stays f segments sweep_from back h = (h.0, none_below_map wanted.Sweeping f segments sweep_from back h.0 h.1)
 
 -- the invariant of the code after such a change
-pub quiet_to : (s : Segments) (f : Segment → Segment) (fresh : ℕ) (segments : List Segment) (current active_from : List ℕ) (free_from sweep_from sweep_to : ℕ) → Quiet s.layout f → map f s.segments ≡ segments → IsSegments s × Leads s.segments current active_from free_from sweep_from → (sweep_to ≤ length s.segments) × NoneBelow wanted.Sweeping (map f s.segments) sweep_to → IsSegments (record s { segments = segments; fresh = fresh }) × Leads segments current active_from free_from sweep_to
-quiet_to s f fresh segments current active_from free_from sweep_from sweep_to q is h sweep =
+pub quiet_to : (s : Segments) (f : Segment → Segment) (fresh : ℕ) (segments : List Segment) (current active_from : List ℕ) (free_from sweep_from sweep_to : ℕ) → Quiet s.layout f → map f s.segments ≡ segments → fresh ≤ filled_count (map f s.segments) → IsSegments s × Leads s.segments current active_from free_from sweep_from → (sweep_to ≤ length s.segments) × NoneBelow wanted.Sweeping (map f s.segments) sweep_to → IsSegments (record s { segments = segments; fresh = fresh }) × Leads segments current active_from free_from sweep_to
+quiet_to s f fresh segments current active_from free_from sweep_from sweep_to q is few h sweep =
     let P : List Segment → Type 0 = λ xs. IsSegments (record s { segments = xs; fresh = fresh }) × Leads xs current active_from free_from sweep_to in
-    subst P is (quiet_segments s f fresh q h.0, quiet_leads s.layout f s.segments current active_from free_from sweep_from sweep_to q h.1 sweep)
+    let leads = quiet_leads s.layout f s.segments current active_from free_from sweep_from sweep_to q h.1 sweep in
+    subst P is (quiet_segments s f fresh current active_from free_from sweep_to q h.0 few leads, leads)
+
+-- filled segments stay filled, so those that were filled since the last cycle began are still counted
+pub still_filled : (s : Segments) (f : Segment → Segment) → ((t : Segment) → t.state ≡ Filled → (f t).state ≡ Filled) → IsSegments s → s.fresh ≤ filled_count (map f s.segments)
+still_filled s f stays h = let few = h.fresh in let rest = filled_map f s.segments stays in omega (arith, few, rest)
+
+pub retired_filled : (t : Segment) → t.state ≡ Filled → (retired t).state ≡ Filled
+retired_filled t e = ap retired_state e
+
+pub carried_filled : (epoch : ℕ) (t : Segment) → t.state ≡ Filled → (carried_over epoch t).state ≡ Filled
+carried_filled epoch t e = carried_state_is t.state t epoch ∙ e
+  where
+    carried_state_is : (state : State) (t : Segment) (epoch : ℕ) → (carried_in state epoch t).state ≡ t.state
+    carried_state_is Free t epoch = refl
+    carried_state_is (Current m) t epoch = refl
+    carried_state_is Active t epoch = refl
+    carried_state_is Filled t epoch = refl
+    carried_state_is Sweeping t epoch = refl

@@ -1,16 +1,18 @@
 -- The allocation state: which segments are in which state, and which object is in which block.
 --
 -- It has no mark bytes and no index. Segments and words stand for it where they show the same.
-use Rattle.std.specs.Prelude.{ℕ, ◌≡◌, ◌≢◌, ◌+◌, ◌/◌, ◌<◌, ◌≤◌, ◌⊎◌, ◌↔◌, List, [], length, map, replicate, slice_index, slice_index_or, slice_set, Option, Some, None, IsSome, count_by}
+use Rattle.std.specs.Prelude.{ℕ, ◌≡◌, ◌≢◌, ◌+◌, ◌/◌, ◌<◌, ◌≤◌, ◌⊎◌, ◌↔◌, List, [], ◌∷◌, length, map, replicate, slice_index, slice_index_or, slice_set, Option, Some, None, IsSome, count_by}
 use Rattle.nmgc_graph.specs.declared.value.Name.{Name}
 use Rattle.nmgc_object.specs.declared.layout.Layout.{Layout}
 use Rattle.nmgc_object.specs.Size.{block_size}
+use Rattle.nmgc_object.specs.Parts.{name_place}
+use Rattle.nmgc_object.specs.Places.{word_total}
 use Rattle.nmgc_object.specs.Words.{name_word, IsName}
 use Rattle.nmgc_segment.specs.Segment.{InUse, block_count}
 use Rattle.nmgc_segment.specs.declared.state.State.{State}
 use Rattle.nmgc_segment.specs.declared.state.State.TheVariants as stands
 use Rattle.nmgc_alloc.specs.Search.{nth, is}
-use Rattle.nmgc_alloc.specs.Segments.{Segments, HasNumber, block_place, one_more}
+use Rattle.nmgc_alloc.specs.Segments.{Segments, HasNumber, block_place}
 use Rattle.nmgc_alloc.specs.Turns.{prepared_state, retired_state}
 
 -- a segment: its state, its class, and for each block a name or nothing
@@ -43,17 +45,27 @@ pub record Shows (s : Segments) (words : List ℕ) (number : ℕ) (c : Cells) : 
   pub class : c.state ≢ stands.Free → c.class ≡ (nth s.segments number).class
   pub blocks : c.state ≢ stands.Free → length c.names ≡ block_count (nth s.segments number)
   pub used : (block : ℕ) → IsSome (name_in c block) ↔ InUse (nth s.segments number) block
-  pub named : (block : ℕ) (name : Name) → name_in c block ≡ Some name → slice_index words (block_place s.layout number (nth s.segments number).class block + 1) ≡ name_word name
+  pub named : (block : ℕ) (name : Name) → name_in c block ≡ Some name → slice_index words (name_place (block_place s.layout number (nth s.segments number).class block)) ≡ name_word name
 
--- segments with words stand for the allocation state
-pub record StandsFor (s : Segments) (words : List ℕ) (allocation : AllocState) : Type 0 where
-  pub count : length allocation.segments ≡ length s.segments
-  pub fresh : allocation.fresh ≡ s.fresh
-  pub shows : (number : ℕ) → HasNumber s number → Shows s words number (cells allocation number)
+-- the name lies in the block
+abbrev pub LiesIn : AllocState → ℕ → ℕ → Name → Type 0
+LiesIn allocation number block name = name_in (cells allocation number) block ≡ Some name
+
+-- the name has a block
+abbrev pub HasBlock : AllocState → Name → Type 0
+HasBlock allocation name = (number : ℕ) × (block : ℕ) × LiesIn allocation number block name
 
 -- each name is one that some object may have
 abbrev pub AreNames : AllocState → Type 0
-AreNames allocation = (number block : ℕ) (name : Name) → name_in (cells allocation number) block ≡ Some name → IsName name
+AreNames allocation = (number block : ℕ) (name : Name) → LiesIn allocation number block name → IsName name
+
+-- segments with all words of the heap stand for the allocation state
+pub record StandsFor (s : Segments) (words : List ℕ) (allocation : AllocState) : Type 0 where
+  pub total : length words ≡ word_total s.layout
+  pub count : length allocation.segments ≡ length s.segments
+  pub names : AreNames allocation
+  pub fresh : allocation.fresh ≡ s.fresh
+  pub shows : (number : ℕ) → HasNumber s number → Shows s words number (cells allocation number)
 
 -- so many segments before the first use
 abbrev pub all_empty : ℕ → AllocState
@@ -129,7 +141,7 @@ with_cells allocation number c fresh = record { segments = slice_set allocation.
 -- the segment has these names now: it is current, or filled where no block is empty, and fresh rises
 abbrev pub IsPlaced : AllocState → AllocState → ℕ → ℕ → ℕ → List (Option Name) → Type 0
 IsPlaced old new mutator class number names =
-    (IsFull names × (new ≡ with_cells old number (record { state = stands.Filled; class = class; names = names }) (one_more old.fresh)))
+    (IsFull names × (new ≡ with_cells old number (record { state = stands.Filled; class = class; names = names }) (old.fresh + 1)))
     ⊎ ((IsFull names → ⊥) × (new ≡ with_cells old number (record { state = stands.Current mutator; class = class; names = names }) old.fresh))
 
 -- a name is placed: in the empty block of least number of the segment for the next name
@@ -144,7 +156,8 @@ pub record Places (layout : Layout) (old new : AllocState) (mutator class : ℕ)
 
 -- the words of an object placed there were written, with the name's as the second, and no others
 pub record Writes (old new : List ℕ) (at class : ℕ) (name : Name) : Type 0 where
-  pub second : slice_index new (at + 1) ≡ name_word name
+  pub length : length new ≡ length old
+  pub second : slice_index new (name_place at) ≡ name_word name
   pub others : (i : ℕ) → (i < at) ⊎ (at + block_size class ≤ i) → slice_index new i ≡ slice_index old i
 
 -- the names in the kept blocks are left, and the other blocks are emptied
@@ -171,3 +184,37 @@ pub record Sweeps (old new : AllocState) (number : ℕ) (Kept : ℕ → Type 0) 
 -- how many segments are in the state
 abbrev pub count_in : State → AllocState → ℕ
 count_in state allocation = count_by (λ c. is c.state state) allocation.segments
+
+-- what is true of every allocation state of a layout: a mutator has one current segment of a class at most,
+-- and those that were filled by placing since the last cycle began are still filled
+pub record IsAllocState (layout : Layout) (allocation : AllocState) : Type 0 where
+  pub count : length allocation.segments ≡ layout.segments
+  pub names : AreNames allocation
+  pub free : (number : ℕ) → IsIn stands.Free (cells allocation number) → cells allocation number ≡ no_cells
+  pub class : (number : ℕ) → (IsIn stands.Free (cells allocation number) → ⊥) → block_size (cells allocation number).class ≤ layout.words
+  pub blocks : (number : ℕ) → (IsIn stands.Free (cells allocation number) → ⊥) → length (cells allocation number).names ≡ layout.words / block_size (cells allocation number).class
+  pub one_current : (mutator class a b : ℕ) → IsOf (stands.Current mutator) class (cells allocation a) → IsOf (stands.Current mutator) class (cells allocation b) → a ≡ b
+  pub fresh : allocation.fresh ≤ count_in stands.Filled allocation
+
+-- each name lies in one block at most
+abbrev pub LieOnce : AllocState → Type 0
+LieOnce allocation = (a b other_a other_b : ℕ) (name : Name) → LiesIn allocation a b name → LiesIn allocation other_a other_b name → (a ≡ other_a) × (b ≡ other_b)
+
+-- the name has no block
+abbrev pub LiesNowhere : AllocState → Name → Type 0
+LiesNowhere allocation name = (number block : ℕ) → LiesIn allocation number block name → ⊥
+
+-- the block holds a name that is to be kept
+abbrev pub HoldsKept : (Name → Type 0) → AllocState → ℕ → ℕ → Type 0
+HoldsKept Kept allocation number block = (name : Name) × LiesIn allocation number block name × Kept name
+
+-- these segments were swept, one after the other, each the sweeping one of least number then
+abbrev pub SweepsEach : (Name → Type 0) → AllocState → List ℕ → AllocState → Type 0
+SweepsEach Kept old [] new = new ≡ old
+SweepsEach Kept old (number ∷ numbers) new = (next : AllocState) × Sweeps old next number (HoldsKept Kept old number) × SweepsEach Kept next numbers new
+
+-- so many segments were swept, and of their names those that are to be kept are left
+pub record SweepsSome (Kept : Name → Type 0) (count : ℕ) (old new : AllocState) : Type 0 where
+  pub numbers : List ℕ
+  pub sweeps : SweepsEach Kept old numbers new
+  pub many : length numbers ≡ count

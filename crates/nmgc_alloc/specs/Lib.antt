@@ -1,4 +1,7 @@
-pub mod Search
-pub mod Turns
-pub mod Segments
 pub mod AllocState
+pub mod Blocks
+pub mod Reserve
+pub mod Search
+pub mod Segments
+pub mod Turns
+pub mod laws

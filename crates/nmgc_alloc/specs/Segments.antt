@@ -1,5 +1,5 @@
 -- All segments, and where an object is placed.
-use Rattle.std.specs.Prelude.{ℕ, ◌≡◌, ◌≢◌, ◌+◌, ◌-◌, ◌*◌, ◌<◌, ◌≤◌, ◌^◌, ◌⊎◌, ◌↔◌, Bool, IsTrue, if◌then◌else◌, List, length, map, min, replicate, slice_index, slice_set}
+use Rattle.std.specs.Prelude.{ℕ, ◌≡◌, ◌≢◌, ◌+◌, ◌*◌, ◌<◌, ◌≤◌, ◌⊎◌, ◌↔◌, Bool, IsTrue, if◌then◌else◌, List, length, map, replicate, count_by, slice_index, slice_set}
 use Rattle.nmgc_graph.specs.declared.value.TheConstants.{MAKERS}
 use Rattle.nmgc_object.specs.declared.layout.Layout.{Layout}
 use Rattle.nmgc_object.specs.Size.{block_size}
@@ -10,7 +10,7 @@ use Rattle.nmgc_segment.specs.declared.state.State.TheVariants as state
 use Rattle.nmgc_alloc.specs.declared.search.Wanted.{Wanted}
 use Rattle.nmgc_alloc.specs.declared.search.Wanted.TheVariants.{Free, Active, Sweeping}
 use Rattle.nmgc_alloc.specs.declared.tables.TheConstants.{CLASSES, PAIRS}
-use Rattle.nmgc_alloc.specs.Search.{nth, Is, NoneBelow}
+use Rattle.nmgc_alloc.specs.Search.{nth, is, Is, NoneBelow}
 
 -- the layout, the segments by number, and how many were filled since the last cycle began
 pub record Segments : Type 0 where
@@ -96,10 +96,6 @@ as_current mutator class segment = record segment { class = class; state = state
 abbrev pub block_place : Layout → ℕ → ℕ → ℕ → ℕ
 block_place layout number class block = segment_place layout number + block * block_size class
 
--- one more segment was filled; the count stands still at its type's end
-abbrev pub one_more : ℕ → ℕ
-one_more fresh = min (fresh + 1) (2 ^ 32 - 1)
-
 -- the first unused block of a segment was taken, and the segment filed as filled if it was the last
 pub record TakesBlock (old new : Segment) (block : ℕ) : Type 0 where
   pub first : IsFirstUnused old block
@@ -109,7 +105,7 @@ pub record TakesBlock (old new : Segment) (block : ℕ) : Type 0 where
 
 -- the count of filled segments rises where the segment has no free block left
 abbrev pub CountsFilled : Segment → ℕ → ℕ → Type 0
-CountsFilled segment old new = (HasFree segment × (new ≡ old)) ⊎ ((HasFree segment → ⊥) × (new ≡ one_more old))
+CountsFilled segment old new = (HasFree segment × (new ≡ old)) ⊎ ((HasFree segment → ⊥) × (new ≡ old + 1))
 
 -- an object is placed by the rule
 pub record Allocates (old new : Segments) (mutator class at : ℕ) : Type 0 where
@@ -167,11 +163,18 @@ pub record IsMember (layout : Layout) (segment : Segment) : Type 0 where
   pub current_room : (mutator : ℕ) → segment.state ≡ state.Current mutator → HasFree segment
   pub owner : (mutator : ℕ) → segment.state ≡ state.Current mutator → mutator < MAKERS
 
--- what is true of all segments
+-- how many segments are filled
+abbrev pub filled_count : List Segment → ℕ
+filled_count segments = count_by (λ segment. is segment.state state.Filled) segments
+
+-- what is true of all segments: a mutator has one current segment of a class at most, and those that
+-- were filled by placing since the last cycle began are still filled
 pub record IsSegments (s : Segments) : Type 0 where
   pub layout : IsLayout s.layout
   pub count : length s.segments ≡ s.layout.segments
   pub members : (number : ℕ) → HasNumber s number → IsMember s.layout (nth s.segments number)
+  pub one_current : (mutator class a b : ℕ) → IsOwn s mutator class a → IsOwn s mutator class b → a ≡ b
+  pub fresh : s.fresh ≤ filled_count s.segments
 
 -- the place in a table by mutator and class
 abbrev pub table_index : ℕ → ℕ → ℕ

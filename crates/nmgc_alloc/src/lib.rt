@@ -4,10 +4,13 @@
 //! time. The rule of placing is fixed, so that a run's report doesn't depend on what was tried first:
 //! a mutator's current segment of the class, else the active one of least number, else the free one
 //! of least number, and in it the least block that isn't in use. `laws` has the promise that each call
-//! is a step of that rule.
+//! is a step of that rule, `blocks` what the calls do to blocks by their places, and `names` where names
+//! lie.
 #![tactic(auto)]
 
+pub mod blocks;
 pub mod laws;
+pub mod names;
 mod search;
 pub mod segments;
 mod tables;

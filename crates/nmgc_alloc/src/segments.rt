@@ -82,7 +82,8 @@ impl Segments {
     /// All segments of a layout, free.
     pub fn new(alloc: Global, layout: Layout) -> Result<Self, NoMemory>
         requires { IsLayout layout }
-        ensures { IfOk result (λ segments. segments ≡ all_free layout) }
+        ensures value { IfOk result (λ segments. segments ≡ all_free layout) }
+        ensures sound { IfOk result IsSegments }
     {
         let segments = free_segments(alloc, layout)?;
         let current = table(alloc, PAIRS, 0)?;
@@ -107,7 +108,8 @@ impl Segments {
         self.layout
     }
 
-    /// How many segments were filled by placing since the last cycle began.
+    /// How many segments were filled by placing since the last cycle began. They are still filled, so
+    /// there are no more of them than segments.
     pub fn fresh(&self) -> u32
         ensures { result ≡ self.now.fresh }
     {
@@ -205,6 +207,7 @@ impl Segments {
     fn least_sweeping(&self) -> Option<u32>
         ensures some { IfSome result (λ number. IsLeast Wanted.Sweeping self.now number) }
         ensures none { IfNone result (HasNone Wanted.Sweeping self.now) }
+        ensures sound { IsSegments self.now }
     {
         let number = search::first(self.segments.as_slice(), self.sweep_from, Wanted::Sweeping);
         if (number as usize) < self.segments.len() {
@@ -249,11 +252,12 @@ impl Segments {
         ensures others { self.new.segments ≡ slice_set self.old.segments number (nth self.new.segments number) }
         ensures layout { self.new.layout ≡ self.old.layout }
         ensures fresh { CountsFilled (nth self.new.segments number) self.old.fresh self.new.fresh }
+        ensures sound { IsSegments self.new }
     {
         let segment = &mut self.segments[number as usize];
         let block = turns::take_block(segment);
         if !segment.has_free() {
-            self.fresh = self.fresh.saturating_add(1);
+            self.fresh += 1;
         }
         block
     }
@@ -307,12 +311,13 @@ impl Segments {
         requires mutator { IsMutator self.old.layout mutator }
         requires class { IsClass self.old.layout class }
         requires room { HasRoom self.old mutator class }
-        ensures { Allocates self.old self.new mutator class result.0 }
+        ensures placed { Allocates self.old self.new mutator class result.0 }
+        ensures sound { IsSegments self.new }
     {
         let _ = &self.segments;
         let number = self.choose(mutator, class);
         let block = self.take_in(number);
-        self.address(number, block)
+        self.place_of(number, block)
     }
 
     /// The segment and the number of the block that begins at a place. `None` comes exactly where no
@@ -334,7 +339,8 @@ impl Segments {
     pub fn mark_at(&mut self, at: Address, epoch: u8) -> bool
         requires epoch { IsEpoch epoch }
         requires begins { (number : ℕ) × (block : ℕ) × IsBlockAt self.old number block at.0 }
-        ensures { Marks self.old self.new at.0 epoch result }
+        ensures marks { Marks self.old self.new at.0 epoch result }
+        ensures sound { IsSegments self.new }
     {
         match self.candidate(at) {
             Some((number, block)) => self.mark(number, block, epoch),
@@ -349,6 +355,7 @@ impl Segments {
         requires block { block < block_count (nth self.old.segments number) }
         ensures answer { IsTrue result ↔ IsToMark (nth self.old.segments number) epoch block }
         ensures value { self.new ≡ record self.old { segments = slice_set self.old.segments number (marked_if result epoch block (nth self.old.segments number)) } }
+        ensures sound { IsSegments self.new }
     {
         let segment = &mut self.segments[number as usize];
         turns::mark(segment, block, epoch)
@@ -377,14 +384,15 @@ impl Segments {
         let segment = &self.segments[number as usize];
         segment.state() != State::Free
             && block < segment.blocks()
-            && self.address(number, block).0 == at.0
+            && self.place_of(number, block).0 == at.0
     }
 
-    // Where a block begins.
-    fn address(&self, number: u32, block: u32) -> Address
+    /// Where a block of a segment begins: the place of its first word.
+    pub fn place_of(&self, number: u32, block: u32) -> Address
         requires exists { HasNumber self.now number }
         requires block { block < block_count (nth self.now.segments number) }
-        ensures { result.0 ≡ block_place self.now.layout number (nth self.now.segments number).class block }
+        ensures place { result.0 ≡ block_place self.now.layout number (nth self.now.segments number).class block }
+        ensures begins { (nth self.now.segments number).state ≢ State.Free → IsBlockAt self.now number block result.0 }
     {
         let segment = &self.segments[number as usize];
         Address(self.layout.segment_base(number) + block * block_words(segment.class()))
@@ -394,7 +402,8 @@ impl Segments {
     /// into ones to be swept.
     pub fn prepare(&mut self)
         requires { HasNone Wanted.Sweeping self.old }
-        ensures { self.new ≡ record self.old { segments = map prepared self.old.segments; fresh = 0 } }
+        ensures value { self.new ≡ record self.old { segments = map prepared self.old.segments; fresh = 0 } }
+        ensures sound { IsSegments self.new }
     {
         turns::prepare_all(self.segments.as_mut_slice());
         self.fresh = 0;
@@ -404,7 +413,8 @@ impl Segments {
     /// Carries the marks of every segment that is neither free nor to be swept.
     pub fn carry(&mut self, epoch: u8)
         requires { IsEpoch epoch }
-        ensures { self.new ≡ record self.old { segments = map (carried_over epoch) self.old.segments } }
+        ensures value { self.new ≡ record self.old { segments = map (carried_over epoch) self.old.segments } }
+        ensures sound { IsSegments self.new }
     {
         turns::carry_all(self.segments.as_mut_slice(), epoch);
     }
@@ -415,6 +425,7 @@ impl Segments {
         requires { IsEpoch epoch }
         ensures none { IfNone result (HasNone Wanted.Sweeping self.old × (self.new ≡ self.old)) }
         ensures some { IfSome result (λ number. SweepsNext self.old self.new epoch number) }
+        ensures sound { IsSegments self.new }
     {
         let number = self.least_sweeping()?;
         self.sweep(number, epoch);
@@ -427,6 +438,7 @@ impl Segments {
         requires least { IsLeast Wanted.Sweeping self.old number }
         ensures sweeps { SweepsSegment (nth self.old.segments number) (nth self.new.segments number) epoch }
         ensures others { self.new ≡ record self.old { segments = slice_set self.old.segments number (nth self.new.segments number) } }
+        ensures sound { IsSegments self.new }
     {
         let segment = &mut self.segments[number as usize];
         let class = usize::from(segment.class());
@@ -441,7 +453,8 @@ impl Segments {
 
     /// Files every current and every active segment as filled, before a full cycle.
     pub fn retire_all(&mut self)
-        ensures { self.new ≡ record self.old { segments = map retired self.old.segments } }
+        ensures value { self.new ≡ record self.old { segments = map retired self.old.segments } }
+        ensures sound { IsSegments self.new }
     {
         turns::retire_all(self.segments.as_mut_slice());
     }

@@ -26,6 +26,9 @@ fn mark(rt: &impl Abort, segments: &mut Segments, at: u32, epoch: u8, marked: bo
     assert!(rt; 1 <= epoch && epoch <= 2);
     let found = segments.block_at(Address(at));
     assert!(rt; found.is_some(), "no block at {at}");
+    if let Some((number, block)) = found {
+        assert_eq!(rt; segments.place_of(number, block), Address(at));
+    }
     assert_eq!(rt; segments.mark_at(Address(at), epoch), marked, "at {at}");
 }
 

@@ -1,27 +1,22 @@
 -- Layouts within the limits, and whose a word is.
-use Rattle.std.specs.Prelude.{ℕ, ◌+◌, ◌*◌, ◌/◌, ◌<◌, ◌≤◌, IsTrue, count_by, nat_le}
+use Rattle.std.specs.Prelude.{ℕ, ◌+◌, ◌*◌, ◌/◌, ◌<◌, ◌≤◌, count_by, nat_le}
 use Rattle.std.specs.List.{range_with_len}
-use Rattle.std.specs.Int.{is_power_of_two}
+use Rattle.nmgc_limits.specs.Limits.{most_heap_words, most_segments}
+pub use Rattle.nmgc_limits.specs.Limits.{IsSegmentSize}
 use Rattle.nmgc_graph.specs.declared.value.TheConstants.{MAKERS}
 use Rattle.nmgc_object.specs.Size.{block_size}
 use Rattle.nmgc_object.specs.declared.size.TheConstants.{MAX_CLASS}
-use Rattle.nmgc_object.specs.declared.layout.TheConstants.{FIRST_PLACE, MAX_SEGMENTS, MIN_SEGMENT_WORDS, MAX_SEGMENT_WORDS, MAX_HEAP_WORDS}
+use Rattle.nmgc_object.specs.declared.layout.TheConstants.{FIRST_PLACE}
 use Rattle.nmgc_object.specs.declared.layout.Layout.{Layout}
-
--- a segment may have so many words
-pub record IsSegmentSize (words : ℕ) : Type 0 where
-  pub power : IsTrue (is_power_of_two words)
-  pub least : MIN_SEGMENT_WORDS ≤ words
-  pub most : words ≤ MAX_SEGMENT_WORDS
 
 -- the layout is within the limits
 pub record IsLayout (layout : Layout) : Type 0 where
   pub some : 1 ≤ layout.segments
-  pub segments : layout.segments ≤ MAX_SEGMENTS
+  pub segments : layout.segments ≤ most_segments
   pub words : IsSegmentSize layout.words
   pub nursery : layout.words ≤ layout.nursery
   pub mutators : (1 ≤ layout.mutators) × (layout.mutators ≤ MAKERS)
-  pub heap : layout.segments * layout.words + layout.mutators * layout.nursery ≤ MAX_HEAP_WORDS
+  pub heap : layout.segments * layout.words + layout.mutators * layout.nursery ≤ most_heap_words
 
 -- where a segment begins
 abbrev pub segment_place : Layout → ℕ → ℕ

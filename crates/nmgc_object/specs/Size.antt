@@ -1,9 +1,10 @@
 -- The words of objects and of blocks.
-use Rattle.std.specs.Prelude.{ℕ, ◌+◌, ◌*◌, ◌^◌}
+use Rattle.std.specs.Prelude.{ℕ, ◌+◌, ◌*◌, ◌^◌, ◌<◌, ◌≤◌}
 use Rattle.nmgc_graph.specs.declared.node.Kind.{Kind}
 use Rattle.nmgc_graph.specs.declared.node.Kind.TheVariants.{Con, Var, Arr, Thunk, Weak, Stack}
 use Rattle.nmgc_object.specs.declared.words.TheConstants.{VAR_FIELDS, WEAK_FIELDS}
-use Rattle.nmgc_object.specs.declared.size.TheConstants.{HEADER_WORDS, MIN_BLOCK_WORDS}
+use Rattle.nmgc_object.specs.declared.size.TheConstants.{MIN_BLOCK_WORDS}
+use Rattle.nmgc_object.specs.Parts.{words_with}
 
 -- the fields of an object with so many parts
 abbrev pub field_count : Kind → ℕ → ℕ
@@ -16,8 +17,13 @@ field_count Stack parts = parts
 
 -- the words of an object with so many parts
 abbrev pub word_count : Kind → ℕ → ℕ
-word_count kind parts = HEADER_WORDS + field_count kind parts
+word_count kind parts = words_with (field_count kind parts)
 
 -- the words of a block of a class
 abbrev pub block_size : ℕ → ℕ
 block_size class = MIN_BLOCK_WORDS * 2 ^ class
+
+-- the least class whose block holds so many words
+pub record IsClassOf (words class : ℕ) : Type 0 where
+  pub holds : words ≤ block_size class
+  pub least : (smaller : ℕ) → smaller < class → block_size smaller < words

@@ -1,13 +1,17 @@
 //! What holds of the definitions of words and places, for every value.
 //!
 //! Each function here does nothing; its contract is the law.
-ghost use Rattle.std.specs.Prelude.{ℕ, ◌≡◌};
+ghost use Rattle.std.specs.Prelude.{ℕ, ◌≡◌, ◌↔◌, ◌+◌, ◌*◌, ◌<◌, ◌≤◌};
 ghost use Rattle.nmgc_graph.specs.declared.value.Name.{Name};
 ghost use Rattle.nmgc_object.specs.Words.{header_word, name_word, field_word, IsHeader, IsName, IsField};
-ghost use Rattle.nmgc_object.specs.Places.{IsLayout, InSegment, InNursery, InHeap};
+ghost use Rattle.nmgc_object.specs.Parts.{header_place, name_place, field_place, object_size};
+ghost use Rattle.nmgc_object.specs.Places.{IsLayout, InSegment, InNursery, InHeap, class_count};
+ghost use Rattle.nmgc_object.specs.Size.{block_size, IsClassOf};
 ghost use Rattle.nmgc_object.specs.declared.words.Header.{Header};
 ghost use Rattle.nmgc_object.specs.declared.words.Field.{Field};
 ghost use Rattle.nmgc_object.specs.declared.layout.Layout.{Layout};
+
+use crate::size::MAX_BLOCK_WORDS;
 
 /// Different headers, names or fields have different words, so what was encoded is decoded.
 pub fn words_differ()
@@ -23,4 +27,21 @@ pub fn places_lie_apart()
     ensures both { (layout : Layout) (a b at : ℕ) → IsLayout layout → InSegment layout a at → InNursery layout b at → ⊥ }
     ensures segment_in_heap { (layout : Layout) (a at : ℕ) → IsLayout layout → InSegment layout a at → InHeap layout at }
     ensures nursery_in_heap { (layout : Layout) (a at : ℕ) → IsLayout layout → InNursery layout a at → InHeap layout at }
+{}
+
+/// The parts of an object are words of it, and no two of them are the same word.
+pub fn parts_lie_apart()
+    ensures name { (header : Header) (at : ℕ) → (header_place at < name_place at) × (name_place at < at + object_size header) }
+    ensures field { (header : Header) (at field : ℕ) → field < header.fields → (name_place at < field_place at field) × (field_place at field < at + object_size header) }
+    ensures fields { (at a b : ℕ) → field_place at a ≡ field_place at b → a ≡ b }
+{}
+
+/// The class of an object that fits into a segment is one of the layout's, and its block fits into a
+/// segment too. An object has at least two words, at most those of the greatest block, and at least
+/// half the words of its block.
+pub fn objects_have_classes()
+    ensures fits { (layout : Layout) (words class : ℕ) → IsLayout layout → words ≤ layout.words → IsClassOf words class → (block_size class ≤ layout.words) × (class < class_count layout) }
+    ensures object { (header : Header) → IsHeader header → (2 ≤ object_size header) × (object_size header ≤ MAX_BLOCK_WORDS) }
+    ensures half { (words class : ℕ) → 2 ≤ words → IsClassOf words class → block_size class ≤ 2 * words }
+    ensures classes { (layout : Layout) (class : ℕ) → IsLayout layout → (class < class_count layout) ↔ (block_size class ≤ layout.words) }
 {}

@@ -19,18 +19,6 @@ pub const FIRST_PLACE: u32 = 32;
 
 const _: () = prove!(SHARED_PLACE + HEADER_WORDS + SHARED_SLOTS as u32 <= FIRST_PLACE);
 
-/// The most segments.
-pub const MAX_SEGMENTS: u32 = 65_536;
-
-/// The fewest words of a segment.
-pub const MIN_SEGMENT_WORDS: u32 = 16;
-
-/// The most words of a segment.
-pub const MAX_SEGMENT_WORDS: u32 = 4096;
-
-/// The most words of all segments and nurseries together.
-pub const MAX_HEAP_WORDS: u32 = 4_194_304;
-
 /// The sizes of a heap: how many segments of how many words, and how many mutators with a nursery
 /// of how many words.
 #[derive(Clone, Copy, Debug, PartialEq, Eq)]

@@ -17,11 +17,11 @@ pub mod size;
 pub mod words;
 
 pub use fin_queue::FinQueue;
-pub use layout::{
-    FIRST_PLACE, Layout, MAX_HEAP_WORDS, MAX_SEGMENT_WORDS, MAX_SEGMENTS, MIN_SEGMENT_WORDS,
-    Nursery, SHARED_PLACE,
+pub use layout::{FIRST_PLACE, Layout, Nursery, SHARED_PLACE};
+pub use size::{
+    HEADER_WORDS, MAX_PARTS, MIN_BLOCK_WORDS, NAME_OFFSET, block_words, class_of, object_words,
+    words_of,
 };
-pub use size::{HEADER_WORDS, MAX_PARTS, MIN_BLOCK_WORDS, block_words, class_of, words_of};
 pub use words::{
     Address, Field, Header, MAX_FIELDS, NUMBER_LIMIT, decode_header, decode_name, decode_value,
     encode_header, encode_name, encode_value,

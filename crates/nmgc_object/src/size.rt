@@ -4,13 +4,18 @@
 //! goes into a block of the least class that holds it, so less than half of a block of more than 4
 //! words is wasted.
 ghost use Rattle.std.specs.Prelude.{ℕ, ◌≡◌, ◌+◌, ◌*◌, ◌^◌, ◌<◌, ◌≤◌};
+ghost use Rattle.nmgc_object.specs.Parts.{object_size};
 ghost use Rattle.nmgc_object.specs.Size.{word_count, block_size};
+ghost use Rattle.nmgc_object.specs.Words.{IsHeader};
 
-use crate::words::{VAR_FIELDS, WEAK_FIELDS};
+use crate::words::{Header, VAR_FIELDS, WEAK_FIELDS};
 use nmgc_graph::Kind;
 
 /// The words before an object's fields: the header and the name.
 pub const HEADER_WORDS: u32 = 2;
+
+/// How far an object's name lies from its first word, which is the header.
+pub const NAME_OFFSET: u32 = 1;
 
 /// The most parts that `words_of` is asked for.
 pub const MAX_PARTS: u32 = 4094;
@@ -38,6 +43,15 @@ pub fn words_of(kind: Kind, parts: u32) -> u32
         Kind::Thunk => parts + 1,
     };
     HEADER_WORDS + fields
+}
+
+/// The words of an object with this header. Takes no memory.
+pub fn object_words(header: Header) -> u32
+    requires { IsHeader header }
+    ensures size { result ≡ object_size header }
+    ensures most { result ≤ MAX_BLOCK_WORDS }
+{
+    HEADER_WORDS + header.fields
 }
 
 /// The words of a block of this class. Takes no memory.

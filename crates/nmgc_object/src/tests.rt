@@ -1,7 +1,7 @@
 //! Worked numbers of words, sizes and places, and a queue from end to end.
 use crate::{
     Address, Field, FinQueue, Header, Layout, Nursery, block_words, class_of, decode_header,
-    decode_name, decode_value, encode_header, encode_name, encode_value, words_of,
+    decode_name, decode_value, encode_header, encode_name, encode_value, object_words, words_of,
 };
 use nmgc_graph::{Kind, Name};
 use std::test::Fail;
@@ -9,13 +9,14 @@ use std::test::Fail;
 #[test]
 fn headers(rt: HostRuntime) {
     let rows = [
-        (Kind::Con, 7, 2, 4153),
-        (Kind::Arr, 0, 16, 32_771),
-        (Kind::Stack, 0, 4094, 8_384_518),
+        (Kind::Con, 7, 2, 4, 4153),
+        (Kind::Arr, 0, 16, 18, 32_771),
+        (Kind::Stack, 0, 4094, 4096, 8_384_518),
     ];
-    for (kind, tag, fields, word) in rows {
+    for (kind, tag, fields, words, word) in rows {
         let header = Header { kind, tag, fields };
         assert!(rt; header.is_valid());
+        assert_eq!(rt; object_words(header), words);
         assert_eq!(rt; encode_header(header), word);
         assert_eq!(rt; decode_header(word), Some(header));
     }

@@ -1,16 +1,16 @@
 -- What keeps a segment's invariant, and which blocks are in use afterwards.
-use Rattle.std.proofs.Common.{ℕ, ◌≡◌, ◌≢◌, ◌*◌, ◌^◌, ◌<◌, ◌≤◌, ◌↔◌, ◌∙◌, inl, inr, refl, ap, subst, sym, arith, List, length, get_or, slice_index, map, take, drop, ◌++◌, Bool, IsTrue}
+use Rattle.std.proofs.Common.{ℕ, ◌≡◌, ◌≢◌, ◌<◌, ◌≤◌, ◌↔◌, ◌∙◌, inl, inr, ap, subst, sym, arith, List, length, slice_index, map, take, drop, ◌++◌, Bool, IsTrue}
 use Rattle.std.proofs.lemmas.List.{take_at}
 use Rattle.std.proofs.lemmas.Bool.{cases_eq, cases_lt}
-use Rattle.std.proofs.lemmas.Bool.Decides.{nat_tests}
-use Rattle.std.proofs.Math.Nat.{div-le_of_le-mul, mul-le-mul_right, le-div_iff_mul-le}
-use Rattle.std.proofs.Math.Pow.{pow-lt}
-use Rattle.std.proofs.Math.ListN.{get_or-map, length-map, get_or-eq_default}
+use Rattle.std.proofs.Math.Nat.{le-div_iff_mul-le}
+use Rattle.std.proofs.Math.ListN.{length-map, get_or-eq_default}
 use Rattle.std.proofs.lemmas.Nat.{pow_pos}
 use Rattle.nmgc_object.specs.Size.{block_size}
 use Rattle.nmgc_segment.specs.declared.state.State.{State}
 use Rattle.nmgc_segment.specs.declared.state.State.TheVariants.{Free, Current}
 use Rattle.nmgc_segment.specs.Marks.{IsEpoch, carried, swept, IsFirstUnmarked}
+use Rattle.nmgc_object.specs.laws.Classes.{class_few}
+use Rattle.nmgc_segment.specs.laws.Segments.{few_blocks, mark-map, all_carried, swept_bounds, zero_swept}
 use Rattle.nmgc_segment.specs.Segment.{Segment, IsSegment, IsUnused, HasBlocks, InUse, IsMarked, block_count, segment_words, mark_of}
 
 -- nothing is in use
@@ -38,20 +38,6 @@ in_state s state h free = record {
 pub in_state_from : (s now : Segment) (state : State) → s ≡ now → IsSegment s → (state ≡ Free → (b : ℕ) → InUse now b → ⊥) → IsSegment (record s { state = state })
 in_state_from s now state e h none = in_state s state h (λ f. unused_from s (subst (λ (t : Segment). (b : ℕ) → InUse t b → ⊥) (sym e) (none f)))
 
--- no class has larger blocks than the greatest
-pub class_fits : (class : ℕ) → block_size class ≤ 4096 → class ≤ 10
-class_fits class fits = elim (cases_lt 10 class) [
-  | inl lt ↦ let more : 2 ^ 10 < 2 ^ class = pow-lt {i = 10} lt in absurd (omega arith)
-  | inr le ↦ le
-]
-
--- no block is without a mark byte
-pub few_blocks : (s : Segment) → block_count s ≤ length s.marks
-few_blocks s =
-    let one : 1 ≤ 2 ^ s.class = omega (arith, pow_pos s.class) in
-    let more : 1 * length s.marks ≤ 2 ^ s.class * length s.marks = mul-le-mul_right (length s.marks) one in
-    div-le_of_le-mul (block_size s.class) (grind arith)
-
 pub has_blocks : (s : Segment) (blocks : ℕ) → blocks ≡ block_count s → HasBlocks s blocks
 has_blocks s blocks is = record { count = is; marked = omega (arith, few_blocks s) }
 
@@ -60,7 +46,7 @@ pub begun : (s : Segment) (mutator class : ℕ) → IsSegment s → s.state ≡ 
 begun s mutator class h is fits =
     let unused = h.free is in
     record {
-      class = class_fits class (omega (arith, h.words));
+      class = class_few class (omega (arith, h.words));
       fits = fits;
       words = h.words;
       snap = h.snap;
@@ -74,55 +60,16 @@ begun s mutator class h is fits =
 pub begun_from : (s now : Segment) (mutator class : ℕ) → s ≡ now → IsSegment s → now.state ≡ Free → block_size class ≤ segment_words now → IsSegment (record s { class = class; state = Current mutator })
 begun_from s now mutator class e h is fits = begun s mutator class h (ap (λ (t : Segment). t.state) e ∙ is) (subst (λ (t : Segment). block_size class ≤ segment_words t) (sym e) fits)
 
--- a mark byte after a change of all
-pub mark-map : (f : ℕ → ℕ) (marks : List ℕ) (b : ℕ) → f 0 ≡ 0 → slice_index (map f marks) b ≡ f (slice_index marks b)
-mark-map f marks b zero = subst (λ (d : ℕ). get_or (map f marks) b d ≡ f (get_or marks b 0)) zero (get_or-map f marks b 0)
-
--- a byte that was carried over
-pub carried_bounds : (epoch mark : ℕ) → IsEpoch epoch → (carried epoch mark ≤ 2) × ((carried epoch mark ≡ 0) ↔ (mark ≡ 0))
-carried_bounds epoch mark e = elim (cases_eq mark 0) [
-  | inl z ↦ let is : carried epoch mark ≡ 0 = grind (arith, nat_tests) in (omega arith, ((λ _. z), (λ _. is)))
-  | inr nz ↦ let is : carried epoch mark ≡ epoch = grind (arith, nat_tests) in (omega arith, ((λ k. absurd (omega arith)), (λ z. absurd (nz z))))
-]
-
 -- the mark bytes after a function changed each of them in place
 pub remarked : (items slice new : List ℕ) (len : ℕ) (f : ℕ → ℕ) → slice ≡ items → length slice ≡ len → new ≡ map f slice → map f items ≡ take len (new ++ drop (length new) items)
 remarked items slice new len f same size is =
     let length_is : length new ≡ len = ap length is ∙ length-map slice f ∙ size in
     sym (take_at new (drop (length new) items) len length_is ∙ is ∙ ap (map f) same)
 
--- a segment whose marks were carried over
-pub all_carried : (s : Segment) (epoch : ℕ) → IsEpoch epoch → IsSegment s → IsSegment (record s { marks = map (carried epoch) s.marks })
-all_carried s epoch e h =
-    let at = λ (b : ℕ). mark-map (carried epoch) s.marks b refl in
-    let zero = λ (b : ℕ) (z : mark_of s b ≡ 0). at b ∙ (carried_bounds epoch (mark_of s b) e).1.1 z in
-    record {
-      class = h.class;
-      fits = rw length-map h.fits;
-      words = rw length-map h.words;
-      snap = h.snap;
-      next_free = rw length-map h.next_free;
-      next_unmarked = zero s.next_free h.next_unmarked;
-      bytes = λ b. rw (at b) (carried_bounds epoch (mark_of s b) e).0;
-      no_block = λ b out. zero b (h.no_block b (rw length-map at out));
-      free = λ f. record { next_free = (h.free f).next_free; unmarked = λ b. zero b ((h.free f).unmarked b) };
-    }
-
 pub carried_to : (s : Segment) (blocks epoch : ℕ) (marks : List ℕ) → IsEpoch epoch → IsSegment s × HasBlocks s blocks → map (carried epoch) s.marks ≡ marks → IsSegment (record s { marks = marks }) × HasBlocks (record s { marks = marks }) blocks
 carried_to s blocks epoch marks e h is =
     let P : List ℕ → Type 0 = λ ms. IsSegment (record s { marks = ms }) × HasBlocks (record s { marks = ms }) blocks in
     subst P is (all_carried s epoch e h.0, record { count = rw length-map h.1.count; marked = rw length-map h.1.marked })
-
--- a byte that was swept
-pub swept_bounds : (epoch mark : ℕ) → IsEpoch epoch → mark ≤ 2 → (swept epoch mark ≤ 2) × (mark ≡ 0 → swept epoch mark ≡ 0) × ((swept epoch mark ≢ 0) ↔ (mark ≡ epoch))
-swept_bounds epoch mark e small = elim (cases_eq mark epoch) [
-  | inl same ↦ let is : swept epoch mark ≡ mark = grind (arith, nat_tests) in (omega arith, (λ z. omega arith), ((λ _. same), (λ _ z. omega arith)))
-  | inr other ↦ let is : swept epoch mark ≡ 0 = grind (arith, nat_tests) in (omega arith, (λ z. is), ((λ nz. absurd (nz is)), (λ same. absurd (other same))))
-]
-
--- a sweep leaves an unmarked byte
-zero_swept : (epoch : ℕ) → IsEpoch epoch → swept epoch 0 ≡ 0
-zero_swept epoch e = (swept_bounds epoch 0 e (omega arith)).1 refl
 
 -- a byte is nonzero after a sweep where it was of the epoch
 kept_byte : (s : Segment) (epoch : ℕ) → IsEpoch epoch → IsSegment s → (b : ℕ) → (slice_index (map (swept epoch) s.marks) b ≢ 0) ↔ (mark_of s b ≡ epoch)

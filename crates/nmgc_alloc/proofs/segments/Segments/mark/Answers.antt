@@ -3,3 +3,6 @@ use Rattle.nmgc_alloc.proofs.segments.Segments.mark.Goals as goal
 
 pub invariant_of-self : goal.invariant_of-self
 invariant_of-self c = marked_invariant _ _ _ c.args.epoch c.args.block c.mark.result _ _ _ _ _ _ c.self.view_is c.self.invariant c.requires.exists c.index_mut-segment.ensures.value c.mark.ensures.value c.mark.ensures.sound
+
+pub returns-clause-sound : goal.returns-clause-sound
+returns-clause-sound c = (marked_invariant _ _ _ c.args.epoch c.args.block c.mark.result _ _ _ _ _ _ c.self.view_is c.self.invariant c.requires.exists c.index_mut-segment.ensures.value c.mark.ensures.value c.mark.ensures.sound).0

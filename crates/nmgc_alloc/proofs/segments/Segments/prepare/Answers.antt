@@ -7,4 +7,12 @@ pub invariant_of-self : goal.invariant_of-self
 invariant_of-self c =
     quiet_to _ prepared 0 _ _ _ _ _ 0 (quiet_prepared _)
     (rewritten _ _ _ _ prepared c.as_mut_slice.ensures.value c.as_mut_slice.ensures.len c.prepare_all.ensures)
+    (omega arith)
     c.self.invariant (omega arith, λ i below. absurd (omega arith))
+
+pub returns-clause-sound : goal.returns-clause-sound
+returns-clause-sound c =
+    (quiet_to _ prepared 0 _ _ _ _ _ 0 (quiet_prepared _)
+    (rewritten _ _ _ _ prepared c.as_mut_slice.ensures.value c.as_mut_slice.ensures.len c.prepare_all.ensures)
+    (omega arith)
+    c.self.invariant (omega arith, λ i below. absurd (omega arith))).0

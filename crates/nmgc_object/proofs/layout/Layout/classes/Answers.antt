@@ -1,6 +1,6 @@
 use Rattle.std.proofs.Common.{ℕ, ◌≡◌, ◌+◌, ◌<◌, ◌≤◌, ◌↔◌, subst, sym}
 use Rattle.nmgc_object.specs.Size.{block_size}
-use Rattle.nmgc_object.proofs.ClassLaws.{classes, fitting, count_at, count_to}
+use Rattle.nmgc_object.specs.laws.Classes.{classes, fitting, count_at, count_to}
 use Rattle.nmgc_object.proofs.layout.Layout.classes.Goals as goal
 
 pub returns-clause-count : goal.returns-clause-count

@@ -10,13 +10,13 @@ use Rattle.nmgc_segment.specs.Marks.{IsEpoch, carried}
 use Rattle.nmgc_segment.specs.Segment.{Segment, IsSegment, InUse, InSnapshot, mark_of, block_count}
 use Rattle.nmgc_segment.specs.declared.state.State.{State}
 use Rattle.nmgc_segment.specs.declared.state.State.TheVariants.{Free, Current, Active, Filled, Sweeping}
-use Rattle.nmgc_segment.proofs.SegmentLaws.{mark-map, carried_bounds, few_blocks}
+use Rattle.nmgc_segment.specs.laws.Segments.{mark-map, carried_bounds, few_blocks}
 use Rattle.nmgc_alloc.specs.Search.{nth, is}
 use Rattle.nmgc_alloc.specs.Segments.{Segments, IsSegments, HasNumber, Marks, block_place, marked_if}
 use Rattle.nmgc_alloc.specs.Turns.{carried_in, carried_over}
 use Rattle.nmgc_alloc.specs.AllocState.{Cells, AllocState, StandsFor, Shows, cells, no_cells, count_in}
-use Rattle.nmgc_alloc.proofs.TurnLaws.{nth-map}
-use Rattle.nmgc_alloc.proofs.OneLaws.{each_set}
+use Rattle.nmgc_alloc.specs.laws.Numbers.{nth-map}
+use Rattle.nmgc_alloc.specs.laws.Numbers.{each_set}
 
 -- the same but for marks of blocks in use
 record SameUse (x y : Segment) : Type 0 where
@@ -48,7 +48,9 @@ shows_same s new words i c layout same h =
 
 stands_same : (s : Segments) (xs : List Segment) (words : List ℕ) (a : AllocState) → length xs ≡ length s.segments → ((i : ℕ) → HasNumber s i → SameUse (nth s.segments i) (nth xs i)) → StandsFor s words a → StandsFor (record s { segments = xs }) words a
 stands_same s xs words a size each h = record {
+  total = h.total;
   count = h.count ∙ sym size;
+  names = h.names;
   fresh = h.fresh;
   shows = λ i exists.
       let there : HasNumber s i = omega arith in

@@ -7,6 +7,7 @@ use Rattle.std.proofs.lemmas.Bool.Decides.{nat_tests}
 use Rattle.nmgc_graph.specs.declared.value.Name.{Name}
 use Rattle.nmgc_object.specs.declared.layout.Layout.{Layout}
 use Rattle.nmgc_object.specs.Size.{block_size}
+use Rattle.nmgc_object.specs.Words.{IsName}
 use Rattle.nmgc_segment.specs.Marks.{IsEpoch, swept}
 use Rattle.nmgc_segment.specs.Segment.{Segment, InUse, IsMarked, mark_of, block_count}
 use Rattle.nmgc_segment.specs.declared.state.State.{State}
@@ -15,7 +16,7 @@ use Rattle.nmgc_alloc.specs.declared.search.Wanted.TheVariants as wanted
 use Rattle.nmgc_alloc.specs.Search.{nth}
 use Rattle.nmgc_alloc.specs.Segments.{Segments, HasNumber, HasNone, SweepsSegment, SweepsNext, block_place}
 use Rattle.nmgc_alloc.specs.AllocState.{Cells, AllocState, StandsFor, Shows, Sweeps, Keeps, IsSwept, IsFull, IsEmpty, IsFirst, IsIn, NoneIs, cells, no_cells, name_in}
-use Rattle.nmgc_alloc.proofs.StatePlaced.{none_from, not_some, shows_unused, stands_with}
+use Rattle.nmgc_alloc.specs.laws.Placing.{none_from, not_some, shows_unused, stands_with}
 
 -- the names in the blocks that pass a test
 kept_names : List (Option Name) → (ℕ → Bool) → List (Option Name)
@@ -94,6 +95,13 @@ shows_left s new words n epoch c state names e h was layout sweeps keeps is used
           ∙ h.named b name had;
     }
 
+-- the names that are left are names
+left_named : (x : Segment) (epoch : ℕ) (c : Cells) (names : List (Option Name)) → Keeps (IsMarked x epoch) c.names names → ((b : ℕ) (name : Name) → name_in c b ≡ Some name → IsName name) → (b : ℕ) (name : Name) → slice_index_or names b None ≡ Some name → IsName name
+left_named x epoch c names keep each b name has = elim (cases_eq (mark_of x b) epoch) [
+  | inl marked ↦ each b name (sym (keep.kept b marked) ∙ has)
+  | inr other ↦ let none = keep.freed b other in absurd (cc)
+]
+
 -- a sweep is a step of the allocation state
 pub swept_stands : (s new : Segments) (words : List ℕ) (a : AllocState) (epoch n : ℕ) → IsEpoch epoch → StandsFor s words a → SweepsNext s new epoch n → (b : AllocState) × Sweeps a b n (IsMarked (nth s.segments n) epoch) × StandsFor new words b
 swept_stands s new words a epoch n e h next =
@@ -117,7 +125,8 @@ swept_stands s new words a epoch n e h next =
       is = (low, was);
       none_below = λ i below is. let there : HasNumber s i = omega arith in next.least.none_below i below (sym (h.shows i there).state ∙ is);
     } in
-    let finish = λ (left_cells : Cells) (is : IsSwept c names left_cells) (seen : Shows new words n left_cells).
+    let named = left_named x epoch c names keep (h.names n) in
+    let finish = λ (left_cells : Cells) (is : IsSwept c names left_cells) (each : (b : ℕ) (name : Name) → name_in left_cells b ≡ Some name → IsName name) (seen : Shows new words n left_cells).
     let after : AllocState = record { segments = set a.segments n left_cells; fresh = a.fresh } in
     let there : cells after n ≡ left_cells = get_or-set_same a.segments n left_cells no_cells low in
     let step : Sweeps a after n (IsMarked x epoch) = record {
@@ -127,21 +136,21 @@ swept_stands s new words a epoch n e h next =
       swept = subst (λ (k : Cells). IsSwept c names k) (sym there) is;
       others = ap (λ (k : Cells). record a { segments = set a.segments n k }) (sym there);
     } in
-    let stands : StandsFor new words after = stands_with s new words words a n a.fresh left_cells h exists others layout fresh seen (λ i b _ _ _. refl) in
+    let stands : StandsFor new words after = stands_with s new words words a n a.fresh left_cells h exists others layout fresh refl each seen (λ i b _ _ _. refl) in
     let result : (b : AllocState) × Sweeps a b n (IsMarked x epoch) × StandsFor new words b = (after, step, stands) in
     result in
     elim sweeps.active [
       | inl free ↦
           let empty : IsEmpty names = λ b. none_from _ (λ some. sweeps.free.0 free b ((sweeps.used b).0 ((taken b).0 some))) in
-          finish no_cells (inl (empty, refl)) (shows_unused new words n free (λ b used. sweeps.free.0 free b ((sweeps.used b).0 used)))
+          finish no_cells (inl (empty, refl)) (λ b name has. absurd (cc)) (shows_unused new words n free (λ b used. sweeps.free.0 free b ((sweeps.used b).0 used)))
       | inr (inl filled) ↦
           let full : IsFull names = λ b below. (taken b).1 ((sweeps.used b).1 (sweeps.filled.0 filled b (omega arith))) in
-          finish (record c { state = Filled; names = names }) (inr (inl (full, refl)))
+          finish (record c { state = Filled; names = names }) (inr (inl (full, refl))) named
           (shows_left s new words n epoch c Filled names e shows used layout sweeps keep filled (λ f. cc))
       | inr (inr active) ↦
           let some : IsEmpty names → ⊥ = λ empty. let free = sweeps.free.1 (λ b marked. not_some _ (empty b) ((taken b).1 ((sweeps.used b).1 marked))) in cc in
           let room : IsFull names → ⊥ = λ all. let filled = sweeps.filled.1 (λ b below. (sweeps.used b).0 ((taken b).0 (all b (omega arith)))) in cc in
-          finish (record c { state = Active; names = names }) (inr (inr (some, room, refl)))
+          finish (record c { state = Active; names = names }) (inr (inr (some, room, refl))) named
           (shows_left s new words n epoch c Active names e shows used layout sweeps keep active (λ f. cc))
     ]
 

@@ -1,6 +1,7 @@
 -- A change of the state of each segment is one of the allocation state.
-use Rattle.std.proofs.Common.{ℕ, ◌≡◌, ◌+◌, ◌*◌, ◌/◌, ◌<◌, ◌↔◌, ◌∙◌, refl, ap, subst, sym, arith, List, length, map, slice_index}
-use Rattle.std.proofs.Math.ListN.{length-map}
+use Rattle.std.proofs.Common.{ℕ, ◌≡◌, ◌+◌, ◌*◌, ◌/◌, ◌<◌, ◌↔◌, ◌∙◌, refl, ap, subst, sym, arith, inl, inr, List, length, map, slice_index, slice_index_or, Some}
+use Rattle.std.proofs.Math.ListN.{length-map, get_or-eq_default}
+use Rattle.std.proofs.lemmas.Bool.{cases_lt}
 use Rattle.std.proofs.lemmas.List.{get_or-map}
 use Rattle.nmgc_object.specs.Size.{block_size}
 use Rattle.nmgc_object.specs.Words.{name_word}
@@ -10,8 +11,8 @@ use Rattle.nmgc_segment.specs.declared.state.State.TheVariants.{Free}
 use Rattle.nmgc_alloc.specs.Search.{nth}
 use Rattle.nmgc_alloc.specs.Segments.{Segments, HasNumber, block_place}
 use Rattle.nmgc_alloc.specs.Turns.{prepared, prepared_state, retired, retired_state}
-use Rattle.nmgc_alloc.specs.AllocState.{Cells, AllocState, StandsFor, Shows, cells, no_cells, restated, cycle_begun, all_retired}
-use Rattle.nmgc_alloc.proofs.TurnLaws.{nth-map, prepared_free, retired_free}
+use Rattle.nmgc_alloc.specs.AllocState.{Cells, AllocState, StandsFor, Shows, cells, no_cells, name_in, restated, cycle_begun, all_retired}
+use Rattle.nmgc_alloc.specs.laws.Numbers.{nth-map, prepared_free, retired_free}
 
 -- the segment is the same but for its state and its snapshot
 pub record Restates (f : Segment → Segment) (step : State → State) : Type 0 where
@@ -47,7 +48,15 @@ shows_map s words number fresh c f step r exists h =
 
 pub stands_map : (s : Segments) (words : List ℕ) (allocation : AllocState) (fresh : ℕ) (f : Segment → Segment) (step : State → State) → Restates f step → StandsFor s words allocation → StandsFor (record s { segments = map f s.segments; fresh = fresh }) words (record { segments = map (restated step) allocation.segments; fresh = fresh })
 stands_map s words allocation fresh f step r h = record {
+  total = h.total;
   count = length-map allocation.segments (restated step) ∙ h.count ∙ sym (length-map s.segments f);
+  names = λ number b name lies. elim (cases_lt number (length allocation.segments)) [
+    | inl low ↦ h.names number b name (ap (λ (c : Cells). name_in c b) (sym (get_or-map (restated step) allocation.segments number no_cells no_cells low)) ∙ lies)
+    | inr high ↦
+        let past : slice_index_or (map (restated step) allocation.segments) number no_cells ≡ no_cells = get_or-eq_default (map (restated step) allocation.segments) no_cells (omega (arith, length-map allocation.segments (restated step))) in
+        let none : name_in no_cells b ≡ Some name = ap (λ (c : Cells). name_in c b) (sym past) ∙ lies in
+        absurd (cc)
+  ];
   fresh = refl;
   shows = λ number exists.
       let there : number < length s.segments = rw length-map at exists in

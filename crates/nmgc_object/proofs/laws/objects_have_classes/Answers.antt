@@ -1,0 +1,16 @@
+use Rattle.std.proofs.Common.{arith}
+use Rattle.nmgc_object.specs.laws.Headers.{few_fields}
+use Rattle.nmgc_object.specs.laws.Classes.{object_class, object_half, class_counted}
+use Rattle.nmgc_object.proofs.laws.objects_have_classes.Goals as goal
+
+pub returns-clause-fits : goal.returns-clause-fits
+returns-clause-fits c = object_class
+
+pub returns-clause-object : goal.returns-clause-object
+returns-clause-object c = λ header h. (omega arith, omega (arith, few_fields header h))
+
+pub returns-clause-half : goal.returns-clause-half
+returns-clause-half c = object_half
+
+pub returns-clause-classes : goal.returns-clause-classes
+returns-clause-classes c = λ layout class h. class_counted layout class h.words

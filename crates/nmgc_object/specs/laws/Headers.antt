@@ -1,0 +1,18 @@
+-- How many fields an object may have.
+use Rattle.std.proofs.Common.{ℕ, ◌≤◌, arith}
+use Rattle.nmgc_graph.specs.declared.node.Kind.{Kind}
+use Rattle.nmgc_graph.specs.declared.node.Kind.TheVariants.{Con, Var, Arr, Thunk, Weak, Stack}
+use Rattle.nmgc_object.specs.declared.words.Header.{Header}
+use Rattle.nmgc_object.specs.Words.{IsHeader, HasFields}
+
+few_of : (kind : Kind) (fields : ℕ) → HasFields kind fields → fields ≤ 4094
+few_of Con fields h = h
+few_of Var fields h = omega arith
+few_of Arr fields h = h
+few_of Thunk fields h = omega arith
+few_of Weak fields h = omega arith
+few_of Stack fields h = h
+
+-- no header has more fields than an object may have
+pub few_fields : (header : Header) → IsHeader header → header.fields ≤ 4094
+few_fields header h = few_of header.kind header.fields h.1
