@@ -1,9 +1,9 @@
 -- Which scripts are built so far, and what their run is.
-use Rattle.std.specs.Prelude.{◌≡◌, ℕ, List, [], ◌∷◌, length, slice_index_or, All}
+use Rattle.std.specs.Prelude.{◌≡◌, List, [], ◌∷◌, length, slice_index_or, All}
 use Rattle.nmgc_graph.specs.World.{new_world}
 use Rattle.nmgc_graph.specs.Replay.{replies_of}
 use Rattle.nmgc_graph.specs.declared.command.Command.{Command}
-use Rattle.nmgc_graph.specs.declared.command.Command.TheVariants.{Num, Nil, Mov, Con, Var, Arr, Thunk, Weak, Stack, Get, Set, Cas, Update, Force, Push, Pop, Deref, Finalise, NextFin, Show, Same, Yield, Collect, Full}
+use Rattle.nmgc_graph.specs.declared.command.Command.TheVariants.{Num, Nil, Mov, Con, Var, Arr, Get, Set, Show, Same, Yield}
 use Rattle.nmgc_graph.specs.declared.command.Reply.{Reply}
 use Rattle.nmgc_script.specs.declared.script.Script.{Script}
 use Rattle.nmgc_journal.specs.declared.report.Report.{Report}
@@ -40,7 +40,9 @@ abbrev pub rounds_of : List Reply → List RoundRows
 rounds_of [] = []
 rounds_of (reply ∷ replies) = record { replies = (reply ∷ replies) ∷ [] } ∷ []
 
--- the report's replies are those of a heap that is never collected, in the program's order
+-- the report's replies are those of a heap that is never collected, in the program's order; such a run makes no stop and no cycle
 pub record IsLawful (script : Script) (report : Report) : Type 0 where
   pub rounds : report.rounds ≡ rounds_of (replies_of (new_world 1) 0 (program_of script))
+  pub stops : report.stops ≡ []
+  pub cycles : report.cycles ≡ []
   pub end : report.end ≡ end.Done

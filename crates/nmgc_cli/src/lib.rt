@@ -1,18 +1,34 @@
-//! The program `nmgc` as a library: the top call, over any source and sink.
+//! The program `nmgc` as a library: the top call, over any command line, source and sink.
 //!
-//! `nmgc` reads a script, runs it and writes the report's text, or tells why not. Its contract is the
-//! theorem of the repository: what was read, what the replies are, what was written, and which
-//! refusal comes when. At this stage the run is one program on a heap that is never collected.
+//! `nmgc` does what the words ask for: it reads a script, runs it and writes the report's text, or tells
+//! why not. Its contract is the theorem of the repository: what was read, what the replies are, what was
+//! written, and which refusal comes when. `program` takes the words from a command line before it, and
+//! gives the number of the status after it. At this stage the run is one program on a heap that is never
+//! collected.
+//!
+//! - `words`, `task`: the words of the command line, and what they ask for.
+//! - `top`: the top call. `answer`, `told`, `message`: what is answered, and what is told of it.
+//! - `built`, `replay`: which scripts are built so far, and their run.
+//! - `status`, `entry`: statuses with their numbers, and the whole program but for its streams.
 #![tactic(auto)]
 
+pub mod answer;
 mod built;
-pub mod ended;
+pub mod entry;
 mod message;
 mod replay;
+pub mod status;
+pub mod task;
+mod told;
 pub mod top;
+pub mod words;
 
-pub use ended::{Ended, Status};
-pub use top::{LIMIT, nmgc};
+pub use answer::Refusal;
+pub use entry::program;
+pub use status::{Ended, Status};
+pub use task::{Task, task_of};
+pub use top::nmgc;
+pub use words::{Arguments, CommandLine, words_of};
 
 #[cfg(test)]
 mod tests;

@@ -1,24 +1,25 @@
-//! What is written where no report is.
+//! The texts of refusals.
 ghost use Rattle.std.specs.Prelude.{◌≡◌, IfOk};
-ghost use Rattle.nmgc_cli.specs.Told.{message_of, cause_text, bad_line};
+ghost use Rattle.nmgc_cli.specs.Answer.{IsBad, refusal_text, cause_text, bad_line};
 
-use crate::Status;
+use crate::answer::Refusal;
 use nmgc_graph::NoMemory;
 use nmgc_io::push_number;
 use nmgc_script::Cause;
 use std::alloc::Global;
 
 /// The text of a refusal that has always the same. Takes no memory.
-pub fn message(status: Status) -> &'static [u8]
-    ensures { result.now ≡ message_of status }
+pub fn message(refusal: Refusal) -> &'static [u8]
+    requires { IsBad refusal → ⊥ }
+    ensures { result.now ≡ refusal_text refusal }
 {
-    match status {
-        Status::Usage => b"usage: nmgc run\n",
-        Status::ReadFault => b"read fault\n",
-        Status::TooLong => b"too long\n",
-        Status::NoMemory => b"no memory\n",
-        Status::Unbuilt => b"unbuilt\n",
-        Status::Done | Status::WriteFault | Status::BadScript => b"",
+    match refusal {
+        Refusal::Usage => b"usage: nmgc run\n",
+        Refusal::ReadFault => b"read fault\n",
+        Refusal::TooLong => b"too long\n",
+        Refusal::Bad { .. } => unreachable!(),
+        Refusal::Unbuilt => b"unbuilt\n",
+        Refusal::NoMemory => b"no memory\n",
     }
 }
 

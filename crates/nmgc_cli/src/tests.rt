@@ -1,7 +1,12 @@
-//! The top call over memory: worked runs, refusals, cuts, and sources and sinks that fail.
+//! The top call over memory: worked runs, refusals, cuts, and sources and sinks that fail; and the whole
+//! program with its command line.
+ghost use Rattle.std.specs.Prelude.{None};
+
 use super::*;
 use nmgc_io::{MemorySink, MemorySource};
+use nmgc_limits::MAX_SCRIPT_BYTES;
 use std::alloc::{AllocError, Global};
+use std::env::FillError;
 use std::test::Fail;
 
 // The first three lines of every script here: 41 bytes.
@@ -234,7 +239,7 @@ fn run_many(alloc: Global, bytes: Vec<u8>) -> Result<Run, Fail> {
 
 #[test]
 fn one_byte_more_is_too_long(rt: HostRuntime) -> Result<(), Fail> {
-    let bytes = vec![in rt.alloc(); b'#'; LIMIT + 1]?;
+    let bytes = vec![in rt.alloc(); b'#'; MAX_SCRIPT_BYTES + 1]?;
     let run = run_many(rt.alloc(), bytes)?;
     assert_eq!(rt; run.ended.status, Status::TooLong);
     assert_eq!(rt; run.sink.bytes(), b"too long\n".as_slice());
@@ -248,7 +253,7 @@ fn the_longest_script_is_run(rt: HostRuntime) -> Result<(), Fail> {
     for _ in 0..2_097_146 {
         bytes.extend_from_slice(b"show r1\n")?;
     }
-    assert_eq!(rt; bytes.len(), LIMIT);
+    assert_eq!(rt; bytes.len(), MAX_SCRIPT_BYTES);
     let run = run_many(rt.alloc(), bytes)?;
     assert_eq!(rt; run.ended.status, Status::Done);
     // "report 1", "round 1", "0 ok", and "0 nil" for each line, then "end done".
@@ -257,4 +262,83 @@ fn the_longest_script_is_run(rt: HostRuntime) -> Result<(), Fail> {
     assert!(rt; text.starts_with(b"report 1\nround 1\n0 ok\n0 nil\n"));
     assert!(rt; text.ends_with(b"0 nil\nend done\n"));
     Ok(())
+}
+
+// A command line in memory.
+#[derive(Drop)]
+struct Line<'a> {
+    words: &'a [&'a [u8]],
+}
+
+impl<'a> CommandLine for Line<'a> {
+    ghost words = { λ _. None };
+
+    fn word(&self, place: usize, buf: &mut [u8]) -> Result<usize, FillError> {
+        let Some(word) = self.words.get(place) else {
+            return Err(FillError::NotPresent);
+        };
+        if word.len() > buf.len() {
+            return Err(FillError::TooLong);
+        }
+        buf[..word.len()].copy_from_slice(word);
+        Ok(word.len())
+    }
+}
+
+#[test]
+fn all_words_are_passed_on(rt: HostRuntime) -> Result<(), Fail> {
+    let (long, longer) = ([b'x'; 256], [b'y'; 257]);
+    let words: [&[u8]; 6] = [b"nmgc", b"run", b"\xff", &long, &longer, b""];
+    let long = str::from_utf8(&long).ok().ok_or("no text")?;
+    let passed = words_of(rt.alloc(), &Line { words: &words })?;
+    let mut places = passed.iter();
+    for want in ["run", "", long, "", ""] {
+        assert_eq!(rt; places.next().ok_or("a word is missing")?.as_str(), want);
+    }
+    assert!(rt; places.next().is_none());
+    Ok(())
+}
+
+// Command lines, how much of the script with one object is there, and what the program ends with.
+const LINES: [(&[&[u8]], usize, u8, &str); 8] = [
+    (&[b"nmgc", b"run"], 200, 0, ONE_OBJECT_REPORT),
+    (&[b"nmgc"], 200, 2, "usage: nmgc run\n"),
+    (&[], 200, 2, "usage: nmgc run\n"),
+    (&[b"run"], 200, 2, "usage: nmgc run\n"),
+    (&[b"nmgc", b"run", b"run"], 200, 2, "usage: nmgc run\n"),
+    (&[b"nmgc", b"run", b"\xff"], 200, 2, "usage: nmgc run\n"),
+    (&[b"nmgc", b"run"], 6, 5, "bad line 2 heap\n"),
+    (&[b"nmgc", b"run"], 40, 0, EMPTY_REPORT),
+];
+
+#[test]
+fn the_program_ends_with_its_number(rt: HostRuntime) -> Result<(), Fail> {
+    let script = script_of(rt.alloc(), ONE_OBJECT)?;
+    for (words, cut, number, text) in &LINES {
+        let bytes = Vec::from_slice(rt.alloc(), &script[..script.len().min(*cut)])?;
+        let mut source = MemorySource::new(bytes, 100, Vec::new(rt.alloc()));
+        let mut sink = MemorySink::new(rt.alloc(), 100, Vec::new(rt.alloc()), 1000)?;
+        let ended = program(rt.alloc(), &Line { words }, &mut source, &mut sink);
+        assert_eq!(rt; ended, *number);
+        assert_eq!(rt; sink.bytes(), text.as_bytes());
+    }
+    Ok(())
+}
+
+#[test]
+fn statuses_have_numbers(rt: HostRuntime) {
+    let rows: [(Status, u8); 9] = [
+        (Status::Done, 0),
+        (Status::Usage, 2),
+        (Status::ReadFault, 3),
+        (Status::WriteFault, 4),
+        (Status::BadScript, 5),
+        (Status::TooLong, 5),
+        (Status::HeapFull, 6),
+        (Status::NoMemory, 7),
+        (Status::Unbuilt, 8),
+    ];
+    for (status, number) in rows {
+        assert_eq!(rt; status.number(), number);
+    }
 }

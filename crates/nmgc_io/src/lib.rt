@@ -8,7 +8,7 @@
 //!
 //! - `source`, `sink`: the two traits; `ends`: how a call may end.
 //! - `memory_source`, `memory_sink`: both over memory, with faults where a caller wants them.
-//! - `standard`: both over the program's standard streams, the trusted edge.
+//! - `standard`: both over any stream of the standard library, and so over the standard streams.
 //! - `transfer`: `read_all` and `write_all`.
 //! - `numbers`: decimal text of numbers, written and read.
 //!
@@ -32,5 +32,5 @@ pub use memory_source::MemorySource;
 pub use numbers::{push_number, read_number};
 pub use sink::Sink;
 pub use source::Source;
-pub use standard::{StdSink, StdSource};
+pub use standard::{ReadSource, StdSink, StdSource, WriteSink};
 pub use transfer::{read_all, write_all};

@@ -2,10 +2,13 @@
 ghost use Rattle.std.specs.Prelude.{◌≤◌};
 
 use crate::{
-    Failed, MemorySink, MemorySource, ReadEnd, Sink, Source, StdSink, StdSource, WriteEnd,
-    push_number, read_all, read_number, write_all,
+    Failed, MemorySink, MemorySource, ReadEnd, ReadSource, Sink, Source, StdSink, StdSource,
+    WriteEnd, WriteSink, push_number, read_all, read_number, write_all,
 };
 use std::alloc::{AllocError, Global};
+use std::collections::VecDeque;
+use std::io;
+use std::io::{ErrorKind, Read, Write};
 use std::test::Fail;
 
 // The answers of six calls with a buffer of four bytes.
@@ -135,6 +138,85 @@ fn numbers_have_one_text(rt: HostRuntime) -> Result<(), Fail> {
     }
     assert_eq!(rt; out.as_slice(), b"r0409618446744073709551615".as_slice());
     Ok(())
+}
+
+// A stream that gives or takes one byte at a time, `good` bytes in all, and then fails once and is at
+// its end.
+#[derive(Drop)]
+struct Failing {
+    good: u8,
+    failed: bool,
+}
+
+impl Failing {
+    // One byte, the one fault, or the end.
+    fn turn(&mut self) -> io::Result<bool> {
+        if self.good > 0 {
+            self.good -= 1;
+            return Ok(true);
+        }
+        if self.failed {
+            return Ok(false);
+        }
+        self.failed = true;
+        Err(io::Error::from(ErrorKind::ConnectionReset))
+    }
+}
+
+impl Read for Failing {
+    fn read(&mut self, buf: &mut [u8]) -> io::Result<usize> {
+        match buf {
+            [first, ..] if self.turn()? => {
+                *first = b'r';
+                Ok(1)
+            }
+            _ => Ok(0),
+        }
+    }
+}
+
+impl Write for Failing {
+    fn write(&mut self, buf: &[u8]) -> io::Result<usize> {
+        if !buf.is_empty() && self.turn()? {
+            return Ok(1);
+        }
+        Ok(0)
+    }
+
+    fn flush(&mut self) -> io::Result<()> {
+        Ok(())
+    }
+}
+
+#[test]
+fn a_stream_is_a_source_and_a_sink(rt: HostRuntime) -> Result<(), Fail> {
+    let mut sink = WriteSink::new(VecDeque::new(rt.alloc()));
+    assert_eq!(rt; write_all(&mut sink, b"abcde"), Ok(()));
+
+    let mut bytes = VecDeque::new(rt.alloc());
+    bytes.write(b"abcde")?;
+    let mut source = ReadSource::new(bytes);
+    let all = read_all(rt.alloc(), &mut source, 9).ok().ok_or("not read")?;
+    assert_eq!(rt; all.as_slice(), b"abcde".as_slice());
+    Ok(())
+}
+
+#[test]
+fn a_fault_of_a_stream_is_a_fault(rt: HostRuntime) {
+    let mut source = ReadSource::new(Failing {
+        good: 1,
+        failed: false,
+    });
+    let want = [Ok(1), Err(Failed), Ok(0), Ok(0), Ok(0), Ok(0)];
+    assert_eq!(rt; six_reads(&mut source), want);
+
+    // A write that takes nothing is a fault too.
+    let mut sink = WriteSink::new(Failing {
+        good: 1,
+        failed: false,
+    });
+    let want = [Ok(1), Err(Failed), Err(Failed), Err(Failed)];
+    assert_eq!(rt; four_writes(&mut sink), want);
 }
 
 // The reading side waits for whoever runs the test, so the program's own run stands for it.

@@ -1,20 +1,26 @@
 -- The text of a report: ASCII lines, each ended by a line feed.
-use Rattle.std.specs.Prelude.{ℕ, ◌+◌, List, [], ◌∷◌, ◌++◌, codes, decimal, ◌==◌, if◌then◌else◌}
+use Rattle.std.specs.Prelude.{ℕ, ◌+◌, List, [], ◌∷◌, ◌++◌, codes, decimal, length, slice_get, ◌==◌, ◌&&◌, if◌then◌else◌}
 use Rattle.std.specs.List.{flat_map}
+use Rattle.std.specs.Option.{option_map_or}
 use Rattle.nmgc_graph.specs.declared.value.TheConstants.{SHARED_MAKER}
 use Rattle.nmgc_graph.specs.declared.value.Name.{Name}
 use Rattle.nmgc_graph.specs.declared.value.Value.{Value}
 use Rattle.nmgc_graph.specs.declared.value.Value.TheVariants.{Nil, Number, Ref}
 use Rattle.nmgc_graph.specs.declared.command.Reply.{Reply}
 use Rattle.nmgc_graph.specs.declared.command.Reply.TheVariants.{Fine, Yes, No, Updated, Already, Given, NoPointer, NoField, WrongKind, NotOwner, Fixed, Dead, Nothing, StackFull, StackEmpty}
+use Rattle.nmgc_journal.specs.Stops.{ended_at}
 use Rattle.nmgc_journal.specs.declared.report.RoundRows.{RoundRows}
+use Rattle.nmgc_journal.specs.declared.report.StopRow.{StopRow}
+use Rattle.nmgc_journal.specs.declared.report.CycleRow.{CycleRow}
 use Rattle.nmgc_journal.specs.declared.report.Report.{Report}
+use Rattle.nmgc_journal.specs.declared.report.Phase.{Phase}
+use Rattle.nmgc_journal.specs.declared.report.Phase.TheVariants.{Idle, Marking, Sweeping}
 use Rattle.nmgc_journal.specs.declared.report.End.{End}
-use Rattle.nmgc_journal.specs.declared.report.End.TheVariants.{Done}
+use Rattle.nmgc_journal.specs.declared.report.End.TheVariants.{Done, HeapFull}
 
 -- the maker and the serial with a full stop between, and g for the shared array
 abbrev pub name_text : Name → List ℕ
-name_text name = if name.maker == SHARED_MAKER then codes "g" else decimal name.maker ++ 46 ∷ decimal name.serial
+name_text name = if (name.maker == SHARED_MAKER) && (name.serial == 0) then codes "g" else decimal name.maker ++ 46 ∷ decimal name.serial
 
 abbrev pub value_text : Value → List ℕ
 value_text Nil = codes "nil"
@@ -57,14 +63,66 @@ replies_text m (replies ∷ others) = flat_map (reply_line m) replies ++ replies
 abbrev pub round_text : ℕ → RoundRows → List ℕ
 round_text n rows = codes "round " ++ decimal n ++ 10 ∷ replies_text 0 rows.replies
 
--- the rounds, where the first has this number
-abbrev pub rounds_text : ℕ → List RoundRows → List ℕ
-rounds_text n [] = []
-rounds_text n (rows ∷ others) = round_text n rows ++ rounds_text (n + 1) others
+-- a phase, with the space before it
+abbrev pub phase_text : Phase → List ℕ
+phase_text Idle = codes " idle"
+phase_text Marking = codes " marking"
+phase_text Sweeping = codes " sweeping"
 
+-- the four counts that end a stop's line
+abbrev pub stop_counts : StopRow → List ℕ
+stop_counts s = codes " free " ++ decimal s.free ++ codes " filled " ++ decimal s.filled ++ codes " sweep " ++ decimal s.sweep ++ codes " promoted " ++ decimal s.promoted ++ 10 ∷ []
+
+-- the line of a stop
+abbrev pub stop_line : StopRow → List ℕ
+stop_line s = codes "stop " ++ decimal s.number ++ phase_text s.phase ++ stop_counts s
+
+-- a cycle's number, and the stops of its snapshot and its closing
+abbrev pub cycle_stops : CycleRow → List ℕ
+cycle_stops c = codes "cycle " ++ decimal c.number ++ codes " from " ++ decimal c.from ++ codes " closed " ++ decimal c.closed
+
+-- how many segments it swept, how many blocks in use they had, and how many of these it freed
+abbrev pub cycle_swept : CycleRow → List ℕ
+cycle_swept c = codes " swept " ++ decimal (length c.swept) ++ codes " had " ++ decimal (length c.had) ++ codes " freed " ++ decimal (length c.freed)
+
+-- how many blocks it kept, and how many weak pointers died
+abbrev pub cycle_kept : CycleRow → List ℕ
+cycle_kept c = codes " kept " ++ decimal c.kept ++ codes " dead " ++ decimal (length c.dead) ++ 10 ∷ []
+
+-- the line of a cycle
+abbrev pub cycle_line : CycleRow → List ℕ
+cycle_line c = cycle_stops c ++ cycle_swept c ++ cycle_kept c
+
+-- a word and a name
+abbrev pub name_line : List ℕ → Name → List ℕ
+name_line word name = word ++ name_text name ++ 10 ∷ []
+
+-- a cycle: its line, the weak pointers that died, and the names that were freed
+abbrev pub cycle_text : CycleRow → List ℕ
+cycle_text c = cycle_line c ++ flat_map (name_line (codes "dead ")) c.dead ++ flat_map (name_line (codes "freed ")) c.freed
+
+-- the stop of this number, if there is a row of it: its line, and the cycles that ended there
+abbrev pub stop_at : List StopRow → List CycleRow → ℕ → List ℕ
+stop_at stops cycles n = option_map_or (λ stop. stop_line stop ++ flat_map cycle_text (ended_at n cycles)) (slice_get stops n) []
+
+-- the rounds, where the first has this number, each followed by its stop
+abbrev pub rounds_text : List StopRow → List CycleRow → ℕ → List RoundRows → List ℕ
+rounds_text stops cycles n [] = []
+rounds_text stops cycles n (rows ∷ others) = round_text n rows ++ stop_at stops cycles n ++ rounds_text stops cycles (n + 1) others
+
+-- the free segments and the reserve that were not enough
+abbrev pub end_counts : ℕ → ℕ → List ℕ
+end_counts free reserve = codes " free " ++ decimal free ++ codes " reserve " ++ decimal reserve ++ 10 ∷ []
+
+-- the last line of a run whose heap was full
+abbrev pub heap_full_line : ℕ → ℕ → List ℕ
+heap_full_line free reserve = codes "end heapfull" ++ end_counts free reserve
+
+-- the last line
 abbrev pub end_text : End → List ℕ
 end_text Done = codes "end done\n"
+end_text (HeapFull free reserve) = heap_full_line free reserve
 
 -- the whole text
 abbrev pub report_text : Report → List ℕ
-report_text r = codes "report 1\n" ++ rounds_text 1 r.rounds ++ end_text r.end
+report_text r = codes "report 1\n" ++ stop_at r.stops r.cycles 0 ++ rounds_text r.stops r.cycles 1 r.rounds ++ end_text r.end

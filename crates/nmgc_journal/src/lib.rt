@@ -1,14 +1,20 @@
 //! The report of a run, and its text.
 //!
-//! A report holds what a run did: the replies of each round, mutator by mutator, and how the run
-//! ended. Its text is what the program writes. The definitions of the text (`specs/Text.antt`) are
-//! the format; the code appends the same bytes from left to right, once.
+//! A report holds what a run did: the replies of each round, mutator by mutator, what each stop left, what
+//! each cycle freed, and how the run ended. Its text is what the program writes. The definitions of the
+//! text (`specs/Text.antt`) are the format; the code appends the same bytes from left to right, once.
+//!
+//! - `report`: the rows. `text`: the whole text, with the rounds and their replies.
+//! - `stops`: the lines of a stop and of the cycles that ended there.
+//! - `words`: words, numbers, names and values within a line.
 #![tactic(auto)]
 
 pub mod report;
+mod stops;
 pub mod text;
+mod words;
 
-pub use report::{End, Report, RoundRows};
+pub use report::{CycleRow, End, Phase, Report, RoundRows, StopRow};
 
 #[cfg(test)]
 mod tests;

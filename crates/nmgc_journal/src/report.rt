@@ -1,5 +1,12 @@
 //! The report of a run.
-use nmgc_graph::{List, Reply};
+//!
+//! A run goes from stop to stop: stop 0 is the opening one, and stop n follows round n. So the rows of
+//! the stops have one more than those of the rounds, and a row's place is its number. A cycle's row is
+//! written at the stop at which the cycle ends, so the rows of the cycles stand in the order of the stops
+//! at which they ended.
+//!
+//! Today's run is that of the model: it makes no stop and no cycle, and its report has no row of them.
+use nmgc_graph::{List, Name, Reply};
 
 /// The replies of one round: a list for each mutator, in the mutator's own order.
 #[derive(Drop)]
@@ -7,16 +14,73 @@ pub struct RoundRows {
     pub replies: List<List<Reply>>,
 }
 
+/// What the collector does beside the mutators, from one stop to the next.
+#[derive(Clone, Copy, Debug, PartialEq, Eq)]
+pub enum Phase {
+    /// Nothing.
+    Idle,
+    /// It marks what the snapshot reaches.
+    Marking,
+    /// It sweeps the segments that were filled at the snapshot.
+    Sweeping,
+}
+
+/// One stop, as it was left.
+#[derive(Clone, Copy, Debug, PartialEq, Eq)]
+pub struct StopRow {
+    /// Its number, from 0.
+    pub number: u32,
+    /// The phase of the round that follows.
+    pub phase: Phase,
+    /// How many segments are free.
+    pub free: u32,
+    /// How many are filled and don't wait to be swept.
+    pub filled: u32,
+    /// How many wait to be swept.
+    pub sweep: u32,
+    /// How many objects were promoted at this stop.
+    pub promoted: u32,
+}
+
+/// One cycle, from its snapshot to the end of its sweep. Lists are in order: segments by number, names by
+/// maker and then by serial.
+#[derive(Drop)]
+pub struct CycleRow {
+    /// Its number, from 1.
+    pub number: u32,
+    /// The stop of its snapshot.
+    pub from: u32,
+    /// The stop at which marking was closed.
+    pub closed: u32,
+    /// The stop at which it ended.
+    pub ended: u32,
+    /// The segments that were filled at the snapshot, and swept.
+    pub swept: List<u32>,
+    /// The names that were in the blocks of these segments at the snapshot.
+    pub had: List<Name>,
+    /// Those of `had` whose blocks the sweep freed.
+    pub freed: List<Name>,
+    /// The weak pointers that died at the closing.
+    pub dead: List<Name>,
+    /// How many blocks were marked as the closing was done.
+    pub kept: u32,
+}
+
 /// How a run ended.
 #[derive(Clone, Copy, Debug, PartialEq, Eq)]
 pub enum End {
     /// Every command was answered.
     Done,
+    /// Some command was not, and a full cycle left fewer free segments than the reserve.
+    HeapFull { free: u32, reserve: u32 },
 }
 
-/// What happened in a run: its rounds in order, from round 1 on, and its end.
+/// What happened in a run: its rounds in order, from round 1 on, its stops, from stop 0 on, its cycles, and
+/// its end.
 #[derive(Drop)]
 pub struct Report {
     pub rounds: List<RoundRows>,
+    pub stops: List<StopRow>,
+    pub cycles: List<CycleRow>,
     pub end: End,
 }

@@ -1,3 +1,6 @@
+// The text of every kind of line, and the worked examples' stops and cycles.
+ghost use Rattle.std.specs.Prelude.{◌≡◌, IfOk, slice_index};
+
 use super::*;
 use nmgc_graph::{List, Name, Reply, SHARED_MAKER, Value};
 use std::alloc::Global;
@@ -5,7 +8,7 @@ use std::test::Fail;
 use text::text;
 
 // Every reply with the line that it has for mutator 0 or 7.
-const LINES: [(Reply, &str); 18] = [
+const LINES: [(Reply, &str); 19] = [
     (Reply::Fine, "ok"),
     (Reply::Yes, "yes"),
     (Reply::No, "no"),
@@ -30,6 +33,13 @@ const LINES: [(Reply, &str); 18] = [
             serial: 0,
         })),
         "g",
+    ),
+    (
+        Reply::Given(Value::Ref(Name {
+            maker: SHARED_MAKER,
+            serial: 1,
+        })),
+        "8.1",
     ),
     (Reply::NoPointer, "nopointer"),
     (Reply::NoField, "nofield"),
@@ -56,6 +66,8 @@ fn each_reply_has_its_line(rt: HostRuntime) -> Result<(), Fail> {
         rounds.push(one(rt.alloc(), *reply)?)?;
         let report = Report {
             rounds,
+            stops: List::new(rt.alloc()),
+            cycles: List::new(rt.alloc()),
             end: End::Done,
         };
         let want = format!(in rt.alloc(); "report 1\nround 1\n0 {word}\nend done\n")?;
@@ -82,9 +94,141 @@ fn rounds_and_mutators_are_counted(rt: HostRuntime) -> Result<(), Fail> {
     })?;
     let report = Report {
         rounds,
+        stops: List::new(rt.alloc()),
+        cycles: List::new(rt.alloc()),
         end: End::Done,
     };
     let want = "report 1\nround 1\n0 none\n1 yes\n1 no\nround 2\nend done\n";
+    assert_eq!(rt; text(rt.alloc(), &report)?.as_slice(), want.as_bytes());
+    Ok(())
+}
+
+// So many rounds without replies.
+fn silent(alloc: Global, count: u32) -> Result<List<RoundRows>, Fail> {
+    let mut rounds = List::new(alloc);
+    for _ in 0..count {
+        let replies = List::new(alloc);
+        rounds.push(RoundRows { replies })?;
+    }
+    Ok(rounds)
+}
+
+// The stops in order, each with its phase and its four counts.
+fn stops(alloc: Global, rows: &[(Phase, [u32; 4])]) -> Result<List<StopRow>, Fail> {
+    let mut stops = List::new(alloc);
+    for (number, (phase, [free, filled, sweep, promoted])) in (0..9).zip(rows) {
+        stops.push(StopRow {
+            number,
+            phase: *phase,
+            free: *free,
+            filled: *filled,
+            sweep: *sweep,
+            promoted: *promoted,
+        })?;
+    }
+    Ok(stops)
+}
+
+// The names of mutator 0 with serials below a number.
+fn names(alloc: Global, count: u32) -> Result<List<Name>, Fail> {
+    let mut names = List::new(alloc);
+    for serial in 0..count {
+        names.push(Name { maker: 0, serial })?;
+    }
+    Ok(names)
+}
+
+// A cycle: its number, its three stops and what it kept; how many segments it swept, how many names
+// they had, how many of these it freed, and how many weak pointers died.
+fn cycle(alloc: Global, at: [u32; 4], kept: u32, counts: [u32; 4]) -> Result<CycleRow, Fail>
+    ensures { IfOk result (λ row. slice_index at 3 ≡ row.ended) }
+{
+    let [number, from, closed, ended] = at;
+    let [swept, had, freed, dead] = counts;
+    let mut segments = List::new(alloc);
+    for segment in 0..swept {
+        segments.push(segment)?;
+    }
+    Ok(CycleRow {
+        number,
+        from,
+        closed,
+        ended,
+        swept: segments,
+        had: names(alloc, had)?,
+        freed: names(alloc, freed)?,
+        dead: names(alloc, dead)?,
+        kept,
+    })
+}
+
+#[test]
+fn a_cycle_stands_at_the_stop_at_which_it_ended(rt: HostRuntime) -> Result<(), Fail> {
+    let mut cycles = List::new(rt.alloc());
+    cycles.push(cycle(rt.alloc(), [1, 1, 2, 3], 16, [1, 16, 1, 2])?)?;
+    let report = Report {
+        rounds: silent(rt.alloc(), 3)?,
+        stops: stops(
+            rt.alloc(),
+            &[
+                (Phase::Idle, [32, 0, 0, 0]),
+                (Phase::Marking, [30, 0, 1, 17]),
+                (Phase::Sweeping, [30, 0, 1, 0]),
+                (Phase::Idle, [30, 0, 0, 0]),
+            ],
+        )?,
+        cycles,
+        end: End::Done,
+    };
+    let want = "report 1
+stop 0 idle free 32 filled 0 sweep 0 promoted 0
+round 1
+stop 1 marking free 30 filled 0 sweep 1 promoted 17
+round 2
+stop 2 sweeping free 30 filled 0 sweep 1 promoted 0
+round 3
+stop 3 idle free 30 filled 0 sweep 0 promoted 0
+cycle 1 from 1 closed 2 swept 1 had 16 freed 1 kept 16 dead 2
+dead 0.0
+dead 0.1
+freed 0.0
+end done
+";
+    assert_eq!(rt; text(rt.alloc(), &report)?.as_slice(), want.as_bytes());
+    Ok(())
+}
+
+#[test]
+fn two_cycles_end_at_one_stop(rt: HostRuntime) -> Result<(), Fail> {
+    let mut cycles = List::new(rt.alloc());
+    cycles.push(cycle(rt.alloc(), [1, 1, 2, 2], 3, [0, 0, 0, 0])?)?;
+    cycles.push(cycle(rt.alloc(), [2, 2, 2, 2], 7, [2, 7, 0, 0])?)?;
+    let report = Report {
+        rounds: silent(rt.alloc(), 2)?,
+        stops: stops(
+            rt.alloc(),
+            &[
+                (Phase::Idle, [6, 0, 0, 0]),
+                (Phase::Marking, [5, 0, 0, 3]),
+                (Phase::Idle, [4, 1, 0, 4]),
+            ],
+        )?,
+        cycles,
+        end: End::HeapFull {
+            free: 4,
+            reserve: 5,
+        },
+    };
+    let want = "report 1
+stop 0 idle free 6 filled 0 sweep 0 promoted 0
+round 1
+stop 1 marking free 5 filled 0 sweep 0 promoted 3
+round 2
+stop 2 idle free 4 filled 1 sweep 0 promoted 4
+cycle 1 from 1 closed 2 swept 0 had 0 freed 0 kept 3 dead 0
+cycle 2 from 2 closed 2 swept 2 had 7 freed 0 kept 7 dead 0
+end heapfull free 4 reserve 5
+";
     assert_eq!(rt; text(rt.alloc(), &report)?.as_slice(), want.as_bytes());
     Ok(())
 }

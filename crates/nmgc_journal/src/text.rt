@@ -1,37 +1,71 @@
 //! The text of a report.
 //!
 //! Every function here appends one piece of the text to the bytes so far, and its contract says which
-//! piece of the format that is. A number is appended as its decimal digits, so no piece is written
-//! twice or moved.
+//! piece of the format that is.
 ghost use Rattle.std.specs.Prelude.{◌≡◌, ◌+◌, ◌<◌, ◌≤◌, ◌^◌, ◌++◌, length, codes, OnOk, IfOk};
 ghost use Rattle.std.specs.List.{flat_map};
-ghost use Rattle.nmgc_journal.specs.Text.{name_text, value_text, reply_text, HasWord, reply_line, replies_text, round_text, rounds_text, end_text, report_text};
+ghost use Rattle.nmgc_journal.specs.Stops.{AreEndedFrom};
+ghost use Rattle.nmgc_journal.specs.Text.{reply_text, HasWord, reply_line, replies_text, round_text, rounds_text, stop_at, end_counts, heap_full_line, end_text, report_text};
 
+use crate::stops::push_stop_at;
+use crate::words::{push_count, push_value, push_word};
 use crate::{End, Report, RoundRows};
-use nmgc_graph::{Name, NoMemory, Reply, SHARED_MAKER, Value};
+use nmgc_graph::{NoMemory, Reply};
 use nmgc_io::push_number;
 use std::alloc::Global;
 
-/// The text of a report, as `docs/FORMATS.md` gives it.
+/// The text of a report, as `docs/FORMATS.md` gives it. The cycles stand in the order of the stops at
+/// which they ended, as a run writes them.
 pub fn text(alloc: Global, report: &Report) -> Result<Vec<u8>, NoMemory>
+    requires { AreEndedFrom 0 report.now.cycles }
     ensures { IfOk result (λ text. text.items ≡ report_text report.now) }
 {
     let mut out = Vec::new(alloc);
     out.extend_from_slice(b"report 1\n")?;
-    push_rounds(&mut out, report.rounds.items())?;
-    match report.end {
-        End::Done => out.extend_from_slice(b"end done\n")?,
-    }
+    push_rounds(&mut out, report)?;
+    push_end(&mut out, report.end)?;
     Ok(out)
 }
 
-fn push_rounds(out: &mut Vec<u8>, rounds: &[RoundRows]) -> Result<(), NoMemory>
-    ensures { OnOk result (out.new.items ≡ out.old.items ++ rounds_text 1 rounds.now) }
+// Appends the first stop, and each round with its stop.
+fn push_rounds(out: &mut Vec<u8>, report: &Report) -> Result<(), NoMemory>
+    requires { AreEndedFrom 0 report.now.cycles }
+    ensures { OnOk result (out.new.items ≡ out.old.items ++ (stop_at report.now.stops report.now.cycles 0 ++ rounds_text report.now.stops report.now.cycles 1 report.now.rounds)) }
 {
-    for (place, rows) in rounds.iter().enumerate() {
+    let cycles = report.cycles.items();
+    let mut done = push_stop_at(out, report.stops.items(), 0, cycles)?;
+    for (place, rows) in report.rounds.items().iter().enumerate() {
         push_round(out, place as u64 + 1, rows)?;
+        done += push_stop_at(out, report.stops.items(), place + 1, &cycles[done..])?;
     }
     Ok(())
+}
+
+// Appends the last line.
+fn push_end(out: &mut Vec<u8>, end: End) -> Result<(), NoMemory>
+    ensures { OnOk result (out.new.items ≡ out.old.items ++ end_text end) }
+{
+    match end {
+        End::Done => push_word(out, b"end done\n"),
+        End::HeapFull { free, reserve } => push_heap_full(out, free, reserve),
+    }
+}
+
+// Appends the last line of a run whose heap was full.
+fn push_heap_full(out: &mut Vec<u8>, free: u32, reserve: u32) -> Result<(), NoMemory>
+    ensures { OnOk result (out.new.items ≡ out.old.items ++ heap_full_line free reserve) }
+{
+    push_word(out, b"end heapfull")?;
+    push_end_counts(out, free, reserve)
+}
+
+// Appends the two counts that end it.
+fn push_end_counts(out: &mut Vec<u8>, free: u32, reserve: u32) -> Result<(), NoMemory>
+    ensures { OnOk result (out.new.items ≡ out.old.items ++ end_counts free reserve) }
+{
+    push_count(out, b" free ", u64::from(free))?;
+    push_count(out, b" reserve ", u64::from(reserve))?;
+    push_word(out, b"\n")
 }
 
 fn push_round(out: &mut Vec<u8>, number: u64, rows: &RoundRows) -> Result<(), NoMemory>
@@ -74,14 +108,6 @@ fn push_reply(out: &mut Vec<u8>, reply: Reply) -> Result<(), NoMemory>
     }
 }
 
-// Appends a word.
-fn push_word(out: &mut Vec<u8>, word: &[u8]) -> Result<(), NoMemory>
-    ensures { OnOk result (out.new.items ≡ out.old.items ++ word.now) }
-{
-    out.extend_from_slice(word)?;
-    Ok(())
-}
-
 // The word of a reply that gives no value.
 fn word_of(reply: Reply) -> &'static [u8]
     requires { HasWord reply }
@@ -104,27 +130,4 @@ fn word_of(reply: Reply) -> &'static [u8]
         Reply::StackFull => b"stackfull",
         Reply::StackEmpty => b"stackempty",
     }
-}
-
-fn push_value(out: &mut Vec<u8>, value: Value) -> Result<(), NoMemory>
-    ensures { OnOk result (out.new.items ≡ out.old.items ++ value_text value) }
-{
-    match value {
-        Value::Nil => out.extend_from_slice(b"nil")?,
-        Value::Number(number) => push_number(out, number)?,
-        Value::Ref(name) => push_name(out, name)?,
-    }
-    Ok(())
-}
-
-fn push_name(out: &mut Vec<u8>, name: Name) -> Result<(), NoMemory>
-    ensures { OnOk result (out.new.items ≡ out.old.items ++ name_text name) }
-{
-    if name.maker == SHARED_MAKER {
-        out.push(b'g')?;
-        return Ok(());
-    }
-    push_number(out, u64::from(name.maker))?;
-    out.push(b'.')?;
-    push_number(out, u64::from(name.serial))
 }

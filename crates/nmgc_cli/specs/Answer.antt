@@ -1,0 +1,82 @@
+-- What the program answers, and what is told of an answer: the status, the report and the text.
+use Rattle.std.specs.Prelude.{◌≡◌, ℕ, List, [], ◌∷◌, ◌++◌, codes, decimal, Option, Some, None, Result, Ok, Err}
+use Rattle.nmgc_script.specs.declared.fault.Cause.{Cause}
+use Rattle.nmgc_script.specs.declared.fault.Cause.TheVariants as cause
+use Rattle.nmgc_journal.specs.declared.report.Report.{Report}
+use Rattle.nmgc_journal.specs.Text.{report_text}
+use Rattle.nmgc_cli.specs.Status.{status_of}
+use Rattle.nmgc_cli.specs.declared.answer.Refusal.{Refusal}
+use Rattle.nmgc_cli.specs.declared.answer.Refusal.TheVariants as no
+use Rattle.nmgc_cli.specs.declared.told.Text.{Text}
+use Rattle.nmgc_cli.specs.declared.told.Text.TheVariants.{Fixed, Made}
+use Rattle.nmgc_cli.specs.declared.told.Told.{Told}
+use Rattle.nmgc_cli.specs.declared.status.Status.{Status}
+use Rattle.nmgc_cli.specs.declared.status.Status.TheVariants.{Usage, ReadFault, BadScript, TooLong, NoMemory, Unbuilt}
+
+-- a report, or why there is none
+abbrev pub Answer : Type 0
+Answer = Result Report Refusal
+
+-- the status of a refusal
+abbrev pub refusal_status : Refusal → Status
+refusal_status no.Usage = Usage
+refusal_status no.ReadFault = ReadFault
+refusal_status no.TooLong = TooLong
+refusal_status (no.Bad line c) = BadScript
+refusal_status no.Unbuilt = Unbuilt
+refusal_status no.NoMemory = NoMemory
+
+-- the word of a cause
+abbrev pub cause_text : Cause → List ℕ
+cause_text cause.Version = codes "version"
+cause_text cause.Heap = codes "heap"
+cause_text cause.Thread = codes "thread"
+cause_text cause.Total = codes "total"
+cause_text cause.Command = codes "command"
+cause_text cause.Arity = codes "arity"
+cause_text cause.Operand = codes "operand"
+cause_text cause.Size = codes "size"
+
+-- the line that tells a bad script
+abbrev pub bad_line : ℕ → Cause → List ℕ
+bad_line line c = codes "bad line " ++ decimal line ++ 32 ∷ cause_text c ++ 10 ∷ []
+
+-- the refusal tells a bad line, which is the only one with a text that takes memory
+abbrev pub IsBad : Refusal → Type 0
+IsBad (no.Bad line c) = Unit {0}
+IsBad _ = ⊥
+
+-- the text of a refusal
+abbrev pub refusal_text : Refusal → List ℕ
+refusal_text no.Usage = codes "usage: nmgc run\n"
+refusal_text no.ReadFault = codes "read fault\n"
+refusal_text no.TooLong = codes "too long\n"
+refusal_text (no.Bad line c) = bad_line line c
+refusal_text no.Unbuilt = codes "unbuilt\n"
+refusal_text no.NoMemory = codes "no memory\n"
+
+-- the status of an answer
+abbrev pub answer_status : Answer → Status
+answer_status (Ok report) = status_of report.end
+answer_status (Err refusal) = refusal_status refusal
+
+-- the report of an answer
+abbrev pub answer_report : Answer → Option Report
+answer_report (Ok report) = Some report
+answer_report (Err refusal) = None
+
+-- the text of an answer
+abbrev pub answer_text : Answer → List ℕ
+answer_text (Ok report) = report_text report
+answer_text (Err refusal) = refusal_text refusal
+
+-- the bytes of a text
+abbrev pub text_bytes : Text → List ℕ
+text_bytes (Fixed bytes) = bytes.now
+text_bytes (Made bytes) = bytes.items
+
+-- what is told is the status, the report and the text of this answer
+pub record IsToldAs (answer : Answer) (told : Told) : Type 0 where
+  pub status : told.status ≡ answer_status answer
+  pub report : told.report ≡ answer_report answer
+  pub text : text_bytes told.text ≡ answer_text answer

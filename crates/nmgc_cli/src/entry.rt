@@ -1,0 +1,26 @@
+//! The whole program but for its streams: command line in, exit number out.
+ghost use Rattle.std.specs.Prelude.{◌≡◌, ◌⊎◌};
+ghost use Rattle.nmgc_io.specs.Causes.{Rose};
+ghost use Rattle.nmgc_cli.specs.Program.{Ran};
+
+use crate::words::{CommandLine, words_of};
+use crate::{Status, nmgc};
+use nmgc_io::{Sink, Source};
+use std::alloc::Global;
+
+/// Runs the program on a command line, and answers the number with which the process ends. Where there
+/// is no memory for the words, that is 7, and nothing is read or written.
+pub fn program<L: CommandLine, S: Source, K: Sink>(
+    alloc: Global,
+    line: &L,
+    source: &mut S,
+    sink: &mut K,
+) -> u8
+    ensures { Ran (L.words line.now) (S.left source.old) (S.left source.new) (Rose (S.faults source.old) (S.faults source.new)) (K.taken sink.old) (K.taken sink.new) (Rose (K.faults sink.old) (K.faults sink.new)) result
+        ⊎ ((result ≡ 7) × (source.new ≡ source.old) × (sink.new ≡ sink.old)) }
+{
+    let Ok(words) = words_of(alloc, line) else {
+        return Status::NoMemory.number();
+    };
+    nmgc(alloc, &words, source, sink).status.number()
+}

@@ -1,0 +1,64 @@
+//! The statuses with which the program ends, and their numbers.
+ghost use Rattle.std.specs.Prelude.{◌≡◌};
+ghost use Rattle.nmgc_cli.specs.Status.{number_of, status_of};
+
+use nmgc_journal::{End, Report};
+
+/// How the program ended. Each has its own text, and a number with which the process ends.
+#[derive(Clone, Copy, Debug, PartialEq, Eq)]
+pub enum Status {
+    /// The script was run to its end; the report's text was written. Number 0.
+    Done,
+    /// The words ask for no task; nothing was read. Number 2.
+    Usage,
+    /// The source failed. Number 3.
+    ReadFault,
+    /// The sink failed; it has a front of what was to be written. Number 4.
+    WriteFault,
+    /// The bytes spell no script. Number 5.
+    BadScript,
+    /// There are more bytes than a script may have. Number 5.
+    TooLong,
+    /// The run ended with a full heap; the report's text was written. Number 6. The run of the model has
+    /// no heap that could be full, so no run ends so yet.
+    HeapFull,
+    /// There was no memory. Number 7.
+    NoMemory,
+    /// The script has something that isn't built yet. Number 8.
+    Unbuilt,
+}
+
+impl Status {
+    /// The number with which the process ends.
+    pub fn number(self) -> u8
+        ensures { result ≡ number_of self }
+    {
+        match self {
+            Status::Done => 0,
+            Status::Usage => 2,
+            Status::ReadFault => 3,
+            Status::WriteFault => 4,
+            Status::BadScript | Status::TooLong => 5,
+            Status::HeapFull => 6,
+            Status::NoMemory => 7,
+            Status::Unbuilt => 8,
+        }
+    }
+
+    /// The status of a run that ended so.
+    pub fn of_end(end: End) -> Self
+        ensures { result ≡ status_of end }
+    {
+        match end {
+            End::Done => Status::Done,
+            End::HeapFull { .. } => Status::HeapFull,
+        }
+    }
+}
+
+/// The status, and the report of a run that was done.
+#[derive(Drop)]
+pub struct Ended {
+    pub status: Status,
+    pub report: Option<Report>,
+}

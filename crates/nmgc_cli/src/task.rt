@@ -1,0 +1,34 @@
+//! What the words of the command line ask for.
+//!
+//! A task is read from all words at once, so that a word too many is a wrong word as one too few is.
+//! Another task is a variant here, a line of `Asks` and an arm where it is done.
+ghost use Rattle.std.specs.Prelude.{◌≡◌, ◌↔◌, codes, [], ◌∷◌, map, string_bytes, IsTrue, IfSome, IfNone};
+ghost use Rattle.nmgc_cli.specs.Task.{Asks, IsWrong};
+
+/// What the program is asked to do.
+#[derive(Clone, Copy, Debug, PartialEq, Eq)]
+pub enum Task {
+    /// `run`: reads a script from the source to its end, runs it, and writes the report's text.
+    Run,
+}
+
+/// The task that the words ask for. `None` comes exactly where they ask for none.
+pub fn task_of(words: &[String]) -> Option<Task>
+    ensures asked { IfSome result (λ task. Asks (map string_bytes words.now) task) }
+    ensures wrong { IfNone result (IsWrong (map string_bytes words.now)) }
+{
+    if is_run(words) {
+        return Some(Task::Run);
+    }
+    None
+}
+
+// Whether the words are `run` alone.
+fn is_run(words: &[String]) -> bool
+    ensures { IsTrue result ↔ (map string_bytes words.now ≡ codes "run" ∷ []) }
+{
+    match words {
+        [word] => word.as_str() == "run",
+        _ => false,
+    }
+}

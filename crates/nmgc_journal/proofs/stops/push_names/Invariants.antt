@@ -1,0 +1,8 @@
+use Rattle.std.proofs.Common.{◌≡◌, ◌++◌, drop}
+use Rattle.std.specs.List.{flat_map}
+use Rattle.nmgc_journal.specs.Text.{name_line}
+use Rattle.nmgc_journal.proofs.stops.push_names.Given as goal
+
+-- the lines so far and those of the rest are all
+abbrev pub invariant-loop-name : goal.invariant-loop-name
+invariant-loop-name l = l.out.items ++ flat_map (name_line l.word) (drop l.name-index l.names) ≡ l.fn.out.items ++ flat_map (name_line l.word) l.names

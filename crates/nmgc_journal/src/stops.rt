@@ -1,0 +1,151 @@
+//! The lines of a stop, and of the cycles that ended there.
+//!
+//! The cycles of a report stand in the order of the stops at which they ended. So those that ended at a
+//! stop are a front of those that no earlier stop has taken, and a cursor moves over all of them once: a
+//! run of two million stops and half as many cycles takes time in the length of its text. The format
+//! itself says 'the cycles that ended at this stop', whatever their order (`specs/Text.antt`, `ended_at`).
+//! Easy to get wrong: a stop without a row takes its cycles off all the same, or the next one would begin
+//! at cycles that ended before it.
+ghost use Rattle.std.specs.Prelude.{◌≡◌, ◌≢◌, ℕ, ◌+◌, ◌<◌, ◌≤◌, ◌++◌, ◌==◌, length, take, drop, OnOk, IfOk};
+ghost use Rattle.std.specs.List.{flat_map, take_while};
+ghost use Rattle.nmgc_journal.specs.Text.{phase_text, stop_line, stop_counts, cycle_line, cycle_stops, cycle_swept, cycle_kept, cycle_text, name_line, stop_at};
+ghost use Rattle.nmgc_journal.specs.Stops.{AreEndedFrom, ended_at, IsRestAfter};
+
+use crate::words::{push_count, push_name, push_word};
+use crate::{CycleRow, Phase, StopRow};
+use nmgc_graph::{Name, NoMemory};
+
+/// Appends the lines of the stop of this number, where there is a row of it, and answers how many of the
+/// cycles ended there. They are the first of those that ended at this stop or later.
+pub fn push_stop_at(
+    out: &mut Vec<u8>,
+    stops: &[StopRow],
+    number: usize,
+    cycles: &[CycleRow],
+) -> Result<usize, NoMemory>
+    requires { AreEndedFrom number cycles.now }
+    ensures text { OnOk result (out.new.items ≡ out.old.items ++ stop_at stops.now cycles.now number) }
+    ensures rest { IfOk result (λ count. IsRestAfter number cycles.now count) }
+{
+    let count = ended_count(cycles, number as u64);
+    if let Some(row) = stops.get(number) {
+        push_stop_line(out, row)?;
+        push_cycles(out, &cycles[..count])?;
+    }
+    Ok(count)
+}
+
+// How many cycles ended at this stop.
+fn ended_count(cycles: &[CycleRow], number: u64) -> usize
+    requires { AreEndedFrom number cycles.now }
+    ensures ended { take result cycles.now ≡ ended_at number cycles.now }
+    ensures rest { IsRestAfter number cycles.now result }
+{
+    front_count(cycles, number)
+}
+
+// How many cycles ended at this stop, before the first that didn't.
+fn front_count(cycles: &[CycleRow], number: u64) -> usize
+    ensures { result ≡ length (take_while (λ cycle. cycle.ended == number) cycles.now) }
+{
+    cycles
+        .iter()
+        .take_while(|cycle| u64::from(cycle.ended) == number)
+        .count()
+}
+
+fn push_stop_line(out: &mut Vec<u8>, row: &StopRow) -> Result<(), NoMemory>
+    ensures { OnOk result (out.new.items ≡ out.old.items ++ stop_line row.now) }
+{
+    push_count(out, b"stop ", u64::from(row.number))?;
+    push_word(out, phase_word(row.phase))?;
+    push_stop_counts(out, row)
+}
+
+// The word of a phase, between spaces as it stands in the line.
+fn phase_word(phase: Phase) -> &'static [u8]
+    ensures { result.now ≡ phase_text phase }
+{
+    match phase {
+        Phase::Idle => b" idle",
+        Phase::Marking => b" marking",
+        Phase::Sweeping => b" sweeping",
+    }
+}
+
+fn push_stop_counts(out: &mut Vec<u8>, row: &StopRow) -> Result<(), NoMemory>
+    ensures { OnOk result (out.new.items ≡ out.old.items ++ stop_counts row.now) }
+{
+    push_count(out, b" free ", u64::from(row.free))?;
+    push_count(out, b" filled ", u64::from(row.filled))?;
+    push_count(out, b" sweep ", u64::from(row.sweep))?;
+    push_count(out, b" promoted ", u64::from(row.promoted))?;
+    push_word(out, b"\n")
+}
+
+fn push_cycles(out: &mut Vec<u8>, cycles: &[CycleRow]) -> Result<(), NoMemory>
+    ensures { OnOk result (out.new.items ≡ out.old.items ++ flat_map cycle_text cycles.now) }
+{
+    for cycle in cycles {
+        push_cycle(out, cycle)?;
+    }
+    Ok(())
+}
+
+fn push_cycle(out: &mut Vec<u8>, row: &CycleRow) -> Result<(), NoMemory>
+    ensures { OnOk result (out.new.items ≡ out.old.items ++ cycle_text row.now) }
+{
+    push_cycle_line(out, row)?;
+    push_names(out, b"dead ", row.dead.items())?;
+    push_names(out, b"freed ", row.freed.items())
+}
+
+fn push_cycle_line(out: &mut Vec<u8>, row: &CycleRow) -> Result<(), NoMemory>
+    ensures { OnOk result (out.new.items ≡ out.old.items ++ cycle_line row.now) }
+{
+    push_cycle_stops(out, row)?;
+    push_cycle_swept(out, row)?;
+    push_cycle_kept(out, row)
+}
+
+fn push_cycle_stops(out: &mut Vec<u8>, row: &CycleRow) -> Result<(), NoMemory>
+    ensures { OnOk result (out.new.items ≡ out.old.items ++ cycle_stops row.now) }
+{
+    push_count(out, b"cycle ", u64::from(row.number))?;
+    push_count(out, b" from ", u64::from(row.from))?;
+    push_count(out, b" closed ", u64::from(row.closed))
+}
+
+fn push_cycle_swept(out: &mut Vec<u8>, row: &CycleRow) -> Result<(), NoMemory>
+    ensures { OnOk result (out.new.items ≡ out.old.items ++ cycle_swept row.now) }
+{
+    push_count(out, b" swept ", row.swept.items().len() as u64)?;
+    push_count(out, b" had ", row.had.items().len() as u64)?;
+    push_count(out, b" freed ", row.freed.items().len() as u64)
+}
+
+fn push_cycle_kept(out: &mut Vec<u8>, row: &CycleRow) -> Result<(), NoMemory>
+    ensures { OnOk result (out.new.items ≡ out.old.items ++ cycle_kept row.now) }
+{
+    push_count(out, b" kept ", u64::from(row.kept))?;
+    push_count(out, b" dead ", row.dead.items().len() as u64)?;
+    push_word(out, b"\n")
+}
+
+// Appends a line for each name: a word and the name.
+fn push_names(out: &mut Vec<u8>, word: &[u8], names: &[Name]) -> Result<(), NoMemory>
+    ensures { OnOk result (out.new.items ≡ out.old.items ++ flat_map (name_line word.now) names.now) }
+{
+    for name in names {
+        push_name_line(out, word, *name)?;
+    }
+    Ok(())
+}
+
+fn push_name_line(out: &mut Vec<u8>, word: &[u8], name: Name) -> Result<(), NoMemory>
+    ensures { OnOk result (out.new.items ≡ out.old.items ++ name_line word.now name) }
+{
+    push_word(out, word)?;
+    push_name(out, name)?;
+    push_word(out, b"\n")
+}
