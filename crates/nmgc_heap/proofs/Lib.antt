@@ -1,0 +1,2 @@
+mod SmallHeaps
+mod Stood

@@ -1,0 +1,11 @@
+pub mod Changes
+pub mod Commands
+pub mod Moves
+pub mod Places
+pub mod Represents
+pub mod Roots
+pub mod Samples
+pub mod Shape
+pub mod Statements
+pub mod Tracked
+pub mod laws

@@ -1,0 +1,12 @@
+pub mod Births
+pub mod Changes
+pub mod CommandLaws
+pub mod Decoding
+pub mod Headers
+pub mod Kinds
+pub mod Meanings
+pub mod Moving
+pub mod NodeChanges
+pub mod Roots
+pub mod Slots
+pub mod Tracking

@@ -1,0 +1,22 @@
+//! What the words of the heap stand for: a world, as far as anybody can still speak of it.
+//!
+//! The model of the collector is a finite map from names to nodes that only grows. The heap has words,
+//! places that are used again, and objects that move. `specs/` ties the two: which names are tracked,
+//! where an object may lie, what a field word means, and when words represent a world. Promotion, the
+//! round, the marker, the sweeper and the run all cite these definitions, and a reader of their promises
+//! has to believe nothing else of the refinement.
+//!
+//! `laws` has what holds of them for all worlds and words. `heap_words` has the words themselves, one at
+//! a time: a list's, or those of the table that a run keeps.
+//!
+//! Easy to get wrong: a word means nothing by itself. A pointer means the name of the object at its place,
+//! and a field of an object of which nobody speaks may hold any word at all.
+#![tactic(auto)]
+
+pub mod heap_words;
+pub mod laws;
+
+pub use heap_words::HeapWords;
+
+#[cfg(test)]
+mod tests;
