@@ -1,0 +1,112 @@
+-- Field words that are as a node says, where other words change, and where more places are known.
+use Rattle.std.proofs.Common.{◌≡◌, ◌≢◌, ℕ, zero, suc, ◌+◌, ◌<◌, ◌≤◌, List, [], ◌∷◌, length, set, sym, subst, ◌∙◌, arith, slice_index, Some, None, get_or-set_same, get_or-set_other, length-set, inl, inr}
+use Rattle.std.specs.Prelude.{slice_get}
+use Rattle.std.proofs.lemmas.Option.{slice_get_within}
+use Rattle.std.proofs.lemmas.Bool.{cases_eq}
+use Rattle.nmgc_graph.specs.laws.Worlds.{slice_get-set_same, slice_get-set_other}
+use Rattle.nmgc_graph.specs.declared.value.Value.{Value}
+use Rattle.nmgc_graph.specs.declared.value.Value.TheVariants as value
+use Rattle.nmgc_graph.specs.declared.node.Node.{Node}
+use Rattle.nmgc_graph.specs.declared.node.Node.TheVariants.{Con, Var, Arr, Thunk, Weak, Stack}
+use Rattle.nmgc_graph.specs.World.{IsSized}
+use Rattle.nmgc_heap.specs.Shape.{Slot, holds, unset, untold, slots_of, fixed_slots, free_slots, header_of, MayChange}
+use Rattle.nmgc_heap.specs.Places.{Place, Means, Fills, HasSlots, AllMean, ListMeans}
+use Rattle.nmgc_heap.specs.laws.Kinds.{map_item, slots_none, slots_of_kept, fields_of_slots}
+use Rattle.nmgc_heap.specs.laws.Slots.{slot_count, free_fixed}
+use Rattle.nmgc_round.specs.View.{Opening}
+use Rattle.nmgc_round.specs.Objects.{Object, IsKept, KeepsOf}
+
+-- something is said of a field
+abbrev pub IsTold : Slot → Type 0
+IsTold slot = slot ≡ untold → ⊥
+
+-- what means something with some places means it with more
+module _ (P Q : Place → Type 0) (more : (p : Place) → P p → Q p) where
+  pub means_more : (w : ℕ) (v : Value) → Means P w v → Means Q w v
+  means_more w value.Nil m = m
+  means_more w (value.Number n) m = m
+  means_more w (value.Ref name) m = (m.0, m.1, more (record { at = m.0; name = name }) m.2)
+
+  pub list_more : (ws : List ℕ) (vs : List Value) → ListMeans P ws vs → ListMeans Q ws vs
+  list_more [] [] h = tt
+  list_more [] (v ∷ vs) h = absurd h
+  list_more (w ∷ ws) [] h = absurd h
+  list_more (w ∷ ws) (v ∷ vs) h = (means_more w v h.0, list_more ws vs h.1)
+
+  -- the fields stand, where no word changed of which something is said
+  pub slots_same : (ws us : List ℕ) (from : ℕ) (slots : List Slot) → ((i : ℕ) (s : Slot) → slice_get slots i ≡ Some s → IsTold s → slice_index us (from + i) ≡ slice_index ws (from + i)) → HasSlots P ws from slots → HasSlots Q us from slots
+  slots_same ws us from slots same h i s e = by_slot s e (h i s e)
+    where
+      by_slot : (s : Slot) → slice_get slots i ≡ Some s → Fills P (slice_index ws (from + i)) s → Fills Q (slice_index us (from + i)) s
+      by_slot (holds v) e k = subst (λ w. Means Q w v) (sym (same i (holds v) e (λ x. cc))) (means_more (slice_index ws (from + i)) v k)
+      by_slot unset e k = same i unset e (λ x. cc) ∙ k
+      by_slot untold e k = tt
+
+-- a field that is told for good is one, and may not change
+never_changes : (n : Node) (i : ℕ) (s : Slot) → slice_get (fixed_slots n) i ≡ Some s → IsTold s → (i < (header_of n).fields) × (MayChange (header_of n).kind i → ⊥)
+never_changes (Con tag values) i s e told = absurd cc
+never_changes (Var v) i s e told = absurd cc
+never_changes (Arr values) i s e told = absurd cc
+never_changes (Thunk free None) zero s e told = absurd (told cc)
+never_changes (Thunk free None) (suc i) s e told = let x = map_item holds free i s e in let lt = slice_get_within free i x.0 x.1 in (omega (arith, lt), λ c. omega arith)
+never_changes (Thunk free (Some result)) i s e told = absurd cc
+never_changes (Weak None) i s e told = absurd cc
+never_changes (Weak (Some parts)) zero s e told = (omega arith, λ c. omega arith)
+never_changes (Weak (Some parts)) (suc zero) s e told = absurd (told cc)
+never_changes (Weak (Some parts)) (suc (suc zero)) s e told = (omega arith, λ c. omega arith)
+never_changes (Weak (Some parts)) (suc (suc (suc i))) s e told = absurd cc
+never_changes (Stack size values) i s e told = absurd cc
+
+-- free variables are told for good
+pub free_of_fixed : (P : Place → Type 0) (ws : List ℕ) (from : ℕ) (n : Node) → HasSlots P ws from (fixed_slots n) → HasSlots P ws from (free_slots n)
+free_of_fixed P ws from n h i s e = h i s (free_fixed n i s e)
+
+-- a node's fields keep what it tells for good
+pub fixed_of_slots : (P : Place → Type 0) (ws : List ℕ) (from : ℕ) (n : Node) → HasSlots P ws from (slots_of n) → HasSlots P ws from (fixed_slots n)
+fixed_of_slots P ws from (Con tag values) h = slots_none P ws from
+fixed_of_slots P ws from (Var v) h = slots_none P ws from
+fixed_of_slots P ws from (Arr values) h = slots_none P ws from
+fixed_of_slots P ws from (Thunk free None) h = slots_of_kept P ws from (Thunk free None) (fields_of_slots P ws from (Thunk free None) h).1
+fixed_of_slots P ws from (Thunk free (Some result)) h = slots_none P ws from
+fixed_of_slots P ws from (Weak None) h = slots_none P ws from
+fixed_of_slots P ws from (Weak (Some parts)) h = let k = fields_of_slots P ws from (Weak (Some parts)) h in slots_of_kept P ws from (Weak (Some parts)) (k.0, k.2)
+fixed_of_slots P ws from (Stack size values) h = slots_none P ws from
+
+module _ (P Q : Place → Type 0) (more : (p : Place) → P p → Q p) (ws us : List ℕ) (from : ℕ) (n : Node) where
+  -- the fields stand, where none of their words changed
+  pub fields_same : IsSized n → ((j : ℕ) → from ≤ j → j < from + (header_of n).fields → slice_index us j ≡ slice_index ws j) → HasSlots P ws from (slots_of n) → HasSlots Q us from (slots_of n)
+  fields_same sized same h = slots_same P Q more ws us from (slots_of n) (λ i s e told. let lt = slice_get_within (slots_of n) i s e in let c = slot_count n sized in same (from + i) (omega arith) (omega (arith, lt, c))) h
+
+  -- and what is told for good does, where at most words of other fields changed
+  abbrev IsSame : Type 0
+  IsSame = (j : ℕ) → from ≤ j → j < from + (header_of n).fields → ((i : ℕ) → j ≡ from + i → MayChange (header_of n).kind i → ⊥) → slice_index us j ≡ slice_index ws j
+
+  word_same : IsSame → (i : ℕ) (s : Slot) → slice_get (fixed_slots n) i ≡ Some s → IsTold s → slice_index us (from + i) ≡ slice_index ws (from + i)
+  word_same same i s e told = let k = never_changes n i s e told in same (from + i) (omega arith) (omega (arith, k.0)) (λ j at may. let z : j ≡ i = omega (arith, at) in k.1 (subst (λ (l : ℕ). MayChange (header_of n).kind l) z may))
+
+  pub fixed_same : IsSame → HasSlots P ws from (fixed_slots n) → HasSlots Q us from (fixed_slots n)
+  fixed_same same h = slots_same P Q more ws us from (fixed_slots n) (word_same same) h
+
+  -- the free variables among them
+  pub free_same : IsSame → HasSlots P ws from (free_slots n) → HasSlots Q us from (free_slots n)
+  free_same same h = slots_same P Q more ws us from (free_slots n) (λ i s e told. word_same same i s (free_fixed n i s e) told) h
+
+-- what is kept of an earlier node
+pub kept_same : (o : Opening) (x : Object) (P Q : Place → Type 0) (more : (p : Place) → P p → Q p) (ws us : List ℕ) (from : ℕ) (before : Node) (k : IsKept o x before) → ((j : ℕ) → from ≤ j → j < from + (header_of before).fields → ((i : ℕ) → j ≡ from + i → MayChange (header_of before).kind i → ⊥) → slice_index us j ≡ slice_index ws j) → KeepsOf o x before P ws from k → KeepsOf o x before Q us from k
+kept_same o x P Q more ws us from before (inl e) same h = fixed_same P Q more ws us from before same h
+kept_same o x P Q more ws us from before (inr s) same h = free_same P Q more ws us from before same h
+
+-- a field of an array changes with its word
+pub all_set : (P : Place → Type 0) (ws : List ℕ) (from index new : ℕ) (values : List Value) (v : Value) → from + index < length ws → AllMean P ws from values → Means P new v → AllMean P (set ws (from + index) new) from (set values index v)
+all_set P ws from index new values v inside h m i x e =
+    let lt : i < length (set values index v) = slice_get_within (set values index v) i x e in
+    elim (cases_eq i index) [
+      | inl same ↦
+          let within : index < length values = omega (arith, length-set values index v) in
+          let is : Some v ≡ Some x = sym (slice_get-set_same values index v within) ∙ subst (λ j. slice_get (set values index v) j ≡ Some x) same e in
+          let vx : v ≡ x = cc in
+          subst (λ y. Means P (slice_index (set ws (from + index) new) (from + i)) y) vx (subst (λ j. Means P (slice_index (set ws (from + index) new) (from + j)) v) (sym same) (subst (λ w. Means P w v) (sym (get_or-set_same ws (from + index) new 0 inside)) m))
+      | inr other ↦
+          let far : from + i ≢ from + index = λ k. other (omega arith) in
+          subst (λ w. Means P w x) (sym (get_or-set_other ws (from + index) (from + i) new 0 far)) (h i x (sym (slice_get-set_other values index i v other) ∙ e))
+    ]

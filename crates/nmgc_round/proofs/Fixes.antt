@@ -1,0 +1,149 @@
+-- A fixed load keeps the rule, also where a command takes its place there.
+use Rattle.std.proofs.Common.{◌≡◌, inl, inr, ℕ, zero, suc, ◌+◌, ◌<◌, List, [], ◌∷◌, set, set-set, refl, sym, ap, subst, ◌∙◌, arith, slice_index}
+use mathlib.Core.Option.{some, some-ne-none}
+use lib.ListN.{get_elem?}
+use Rattle.nmgc_graph.specs.declared.value.Value.{Value}
+use Rattle.nmgc_graph.specs.declared.node.Kind.{Kind}
+use Rattle.nmgc_graph.specs.declared.command.Command.{Command}
+use Rattle.nmgc_graph.specs.Step.{shared_name, value_for}
+use Rattle.nmgc_object.specs.Words.{header_word}
+use Rattle.nmgc_object.specs.declared.words.Header.{Header}
+use Rattle.nmgc_object.specs.declared.layout.TheConstants.{SHARED_PLACE}
+use Rattle.nmgc_object.specs.declared.size.TheConstants.{HEADER_WORDS}
+use Rattle.nmgc_heap.specs.Shape.{header_of, size_of, slots_of, MayChange}
+use Rattle.nmgc_heap.specs.Places.{Means, HasSlots}
+use Rattle.nmgc_round.specs.View.{Answer, word, Opening, Part, Seen, hand_now, doing, first_changed, loaded, answered}
+use Rattle.nmgc_round.specs.Objects.{Object, place_of, IsObject, IsIn}
+use Rattle.nmgc_round.specs.Rule.{now, IsFixed, Rests, Keeps}
+use Rattle.nmgc_round.specs.Ready.{IsMutator, IsReadable, CanLoad, Names}
+use Rattle.nmgc_round.specs.Told.{TellsHeader, TellsName, CanFix, CanTake, taken, told, told_by, Tells, TellsField, IsSafe}
+use Rattle.nmgc_round.proofs.Standing.{placed}
+use Rattle.nmgc_heap.specs.laws.Headers.{same_header}
+use Rattle.nmgc_round.proofs.Lists.{pointer_means}
+use Rattle.nmgc_round.proofs.Nurseries.{lies_within}
+use Rattle.nmgc_round.proofs.Moves.{operand_is, meant, fixed_keeps, load_keeps}
+use Rattle.nmgc_round.proofs.Commands.{read}
+use Rattle.nmgc_round.proofs.Refusals.{told_keeps}
+
+there_again : {A : Type 0} (l : List A) (i : ℕ) (a b : A) → get_elem? l i ≡ some a → get_elem? (set l i b) i ≡ some b
+there_again [] i a b e = absurd (some-ne-none a (sym e))
+there_again (x ∷ xs) zero a b e = refl
+there_again (x ∷ xs) (suc i) a b e = there_again xs i a b e
+
+module _ (o : Opening) (words : List ℕ) (views : List Seen) (h : Keeps o words views) (id : ℕ) (v : Seen) (here : get_elem? views id ≡ some v) (p : Part) (is : IsMutator v p) where
+  rests : Rests o h.born words p
+  rests = ((h.agrees id v here).parts 0 p (ap (λ l. get_elem? l 0) is.alone)).2
+
+  -- header and name of an object
+  first_fixed : (x : Object) → IsObject o h.born x → (offset : ℕ) → offset < HEADER_WORDS → IsFixed o h.born x.at offset
+  first_fixed x hx offset lt = record { object = x; here = hx; is_at = refl; within = omega arith; fixed = λ i e may. omega arith }
+
+  -- a field of an object whose header is named
+  named_fixed : (at : ℕ) (header : Header) (i : ℕ) → Names p at header → i < header.fields → (MayChange header.kind i → ⊥) → IsFixed o h.born at (HEADER_WORDS + i)
+  named_fixed at header i names lt never =
+      let f = rests.fixed (record { at = at; offset = 0; word = header_word header }) names.there in
+      let x : Object = f.0.object in
+      let st = h.stands.objects x f.0.here in
+      let z : at + 0 ≡ x.at = let e = f.0.is_at in omega arith in
+      let head : header_of x.node ≡ header = same_header (header_of x.node) header (h.stands.apart x f.0.here).valid names.valid (sym st.header ∙ ap (λ j. slice_index words j) (sym z) ∙ f.1) in
+      let n : (header_of x.node).fields ≡ header.fields = ap (λ (k : Header). k.fields) head in
+      record {
+        object = x;
+        here = f.0.here;
+        is_at = f.0.is_at;
+        within = omega arith;
+        fixed = λ j e may. let same : j ≡ i = omega arith in never (subst (λ k. MayChange header.kind k) same (subst (λ (k : Header). MayChange k.kind j) head may));
+      }
+
+  is_fixed : (at offset : ℕ) → CanFix o p at offset → IsFixed o h.born at offset
+  is_fixed at offset (inl (object, e, lt)) =
+      let x : Value = value_for (now o h.events).world p.number object in
+      let q = pointer_means (IsIn o h.born) at x (subst (λ w. Means (IsIn o h.born) w x) e (operand_is o words views h id v here p is object)) in
+      first_fixed (record { at = at; name = q.0; node = q.2.0 }) q.2.1 offset lt
+  is_fixed at offset (inr (header, i, names, e, lt, never)) = subst (λ k. IsFixed o h.born at k) (sym e) (named_fixed at header i names lt never)
+
+  -- a load without a place in the order
+  pub fix_keeps : (at offset : ℕ) → CanFix o p at offset → Keeps o words (set views id (loaded v at offset (slice_index words (at + offset))))
+  fix_keeps at offset can = fixed_keeps o words views h id v here p is at offset (is_fixed at offset can)
+
+  pub fix_room : (at offset : ℕ) → CanFix o p at offset → Tells o at offset (slice_index words (at + offset))
+  fix_room at offset can = (λ first. header_told first, λ second. name_told second)
+    where
+      header_told : offset ≡ 0 → TellsHeader o at (slice_index words (at + offset))
+      header_told first =
+          let g = is_fixed at offset can in
+          let x : Object = g.object in
+          let st = h.stands.objects x g.here in
+          let a = g.is_at in
+          let z : at + offset ≡ x.at = omega arith in
+          let l = lies_within o.layout (place_of x) (size_of x.node) (omega arith) (h.stands.apart x g.here).lies in
+          record { header = header_of x.node; valid = (h.stands.apart x g.here).valid; word_is = ap (λ j. slice_index words j) z ∙ st.header; room = omega arith }
+
+      name_told : offset ≡ 1 → TellsName (slice_index words (at + offset))
+      name_told second =
+          let g = is_fixed at offset can in
+          let x : Object = g.object in
+          let named = h.stands.named (place_of x) (placed o h.born x g.here) in
+          let a = g.is_at in
+          let z : at + offset ≡ x.at + 1 = omega arith in
+          record { name = x.name; valid = named.valid; word_is = ap (λ j. slice_index words j) z ∙ named.name }
+
+  -- a pointer that means something leads within the words
+  pub safe_word : (w : ℕ) (x : Value) → Means (IsIn o h.born) w x → IsSafe o w
+  safe_word w x m at e =
+      let q = pointer_means (IsIn o h.born) at x (subst (λ k. Means (IsIn o h.born) k x) e m) in
+      let y : Object = record { at = at; name = q.0; node = q.2.0 } in
+      let l = lies_within o.layout (place_of y) (size_of y.node) (omega arith) (h.stands.apart y q.2.1).lies in
+      omega arith
+
+  -- the word that a load of a field finds
+  pub load_safe : (at index : ℕ) (c : Command) → CanLoad o p at index c → IsSafe o (slice_index words (at + HEADER_WORDS + index))
+  load_safe at index c can =
+      let m = meant o words views h id v here p is at can.header can.object can.object_word can.names in
+      let st = h.stands.objects m.object m.there in
+      let head : header_of st.node ≡ can.header = st.later.header ∙ m.head in
+      let t = read (IsIn o h.born) words (at + HEADER_WORDS) index st.node (subst (λ (k : Header). IsReadable k.kind) (sym head) can.kind) (subst (λ (k : Header). index < k.fields) (sym head) can.within) (subst (λ a. HasSlots (IsIn o h.born) words (a + HEADER_WORDS) (slots_of st.node)) m.is_at st.fields) in
+      safe_word (slice_index words (at + HEADER_WORDS + index)) t.value t.means
+
+  -- the part after a command
+  is_doing : (c : Command) (a : Answer) → IsMutator (answered v c a) (doing p c a [])
+  is_doing c a = record { alone = ap (λ (l : List Part). first_changed (λ q. doing q c a []) l) is.alone; no_collector = is.no_collector }
+
+  is_telling : (c : Command) → IsMutator (told v c) (doing p c (told_by (hand_now v.opening p) p.fixed c) [])
+  is_telling c = record { alone = ap (λ (l : List Part). first_changed (λ q. doing q c (told_by (hand_now v.opening q) q.fixed c) []) l) is.alone; no_collector = is.no_collector }
+
+-- a view that changed twice
+twice : (o : Opening) (words : List ℕ) (views : List Seen) (id : ℕ) (a b : Seen) → Keeps o words (set (set views id a) id b) → Keeps o words (set views id b)
+twice o words views id a b h = subst (λ (l : List Seen). Keeps o words l) (set-set views id a b) h
+
+module _ (o : Opening) (words : List ℕ) (views : List Seen) (h : Keeps o words views) (id : ℕ) (v : Seen) (here : get_elem? views id ≡ some v) (p : Part) (is : IsMutator v p) where
+  -- a load at which a command takes its place
+  pub take_keeps : (at offset : ℕ) (c : Command) → CanTake o p at offset c → Keeps o words (set views id (taken v at offset c (slice_index words (at + offset))))
+  take_keeps at zero c (inl (is_at, z, can)) =
+      let w : ℕ = slice_index words (at + 0) in
+      let next = told v c in
+      let k = told_keeps o words views h id v here p is c can in
+      let at' : at ≡ SHARED_PLACE = is_at in
+      let here' = there_again views id v next here in
+      let f : IsFixed o k.born at 0 = subst (λ j. IsFixed o k.born j 0) (sym at') (first_fixed o words (set views id next) k id next here' _ (is_telling o words views h id v here p is c) (record { at = SHARED_PLACE; name = shared_name; node = k.shared.0 }) k.shared.1 0 (omega arith)) in
+      twice o words views id next (loaded next at 0 w) (fixed_keeps o words (set views id next) k id next here' _ (is_telling o words views h id v here p is c) at 0 f)
+  take_keeps at (suc offset) c (inl (is_at, z, can)) = absurd (omega arith)
+  take_keeps at zero c (inr (i, e, can)) = absurd (omega arith)
+  take_keeps at (suc offset) c (inr (i, e, can)) =
+      let w : ℕ = slice_index words (at + suc offset) in
+      let a : Answer = word w in
+      let next = answered v c a in
+      let place : at + HEADER_WORDS + i ≡ at + suc offset = omega arith in
+      let k : Keeps o words (set views id next) = subst (λ j. Keeps o words (set views id (answered v c (word (slice_index words j))))) place (load_keeps o words views h id v here p is at i c can.0) in
+      let here' = there_again views id v next here in
+      let is' = is_doing o words views h id v here p is c a in
+      let names : Names (doing p c a []) at can.0.header = record { valid = can.0.names.valid; there = can.0.names.there } in
+      let f : IsFixed o k.born at (suc offset) = subst (λ j. IsFixed o k.born at j) (sym e) (named_fixed o words (set views id next) k id next here' (doing p c a []) is' at can.0.header i names can.0.within (λ may. subst (λ (t : Kind). MayChange t i) can.1 may)) in
+      twice o words views id next (loaded next at (suc offset) w) (fixed_keeps o words (set views id next) k id next here' (doing p c a []) is' at (suc offset) f)
+
+  -- the field that a command finds there
+  pub take_safe : (at offset : ℕ) (c : Command) → CanTake o p at offset c → TellsField o offset (slice_index words (at + offset))
+  take_safe at offset c (inl (is_at, z, can)) = record { safe = λ i e. absurd (omega (arith, z, e)) }
+  take_safe at offset c (inr (j, z, can)) =
+      let place : at + HEADER_WORDS + j ≡ at + offset = omega (arith, z) in
+      record { safe = λ i e. subst (λ k. IsSafe o (slice_index words k)) place (load_safe o words views h id v here p is at j c can.0) }

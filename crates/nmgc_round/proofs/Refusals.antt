@@ -1,0 +1,279 @@
+-- Commands that take their place at a fixed load of word 1 keep the rule.
+use Rattle.std.proofs.Common.{◌≡◌, ◌⊎◌, inl, inr, ℕ, ◌+◌, ◌*◌, ◌/◌, ◌%◌, ◌≤◌, Bool, true, false, cond, eqb, leb, List, [], ◌∷◌, length, set, refl, sym, ap, subst, ◌∙◌, arith, slice_index, None, ne_eqb, eq-eqb, eqb-true, le-ltb}
+use Rattle.std.specs.Prelude.{Contains, option_to_list, ◌&&◌}
+use Rattle.std.proofs.lemmas.Option.{slice_get_past}
+use Rattle.std.proofs.lemmas.Bool.{and_parts}
+use mathlib.Core.Option.{some}
+use lib.ListN.{get_elem?}
+use Rattle.nmgc_graph.specs.declared.value.Name.{Name}
+use Rattle.nmgc_graph.specs.declared.value.Value.{Value}
+use Rattle.nmgc_graph.specs.declared.value.Value.TheVariants as value
+use Rattle.nmgc_graph.specs.declared.node.Node.{Node}
+use Rattle.nmgc_graph.specs.declared.node.Node.TheVariants as node
+use Rattle.nmgc_graph.specs.declared.change.Change.{Change}
+use Rattle.nmgc_graph.specs.declared.change.Change.TheVariants as change
+use Rattle.nmgc_graph.specs.declared.command.Operand.{Operand}
+use Rattle.nmgc_graph.specs.declared.command.Command.{Command}
+use Rattle.nmgc_graph.specs.declared.command.Command.TheVariants.{Num, Nil, Mov, Con, Var, Arr, Thunk, Weak, Stack, Get, Set, Cas, Update, Force, Push, Pop, Deref, Finalise, NextFin, Show, Same, Yield, Collect, Full}
+use Rattle.nmgc_graph.specs.declared.command.Reply.{Reply}
+use Rattle.nmgc_graph.specs.declared.command.Reply.TheVariants.{Fine, Yes, No, Given, NoPointer, NoField, WrongKind, Fixed}
+use Rattle.nmgc_graph.specs.World.{World, node_of}
+use Rattle.nmgc_graph.specs.Change.{given_or, field_read, field_set, is_same}
+use Rattle.nmgc_graph.specs.Step.{value_for, object_of, read_object, read_into, keeping, change_object, change_node, with_register, with_node, step}
+use Rattle.nmgc_object.specs.Words.{header_word}
+use Rattle.nmgc_object.specs.declared.words.Header.{Header}
+use Rattle.nmgc_heap.specs.Shape.{header_of}
+use Rattle.nmgc_heap.specs.Places.{Place, Means}
+use Rattle.nmgc_round.specs.View.{Hand, holding, leaves, Answer, plain, word, Opening, Part, Seen, FixedWord, hand_now, answered, doing, first_changed}
+use Rattle.nmgc_round.specs.Events.{done_by}
+use Rattle.nmgc_round.specs.Objects.{IsIn}
+use Rattle.nmgc_round.specs.Rule.{now, Answers, IsHand, Fits, Rests, Keeps}
+use Rattle.nmgc_round.specs.Ready.{IsMutator, CanGive, Names, IsReadable, IsWritable, operand_word}
+use Rattle.nmgc_round.specs.Told.{header_at, get_refusal, set_refusal, refused, told_by, IsRefused, CanTell, told}
+use Rattle.nmgc_reach.specs.Owed.{field_held, owed_of, owed_at, names_among, owed_by}
+use Rattle.nmgc_reach.specs.laws.NodeLaws.{nodes_kept, node_cases}
+use Rattle.nmgc_core.specs.laws.Listed.{tested_same, is_same_name-refl}
+use Rattle.nmgc_graph.specs.laws.Orders.{contains_head, contains_tail, contains_cases}
+use Rattle.nmgc_round.proofs.Moves.{still_law, register_hand, hand_kept, meant, operand_is}
+use Rattle.nmgc_round.proofs.Frames.{node_frame}
+use Rattle.nmgc_round.proofs.Standing.{placed}
+use Rattle.nmgc_round.proofs.Keeping.{acts}
+
+-- a field that isn't there, or isn't to be read
+get_refused : (n : Node) (index : ℕ) → (IsReadable (header_of n).kind → (header_of n).fields ≤ index) → field_read n index ≡ get_refusal (header_word (header_of n))
+get_refused (node.Con tag values) index bad = let e : header_word (header_of (node.Con tag values)) % 8 ≡ 1 = omega arith in ap (λ o. given_or NoField o) (slice_get_past values index (bad tt)) ∙ sym (ap (λ k. cond (leb k 3) NoField WrongKind) e)
+get_refused (node.Var v) index bad = let le : 1 ≤ index = bad tt in ap (λ o. given_or NoField o) (slice_get_past (v ∷ []) index le)
+get_refused (node.Arr values) index bad = let e : header_word (header_of (node.Arr values)) % 8 ≡ 3 = omega arith in ap (λ o. given_or NoField o) (slice_get_past values index (bad tt)) ∙ sym (ap (λ k. cond (leb k 3) NoField WrongKind) e)
+get_refused (node.Thunk free result) index bad = let e : header_word (header_of (node.Thunk free result)) % 8 ≡ 4 = omega arith in sym (ap (λ k. cond (leb k 3) NoField WrongKind) e)
+get_refused (node.Weak parts) index bad = refl
+get_refused (node.Stack size values) index bad = let e : header_word (header_of (node.Stack size values)) % 8 ≡ 6 = omega arith in sym (ap (λ k. cond (leb k 3) NoField WrongKind) e)
+
+abbrev set_reply : ℕ → Reply
+set_reply k = cond (eqb k 1) Fixed (cond (leb k 3) NoField WrongKind)
+
+set_refused : (n : Node) (index : ℕ) (v : Value) → (IsWritable (header_of n).kind → (header_of n).fields ≤ index) → field_set n index v ≡ (n, set_refusal (header_word (header_of n)))
+set_refused (node.Con tag values) index v bad = let e : header_word (header_of (node.Con tag values)) % 8 ≡ 1 = omega arith in ap (λ (r : Reply). (node.Con tag values, r)) (sym (ap set_reply e))
+set_refused (node.Var old) index v bad = let le : 1 ≤ index = bad tt in ap (λ b. cond {A = Node × Reply} b (node.Var v, Fine) (node.Var old, NoField)) (ne_eqb index 0 (λ z. omega arith))
+set_refused (node.Arr values) index v bad = let e : header_word (header_of (node.Arr values)) % 8 ≡ 3 = omega arith in ap (λ b. cond {A = Node × Reply} b (node.Arr (set values index v), Fine) (node.Arr values, NoField)) (le-ltb index (length values) (bad tt)) ∙ ap (λ (r : Reply). (node.Arr values, r)) (sym (ap set_reply e))
+set_refused (node.Thunk free result) index v bad = let e : header_word (header_of (node.Thunk free result)) % 8 ≡ 4 = omega arith in ap (λ (r : Reply). (node.Thunk free result, r)) (sym (ap set_reply e))
+set_refused (node.Weak parts) index v bad = refl
+set_refused (node.Stack size values) index v bad = let e : header_word (header_of (node.Stack size values)) % 8 ≡ 6 = omega arith in ap (λ (r : Reply). (node.Stack size values, r)) (sym (ap set_reply e))
+
+-- it owes nothing then
+none_owed : (n : Node) (index : ℕ) → (IsWritable (header_of n).kind → (header_of n).fields ≤ index) → field_held n index ≡ None
+none_owed (node.Con tag values) index bad = refl
+none_owed (node.Var v) index bad = slice_get_past (v ∷ []) index (bad tt)
+none_owed (node.Arr values) index bad = slice_get_past values index (bad tt)
+none_owed (node.Thunk free result) index bad = refl
+none_owed (node.Weak parts) index bad = refl
+none_owed (node.Stack size values) index bad = refl
+
+-- the header that is named at a place is the word there
+header_there : (fixed : List FixedWord) (at w : ℕ) → ((f : FixedWord) → Contains fixed f → f.at ≡ at → f.offset ≡ 0 → f.word ≡ w) → Contains fixed (record { at = at; offset = 0; word = w }) → header_at fixed at ≡ w
+header_there [] at w stand c = absurd (let lt = c.1 in omega arith)
+header_there (f ∷ fs) at w stand c = by_test (eqb f.at at && eqb f.offset 0) refl (λ d. header_there fs at w (λ g h. stand g (contains_tail f fs g h)) d)
+  where
+    by_test : (b : Bool) → (eqb f.at at && eqb f.offset 0) ≡ b → (Contains fs (record { at = at; offset = 0; word = w }) → header_at fs at ≡ w) → cond b f.word (header_at fs at) ≡ w
+    by_test true e rec = let t = and_parts (eqb f.at at) (eqb f.offset 0) e in stand f (contains_head f fs) (eqb-true f.at at t.0) (eqb-true f.offset 0 t.1)
+    by_test false e rec = elim (contains_cases f fs (record { at = at; offset = 0; word = w }) c) [
+      | inl same ↦
+          let yes : (eqb f.at at && eqb f.offset 0) ≡ true = ap (λ (g : FixedWord). eqb g.at at && eqb g.offset 0) same ∙ ap (λ (b : Bool). b && true) (eq-eqb at at refl) in
+          let bad : true ≡ false = sym yes ∙ e in
+          absurd cc
+      | inr d ↦ rec d
+    ]
+
+keeping_refused : (w : World) (m dest : ℕ) (b : Bool) → keeping w m dest (cond b NoField WrongKind) ≡ w
+keeping_refused w m dest true = refl
+keeping_refused w m dest false = refl
+
+plain_if : (b : Bool) (r s : Reply) → cond b (plain r) (plain s) ≡ plain (cond b r s)
+plain_if true r s = refl
+plain_if false r s = refl
+
+both : (a b : Bool) → (a ≡ true → b ≡ true) → (b ≡ true → a ≡ true) → a ≡ b
+both true b f g = sym (f refl)
+both false true f g = g refl
+both false false f g = refl
+
+-- values that are the same nil, number or reference
+told_same : (x y : Value) → is_same x y ≡ true → x ≡ y
+told_same value.Nil value.Nil e = refl
+told_same value.Nil (value.Number n) e = absurd cc
+told_same value.Nil (value.Ref name) e = absurd cc
+told_same (value.Number m) value.Nil e = absurd cc
+told_same (value.Number m) (value.Number n) e = ap (λ k. value.Number k) (eqb-true m n e)
+told_same (value.Number m) (value.Ref name) e = absurd cc
+told_same (value.Ref name) value.Nil e = absurd cc
+told_same (value.Ref name) (value.Number n) e = absurd cc
+told_same (value.Ref name) (value.Ref other) e = ap (λ k. value.Ref k) (tested_same name other e)
+
+same_self : (x : Value) → is_same x x ≡ true
+same_self value.Nil = refl
+same_self (value.Number n) = eq-eqb n n refl
+same_self (value.Ref name) = is_same_name-refl name
+
+module _ (o : Opening) (words : List ℕ) (views : List Seen) (h : Keeps o words views) (id : ℕ) (v : Seen) (here : get_elem? views id ≡ some v) (p : Part) (is : IsMutator v p) where
+  abbrev W : World
+  W = (now o h.events).world
+
+  abbrev P : Place → Type 0
+  P = IsIn o h.born
+
+  rests : Rests o h.born words p
+  rests = ((h.agrees id v here).parts 0 p (ap (λ l. get_elem? l 0) is.alone)).2
+
+  fits : Fits o h.born (now o h.events) (done_by p.number h.events) p
+  fits = ((h.agrees id v here).parts 0 p (ap (λ l. get_elem? l 0) is.alone)).1
+
+  -- the answer is this one
+  pub told_is : (c : Command) (a : Answer) → told_by (hand_now o p) p.fixed c ≡ a → answered v c a ≡ told v c
+  told_is c a e =
+      let same : v.opening ≡ o = (h.agrees id v here).opening (acts v p is) in
+      let V : List Part → Seen = λ l. record v { parts = l } in
+      let f : Part → Part = λ q. doing q c a [] in
+      let g : Part → Part = λ q. doing q c (told_by (hand_now v.opening q) q.fixed c) [] in
+      let here' : told_by (hand_now v.opening p) p.fixed c ≡ a = ap (λ (y : Opening). told_by (hand_now y p) p.fixed c) same ∙ e in
+      ap (λ (l : List Part). V (first_changed f l)) is.alone ∙ ap (λ (b : Answer). V (doing p c b [] ∷ [])) (sym here') ∙ sym (ap (λ (l : List Part). V (first_changed g l)) is.alone)
+
+  tell : (c : Command) (r : Reply) (a : Answer) (u : World) → told_by (hand_now o p) p.fixed c ≡ a → CanGive o p c → step W p.number c ≡ (u, r) → ((n : Name) → node_of u n ≡ node_of W n) → owed_by W p.number c ≡ []
+      → Answers P a r → IsHand o h.born u p.number (leaves (hand_now o p) c a) → Keeps o words (set views id (told v c))
+  tell c r a u e gives does same owes says hand = subst (λ (w : Seen). Keeps o words (set views id w)) (told_is c a e) (still_law o words views h id v here p is c r a u gives does same owes says hand)
+
+  -- a command that takes its place there and leaves the world
+  tell_same : (c : Command) (r : Reply) (a : Answer) → told_by (hand_now o p) p.fixed c ≡ a → CanGive o p c → step W p.number c ≡ (W, r) → owed_by W p.number c ≡ [] → Answers P a r → leaves (hand_now o p) c a ≡ hand_now o p → Keeps o words (set views id (told v c))
+  tell_same c r a e gives does owes says left = tell c r a W e gives does (λ n. refl) owes says (subst (λ (k : Hand). IsHand o h.born W p.number k) (sym left) fits.hand)
+
+  -- a command that puts a word into a register
+  tell_register : (c : Command) (dest w : ℕ) (x : Value) → told_by (hand_now o p) p.fixed c ≡ plain Fine → CanGive o p c → step W p.number c ≡ (with_register W p.number dest x, Fine) → owed_by W p.number c ≡ [] → leaves (hand_now o p) c (plain Fine) ≡ holding (hand_now o p) dest w → Means P w x → Keeps o words (set views id (told v c))
+  tell_register c dest w x e gives does owes left m =
+      tell c Fine (plain Fine) (with_register W p.number dest x) e gives does (nodes_kept W p.number _ fits.exists refl) owes refl
+      (subst (λ (k : Hand). IsHand o h.born (with_register W p.number dest x) p.number k) (sym left) (register_hand o words views h id v here p is dest w x m))
+
+  -- an odd word refers to no object
+  no_object : (w : ℕ) (x : Value) → Means P w x → w % 2 ≡ 1 → (x ≡ value.Nil) ⊎ ((n : ℕ) × (x ≡ value.Number n))
+  no_object w value.Nil m e = inl refl
+  no_object w (value.Number n) m e = inr (n, refl)
+  no_object w (value.Ref name) m e = absurd (let t = m.1 in omega arith)
+
+  refused_none : (w : ℕ) (refusal : ℕ → Reply) → w % 2 ≡ 1 → refused p.fixed w refusal ≡ plain NoPointer
+  refused_none w refusal e = let b : eqb (w % 2) 0 ≡ false = ne_eqb (w % 2) 0 (λ z. omega arith) in ap (λ (t : Bool). cond t (plain (refusal (header_at p.fixed (w / 2)))) (plain NoPointer)) b
+
+  refused_there : (w at : ℕ) (header : Header) (refusal : ℕ → Reply) → w ≡ 2 * at → Names p at header → refused p.fixed w refusal ≡ plain (refusal (header_word header))
+  refused_there w at header refusal e names =
+      let b : eqb (w % 2) 0 ≡ true = eq-eqb (w % 2) 0 (omega arith) in
+      let half : w / 2 ≡ at = omega arith in
+      let there = rests.fixed (record { at = at; offset = 0; word = header_word header }) names.there in
+      let found : header_at p.fixed at ≡ header_word header = header_there p.fixed at (header_word header) (λ f c a z. let t = rests.fixed f c in sym t.1 ∙ ap (λ j. slice_index words j) (λ i. a i + z i) ∙ there.1) names.there in
+      ap (λ (t : Bool). cond t (plain (refusal (header_at p.fixed (w / 2)))) (plain NoPointer)) b ∙ ap (λ k. plain (refusal k)) (ap (λ k. header_at p.fixed k) half ∙ found)
+
+  -- `get` of an object that is none, or of a field that isn't there
+  get_told : (dest : ℕ) (object : Operand) (index : ℕ) → CanGive o p (Get dest object index) → IsRefused o p object (λ header. IsReadable header.kind → header.fields ≤ index) → Keeps o words (set views id (told v (Get dest object index)))
+  get_told dest object index gives (inl odd) =
+      let c : Command = Get dest object index in
+      let read : Node → Reply = λ n. field_read n index in
+      let none : step W p.number c ≡ (W, NoPointer) = elim (no_object (operand_word o p object) (value_for W p.number object) (operand_is o words views h id v here p is object) odd) [
+        | inl e ↦ ap (λ y. read_into W p.number dest (read_object (object_of W y) read)) e
+        | inr e ↦ ap (λ y. read_into W p.number dest (read_object (object_of W y) read)) e.1
+      ] in
+      tell_same c NoPointer (plain NoPointer) (refused_none (operand_word o p object) get_refusal odd) gives none refl refl refl
+  get_told dest object index gives (inr (at, header, e, names, bad)) =
+      let c : Command = Get dest object index in
+      let m = meant o words views h id v here p is at header object e names in
+      let st = h.stands.objects m.object m.there in
+      let head : header_of st.node ≡ header = st.later.header ∙ m.head in
+      let r : Reply = get_refusal (header_word header) in
+      let refuses : field_read st.node index ≡ r = get_refused st.node index (subst (λ (k : Header). IsReadable k.kind → k.fields ≤ index) (sym head) bad) ∙ ap (λ k. get_refusal (header_word k)) head in
+      let read : Node → Reply = λ n. field_read n index in
+      let does : step W p.number c ≡ (W, r) = ap (λ y. read_into W p.number dest (read_object (object_of W y) read)) m.refers ∙ ap (λ y. read_into W p.number dest (read_object y read)) st.there ∙ ap (λ y. read_into W p.number dest y) refuses ∙ ap (λ (u : World). (u, r)) (keeping_refused W p.number dest (leb (header_word header % 8) 3)) in
+      tell_same c r (plain r) (refused_there (operand_word o p object) at header get_refusal e names) gives does refl refl refl
+
+  -- `set` likewise
+  set_told : (object : Operand) (index : ℕ) (x : Operand) → CanGive o p (Set object index x) → IsRefused o p object (λ header. IsWritable header.kind → header.fields ≤ index) → Keeps o words (set views id (told v (Set object index x)))
+  set_told object index x gives (inl odd) =
+      let c : Command = Set object index x in
+      let d : Change = change.Set index (value_for W p.number x) in
+      let none : (step W p.number c ≡ (W, NoPointer)) × (owed_by W p.number c ≡ []) = elim (no_object (operand_word o p object) (value_for W p.number object) (operand_is o words views h id v here p is object) odd) [
+        | inl e ↦ (ap (λ y. change_object W y d) e, ap (λ y. names_among (owed_of W y d)) e)
+        | inr e ↦ (ap (λ y. change_object W y d) e.1, ap (λ y. names_among (owed_of W y d)) e.1)
+      ] in
+      tell_same c NoPointer (plain NoPointer) (refused_none (operand_word o p object) set_refusal odd) gives none.0 none.1 refl refl
+  set_told object index x gives (inr (at, header, e, names, bad)) =
+      let c : Command = Set object index x in
+      let val : Value = value_for W p.number x in
+      let d : Change = change.Set index val in
+      let m = meant o words views h id v here p is at header object e names in
+      let name : Name = m.object.name in
+      let st = h.stands.objects m.object m.there in
+      let head : header_of st.node ≡ header = st.later.header ∙ m.head in
+      let r : Reply = set_refusal (header_word header) in
+      let bad' = subst (λ (k : Header). IsWritable k.kind → k.fields ≤ index) (sym head) bad in
+      let refuses : field_set st.node index val ≡ (st.node, r) = set_refused st.node index val bad' ∙ ap (λ k. (st.node, set_refusal (header_word k))) head in
+      let changes : step W p.number c ≡ (with_node W name st.node, r) = ap (λ y. change_object W y d) m.refers ∙ ap (λ y. change_node W name y d) st.there ∙ ap (λ (y : Node × Reply). (with_node W name y.0, y.1)) refuses in
+      let cases = node_cases W name st.node st.node st.there in
+      let same : (n : Name) → node_of (with_node W name st.node) n ≡ node_of W n = λ n. elim (cases n) [ inl k ↦ k.1 ∙ sym st.there ∙ ap (λ (y : Name). node_of W y) (sym k.0) | inr k ↦ k.1 ] in
+      let owes : owed_by W p.number c ≡ [] = ap (λ y. names_among (owed_of W y d)) m.refers ∙ ap (λ y. names_among (owed_at d name y)) st.there ∙ ap (λ y. names_among (option_to_list y)) (none_owed st.node index bad') in
+      tell c r (plain r) (with_node W name st.node) (refused_there (operand_word o p object) at header set_refusal e names) gives changes same owes refl
+      (hand_kept o words views h id v here p is (with_node W name st.node) (hand_now o p) (node_frame W name st.node st.node st.there p.number) (λ n size values k. same n ∙ k) fits.hand)
+
+  one_place : (a b : Place) → P a → P b → (a.name ≡ b.name) ⊎ (a.at ≡ b.at) → a ≡ b
+  one_place a b x y e = h.stands.one a b (placed o h.born (record { at = a.at; name = a.name; node = x.0 }) x.1) (placed o h.born (record { at = b.at; name = b.name; node = y.0 }) y.1) e
+
+  -- a value has one word
+  one_word : (a b : ℕ) (x : Value) → Means P a x → Means P b x → a ≡ b
+  one_word a b value.Nil m n = m ∙ sym n
+  one_word a b (value.Number k) m n = m ∙ sym n
+  one_word a b (value.Ref name) m n =
+      let e = ap (λ (q : Place). q.at) (one_place (record { at = m.0; name = name }) (record { at = n.0; name = name }) m.2 n.2 (inl refl)) in
+      m.1 ∙ ap (λ k. 2 * k) e ∙ sym n.1
+
+  -- and a word one value
+  one_value : (a : ℕ) (x y : Value) → Means P a x → Means P a y → x ≡ y
+  one_value a value.Nil value.Nil m n = refl
+  one_value a value.Nil (value.Number k) m n = absurd (omega arith)
+  one_value a value.Nil (value.Ref name) m n = absurd (let e = n.1 in omega arith)
+  one_value a (value.Number j) value.Nil m n = absurd (omega arith)
+  one_value a (value.Number j) (value.Number k) m n = let e : j ≡ k = omega arith in ap (λ i. value.Number i) e
+  one_value a (value.Number j) (value.Ref name) m n = absurd (let e = n.1 in omega arith)
+  one_value a (value.Ref name) value.Nil m n = absurd (let e = m.1 in omega arith)
+  one_value a (value.Ref name) (value.Number k) m n = absurd (let e = m.1 in omega arith)
+  one_value a (value.Ref name) (value.Ref other) m n =
+      let e = m.1 in
+      let f = n.1 in
+      let at : m.0 ≡ n.0 = omega arith in
+      ap (λ (q : Place). value.Ref q.name) (one_place (record { at = m.0; name = name }) (record { at = n.0; name = other }) m.2 n.2 (inr at))
+
+  same_words : (a b : ℕ) (x y : Value) → Means P a x → Means P b y → is_same x y ≡ eqb a b
+  same_words a b x y m n = both (is_same x y) (eqb a b)
+      (λ e. eq-eqb a b (one_word a b y (subst (λ z. Means P a z) (told_same x y e) m) n))
+      (λ e. let k = eqb-true a b e in subst (λ z. is_same x z ≡ true) (one_value a x y m (subst (λ z. Means P z y) (sym k) n)) (same_self x))
+
+  -- every command that takes its place there
+  pub told_keeps : (c : Command) → CanTell o p c → Keeps o words (set views id (told v c))
+  told_keeps (Num dest n) can = tell_register (Num dest n) dest (2 * n + 3) (value.Number n) refl can.gives refl refl refl refl
+  told_keeps (Nil dest) can = tell_register (Nil dest) dest 1 value.Nil refl can.gives refl refl refl refl
+  told_keeps (Mov dest x) can = tell_register (Mov dest x) dest (operand_word o p x) (value_for W p.number x) refl can.gives refl refl refl (operand_is o words views h id v here p is x)
+  told_keeps (Get dest object index) can = get_told dest object index can.gives can.told
+  told_keeps (Set object index x) can = set_told object index x can.gives can.told
+  told_keeps (Show x) can = tell_same (Show x) (Given (value_for W p.number x)) (word (operand_word o p x)) refl can.gives refl refl (value_for W p.number x, refl, operand_is o words views h id v here p is x) refl
+  told_keeps (Same left right) can =
+      let e = same_words (operand_word o p left) (operand_word o p right) (value_for W p.number left) (value_for W p.number right) (operand_is o words views h id v here p is left) (operand_is o words views h id v here p is right) in
+      let r : Reply = cond (eqb (operand_word o p left) (operand_word o p right)) Yes No in
+      tell_same (Same left right) r (plain r) refl can.gives (ap (λ (b : Bool). (W, cond b Yes No)) e) refl refl refl
+  told_keeps Yield can = tell_same Yield Fine (plain Fine) refl can.gives refl refl refl refl
+  told_keeps Collect can = tell_same Collect Fine (plain Fine) refl can.gives refl refl refl refl
+  told_keeps Full can = tell_same Full Fine (plain Fine) refl can.gives refl refl refl refl
+  told_keeps (Con dest tag fields) can = absurd can.told
+  told_keeps (Var dest x) can = absurd can.told
+  told_keeps (Arr dest count x) can = absurd can.told
+  told_keeps (Thunk dest free) can = absurd can.told
+  told_keeps (Weak dest key x finaliser) can = absurd can.told
+  told_keeps (Stack dest size) can = absurd can.told
+  told_keeps (Cas object index expected x) can = absurd can.told
+  told_keeps (Update object x) can = absurd can.told
+  told_keeps (Force dest object) can = absurd can.told
+  told_keeps (Push object x) can = absurd can.told
+  told_keeps (Pop dest object) can = absurd can.told
+  told_keeps (Deref dest object) can = absurd can.told
+  told_keeps (Finalise dest object) can = absurd can.told
+  told_keeps (NextFin dest) can = absurd can.told

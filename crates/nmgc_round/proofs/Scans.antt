@@ -1,0 +1,397 @@
+-- The scan load: what the core machine reads is what the word means, and the fold of the scans follows it.
+use Rattle.std.proofs.Common.{◌≡◌, ◌≢◌, ◌⊎◌, inl, inr, ℕ, zero, suc, ◌+◌, ◌*◌, ◌/◌, ◌%◌, ◌<◌, ◌≤◌, Bool, true, false, not, ◌&&◌, ◌||◌, cond, eqb, leb, List, [], ◌∷◌, ◌++◌, length, get_or, set, refl, sym, ap, subst, ◌∙◌, arith, slice_index, Option, Some, None, is_some, ne_eqb, eq-eqb, leb-false}
+use Rattle.std.specs.Prelude.{Contains, IsSome, slice_get}
+use Rattle.std.proofs.lemmas.Option.{slice_get-get_or, slice_get_past}
+use Rattle.std.proofs.lemmas.Bool.{cases_lt, and_parts}
+use Rattle.std.proofs.lemmas.Bool.Decides.{eqb_tells}
+use Rattle.std.proofs.lemmas.List.Elements.{Contains-append_cases, Contains-push_cases}
+use mathlib.Core.Option.{some}
+use lib.ListN.{get_elem?}
+use Rattle.nmgc_graph.specs.declared.value.Name.{Name}
+use Rattle.nmgc_graph.specs.declared.value.Value.{Value}
+use Rattle.nmgc_graph.specs.declared.value.Value.TheVariants as value
+use Rattle.nmgc_graph.specs.declared.node.Node.{Node}
+use Rattle.nmgc_graph.specs.declared.node.Node.TheVariants.{Con, Var, Arr, Thunk, Weak, Stack}
+use Rattle.nmgc_graph.specs.declared.node.Kind.{Kind}
+use Rattle.nmgc_graph.specs.declared.node.Kind.TheVariants as kind
+use Rattle.nmgc_graph.specs.World.{World, node_of}
+use Rattle.nmgc_graph.specs.laws.Worlds.{is_some_of}
+use Rattle.nmgc_graph.specs.laws.Orders.{contains_head, contains_tail, contains_cases}
+use Rattle.nmgc_object.specs.declared.words.Header.{Header}
+use Rattle.nmgc_object.specs.declared.size.TheConstants.{HEADER_WORDS}
+use Rattle.nmgc_reach.specs.laws.ItemLaws.{one_is}
+use Rattle.nmgc_core.specs.declared.event.Entry.{Entry}
+use Rattle.nmgc_core.specs.State.{State, is_new, is_listed, mark_read, with_mark, entry_of}
+use Rattle.nmgc_core.specs.Scan.{fields_of, read_at, field_at, is_last, moved_on}
+use Rattle.nmgc_reach.specs.Holds.{has_result}
+use Rattle.nmgc_core.specs.Machine.{advanced, after_scan}
+use Rattle.nmgc_heap.specs.Shape.{header_of, size_of, slots_of, free_slots}
+use Rattle.nmgc_heap.specs.Places.{Place, Means, HasSlots, AllMean}
+use Rattle.nmgc_heap.specs.laws.Kinds.{HasFields, KeepsFree, fields_of_slots, free_of_slots}
+use Rattle.nmgc_round.specs.View.{Opening, Seen, scanning}
+use Rattle.nmgc_round.specs.Marking.{Marks, marks_of, marks_after, name_at, name_meant, name_read, with_name, is_thunk, is_last_word, entry_past, first_past, after_word, offset_of}
+use Rattle.nmgc_round.specs.Objects.{Object, place_of, free_of, IsLater, IsObject, IsIn}
+use Rattle.nmgc_round.specs.Rule.{now, IsRead, IsQueued, Keeps}
+use Rattle.nmgc_round.specs.Ready.{CanScan, scanned_by, first_of}
+use Rattle.nmgc_round.proofs.Standing.{later_of}
+use Rattle.nmgc_heap.specs.laws.Meanings.{lies_above}
+use Rattle.nmgc_round.proofs.Runs.{same_snapshot, rest_read}
+use Rattle.nmgc_round.proofs.Keeping.{scan_law}
+
+-- the word at a place is that of what was read: an unset field is 0
+pub record IsReadAt (P : Place → Type 0) (words : List ℕ) (j : ℕ) (v : Option Value) : Type 0 where
+  pub means : IsRead P (slice_index words j) v
+  pub unset : v ≡ None → slice_index words j ≡ 0
+
+module _ (P : Place → Type 0) (words : List ℕ) where
+  one_read : (j : ℕ) (v : Value) → Means P (slice_index words j) v → IsReadAt P words j (Some v)
+  one_read j v m = record { means = m; unset = λ e. absurd cc }
+
+  item_read : (from i : ℕ) (values : List Value) → i < length values → AllMean P words from values → IsReadAt P words (from + i) (slice_get values i)
+  item_read from i values lt h = let e : slice_get values i ≡ Some (get_or values i value.Nil) = slice_get-get_or values i value.Nil lt in subst (λ v. IsReadAt P words (from + i) v) (sym e) (one_read (from + i) (get_or values i value.Nil) (h i (get_or values i value.Nil) e))
+
+  -- an item of a stack, or an unset slot
+  slot_read : (from i size : ℕ) (values : List Value) → i < size → AllMean P words from values → ((k : ℕ) → length values ≤ k → k < size → slice_index words (from + k) ≡ 0) → IsReadAt P words (from + i) (slice_get values i)
+  slot_read from i size values lt h u = elim (cases_lt i (length values)) [
+    | inl in_ ↦ item_read from i values in_ h
+    | inr le ↦ subst (λ v. IsReadAt P words (from + i) v) (sym (slice_get_past values i le)) (record { means = tt; unset = λ e. u i le lt })
+  ]
+
+  kept_free : (from i : ℕ) (free : List Value) (b : Node) → free_of b ≡ free → has_result b ≡ false → (header_of b).kind ≡ kind.Thunk → i < length free → KeepsFree P words from b → IsReadAt P words (from + 1 + i) (slice_get free i)
+  kept_free from i free (Thunk old None) e none k lt h = subst (λ (l : List Value). IsReadAt P words (from + 1 + i) (slice_get l i)) e (item_read (from + 1) i old (subst (λ (l : List Value). i < length l) (sym e) lt) h)
+  kept_free from i free (Thunk old (Some r)) e none k lt h = absurd (let bad : true ≡ false = none in cc)
+  kept_free from i free (Con tag values) e none k lt h = absurd cc
+  kept_free from i free (Var v) e none k lt h = absurd cc
+  kept_free from i free (Arr values) e none k lt h = absurd cc
+  kept_free from i free (Weak parts) e none k lt h = absurd cc
+  kept_free from i free (Stack size values) e none k lt h = absurd cc
+
+  -- a field that is scanned; b is the node in the snapshot
+  field_read_at : (from i : ℕ) (n b : Node) → IsLater b n → i < fields_of n → (1 ≤ i → has_result b ≡ false) → HasFields P words from n → KeepsFree P words from b → IsReadAt P words (from + i) (field_at n i)
+  field_read_at from i (Con tag values) b l lt passed h k = item_read from i values lt h
+  field_read_at from zero (Var v) b l lt passed h k = let z : from ≡ from + 0 = omega arith in subst (λ j. IsReadAt P words j (Some v)) z (one_read from v h)
+  field_read_at from (suc i) (Var v) b l lt passed h k = absurd (omega arith)
+  field_read_at from i (Arr values) b l lt passed h k = item_read from i values lt h
+  field_read_at from zero (Thunk free None) b l lt passed h k = let z : from ≡ from + 0 = omega arith in subst (λ j. IsReadAt P words j None) z (record { means = tt; unset = λ e. h.0 })
+  field_read_at from zero (Thunk free (Some r)) b l lt passed h k = let z : from ≡ from + 0 = omega arith in subst (λ j. IsReadAt P words j (Some r)) z (one_read from r h)
+  field_read_at from (suc i) (Thunk free None) b l lt passed h k = let z : from + 1 + i ≡ from + suc i = omega arith in subst (λ j. IsReadAt P words j (slice_get free i)) z (item_read (from + 1) i free (omega arith) h.1)
+  field_read_at from (suc i) (Thunk free (Some r)) b l lt passed h k =
+      let z : from + 1 + i ≡ from + suc i = omega arith in
+      subst (λ j. IsReadAt P words j (slice_get free i)) z (kept_free from i free b (sym l.free) (passed (omega arith)) (ap (λ (r : Header). r.kind) (sym l.header)) (omega arith) k)
+  field_read_at from i (Weak parts) b l lt passed h k = absurd (omega arith)
+  field_read_at from i (Stack size values) b l lt passed h k = slot_read from i size values lt h.0 h.1
+
+-- how many fields are scanned is told by the header
+abbrev scanned_of : Kind → ℕ → ℕ
+scanned_of kind.Con n = n
+scanned_of kind.Var n = n
+scanned_of kind.Arr n = n
+scanned_of kind.Thunk n = n
+scanned_of kind.Weak n = 0
+scanned_of kind.Stack n = n
+
+by_header : (n : Node) → fields_of n ≡ scanned_of (header_of n).kind (header_of n).fields
+by_header (Con tag values) = refl
+by_header (Var v) = refl
+by_header (Arr values) = refl
+by_header (Thunk free result) = refl
+by_header (Weak parts) = refl
+by_header (Stack size values) = refl
+
+pub same_fields : (b n : Node) → IsLater b n → fields_of n ≡ fields_of b
+same_fields b n l = by_header n ∙ ap (λ (h : Header). scanned_of h.kind h.fields) l.header ∙ sym (by_header b)
+
+-- whether it is a thunk is told by the header
+abbrev thunk_kind : Kind → Bool
+thunk_kind kind.Thunk = true
+thunk_kind _ = false
+
+thunk_header : (n : Node) → is_thunk n ≡ thunk_kind (header_of n).kind
+thunk_header (Con tag values) = refl
+thunk_header (Var v) = refl
+thunk_header (Arr values) = refl
+thunk_header (Thunk free result) = refl
+thunk_header (Weak parts) = refl
+thunk_header (Stack size values) = refl
+
+same_thunk : (b n : Node) → IsLater b n → is_thunk b ≡ is_thunk n
+same_thunk b n l = thunk_header b ∙ ap (λ (h : Header). thunk_kind h.kind) (sym l.header) ∙ sym (thunk_header n)
+
+-- a word that means a value isn't 0
+means_some : (P : Place → Type 0) → ((p : Place) → P p → 1 ≤ p.at) → (w : ℕ) (v : Value) → Means P w v → w ≢ 0
+means_some P least w value.Nil m e = omega arith
+means_some P least w (value.Number n) m e = omega arith
+means_some P least w (value.Ref name) m e = let a = m.1 in let l = least (record { at = m.0; name = name }) m.2 in omega arith
+
+-- at position 1, a result is set exactly where the word isn't 0
+result_word : (P : Place → Type 0) → ((p : Place) → P p → 1 ≤ p.at) → (words : List ℕ) (j : ℕ) (n : Node) → IsReadAt P words j (field_at n 0) → has_result n ≡ (is_thunk n && not (eqb (slice_index words j) 0))
+result_word P least words j (Con tag values) r = refl
+result_word P least words j (Var v) r = refl
+result_word P least words j (Arr values) r = refl
+result_word P least words j (Thunk free None) r = ap (λ (b : Bool). not b) (sym (eq-eqb (slice_index words j) 0 (r.unset refl)))
+result_word P least words j (Thunk free (Some v)) r = ap (λ (b : Bool). not b) (sym (ne_eqb (slice_index words j) 0 (means_some P least (slice_index words j) v r.means)))
+result_word P least words j (Weak parts) r = refl
+result_word P least words j (Stack size values) r = refl
+
+or_parts : (a b : Bool) → (a || b) ≡ false → (a ≡ false) × (b ≡ false)
+or_parts false false e = (refl, refl)
+or_parts false true e = absurd cc
+or_parts true b e = absurd cc
+
+-- the last position is told by the word
+last_same : (position w : ℕ) (b n : Node) → IsLater b n → (position ≡ 1 → has_result n ≡ (is_thunk n && not (eqb w 0))) → is_last n position ≡ is_last_word b position w
+last_same position w b n l f = elim (eqb_tells position 1) [
+  | inl e ↦ ap (λ k. leb k position || (eqb position 1 && has_result n)) (same_fields b n l) ∙ ap (λ (x : Bool). leb (fields_of b) position || (eqb position 1 && x)) (f e.1 ∙ ap (λ (t : Bool). t && not (eqb w 0)) (sym (same_thunk b n l)))
+  | inr e ↦ ap (λ k. leb k position || (eqb position 1 && has_result n)) (same_fields b n l) ∙ ap (λ (t : Bool). leb (fields_of b) position || (t && has_result n)) e.0 ∙ sym (ap (λ (t : Bool). leb (fields_of b) position || (t && (is_thunk b && not (eqb w 0)))) e.0)
+]
+
+-- the name that was read, if one was
+abbrev ref_of : Option Value → Option Name
+ref_of None = None
+ref_of (Some value.Nil) = None
+ref_of (Some (value.Number n)) = None
+ref_of (Some (value.Ref name)) = Some name
+
+marks_if : (b : Bool) (s : State) (name : Name) → marks_of (cond b (with_mark s name) s) ≡ cond b (record { marked = s.marked ++ name ∷ []; queue = s.queue ++ entry_of name ∷ [] }) (marks_of s)
+marks_if true s name = refl
+marks_if false s name = refl
+
+mark_is : (s : State) (v : Option Value) → marks_of (mark_read s v) ≡ with_name s.snapshot (marks_of s) (ref_of v)
+mark_is s None = refl
+mark_is s (Some value.Nil) = refl
+mark_is s (Some (value.Number n)) = refl
+mark_is s (Some (value.Ref name)) = marks_if (is_new s name) s name
+
+-- a queue that has a first entry still has it
+queue_if : (b : Bool) (m : Marks) (name : Name) (entry : Entry) (rest : List Entry) → m.queue ≡ entry ∷ rest → (more : List Entry) × ((cond b (record { marked = m.marked ++ name ∷ []; queue = m.queue ++ entry_of name ∷ [] }) m).queue ≡ entry ∷ more)
+    × ((e : Entry) → Contains more e → Contains rest e ⊎ ((b ≡ true) × (e ≡ entry_of name)))
+queue_if true m name entry rest q = (rest ++ entry_of name ∷ [], ap (λ (l : List Entry). l ++ entry_of name ∷ []) q, λ e c. elim (Contains-push_cases rest (entry_of name) e c) [ inl d ↦ inl d | inr d ↦ inr (refl, sym d) ])
+queue_if false m name entry rest q = (rest, q, λ e c. inl c)
+
+still_first : (snapshot : World) (m : Marks) (o : Option Name) (entry : Entry) (rest : List Entry) → m.queue ≡ entry ∷ rest → (more : List Entry) × ((with_name snapshot m o).queue ≡ entry ∷ more)
+    × ((e : Entry) → Contains more e → Contains rest e ⊎ ((name : Name) × (o ≡ Some name) × IsSome (node_of snapshot name) × (e ≡ entry_of name)))
+still_first snapshot m None entry rest q = (rest, q, λ e c. inl c)
+still_first snapshot m (Some name) entry rest q =
+    let t = queue_if (is_some (node_of snapshot name) && not (is_listed name m.marked)) m name entry rest q in
+    (t.0, t.1, λ e c. elim (t.2 e c) [ inl d ↦ inl d | inr d ↦ inr (name, refl, (and_parts (is_some (node_of snapshot name)) (not (is_listed name m.marked)) d.0).0, d.1) ])
+
+-- the place that begins here
+some_at : (places : List Place) (at : ℕ) (name : Name) → Contains places (record { at = at; name = name }) → (n : Name) × (name_at places at ≡ Some n) × Contains places (record { at = at; name = n })
+some_at [] at name c = absurd (let lt = c.1 in omega arith)
+some_at (p ∷ ps) at name c = elim (eqb_tells p.at at) [
+  | inl e ↦ (p.name, rw e.0 refl, subst (λ (a : ℕ). Contains (p ∷ ps) (record { at = a; name = p.name })) e.1 (contains_head p ps))
+  | inr e ↦ elim (contains_cases p ps (record { at = at; name = name }) c) [
+    | inl same ↦ absurd (e.1 (ap (λ (q : Place). q.at) same))
+    | inr d ↦ let r = some_at ps at name d in (r.0, rw e.0 r.1, contains_tail p ps (record { at = at; name = r.0 }) r.2)
+  ]
+]
+
+found_at : (places : List Place) (at : ℕ) (name : Name) → name_at places at ≡ Some name → Contains places (record { at = at; name = name })
+found_at [] at name e = absurd cc
+found_at (p ∷ ps) at name e = elim (eqb_tells p.at at) [
+  | inl t ↦
+      let here : Some p.name ≡ Some name = rw t.0 at e in
+      let same : p.name ≡ name = cc in
+      subst (λ (q : Place). Contains (p ∷ ps) q) (λ i. record { at = t.1 i; name = same i }) (contains_head p ps)
+  | inr t ↦ let later : name_at ps at ≡ Some name = rw t.0 at e in contains_tail p ps (record { at = at; name = name }) (found_at ps at name later)
+]
+
+module _ (o : Opening) (words : List ℕ) (views : List Seen) (h : Keeps o words views) where
+  abbrev P : Place → Type 0
+  P = IsIn o h.born
+
+  abbrev S0 : World
+  S0 = o.core.snapshot
+
+  least : (p : Place) → P p → 1 ≤ p.at
+  least p q = let x : Object = record { at = p.at; name = p.name; node = q.0 } in lies_above o.layout (place_of x) (size_of q.0) (omega arith) (h.stands.apart x q.1).lies
+
+  not_there : (m : Marks) (name : Name) → node_of S0 name ≡ None → with_name S0 m (Some name) ≡ m
+  not_there m name e = ap (λ (y : Option Node). cond (is_some y && not (is_listed name m.marked)) (record { marked = m.marked ++ name ∷ []; queue = m.queue ++ entry_of name ∷ [] }) m) e
+
+  -- a pointer counts for the name that it means, where that is of the snapshot
+  pointer_name : (m : Marks) (at : ℕ) (name : Name) → P (record { at = at; name = name }) → with_name S0 m (name_at o.places at) ≡ with_name S0 m (Some name)
+  pointer_name m at name (node, inl old) =
+      let r = some_at o.places at name old.there in
+      let same = h.stands.one (record { at = at; name = r.0 }) (record { at = at; name = name }) (inl r.2) (inl old.there) (inr refl) in
+      ap (λ (y : Option Name). with_name S0 m y) (r.1 ∙ ap (λ (p : Place). Some p.name) same)
+  pointer_name m at name (node, inr c) = by_found (name_at o.places at) refl
+    where
+      none : with_name S0 m (Some name) ≡ m
+      none = not_there m name (h.new (record { at = at; name = name; node = node }) c).no_snapshot
+
+      by_found : (y : Option Name) → name_at o.places at ≡ y → with_name S0 m y ≡ with_name S0 m (Some name)
+      by_found None e = sym none
+      by_found (Some n) e =
+          let same = h.stands.one (record { at = at; name = n }) (record { at = at; name = name }) (inl (found_at o.places at n e)) (inr (record { at = at; name = name; node = node }, c, refl)) (inr refl) in
+          ap (λ (p : Place). with_name S0 m (Some p.name)) same
+
+  -- a word counts for what it means
+  word_name : (m : Marks) (w : ℕ) (v : Option Value) → IsRead P w v → (v ≡ None → w ≡ 0) → with_name S0 m (name_meant o.places w) ≡ with_name S0 m (ref_of v)
+  word_name m w None means unset = ap (λ k. with_name S0 m (name_meant o.places k)) (unset refl)
+  word_name m w (Some value.Nil) means unset = ap (λ k. with_name S0 m (name_meant o.places k)) means
+  word_name m w (Some (value.Number n)) means unset =
+      let a : eqb w 0 ≡ false = ne_eqb w 0 (λ e. omega arith) in
+      let b : eqb (w % 2) 0 ≡ false = ne_eqb (w % 2) 0 (λ e. omega arith) in
+      rw (a, b) refl
+  word_name m w (Some (value.Ref name)) means unset =
+      let at : ℕ = means.0 in
+      let is : w ≡ 2 * at = means.1 in
+      let l = least (record { at = at; name = name }) means.2 in
+      let a : eqb w 0 ≡ false = ne_eqb w 0 (λ e. omega arith) in
+      let b : eqb (w % 2) 0 ≡ true = eq-eqb (w % 2) 0 (omega arith) in
+      let c : w / 2 ≡ at = omega arith in
+      rw (a, b, c) (pointer_name m at name means.2)
+
+  -- the scan of the first entry, which is the object at this place
+  module _ (id : ℕ) (v : Seen) (here : get_elem? views id ≡ some v) (at offset : ℕ) (can : CanScan v at offset) where
+    abbrev S : State
+    S = now o h.events
+
+    abbrev w : ℕ
+    w = slice_index words (at + offset)
+
+    is : v.opening ≡ o
+    is = (h.agrees id v here).opening (inr can.collects)
+
+    folded_is : marks_of S ≡ marks_after v.opening v.scans
+    folded_is = ((h.agrees id v here).scans can.collects).2 ∙ ap (λ (y : Opening). marks_after y v.scans) (sym is)
+
+    queue_is : S.queue ≡ can.entry ∷ can.rest
+    queue_is = ap (λ (m : Marks). m.queue) folded_is ∙ can.first
+
+    -- what is known of the object that is scanned
+    record Target : Type 0 where
+      queued : IsQueued o can.entry
+      node : Node
+      there : node_of S.world can.entry.name ≡ Some node
+      later : IsLater queued.node node
+      fields : HasFields P words (at + HEADER_WORDS) node
+      kept : KeepsFree P words (at + HEADER_WORDS) queued.node
+
+    target : Target
+    target =
+        let q : IsQueued o can.entry = h.queued can.entry (subst (λ (l : List Entry). Contains l can.entry) (sym queue_is) (contains_head can.entry can.rest)) in
+        let x : Object = q.object in
+        let x_at : x.at ≡ at = ap (λ (p : Place). p.at) (h.stands.one (place_of x) (record { at = at; name = can.entry.name }) (inl q.here.there) (inl (subst (λ (y : Opening). Contains y.places (record { at = at; name = can.entry.name })) is can.there)) (inl q.name)) in
+        let st = h.stands.objects x (inl q.here) in
+        let node_there : node_of S0 x.name ≡ Some q.node = ap (λ n. node_of S0 n) q.name ∙ q.there in
+        let k = st.kept q.node (inr (record { marking = q.marking; wide = h.is.wide q.marking x q.here (subst (λ y. IsSome y) (sym node_there) refl); there = node_there })) in
+        record {
+          queued = q;
+          node = st.node;
+          there = ap (λ n. node_of S.world n) (sym q.name) ∙ st.there;
+          later = later_of x.node st.node st.later q.node k.0;
+          fields = fields_of_slots P words (at + HEADER_WORDS) st.node (subst (λ a. HasSlots P words (a + HEADER_WORDS) (slots_of st.node)) x_at st.fields);
+          kept = free_of_slots P words (at + HEADER_WORDS) q.node (subst (λ a. HasSlots P words (a + HEADER_WORDS) (free_slots q.node)) x_at k.1);
+        }
+
+    -- what is read at a position, and what of it the word tells
+    record IsScanned (t : Target) (position : ℕ) : Type 0 where
+      means : IsRead P w (read_at (Some t.node) position)
+      unset : read_at (Some t.node) position ≡ None → 1 ≤ position → w ≡ 0
+      name : (m : Marks) → with_name S0 m (name_read o.places position w) ≡ with_name S0 m (ref_of (read_at (Some t.node) position))
+      result : position ≡ 1 → has_result t.node ≡ (is_thunk t.node && not (eqb w 0))
+
+    by_position : (t : Target) (position : ℕ) → can.entry.position ≡ position → IsScanned t position
+    by_position t zero e = record { means = tt; unset = λ a le. absurd (omega arith); name = λ m. refl; result = λ one. absurd (omega arith) }
+    by_position t (suc i) e =
+        let within : can.entry.position ≤ fields_of t.queued.node = t.queued.within in
+        let same : fields_of t.node ≡ fields_of t.queued.node = same_fields t.queued.node t.node t.later in
+        let r : IsReadAt P words (at + HEADER_WORDS + i) (field_at t.node i) = field_read_at P words (at + HEADER_WORDS) i t.node t.queued.node t.later (omega arith) (λ le. t.queued.passed (omega arith)) t.fields t.kept in
+        let place : at + offset ≡ at + HEADER_WORDS + i = let q : offset ≡ HEADER_WORDS + i = can.position ∙ ap offset_of e in omega arith in
+        let r' : IsReadAt P words (at + offset) (field_at t.node i) = subst (λ j. IsReadAt P words j (field_at t.node i)) (sym place) r in
+        record {
+          means = r'.means;
+          unset = λ a le. r'.unset a;
+          name = λ m. word_name m w (field_at t.node i) r'.means r'.unset;
+          result = λ one. let z : i ≡ 0 = omega arith in result_word P least words (at + offset) t.node (subst (λ k. IsReadAt P words (at + offset) (field_at t.node k)) z r');
+        }
+
+    snapshot_is : S.snapshot ≡ S0
+    snapshot_is = same_snapshot o.core h.events
+
+    -- a name that was read is queued well
+    name_queued : (t : Target) (position : ℕ) → IsScanned t position → (name : Name) → ref_of (read_at (Some t.node) position) ≡ Some name → IsSome (node_of S0 name) → IsQueued o (entry_of name)
+    name_queued t position r name e some_ = by_value (read_at (Some t.node) position) r.means e
+      where
+        by_object : (x : Object) → IsObject o h.born x → x.name ≡ name → IsQueued o (entry_of name)
+        by_object x (inl old) same =
+            let n : (y : Node) × (node_of S0 name ≡ Some y) = is_some_of (node_of S0 name) some_ in
+            record { marking = t.queued.marking; object = x; here = old; name = same; node = n.0; there = n.1; within = omega arith; passed = λ le. absurd (omega arith) }
+        by_object x (inr c) same =
+            let none : node_of S0 name ≡ None = ap (λ n. node_of S0 n) (sym same) ∙ (h.new x c).no_snapshot in
+            let bad : IsSome {T = Node} None = subst (λ y. IsSome y) none some_ in
+            absurd cc
+
+        by_value : (v : Option Value) → IsRead P w v → ref_of v ≡ Some name → IsQueued o (entry_of name)
+        by_value None m e = absurd cc
+        by_value (Some value.Nil) m e = absurd cc
+        by_value (Some (value.Number n)) m e = absurd cc
+        by_value (Some (value.Ref n)) m e = let same : n ≡ name = cc in by_object (record { at = m.0; name = n; node = m.2.0 }) m.2.1 same
+
+    -- the entry that moved on is queued well
+    next_queued : (t : Target) (e : Entry) → Contains (moved_on (Some t.node) can.entry) e → IsQueued o e
+    next_queued t e c = by_last (is_last t.node can.entry.position) refl c
+      where
+        more : is_last t.node can.entry.position ≡ false → IsQueued o (record { name = can.entry.name; position = can.entry.position + 1 })
+        more not_last =
+            let parts = or_parts (leb (fields_of t.node) can.entry.position) (eqb can.entry.position 1 && has_result t.node) not_last in
+            let lt : can.entry.position < fields_of t.node = leb-false (fields_of t.node) can.entry.position parts.0 in
+            let same : fields_of t.node ≡ fields_of t.queued.node = same_fields t.queued.node t.node t.later in
+            record {
+              marking = t.queued.marking;
+              object = t.queued.object;
+              here = t.queued.here;
+              name = t.queued.name;
+              node = t.queued.node;
+              there = t.queued.there;
+              within = omega arith;
+              passed = λ le. elim (eqb_tells can.entry.position 1) [
+                | inl one ↦
+                    let none : has_result t.node ≡ false = ap (λ (b : Bool). b && has_result t.node) (sym one.0) ∙ parts.1 in
+                    by_result (has_result t.queued.node) refl none
+                | inr two ↦ t.queued.passed (let ne = two.1 in omega arith)
+              ];
+            }
+          where
+            by_result : (b : Bool) → has_result t.queued.node ≡ b → has_result t.node ≡ false → has_result t.queued.node ≡ false
+            by_result false e none = e
+            by_result true e none = let bad : true ≡ false = sym (t.later.result e) ∙ none in absurd cc
+
+        by_last : (b : Bool) → is_last t.node can.entry.position ≡ b → Contains (cond b [] ((record { name = can.entry.name; position = can.entry.position + 1 }) ∷ [])) e → IsQueued o e
+        by_last true q c = absurd (let lt = c.1 in omega arith)
+        by_last false q c = subst (IsQueued o) (one_is (record { name = can.entry.name; position = can.entry.position + 1 }) e c) (more q)
+
+    pub scan_keeps : Keeps o words (set views id (scanned_by v w))
+    scan_keeps =
+        let t = target in
+        let entry : Entry = can.entry in
+        let r = by_position t entry.position refl in
+        let x : Option Value = read_at (Some t.node) entry.position in
+        let read_is : read_at (node_of S.world entry.name) entry.position ≡ x = ap (λ (y : Option Node). read_at y entry.position) t.there in
+        let f = still_first S0 (marks_of S) (ref_of x) entry can.rest queue_is in
+        let M : Marks = with_name S0 (marks_of S) (ref_of x) in
+        let T : State = mark_read S x in
+        let next : List Entry = record { name = entry.name; position = entry.position + 1 } ∷ [] in
+        let marked : marks_of T ≡ M = mark_is S x ∙ ap (λ (s : World). with_name s (marks_of S) (ref_of x)) snapshot_is in
+        let world : T.world ≡ S.world = (rest_read S x).world in
+        let T_queue : T.queue ≡ entry ∷ f.0 = ap (λ (m : Marks). m.queue) marked ∙ f.1 in
+        let T_node : node_of T.world entry.name ≡ Some t.node = ap (λ (u : World). node_of u entry.name) world ∙ t.there in
+        let scans : after_scan S S.queue ≡ advanced T (entry ∷ f.0) = ap (λ (l : List Entry). after_scan S l) queue_is ∙ ap (λ (y : Option Value). advanced (mark_read S y) (mark_read S y).queue) read_is ∙ ap (λ (l : List Entry). advanced T l) T_queue in
+        let moved : moved_on (node_of T.world entry.name) entry ≡ entry_past (node_of S0 entry.name) entry w =
+        ap (λ (y : Option Node). moved_on y entry) T_node ∙ ap (λ (b : Bool). cond b [] next) (last_same entry.position w t.queued.node t.node t.later r.result) ∙ sym (ap (λ (y : Option Node). entry_past y entry w) t.queued.there) in
+        let marks : marks_of (after_scan S S.queue) ≡ after_word o (marks_of S) (record { entry = entry; word = w }) =
+        ap (λ (s : State). marks_of s) scans ∙ (λ i. record { marked = (marked i).marked; queue = moved i ++ f.0 })
+        ∙ sym (ap (λ (m : Marks). let n : Marks = record { marked = m.marked; queue = first_past S0 m.queue w } in n) (r.name (marks_of S)) ∙ ap (λ (l : List Entry). let n : Marks = record { marked = M.marked; queue = first_past S0 l w } in n) f.1) in
+        let after_queue : (after_scan S S.queue).queue ≡ moved_on (Some t.node) entry ++ f.0 = ap (λ (s : State). s.queue) scans ∙ ap (λ (y : Option Node). moved_on y entry ++ f.0) T_node in
+        let each : (e : Entry) → Contains (after_scan S S.queue).queue e → IsQueued o e =
+        λ e c. elim (Contains-append_cases (moved_on (Some t.node) entry) f.0 e (subst (λ (l : List Entry). Contains l e) after_queue c)) [
+          | inl d ↦ next_queued t e d
+          | inr d ↦ elim (f.2 e d) [
+            | inl old ↦ h.queued e (subst (λ (l : List Entry). Contains l e) (sym queue_is) (contains_tail entry can.rest e old))
+            | inr new ↦ subst (IsQueued o) (sym new.3) (name_queued t entry.position r new.0 new.1 new.2)
+          ]
+        ] in
+        subst (λ (k : Entry). Keeps o words (set views id (scanning v (record { entry = k; word = w })))) (sym (ap (λ (l : List Entry). first_of l) can.first))
+        (scan_law o words views h id v here entry can.rest w x can.collects queue_is read_is r.means r.unset marks each)

@@ -1,0 +1,13 @@
+use Rattle.std.proofs.Common.{◌≡◌, length, ap, arith}
+use Rattle.nmgc_round.specs.Stop.{words_of}
+use Rattle.nmgc_round.proofs.Modes.{write_allows}
+use Rattle.nmgc_round.proofs.words.Words.store.Goals as goal
+
+pub store-requires : goal.store-requires
+store-requires c =
+    let i = c.self.invariant in
+    let p = c.self.inside.seat in
+    let known : length (words_of p) ≡ length c.args.self.now = ap length c.self.view_is in
+    let small = c.requires in
+    let all = i.3 in
+    (i.0, omega arith, write_allows c.self.inside.table.shared.table_id.slots p.id p.me i.1 (words_of p) i.2 c.args.at c.args.word)

@@ -1,0 +1,41 @@
+-- The heap before any command: g stands in its own words, and there is no other object.
+use Rattle.std.specs.Prelude.{◌≡◌, ℕ, ◌+◌, ◌<◌, false, List, [], ◌∷◌, length, replicate, slice_index}
+use Rattle.nmgc_graph.specs.declared.value.TheConstants.{REGISTERS, SHARED_SLOTS}
+use Rattle.nmgc_graph.specs.declared.value.Value.TheVariants.{Nil}
+use Rattle.nmgc_graph.specs.declared.node.Node.{Node}
+use Rattle.nmgc_graph.specs.declared.node.Node.TheVariants.{Arr}
+use Rattle.nmgc_graph.specs.World.{new_world}
+use Rattle.nmgc_graph.specs.Step.{shared_name}
+use Rattle.nmgc_object.specs.Words.{header_word, name_word}
+use Rattle.nmgc_object.specs.Places.{word_total}
+use Rattle.nmgc_object.specs.declared.layout.Layout.{Layout}
+use Rattle.nmgc_object.specs.declared.layout.TheConstants.{SHARED_PLACE}
+use Rattle.nmgc_object.specs.declared.size.TheConstants.{HEADER_WORDS}
+use Rattle.nmgc_object.specs.declared.words.TheConstants.{NIL_WORD}
+use Rattle.nmgc_core.specs.State.{unmarked}
+use Rattle.nmgc_heap.specs.Shape.{header_of}
+use Rattle.nmgc_heap.specs.Places.{Place}
+use Rattle.nmgc_round.specs.View.{Hand, Opening}
+
+-- g, full of nil
+abbrev pub empty_array : Node
+empty_array = Arr (replicate SHARED_SLOTS Nil)
+
+-- where g is
+abbrev pub shared_place : Place
+shared_place = record { at = SHARED_PLACE; name = shared_name }
+
+-- the words of the heap of which nothing was made: g's header, name and slots, and any words beyond
+pub record IsEmptyHeap (layout : Layout) (words : List ℕ) : Type 0 where
+  pub total : length words ≡ word_total layout
+  pub header : slice_index words SHARED_PLACE ≡ header_word (header_of empty_array)
+  pub name : slice_index words (SHARED_PLACE + 1) ≡ name_word shared_name
+  pub slots : (i : ℕ) → i < SHARED_SLOTS → slice_index words (SHARED_PLACE + HEADER_WORDS + i) ≡ NIL_WORD
+
+-- what a mutator has that did nothing
+abbrev pub new_hand : Hand
+new_hand = record { registers = replicate REGISTERS NIL_WORD; queue = []; serial = 0; stacks = [] }
+
+-- the opening of the first round of a run
+abbrev pub first_opening : Layout → Opening
+first_opening layout = record { layout = layout; marking = false; core = unmarked (new_world layout.mutators); places = shared_place ∷ []; hands = replicate layout.mutators new_hand }

@@ -1,0 +1,65 @@
+-- The events of a round: what its mutators and its collector did, in one order, as the core machine's events.
+use Rattle.std.specs.Prelude.{◌≡◌, ℕ, List, [], ◌∷◌, ◌==◌, Option, if◌then◌else◌}
+use Rattle.nmgc_graph.specs.declared.value.Value.{Value}
+use Rattle.nmgc_graph.specs.declared.command.Command.{Command}
+use Rattle.nmgc_graph.specs.declared.command.Reply.{Reply}
+use Rattle.nmgc_graph.specs.World.{node_of}
+use Rattle.nmgc_graph.specs.History.{Row}
+use Rattle.nmgc_core.specs.declared.event.Entry.{Entry}
+use Rattle.nmgc_core.specs.declared.event.Event.{Event}
+use Rattle.nmgc_core.specs.declared.event.Event.TheVariants as event
+use Rattle.nmgc_core.specs.State.{State}
+use Rattle.nmgc_core.specs.Scan.{read_at}
+use Rattle.nmgc_core.specs.Machine.{IsPossible, after_command, after_scan}
+
+-- a command of a mutator with its reply, or a scan of the first entry with what it read
+pub data Happening : Type 0 where
+  did : ℕ → Command → Reply → Happening
+  scanned : Entry → Option Value → Happening
+
+-- the event of the core machine that it is
+abbrev pub event_of : Happening → Event
+event_of (did m c r) = event.Command m c r
+event_of (scanned entry v) = event.Scan
+
+-- the state after it
+abbrev pub after : State → Happening → State
+after s (did m c r) = after_command s m c
+after s (scanned entry v) = after_scan s s.queue
+
+-- the scan is of the first entry, and reads what stands there
+abbrev pub Reads : State → Happening → Type 0
+Reads s (did m c r) = Unit {0}
+Reads s (scanned entry v) = ((rest : List Entry) × (s.queue ≡ entry ∷ rest)) × (read_at (node_of s.world entry.name) entry.position ≡ v)
+
+-- it can happen, and says what happened
+abbrev pub IsLegalIn : State → Happening → Type 0
+IsLegalIn s h = IsPossible s (event_of h) × Reads s h
+
+-- the state after them all
+abbrev pub replay : State → List Happening → State
+replay s [] = s
+replay s (h ∷ hs) = replay (after s h) hs
+
+-- each can happen at its place
+abbrev pub IsLegal : State → List Happening → Type 0
+IsLegal s [] = Unit {0}
+IsLegal s (h ∷ hs) = IsLegalIn s h × IsLegal (after s h) hs
+
+-- a mutator's commands with their replies, in order
+abbrev pub done_by : ℕ → List Happening → List (Command × Reply)
+done_by m [] = []
+done_by m (did k c r ∷ hs) = if k == m then (c, r) ∷ done_by m hs else done_by m hs
+done_by m (scanned entry v ∷ hs) = done_by m hs
+
+-- the commands as rows of a history
+abbrev pub rows_in : List Happening → List Row
+rows_in [] = []
+rows_in (did m c r ∷ hs) = record { mutator = m; command = c; reply = r } ∷ rows_in hs
+rows_in (scanned entry v ∷ hs) = rows_in hs
+
+-- the scans, in order
+abbrev pub scans_in : List Happening → List (Entry × Option Value)
+scans_in [] = []
+scans_in (did m c r ∷ hs) = scans_in hs
+scans_in (scanned entry v ∷ hs) = (entry, v) ∷ scans_in hs

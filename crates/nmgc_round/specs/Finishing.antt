@@ -1,0 +1,56 @@
+-- What holds when a round is over: the rule, of the words and of the seat that has every part.
+use Rattle.std.specs.Prelude.{◌≡◌, true, ℕ, ◌<◌, List, ◌∷◌, ◌++◌, map, length, Contains}
+use mathlib.Core.Option.{some}
+use lib.ListN.{get_elem?}
+use Rattle.nmgc_graph.specs.declared.value.Name.{Name}
+use Rattle.nmgc_graph.specs.declared.node.Node.{Node}
+use Rattle.nmgc_graph.specs.Step.{shared_name}
+use Rattle.nmgc_object.specs.declared.layout.TheConstants.{SHARED_PLACE}
+use Rattle.nmgc_object.specs.Places.{word_total}
+use Rattle.nmgc_core.specs.declared.event.Entry.{Entry}
+use Rattle.nmgc_heap.specs.Places.{Place}
+use Rattle.nmgc_heap.specs.Represents.{Represents}
+use Rattle.nmgc_round.specs.Events.{Happening, IsLegal, done_by, scans_in}
+use Rattle.nmgc_round.specs.View.{Opening, Part, Seen, exclusive}
+use Rattle.nmgc_round.specs.Marking.{marks_of, marks_after}
+use Rattle.nmgc_round.specs.Objects.{Object, place_of, earlier, IsObject, IsIn, Stands}
+use Rattle.nmgc_round.specs.Rule.{now, AllRead, Fits, Rests, IsOpening, ArePlaced, IsNew, IsQueued, AreKnown}
+
+-- there is a list of events for which the words, the parts and the scans of this view stand
+pub record IsFinished (o : Opening) (words : List ℕ) (v : Seen) : Type 0 where
+  pub is : IsOpening o
+  pub placed : ArePlaced o
+  pub events : List Happening
+  pub born : List Object
+  pub legal : IsLegal o.core events
+  pub stands : Stands o born (now o events).world words
+  pub shared : IsIn o born (record { at = SHARED_PLACE; name = shared_name })
+  pub new : (x : Object) → Contains born x → IsNew o x
+  pub known : AreKnown o born (now o events).world
+  pub queued : (entry : Entry) → Contains (now o events).queue entry → IsQueued o entry
+  pub parts : (k : ℕ) (p : Part) → get_elem? v.parts k ≡ some p → Fits o born (now o events) (done_by p.number events) p × Rests o born words p
+  pub scans : v.collects ≡ true → AllRead (IsIn o born) v.scans (scans_in events) × (marks_of (now o events) ≡ marks_after o v.scans)
+
+-- the view has the part of every mutator
+abbrev pub HasEach : Opening → Seen → Type 0
+HasEach o v = (m : ℕ) → m < length o.core.world.mutators → (k : ℕ) × (p : Part) × (get_elem? v.parts k ≡ some p) × (p.number ≡ m)
+
+-- the view has every part of its round
+abbrev pub HasAll : Seen → Type 0
+HasAll v = (v.collects ≡ true) × HasEach v.opening v
+
+-- the round of the view v has ended, and w is the only seat's
+abbrev pub Ended : Seen → Seen → Type 0
+Ended v w = (w ≡ exclusive w.words) × IsFinished v.opening w.words v × (length w.words ≡ word_total v.opening.layout)
+
+-- the places in use by then
+abbrev pub places_then : Opening → List Object → List Place
+places_then o born = o.places ++ map place_of born
+
+-- the nodes with which the round knows its objects: the fields of them that never change still stand
+abbrev pub IsKeptThen : Opening → List Object → Name → Node → Type 0
+IsKeptThen o born name before = (x : Object) × IsObject o born x × (x.name ≡ name) × (before ≡ x.node)
+
+-- what a round leaves to whoever knows this: there is one list of events for it, and the words represent the world after them
+abbrev pub Leaves : Opening → List ℕ → Seen → Type 0
+Leaves o words v = (h : IsFinished o words v) × Represents o.layout (o.core.world ∷ earlier o) (IsKeptThen o h.born) (places_then o h.born) (now o h.events).world words

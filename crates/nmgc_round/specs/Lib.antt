@@ -1,0 +1,15 @@
+pub mod Empty
+pub mod Events
+pub mod Finishing
+pub mod Making
+pub mod Marking
+pub mod Naming
+pub mod Objects
+pub mod Ready
+pub mod Rule
+pub mod Seat
+pub mod Seating
+pub mod Starting
+pub mod Stop
+pub mod Told
+pub mod View

@@ -1,0 +1,113 @@
+-- The objects of a round, and words that stand for a world while it runs.
+--
+-- An object is known by the node with which the round began or with which it was born. That node settles for
+-- the whole round where its words end, and which of them never change.
+use Rattle.std.specs.Prelude.{◌≡◌, ◌⊎◌, ℕ, ◌+◌, ◌<◌, ◌≤◌, List, [], ◌∷◌, length, slice_index, Contains, true, Some, if◌then◌else◌}
+use mathlib.Core.Logic.{inl, inr}
+use Rattle.nmgc_graph.specs.declared.value.Name.{Name}
+use Rattle.nmgc_graph.specs.declared.value.Value.{Value}
+use Rattle.nmgc_graph.specs.declared.node.Node.{Node}
+use Rattle.nmgc_graph.specs.declared.node.Node.TheVariants.{Thunk, Weak}
+use Rattle.nmgc_graph.specs.declared.node.Parts.{Parts}
+use Rattle.nmgc_reach.specs.Holds.{has_result}
+use Rattle.nmgc_graph.specs.World.{World, node_of, IsSized}
+use Rattle.nmgc_object.specs.Words.{header_word, IsHeader}
+use Rattle.nmgc_object.specs.Places.{word_total}
+use Rattle.nmgc_object.specs.declared.size.TheConstants.{HEADER_WORDS}
+use Rattle.nmgc_heap.specs.Shape.{header_of, size_of, slots_of, fixed_slots, free_slots}
+use Rattle.nmgc_heap.specs.Tracked.{IsTracked}
+use Rattle.nmgc_reach.specs.Wide.{IsWide}
+use Rattle.nmgc_heap.specs.Places.{Place, HasSlots, LiesWell}
+use Rattle.nmgc_heap.specs.Represents.{IsNamed}
+use Rattle.nmgc_round.specs.View.{Opening}
+
+-- an object: where it begins, its name, and the first node that the round knows of it
+pub record Object : Type 0 where
+  pub at : ℕ
+  pub name : Name
+  pub node : Node
+
+abbrev pub place_of : Object → Place
+place_of x = record { at = x.at; name = x.name }
+
+-- where its words end
+abbrev pub end_of : Object → ℕ
+end_of x = x.at + size_of x.node
+
+-- the earlier worlds of which the collector still speaks
+abbrev pub earlier : Opening → List World
+earlier o = if o.marking then o.core.snapshot ∷ [] else []
+
+-- an object that was there as the round began, and whose name was tracked
+pub record IsOld (o : Opening) (x : Object) : Type 0 where
+  pub there : Contains o.places (place_of x)
+  pub tracked : IsTracked o.core.world (earlier o) x.name
+  pub node : node_of o.core.world x.name ≡ Some x.node
+
+-- the objects of a round: those, and the ones born since
+abbrev pub IsObject : Opening → List Object → Object → Type 0
+IsObject o born x = IsOld o x ⊎ Contains born x
+
+-- a thunk's free variables
+abbrev pub free_of : Node → List Value
+free_of (Thunk free result) = free
+free_of _ = []
+
+-- the node of one object at two times: header and free variables are the same, a result stays, and an alive weak pointer was alive with the same parts
+pub record IsLater (before later : Node) : Type 0 where
+  pub header : header_of later ≡ header_of before
+  pub free : free_of later ≡ free_of before
+  pub result : has_result before ≡ true → has_result later ≡ true
+  pub alive : (parts : Parts) → later ≡ Weak (Some parts) → before ≡ Weak (Some parts)
+
+-- the place of one of these objects
+abbrev pub IsIn : Opening → List Object → Place → Type 0
+IsIn o born p = (node : Node) × IsObject o born (record { at = p.at; name = p.name; node = node })
+
+-- a place in use: one of those of the opening, or where an object was born
+abbrev pub IsPlace : Opening → List Object → Place → Type 0
+IsPlace o born p = Contains o.places p ⊎ ((x : Object) × Contains born x × (place_of x ≡ p))
+
+-- the node that the object had in the snapshot, while marking
+pub record IsSnapshot (o : Opening) (x : Object) (node : Node) : Type 0 where
+  pub marking : o.marking ≡ true
+  pub wide : IsWide o.core.snapshot x.name
+  pub there : node_of o.core.snapshot x.name ≡ Some node
+
+-- an earlier node of the object whose unchanging fields still stand: its first one, or the snapshot's
+abbrev pub IsKept : Opening → Object → Node → Type 0
+IsKept o x node = (node ≡ x.node) ⊎ IsSnapshot o x node
+
+-- what of it still stands: of the first all fields that never change, of the snapshot's the free variables
+abbrev pub KeepsOf : (o : Opening) (x : Object) (before : Node) → (Place → Type 0) → List ℕ → ℕ → IsKept o x before → Type 0
+KeepsOf o x before P words from (inl e) = HasSlots P words from (fixed_slots before)
+KeepsOf o x before P words from (inr s) = HasSlots P words from (free_slots before)
+
+-- where the object lies: no other place is among its words
+pub record IsApart (o : Opening) (born : List Object) (x : Object) : Type 0 where
+  pub valid : IsHeader (header_of x.node)
+  pub lies : LiesWell o.layout (place_of x) (size_of x.node)
+  pub alone : (q : Place) → IsPlace o born q → (q.at ≤ x.at) ⊎ (end_of x ≤ q.at)
+
+-- the object stands in the words: its header, the fields that its node has now, and those that never change
+pub record IsStanding (o : Opening) (born : List Object) (w : World) (words : List ℕ) (x : Object) : Type 0 where
+  pub header : slice_index words x.at ≡ header_word (header_of x.node)
+  pub node : Node
+  pub there : node_of w x.name ≡ Some node
+  pub later : IsLater x.node node
+  pub sized : IsSized node
+  pub fields : HasSlots (IsIn o born) words (x.at + HEADER_WORDS) (slots_of node)
+  pub kept : (before : Node) (k : IsKept o x before) → IsLater before x.node × KeepsOf o x before (IsIn o born) words (x.at + HEADER_WORDS) k
+
+-- words stand for a world in a round
+pub record Stands (o : Opening) (born : List Object) (w : World) (words : List ℕ) : Type 0 where
+  pub total : length words ≡ word_total o.layout
+  pub one : (p q : Place) → IsPlace o born p → IsPlace o born q → (p.name ≡ q.name) ⊎ (p.at ≡ q.at) → p ≡ q
+  pub named : (p : Place) → IsPlace o born p → IsNamed o.layout w words p
+  pub apart : (x : Object) → IsObject o born x → IsApart o born x
+  pub objects : (x : Object) → IsObject o born x → IsStanding o born w words x
+
+-- the word is in no object, and is neither the header nor the name of any place in use
+pub record IsFree (o : Opening) (born : List Object) (i : ℕ) : Type 0 where
+  pub objects : (x : Object) → IsObject o born x → (i < x.at) ⊎ (end_of x ≤ i)
+  pub places : (q : Place) → IsPlace o born q → (i < q.at) ⊎ (q.at + HEADER_WORDS ≤ i)

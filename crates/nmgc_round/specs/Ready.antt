@@ -1,0 +1,116 @@
+-- When a step may be taken, by what its seat knows.
+use Rattle.std.specs.Prelude.{◌≡◌, ◌≢◌, ℕ, ◌+◌, ◌-◌, ◌*◌, ◌<◌, ◌≤◌, ◌^◌, true, false, List, [], ◌∷◌, Contains, slice_get, Some}
+use Rattle.nmgc_graph.specs.declared.node.Kind.{Kind}
+use Rattle.nmgc_graph.specs.declared.node.Kind.TheVariants as kind
+use Rattle.nmgc_graph.specs.declared.command.Operand.{Operand}
+use Rattle.nmgc_graph.specs.declared.command.Command.{Command}
+use Rattle.nmgc_graph.specs.declared.command.Command.TheVariants.{Get, Set}
+use Rattle.nmgc_graph.specs.Command.{Fits, IsMaking, words_made}
+use Rattle.nmgc_object.specs.Words.{header_word, name_word, IsHeader}
+use Rattle.nmgc_object.specs.declared.words.Header.{Header}
+use Rattle.nmgc_object.specs.declared.size.TheConstants.{HEADER_WORDS}
+use Rattle.nmgc_graph.specs.Step.{shared_name}
+use Rattle.nmgc_core.specs.declared.event.Entry.{Entry}
+use Rattle.nmgc_core.specs.State.{entry_of}
+use Rattle.nmgc_round.specs.Marking.{marks_after, offset_of}
+use Rattle.nmgc_round.specs.View.{scanning, UnbornWord, Opening, Part, Seen, hand_now, word_of, next_of}
+use Rattle.nmgc_round.specs.Making.{header_made, fields_made}
+use Rattle.nmgc_round.specs.Rule.{top_of, limit_of}
+
+-- the seat is one mutator's
+pub record IsMutator (v : Seen) (p : Part) : Type 0 where
+  pub alone : v.parts ≡ p ∷ []
+  pub no_collector : v.collects ≡ false
+
+-- the seat is that of the mutator of this number
+abbrev pub HasPart : Seen → ℕ → Type 0
+HasPart v m = (p : Part) × IsMutator v p × (p.number ≡ m)
+
+-- the mutator may give the command: a script for this layout may have it, and one more object has a serial
+pub record CanGive (o : Opening) (p : Part) (c : Command) : Type 0 where
+  pub fits : Fits o.layout.words c
+  pub serial : (hand_now o p).serial < 2 ^ 32 - 1
+
+-- the word of an operand of the mutator
+abbrev pub operand_word : Opening → Part → Operand → ℕ
+operand_word o p operand = word_of (hand_now o p).registers operand
+
+-- the seat names the header at a place
+pub record Names (p : Part) (at : ℕ) (header : Header) : Type 0 where
+  pub valid : IsHeader header
+  pub there : Contains p.fixed (record { at = at; offset = 0; word = header_word header })
+
+-- fields that `set` writes, and that `get` reads
+abbrev pub IsWritable : Kind → Type 0
+IsWritable kind.Var = Unit {0}
+IsWritable kind.Arr = Unit {0}
+IsWritable _ = ⊥
+
+abbrev pub IsReadable : Kind → Type 0
+IsReadable kind.Con = Unit {0}
+IsReadable kind.Var = Unit {0}
+IsReadable kind.Arr = Unit {0}
+IsReadable _ = ⊥
+
+-- `set` of this field by this word
+pub record CanSwap (o : Opening) (p : Part) (at index w : ℕ) (c : Command) : Type 0 where
+  pub gives : CanGive o p c
+  pub object : Operand
+  pub value : Operand
+  pub command : c ≡ Set object index value
+  pub object_word : operand_word o p object ≡ 2 * at
+  pub value_word : operand_word o p value ≡ w
+  pub header : Header
+  pub names : Names p at header
+  pub kind : IsWritable header.kind
+  pub within : index < header.fields
+
+-- `get` of this field
+pub record CanLoad (o : Opening) (p : Part) (at index : ℕ) (c : Command) : Type 0 where
+  pub gives : CanGive o p c
+  pub dest : ℕ
+  pub object : Operand
+  pub command : c ≡ Get dest object index
+  pub object_word : operand_word o p object ≡ 2 * at
+  pub header : Header
+  pub names : Names p at header
+  pub kind : IsReadable header.kind
+  pub within : index < header.fields
+
+-- the word lies in the rest of the own nursery, and was not stored yet
+pub record CanStore (o : Opening) (p : Part) (at : ℕ) : Type 0 where
+  pub from : top_of o p ≤ at
+  pub to : at < limit_of o p.number
+  pub fresh : (u : UnbornWord) → Contains p.unborn u → u.at ≢ at
+
+-- the name and the fields of the new object were stored where it is to begin
+pub record CanBear (o : Opening) (p : Part) (at header : ℕ) (c : Command) : Type 0 where
+  pub gives : CanGive o p c
+  pub makes : IsMaking c
+  pub header_is : header ≡ header_word (header_made c)
+  pub from : at ≡ top_of o p
+  pub to : at + words_made c ≤ limit_of o p.number
+  pub name : Contains p.unborn (record { at = at + 1; word = name_word (next_of o p) })
+  pub fields : (i w : ℕ) → slice_get (fields_made (hand_now o p).registers c) i ≡ Some w → Contains p.unborn (record { at = at + HEADER_WORDS + i; word = w })
+
+-- the seat is one mutator's, and its part has this
+abbrev pub Mutates : (Opening → Part → Type 0) → Seen → Type 0
+Mutates R v = (p : Part) × IsMutator v p × R v.opening p
+
+-- the first queue entry is the object at this place, and the word is its next position
+pub record CanScan (v : Seen) (at offset : ℕ) : Type 0 where
+  pub collects : v.collects ≡ true
+  pub entry : Entry
+  pub rest : List Entry
+  pub first : (marks_after v.opening v.scans).queue ≡ entry ∷ rest
+  pub there : Contains v.opening.places (record { at = at; name = entry.name })
+  pub position : offset ≡ offset_of entry.position
+
+-- the first entry of a queue
+abbrev pub first_of : List Entry → Entry
+first_of [] = entry_of shared_name
+first_of (entry ∷ rest) = entry
+
+-- the view of a collector after a scan that found this word
+abbrev pub scanned_by : Seen → ℕ → Seen
+scanned_by v w = scanning v (record { entry = first_of (marks_after v.opening v.scans).queue; word = w })

@@ -1,0 +1,195 @@
+-- The rule of the table: it is stopped, or there is a list of events of a round for which the words and all views stand.
+use Rattle.std.specs.Prelude.{◌≡◌, ◌⊎◌, ℕ, ◌+◌, ◌<◌, ◌≤◌, Bool, true, false, List, [], ◌∷◌, length, slice_index, Contains, Option, Some, None, IsSome}
+use mathlib.Core.Option.{some}
+use lib.ListN.{get_elem?}
+use Rattle.nmgc_graph.specs.declared.value.Name.{Name}
+use Rattle.nmgc_graph.specs.declared.value.Value.{Value}
+use Rattle.nmgc_graph.specs.declared.node.Node.{Node}
+use Rattle.nmgc_graph.specs.declared.node.Node.TheVariants.{Stack}
+use Rattle.nmgc_graph.specs.declared.command.Command.{Command}
+use Rattle.nmgc_graph.specs.declared.command.Reply.{Reply}
+use Rattle.nmgc_graph.specs.declared.command.Reply.TheVariants.{Given}
+use Rattle.nmgc_graph.specs.World.{World, state_of, node_of, serial_of}
+use Rattle.nmgc_graph.specs.Step.{shared_name}
+use Rattle.nmgc_object.specs.Places.{IsLayout, nursery_place}
+use Rattle.nmgc_object.specs.declared.layout.TheConstants.{SHARED_PLACE}
+use Rattle.nmgc_object.specs.declared.size.TheConstants.{HEADER_WORDS}
+use Rattle.nmgc_core.specs.declared.event.Entry.{Entry}
+use Rattle.nmgc_core.specs.State.{State, names_of}
+use Rattle.nmgc_reach.specs.Owed.{names_among}
+use Rattle.nmgc_heap.specs.Shape.{header_of, size_of, MayChange}
+use Rattle.nmgc_heap.specs.Places.{Place, Means, ListMeans}
+use Rattle.nmgc_round.specs.Events.{Happening, replay, IsLegal, done_by, scans_in}
+use Rattle.nmgc_round.specs.View.{Answer, plain, word, Row, Slots, Hand, FixedWord, UnbornWord, Scan, Opening, Part, Seen, exclusive, hand_now}
+use Rattle.nmgc_core.specs.Scan.{fields_of}
+use Rattle.nmgc_reach.specs.Holds.{has_result}
+use Rattle.nmgc_heap.specs.Tracked.{IsTracked}
+use Rattle.nmgc_reach.specs.Wide.{IsWide}
+use Rattle.nmgc_round.specs.Marking.{marks_of, marks_after}
+use Rattle.nmgc_round.specs.Objects.{Object, end_of, earlier, IsOld, IsLater, IsObject, IsIn, Stands}
+
+-- the state after events
+abbrev pub now : Opening → List Happening → State
+now o es = replay o.core es
+
+-- what an answer means
+abbrev pub Answers : (Place → Type 0) → Answer → Reply → Type 0
+Answers P (plain r) reply = r ≡ reply
+Answers P (word w) reply = (v : Value) × (Given v ≡ reply) × Means P w v
+
+-- rows say what happened, one by one
+abbrev pub AllAnswer : (Place → Type 0) → List Row → List (Command × Reply) → Type 0
+AllAnswer P [] [] = Unit {0}
+AllAnswer P [] (x ∷ xs) = ⊥
+AllAnswer P (r ∷ rs) [] = ⊥
+AllAnswer P (r ∷ rs) (x ∷ xs) = ((r.command ≡ x.0) × Answers P r.answer x.1) × AllAnswer P rs xs
+
+-- a word that was read at a position: the header has no value, and an unset field none
+abbrev pub IsRead : (Place → Type 0) → ℕ → Option Value → Type 0
+IsRead P w None = Unit {0}
+IsRead P w (Some v) = Means P w v
+
+-- scans say what was read, one by one: position 0 is the header, and an unset field has no value
+abbrev pub AllRead : (Place → Type 0) → List Scan → List (Entry × Option Value) → Type 0
+AllRead P [] [] = Unit {0}
+AllRead P [] (x ∷ xs) = ⊥
+AllRead P (s ∷ ss) [] = ⊥
+AllRead P (s ∷ ss) (x ∷ xs) = ((s.entry ≡ x.0) × IsRead P s.word x.1 × (x.1 ≡ None → 1 ≤ s.entry.position → s.word ≡ 0)) × AllRead P ss xs
+
+-- words of values whose references are these names
+abbrev pub AreOwed : (Place → Type 0) → List ℕ → List Name → Type 0
+AreOwed P ws names = (values : List Value) × ListMeans P ws values × (names_among values ≡ names)
+
+-- what a seat owes: while marking what the core machine says, and else nothing
+abbrev pub Owes : Bool → (Place → Type 0) → List ℕ → List Name → Type 0
+Owes true P ws names = AreOwed P ws names
+Owes false P ws names = ws ≡ []
+
+-- the values of an own stack
+pub record IsStack (o : Opening) (born : List Object) (w : World) (m : ℕ) (s : Slots) : Type 0 where
+  pub object : Object
+  pub here : IsObject o born object
+  pub at : object.at ≡ s.at
+  pub own : object.name.maker ≡ m
+  pub size : ℕ
+  pub values : List Value
+  pub there : node_of w object.name ≡ Some (Stack size values)
+  pub means : ListMeans (IsIn o born) s.words values
+
+-- what a mutator has in the world is what its rows leave
+pub record IsHand (o : Opening) (born : List Object) (w : World) (m : ℕ) (h : Hand) : Type 0 where
+  pub registers : ListMeans (IsIn o born) h.registers (state_of w m).registers
+  pub queue : ListMeans (IsIn o born) h.queue (state_of w m).queue
+  pub serial : h.serial ≡ serial_of w m
+  pub stacks : (s : Slots) → Contains h.stacks s → IsStack o born w m s
+
+-- a part agrees with the state and with what its mutator did
+pub record Fits (o : Opening) (born : List Object) (s : State) (done : List (Command × Reply)) (p : Part) : Type 0 where
+  pub exists : p.number < length s.world.mutators
+  pub owing : p.number < length s.owed
+  pub rows : AllAnswer (IsIn o born) p.rows done
+  pub hand : IsHand o born s.world p.number (hand_now o p)
+  pub owed : Owes o.marking (IsIn o born) p.owed (names_of s.owed p.number)
+
+-- a mutator's nursery, and the first word of it that no object has
+abbrev pub base_of : Opening → ℕ → ℕ
+base_of o m = nursery_place o.layout m
+
+abbrev pub limit_of : Opening → ℕ → ℕ
+limit_of o m = nursery_place o.layout m + o.layout.nursery
+
+abbrev pub top_of : Opening → Part → ℕ
+top_of o p = base_of o p.number + p.used
+
+-- the word never changes in a round: header, name, or a field that may not
+pub record IsFixed (o : Opening) (born : List Object) (at offset : ℕ) : Type 0 where
+  pub object : Object
+  pub here : IsObject o born object
+  pub is_at : object.at ≡ at
+  pub within : offset < size_of object.node
+  pub fixed : (i : ℕ) → offset ≡ HEADER_WORDS + i → MayChange (header_of object.node).kind i → ⊥
+
+-- a part agrees with the words: its nursery's objects end where the rest begins, and the words that it names stand as they were stored or loaded
+pub record Rests (o : Opening) (born : List Object) (words : List ℕ) (p : Part) : Type 0 where
+  pub exists : p.number < o.layout.mutators
+  pub room : top_of o p ≤ limit_of o p.number
+  pub below : (x : Object) → Contains born x → x.name.maker ≡ p.number → end_of x ≤ top_of o p
+  pub unborn : (u : UnbornWord) → Contains p.unborn u → (slice_index words u.at ≡ u.word) × (top_of o p ≤ u.at) × (u.at < limit_of o p.number)
+  pub fixed : (f : FixedWord) → Contains p.fixed f → IsFixed o born f.at f.offset × (slice_index words (f.at + f.offset) ≡ f.word)
+
+-- the seat has a part in the round
+abbrev pub IsActive : Seen → Type 0
+IsActive v = ((k : ℕ) × (p : Part) × (get_elem? v.parts k ≡ some p)) ⊎ (v.collects ≡ true)
+
+-- the seat has no part in a round, and is not the only one
+abbrev pub IsIdle : Seen → Type 0
+IsIdle v = (v.is_sole ≡ false) × (v.parts ≡ []) × (v.collects ≡ false)
+
+-- what one view says is so; each mutator's part is with one seat, and the scans are with one
+pub record Agrees (o : Opening) (born : List Object) (words : List ℕ) (es : List Happening) (owner : ℕ → ℕ) (scanner : ℕ) (id : ℕ) (v : Seen) : Type 0 where
+  pub shares : v.is_sole ≡ false
+  pub opening : IsActive v → v.opening ≡ o
+  pub parts : (k : ℕ) (p : Part) → get_elem? v.parts k ≡ some p → (owner p.number ≡ id) × Fits o born (now o es) (done_by p.number es) p × Rests o born words p
+  pub scans : v.collects ≡ true → (scanner ≡ id) × AllRead (IsIn o born) v.scans (scans_in es) × (marks_of (now o es) ≡ marks_after o v.scans)
+
+-- every name that was tracked as the round began has a place
+abbrev pub ArePlaced : Opening → Type 0
+ArePlaced o = (name : Name) (node : Node) → IsTracked o.core.world (earlier o) name → node_of o.core.world name ≡ Some node → (at : ℕ) × Contains o.places (record { at = at; name = name })
+
+-- an object born in the round: its name is new, and it lies in its maker's nursery
+pub record IsNew (o : Opening) (x : Object) : Type 0 where
+  pub unknown : node_of o.core.world x.name ≡ None
+  pub no_snapshot : node_of o.core.snapshot x.name ≡ None
+  pub maker : x.name.maker < o.layout.mutators
+  pub from : base_of o x.name.maker ≤ x.at
+  pub to : end_of x ≤ limit_of o x.name.maker
+
+-- what holds of an opening whatever happens
+pub record IsOpening (o : Opening) : Type 0 where
+  pub layout : IsLayout o.layout
+  pub not_closed : o.core.is_closed ≡ false
+  pub mutators : length o.core.world.mutators ≡ o.layout.mutators
+  pub owed : length o.core.owed ≡ o.layout.mutators
+  pub snapshot : (m : ℕ) → serial_of o.core.snapshot m ≤ serial_of o.core.world m
+  pub wide : o.marking ≡ true → (x : Object) → IsOld o x → IsSome (node_of o.core.snapshot x.name) → IsWide o.core.snapshot x.name
+  pub in_segments : (p : Place) → Contains o.places p → (m : ℕ) → m < o.layout.mutators → (p.at < base_of o m) ⊎ (limit_of o m ≤ p.at)
+
+-- a queued name has its object, and a node in the snapshot; its next position is one that the node has, and past a thunk's result only where there was none
+pub record IsQueued (o : Opening) (entry : Entry) : Type 0 where
+  pub marking : o.marking ≡ true
+  pub object : Object
+  pub here : IsOld o object
+  pub name : object.name ≡ entry.name
+  pub node : Node
+  pub there : node_of o.core.snapshot entry.name ≡ Some node
+  pub within : entry.position ≤ fields_of node
+  pub passed : 2 ≤ entry.position → has_result node ≡ false
+
+-- every node of the world is a later one of a node that was there as the round began, or that of an object born since
+abbrev pub AreKnown : Opening → List Object → World → Type 0
+AreKnown o born w = (name : Name) (node : Node) → node_of w name ≡ Some node → ((before : Node) × (node_of o.core.world name ≡ Some before) × IsLater before node) ⊎ ((x : Object) × Contains born x × (x.name ≡ name))
+
+-- the rule of a round with this opening
+pub record Keeps (o : Opening) (words : List ℕ) (views : List Seen) : Type 0 where
+  pub is : IsOpening o
+  pub placed : ArePlaced o
+  pub events : List Happening
+  pub born : List Object
+  pub owner : ℕ → ℕ
+  pub scanner : ℕ
+  pub legal : IsLegal o.core events
+  pub stands : Stands o born (now o events).world words
+  pub shared : IsIn o born (record { at = SHARED_PLACE; name = shared_name })
+  pub new : (x : Object) → Contains born x → IsNew o x
+  pub known : AreKnown o born (now o events).world
+  pub queued : (entry : Entry) → Contains (now o events).queue entry → IsQueued o entry
+  pub agrees : (id : ℕ) (v : Seen) → get_elem? views id ≡ some v → Agrees o born words events owner scanner id v
+
+-- between rounds one seat knows the words, and the others have no part
+pub record Stopped (words : List ℕ) (views : List Seen) : Type 0 where
+  pub holder : ℕ
+  pub each : (id : ℕ) (v : Seen) → get_elem? views id ≡ some v → ((id ≡ holder) × (v ≡ exclusive words)) ⊎ IsIdle v
+
+-- the rule of the table: it is stopped, or in a round with some opening
+abbrev pub Holding : List ℕ → List Seen → Type 0
+Holding words views = Stopped words views ⊎ ((o : Opening) × Keeps o words views)

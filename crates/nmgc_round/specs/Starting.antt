@@ -1,0 +1,29 @@
+-- When a round may start: the words represent the world, and what is outside them stands for it.
+use Rattle.std.specs.Prelude.{◌≡◌, ℕ, ◌<◌, List, [], length, Contains, Some}
+use Rattle.nmgc_graph.specs.declared.node.Node.{Node}
+use Rattle.nmgc_graph.specs.World.{IsWorld, state_of, node_of, serial_of}
+use Rattle.nmgc_core.specs.declared.event.Entry.{Entry}
+use Rattle.nmgc_core.specs.State.{names_of}
+use Rattle.nmgc_heap.specs.Places.{ListMeans}
+use Rattle.nmgc_heap.specs.Represents.{Represents, NoNode}
+use Rattle.nmgc_round.specs.View.{Hand, Opening, hand_of}
+use Rattle.nmgc_round.specs.Objects.{Object, IsLater, IsSnapshot, earlier}
+use Rattle.nmgc_round.specs.Rule.{IsOpening, IsQueued}
+
+-- what a mutator has stands for what it has in the world; that it may have stacks of its own is left out until they are built
+pub record HandStands (o : Opening) (m : ℕ) (h : Hand) : Type 0 where
+  pub registers : ListMeans (Contains o.places) h.registers (state_of o.core.world m).registers
+  pub queue : ListMeans (Contains o.places) h.queue (state_of o.core.world m).queue
+  pub serial : h.serial ≡ serial_of o.core.world m
+  pub stacks : h.stacks ≡ []
+
+-- a round may start with these words
+pub record CanOpen (o : Opening) (words : List ℕ) : Type 0 where
+  pub is : IsOpening o
+  pub world : IsWorld o.core.world
+  pub represents : Represents o.layout (earlier o) NoNode o.places o.core.world words
+  pub count : length o.hands ≡ o.layout.mutators
+  pub hands : (m : ℕ) → m < o.layout.mutators → HandStands o m (hand_of o.hands m)
+  pub older : (x : Object) (before : Node) → IsSnapshot o x before → node_of o.core.world x.name ≡ Some x.node → IsLater before x.node
+  pub owed : (m : ℕ) → names_of o.core.owed m ≡ []
+  pub queued : (entry : Entry) → Contains o.core.queue entry → IsQueued o entry

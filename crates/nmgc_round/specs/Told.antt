@@ -1,0 +1,110 @@
+-- Commands that take their place at a fixed load of word 1: what they answer, by what the seat knows.
+-- They read no word that changes. (`nextfin` joins them with the finaliser queues.) A refusal rests on the header of its object.
+use Rattle.std.specs.Prelude.{◌≡◌, ◌⊎◌, ℕ, zero, suc, ◌+◌, ◌<◌, ◌*◌, ◌/◌, ◌%◌, ◌≤◌, ◌==◌, ◌&&◌, nat_le, List, [], ◌∷◌, if◌then◌else◌}
+use Rattle.nmgc_graph.specs.declared.value.Name.{Name}
+use Rattle.nmgc_graph.specs.declared.node.Kind.TheVariants as kind
+use Rattle.nmgc_graph.specs.declared.command.Operand.{Operand}
+use Rattle.nmgc_graph.specs.declared.command.Command.{Command}
+use Rattle.nmgc_graph.specs.declared.command.Command.TheVariants.{Num, Nil, Mov, Get, Set, Show, Same, Yield, Collect, Full}
+use Rattle.nmgc_graph.specs.declared.command.Reply.{Reply}
+use Rattle.nmgc_graph.specs.declared.command.Reply.TheVariants.{Fine, Yes, No, NoPointer, NoField, WrongKind, Fixed}
+use Rattle.nmgc_object.specs.Words.{kind_number, header_word, name_word, IsHeader, IsName}
+use Rattle.nmgc_object.specs.declared.words.Header.{Header}
+use Rattle.nmgc_object.specs.declared.words.TheConstants.{TAG_UNIT}
+use Rattle.nmgc_object.specs.declared.size.TheConstants.{HEADER_WORDS}
+use Rattle.nmgc_object.specs.declared.layout.TheConstants.{SHARED_PLACE}
+use Rattle.nmgc_object.specs.Places.{word_total}
+use Rattle.nmgc_heap.specs.Shape.{MayChange}
+use Rattle.nmgc_round.specs.View.{Answer, plain, word, FixedWord, Hand, Opening, Part, Seen, hand_now, word_of, changing, doing, loaded, answered}
+use Rattle.nmgc_round.specs.Ready.{CanGive, CanLoad, Names, IsReadable, IsWritable, operand_word}
+
+-- the header word that is named at a place, or 0
+abbrev pub header_at : List FixedWord → ℕ → ℕ
+header_at [] at = 0
+header_at (f ∷ fs) at = if (f.at == at) && (f.offset == 0) then f.word else header_at fs at
+
+-- why `get` and `set` are refused at an object with this header word
+abbrev pub get_refusal : ℕ → Reply
+get_refusal header = if nat_le (header % TAG_UNIT) (kind_number kind.Arr) then NoField else WrongKind
+
+abbrev pub set_refusal : ℕ → Reply
+set_refusal header = if header % TAG_UNIT == kind_number kind.Con then Fixed else get_refusal header
+
+-- a refusal at the object that a word refers to, if it refers to one
+abbrev pub refused : List FixedWord → ℕ → (ℕ → Reply) → Answer
+refused fixed w refusal = if w % 2 == 0 then plain (refusal (header_at fixed (w / 2))) else plain NoPointer
+
+-- what a command answers there
+abbrev pub told_by : Hand → List FixedWord → Command → Answer
+told_by h fixed (Get dest object index) = refused fixed (word_of h.registers object) get_refusal
+told_by h fixed (Set object index v) = refused fixed (word_of h.registers object) set_refusal
+told_by h fixed (Show v) = word (word_of h.registers v)
+told_by h fixed (Same left right) = plain (if word_of h.registers left == word_of h.registers right then Yes else No)
+told_by h fixed _ = plain Fine
+
+-- the object is refused: it is none, or it has a header that doesn't do
+abbrev pub IsRefused : Opening → Part → Operand → (Header → Type 0) → Type 0
+IsRefused o p object bad = (operand_word o p object % 2 ≡ 1) ⊎ ((at : ℕ) × (header : Header) × (operand_word o p object ≡ 2 * at) × Names p at header × bad header)
+
+-- a command takes its place there
+abbrev pub IsTold : Opening → Part → Command → Type 0
+IsTold o p (Num dest n) = Unit {0}
+IsTold o p (Nil dest) = Unit {0}
+IsTold o p (Mov dest v) = Unit {0}
+IsTold o p (Get dest object index) = IsRefused o p object (λ header. IsReadable header.kind → header.fields ≤ index)
+IsTold o p (Set object index v) = IsRefused o p object (λ header. IsWritable header.kind → header.fields ≤ index)
+IsTold o p (Show v) = Unit {0}
+IsTold o p (Same left right) = Unit {0}
+IsTold o p Yield = Unit {0}
+IsTold o p Collect = Unit {0}
+IsTold o p Full = Unit {0}
+IsTold o p _ = ⊥
+
+pub record CanTell (o : Opening) (p : Part) (c : Command) : Type 0 where
+  pub gives : CanGive o p c
+  pub told : IsTold o p c
+
+-- the view after it
+abbrev pub told : Seen → Command → Seen
+told v c = changing (λ p. doing p c (told_by (hand_now v.opening p) p.fixed c) []) v
+
+-- a fixed word that the mutator may load: header or name of an object that an operand refers to, or a field that never changes, of an object whose header it names
+abbrev pub CanFix : Opening → Part → ℕ → ℕ → Type 0
+CanFix o p at offset =
+    ((object : Operand) × (operand_word o p object ≡ 2 * at) × (offset < HEADER_WORDS))
+    ⊎ ((header : Header) × (i : ℕ) × Names p at header × (offset ≡ HEADER_WORDS + i) × (i < header.fields) × (MayChange header.kind i → ⊥))
+
+-- a command takes its place at a fixed load: word 1, which is the header of g, or the field of a constructor that it reads
+abbrev pub CanTake : Opening → Part → ℕ → ℕ → Command → Type 0
+CanTake o p at offset c =
+    ((at ≡ SHARED_PLACE) × (offset ≡ 0) × CanTell o p c)
+    ⊎ ((i : ℕ) × (offset ≡ HEADER_WORDS + i) × ((can : CanLoad o p at i c) × (can.header.kind ≡ kind.Con)))
+
+-- the view after it
+abbrev pub taken : Seen → ℕ → ℕ → Command → ℕ → Seen
+taken v at zero c w = loaded (told v c) at zero w
+taken v at (suc offset) c w = loaded (answered v c (word w)) at (suc offset) w
+
+-- a word that was loaded at offset 0 is a header, and its object's words are within the words
+pub record TellsHeader (o : Opening) (at w : ℕ) : Type 0 where
+  pub header : Header
+  pub valid : IsHeader header
+  pub word_is : w ≡ header_word header
+  pub room : at + HEADER_WORDS + header.fields ≤ word_total o.layout
+
+-- a word that was loaded at offset 1 is a name
+pub record TellsName (w : ℕ) : Type 0 where
+  pub name : Name
+  pub valid : IsName name
+  pub word_is : w ≡ name_word name
+
+abbrev pub Tells : Opening → ℕ → ℕ → ℕ → Type 0
+Tells o at offset w = (offset ≡ 0 → TellsHeader o at w) × (offset ≡ 1 → TellsName w)
+
+-- where the word is a pointer, a header and a name are there within the words
+abbrev pub IsSafe : Opening → ℕ → Type 0
+IsSafe o w = (at : ℕ) → w ≡ 2 * at → at + HEADER_WORDS ≤ word_total o.layout
+
+-- a word that was loaded behind header and name is a field
+pub record TellsField (o : Opening) (offset w : ℕ) : Type 0 where
+  pub safe : (i : ℕ) → offset ≡ HEADER_WORDS + i → IsSafe o w

@@ -1,0 +1,100 @@
+//! What holds of the definitions of a round, for every opening, all words and all views.
+//!
+//! Each function here does nothing; its contract is the law. Those named for a step say that the rule holds
+//! again after it, over lists of words and views alone: one word changes or none, one view changes, and the
+//! others are as they were. Each step of `steps` and `seats` is an instance of one of them, and the rule holds
+//! between any two steps of any threads. So nothing that holds here depends on a schedule.
+ghost use Rattle.std.specs.Prelude.{◌≡◌, ◌+◌, ◌<◌, ℕ, List, [], ◌∷◌, set, slice_index, length, map};
+ghost use mathlib.Core.Option.{some};
+ghost use lib.ListN.{get_elem?};
+ghost use Rattle.nmgc_graph.specs.declared.command.Command.{Command};
+ghost use Rattle.nmgc_graph.specs.declared.command.Reply.{Reply};
+ghost use Rattle.nmgc_graph.specs.History.{replayed, rows_of, IsLegal as IsLegalHistory};
+ghost use Rattle.nmgc_object.specs.declared.size.TheConstants.{HEADER_WORDS};
+ghost use Rattle.nmgc_object.specs.declared.layout.Layout.{Layout};
+ghost use Rattle.nmgc_object.specs.Places.{IsLayout};
+ghost use Rattle.nmgc_core.specs.State.{State};
+ghost use Rattle.nmgc_core.specs.Machine.{Does};
+ghost use Rattle.nmgc_round.specs.View.{Opening, Part, Seen, word, whole, loaded, answered, swapped, stored, gave_birth};
+ghost use Rattle.nmgc_round.specs.Rule.{Keeps};
+ghost use Rattle.nmgc_round.specs.Ready.{IsMutator, CanLoad, CanSwap, CanStore, CanBear, CanScan, scanned_by};
+ghost use Rattle.nmgc_round.specs.Told.{CanFix, CanTake, taken};
+ghost use Rattle.nmgc_round.specs.Events.{Happening, event_of, after, replay, IsLegal, done_by, rows_in};
+ghost use Rattle.nmgc_round.specs.Naming.{AllReply};
+ghost use Rattle.nmgc_round.specs.Empty.{IsEmptyHeap, first_opening};
+ghost use Rattle.nmgc_round.specs.Starting.{CanOpen};
+ghost use Rattle.nmgc_round.specs.Finishing.{IsFinished, HasEach, Leaves};
+
+/// A load of a word that never changes, without a place in the order: no word changes, and no event is added.
+pub fn fixed_load()
+    ensures { (o : Opening) (words : List ℕ) (views : List Seen) (id : ℕ) (v : Seen) (p : Part) (at offset : ℕ) → Keeps o words views → get_elem? views id ≡ some v → IsMutator v p → CanFix o p at offset → Keeps o words (set views id (loaded v at offset (slice_index words (at + offset)))) }
+{}
+
+/// A load of a word that never changes, at which a command takes its place: no word changes, and one command
+/// that changes no node is added.
+pub fn fixed_load_of_command()
+    ensures { (o : Opening) (words : List ℕ) (views : List Seen) (id : ℕ) (v : Seen) (p : Part) (at offset : ℕ) (c : Command) → Keeps o words views → get_elem? views id ≡ some v → IsMutator v p → CanTake o p at offset c → Keeps o words (set views id (taken v at offset c (slice_index words (at + offset)))) }
+{}
+
+/// A load of a field: no word changes, and one command that changes no node is added.
+pub fn field_load()
+    ensures { (o : Opening) (words : List ℕ) (views : List Seen) (id : ℕ) (v : Seen) (p : Part) (at index : ℕ) (c : Command) → Keeps o words views → get_elem? views id ≡ some v → IsMutator v p → CanLoad o p at index c → Keeps o words (set views id (answered v c (word (slice_index words (at + HEADER_WORDS + index))))) }
+{}
+
+/// A swap of a field: its word changes, and one command that changes that field of that node is added. While
+/// marking the view owes the old word.
+pub fn field_swap()
+    ensures { (o : Opening) (words : List ℕ) (views : List Seen) (id : ℕ) (v : Seen) (p : Part) (at index w : ℕ) (c : Command) → Keeps o words views → get_elem? views id ≡ some v → IsMutator v p → CanSwap o p at index w c → Keeps o (set words (at + HEADER_WORDS + index) w) (set views id (swapped v c (slice_index words (at + HEADER_WORDS + index)))) }
+{}
+
+/// A store where no object is yet: that word changes, and no event is added.
+pub fn unborn_store()
+    ensures { (o : Opening) (words : List ℕ) (views : List Seen) (id : ℕ) (v : Seen) (p : Part) (at w : ℕ) → Keeps o words views → get_elem? views id ≡ some v → IsMutator v p → CanStore o p at → Keeps o (set words at w) (set views id (stored v at w)) }
+{}
+
+/// A birth: a header is written, and one command that makes that node is added.
+pub fn birth()
+    ensures { (o : Opening) (words : List ℕ) (views : List Seen) (id : ℕ) (v : Seen) (p : Part) (at header : ℕ) (c : Command) → Keeps o words views → get_elem? views id ≡ some v → IsMutator v p → CanBear o p at header c → Keeps o (set words at header) (set views id (gave_birth v at header c)) }
+{}
+
+/// The collector's load: no word changes, and one scan is added.
+pub fn scan()
+    ensures { (o : Opening) (words : List ℕ) (views : List Seen) (id : ℕ) (v : Seen) (at offset : ℕ) → Keeps o words views → get_elem? views id ≡ some v → CanScan v at offset → Keeps o words (set views id (scanned_by v (slice_index words (at + offset)))) }
+{}
+
+/// The words of the heap of which nothing was made open the first round of a run.
+pub fn empty_heap_opens()
+    ensures { (layout : Layout) (words : List ℕ) → IsLayout layout → IsEmptyHeap layout words → CanOpen (first_opening layout) words }
+{}
+
+/// Words that represent a world meet the rule, with a seat that has every part.
+pub fn words_open()
+    ensures { (o : Opening) (words : List ℕ) → CanOpen o words → Keeps o words (whole o ∷ []) }
+{}
+
+/// The words that a round leaves represent the world after one order of its commands.
+pub fn words_represent()
+    ensures { (o : Opening) (words : List ℕ) (v : Seen) → IsFinished o words v → HasEach o v → Leaves o words v }
+{}
+
+/// A mutator's commands in the order of the events, with their replies, are its rows by the names that
+/// it loaded.
+pub fn replies_are_named()
+    ensures { (o : Opening) (words : List ℕ) (v : Seen) (h : IsFinished o words v) (k : ℕ) (p : Part) → get_elem? v.parts k ≡ some p → (replies : List (Command × Reply)) → AllReply p.fixed p.rows replies → done_by p.number h.events ≡ replies }
+{}
+
+/// The commands among events, in their order, are a legal history of the never-collected heap, and its world
+/// is the one after the events.
+pub fn events_are_a_history()
+    ensures { (s : State) (events : List Happening) → IsLegal s events → IsLegalHistory s.world (rows_in events) × ((replay s events).world ≡ replayed s.world (rows_in events)) }
+{}
+
+/// A mutator's rows in that history are its commands and replies among the events.
+pub fn histories_have_the_rows()
+    ensures { (m : ℕ) (events : List Happening) → map (λ row. (row.command, row.reply)) (rows_of m (rows_in events)) ≡ done_by m events }
+{}
+
+/// An event of a round does what the core machine says of it.
+pub fn events_are_of_the_machine()
+    ensures { (s : State) (happening : Happening) → Does s (event_of happening) (after s happening) }
+{}

@@ -1,0 +1,71 @@
+//! Seats are cut off one another and joined again.
+//!
+//! The first seat of a round has the part of every mutator and the collector's. A part is only ever at
+//! one seat: cutting and joining move parts and change nothing in them. That is why a seat that has every
+//! part may end the round, and why no event of a mutator is missed or told twice.
+ghost use Rattle.std.specs.Prelude.{map, All, true, [], ◌≡◌, ◌<◌, ◌≤◌, length, vec_capacity};
+ghost use Rattle.nmgc_round.specs.Seating.{from, alones, all_together, CanSplit, keeps_rest, gives_first, mutates, collecting, together};
+ghost use Rattle.nmgc_round.specs.Seat.{IsAt, seen, word_count, opening_of};
+
+use crate::plays::{Both, CollectorAlone, FirstMutator};
+use crate::table::{CollectorSeat, MutatorSeat, Round};
+
+impl Round {
+    /// Cuts off the seat of the first mutator. The seat keeps the other parts.
+    pub fn split_mutator(&self, seat: &mut MutatorSeat) -> MutatorSeat
+        requires seat { IsAt self.now seat.old }
+        requires ready { CanSplit (seen seat.old) }
+        requires within { 0 < word_count self.now }
+        ensures { IsAt self.now seat.new × IsAt self.now result × (seen seat.new ≡ keeps_rest (seen seat.old)) × (seen result ≡ gives_first (seen seat.old)) }
+    {
+        self.table.shared.split_seat::<FirstMutator>(seat)
+    }
+
+    /// Cuts off the seat of the collector. The seat keeps the mutators' parts.
+    pub fn split_collector(&self, seat: &mut MutatorSeat) -> CollectorSeat
+        requires seat { IsAt self.now seat.old }
+        requires ready { (seen seat.old).collects ≡ true }
+        requires within { 0 < word_count self.now }
+        ensures { IsAt self.now seat.new × IsAt self.now result × (seen seat.new ≡ mutates (seen seat.old)) × (seen result ≡ collecting (seen seat.old)) }
+    {
+        self.table.shared.split_seat::<CollectorAlone>(seat)
+    }
+
+    /// Takes another seat's parts in. That seat is no more.
+    pub fn join(&self, seat: &mut MutatorSeat, other: MutatorSeat)
+        requires seats { IsAt self.now seat.old × IsAt self.now other }
+        requires within { 0 < word_count self.now }
+        ensures { IsAt self.now seat.new × (seen seat.new ≡ together (seen seat.old) (seen other)) }
+    {
+        self.table.shared.join_seat::<Both>(seat, other)
+    }
+
+    /// One seat for each mutator in order of their numbers, from a seat that has them all, into a list that
+    /// has room for them. Takes no memory.
+    pub fn seats_into(&self, seat: MutatorSeat, mutators: usize, seats: &mut Vec<MutatorSeat>)
+        requires seat { IsAt self.now seat × (seen seat ≡ from (opening_of self.now) 0 (opening_of self.now).hands) }
+        requires count { (mutators ≡ length (opening_of self.now).hands) × (0 < mutators) }
+        requires room { (seats.old.items ≡ []) × (mutators ≤ vec_capacity seats.old) }
+        requires within { 0 < word_count self.now }
+        ensures { (map seen seats.new.items ≡ alones (opening_of self.now) 0 (opening_of self.now).hands) × All (IsAt self.now) seats.new.items }
+    {
+        let mut seat = seat;
+        for _number in 1..mutators {
+            seats.push_reserved(self.split_mutator(&mut seat));
+        }
+        seats.push_reserved(seat);
+    }
+
+    /// The parts of all seats in one.
+    pub fn gather(&self, seat: MutatorSeat, others: Vec<MutatorSeat>) -> MutatorSeat
+        requires seats { IsAt self.now seat × All (IsAt self.now) others.items }
+        requires within { 0 < word_count self.now }
+        ensures { IsAt self.now result × (seen result ≡ all_together (seen seat) (map seen others.items)) }
+    {
+        let mut seat = seat;
+        for other in others {
+            self.join(&mut seat, other);
+        }
+        seat
+    }
+}

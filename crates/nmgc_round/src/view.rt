@@ -1,0 +1,44 @@
+//! What the proofs alone know. No value of these types is made.
+//!
+//! A seat and a chosen value have a type for what clauses see of them. These are empty shells for it: the
+//! definitions stand in `specs/View.antt`.
+use std::marker::Model;
+
+/// What a seat knows.
+pub struct View {
+    nothing: u8,
+}
+
+impl Model for View {
+    ghost use Rattle.nmgc_round.specs.View.{Seen, nobody};
+
+    ghost Value = { Seen };
+
+    ghost view = { λ _. nobody };
+}
+
+/// The state with which a round begins, and its places.
+pub struct Opened {
+    nothing: u8,
+}
+
+impl Model for Opened {
+    ghost use Rattle.nmgc_round.specs.View.{Opening, no_opening};
+
+    ghost Value = { Opening };
+
+    ghost view = { λ _. no_opening };
+}
+
+/// The words with which a table is made.
+pub struct Stored {
+    nothing: u8,
+}
+
+impl Model for Stored {
+    ghost use Rattle.std.specs.Prelude.{ℕ, List, []};
+
+    ghost Value = { List ℕ };
+
+    ghost view = { λ _. [] };
+}

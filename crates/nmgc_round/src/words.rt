@@ -1,0 +1,120 @@
+//! The words of a run, where one thread alone reads and writes them.
+//!
+//! They lie in one table from the beginning of the run to its report. Between rounds the table has one seat
+//! that may step, and its view is the list of all words: so a load tells the word, a store changes the
+//! list, and contracts see the whole as that list. A round takes the words and gives them back, and copies
+//! none. Code for a stop is written over the trait `HeapWords`, which a plain list implements too.
+//!
+//! Easy to get wrong: each store is ordered with all others and costs several times a load. So a stop writes
+//! no word that stays as it is.
+ghost use Rattle.std.specs.Prelude.{◌≡◌, ◌<◌, IfOk, length, set, slice_index};
+ghost use Rattle.std.specs.Slots.{slots_items, slots_len, IsFull};
+ghost use Rattle.nmgc_round.specs.Stop.{IsSole};
+
+use crate::chosen::{Chosen, Wanted};
+use crate::plays::{Reads, Writes};
+use crate::table::{MutatorSeat, Shared};
+use crate::view::Stored;
+use atomic_table::{Closed, Table};
+use nmgc_graph::NoMemory;
+use nmgc_heap::HeapWords;
+use std::alloc::Global;
+use std::marker::Model;
+
+/// The words of the heap, in order, with the only seat at their table.
+#[derive(Drop)]
+pub struct Words {
+    pub(crate) table: Shared,
+    pub(crate) seat: MutatorSeat,
+}
+
+impl Model for Words {
+    ghost use Rattle.std.specs.Prelude.{ℕ, List};
+    ghost use Rattle.nmgc_round.specs.Stop.{words_of, IsSole};
+
+    ghost Value = { List ℕ };
+
+    ghost view = { λ h. words_of h.seat };
+
+    ghost invariant = { λ h. IsSole h.table.shared.table_id h.seat };
+}
+
+/// The words that a table is made with.
+pub(crate) struct Copied;
+
+impl<'a> Wanted<&'a [u64], Stored> for Copied {
+    ghost wanted = { λ words x. x ≡ words.now };
+}
+
+impl Words {
+    /// These words, of which there is at least one.
+    pub fn new(alloc: Global, words: &[u64]) -> Result<Words, NoMemory>
+        requires { 0 < length words.now }
+        ensures { IfOk result (λ w. w ≡ words.now) }
+    {
+        let first: Chosen<Stored> = Chosen::of::<&[u64], Copied>(&words);
+        let (table, seat) = Table::of_words(alloc, words, &first)?;
+        Ok(Words { table, seat })
+    }
+
+    /// How many words there are.
+    pub fn len(&self) -> usize
+        ensures { result ≡ length self.now }
+    {
+        self.table.word_count()
+    }
+
+    /// The word at a place. No word changes. Takes no memory.
+    pub fn load(&mut self, at: usize) -> u64
+        requires { at < length self.old }
+        ensures same { self.new ≡ self.old }
+        ensures word { result ≡ slice_index self.old at }
+    {
+        let table = &self.table;
+        let seat = &mut self.seat;
+        table.shared.load::<Reads>(seat, at)
+    }
+
+    /// Another word stands at a place. All others stay. Takes no memory.
+    pub fn store(&mut self, at: usize, word: u64)
+        requires { at < length self.old }
+        ensures { self.new ≡ set self.old at word }
+    {
+        let table = &self.table;
+        let seat = &mut self.seat;
+        table.shared.store::<Writes>(seat, at, word)
+    }
+
+    /// Copies every word out, into as many, and gives the table's memory back. Takes no memory.
+    pub fn copy_out(self, words: &mut [u64])
+        requires { length words.old ≡ length self }
+        ensures { words.new ≡ self }
+    {
+        let Words { table, seat } = self;
+        let closed = table.close_with(seat);
+        copy(words, &closed);
+        closed.free();
+    }
+}
+
+impl HeapWords for Words {
+    ghost words = { λ h. h };
+
+    fn load(&mut self, at: usize) -> u64 {
+        Words::load(self, at)
+    }
+
+    fn store(&mut self, at: usize, word: u64) {
+        Words::store(self, at, word)
+    }
+}
+
+// Every word, one by one.
+fn copy(words: &mut [u64], closed: &Closed<(), Global>)
+    requires { IsFull closed.now.words × (length words.old ≡ slots_len closed.now.words) }
+    ensures { words.new ≡ slots_items closed.now.words }
+{
+    for i in 0..words.len() {
+        words[i] = closed.word(i);
+    }
+}
