@@ -1,0 +1,4 @@
+pub mod Does
+pub mod Ready
+pub mod Records
+pub mod Slice

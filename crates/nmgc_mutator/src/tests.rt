@@ -1,0 +1,333 @@
+//! Programs of one mutator on the heap of which nothing was made, by the tables of what each command does.
+ghost use Rattle.std.specs.Prelude.{◌≡◌, ◌≤◌, [], All, IfOk, IsTrue, length, min, vec_capacity};
+ghost use Rattle.nmgc_graph.specs.Command.{HasNumbers, words_made};
+ghost use Rattle.nmgc_object.specs.Places.{IsLayout};
+ghost use Rattle.nmgc_round.specs.Empty.{IsEmptyHeap, first_opening};
+ghost use Rattle.nmgc_mutator.specs.Ready.{IsBuilt, IsNew};
+ghost use Rattle.nmgc_mutator.specs.Slice.{CanRun, HasRoom};
+
+use crate::{Mutator, Slice, SliceEnd};
+use nmgc_graph::{Command, List, Name, NoMemory, Operand, Reply, Value};
+use nmgc_object::Layout;
+use nmgc_round::chosen::Wanted;
+use nmgc_round::{Chosen, MutatorSeat, OpenGate, Opened, Round, Started, Words};
+use std::alloc::Global;
+use std::test::Fail;
+
+// The opening of a run's first round.
+struct First;
+
+impl Wanted<Layout, Opened> for First {
+    ghost wanted = { λ layout o. o ≡ first_opening layout };
+}
+
+fn first_of(layout: &Layout) -> Chosen<Opened>
+    ensures { result.value ≡ first_opening layout.now }
+{
+    Chosen::of::<Layout, First>(layout)
+}
+
+// One mutator, with segments of 16 words and a nursery of so many.
+fn small(nursery: u32) -> Layout
+    requires { (16 ≤ nursery) × (nursery ≤ 4194288) }
+    ensures layout { IsLayout result }
+    ensures sizes { (result.words ≡ 16) × (result.mutators ≡ 1) }
+{
+    Layout {
+        segments: 1,
+        words: 16,
+        nursery,
+        mutators: 1,
+    }
+}
+
+// The heap of which nothing was made. The header word of an array with 16 fields is 3 + 2048 * 16, the name
+// word of g is 8, and nil is 1.
+fn empty_heap(alloc: Global, layout: &Layout) -> Result<Words, NoMemory>
+    requires { IsLayout layout.now }
+    ensures { IfOk result (IsEmptyHeap layout.now) }
+{
+    let mut words = Vec::from_elem(alloc, 1u64, layout.total() as usize)?;
+    words[1] = 32771;
+    words[2] = 8;
+    Words::new(alloc, words.as_slice())
+}
+
+// Whether the command is built, its numbers are within their limits, and it makes at most 16 words.
+fn has_limits(command: &Command) -> bool
+    ensures { IsTrue result → HasNumbers command.now × (words_made command.now ≤ 16) × IsBuilt command.now }
+{
+    match command {
+        Command::Nil { .. } | Command::Mov { .. } | Command::Var { .. } => true,
+        Command::Show { .. } | Command::Same { .. } | Command::Yield => true,
+        Command::Num { number, .. } => *number < 1_000_000,
+        Command::Con { tag, fields, .. } => *tag < 100 && fields.items().len() <= 14,
+        Command::Arr { count, .. } => *count <= 14,
+        Command::Get { index, .. } | Command::Set { index, .. } => *index < 65_536,
+        _ => false,
+    }
+}
+
+// Whether a script for segments of 16 words may have the command, and it is built.
+fn can_run(command: &Command) -> bool
+    ensures { IsTrue result → CanRun 16 command.now }
+{
+    if command.has_registers() && has_limits(command) {
+        return true;
+    }
+    false
+}
+
+// Whether all of them are so.
+fn can_run_all(program: &[Command]) -> bool
+    ensures { IsTrue result → All (CanRun 16) program.now }
+{
+    program.iter().all(|command| can_run(command))
+}
+
+// A slice of a new mutator.
+fn slice_on(
+    words: Words,
+    layout: Layout,
+    mutator: Mutator,
+    program: &[Command],
+    slice: u32,
+    room: Vec<MutatorSeat>,
+) -> Option<(Slice, Mutator)>
+    requires layout { IsLayout layout × (layout.mutators ≡ 1) }
+    requires heap { IsEmptyHeap layout words }
+    requires mutator { IsNew 0 layout mutator }
+    requires program { All (CanRun layout.words) program.now }
+    requires room { (room.items ≡ []) × (1 ≤ vec_capacity room) }
+    requires lists { HasRoom mutator (min slice (length program.now)) }
+{
+    nmgc_round::laws::empty_heap_opens();
+    let opening = first_of(&layout);
+    let mut mutator = mutator;
+    let Started {
+        round,
+        mutators,
+        collector: _,
+    } = Round::start(words, layout, false, &opening, room);
+    let mut seats = mutators;
+    let Some(first) = seats.pop() else {
+        return None;
+    };
+    let mut seat = first;
+    let done = mutator.run_slice(&round, &mut seat, program, slice, &OpenGate);
+    Some((done, mutator))
+}
+
+// A slice of a new mutator on the heap of which nothing was made, with a nursery of so many words.
+fn slice_of(
+    alloc: Global,
+    nursery: u32,
+    program: &[Command],
+    slice: u32,
+) -> Result<Option<(Slice, Mutator)>, NoMemory>
+    requires nursery { (16 ≤ nursery) × (nursery ≤ 4194288) }
+    requires slice { slice ≤ 1048576 }
+{
+    if !can_run_all(program) {
+        return Ok(None);
+    }
+    let layout = small(nursery);
+    let words = empty_heap(alloc, &layout)?;
+    let room = Vec::with_capacity(alloc, 1)?;
+    let mut mutator = Mutator::new(alloc, 0, layout)?;
+    mutator.reserve(slice)?;
+    Ok(slice_on(words, layout, mutator, program, slice, room))
+}
+
+fn num(dest: u8, number: u64) -> Command {
+    Command::Num { dest, number }
+}
+
+fn get(dest: u8, object: Operand, index: u32) -> Command {
+    Command::Get {
+        dest,
+        object,
+        index,
+    }
+}
+
+fn set(object: Operand, index: u32, value: u8) -> Command {
+    Command::Set {
+        object,
+        index,
+        value: Operand::Register(value),
+    }
+}
+
+fn con(alloc: Global, dest: u8, first: u8, second: u8) -> Result<Command, NoMemory> {
+    let mut fields = List::new(alloc);
+    fields.push(Operand::Register(first))?;
+    fields.push(Operand::Register(second))?;
+    Ok(Command::Con {
+        dest,
+        tag: 7,
+        fields,
+    })
+}
+
+fn made(serial: u32) -> Reply {
+    Reply::Given(Value::Ref(Name { maker: 0, serial }))
+}
+
+fn given(number: u64) -> Reply {
+    Reply::Given(Value::Number(number))
+}
+
+// Every command that is built, with each of its replies and refusals. r1 has 5, r2 a constructor, r3 a variable
+// and r4 an array; a variable has one field, and g has 16.
+#[test]
+fn each_command_replies_by_its_table(rt: HostRuntime) -> Result<(), Fail> {
+    let r = Operand::Register;
+    let g = Operand::Shared;
+    let rows = vec![in rt.alloc();
+        (num(1, 5), Reply::Fine),
+        (con(rt.alloc(), 2, 1, 0)?, made(0)),
+        (get(5, r(2), 0), given(5)),
+        (get(5, r(2), 1), Reply::Given(Value::Nil)),
+        (get(5, r(2), 2), Reply::NoField),
+        (get(5, r(1), 0), Reply::NoPointer),
+        (get(5, r(0), 0), Reply::NoPointer),
+        (set(r(2), 0, 1), Reply::Fixed),
+        (set(r(2), 2, 1), Reply::Fixed),
+        (set(r(1), 0, 1), Reply::NoPointer),
+        (
+            Command::Var {
+                dest: 3,
+                value: r(2)
+            },
+            made(1)
+        ),
+        (get(5, r(3), 0), made(0)),
+        (set(r(3), 0, 1), Reply::Fine),
+        (get(5, r(3), 0), given(5)),
+        (get(5, r(3), 1), Reply::NoField),
+        (set(r(3), 1, 1), Reply::NoField),
+        (
+            Command::Arr {
+                dest: 4,
+                count: 3,
+                value: r(3)
+            },
+            made(2)
+        ),
+        (get(5, r(4), 2), made(1)),
+        (get(5, r(4), 3), Reply::NoField),
+        (set(g, 15, 4), Reply::Fine),
+        (get(5, g, 15), made(2)),
+        (get(5, g, 16), Reply::NoField),
+        (set(g, 16, 4), Reply::NoField),
+        (
+            Command::Same {
+                left: r(4),
+                right: r(5)
+            },
+            Reply::Yes
+        ),
+        (
+            Command::Same {
+                left: r(4),
+                right: r(3)
+            },
+            Reply::No
+        ),
+        (
+            Command::Same {
+                left: r(1),
+                right: g
+            },
+            Reply::No
+        ),
+        (Command::Mov { dest: 6, value: g }, Reply::Fine),
+        (
+            Command::Show { value: r(6) },
+            Reply::Given(Value::Ref(Name {
+                maker: 8,
+                serial: 0
+            }))
+        ),
+        (Command::Nil { dest: 6 }, Reply::Fine),
+        (Command::Show { value: r(6) }, Reply::Given(Value::Nil)),
+        (Command::Yield, Reply::Fine),
+    ]?;
+    let mut program = Vec::new(rt.alloc());
+    let mut replies = Vec::new(rt.alloc());
+    for (command, reply) in rows {
+        program.push(command)?;
+        replies.push(reply)?;
+    }
+    program.push(Command::Nil { dest: 1 })?;
+    let Some((slice, mutator)) = slice_of(rt.alloc(), 64, program.as_slice(), 1024)? else {
+        assert!(rt; false);
+        return Ok(());
+    };
+    assert_eq!(rt;
+        slice,
+        Slice {
+            done: 31,
+            end: SliceEnd::Yield
+        }
+    );
+    assert_eq!(rt; mutator.replies.items(), replies.as_slice());
+    assert_eq!(rt; mutator.turns, 31);
+    Ok(())
+}
+
+// Whether a slice of so many of these commands ends so, with a nursery of 16 words.
+fn ends(
+    alloc: Global,
+    program: &[Command],
+    slice: u32,
+    done: u32,
+    end: SliceEnd,
+) -> Result<bool, NoMemory>
+    requires { slice ≤ 1048576 }
+{
+    let Some((ended, mutator)) = slice_of(alloc, 16, program, slice)? else {
+        return Ok(false);
+    };
+    let tried = match end {
+        SliceEnd::Nursery { .. } => u64::from(done) + 1,
+        _ => u64::from(done),
+    };
+    Ok(ended == Slice { done, end } && mutator.turns == tried)
+}
+
+// The first of the reasons ends a slice. An array with 10 fields has 12 words and a variable 3, so one of each
+// leaves one word of 16.
+#[test]
+fn a_slice_ends_by_the_first_reason(rt: HostRuntime) -> Result<(), Fail> {
+    let nil = [num(0, 1), num(0, 2), Command::Yield, num(0, 3)];
+    assert!(rt; ends(rt.alloc(), nil.as_slice(), 2, 2, SliceEnd::Slice)?);
+    assert!(rt; ends(rt.alloc(), nil.as_slice(), 3, 3, SliceEnd::Yield)?);
+    assert!(rt; ends(rt.alloc(), nil.as_slice(), 4, 3, SliceEnd::Yield)?);
+    let two = [num(0, 1), num(0, 2)];
+    assert!(rt; ends(rt.alloc(), two.as_slice(), 1, 1, SliceEnd::Slice)?);
+    assert!(rt; ends(rt.alloc(), two.as_slice(), 2, 2, SliceEnd::Program)?);
+    assert!(rt; ends(rt.alloc(), two.as_slice(), 9, 2, SliceEnd::Program)?);
+    let value = Operand::Shared;
+    let full = [
+        Command::Arr {
+            dest: 0,
+            count: 10,
+            value,
+        },
+        Command::Var { dest: 1, value },
+        Command::Var { dest: 2, value },
+    ];
+    assert!(rt; ends(rt.alloc(), full.as_slice(), 2, 2, SliceEnd::Slice)?);
+    assert!(rt;
+        ends(
+            rt.alloc(),
+            full.as_slice(),
+            3,
+            2,
+            SliceEnd::Nursery { need: 3, left: 1 }
+        )?
+    );
+    Ok(())
+}
