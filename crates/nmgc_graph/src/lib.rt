@@ -34,7 +34,7 @@ pub use mutator_state::MutatorState;
 pub use node::{Kind, Node, Parts};
 pub use queue::Queue;
 pub use room::Room;
-pub use value::{MAKERS, Name, REGISTERS, SHARED_MAKER, SHARED_SLOTS, Value};
+pub use value::{MAKERS, Name, REGISTERS, SHARED_MAKER, SHARED_SLOTS, Value, constants_are_these};
 pub use world::World;
 
 #[cfg(test)]

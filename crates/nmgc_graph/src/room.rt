@@ -3,7 +3,7 @@
 //! Parts of the collector may not fail half way: they reserve room while failing is still harmless,
 //! and add items later, where no memory may be taken. So contracts see two things of a room, its
 //! items, and for how many more there is room. Only adding an item uses room up, one for each.
-ghost use Rattle.std.specs.Prelude.{◌≡◌, ◌+◌, ◌<◌, ◌≤◌, [], ◌∷◌, ◌++◌, OnOk, OnErr};
+ghost use Rattle.std.specs.Prelude.{◌≡◌, ◌+◌, ◌<◌, ◌≤◌, [], ◌∷◌, ◌++◌, length, OnOk, OnErr};
 
 use crate::NoMemory;
 use std::alloc::Global;
@@ -84,7 +84,7 @@ impl<T> Room<T> {
     where
         T: Drop,
         ensures items { self.new.items ≡ [] }
-        ensures kept { self.old.spare ≤ self.new.spare }
+        ensures kept { self.new.spare ≡ self.old.spare + length self.old.items }
     {
         self.items.clear();
     }

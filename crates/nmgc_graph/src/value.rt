@@ -5,6 +5,8 @@
 //! the whole run, wherever the collector has put its words. The shared array g is the one object
 //! that no mutator made; its maker is `SHARED_MAKER`, and its serial is 0.
 
+ghost use Rattle.std.specs.Prelude.{◌≡◌};
+
 /// The number of registers of a mutator.
 pub const REGISTERS: u8 = 16;
 
@@ -16,6 +18,15 @@ pub const SHARED_MAKER: u8 = 8;
 
 /// The number of slots of the shared array.
 pub const SHARED_SLOTS: u8 = 16;
+
+/// Each constant is this number, and all contracts speak of it by its name. It does nothing: its contract
+/// is the law.
+pub fn constants_are_these()
+    ensures registers { REGISTERS ≡ 16 }
+    ensures makers { MAKERS ≡ 8 }
+    ensures shared_maker { SHARED_MAKER ≡ 8 }
+    ensures shared_slots { SHARED_SLOTS ≡ 16 }
+{}
 
 /// Whose object it is, and the number of it among that maker's objects, from 0.
 #[derive(Clone, Copy, Debug, PartialEq, Eq)]

@@ -8,7 +8,7 @@
 //! the queue is empty, or until room is made while more words were taken than are left.
 ghost use Rattle.std.specs.Prelude.{◌≡◌, ◌+◌, ◌-◌, ◌<◌, ◌≤◌, [], ◌∷◌, ◌++◌, length, drop, slice_get, slice_set, OnOk, OnErr};
 
-use nmgc_graph::NoMemory;
+use nmgc_graph::{List, NoMemory};
 use std::alloc::Global;
 use std::marker::Model;
 
@@ -102,12 +102,24 @@ impl FinQueue {
         &self.words[self.first..]
     }
 
+    /// The words in order, as a list. Takes no memory.
+    pub fn into_list(self) -> List<u64>
+        ensures { result ≡ self.words }
+    {
+        let FinQueue { words, first } = self;
+        let mut words = words;
+        let left = words.len() - first;
+        words.copy_within(first.., 0);
+        words.truncate(left);
+        List::from_vec(words)
+    }
+
     /// Changes the word at a place of the queue, and no other. Takes no memory.
-    pub fn set(&mut self, place: u32, word: u64)
+    pub fn set(&mut self, place: usize, word: u64)
         requires { place < length self.old.words }
         ensures words { self.new.words ≡ slice_set self.old.words place word }
         ensures spare { self.new.spare ≡ self.old.spare }
     {
-        self.words[self.first + place as usize] = word;
+        self.words[self.first + place] = word;
     }
 }

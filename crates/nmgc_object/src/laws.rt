@@ -1,7 +1,7 @@
 //! What holds of the definitions of words and places, for every value.
 //!
 //! Each function here does nothing; its contract is the law.
-ghost use Rattle.std.specs.Prelude.{ℕ, ◌≡◌, ◌↔◌, ◌+◌, ◌*◌, ◌<◌, ◌≤◌};
+ghost use Rattle.std.specs.Prelude.{ℕ, ◌≡◌, ◌↔◌, ◌+◌, ◌*◌, ◌^◌, ◌<◌, ◌≤◌};
 ghost use Rattle.nmgc_graph.specs.declared.value.Name.{Name};
 ghost use Rattle.nmgc_object.specs.Words.{header_word, name_word, field_word, IsHeader, IsName, IsField};
 ghost use Rattle.nmgc_object.specs.Parts.{header_place, name_place, field_place, object_size};
@@ -11,7 +11,28 @@ ghost use Rattle.nmgc_object.specs.declared.words.Header.{Header};
 ghost use Rattle.nmgc_object.specs.declared.words.Field.{Field};
 ghost use Rattle.nmgc_object.specs.declared.layout.Layout.{Layout};
 
-use crate::size::MAX_BLOCK_WORDS;
+use crate::layout::{FIRST_PLACE, SHARED_PLACE};
+use crate::size::{
+    HEADER_WORDS, MAX_BLOCK_WORDS, MAX_CLASS, MAX_PARTS, MIN_BLOCK_WORDS, NAME_OFFSET,
+};
+use crate::words::{
+    FIELDS_UNIT, MAX_FIELDS, MAX_THUNK_FIELDS, NIL_WORD, NUMBER_LIMIT, SERIAL_UNIT, TAG_UNIT, TAGS,
+    VAR_FIELDS, WEAK_FIELDS, ZERO_WORD,
+};
+
+/// Each constant of the codes, of the sizes and of the places is this number, and all contracts speak of it
+/// by its name.
+pub fn constants_are_these()
+    ensures tags { TAGS ≡ 256 }
+    ensures fields { (MAX_FIELDS ≡ 4094) × (MAX_PARTS ≡ 4094) }
+    ensures fixed_fields { (VAR_FIELDS ≡ 1) × (WEAK_FIELDS ≡ 3) × (MAX_THUNK_FIELDS ≡ 9) }
+    ensures numbers { NUMBER_LIMIT ≡ 2 ^ 62 }
+    ensures units { (TAG_UNIT ≡ 8) × (FIELDS_UNIT ≡ 2048) × (SERIAL_UNIT ≡ 16) }
+    ensures words { (NIL_WORD ≡ 1) × (ZERO_WORD ≡ 3) }
+    ensures sizes { (HEADER_WORDS ≡ 2) × (NAME_OFFSET ≡ 1) × (MIN_BLOCK_WORDS ≡ 4) × (MAX_BLOCK_WORDS ≡ 4096) }
+    ensures classes { MAX_CLASS ≡ 10 }
+    ensures places { (SHARED_PLACE ≡ 1) × (FIRST_PLACE ≡ 32) }
+{}
 
 /// Different headers, names or fields have different words, so what was encoded is decoded.
 pub fn words_differ()

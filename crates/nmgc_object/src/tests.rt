@@ -1,7 +1,8 @@
 //! Worked numbers of words, sizes and places, and a queue from end to end.
 use crate::{
     Address, Field, FinQueue, Header, Layout, Nursery, block_words, class_of, decode_header,
-    decode_name, decode_value, encode_header, encode_name, encode_value, object_words, words_of,
+    decode_name, decode_value, encode_header, encode_name, encode_value, laws, object_words,
+    words_of,
 };
 use nmgc_graph::{Kind, Name};
 use std::test::Fail;
@@ -135,5 +136,21 @@ fn finalisers(rt: HostRuntime) -> Result<(), Fail> {
     assert_eq!(rt; queue.take_first(), Some(13));
     assert_eq!(rt; queue.take_first(), Some(70));
     assert_eq!(rt; queue.take_first(), None);
+    queue.reserve(2)?;
+    queue.add(66);
+    queue.add(13);
+    assert_eq!(rt; queue.take_first(), Some(66));
+    assert_eq!(rt; queue.into_list().items(), [13].as_slice());
     Ok(())
+}
+
+// Each law asks nothing.
+#[test]
+fn laws_ask_nothing(rt: HostRuntime) {
+    let _ = &rt;
+    laws::constants_are_these();
+    laws::words_differ();
+    laws::places_lie_apart();
+    laws::parts_lie_apart();
+    laws::objects_have_classes();
 }
