@@ -13,7 +13,7 @@ use Rattle.nmgc_core.specs.laws.Runs.{runs_push, opening_world, snapshot_theorem
 pub record IsRunning (w : World) (es : List Event) (s : State) : Type 0 where
   pub rows : List Row
   pub runs : Runs (opening w) es rows s
-  pub theorem : IsSnapshotMarking w rows s
+  pub theorem : IsSnapshotMarking w es rows s
 
 -- a run begins with the opening
 pub run_begins : (w : World) (s : State) → s ≡ opening w → IsWorld s.world → IsRunning w [] s

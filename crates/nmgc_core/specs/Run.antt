@@ -37,9 +37,14 @@ pub record IsMarking (w : World) (rows : List Row) (s : State) : Type 0 where
   pub finalised : s.finalised ≡ finalised w rows
   pub live : (name : Name) → Contains s.marked name → IsLive w s.opened name
 
--- at the closing, from the state before it: what is marked is what is live, what dies is what is dead, and what is marked in the end is what is kept
-pub record IsExact (w : World) (rows : List Row) (s : State) : Type 0 where
+-- at the closing, from the state to which the events before it ran, where it could happen: what is marked is what is live, what dies is what is dead, and what is marked in the end is what is kept
+pub record IsExact (w : World) (events : List Event) (rows : List Row) (s : State) : Type 0 where
+  pub earlier : List Event
+  pub later : List Event
+  pub events_are : events ≡ earlier ++ event.Close ∷ later
   pub before : State
+  pub runs : Runs (opening w) earlier rows before
+  pub possible : IsPossible before event.Close
   pub marking : IsMarking w rows before
   pub closing : IsClosing before s
   pub live : (name : Name) → IsMarkedFirst before name ↔ IsLive w before.opened name
@@ -47,14 +52,14 @@ pub record IsExact (w : World) (rows : List Row) (s : State) : Type 0 where
   pub kept : (name : Name) → Contains s.marked name ↔ IsKept w before.opened before.finalised name
   pub world : s.world ≡ closed (replayed w rows) closing.dead
 
--- the snapshot theorem, for the state after these rows
-pub record IsSnapshotMarking (w : World) (rows : List Row) (s : State) : Type 0 where
+-- the snapshot theorem, for the state after these events and rows
+pub record IsSnapshotMarking (w : World) (events : List Event) (rows : List Row) (s : State) : Type 0 where
   pub before : s.is_closed ≡ false → IsMarking w rows s
-  pub after : s.is_closed ≡ true → IsExact w rows s
+  pub after : s.is_closed ≡ true → IsExact w events rows s
 
 -- the snapshot theorem, for every run from a closed world, by whomever its events were done
 abbrev pub SnapshotTheorem : Type 0
-SnapshotTheorem = (w : World) → IsWorld w → (events : List Event) (rows : List Row) (s : State) → Runs (opening w) events rows s → IsSnapshotMarking w rows s
+SnapshotTheorem = (w : World) → IsWorld w → (events : List Event) (rows : List Row) (s : State) → Runs (opening w) events rows s → IsSnapshotMarking w events rows s
 
 -- and until the closing, each state of such a run has the facts
 abbrev pub FactsAreKept : Type 0
@@ -81,5 +86,5 @@ ClosingIsExact = (s next : State) → Facts s → IsPossible s event.Close → (
 pub record IsRun (w : World) (events : List Event) (s : State) : Type 0 where
   pub rows : List Row
   pub runs : Runs (opening w) events rows s
-  pub theorem : IsSnapshotMarking w rows s
+  pub theorem : IsSnapshotMarking w events rows s
   pub closed : IsWorld s.world

@@ -1,4 +1,4 @@
-//! The worked rows with weak pointers, as a table: what one mutator did before marking began, what it does while
+//! Small cycles with weak pointers, as a table: what one mutator did before marking began, what it does while
 //! marking runs, and what is marked, queued and answered in the end.
 
 use crate::answers::answer;
@@ -16,21 +16,27 @@ enum Do {
     Num(u8, u64),
     // The register, and that of the one field.
     Con(u8, u8),
+    // The register, and those of the two fields.
+    Cell(u8, u8, u8),
     // The register, and those of key, value and finaliser.
     Weak(u8, u8, u8, u8),
     // The register, and that of the object.
     Deref(u8, u8),
     Finalise(u8, u8),
+    // The register, and that of the object whose first field is read.
+    Get(u8, u8),
     // The register.
     Nil(u8),
     NextFin(u8),
 }
 
-// A worked row: the commands before marking and while it runs, the serials of what is marked in the end beside g,
-// what is queued then, and what the world answers.
+// A row: the commands before marking, how many cells of a list in r3 are made after them, the commands while it
+// runs, the serials of what is marked in the end beside g, what is queued then, and what is answered to further
+// commands.
 #[derive(Clone, Copy)]
-struct WorkedRow<'a> {
+struct Row<'a> {
     before: &'a [Do],
+    cells: u32,
     during: &'a [(Do, Reply)],
     marked: &'a [u32],
     queued: &'a [Value],
@@ -42,10 +48,12 @@ const fn object(serial: u32) -> Value {
     Value::Ref(Name { maker: 0, serial })
 }
 
-// The constructor of tag 0 with the value of one register.
-fn con(alloc: Global, dest: u8, field: u8) -> Result<Command, Fail> {
+// The constructor of tag 0 with the values of these registers.
+fn con(alloc: Global, dest: u8, registers: &[u8]) -> Result<Command, Fail> {
     let mut fields = List::new(alloc);
-    fields.push(Operand::Register(field))?;
+    for register in registers {
+        fields.push(Operand::Register(*register))?;
+    }
     Ok(Command::Con {
         dest,
         tag: 0,
@@ -57,7 +65,8 @@ fn con(alloc: Global, dest: u8, field: u8) -> Result<Command, Fail> {
 fn command(alloc: Global, what: Do) -> Result<Command, Fail> {
     Ok(match what {
         Do::Num(dest, number) => Command::Num { dest, number },
-        Do::Con(dest, field) => con(alloc, dest, field)?,
+        Do::Con(dest, field) => con(alloc, dest, &[field])?,
+        Do::Cell(dest, first, second) => con(alloc, dest, &[first, second])?,
         Do::Weak(dest, key, value, finaliser) => Command::Weak {
             dest,
             key: Operand::Register(key),
@@ -72,16 +81,25 @@ fn command(alloc: Global, what: Do) -> Result<Command, Fail> {
             dest,
             object: Operand::Register(object),
         },
+        Do::Get(dest, object) => Command::Get {
+            dest,
+            object: Operand::Register(object),
+            index: 0,
+        },
         Do::Nil(dest) => Command::Nil { dest },
         Do::NextFin(dest) => Command::NextFin { dest },
     })
 }
 
-// The world of one mutator after these commands.
-fn world_after(alloc: Global, commands: &[Do]) -> Result<World, Fail> {
+// The world of one mutator after these commands, and after so many cells.
+fn world_after(alloc: Global, commands: &[Do], cells: u32) -> Result<World, Fail> {
     let mut world = World::new(alloc, 1)?;
     for what in commands {
         let command = command(alloc, *what)?;
+        give(&mut world, 0, &command)?;
+    }
+    for _ in 0..cells {
+        let command = command(alloc, Do::Cell(3, 3, 1))?;
         give(&mut world, 0, &command)?;
     }
     Ok(world)
@@ -112,15 +130,22 @@ fn marks_serials(core: &Core, serials: &[u32]) -> Result<bool, Fail> {
     marks(core, names.items())
 }
 
-// Whether the world would give these answers.
-fn would_answer(alloc: Global, world: &World, commands: &[(Do, Reply)]) -> Result<bool, Fail> {
+// Whether the world takes these commands, one after the other, with these answers.
+fn takes(alloc: Global, world: &mut World, commands: &[(Do, Reply)]) -> Result<bool, Fail> {
     for (what, reply) in commands {
         let command = command(alloc, *what)?;
         if !world.can_apply(0, &command) || answer(world, 0, &command) != *reply {
             return Ok(false);
         }
+        give(world, 0, &command)?;
     }
     Ok(true)
+}
+
+// Whether a copy of the world does.
+fn would_take(alloc: Global, world: &World, commands: &[(Do, Reply)]) -> Result<bool, Fail> {
+    let mut copy = world.copy()?;
+    takes(alloc, &mut copy, commands)
 }
 
 // Whether the one mutator has these finalisers queued.
@@ -129,12 +154,12 @@ fn has_queued(world: &World, values: &[Value]) -> bool {
 }
 
 // Whether the machine of a row ends as the row says.
-fn ends_so(alloc: Global, core: &mut Core, row: WorkedRow) -> Result<bool, Fail> {
+fn ends_so(alloc: Global, core: &mut Core, row: Row) -> Result<bool, Fail> {
     let done = are_answered(alloc, core, row.during)?;
     drain(core)?;
     let marked = marks_serials(core, row.marked)?;
     let exact = marks_kept(core)?;
-    let answers = would_answer(alloc, core.world(), row.after)?;
+    let answers = would_take(alloc, core.world(), row.after)?;
     Ok(
         done && core.is_closed()
             && marked
@@ -145,8 +170,8 @@ fn ends_so(alloc: Global, core: &mut Core, row: WorkedRow) -> Result<bool, Fail>
 }
 
 // The same from the start.
-fn is_right(alloc: Global, row: WorkedRow) -> Result<bool, Fail> {
-    let world = world_after(alloc, row.before)?;
+fn is_right(alloc: Global, row: Row) -> Result<bool, Fail> {
+    let world = world_after(alloc, row.before, row.cells)?;
     let mut core = begin(world)?;
     ends_so(alloc, &mut core, row)
 }
@@ -155,7 +180,7 @@ fn is_right(alloc: Global, row: WorkedRow) -> Result<bool, Fail> {
 // key, which is reached from nowhere.
 #[test]
 fn a_weak_value_that_is_read_is_kept(rt: HostRuntime) -> Result<(), Fail> {
-    let row = WorkedRow {
+    let row = Row {
         before: &[
             Do::Num(1, 5),
             Do::Con(4, 1),
@@ -164,11 +189,12 @@ fn a_weak_value_that_is_read_is_kept(rt: HostRuntime) -> Result<(), Fail> {
             Do::Nil(4),
             Do::Nil(5),
         ],
+        cells: 14,
         during: &[
             (Do::Deref(7, 0), Reply::Given(object(1))),
             (Do::Nil(7), Reply::Fine),
         ],
-        marked: &[1, 2],
+        marked: &[1, 2, 3, 4, 5, 6, 7, 8, 9, 10, 11, 12, 13, 14, 15, 16],
         queued: &[],
         after: &[(Do::Deref(7, 0), Reply::Dead)],
     };
@@ -181,7 +207,7 @@ fn a_weak_value_that_is_read_is_kept(rt: HostRuntime) -> Result<(), Fail> {
 // more, and nothing is queued for it.
 #[test]
 fn what_a_finalised_weak_pointer_kept_is_kept(rt: HostRuntime) -> Result<(), Fail> {
-    let row = WorkedRow {
+    let row = Row {
         before: &[
             Do::Num(1, 5),
             Do::Con(4, 1),
@@ -192,12 +218,13 @@ fn what_a_finalised_weak_pointer_kept_is_kept(rt: HostRuntime) -> Result<(), Fai
             Do::Nil(5),
             Do::Nil(6),
         ],
+        cells: 13,
         during: &[
             (Do::Finalise(7, 0), Reply::Given(object(2))),
             (Do::Finalise(7, 0), Reply::Dead),
             (Do::Nil(7), Reply::Fine),
         ],
-        marked: &[1, 2, 3],
+        marked: &[1, 2, 3, 4, 5, 6, 7, 8, 9, 10, 11, 12, 13, 14, 15, 16],
         queued: &[],
         after: &[(Do::NextFin(8), Reply::Nothing)],
     };
@@ -206,10 +233,11 @@ fn what_a_finalised_weak_pointer_kept_is_kept(rt: HostRuntime) -> Result<(), Fai
     Ok(())
 }
 
-// Three weak pointers, each but the first of which keeps the key of the one before it.
+// Three weak pointers, each but the first of which keeps the key of the one before it. The snapshot holds the
+// first key, which the mutator drops while marking runs.
 #[test]
 fn a_chain_of_weak_pointers_is_kept_while_its_first_key_is(rt: HostRuntime) -> Result<(), Fail> {
-    let row = WorkedRow {
+    let row = Row {
         before: &[
             Do::Num(1, 5),
             Do::Num(2, 9),
@@ -225,7 +253,8 @@ fn a_chain_of_weak_pointers_is_kept_while_its_first_key_is(rt: HostRuntime) -> R
             Do::Nil(7),
             Do::Nil(8),
         ],
-        during: &[],
+        cells: 0,
+        during: &[(Do::Nil(4), Reply::Fine)],
         marked: &[0, 1, 2, 3, 4, 5, 6],
         queued: &[],
         after: &[(Do::NextFin(8), Reply::Nothing)],
@@ -238,7 +267,7 @@ fn a_chain_of_weak_pointers_is_kept_while_its_first_key_is(rt: HostRuntime) -> R
 // The same chain once nothing holds its first key: all die, and the finalisers that aren't nil are queued in order.
 #[test]
 fn a_chain_of_weak_pointers_dies_with_its_first_key(rt: HostRuntime) -> Result<(), Fail> {
-    let row = WorkedRow {
+    let row = Row {
         before: &[
             Do::Num(1, 5),
             Do::Num(2, 9),
@@ -255,20 +284,25 @@ fn a_chain_of_weak_pointers_dies_with_its_first_key(rt: HostRuntime) -> Result<(
             Do::Nil(7),
             Do::Nil(8),
         ],
+        cells: 0,
         during: &[],
         marked: &[],
         queued: &[Value::Number(5), Value::Number(9)],
-        after: &[(Do::NextFin(8), Reply::Given(Value::Number(5)))],
+        after: &[
+            (Do::NextFin(9), Reply::Given(Value::Number(5))),
+            (Do::NextFin(9), Reply::Given(Value::Number(9))),
+            (Do::NextFin(9), Reply::Nothing),
+        ],
     };
     let right = is_right(rt.alloc(), row)?;
     assert!(rt; right);
     Ok(())
 }
 
-// A finaliser that leads to the key of its weak pointer: the weak pointer dies, and both are kept.
+// A finaliser that leads to the key of its weak pointer: the weak pointer dies, and finaliser and key are kept.
 #[test]
 fn a_finaliser_that_holds_its_key_does_not_save_it(rt: HostRuntime) -> Result<(), Fail> {
-    let row = WorkedRow {
+    let row = Row {
         before: &[
             Do::Num(1, 5),
             Do::Con(4, 1),
@@ -276,11 +310,17 @@ fn a_finaliser_that_holds_its_key_does_not_save_it(rt: HostRuntime) -> Result<()
             Do::Weak(6, 4, 10, 5),
             Do::Nil(4),
             Do::Nil(5),
+            Do::Nil(6),
         ],
+        cells: 0,
         during: &[],
-        marked: &[0, 1, 2],
+        marked: &[0, 1],
         queued: &[object(1)],
-        after: &[(Do::Deref(7, 6), Reply::Dead)],
+        after: &[
+            (Do::NextFin(7), Reply::Given(object(1))),
+            (Do::Get(8, 7), Reply::Given(object(0))),
+            (Do::NextFin(9), Reply::Nothing),
+        ],
     };
     let right = is_right(rt.alloc(), row)?;
     assert!(rt; right);

@@ -7,7 +7,7 @@
 --
 -- P below are the names that may be held. The argument is that a step keeps them to be all that is held,
 -- so a wide reach has no other. For a snapshot, P says of each of its names that it isn't lost.
-use Rattle.std.specs.Prelude.{◌≡◌, ◌⊎◌, ◌≤◌, ℕ, List, [], ◌∷◌, Bool, IsSome, IsTrue}
+use Rattle.std.specs.Prelude.{◌≡◌, ◌⊎◌, ◌≤◌, ℕ, List, [], ◌∷◌, Bool, IsSome, IsTrue, Contains}
 use Rattle.nmgc_graph.specs.declared.value.TheConstants.{MAKERS}
 use Rattle.nmgc_graph.specs.declared.value.Name.{Name}
 use Rattle.nmgc_graph.specs.declared.node.Parts.{Parts}
@@ -104,7 +104,7 @@ IsKeptAfter i name = IsKept i.snapshot (opened i.snapshot i.rows) (finalised i.s
 abbrev pub closed_after : Interval → List Name → World
 closed_after i dead = closed (replayed i.snapshot i.rows) dead
 
--- the name isn't lost: if the snapshot has it, it is none of those that aren't kept. Nothing decides whether a name is kept, so this is all that can be said of it
+-- the name isn't lost: if the snapshot has it, it is none of those that aren't kept. Without a list of the kept names nothing decides whether a name is kept, so this is all that can be said of it
 abbrev pub IsNotLost : Interval → Name → Type 0
 IsNotLost i name = IsSome (node_of i.snapshot name) → (IsKeptAfter i name → ⊥) → ⊥
 
@@ -118,7 +118,7 @@ pub record IsClosedWell (i : Interval) (w : World) : Type 0 where
 abbrev pub ClosesWell : Type 0
 ClosesWell = (i : Interval) (dead : List Name) → IsSound i → Lists (IsDeadAfter i) dead → IsClosedWell i (closed_after i dead)
 
--- nothing reachable is freed: whatever the wide reach has of the snapshot's names isn't lost, after the closing and after any commands since
+-- whatever the wide reach has of the snapshot's names isn't lost, after the closing and after any commands since
 abbrev pub NothingReachableIsFreed : Type 0
 NothingReachableIsFreed = (i : Interval) (dead : List Name) (since : List Row) → IsSound i → Lists (IsDeadAfter i) dead → CanReplay (closed_after i dead) since → (name : Name) → IsWide (replayed (closed_after i dead) since) name → IsNotLost i name
 
@@ -141,6 +141,14 @@ CanContinue w (stretch ∷ stretches) = CanReplay w stretch.rows × CanContinue 
 abbrev pub NeverComesBack : Type 0
 NeverComesBack = (w : World) (later : List Stretch) → IsWorld w → CanContinue w later → (name : Name) → IsSome (node_of w name) → IsWide (continued w later) name → IsWide w name
 
--- nothing reachable is ever freed: the same as long as a run goes on, with its further closings
+-- the same as long as a run goes on, with its further closings
 abbrev pub NothingReachableIsEverFreed : Type 0
 NothingReachableIsEverFreed = (i : Interval) (dead : List Name) (later : List Stretch) → IsSound i → Lists (IsDeadAfter i) dead → CanContinue (closed_after i dead) later → (name : Name) → IsWide (continued (closed_after i dead) later) name → IsNotLost i name
+
+-- nothing reachable is freed: a list of exactly the kept names has all that the wide reach has of the snapshot's names, after the closing and after any commands since
+abbrev pub ReachableIsKept : Type 0
+ReachableIsKept = (i : Interval) (dead kept : List Name) (since : List Row) → IsSound i → Lists (IsDeadAfter i) dead → Lists (IsKeptAfter i) kept → CanReplay (closed_after i dead) since → (name : Name) → IsSome (node_of i.snapshot name) → IsWide (replayed (closed_after i dead) since) name → Contains kept name
+
+-- nothing reachable is ever freed: the same as long as a run goes on, with its further closings
+abbrev pub ReachableIsEverKept : Type 0
+ReachableIsEverKept = (i : Interval) (dead kept : List Name) (later : List Stretch) → IsSound i → Lists (IsDeadAfter i) dead → Lists (IsKeptAfter i) kept → CanContinue (closed_after i dead) later → (name : Name) → IsSome (node_of i.snapshot name) → IsWide (continued (closed_after i dead) later) name → Contains kept name

@@ -5,7 +5,7 @@
 //! For any other set the crates above cite the lemma of `specs/laws` of the same name.
 ghost use Rattle.std.specs.Prelude.{Bool};
 ghost use Rattle.nmgc_graph.specs.declared.value.Name.{Name};
-ghost use Rattle.nmgc_reach.specs.Reachable.{StepHoldsOnly, ClosingHoldsOnly, Passes, StepKeepsWorld, RowsKeepWorld, ClosingKeepsWorld, NewIsWorld, StepAddsOne, ClosingAddsNone, StaysUnreached, RowsHoldLive, NeverComesBack, ClosesWell, NothingReachableIsFreed, NothingReachableIsEverFreed};
+ghost use Rattle.nmgc_reach.specs.Reachable.{StepHoldsOnly, ClosingHoldsOnly, Passes, StepKeepsWorld, RowsKeepWorld, ClosingKeepsWorld, NewIsWorld, StepAddsOne, ClosingAddsNone, StaysUnreached, RowsHoldLive, NeverComesBack, ClosesWell, NothingReachableIsFreed, NothingReachableIsEverFreed, ReachableIsKept, ReachableIsEverKept};
 ghost use Rattle.nmgc_reach.specs.Leaves.{StepLeavesOthers, ClosingLeavesHands};
 ghost use Rattle.nmgc_reach.specs.Shape.{StepKeepsShapes, RowsKeepShapes, ClosingKeepsShapes};
 ghost use Rattle.nmgc_reach.specs.Stored.{StepStores, OldRefersToYoung, OldWeaksStay};
@@ -49,13 +49,17 @@ pub fn only_the_live_is_held()
     ensures { RowsHoldLive }
 {}
 
-/// Nothing reachable is freed: where a world is closed with exactly the dead weak pointers of a snapshot,
-/// whatever its wide reach has of the snapshot's names is kept; so it is after any commands since, and as
-/// long as a run goes on, with its further closings.
+/// Nothing reachable is freed. A world is closed with exactly the dead weak pointers of a snapshot and of
+/// the commands since. Then every list of exactly the names that are kept by that snapshot and those commands
+/// has each name of the snapshot that is in the wide reach: of the closed world, after any commands since
+/// (`kept`), and as long as a run goes on, with its further closings (`ever_kept`). Of such a name alone, where
+/// no list is given, it is said that it can't be that it isn't kept (`closing`, `since`, `run`).
 pub fn nothing_reachable_is_freed()
     ensures closing { ClosesWell }
     ensures since { NothingReachableIsFreed }
     ensures run { NothingReachableIsEverFreed }
+    ensures kept { ReachableIsKept }
+    ensures ever_kept { ReachableIsEverKept }
 {}
 
 /// What stands in a strong field stood there before the command, or the command made the object, or it is

@@ -2,10 +2,12 @@
 //!
 //! Nothing here runs. `specs/` has the wide reach, what is held, the shape of a node and the limits of a
 //! script, which the crates above cite. `laws` has the laws, and `specs/laws` the lemmas, which other
-//! crates' lemmas cite: a lemma can't call a function. Everything rests on `nmgc_graph` alone, so marking,
-//! promotion, the round and the run all cite one copy.
+//! crates' lemmas cite: a lemma can't call a function. Everything rests on `nmgc_graph` alone, so
+//! `nmgc_core`, `nmgc_heap`, `nmgc_round` and whatever else speaks of worlds cite one copy.
 //!
 //! The argument that matters most is in `specs/Reachable.antt`: why nothing reachable is freed.
 #![tactic(auto)]
 
 pub mod laws;
+#[cfg(test)]
+mod tests;

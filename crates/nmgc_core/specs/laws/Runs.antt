@@ -14,7 +14,7 @@ use Rattle.nmgc_core.specs.declared.event.Entry.{Entry}
 use Rattle.nmgc_core.specs.declared.event.Event.{Event}
 use Rattle.nmgc_core.specs.declared.event.Event.TheVariants as event
 use Rattle.nmgc_core.specs.State.{State, names_of, opening, unmarked, mark_name, mark_read, mark_values, root_values}
-use Rattle.nmgc_core.specs.Machine.{Passes, AreEmpty, after_command, after_push, after_scan, after_take, advanced}
+use Rattle.nmgc_core.specs.Machine.{IsPossible, Passes, AreEmpty, after_command, after_push, after_scan, after_take, advanced}
 use Rattle.nmgc_core.specs.Scan.{read_at}
 use Rattle.nmgc_core.specs.Closing.{IsClosing}
 use Rattle.nmgc_core.specs.Run.{row_of, rows_if, Runs, IsMarking, IsExact, SnapshotTheorem, FactsAreKept, OpeningHasFacts, EventKeepsFacts, ClosingIsExact}
@@ -126,18 +126,27 @@ command_under_way w rows s m c answer u can says =
       };
     }
 
--- a run so far
-pub record IsSoFar (w : World) (rows : List Row) (s : State) : Type 0 where
+-- a run so far, by these events
+pub record IsSoFar (w : World) (es : List Event) (rows : List Row) (s : State) : Type 0 where
+  pub runs : Runs (opening w) es rows s
   pub before : s.is_closed ≡ false → IsUnderWay w rows s
-  pub after : s.is_closed ≡ true → IsExact w rows s
+  pub after : s.is_closed ≡ true → IsExact w es rows s
 
 -- the closing of a run that is under way
-close_exact : (w : World) (rows : List Row) (s t : State) → IsUnderWay w rows s → s.queue ≡ [] → AreEmpty s.owed → AreEmpty s.pushed → (c : IsClosing s t) → IsExact w rows t
-close_exact w rows s t u queue owed pushed c =
+close_exact : (w : World) (es : List Event) (rows : List Row) (s t : State) → Runs (opening w) es rows s → IsUnderWay w rows s → IsPossible s event.Close → (c : IsClosing s t) → IsExact w (es ++ event.Close ∷ []) rows t
+close_exact w es rows s t runs u possible c =
+    let queue : s.queue ≡ [] = possible.1 in
+    let owed : AreEmpty s.owed = possible.2 in
+    let pushed : AreEmpty s.pushed = possible.3 in
     let e : s.snapshot ≡ w = u.marking.snapshot in
     let f : Facts s = u.facts in
     record {
+      earlier = es;
+      later = [];
+      events_are = refl;
       before = s;
+      runs = runs;
+      possible = possible;
       marking = u.marking;
       closing = c;
       live = λ name. (
@@ -151,6 +160,23 @@ close_exact w rows s t u queue owed pushed c =
       );
       world = ap (λ (x : State). x.world) c.rest ∙ ap (λ (v : World). closed v c.dead) u.marking.world;
     }
+
+-- an event that can't happen after a closing
+exact_later : (w : World) (es : List Event) (rows : List Row) (s : State) (e : Event) → IsExact w es rows s → IsExact w (es ++ e ∷ []) rows s
+exact_later w es rows s e x = record {
+  earlier = x.earlier;
+  later = x.later ++ e ∷ [];
+  events_are = ap (λ (l : List Event). l ++ e ∷ []) x.events_are ∙ append_assoc x.earlier (event.Close ∷ x.later) (e ∷ []);
+  before = x.before;
+  runs = x.runs;
+  possible = x.possible;
+  marking = x.marking;
+  closing = x.closing;
+  live = x.live;
+  dead = x.dead;
+  kept = x.kept;
+  world = x.world;
+}
 
 -- no event but the closing closes
 still_open : (s t : State) → SameHistory s t → s.is_closed ≡ false → t.is_closed ≡ true → ⊥
@@ -167,10 +193,11 @@ pub opening_world : (w : World) → (opening w).world ≡ w
 opening_world w = (values_history (unmarked w) (root_values w)).world
 
 -- the start of a run
-pub so_far_starts : (w : World) → IsWorld w → IsSoFar w [] (opening w)
+pub so_far_starts : (w : World) → IsWorld w → IsSoFar w [] [] (opening w)
 so_far_starts w h =
     let start : SameHistory (unmarked w) (opening w) = values_history (unmarked w) (root_values w) in
     record {
+      runs = (refl, refl);
       before = λ e. let f : Facts (opening w) = opening_facts w h in record {
         facts = f;
         world = subst IsWorld (sym (opening_world w)) h;
@@ -180,52 +207,59 @@ so_far_starts w h =
     }
 
 -- one event of a run
-module _ (w : World) (rows : List Row) (s : State) (r : IsSoFar w rows s) where
+module _ (w : World) (es : List Event) (rows : List Row) (s : State) (r : IsSoFar w es rows s) where
   -- an event that is no command and doesn't close
-  quiet : (e : Event) (t : State) → row_of e ≡ [] → s.is_closed ≡ false → SameHistory s t → Facts t → IsSoFar w (rows ++ rows_if true e) t
-  quiet e t none running same f = record {
+  quiet : (e : Event) (t : State) → row_of e ≡ [] → s.is_closed ≡ false → SameHistory s t → Facts t → Passes s e true t → IsSoFar w (es ++ e ∷ []) (rows ++ rows_if true e) t
+  quiet e t none running same f p = record {
+    runs = runs_push (opening w) s t es rows e true r.runs p;
     before = λ k. rw (none, append-nil) (same_under_way w rows s t (r.before running) same f);
     after = λ k. absurd (still_open s t same running k);
   }
 
-  happened : (e : Event) (t : State) → Passes s e true t → IsSoFar w (rows ++ rows_if true e) t
+  happened : (e : Event) (t : State) → Passes s e true t → IsSoFar w (es ++ e ∷ []) (rows ++ rows_if true e) t
   happened (event.Command m c answer) t p = record {
+    runs = runs_push (opening w) s t es rows (event.Command m c answer) true r.runs p;
     before = λ k. subst (IsUnderWay w (rows ++ (record { mutator = m; command = c; reply = answer }) ∷ [])) (sym p.1) (command_under_way w rows s m c answer (r.before p.0.0) p.0.1 p.0.2);
     after = λ k. absurd (let a : t.is_closed ≡ s.is_closed = ap (λ (x : State). x.is_closed) p.1 in let b : s.is_closed ≡ false = p.0.0 in let d : false ≡ true = cc in cc);
   }
-  happened (event.Push m) t p = quiet (event.Push m) t refl p.0.0 (subst (SameHistory s) (sym p.1) (push_history s m (names_of s.owed m))) (subst Facts (sym p.1) (push_facts s (r.before p.0.0).facts m (names_of s.owed m) refl))
-  happened event.Scan t p = quiet event.Scan t refl p.0.0 (subst (SameHistory s) (sym p.1) (scan_history s s.queue)) (subst Facts (sym p.1) (scan_facts s (r.before p.0.0).facts (r.before p.0.0).world s.queue refl))
-  happened (event.Take m) t p = quiet (event.Take m) t refl p.0.0 (subst (SameHistory s) (sym p.1) (take_history s m (names_of s.pushed m))) (subst Facts (sym p.1) (take_facts s (r.before p.0.0).facts m (names_of s.pushed m) refl))
+  happened (event.Push m) t p = quiet (event.Push m) t refl p.0.0 (subst (SameHistory s) (sym p.1) (push_history s m (names_of s.owed m))) (subst Facts (sym p.1) (push_facts s (r.before p.0.0).facts m (names_of s.owed m) refl)) p
+  happened event.Scan t p = quiet event.Scan t refl p.0.0 (subst (SameHistory s) (sym p.1) (scan_history s s.queue)) (subst Facts (sym p.1) (scan_facts s (r.before p.0.0).facts (r.before p.0.0).world s.queue refl)) p
+  happened (event.Take m) t p = quiet (event.Take m) t refl p.0.0 (subst (SameHistory s) (sym p.1) (take_history s m (names_of s.pushed m))) (subst Facts (sym p.1) (take_facts s (r.before p.0.0).facts m (names_of s.pushed m) refl)) p
   happened event.Close t p = record {
+    runs = runs_push (opening w) s t es rows event.Close true r.runs p;
     before = λ k. absurd (let a : t.is_closed ≡ true = ap (λ (x : State). x.is_closed) p.1.rest in let d : true ≡ false = cc in cc);
-    after = λ k. rw append-nil (close_exact w rows s t (r.before p.0.0) p.0.1 p.0.2 p.0.3 p.1);
+    after = λ k. subst (λ (l : List Row). IsExact w (es ++ event.Close ∷ []) l t) (sym (append-nil rows)) (close_exact w es rows s t r.runs (r.before p.0.0) p.0 p.1);
   }
 
   -- an event that can't happen
-  refused : (e : Event) (t : State) → Passes s e false t → IsSoFar w (rows ++ rows_if false e) t
+  refused : (e : Event) (t : State) → Passes s e false t → IsSoFar w (es ++ e ∷ []) (rows ++ rows_if false e) t
   refused e t p = record {
+    runs = runs_push (opening w) s t es rows e false r.runs p;
     before = λ k. rw append-nil (subst (IsUnderWay w rows) (sym p.1) (r.before (ap (λ (x : State). x.is_closed) (sym p.1) ∙ k)));
-    after = λ k. rw append-nil (subst (IsExact w rows) (sym p.1) (r.after (ap (λ (x : State). x.is_closed) (sym p.1) ∙ k)));
+    after = λ k. subst (λ (l : List Row). IsExact w (es ++ e ∷ []) l t) (sym (append-nil rows)) (subst (IsExact w (es ++ e ∷ []) rows) (sym p.1) (exact_later w es rows s e (r.after (ap (λ (x : State). x.is_closed) (sym p.1) ∙ k))));
   }
 
-  so_far_on : (e : Event) (done : Bool) (t : State) → Passes s e done t → IsSoFar w (rows ++ rows_if done e) t
+  so_far_on : (e : Event) (done : Bool) (t : State) → Passes s e done t → IsSoFar w (es ++ e ∷ []) (rows ++ rows_if done e) t
   so_far_on e true t p = happened e t p
   so_far_on e false t p = refused e t p
 
 -- the events of a run, one after the other
-so_far_runs : (w : World) (rows : List Row) (s : State) (es : List Event) (more : List Row) (t : State) → IsSoFar w rows s → Runs s es more t → IsSoFar w (rows ++ more) t
-so_far_runs w rows s [] more t r h = rw (h.0, h.1, append-nil) r
-so_far_runs w rows s (e ∷ es) more t r (done, next, rest, first, is, runs) =
-    let now : IsSoFar w ((rows ++ rows_if done e) ++ rest) t = so_far_runs w (rows ++ rows_if done e) next es rest t (so_far_on w rows s r e done next first) runs in
-    rw (is, ← append_assoc rows (rows_if done e) rest) now
+so_far_runs : (w : World) (past : List Event) (rows : List Row) (s : State) (es : List Event) (more : List Row) (t : State) → IsSoFar w past rows s → Runs s es more t → IsSoFar w (past ++ es) (rows ++ more) t
+so_far_runs w past rows s [] more t r h =
+    let now : IsSoFar w (past ++ []) rows s = subst (λ (l : List Event). IsSoFar w l rows s) (sym (append-nil past)) r in
+    rw (h.0, h.1) (subst (λ (l : List Row). IsSoFar w (past ++ []) l s) (sym (append-nil rows)) now)
+so_far_runs w past rows s (e ∷ es) more t r (done, next, rest, first, is, runs) =
+    let now : IsSoFar w ((past ++ e ∷ []) ++ es) ((rows ++ rows_if done e) ++ rest) t = so_far_runs w (past ++ e ∷ []) (rows ++ rows_if done e) next es rest t (so_far_on w past rows s r e done next first) runs in
+    let moved : IsSoFar w (past ++ e ∷ es) ((rows ++ rows_if done e) ++ rest) t = subst (λ (l : List Event). IsSoFar w l ((rows ++ rows_if done e) ++ rest) t) (append_assoc past (e ∷ []) es) now in
+    rw (is, ← append_assoc rows (rows_if done e) rest) moved
 
-pub run_so_far : (w : World) → IsWorld w → (es : List Event) (rows : List Row) (s : State) → Runs (opening w) es rows s → IsSoFar w rows s
-run_so_far w h es rows s runs = so_far_runs w [] (opening w) es rows s (so_far_starts w h) runs
+pub run_so_far : (w : World) → IsWorld w → (es : List Event) (rows : List Row) (s : State) → Runs (opening w) es rows s → IsSoFar w es rows s
+run_so_far w h es rows s runs = so_far_runs w [] [] (opening w) es rows s (so_far_starts w h) runs
 
 -- the snapshot theorem
 pub snapshot_theorem : SnapshotTheorem
 snapshot_theorem w h es rows s runs =
-    let r : IsSoFar w rows s = run_so_far w h es rows s runs in
+    let r : IsSoFar w es rows s = run_so_far w h es rows s runs in
     record { before = λ e. (r.before e).marking; after = r.after }
 
 -- the facts hold at the opening, and each event keeps them

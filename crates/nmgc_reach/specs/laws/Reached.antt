@@ -11,13 +11,14 @@ use Rattle.nmgc_graph.specs.declared.node.Node.TheVariants.{Weak}
 use Rattle.nmgc_graph.specs.World.{World, IsWorld, IsKnown, AreKnown, IsNodeOf, node_of, state_of}
 use Rattle.nmgc_graph.specs.Step.{next_name, step}
 use Rattle.nmgc_graph.specs.History.{Row, replayed}
-use Rattle.nmgc_graph.specs.Reach.{IsReached, IsRoot, IsAlive, RefersTo, closed, closed_by, strong_fields}
+use Rattle.nmgc_graph.specs.Reach.{IsReached, IsRoot, IsAlive, RefersTo, Lists, closed, closed_by, strong_fields}
 use Rattle.nmgc_graph.specs.laws.Growth.{step_grows}
 use Rattle.nmgc_graph.specs.laws.Nodes.{fields_known}
 use Rattle.nmgc_graph.specs.laws.Orders.{contains_head, contains_tail, contains_cases}
+use Rattle.nmgc_graph.specs.laws.Rows.{name_cases}
 use Rattle.nmgc_graph.specs.laws.Worlds.{at_some, not_shared}
 use Rattle.nmgc_reach.specs.Wide.{IsOfWeak, IsWide}
-use Rattle.nmgc_reach.specs.Reachable.{HoldsOnly, CountsNew, CanReplay, ClosingHoldsOnly, StepAddsOne, ClosingAddsNone, StaysUnreached, IsNotLost, NothingReachableIsFreed, Stretch, continued, CanContinue, NeverComesBack, NothingReachableIsEverFreed}
+use Rattle.nmgc_reach.specs.Reachable.{HoldsOnly, CountsNew, CanReplay, ClosingHoldsOnly, StepAddsOne, ClosingAddsNone, StaysUnreached, IsNotLost, NothingReachableIsFreed, Stretch, continued, CanContinue, NeverComesBack, NothingReachableIsEverFreed, Interval, IsKeptAfter, ReachableIsKept, ReachableIsEverKept}
 use Rattle.nmgc_reach.specs.laws.ItemLaws.{nothing_in}
 use Rattle.nmgc_reach.specs.laws.NodeLaws.{next_is_new}
 use Rattle.nmgc_reach.specs.laws.WorldSteps.{step_keeps_world}
@@ -166,6 +167,30 @@ nothing_reachable_is_ever_freed i dead later sound lists can name wide =
     wide_is_held (IsNotLost i) (continued w later)
     (continued_hold (IsNotLost i) w later well.world (λ n gone old. absurd (gone (well.names n old))) well.holds can)
     name wide
+
+-- a name is listed or not
+listed_cases : (names : List Name) (name : Name) → Contains names name ⊎ (Contains names name → ⊥)
+listed_cases [] name = inr (nothing_in name)
+listed_cases (x ∷ xs) name = elim (name_cases x name) [
+  | inl e ↦ let P : Name → Type 0 = Contains (x ∷ xs) in inl (subst P e (contains_head x xs))
+  | inr other ↦ elim (listed_cases xs name) [
+    | inl c ↦ inl (contains_tail x xs name c)
+    | inr none ↦ inr (λ c. elim (contains_cases x xs name c) [ inl e ↦ other e | inr d ↦ none d ])
+  ]
+]
+
+-- so a list of exactly the kept names has each that isn't lost
+not_lost_listed : (i : Interval) (kept : List Name) → Lists (IsKeptAfter i) kept → (name : Name) → IsSome (node_of i.snapshot name) → IsNotLost i name → Contains kept name
+not_lost_listed i kept lists name there not_lost = elim (listed_cases kept name) [
+  | inl c ↦ c
+  | inr none ↦ absurd (not_lost there (λ k. none (lists.complete name k)))
+]
+
+pub reachable_is_kept : ReachableIsKept
+reachable_is_kept i dead kept since sound lists all more name there wide = not_lost_listed i kept all name there (nothing_reachable_is_freed i dead since sound lists more name wide)
+
+pub reachable_is_ever_kept : ReachableIsEverKept
+reachable_is_ever_kept i dead kept later sound lists all can name there wide = not_lost_listed i kept all name there (nothing_reachable_is_ever_freed i dead later sound lists can name wide)
 
 -- every name that a world holds is one of its own
 

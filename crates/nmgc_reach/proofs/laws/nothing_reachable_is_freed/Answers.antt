@@ -1,6 +1,6 @@
 use Rattle.nmgc_reach.specs.laws.Closes.{closes_well}
-use Rattle.nmgc_reach.specs.laws.Reached.{nothing_reachable_is_freed, nothing_reachable_is_ever_freed}
+use Rattle.nmgc_reach.specs.laws.Reached.{nothing_reachable_is_freed, nothing_reachable_is_ever_freed, reachable_is_kept, reachable_is_ever_kept}
 use Rattle.nmgc_reach.proofs.laws.nothing_reachable_is_freed.Goals as goal
 
 pub returns : goal.returns
-returns c = record { closing = closes_well; since = nothing_reachable_is_freed; run = nothing_reachable_is_ever_freed }
+returns c = record { closing = closes_well; since = nothing_reachable_is_freed; run = nothing_reachable_is_ever_freed; kept = reachable_is_kept; ever_kept = reachable_is_ever_kept }
