@@ -18,7 +18,7 @@ ghost use Rattle.nmgc_segment.specs.Segment.{InUse};
 ghost use Rattle.nmgc_alloc.specs.Search.{nth};
 ghost use Rattle.nmgc_alloc.specs.Turns.{prepared, carried_over, retired};
 ghost use Rattle.nmgc_alloc.specs.Segments.{Segments, IsBlockAt, IsSegments, Allocates, SweepsNext, Marks};
-ghost use Rattle.nmgc_alloc.specs.Blocks.{HasAt, IsCarried, IsSnapshotAt, IsMarkedAt, IsUsedAt, MarksPlace, SameSnapshot, SameMarked, snapshot_count, marked_count};
+ghost use Rattle.nmgc_alloc.specs.Blocks.{HasAt, IsCarried, IsSnapshotAt, IsMarkedAt, IsUsedAt, MarksPlace, SameSnapshot, SameMarked, snapshot_count, marked_count, carried_count};
 
 /// A block lies within its segment.
 pub fn lie_in_segments()
@@ -56,11 +56,12 @@ pub fn mark_at()
 {}
 
 /// How many blocks are in the snapshot, and how many are marked, after each call that keeps the one or
-/// the other. `Segments::mark_at` raises the second by one where its answer is true.
+/// the other. `Segments::mark_at` raises the second by one where its answer is true. After
+/// `Segments::carry` all are marked that were, or had a mark in a segment that isn't to be swept.
 pub fn numbers()
     ensures allocate { (s new : Segments) (mutator class at epoch : ℕ) → IsEpoch epoch → IsSegments s → Allocates s new mutator class at → (snapshot_count new ≡ snapshot_count s) × (marked_count epoch new ≡ marked_count epoch s) }
     ensures mark_at { (s new : Segments) (at epoch : ℕ) (answer : Bool) → IsEpoch epoch → IsSegments s → Marks s new at epoch answer → (snapshot_count new ≡ snapshot_count s) × (marked_count epoch new ≡ marked_count epoch s + (if answer then 1 else 0)) }
-    ensures carry { (s : Segments) (epoch : ℕ) → IsEpoch epoch → IsSegments s → snapshot_count (record s { segments = map (carried_over epoch) s.segments }) ≡ snapshot_count s }
+    ensures carry { (s : Segments) (epoch : ℕ) → IsEpoch epoch → IsSegments s → (snapshot_count (record s { segments = map (carried_over epoch) s.segments }) ≡ snapshot_count s) × (marked_count epoch (record s { segments = map (carried_over epoch) s.segments }) ≡ carried_count epoch s) }
     ensures retire_all { (s : Segments) (epoch : ℕ) → IsSegments s → (snapshot_count (record s { segments = map retired s.segments }) ≡ snapshot_count s) × (marked_count epoch (record s { segments = map retired s.segments }) ≡ marked_count epoch s) }
     ensures prepare { (s : Segments) (epoch : ℕ) → IsSegments s → marked_count epoch (record s { segments = map prepared s.segments; fresh = 0 }) ≡ marked_count epoch s }
     ensures sweep_next { (s new : Segments) (epoch number : ℕ) → IsEpoch epoch → SweepsNext s new epoch number → marked_count epoch new ≡ marked_count epoch s }

@@ -1,5 +1,5 @@
 //! Placing, a cycle and a full cycle in a small heap, and a large heap of one-block segments.
-use crate::Segments;
+use crate::{Segments, blocks, laws};
 use nmgc_object::{Address, Layout, block_words};
 use nmgc_segment::State;
 use std::process::Abort;
@@ -113,4 +113,33 @@ fn one_block_segments(rt: HostRuntime) -> Result<(), Fail> {
     }
     counts(&rt, &segments, 65_536, 0, 0, 0);
     Ok(())
+}
+
+// Each law asks nothing.
+#[test]
+fn laws_ask_nothing(rt: HostRuntime) {
+    let _ = &rt;
+    laws::blocks_lie_apart();
+    laws::new();
+    laws::one_state();
+    laws::prepare();
+    laws::retire_all();
+    laws::has_room();
+    laws::allocate();
+    laws::sweep_next();
+    laws::carry();
+    laws::mark_at();
+    laws::counts();
+    laws::reserve();
+    laws::one_answer();
+    laws::states_stay();
+    laws::other_words();
+    laws::counts_tell();
+    blocks::lie_in_segments();
+    blocks::begin_where_placed();
+    blocks::in_the_snapshot();
+    blocks::marked();
+    blocks::mark_at();
+    blocks::numbers();
+    blocks::numbers_tell();
 }

@@ -8,4 +8,5 @@ pub mod Samples
 pub mod Shape
 pub mod Statements
 pub mod Tracked
+pub mod Written
 pub mod laws

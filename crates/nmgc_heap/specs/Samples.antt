@@ -1,6 +1,7 @@
 -- Two small heaps, and what their words stand for: 32 segments of 64 words, one mutator, and a nursery as
--- large as a segment. Each is a world that commands made, with the words of it at a stop; the words of
--- which nothing is told are left open.
+-- large as a segment. Each is a world that commands made, with the words of it at a stop. The words after
+-- the last object are left open; the other words of which nothing is told are 0: word 0, those between g
+-- and the first segment, and the last word of a block that its object doesn't fill.
 use Rattle.std.specs.Prelude.{ℕ, zero, suc, ◌≡◌, ◌≢◌, ◌+◌, ◌-◌, ◌*◌, List, [], ◌∷◌, ◌++◌, length, map, replicate, slice_index, Contains}
 use Rattle.nmgc_graph.specs.declared.value.Name.{Name}
 use Rattle.nmgc_graph.specs.declared.node.Node.{Node}

@@ -10,3 +10,4 @@ pub mod NodeChanges
 pub mod Roots
 pub mod Slots
 pub mod Tracking
+pub mod Written

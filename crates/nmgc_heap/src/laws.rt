@@ -7,6 +7,7 @@
 ghost use Rattle.nmgc_heap.specs.Commands.{StepIsOne, StepChangesField, TrackedAreKnown, StepTracks, StepTracksNoMore, ClosingTracks, StepLeavesHeap, WorldIsEarlier, StepKeepsEarlier, ClosingKeepsEarlier, StepKeepsHeaders, ClosingKeepsHeaders};
 ghost use Rattle.nmgc_heap.specs.Samples.{OneObject, SnapshotStands, OverwrittenStands, WordsAreTold, NoSecondPlace};
 ghost use Rattle.nmgc_heap.specs.Statements.{OnePlace, OneMeaning, MeaningIsSet, MeaningIsField, FieldHasMeaning, OneNode, OneWorld, OneWording, SameHeap, FieldChange, NodeChange, UnbornStore, Birth, Move, MoveOfRoots, Remembrance, Agreement, DropOfPlaces, DropOfRoots, Addition, AdditionOfRoots};
+ghost use Rattle.nmgc_heap.specs.Written.{HeaderIsShape, NodeIsWritten, WorldIsWritten, PartsAreWritten};
 
 use std::marker::Brand;
 
@@ -132,6 +133,17 @@ pub fn headers_stay<K: KnownNodes>()
     ensures closing_known { ClosingKeepsHeaders K.knows }
 {}
 
+/// The header of a node is its kind, its tag and its number of fields, and its object has the words of that
+/// header and of its shape. So what is within the limits of a script has words: its header can be written, also
+/// that of g, and every other object fits a segment. And in words that represent a world, name, header and
+/// fields lie where `nmgc_object` says that the parts of an object lie.
+pub fn objects_have_words<K: KnownNodes>()
+    ensures shape { HeaderIsShape }
+    ensures node { NodeIsWritten }
+    ensures world { WorldIsWritten }
+    ensures parts { PartsAreWritten K.knows }
+{}
+
 /// At the end of a run that made one object, the words stand for its world.
 pub fn one_object()
     ensures { OneObject }
@@ -145,8 +157,8 @@ pub fn overwritten_during_marking()
     ensures after { OverwrittenStands }
 {}
 
-/// With a wrong pointer, a wrong header or a wrong name no words stand for that snapshot, and with two
-/// places for one name none stand for any world.
+/// With a wrong pointer, header or name of its variable no words stand for that snapshot at its places. And
+/// with a second place for the first name none stand for any world.
 pub fn wrong_words<K: KnownNodes>()
     ensures words { WordsAreTold K.knows }
     ensures places { NoSecondPlace K.knows }

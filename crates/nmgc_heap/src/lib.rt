@@ -2,9 +2,9 @@
 //!
 //! The model of the collector is a finite map from names to nodes that only grows. The heap has words,
 //! places that are used again, and objects that move. `specs/` ties the two: which names are tracked,
-//! where an object may lie, what a field word means, and when words represent a world. Promotion, the
-//! round, the marker, the sweeper and the run all cite these definitions, and a reader of their promises
-//! has to believe nothing else of the refinement.
+//! where an object may lie, what a field word means, and when words represent a world. `nmgc_round` and
+//! `nmgc_mutator` cite these definitions, so a reader of their promises reads these first. A round adds
+//! what it knows of its objects between two steps, by definitions of its own.
 //!
 //! `laws` has what holds of them for all worlds and words. `heap_words` has the words themselves, one at
 //! a time: a list's, or those of the table that a run keeps.

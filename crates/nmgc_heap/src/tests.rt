@@ -52,6 +52,7 @@ fn laws_ask_nothing(rt: HostRuntime) {
     laws::command_is_one_change();
     laws::nothing_new_is_tracked();
     laws::headers_stay::<Brand>();
+    laws::objects_have_words::<Brand>();
     laws::one_object();
     laws::overwritten_during_marking();
     laws::wrong_words::<Brand>();

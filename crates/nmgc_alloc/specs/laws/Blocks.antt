@@ -1,6 +1,6 @@
 -- Blocks by their places: which calls keep them in the snapshot and marked, and how many there are.
 use Rattle.std.proofs.Common.{ℕ, zero, suc, ◌≡◌, ◌≢◌, ◌+◌, ◌*◌, ◌/◌, ◌<◌, ◌≤◌, ◌⊎◌, ◌↔◌, ◌∙◌, inl, inr, refl, ap, subst, sym, arith, Bool, true, false, not, IsTrue, List, [], ◌∷◌, length, map, set, slice_index, count_by, sum_by}
-use Rattle.std.specs.Prelude.{◌||◌, ◌==◌, nat_lt}
+use Rattle.std.specs.Prelude.{◌||◌, ◌&&◌, ◌==◌, nat_lt}
 use Rattle.std.specs.List.{range_with_len}
 use Rattle.std.proofs.Math.ListN.{length-set, length-map}
 use Rattle.std.proofs.lemmas.List.{get_or-set_same, get_or-set_other}
@@ -13,10 +13,10 @@ use Rattle.nmgc_segment.specs.Segment.{Segment, IsSegment, InUse, InSnapshot, Is
 use Rattle.nmgc_segment.specs.declared.state.State.{State}
 use Rattle.nmgc_segment.specs.declared.state.State.TheVariants.{Free, Current, Active, Filled, Sweeping}
 use Rattle.nmgc_segment.specs.laws.Segments.{few_blocks, mark-map, carried_bounds, carried_is, swept_is, zero_swept}
-use Rattle.nmgc_alloc.specs.Search.{nth}
+use Rattle.nmgc_alloc.specs.Search.{is, nth}
 use Rattle.nmgc_alloc.specs.Segments.{Segments, IsSegments, IsBlockAt, IsToMark, HasNumber, IsChosen, Allocates, SweepsNext, Marks, as_current, marked_if, block_place}
 use Rattle.nmgc_alloc.specs.Turns.{prepared, prepared_snap, carried_in, carried_over, retired}
-use Rattle.nmgc_alloc.specs.Blocks.{HasAt, IsCarried, IsSnapshotAt, IsMarkedAt, MarksPlace, SameMarked, in_snapshot, is_marked, blocks_that, snapshot_count, marked_count}
+use Rattle.nmgc_alloc.specs.Blocks.{HasAt, IsCarried, IsSnapshotAt, IsMarkedAt, MarksPlace, SameMarked, in_snapshot, is_marked, is_carried, blocks_that, snapshot_count, marked_count}
 use Rattle.nmgc_alloc.specs.laws.Apart.{same_block}
 use Rattle.nmgc_alloc.specs.laws.Counts.{one_if}
 use Rattle.nmgc_alloc.specs.laws.Numbers.{nth-map, each_set, nth-set_same}
@@ -110,6 +110,37 @@ marked_told epoch x b = elim (cases_eq (mark_of x b) epoch) [
   | inr ne ↦ let all : is_marked epoch x b ≡ false = ne_eqb (mark_of x b) epoch ne in ((λ t. absurd (cc)), (λ e. absurd (ne e)))
 ]
 
+sweeping_cases : (state : State) → (state ≡ Sweeping) ⊎ ((state ≢ Sweeping) × (is state Sweeping ≡ false))
+sweeping_cases Free = inr ((λ e. cc), refl)
+sweeping_cases (Current m) = inr ((λ e. cc), refl)
+sweeping_cases Active = inr ((λ e. cc), refl)
+sweeping_cases Filled = inr ((λ e. cc), refl)
+sweeping_cases Sweeping = inl refl
+
+pub carried_told : (epoch : ℕ) → Tells (is_carried epoch) (IsCarried epoch)
+carried_told epoch x b = elim (cases_eq (mark_of x b) epoch) [
+  | inl e ↦
+      let all : is_carried epoch x b ≡ true = ap (λ (v : Bool). v || (not (is x.state Sweeping) && not (mark_of x b == 0))) (eq-eqb (mark_of x b) epoch e) in
+      ((λ _. inl e), (λ _. all))
+  | inr ne ↦
+      let other : is_carried epoch x b ≡ (not (is x.state Sweeping) && not (mark_of x b == 0)) = ap (λ (v : Bool). v || (not (is x.state Sweeping) && not (mark_of x b == 0))) (ne_eqb (mark_of x b) epoch ne) in
+      elim (sweeping_cases x.state) [
+        | inl asleep ↦
+            let all : is_carried epoch x b ≡ false = other ∙ ap (λ (state : State). not (is state Sweeping) && not (mark_of x b == 0)) asleep in
+            ((λ t. absurd (cc)), (λ c. elim c [ inl e ↦ absurd (ne e) | inr k ↦ absurd (k.0 asleep) ]))
+        | inr awake ↦
+            let rest : is_carried epoch x b ≡ not (mark_of x b == 0) = other ∙ ap (λ (v : Bool). not v && not (mark_of x b == 0)) awake.1 in
+            elim (cases_eq (mark_of x b) 0) [
+              | inl z ↦
+                  let all : is_carried epoch x b ≡ false = rest ∙ ap not (eq-eqb (mark_of x b) 0 z) in
+                  ((λ t. absurd (cc)), (λ c. elim c [ inl e ↦ absurd (ne e) | inr k ↦ absurd (k.1 z) ]))
+              | inr nz ↦
+                  let all : is_carried epoch x b ≡ true = rest ∙ ap not (ne_eqb (mark_of x b) 0 nz) in
+                  ((λ _. inr (awake.0, nz)), (λ _. all))
+            ]
+      ]
+]
+
 -- counts over blocks
 
 abbrev count : (ℕ → Bool) → ℕ → ℕ → ℕ
@@ -192,14 +223,14 @@ count_lt f g a (suc n) b low high was now h = elim (cases_eq a b) [
 
 -- sums over segments
 
-sums_same : (f : Segment → ℕ) (xs ys : List Segment) → length ys ≡ length xs → ((i : ℕ) → i < length xs → f (nth ys i) ≡ f (nth xs i)) → sum_by f ys ≡ sum_by f xs
-sums_same f [] [] size h = refl
-sums_same f [] (y ∷ ys) size h = absurd (omega arith)
-sums_same f (x ∷ xs) [] size h = absurd (omega arith)
-sums_same f (x ∷ xs) (y ∷ ys) size h =
-    let here : f y ≡ f x = h 0 (omega arith) in
-    let rest = sums_same f xs ys (omega arith) (λ i low. h (suc i) (omega arith)) in
-    omega (arith, sum_by-cons f x xs, sum_by-cons f y ys, here, rest)
+sums_same : (f g : Segment → ℕ) (xs ys : List Segment) → length ys ≡ length xs → ((i : ℕ) → i < length xs → g (nth ys i) ≡ f (nth xs i)) → sum_by g ys ≡ sum_by f xs
+sums_same f g [] [] size h = refl
+sums_same f g [] (y ∷ ys) size h = absurd (omega arith)
+sums_same f g (x ∷ xs) [] size h = absurd (omega arith)
+sums_same f g (x ∷ xs) (y ∷ ys) size h =
+    let here : g y ≡ f x = h 0 (omega arith) in
+    let rest = sums_same f g xs ys (omega arith) (λ i low. h (suc i) (omega arith)) in
+    omega (arith, sum_by-cons f x xs, sum_by-cons g y ys, here, rest)
 
 sums_le : (f g : Segment → ℕ) (xs : List Segment) → ((i : ℕ) → i < length xs → f (nth xs i) ≤ g (nth xs i)) → sum_by f xs ≤ sum_by g xs
 sums_le f g [] h = omega arith
@@ -219,22 +250,25 @@ sums_lt f g (x ∷ xs) (suc n) low h less =
     let rest = sums_lt f g xs n (omega arith) (λ i below. h (suc i) (omega arith)) less in
     omega (arith, sum_by-cons f x xs, sum_by-cons g x xs, here, rest)
 
--- a segment has as many such blocks as it had
-blocks_same : (Such : Segment → ℕ → Type 0) (test : Segment → ℕ → Bool) (x y : Segment) → Tells test Such → Carries Such Such x y → blocks_that test y ≡ blocks_that test x
-blocks_same Such test x y tells k =
-    let each = λ (b : ℕ). is_true (test y b) (test x b) ((λ t. (tells x b).1 ((k.same b).0 ((tells y b).0 t))), (λ t. (tells y b).1 ((k.same b).1 ((tells x b).0 t)))) in
+-- a segment has as many such blocks as it had of those that become such
+blocks_same : (Was Now : Segment → ℕ → Type 0) (was now : Segment → ℕ → Bool) (x y : Segment) → Tells was Was → Tells now Now → Carries Was Now x y → blocks_that now y ≡ blocks_that was x
+blocks_same Was Now was now x y was_told now_told k =
+    let each = λ (b : ℕ). is_true (now y b) (was x b) ((λ t. (was_told x b).1 ((k.same b).0 ((now_told y b).0 t))), (λ t. (now_told y b).1 ((k.same b).1 ((was_told x b).0 t)))) in
     elim k.class [
       | inl class ↦
           let size : block_count y ≡ block_count x = ap (λ (n : ℕ). 4 * n / block_size y.class) k.marks ∙ ap (λ (c : ℕ). 4 * length x.marks / block_size c) class in
-          ap (λ (n : ℕ). count (test y) 0 n) size ∙ count_same (test y) (test x) 0 (block_count x) each
+          ap (λ (n : ℕ). count (now y) 0 n) size ∙ count_same (now y) (was x) 0 (block_count x) each
       | inr none ↦
-          let fails = λ (b : ℕ). elim (cases_Bool (test x b)) as (λ _. test x b ≡ false) [ inl t ↦ absurd (none b ((tells x b).0 t)) | inr f ↦ f ] in
-          count_none (test y) 0 (block_count y) (λ b. each b ∙ fails b) ∙ sym (count_none (test x) 0 (block_count x) fails)
+          let fails = λ (b : ℕ). elim (cases_Bool (was x b)) as (λ _. was x b ≡ false) [ inl t ↦ absurd (none b ((was_told x b).0 t)) | inr f ↦ f ] in
+          count_none (now y) 0 (block_count y) (λ b. each b ∙ fails b) ∙ sym (count_none (was x) 0 (block_count x) fails)
     ]
+
+counted_turned : (Was Now : Segment → ℕ → Type 0) (was now : Segment → ℕ → Bool) (xs ys : List Segment) → Tells was Was → Tells now Now → length ys ≡ length xs → ((i : ℕ) → i < length xs → Carries Was Now (nth xs i) (nth ys i)) → sum_by (blocks_that now) ys ≡ sum_by (blocks_that was) xs
+counted_turned Was Now was now xs ys was_told now_told size each = sums_same (blocks_that was) (blocks_that now) xs ys size (λ i low. blocks_same Was Now was now (nth xs i) (nth ys i) was_told now_told (each i low))
 
 -- all segments have as many such blocks as they had
 pub counted_same : (Such : Segment → ℕ → Type 0) (test : Segment → ℕ → Bool) (xs ys : List Segment) → Tells test Such → length ys ≡ length xs → ((i : ℕ) → i < length xs → Carries Such Such (nth xs i) (nth ys i)) → sum_by (blocks_that test) ys ≡ sum_by (blocks_that test) xs
-counted_same Such test xs ys tells size each = sums_same (blocks_that test) xs ys size (λ i low. blocks_same Such test (nth xs i) (nth ys i) tells (each i low))
+counted_same Such test xs ys tells size each = counted_turned Such Such test test xs ys tells tells size each
 
 -- what a call does to one segment leaves the others as they are
 carries_same : (Such : Segment → ℕ → Type 0) (x : Segment) → Carries Such Such x x
@@ -338,6 +372,11 @@ turned_at Was Now f fresh was_within now_within t s sound sound_new =
 pub turned_count : (Such : Segment → ℕ → Type 0) (test : Segment → ℕ → Bool) (f : Segment → Segment) → Tells test Such → Turns Such Such f → (s : Segments) → IsSegments s → sum_by (blocks_that test) (map f s.segments) ≡ sum_by (blocks_that test) s.segments
 turned_count Such test f tells t s sound =
     counted_same Such test s.segments (map f s.segments) tells (length-map s.segments f) (turned_each Such Such f t s sound)
+
+-- the number of those that become such
+pub turned_number : (Was Now : Segment → ℕ → Type 0) (was now : Segment → ℕ → Bool) (f : Segment → Segment) → Tells was Was → Tells now Now → Turns Was Now f → (s : Segments) → IsSegments s → sum_by (blocks_that now) (map f s.segments) ≡ sum_by (blocks_that was) s.segments
+turned_number Was Now was now f was_told now_told t s sound =
+    counted_turned Was Now was now s.segments (map f s.segments) was_told now_told (length-map s.segments f) (turned_each Was Now f t s sound)
 
 -- retiring changes states alone
 pub retired_turns : (Such : Segment → ℕ → Type 0) → IsOfMarks Such → Turns Such Such retired

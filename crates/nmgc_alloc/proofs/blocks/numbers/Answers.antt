@@ -1,7 +1,7 @@
 use Rattle.nmgc_segment.specs.Segment.{InSnapshot, IsMarked}
-use Rattle.nmgc_alloc.specs.Blocks.{in_snapshot, is_marked}
+use Rattle.nmgc_alloc.specs.Blocks.{IsCarried, in_snapshot, is_marked, is_carried}
 use Rattle.nmgc_alloc.specs.Turns.{prepared, carried_over, retired}
-use Rattle.nmgc_alloc.specs.laws.Blocks.{snapshot_within, marked_within, snapshot_of_marks, marked_of_marks, snapshot_told, marked_told, placed_count, turned_count, carried_turns, retired_turns, prepared_marks, marks_snapshot_count, marks_marked_count, swept_marked_count}
+use Rattle.nmgc_alloc.specs.laws.Blocks.{snapshot_within, marked_within, snapshot_of_marks, marked_of_marks, snapshot_told, marked_told, placed_count, turned_count, turned_number, carried_told, carried_turns, carried_marks_turn, retired_turns, prepared_marks, marks_snapshot_count, marks_marked_count, swept_marked_count}
 use Rattle.nmgc_alloc.proofs.blocks.numbers.Goals as goal
 
 pub returns-clause-allocate : goal.returns-clause-allocate
@@ -11,7 +11,7 @@ pub returns-clause-mark_at : goal.returns-clause-mark_at
 returns-clause-mark_at c = λ s new at epoch answer e sound m. (marks_snapshot_count s new at epoch answer e sound m, marks_marked_count s new at epoch answer e sound m)
 
 pub returns-clause-carry : goal.returns-clause-carry
-returns-clause-carry c = λ s epoch e sound. turned_count InSnapshot in_snapshot (carried_over epoch) snapshot_told (carried_turns epoch e) s sound
+returns-clause-carry c = λ s epoch e sound. (turned_count InSnapshot in_snapshot (carried_over epoch) snapshot_told (carried_turns epoch e) s sound, turned_number (IsCarried epoch) (λ x b. IsMarked x epoch b) (is_carried epoch) (is_marked epoch) (carried_over epoch) (carried_told epoch) (marked_told epoch) (carried_marks_turn epoch e) s sound)
 
 pub returns-clause-retire_all : goal.returns-clause-retire_all
 returns-clause-retire_all c = λ s epoch sound. (turned_count InSnapshot in_snapshot retired snapshot_told (retired_turns InSnapshot snapshot_of_marks) s sound, turned_count (λ x b. IsMarked x epoch b) (is_marked epoch) retired (marked_told epoch) (retired_turns (λ x b. IsMarked x epoch b) (marked_of_marks epoch)) s sound)
