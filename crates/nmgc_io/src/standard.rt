@@ -3,8 +3,9 @@
 //! A stream tells the bytes that it has left, or those that it holds, where it can: one in memory can,
 //! a pipe or a terminal can't. So both are generic over std's `Read` and `Write` and tell exactly what
 //! the stream tells. What is proved of them is proved for streams that tell their bytes, and it is the
-//! same code that stands over standard input and output: a fault is never taken for the end, nor a short
-//! write for a whole one. That the real streams keep the contracts of `Read` and `Write` is trusted.
+//! same code that stands over standard input and output: while bytes are left a fault is never taken for
+//! the end, and a short write is never taken for a whole one. That the real streams keep the contracts of
+//! `Read` and `Write` is trusted.
 //! Easy to get wrong: a write that takes nothing is no error to the system, but a loop over it would
 //! never end. It counts as a fault here.
 ghost use Rattle.std.specs.Prelude.{◌≡◌, ◌<◌, ◌≤◌, length, IfOk};

@@ -1,5 +1,5 @@
 -- A script is read exactly from its lines.
-use Rattle.std.proofs.Common.{◌≡◌, ◌≤◌, ◌+◌, ℕ, List, [], ◌∷◌, ◌++◌, map, length, refl, sym, ap, subst, ◌∙◌, arith, inl, inr, Bool, true, false, cond, suc, Result, Ok, Err, IfOk, codes}
+use Rattle.std.proofs.Common.{◌≡◌, ◌≤◌, ◌+◌, ℕ, List, [], ◌∷◌, ◌++◌, map, length, refl, sym, ap, subst, ◌∙◌, arith, inl, inr, Bool, true, false, cond, suc, Result, Ok, Err, IfOk, MatchResult, codes}
 use Rattle.std.specs.List.{AllByRecursion, All, sum_by}
 use Rattle.std.specs.Str.{bytes_eq}
 use Rattle.std.proofs.lemmas.Bool.Decides.{eqb_tells}
@@ -13,6 +13,7 @@ use Rattle.nmgc_graph.specs.Command.{Fits}
 use Rattle.nmgc_script.specs.declared.fault.Cause.{Cause}
 use Rattle.nmgc_script.specs.declared.fault.Cause.TheVariants as cause
 use Rattle.nmgc_script.specs.declared.fault.ScriptFault.{ScriptFault}
+use Rattle.nmgc_script.specs.declared.fault.ScriptFault.TheVariants as script_fault
 use Rattle.nmgc_script.specs.declared.script.Config.{Config}
 use Rattle.nmgc_script.specs.declared.script.Script.{Script}
 use Rattle.nmgc_script.specs.declared.version.Version.{Version}
@@ -132,9 +133,11 @@ pub found : (bytes : List ℕ) (r : Result Script ScriptFault) → GivesAt (λ s
 found bytes (Err e) h = tt
 found bytes (Ok s) h = let t = script_takes (end_of bytes) (kept_lines bytes) s h in record { lines = t.0; fits = t.1 }
 
--- what is spelled so is read
-pub only : (bytes : List ℕ) (r : Result Script ScriptFault) (s : Script) → Spells bytes s → GivesAt (λ s. s) r (script_at (end_of bytes) (kept_lines bytes)) → GivesAt (λ s. s) r (Ok s)
-only bytes r s h g = let read : script_at (end_of bytes) (kept_lines bytes) ≡ Ok s = script_again (end_of bytes) (kept_lines bytes) s h.fits h.lines in rw read at g
+-- what is spelled so is read, unless memory runs out
+pub only : (bytes : List ℕ) (r : Result Script ScriptFault) (s : Script) → Spells bytes s → GivesAt (λ s. s) r (script_at (end_of bytes) (kept_lines bytes)) → MatchResult r (λ read. s ≡ read) (λ fault. fault ≡ script_fault.NoMemory)
+only bytes (Ok read) s h g = ok_is {E = ℕ × Cause} s read (sym (script_again (end_of bytes) (kept_lines bytes) s h.fits h.lines) ∙ g)
+only bytes (Err script_fault.NoMemory) s h g = refl
+only bytes (Err (script_fault.Bad line c)) s h g = let read : script_at (end_of bytes) (kept_lines bytes) ≡ Ok s = script_again (end_of bytes) (kept_lines bytes) s h.fits h.lines in cc
 
 -- bytes spell at most one script
 pub one_script : (bytes : List ℕ) (a b : Script) → Spells bytes a → Spells bytes b → a ≡ b

@@ -4,7 +4,7 @@
 //! time is linear in the bytes. The first fault ends the reading, and so it is the first bad line that
 //! is told. Easy to get wrong: where the text ends before the first section, the line told is the one
 //! after the last, counting those that were passed over.
-ghost use Rattle.std.specs.Prelude.{◌≡◌, ℕ, ◌+◌, ◌<◌, ◌≤◌, ◌^◌, length, sum_by, IfErr, IfOk, Ok};
+ghost use Rattle.std.specs.Prelude.{◌≡◌, ℕ, ◌+◌, ◌<◌, ◌≤◌, ◌^◌, length, sum_by, IfErr, IfOk, MatchResult};
 ghost use Rattle.nmgc_script.specs.Faults.{IsToldOf, Tells};
 ghost use Rattle.nmgc_script.specs.Limits.{FitsConfig};
 ghost use Rattle.nmgc_script.specs.Reading.{GivesAt, at_line, version_at, heap_at, programs_at, threads_at, script_at, placed};
@@ -37,7 +37,7 @@ pub fn parse(alloc: Global, bytes: &[u8]) -> Result<Script, ScriptFault>
     // What is read is spelled so, and within the limits.
     ensures found { IfOk result (λ script. Spells bytes.now script) }
     // What is spelled so is read, unless memory runs out.
-    ensures only { (script : Spelled) → Spells bytes.now script → GivesAt (λ s. s) result (Ok script) }
+    ensures only { (script : Spelled) → Spells bytes.now script → MatchResult result (λ read. script ≡ read) (λ fault. fault ≡ ScriptFault.NoMemory) }
     // It has no more commands than bytes.
     ensures few { IfOk result (λ script. sum_by (λ program. length program) script.threads ≤ length bytes.now) }
     // Of bytes that spell no script, the first bad line and its first cause are told.
