@@ -9,7 +9,7 @@ use Rattle.nmgc_graph.specs.declared.command.Reply.TheVariants.{Given}
 use Rattle.nmgc_graph.specs.declared.value.Value.TheVariants.{Ref}
 use Rattle.nmgc_graph.specs.Command.{Fits, IsMaking, words_made}
 use Rattle.nmgc_object.specs.declared.words.Header.{Header}
-use Rattle.nmgc_object.specs.Words.{name_word, header_word, IsHeader, IsName}
+use Rattle.nmgc_object.specs.Words.{name_word, header_word, IsName}
 use Rattle.std.proofs.lemmas.Option.{slice_get_within}
 use Rattle.nmgc_object.specs.FinQueue.{FinQueue}
 use Rattle.nmgc_graph.specs.declared.value.Name.{Name}
@@ -38,7 +38,8 @@ use Rattle.nmgc_mutator.proofs.Readies.{part_changed, still_mutator}
 pub none_contained : {A : Type 0} {B : Type 0} (x : A) → Contains [] x → B
 none_contained x h = absurd (omega (arith, h.1))
 
-last_case : (i j : ℕ) → j < i + 1 → (j ≡ i) ⊎ (j < i)
+-- the last number below one more, or one before it
+pub last_case : (i j : ℕ) → j < i + 1 → (j ≡ i) ⊎ (j < i)
 last_case zero zero h = inl refl
 last_case zero (suc j) h = absurd (omega (arith, h))
 last_case (suc i) zero h = inr (omega arith)
@@ -283,6 +284,7 @@ module _ (round : Round) (old mid new : RoundSeat) (m : Mutator) (c : Command) (
     added = ap (λ (p : Part). p.rows) part_born ∙ ap (λ (p : Part). p.rows ++ rows) h.part;
     used = ap (λ (p : Part). p.used) part_born ∙ ap (λ (p : Part). p.used + words_made c) h.part ∙ (let z : (part_of (seen old)).used + words_made c ≡ (part_of (seen old)).used + words_by rows = omega arith in z);
     owed_is = ap (λ (p : Part). p.owed) part_born ∙ ap (λ (p : Part). p.owed ++ []) h.part;
+    none_owed = λ e. refl;
     unborn = ap (λ (p : Part). p.unborn) part_born;
     knows = λ f k. subst (λ (p : Part). Contains p.fixed f) (sym part_born)
         (contains_tail first_word (name_of_it ∷ (part_of (seen mid)).fixed) f (contains_tail name_of_it (part_of (seen mid)).fixed f (subst (λ (p : Part). Contains p.fixed f) (sym h.part) k)));

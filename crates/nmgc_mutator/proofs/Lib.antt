@@ -1,5 +1,7 @@
 pub mod Births
+pub mod Many
 pub mod Readies
+pub mod Sampled
 pub mod Samples
 pub mod Slices
 pub mod Starts

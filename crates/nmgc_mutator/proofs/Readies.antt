@@ -1,5 +1,5 @@
 -- A mutator stays ready where its seat's view changes.
-use Rattle.std.proofs.Common.{◌≡◌, ℕ, zero, suc, ◌≢◌, ◌⊎◌, inl, inr, ◌+◌, ◌*◌, ◌/◌, ◌%◌, ◌<◌, ◌≤◌, ◌^◌, List, [], ◌∷◌, ◌++◌, refl, sym, ap, subst, ◌∙◌, arith, get_or, set, length, length-set, append-nil, slice_set}
+use Rattle.std.proofs.Common.{◌≡◌, ℕ, zero, suc, ◌≢◌, ◌+◌, ◌*◌, ◌/◌, ◌%◌, ◌<◌, ◌≤◌, ◌^◌, List, [], ◌∷◌, ◌++◌, refl, sym, ap, subst, ◌∙◌, arith, get_or, set, length, length-set, append-nil, slice_set, Bool, true, false, cond, eqb, leb, None}
 use Rattle.std.proofs.lemmas.List.{append_assoc}
 use Rattle.nmgc_graph.specs.declared.command.Command.{Command}
 use Rattle.nmgc_graph.specs.declared.command.Reply.{Reply}
@@ -9,8 +9,12 @@ use Rattle.nmgc_object.specs.declared.words.TheConstants.{NIL_WORD}
 use Rattle.nmgc_round.specs.declared.table.Round.{Round}
 use Rattle.nmgc_round.specs.View.{plain, word, word_of, FixedWord, answered, Answer, Row, Hand, Part, Seen, Opening, hand_of, hand_now, leaves, holding, doing, knowing, changing, first_changed, loaded, rows_leave}
 use Rattle.nmgc_round.specs.Ready.{IsMutator}
-use Rattle.nmgc_round.specs.Told.{IsSafe, IsTold, TellsField, taken, told, told_by}
-use Rattle.nmgc_round.specs.Seat.{RoundSeat, IsAt, Knows, seen, word_count, opening_of}
+use Rattle.nmgc_round.specs.Told.{IsSafe, IsTold, get_refusal, set_refusal, header_at, refused, taken, told, told_by}
+use Rattle.nmgc_graph.specs.World.{given}
+use Rattle.nmgc_graph.specs.declared.node.Kind.TheVariants as kind
+use Rattle.nmgc_object.specs.Words.{kind_number}
+use Rattle.nmgc_object.specs.declared.words.TheConstants.{TAG_UNIT}
+use Rattle.nmgc_round.specs.Seat.{RoundSeat, IsAt, Knows, seen, word_count}
 use Rattle.std.specs.Prelude.{Contains}
 use Rattle.nmgc_graph.specs.laws.Orders.{contains_head, contains_tail}
 use Rattle.nmgc_graph.specs.Room.{Room}
@@ -19,7 +23,7 @@ use Rattle.nmgc_object.specs.FinQueue.{FinQueue}
 use Rattle.nmgc_graph.specs.declared.value.Name.{Name}
 use Rattle.nmgc_graph.specs.declared.value.Value.{Value}
 use Rattle.nmgc_graph.specs.declared.value.Value.TheVariants as value
-use Rattle.nmgc_graph.specs.declared.command.Reply.TheVariants.{Given}
+use Rattle.nmgc_graph.specs.declared.command.Reply.TheVariants.{Given, Yes, No, NoPointer, NoField, WrongKind, Fixed}
 use Rattle.nmgc_graph.specs.declared.command.Command.TheVariants.{Num, Nil, Mov, Con, Var, Arr, Thunk, Weak, Stack, Get, Set, Cas, Update, Force, Push, Pop, Deref, Finalise, NextFin, Show, Same, Yield, Collect, Full}
 use Rattle.nmgc_graph.specs.Command.{IsMaking, words_made}
 use Rattle.nmgc_object.specs.Words.{name_word, IsName}
@@ -75,25 +79,26 @@ still_mutator f v is = record {
   no_collector = is.no_collector;
 }
 
-pub went_changing : (f : Part → Part) (v : Seen) (rows : List Row) (owed : List ℕ) → IsMutator v (part_of v) → (f (part_of v)).number ≡ (part_of v).number → (f (part_of v)).rows ≡ rows_of v ++ rows → (f (part_of v)).used ≡ (part_of v).used + words_by rows → (f (part_of v)).owed ≡ (part_of v).owed ++ owed → (f (part_of v)).unborn ≡ [] → ((g : FixedWord) → Contains (part_of v).fixed g → Contains (f (part_of v)).fixed g) → Went v (changing f v) rows owed
-went_changing f v rows owed is n r u o b k = let e = part_changed f v is in record {
+pub went_changing : (f : Part → Part) (v : Seen) (rows : List Row) (owed : List ℕ) → IsMutator v (part_of v) → (f (part_of v)).number ≡ (part_of v).number → (f (part_of v)).rows ≡ rows_of v ++ rows → (f (part_of v)).used ≡ (part_of v).used + words_by rows → (f (part_of v)).owed ≡ (part_of v).owed ++ owed → (f (part_of v)).unborn ≡ [] → ((g : FixedWord) → Contains (part_of v).fixed g → Contains (f (part_of v)).fixed g) → (v.opening.marking ≡ false → owed ≡ []) → Went v (changing f v) rows owed
+went_changing f v rows owed is n r u o b k none = let e = part_changed f v is in record {
   is = still_mutator f v is;
   opening = refl;
   number = ap (λ (p : Part). p.number) e ∙ n;
   added = ap (λ (p : Part). p.rows) e ∙ r;
   used = ap (λ (p : Part). p.used) e ∙ u;
   owed_is = ap (λ (p : Part). p.owed) e ∙ o;
+  none_owed = none;
   unborn = ap (λ (p : Part). p.unborn) e ∙ b;
   knows = λ g c. subst (λ (p : Part). Contains p.fixed g) (sym e) (k g c);
 }
 
 -- a word more is named
 pub went_loaded : (v : Seen) (at offset w : ℕ) → IsMutator v (part_of v) → (part_of v).unborn ≡ [] → Went v (loaded v at offset w) [] []
-went_loaded v at offset w is b = went_changing (λ p. knowing p at offset w) v [] [] is refl (kept_items (rows_of v)) (omega arith) (kept_items (part_of v).owed) b (λ g c. contains_tail (record { at = at; offset = offset; word = w }) (part_of v).fixed g c)
+went_loaded v at offset w is b = went_changing (λ p. knowing p at offset w) v [] [] is refl (kept_items (rows_of v)) (omega arith) (kept_items (part_of v).owed) b (λ g c. contains_tail (record { at = at; offset = offset; word = w }) (part_of v).fixed g c) (λ e. refl)
 
 -- a row more, of a command that makes no object
-pub went_doing : (v : Seen) (c : Command) (a : Part → Answer) (owed : List ℕ) → words_made c ≡ 0 → IsMutator v (part_of v) → (part_of v).unborn ≡ [] → Went v (changing (λ p. doing p c (a p) owed) v) (record { command = c; answer = a (part_of v) } ∷ []) owed
-went_doing v c a owed none is b = went_changing (λ p. doing p c (a p) owed) v (record { command = c; answer = a (part_of v) } ∷ []) owed is refl refl (omega (arith, none)) refl b (λ g k. k)
+pub went_doing : (v : Seen) (c : Command) (a : Part → Answer) → words_made c ≡ 0 → IsMutator v (part_of v) → (part_of v).unborn ≡ [] → Went v (changing (λ p. doing p c (a p) []) v) (record { command = c; answer = a (part_of v) } ∷ []) []
+went_doing v c a none is b = went_changing (λ p. doing p c (a p) []) v (record { command = c; answer = a (part_of v) } ∷ []) [] is refl refl (omega (arith, none)) refl b (λ g k. k) (λ e. refl)
 
 -- these rows, and then those
 pub went_both : (u v w : Seen) (rs ss : List Row) (owed more : List ℕ) → Went u v rs owed → Went v w ss more → Went u w (rs ++ ss) (owed ++ more)
@@ -104,6 +109,7 @@ went_both u v w rs ss owed more g h = record {
   added = h.added ∙ ap (λ (l : List Row). l ++ ss) g.added ∙ append_assoc (rows_of u) rs ss;
   used = let a = g.used in let b = h.used in let c = words_more rs ss in omega arith;
   owed_is = h.owed_is ∙ ap (λ (l : List ℕ). l ++ more) g.owed_is ∙ append_assoc (part_of u).owed owed more;
+  none_owed = λ e. ap (λ (l : List ℕ). l ++ more) (g.none_owed e) ∙ h.none_owed (ap (λ (o : Opening). o.marking) g.opening ∙ e);
   unborn = h.unborn;
   knows = λ f c. h.knows f (g.knows f c);
 }
@@ -248,6 +254,35 @@ same_room m n a b q c = record {
   young_weaks = c;
 }
 
+-- a plain answer gives no value
+abbrev IsPlain : Answer → Type 0
+IsPlain (plain r) = given r ≡ None
+IsPlain (word w) = Unit {0}
+
+either : {A : Type 0} (R : A → Type 0) (b : Bool) (x y : A) → R x → R y → R (cond b x y)
+either R true x y h k = h
+either R false x y h k = k
+
+get_plain : (header : ℕ) → given (get_refusal header) ≡ None
+get_plain header = either (λ (r : Reply). given r ≡ None) (leb (header % TAG_UNIT) (kind_number kind.Arr)) NoField WrongKind refl refl
+
+set_plain : (header : ℕ) → given (set_refusal header) ≡ None
+set_plain header = either (λ (r : Reply). given r ≡ None) (eqb (header % TAG_UNIT) (kind_number kind.Con)) Fixed (get_refusal header) refl (get_plain header)
+
+refused_plain : (fixed : List FixedWord) (w : ℕ) (refusal : ℕ → Reply) → ((header : ℕ) → given (refusal header) ≡ None) → IsPlain (refused fixed w refusal)
+refused_plain fixed w refusal h = either IsPlain (eqb (w % 2) 0) (plain (refusal (header_at fixed (w / 2)))) (plain NoPointer) (h (header_at fixed (w / 2))) refl
+
+told_plain : (h : Hand) (fixed : List FixedWord) (c : Command) → IsPlain (told_by h fixed c)
+told_plain h fixed (Get dest object index) = refused_plain fixed (word_of h.registers object) get_refusal get_plain
+told_plain h fixed (Set object index v) = refused_plain fixed (word_of h.registers object) set_refusal set_plain
+told_plain h fixed (Show v) = tt
+told_plain h fixed (Same left right) = either (λ (r : Reply). given r ≡ None) (eqb (word_of h.registers left) (word_of h.registers right)) Yes No refl refl
+told_plain h fixed _ = refl
+
+-- what is answered at a fixed load gives no value, unless it is a word
+told_plainly : (h : Hand) (fixed : List FixedWord) (c : Command) (r : Reply) → told_by h fixed c ≡ plain r → given r ≡ None
+told_plainly h fixed c r e = subst IsPlain e (told_plain h fixed c)
+
 -- a command that answered plainly and did no more than this to the mutator
 module _ (round : Round) (old new : RoundSeat) (m : Mutator) (c : Command) (w : ℕ) (r : IsReady round old m) (t : IsTold (seen old).opening (part_of (seen old)) c) (k : Knows round old new (loaded (told (seen old) c) 1 0 w)) where
   none : (IsMaking c → ⊥) × (words_made c ≡ 0)
@@ -256,7 +291,7 @@ module _ (round : Round) (old new : RoundSeat) (m : Mutator) (c : Command) (w : 
   pub went_told : (a : Answer) → told_by (hand_in (seen old)) (part_of (seen old)).fixed c ≡ a → Went (seen old) (seen new) (record { command = c; answer = a } ∷ []) []
   went_told a e =
       let v : Seen = seen old in
-      let g = went_doing v c (λ p. told_by (hand_now v.opening p) p.fixed c) [] none.1 r.is r.unborn in
+      let g = went_doing v c (λ p. told_by (hand_now v.opening p) p.fixed c) none.1 r.is r.unborn in
       let rows : List Row = record { command = c; answer = told_by (hand_in v) (part_of v).fixed c } ∷ [] in
       subst (λ (b : Answer). Went (seen old) (seen new) (record { command = c; answer = b } ∷ []) []) e
       (subst (λ (u : Seen). Went v u rows []) (sym k.2) (went_on v (told v c) (loaded (told v c) 1 0 w) rows [] g (went_loaded (told v c) 1 0 w g.is g.unborn)))
@@ -271,7 +306,7 @@ module _ (round : Round) (old new : RoundSeat) (m : Mutator) (c : Command) (w : 
       answer = plain reply;
       owed = [];
       went = went_told (plain reply) answers;
-      reply = refl;
+      reply = (refl, told_plainly (hand_in (seen old)) (part_of (seen old)).fixed c reply answers);
       recorded = rw bare (kept_items (numbers m.recorded.items));
       pushed = kept_items (numbers m.updrem.items);
       room = same_room m m refl refl refl refl;
@@ -288,7 +323,7 @@ module _ (round : Round) (old new : RoundSeat) (m : Mutator) (c : Command) (w : 
       answer = plain reply;
       owed = [];
       went = went_told (plain reply) answers;
-      reply = refl;
+      reply = (refl, told_plainly (hand_in (seen old)) (part_of (seen old)).fixed c reply answers);
       recorded = rw bare (kept_items (numbers m.recorded.items));
       pushed = kept_items (numbers m.updrem.items);
       room = same_room m (with_register m d x) refl refl refl refl;
@@ -381,7 +416,7 @@ header_within round seat m operand w r e even =
 
 -- a command that loaded a field
 pub went_answered : (round : Round) (old new : RoundSeat) (m : Mutator) (c : Command) (a : Answer) → words_made c ≡ 0 → IsReady round old m → Knows round old new (answered (seen old) c a) → Went (seen old) (seen new) (record { command = c; answer = a } ∷ []) []
-went_answered round old new m c a none r k = subst (λ (u : Seen). Went (seen old) u (record { command = c; answer = a } ∷ []) []) (sym k.2) (went_doing (seen old) c (λ p. a) [] none r.is r.unborn)
+went_answered round old new m c a none r k = subst (λ (u : Seen). Went (seen old) u (record { command = c; answer = a } ∷ []) []) (sym k.2) (went_doing (seen old) c (λ p. a) none r.is r.unborn)
 
 -- and one that never changes
 taken_is : (v : Seen) (at offset index : ℕ) (c : Command) (w : ℕ) → offset ≡ HEADER_WORDS + index → taken v at offset c w ≡ loaded (answered v c (word w)) at offset w
@@ -392,7 +427,7 @@ pub went_taken : (round : Round) (old new : RoundSeat) (m : Mutator) (at offset 
 went_taken round old new m at offset index c w none r e k =
     let v : Seen = seen old in
     let rows : List Row = record { command = c; answer = word w } ∷ [] in
-    let g = went_doing v c (λ p. word w) [] none r.is r.unborn in
+    let g = went_doing v c (λ p. word w) none r.is r.unborn in
     subst (λ (u : Seen). Went v u rows []) (sym (k.2 ∙ taken_is v at offset index c w e)) (went_on v (answered v c (word w)) (loaded (answered v c (word w)) at offset w) rows [] g (went_loaded (answered v c (word w)) at offset w g.is g.unborn))
 
 -- `get` makes no object

@@ -1,30 +1,28 @@
 -- What the tests need: the one seat of a round with one mutator, and commands that were looked at.
-use Rattle.std.proofs.Common.{◌≡◌, ℕ, zero, suc, ◌+◌, ◌*◌, ◌-◌, ◌<◌, ◌≤◌, ◌^◌, List, [], ◌∷◌, ◌++◌, map, length, refl, sym, ap, subst, ◌∙◌, arith, All, replicate}
+use Rattle.std.proofs.Common.{◌≡◌, ℕ, ◌*◌, ◌<◌, ◌≤◌, List, [], ◌∷◌, ◌++◌, map, length, refl, sym, ap, subst, ◌∙◌, arith, All, replicate}
 use Rattle.std.specs.Prelude.{slice_index_or, min}
 use Rattle.std.proofs.Math.Nat.{min-le_left}
-use Rattle.nmgc_graph.specs.Room.{Room}
-use Rattle.nmgc_graph.specs.declared.command.Command.{Command}
-use Rattle.nmgc_graph.specs.declared.value.TheConstants.{REGISTERS}
 use Rattle.nmgc_object.specs.declared.layout.Layout.{Layout}
-use Rattle.nmgc_object.specs.declared.words.TheConstants.{NIL_WORD}
 use Rattle.nmgc_object.specs.Places.{IsLayout}
 use Rattle.nmgc_round.specs.declared.table.Round.{Round}
-use Rattle.nmgc_round.specs.View.{Opening, Hand, Seen, hand_of}
+use Rattle.nmgc_round.specs.View.{Opening, Hand, hand_of}
 use Rattle.nmgc_round.specs.Seat.{RoundSeat, IsAt, seen, opening_of}
 use Rattle.nmgc_round.specs.Seating.{alone, alones}
 use Rattle.nmgc_round.specs.Starting.{CanOpen}
 use Rattle.nmgc_round.specs.Empty.{new_hand, first_opening}
 use Rattle.nmgc_mutator.specs.declared.mutator.Mutator.{Mutator}
-use Rattle.nmgc_mutator.specs.Ready.{IsReady, IsWhole, IsUnused, IsNew, Reserves, Holds}
-use Rattle.nmgc_mutator.specs.Slice.{CanRun, HasRoom}
+use Rattle.nmgc_mutator.specs.Ready.{IsReady, IsUnused, IsNew, Reserves, Holds}
+use Rattle.nmgc_mutator.specs.Slice.{HasRoom}
 use Rattle.nmgc_mutator.proofs.Slices.{length_more, map_more}
 use Rattle.nmgc_mutator.proofs.Starts.{first_ready}
 
-only_one : {A : Type 0} (ys : List A) (x y : A) → ys ++ x ∷ [] ≡ y ∷ [] → x ≡ y
+-- a list that ends with an item and has one
+pub only_one : {A : Type 0} (ys : List A) (x y : A) → ys ++ x ∷ [] ≡ y ∷ [] → x ≡ y
 only_one [] x y e = ap (λ l. slice_index_or l 0 y) e
 only_one (z ∷ zs) x y e = (let a = ap length e in let b = length_more zs (x ∷ []) in absurd (omega arith))
 
-last_read : {A : Type 0} (ys : List A) (x d : A) → slice_index_or (ys ++ x ∷ []) (length ys) d ≡ x
+-- the last item
+pub last_read : {A : Type 0} (ys : List A) (x d : A) → slice_index_or (ys ++ x ∷ []) (length ys) d ≡ x
 last_read [] x d = refl
 last_read (y ∷ ys) x d = last_read ys x d
 

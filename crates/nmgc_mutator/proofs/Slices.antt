@@ -1,9 +1,8 @@
 -- Commands done one after the other, and a slice that goes on by one.
-use Rattle.std.proofs.Common.{◌≡◌, ◌+◌, ◌-◌, ◌<◌, ◌≤◌, ◌^◌, ℕ, zero, suc, sym, subst, ap, refl, ◌∙◌, arith, List, [], ◌∷◌, ◌++◌, map, take, Some, slice_get, Option, None, ◌⊎◌, inl, inr, length, append-nil}
+use Rattle.std.proofs.Common.{◌≡◌, ◌+◌, ◌-◌, ◌<◌, ◌≤◌, ◌^◌, ℕ, zero, suc, sym, subst, ap, refl, ◌∙◌, arith, List, [], ◌∷◌, ◌++◌, map, take, Some, slice_get, Option, None, inl, inr, length}
 use Rattle.std.specs.Prelude.{Contains, min}
 use Rattle.std.proofs.lemmas.List.{append_assoc}
 use Rattle.std.proofs.lemmas.Option.{slice_get_within}
-use Rattle.nmgc_graph.specs.Room.{Room}
 use Rattle.nmgc_graph.specs.declared.command.Command.{Command}
 use Rattle.nmgc_graph.specs.declared.command.Reply.{Reply}
 use Rattle.nmgc_graph.specs.declared.value.Value.{Value}
@@ -17,11 +16,12 @@ use Rattle.nmgc_mutator.specs.declared.mutator.Mutator.{Mutator}
 use Rattle.nmgc_mutator.specs.declared.mutator.Step.TheVariants.{Replied}
 use Rattle.nmgc_mutator.specs.declared.mutator.SliceEnd.{SliceEnd}
 use Rattle.nmgc_mutator.specs.declared.mutator.SliceEnd.TheVariants as ending
-use Rattle.nmgc_mutator.specs.Ready.{IsReady, hand_in, part_of, rows_of, words_by}
+use Rattle.nmgc_mutator.specs.Ready.{IsReady, hand_in, part_of, rows_of}
 use Rattle.nmgc_mutator.specs.Records.{numbers, recorded_by, all_recorded, pushed_at, all_pushed}
-use Rattle.nmgc_mutator.specs.Does.{Went, HasUsed, HasDone, Steps, IsYield}
+use Rattle.nmgc_mutator.specs.Does.{HasDone, Steps, IsYield}
 use Rattle.nmgc_mutator.specs.Slice.{IsRunning, HasRoom, HasRun, GoesOn, IsEnd, Ended, tried, next_turn, passed, turned}
 use Rattle.nmgc_mutator.proofs.Readies.{went_both, hand_along, kept_items}
+use Rattle.nmgc_mutator.proofs.Births.{last_case}
 use Rattle.nmgc_mutator.proofs.Steps.{ready_turned}
 
 is_there : {A : Type 0} → Option A → Type 0
@@ -37,12 +37,6 @@ unfolding is_there first_or
 take_more [] i x e = absurd (subst (λ o. is_there o) (sym e) tt)
 take_more (y ∷ l) zero x e = ap (λ z. z ∷ []) (ap (λ o. first_or x o) e)
 take_more (y ∷ l) (suc i) x e = ap (λ k. y ∷ k) (take_more l i x e)
-
-last_case : (i j : ℕ) → j < i + 1 → (j ≡ i) ⊎ (j < i)
-last_case zero zero h = inl refl
-last_case zero (suc j) h = absurd (omega (arith, h))
-last_case (suc i) zero h = inr (omega arith)
-last_case (suc i) (suc j) h = elim (last_case i j (omega (arith, h))) [ inl e ↦ inl (ap suc e) | inr l ↦ inr (omega (arith, l)) ]
 
 pub map_more : {A : Type 0} {B : Type 0} (f : A → B) (xs ys : List A) → map f (xs ++ ys) ≡ map f xs ++ map f ys
 map_more f [] ys = refl
@@ -97,6 +91,7 @@ done_none round seat m r = record {
     used = omega arith;
     owed_is = kept_items (part_of (seen seat)).owed;
     unborn = r.unborn;
+    none_owed = λ e. refl;
     knows = λ f k. k;
   };
   replied = tt;

@@ -12,7 +12,7 @@ use Rattle.nmgc_object.specs.declared.size.TheConstants.{HEADER_WORDS}
 use Rattle.nmgc_object.specs.declared.words.TheConstants.{NIL_WORD}
 use Rattle.nmgc_heap.specs.Places.{Place, Means, ListMeans, LiesWell}
 use Rattle.nmgc_round.specs.declared.table.Round.{Round}
-use Rattle.nmgc_round.specs.View.{Opening, Part, Seen, hand_of, word_of}
+use Rattle.nmgc_round.specs.View.{Opening, Seen, hand_of, word_of}
 use Rattle.nmgc_round.specs.Told.{IsSafe}
 use Rattle.nmgc_round.specs.Seat.{RoundSeat, IsAt, seen, opening_of}
 use Rattle.nmgc_round.specs.Seating.{alone}

@@ -5,15 +5,15 @@ use Rattle.nmgc_graph.specs.Room.{Room}
 use Rattle.nmgc_graph.specs.declared.command.Command.{Command}
 use Rattle.nmgc_graph.specs.declared.command.Reply.{Reply}
 use Rattle.nmgc_round.specs.declared.table.Round.{Round}
-use Rattle.nmgc_round.specs.View.{Opening, Seen, Row, plain, swapped, owed_word, leaves, word_of}
+use Rattle.nmgc_round.specs.View.{Opening, Seen, Row, plain, doing, finding, swapped, owed_word, leaves, word_of}
 use Rattle.nmgc_round.specs.Seat.{RoundSeat, seen, Knows, opening_of}
 use Rattle.nmgc_mutator.specs.declared.mutator.Mutator.{Mutator}
 use Rattle.nmgc_mutator.specs.declared.mutator.Step.TheVariants.{Replied}
 use Rattle.nmgc_mutator.specs.Ready.{IsReady, hand_in}
-use Rattle.nmgc_mutator.specs.Records.{numbers, recorded_by, recorded_at, all_recorded, all_pushed}
-use Rattle.nmgc_mutator.specs.Does.{Does, Went, HasUsed, HasDone, HasReplied, Steps, with_recorded, with_updrem}
+use Rattle.nmgc_mutator.specs.Records.{numbers, recorded_by, recorded_at, all_pushed}
+use Rattle.nmgc_mutator.specs.Does.{Does, Went, HasReplied, Steps, with_recorded, with_updrem}
 use Rattle.nmgc_mutator.specs.Slice.{turned}
-use Rattle.nmgc_mutator.proofs.Readies.{went_doing, hand_after, ready_same, does_later, went_both, hand_along, kept_items}
+use Rattle.nmgc_mutator.proofs.Readies.{went_changing, hand_after, ready_same, does_later, kept_items}
 use Rattle.nmgc_graph.specs.declared.command.Operand.{Operand}
 use Rattle.nmgc_graph.specs.declared.command.Command.TheVariants.{Set}
 use Rattle.nmgc_graph.specs.declared.command.Reply.TheVariants.{Fine}
@@ -59,14 +59,14 @@ does_set round old new m n c object value index w r k is rest recorded pushed mo
     let owed : List ℕ = owed_word (seen old).opening.marking w in
     let rows : List Row = record { command = c; answer = plain Fine } ∷ [] in
     let none : (IsMaking c → ⊥) × (words_made c ≡ 0) = subst (λ (b : Command). (IsMaking b → ⊥) × (words_made b ≡ 0)) (sym is) (λ q. q, refl) in
-    let g : Went (seen old) (seen new) rows owed = subst (λ (u : Seen). Went (seen old) u rows owed) (sym k.2) (went_doing (seen old) c (λ p. plain Fine) owed none.1 r.is r.unborn) in
+    let g : Went (seen old) (seen new) rows owed = subst (λ (u : Seen). Went (seen old) u rows owed) (sym k.2) (went_changing (λ p. doing (finding p w) c (plain Fine) owed) (seen old) rows owed r.is refl refl (omega (arith, none.1)) refl r.unborn (λ g k. k) (λ e. ap (λ (b : Bool). owed_word b w) e)) in
     let h : hand_in (seen new) ≡ hand_in (seen old) = hand_after (seen old) (seen new) c (plain Fine) owed g ∙ ap (λ (d : Command). leaves (hand_in (seen old)) d (plain Fine)) is in
     record {
       ready = subst (λ (x : Mutator). IsReady round new x) (sym rest) (ready_aside round new m n.recorded n.updrem (ready_same round old new m rows owed (none.0, none.1, tt) r k.0 g h));
       answer = plain Fine;
       owed = owed;
       went = g;
-      reply = refl;
+      reply = (refl, refl);
       recorded = recorded ∙ ap (λ (d : Command). numbers m.recorded.items ++ recorded_by m.layout m.registers d (plain Fine)) (sym is);
       pushed = pushed;
       room = record { recorded = more; updrem = room; queue = (let e = ap (λ (x : Mutator). x.queue.spare) rest in omega arith); young_weaks = ap (λ (x : Mutator). x.young_weaks) rest };

@@ -1,5 +1,5 @@
 -- What a command does to its mutator and to what the seat knows.
-use Rattle.std.specs.Prelude.{◌≡◌, ℕ, ◌+◌, ◌-◌, ◌<◌, ◌≤◌, ◌*◌, List, [], ◌∷◌, ◌++◌, map, length, slice_get, Some, Contains}
+use Rattle.std.specs.Prelude.{◌≡◌, ℕ, ◌+◌, ◌-◌, ◌<◌, ◌≤◌, ◌*◌, false, List, [], ◌∷◌, ◌++◌, map, length, slice_get, Some, Contains}
 use Rattle.nmgc_graph.specs.declared.value.Name.{Name}
 use Rattle.nmgc_graph.specs.declared.command.Operand.{Operand}
 use Rattle.nmgc_graph.specs.declared.command.Command.{Command}
@@ -24,7 +24,7 @@ use Rattle.nmgc_mutator.specs.declared.mutator.Step.TheVariants.{Replied, Nurser
 use Rattle.nmgc_mutator.specs.Ready.{IsReady, part_of, rows_of, hand_in, words_by}
 use Rattle.nmgc_mutator.specs.Records.{numbers, recorded_by, all_recorded, all_pushed}
 
--- a view became another by rows of its mutator, which owe these words
+-- a view became another by rows of its mutator, which owe these words: none where the round isn't marking
 pub record Went (v w : Seen) (rows : List Row) (owed : List ℕ) : Type 0 where
   pub is : IsMutator w (part_of w)
   pub opening : w.opening ≡ v.opening
@@ -32,6 +32,7 @@ pub record Went (v w : Seen) (rows : List Row) (owed : List ℕ) : Type 0 where
   pub added : rows_of w ≡ rows_of v ++ rows
   pub used : (part_of w).used ≡ (part_of v).used + words_by rows
   pub owed_is : (part_of w).owed ≡ (part_of v).owed ++ owed
+  pub none_owed : v.opening.marking ≡ false → owed ≡ []
   pub unborn : (part_of w).unborn ≡ []
   pub knows : (f : FixedWord) → Contains (part_of v).fixed f → Contains (part_of w).fixed f
 

@@ -1,4 +1,5 @@
 pub mod Does
 pub mod Ready
 pub mod Records
+pub mod Sample
 pub mod Slice

@@ -114,6 +114,14 @@ pub record IsNew (number : ℕ) (layout : Layout) (m : Mutator) : Type 0 where
   pub young_weaks : m.young_weaks.items ≡ []
   pub updrem : m.updrem.items ≡ []
 
+-- its lists have no room
+pub record HasNoRoom (m : Mutator) : Type 0 where
+  pub queue : m.queue.spare ≡ 0
+  pub replies : m.replies.spare ≡ 0
+  pub recorded : m.recorded.spare ≡ 0
+  pub young_weaks : m.young_weaks.spare ≡ 0
+  pub updrem : m.updrem.spare ≡ 0
+
 -- a list has the same items, and no less room
 pub record Keeps {T : Type 0} (old new : Room T) : Type 0 where
   pub items : new.items ≡ old.items

@@ -1,5 +1,5 @@
 -- A slice of a program.
-use Rattle.std.specs.Prelude.{◌≡◌, ℕ, zero, suc, ◌+◌, ◌-◌, ◌<◌, ◌≤◌, ◌^◌, List, [], ◌∷◌, map, take, length, slice_get, Some, min}
+use Rattle.std.specs.Prelude.{◌≡◌, ℕ, zero, suc, ◌+◌, ◌-◌, ◌<◌, ◌≤◌, ◌^◌, List, map, take, length, slice_get, Some, min}
 use Rattle.nmgc_graph.specs.declared.command.Command.{Command}
 use Rattle.nmgc_graph.specs.declared.command.Command.TheVariants.{Yield, Collect, Full}
 use Rattle.nmgc_graph.specs.declared.command.Reply.{Reply}

@@ -24,4 +24,6 @@ pub mod slice;
 pub use mutator::{Mutator, Slice, SliceEnd, Step};
 
 #[cfg(test)]
+mod marking_tests;
+#[cfg(test)]
 mod tests;

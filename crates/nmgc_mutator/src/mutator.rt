@@ -5,7 +5,7 @@ ghost use Rattle.std.specs.Prelude.{◌≡◌, ◌*◌, ◌<◌, ◌≤◌, [], 
 ghost use Rattle.nmgc_graph.specs.declared.value.TheConstants.{REGISTERS};
 ghost use Rattle.nmgc_object.specs.declared.words.TheConstants.{NIL_WORD};
 ghost use Rattle.nmgc_object.specs.Places.{IsLayout};
-ghost use Rattle.nmgc_mutator.specs.Ready.{IsNew, Reserves};
+ghost use Rattle.nmgc_mutator.specs.Ready.{IsNew, HasNoRoom, Reserves};
 
 use nmgc_graph::{List, NoMemory, REGISTERS, Reply, Room};
 use nmgc_object::words::NIL_WORD;
@@ -35,7 +35,8 @@ pub struct Mutator {
     pub recorded: Room<Address>,
     /// The weak pointers made in this round.
     pub young_weaks: Room<Address>,
-    /// The places of objects in segments that were overwritten in this round while it was marking.
+    /// The places of objects in segments to which fields referred that this mutator overwrote in this round
+    /// while it was marking.
     pub updrem: Room<Address>,
 }
 
@@ -45,7 +46,8 @@ impl Mutator {
     pub fn new(alloc: Global, number: u8, layout: Layout) -> Result<Self, NoMemory>
         requires layout { IsLayout layout }
         requires number { number < layout.mutators }
-        ensures { IfOk result (IsNew number layout) }
+        ensures new { IfOk result (IsNew number layout) }
+        ensures room { IfOk result HasNoRoom }
     {
         let registers = Vec::from_elem(alloc, NIL_WORD, REGISTERS as usize)?;
         let base = layout.nursery_base(number);

@@ -38,9 +38,10 @@ impl Mutator {
     /// first `yield`, `collect` or `full`, and up to the first whose object lacks room in the nursery.
     ///
     /// The seat has a row for each command done, with its reply, as `step` gives them one after the other. The
-    /// end is the first that holds in this order: the last command done ended the slice; the next one lacks
-    /// room; the program was used up; `slice` commands were done. The gate is passed before each command that
-    /// is tried. Takes no memory and waits for nobody.
+    /// end is the first that holds in this order: the last command done ended the slice; the program was used up;
+    /// `slice` commands were done; the next one lacks room. So a command for which there is no room is tried only
+    /// where fewer than `slice` were done. The gate is passed before each command that is tried, and counted:
+    /// the clause `turns` tells the count. Takes no memory, and waits for nobody but the gate.
     pub fn run_slice<G: Gate>(
         &mut self,
         round: &Round,

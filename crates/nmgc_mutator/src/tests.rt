@@ -1,8 +1,12 @@
-//! Programs of one mutator on the heap of which nothing was made, by the tables of what each command does.
-ghost use Rattle.std.specs.Prelude.{◌≡◌, ◌≤◌, [], All, IfOk, IsTrue, length, min, vec_capacity};
+//! Programs on the heap of which nothing was made: of one mutator by the tables of what each command does, and
+//! of two in threads of their own.
+ghost use Rattle.std.specs.Prelude.{ℕ, List, ◌≡◌, ◌<◌, ◌≤◌, [], All, IfOk, IsTrue, length, min, slice_index_or, vec_capacity};
 ghost use Rattle.nmgc_graph.specs.Command.{HasNumbers, words_made};
 ghost use Rattle.nmgc_object.specs.Places.{IsLayout};
 ghost use Rattle.nmgc_round.specs.Empty.{IsEmptyHeap, first_opening};
+ghost use Rattle.nmgc_round.specs.Starting.{CanOpen};
+ghost use Rattle.nmgc_round.specs.Seat.{RoundSeat, IsAt, seen};
+ghost use Rattle.nmgc_round.specs.Seating.{alone};
 ghost use Rattle.nmgc_mutator.specs.Ready.{IsBuilt, IsNew};
 ghost use Rattle.nmgc_mutator.specs.Slice.{CanRun, HasRoom};
 
@@ -10,9 +14,12 @@ use crate::{Mutator, Slice, SliceEnd};
 use nmgc_graph::{Command, List, Name, NoMemory, Operand, Reply, Value};
 use nmgc_object::Layout;
 use nmgc_round::chosen::Wanted;
-use nmgc_round::{Chosen, MutatorSeat, OpenGate, Opened, Round, Started, Words};
+use nmgc_round::{Chosen, Gate, MutatorSeat, OpenGate, Opened, Round, Started, Words};
 use std::alloc::Global;
+use std::sync::atomic::{AtomicU64, Ordering};
 use std::test::Fail;
+use std::thread;
+use std::thread::Threads;
 
 // The opening of a run's first round.
 struct First;
@@ -329,5 +336,202 @@ fn a_slice_ends_by_the_first_reason(rt: HostRuntime) -> Result<(), Fail> {
             SliceEnd::Nursery { need: 3, left: 1 }
         )?
     );
+    Ok(())
+}
+
+// What the two mutators of a round read.
+#[derive(Drop)]
+struct Read {
+    first: AtomicU64,
+    second: AtomicU64,
+}
+
+impl Read {
+    fn new() -> Read {
+        Read {
+            first: AtomicU64::new(0),
+            second: AtomicU64::new(0),
+        }
+    }
+
+    fn put(&self, who: u8, number: u64) {
+        if who == 0 {
+            self.first.store(number, Ordering::SeqCst);
+        } else {
+            self.second.store(number, Ordering::SeqCst);
+        }
+    }
+}
+
+// A mutator stores its number and one into the first slot of g, and reads that slot.
+fn work<G: Gate>(
+    alloc: Global,
+    round: &Round,
+    seat: &mut MutatorSeat,
+    layout: Layout,
+    number: u8,
+    read: &Read,
+    gate: &G,
+) -> Result<(), NoMemory>
+    requires seat { IsAt round.now seat.old × (seen seat.old ≡ alone (first_opening layout) number) }
+    requires opens { (words : List ℕ) × CanOpen (first_opening layout) words }
+    requires layout { IsLayout layout × (number < layout.mutators) × (layout.words ≡ 16) }
+{
+    let program = [
+        num(1, u64::from(number) + 1),
+        set(Operand::Shared, 0, 1),
+        get(2, Operand::Shared, 0),
+    ];
+    if !can_run_all(program.as_slice()) {
+        return Err(NoMemory);
+    }
+    let mut mutator = Mutator::new(alloc, number, layout)?;
+    mutator.reserve(3)?;
+    mutator.run_slice(round, seat, program.as_slice(), 3, gate);
+    if let Some(Reply::Given(Value::Number(found))) = mutator.replies.items().last() {
+        read.put(number, *found);
+    }
+    Ok(())
+}
+
+// Each in a thread of its own.
+fn work_all<R: Threads + Sync, G: Gate>(
+    rt: &R,
+    alloc: Global,
+    round: &Round,
+    seats: &mut [MutatorSeat],
+    layout: Layout,
+    read: &Read,
+    gate: &G,
+)
+    requires opens { (words : List ℕ) × CanOpen (first_opening layout) words }
+    requires layout { IsLayout layout × (layout.words ≡ 16) }
+    requires seats { (length seats.old ≡ layout.mutators) × ((k : ℕ) (d : RoundSeat) → k < length seats.old → IsAt round.now (slice_index_or seats.old k d) × (seen (slice_index_or seats.old k d) ≡ alone (first_opening layout) k)) }
+{
+    thread::for_each_mut(
+        rt,
+        seats,
+        8,
+        &|number, seat: &mut MutatorSeat|
+            requires { IsAt round.now seat.now × (seen seat.now ≡ alone (first_opening layout) number) × ((words : List ℕ) × CanOpen (first_opening layout) words) × IsLayout layout × (number < layout.mutators) × (layout.words ≡ 16) }
+        {
+            let _ = work(alloc, round, seat, layout, number as u8, read, gate);
+        },
+    );
+}
+
+// A round in which each mutator works in a thread of its own.
+fn worked<R: Threads + Sync, G: Gate>(
+    rt: &R,
+    alloc: Global,
+    words: Words,
+    layout: Layout,
+    room: Vec<MutatorSeat>,
+    read: &Read,
+    gate: &G,
+)
+    requires layout { IsLayout layout × (layout.words ≡ 16) }
+    requires heap { IsEmptyHeap layout words }
+    requires room { (room.items ≡ []) × (layout.mutators ≤ vec_capacity room) }
+{
+    nmgc_round::laws::empty_heap_opens();
+    let opening = first_of(&layout);
+    let Started {
+        round,
+        mutators,
+        collector: _,
+    } = Round::start(words, layout, false, &opening, room);
+    let mut seats = mutators;
+    work_all(rt, alloc, &round, seats.items_mut(), layout, read, gate);
+}
+
+fn two() -> Layout
+    ensures layout { IsLayout result }
+    ensures words { (result.words ≡ 16) × (result.mutators ≡ 2) }
+{
+    Layout {
+        segments: 1,
+        words: 16,
+        nursery: 16,
+        mutators: 2,
+    }
+}
+
+// What each of two mutators reads under this gate.
+fn both<R: Threads + Sync, G: Gate>(
+    rt: &R,
+    alloc: Global,
+    gate: &G,
+) -> Result<(u64, u64), NoMemory> {
+    let layout = two();
+    let words = empty_heap(alloc, &layout)?;
+    let room = Vec::with_capacity(alloc, 2)?;
+    let read = Read::new();
+    worked(rt, alloc, words, layout, room, &read, gate);
+    Ok((
+        read.first.load(Ordering::SeqCst),
+        read.second.load(Ordering::SeqCst),
+    ))
+}
+
+// Mutator 0 stores 1 and mutator 1 stores 2. Whichever stores last, both can't read the other's number: in one
+// order of the four commands the last `set` is followed by a `get` of its own.
+#[test]
+fn two_mutators_read_by_one_order(rt: HostRuntime) -> Result<(), Fail> {
+    for _ in 0..1000u32 {
+        let read = both(&rt, rt.alloc(), &OpenGate)?;
+        assert!(rt; read == (1, 1) || read == (1, 2) || read == (2, 2));
+    }
+    Ok(())
+}
+
+// A gate at which the late mutator waits with its `set` until the other has reached its `get`, and that one
+// until the late one has reached its own.
+#[derive(Drop)]
+struct Meet {
+    late: u8,
+    reached: Read,
+    given_up: AtomicU64,
+}
+
+impl Gate for Meet {
+    fn pass(&self, who: u8, turn: u64) {
+        self.reached.put(who, turn);
+        let waits = if who == self.late {
+            turn == 2
+        } else {
+            turn == 3
+        };
+        if !waits {
+            return;
+        }
+        for _ in 0..1_000_000_000u32 {
+            let other = if who == 0 {
+                self.reached.second.load(Ordering::SeqCst)
+            } else {
+                self.reached.first.load(Ordering::SeqCst)
+            };
+            if other >= 3 {
+                return;
+            }
+        }
+        self.given_up.store(1, Ordering::SeqCst);
+    }
+}
+
+// Both read what the late one stored, since its `set` comes after the other's and before both reads.
+#[test]
+fn the_gate_is_passed_before_each_command(rt: HostRuntime) -> Result<(), Fail> {
+    for late in 0..2u8 {
+        let meet = Meet {
+            late,
+            reached: Read::new(),
+            given_up: AtomicU64::new(0),
+        };
+        let read = both(&rt, rt.alloc(), &meet)?;
+        let number = u64::from(late) + 1;
+        assert_eq!(rt; read, (number, number));
+        assert_eq!(rt; meet.given_up.load(Ordering::SeqCst), 0);
+    }
     Ok(())
 }

@@ -1,15 +1,17 @@
 -- The steps of a round with one opening, at a seat that holds no slot.
-use Rattle.std.proofs.Common.{◌≡◌, ℕ, zero, suc, ◌+◌, List, [], ◌∷◌, set, refl, sym, ap, subst}
+use Rattle.std.proofs.Common.{◌≡◌, ℕ, zero, suc, ◌+◌, inr, List, [], ◌∷◌, set, refl, sym, ap, subst}
 use Rattle.std.specs.Prelude.{slice_index}
 use Rattle.atomic_table.specs.Table.{State, Me, Allows, keeps}
 use Rattle.nmgc_graph.specs.declared.command.Command.{Command}
 use Rattle.nmgc_object.specs.declared.size.TheConstants.{HEADER_WORDS}
 use Rattle.nmgc_round.specs.View.{word, Opening, Seen, loaded, answered, swapped, stored, gave_birth}
+use Rattle.nmgc_core.specs.declared.event.Entry.{Entry}
+use Rattle.nmgc_round.specs.Marking.{marks_after}
 use Rattle.nmgc_round.specs.Rule.{Keeps}
-use Rattle.nmgc_round.specs.Ready.{CanScan, scanned_by, Mutates, CanLoad, CanSwap, CanStore, CanBear}
-use Rattle.nmgc_round.specs.Told.{CanFix, CanTake, taken, Tells, TellsField, IsSafe}
-use Rattle.nmgc_round.proofs.Fixes.{fix_keeps, fix_room, take_keeps, take_safe, load_safe}
-use Rattle.nmgc_round.proofs.Scans.{scan_keeps}
+use Rattle.nmgc_round.specs.Ready.{CanScan, scanned_by, first_of, Mutates, CanLoad, CanSwap, CanStore, CanBear}
+use Rattle.nmgc_round.specs.Told.{CanFix, CanTake, taken, Tells, TellsField, TellsEntry, TellsScan, IsSafe}
+use Rattle.nmgc_round.proofs.Fixes.{fix_keeps, fix_room, take_keeps, take_safe, load_safe, swap_safe}
+use Rattle.nmgc_round.proofs.Scans.{scan_keeps, scan_tells}
 use Rattle.nmgc_round.proofs.Moves.{load_keeps, swap_keeps, store_keeps, birth_keeps}
 use Rattle.nmgc_round.proofs.Keeping.{acts}
 
@@ -34,22 +36,30 @@ module _ (o : Opening) where
         let i : ℕ = at + HEADER_WORDS + index in
         let w : Seen = answered me.0 c (word (slice_index s.words i)) in
         let is = (h.agrees id me.0 here).opening (acts me.0 can.0 can.1) in
-        (w, keeps, tt, unchanged s.words (set s.views id w) i (load_keeps o s.words s.views h id me.0 here can.0 can.1 at index c (subst (λ (y : Opening). CanLoad y can.0 at index c) is can.2)), ((refl, subst (λ (y : Opening). IsSafe y (slice_index s.words i)) (sym is) (load_safe o s.words s.views h id me.0 here can.0 can.1 at index c (subst (λ (y : Opening). CanLoad y can.0 at index c) is can.2))), bare))
+        (w, keeps, tt, unchanged s.words (set s.views id w) i (load_keeps o s.words s.views h id me.0 here can.0 can.1 at index c (subst (λ (y : Opening). CanLoad y can.0 at index c) is can.2)).1, ((refl, subst (λ (y : Opening). IsSafe y (slice_index s.words i)) (sym is) (load_safe o s.words s.views h id me.0 here can.0 can.1 at index c (subst (λ (y : Opening). CanLoad y can.0 at index c) is can.2))), bare))
 
-    pub swap_allows : (at index new : ℕ) (c : Command) → Mutates (λ o p. CanSwap o p at index new c) me.0 → Steps (at + HEADER_WORDS + index) (λ _. new) (λ n w. w ≡ swapped me.0 c n)
+    pub swap_allows : (at index new : ℕ) (c : Command) → Mutates (λ o p. CanSwap o p at index new c) me.0 → Steps (at + HEADER_WORDS + index) (λ _. new) (λ n w. (w ≡ swapped me.0 c n) × IsSafe me.0.opening n)
     swap_allows at index new c can s h len here small =
+        let i : ℕ = at + HEADER_WORDS + index in
+        let n : ℕ = slice_index s.words i in
         let is = (h.agrees id me.0 here).opening (acts me.0 can.0 can.1) in
-        (swapped me.0 c (slice_index s.words (at + HEADER_WORDS + index)), keeps, tt, swap_keeps o s.words s.views h id me.0 here can.0 can.1 at index new c (subst (λ (y : Opening). CanSwap y can.0 at index new c) is can.2), (refl, bare))
+        let can' = subst (λ (y : Opening). CanSwap y can.0 at index new c) is can.2 in (
+          swapped me.0 c n,
+          keeps,
+          tt,
+          (swap_keeps o s.words s.views h id me.0 here can.0 can.1 at index new c can').1,
+          ((refl, subst (λ (y : Opening). IsSafe y n) (sym is) (swap_safe o s.words s.views h id me.0 here can.0 can.1 at index new c can')), bare),
+        )
 
     pub store_allows : (i new : ℕ) → Mutates (λ o p. CanStore o p i) me.0 → Steps i (λ _. new) (λ n w. w ≡ stored me.0 i new)
     store_allows i new can s h len here small =
         let is = (h.agrees id me.0 here).opening (acts me.0 can.0 can.1) in
-        (stored me.0 i new, keeps, tt, store_keeps o s.words s.views h id me.0 here can.0 can.1 i new (subst (λ (y : Opening). CanStore y can.0 i) is can.2), (refl, bare))
+        (stored me.0 i new, keeps, tt, (store_keeps o s.words s.views h id me.0 here can.0 can.1 i new (subst (λ (y : Opening). CanStore y can.0 i) is can.2)).0, (refl, bare))
 
     pub birth_allows : (at header : ℕ) (c : Command) → Mutates (λ o p. CanBear o p at header c) me.0 → Steps at (λ _. header) (λ n w. w ≡ gave_birth me.0 at header c)
     birth_allows at header c can s h len here small =
         let is = (h.agrees id me.0 here).opening (acts me.0 can.0 can.1) in
-        (gave_birth me.0 at header c, keeps, tt, birth_keeps o s.words s.views h id me.0 here can.0 can.1 at header c (subst (λ (y : Opening). CanBear y can.0 at header c) is can.2), (refl, bare))
+        (gave_birth me.0 at header c, keeps, tt, (birth_keeps o s.words s.views h id me.0 here can.0 can.1 at header c (subst (λ (y : Opening). CanBear y can.0 at header c) is can.2)).1, (refl, bare))
 
     pub fix_allows : (at offset : ℕ) → Mutates (λ o p. CanFix o p at offset) me.0 → Steps (at + offset) (λ n. n) (λ n w. (w ≡ loaded me.0 at offset n) × Tells me.0.opening at offset n)
     fix_allows at offset can s h len here small =
@@ -59,7 +69,7 @@ module _ (o : Opening) where
           loaded me.0 at offset n,
           keeps,
           tt,
-          unchanged s.words (set s.views id (loaded me.0 at offset n)) (at + offset) (fix_keeps o s.words s.views h id me.0 here can.0 can.1 at offset can'),
+          unchanged s.words (set s.views id (loaded me.0 at offset n)) (at + offset) (fix_keeps o s.words s.views h id me.0 here can.0 can.1 at offset can').0,
           ((refl, subst (λ (y : Opening). Tells y at offset n) (sym is) (fix_room o s.words s.views h id me.0 here can.0 can.1 at offset can')), bare),
         )
 
@@ -71,11 +81,19 @@ module _ (o : Opening) where
           taken me.0 at offset c n,
           keeps,
           tt,
-          unchanged s.words (set s.views id (taken me.0 at offset c n)) (at + offset) (take_keeps o s.words s.views h id me.0 here can.0 can.1 at offset c can'),
+          unchanged s.words (set s.views id (taken me.0 at offset c n)) (at + offset) (take_keeps o s.words s.views h id me.0 here can.0 can.1 at offset c can').1,
           ((refl, subst (λ (y : Opening). TellsField y offset n) (sym is) (take_safe o s.words s.views h id me.0 here can.0 can.1 at offset c can')), bare),
         )
 
-    pub scan_allows : (at offset : ℕ) → CanScan me.0 at offset → Steps (at + offset) (λ n. n) (λ n w. w ≡ scanned_by me.0 n)
+    pub scan_allows : (at offset : ℕ) → CanScan me.0 at offset → Steps (at + offset) (λ n. n) (λ n w. (w ≡ scanned_by me.0 n) × TellsScan me.0 n)
     scan_allows at offset can s h len here small =
         let n : ℕ = slice_index s.words (at + offset) in
-        (scanned_by me.0 n, keeps, tt, unchanged s.words (set s.views id (scanned_by me.0 n)) (at + offset) (scan_keeps o s.words s.views h id me.0 here at offset can), (refl, bare))
+        let is = (h.agrees id me.0 here).opening (inr can.collects) in
+        let first : first_of (marks_after me.0.opening me.0.scans).queue ≡ can.entry = ap first_of can.first in
+        let tells = subst (λ (y : Opening). TellsEntry y can.entry n) (sym is) (scan_tells o s.words s.views h id me.0 here at offset can) in (
+          scanned_by me.0 n,
+          keeps,
+          tt,
+          unchanged s.words (set s.views id (scanned_by me.0 n)) (at + offset) (scan_keeps o s.words s.views h id me.0 here at offset can).1,
+          ((refl, subst (λ (e : Entry). TellsEntry me.0.opening e n) (sym first) tells), bare),
+        )

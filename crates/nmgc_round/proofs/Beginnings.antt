@@ -113,6 +113,7 @@ module _ (layout : Layout) (words : List ℕ) (is : IsLayout layout) (h : IsEmpt
   first_opens = record {
     is = is_opening;
     world = new_is_world layout.mutators is.mutators.0 is.mutators.1;
+    unmarked_is = λ e. refl;
     represents = represents_new;
     count = length-replicate layout.mutators new_hand;
     hands = first_hand;

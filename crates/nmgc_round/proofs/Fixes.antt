@@ -4,6 +4,7 @@ use mathlib.Core.Option.{some, some-ne-none}
 use lib.ListN.{get_elem?}
 use Rattle.nmgc_graph.specs.declared.value.Value.{Value}
 use Rattle.nmgc_graph.specs.declared.node.Kind.{Kind}
+use Rattle.nmgc_graph.specs.declared.node.Kind.TheVariants as kind
 use Rattle.nmgc_graph.specs.declared.command.Command.{Command}
 use Rattle.nmgc_graph.specs.Step.{shared_name, value_for}
 use Rattle.nmgc_object.specs.Words.{header_word}
@@ -15,7 +16,9 @@ use Rattle.nmgc_heap.specs.Places.{Means, HasSlots}
 use Rattle.nmgc_round.specs.View.{Answer, word, Opening, Part, Seen, hand_now, doing, first_changed, loaded, answered}
 use Rattle.nmgc_round.specs.Objects.{Object, place_of, IsObject, IsIn}
 use Rattle.nmgc_round.specs.Rule.{now, IsFixed, Rests, Keeps}
-use Rattle.nmgc_round.specs.Ready.{IsMutator, IsReadable, CanLoad, Names}
+use Rattle.nmgc_round.specs.Added.{Stays, AddsCommand}
+use Rattle.nmgc_round.specs.Events.{Happening}
+use Rattle.nmgc_round.specs.Ready.{IsMutator, IsReadable, IsWritable, CanLoad, CanSwap, Names}
 use Rattle.nmgc_round.specs.Told.{TellsHeader, TellsName, CanFix, CanTake, taken, told, told_by, Tells, TellsField, IsSafe}
 use Rattle.nmgc_round.proofs.Standing.{placed}
 use Rattle.nmgc_heap.specs.laws.Headers.{same_header}
@@ -24,6 +27,15 @@ use Rattle.nmgc_round.proofs.Nurseries.{lies_within}
 use Rattle.nmgc_round.proofs.Moves.{operand_is, meant, fixed_keeps, load_keeps}
 use Rattle.nmgc_round.proofs.Commands.{read}
 use Rattle.nmgc_round.proofs.Refusals.{told_keeps}
+
+-- fields that are written are read
+may_read : (k : Kind) → IsWritable k → IsReadable k
+may_read kind.Con w = absurd w
+may_read kind.Var w = tt
+may_read kind.Arr w = tt
+may_read kind.Thunk w = absurd w
+may_read kind.Weak w = absurd w
+may_read kind.Stack w = absurd w
 
 there_again : {A : Type 0} (l : List A) (i : ℕ) (a b : A) → get_elem? l i ≡ some a → get_elem? (set l i b) i ≡ some b
 there_again [] i a b e = absurd (some-ne-none a (sym e))
@@ -63,7 +75,7 @@ module _ (o : Opening) (words : List ℕ) (views : List Seen) (h : Keeps o words
   is_fixed at offset (inr (header, i, names, e, lt, never)) = subst (λ k. IsFixed o h.born at k) (sym e) (named_fixed at header i names lt never)
 
   -- a load without a place in the order
-  pub fix_keeps : (at offset : ℕ) → CanFix o p at offset → Keeps o words (set views id (loaded v at offset (slice_index words (at + offset))))
+  pub fix_keeps : (at offset : ℕ) → CanFix o p at offset → Stays o words views h words (set views id (loaded v at offset (slice_index words (at + offset))))
   fix_keeps at offset can = fixed_keeps o words views h id v here p is at offset (is_fixed at offset can)
 
   pub fix_room : (at offset : ℕ) → CanFix o p at offset → Tells o at offset (slice_index words (at + offset))
@@ -105,6 +117,15 @@ module _ (o : Opening) (words : List ℕ) (views : List Seen) (h : Keeps o words
       let t = read (IsIn o h.born) words (at + HEADER_WORDS) index st.node (subst (λ (k : Header). IsReadable k.kind) (sym head) can.kind) (subst (λ (k : Header). index < k.fields) (sym head) can.within) (subst (λ a. HasSlots (IsIn o h.born) words (a + HEADER_WORDS) (slots_of st.node)) m.is_at st.fields) in
       safe_word (slice_index words (at + HEADER_WORDS + index)) t.value t.means
 
+  -- the word that a swap finds
+  pub swap_safe : (at index w : ℕ) (c : Command) → CanSwap o p at index w c → IsSafe o (slice_index words (at + HEADER_WORDS + index))
+  swap_safe at index w c can =
+      let m = meant o words views h id v here p is at can.header can.object can.object_word can.names in
+      let st = h.stands.objects m.object m.there in
+      let head : header_of st.node ≡ can.header = st.later.header ∙ m.head in
+      let t = read (IsIn o h.born) words (at + HEADER_WORDS) index st.node (may_read (header_of st.node).kind (subst (λ (k : Header). IsWritable k.kind) (sym head) can.kind)) (subst (λ (k : Header). index < k.fields) (sym head) can.within) (subst (λ a. HasSlots (IsIn o h.born) words (a + HEADER_WORDS) (slots_of st.node)) m.is_at st.fields) in
+      safe_word (slice_index words (at + HEADER_WORDS + index)) t.value t.means
+
   -- the part after a command
   is_doing : (c : Command) (a : Answer) → IsMutator (answered v c a) (doing p c a [])
   is_doing c a = record { alone = ap (λ (l : List Part). first_changed (λ q. doing q c a []) l) is.alone; no_collector = is.no_collector }
@@ -113,20 +134,22 @@ module _ (o : Opening) (words : List ℕ) (views : List Seen) (h : Keeps o words
   is_telling c = record { alone = ap (λ (l : List Part). first_changed (λ q. doing q c (told_by (hand_now v.opening q) q.fixed c) []) l) is.alone; no_collector = is.no_collector }
 
 -- a view that changed twice
-twice : (o : Opening) (words : List ℕ) (views : List Seen) (id : ℕ) (a b : Seen) → Keeps o words (set (set views id a) id b) → Keeps o words (set views id b)
-twice o words views id a b h = subst (λ (l : List Seen). Keeps o words l) (set-set views id a b) h
+twice : (o : Opening) (words : List ℕ) (views : List Seen) (id : ℕ) (a b : Seen) (es : List Happening) → (n : Keeps o words (set (set views id a) id b)) × (n.events ≡ es) → (n : Keeps o words (set views id b)) × (n.events ≡ es)
+twice o words views id a b es h = subst (λ (l : List Seen). (n : Keeps o words l) × (n.events ≡ es)) (set-set views id a b) h
 
 module _ (o : Opening) (words : List ℕ) (views : List Seen) (h : Keeps o words views) (id : ℕ) (v : Seen) (here : get_elem? views id ≡ some v) (p : Part) (is : IsMutator v p) where
   -- a load at which a command takes its place
-  pub take_keeps : (at offset : ℕ) (c : Command) → CanTake o p at offset c → Keeps o words (set views id (taken v at offset c (slice_index words (at + offset))))
+  pub take_keeps : (at offset : ℕ) (c : Command) → CanTake o p at offset c → AddsCommand o words views h p.number c words (set views id (taken v at offset c (slice_index words (at + offset))))
   take_keeps at zero c (inl (is_at, z, can)) =
       let w : ℕ = slice_index words (at + 0) in
       let next = told v c in
-      let k = told_keeps o words views h id v here p is c can in
+      let t = told_keeps o words views h id v here p is c can in
+      let k : Keeps o words (set views id next) = t.1 in
       let at' : at ≡ SHARED_PLACE = is_at in
       let here' = there_again views id v next here in
       let f : IsFixed o k.born at 0 = subst (λ j. IsFixed o k.born j 0) (sym at') (first_fixed o words (set views id next) k id next here' _ (is_telling o words views h id v here p is c) (record { at = SHARED_PLACE; name = shared_name; node = k.shared.0 }) k.shared.1 0 (omega arith)) in
-      twice o words views id next (loaded next at 0 w) (fixed_keeps o words (set views id next) k id next here' _ (is_telling o words views h id v here p is c) at 0 f)
+      let n = twice o words views id next (loaded next at 0 w) k.events (fixed_keeps o words (set views id next) k id next here' _ (is_telling o words views h id v here p is c) at 0 f) in
+      (t.0, n.0, n.1 ∙ t.2)
   take_keeps at (suc offset) c (inl (is_at, z, can)) = absurd (omega arith)
   take_keeps at zero c (inr (i, e, can)) = absurd (omega arith)
   take_keeps at (suc offset) c (inr (i, e, can)) =
@@ -134,12 +157,14 @@ module _ (o : Opening) (words : List ℕ) (views : List Seen) (h : Keeps o words
       let a : Answer = word w in
       let next = answered v c a in
       let place : at + HEADER_WORDS + i ≡ at + suc offset = omega arith in
-      let k : Keeps o words (set views id next) = subst (λ j. Keeps o words (set views id (answered v c (word (slice_index words j))))) place (load_keeps o words views h id v here p is at i c can.0) in
+      let t : AddsCommand o words views h p.number c words (set views id next) = subst (λ j. AddsCommand o words views h p.number c words (set views id (answered v c (word (slice_index words j))))) place (load_keeps o words views h id v here p is at i c can.0) in
+      let k : Keeps o words (set views id next) = t.1 in
       let here' = there_again views id v next here in
       let is' = is_doing o words views h id v here p is c a in
       let names : Names (doing p c a []) at can.0.header = record { valid = can.0.names.valid; there = can.0.names.there } in
       let f : IsFixed o k.born at (suc offset) = subst (λ j. IsFixed o k.born at j) (sym e) (named_fixed o words (set views id next) k id next here' (doing p c a []) is' at can.0.header i names can.0.within (λ may. subst (λ (t : Kind). MayChange t i) can.1 may)) in
-      twice o words views id next (loaded next at (suc offset) w) (fixed_keeps o words (set views id next) k id next here' (doing p c a []) is' at (suc offset) f)
+      let n = twice o words views id next (loaded next at (suc offset) w) k.events (fixed_keeps o words (set views id next) k id next here' (doing p c a []) is' at (suc offset) f) in
+      (t.0, n.0, n.1 ∙ t.2)
 
   -- the field that a command finds there
   pub take_safe : (at offset : ℕ) (c : Command) → CanTake o p at offset c → TellsField o offset (slice_index words (at + offset))

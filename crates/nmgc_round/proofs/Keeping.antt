@@ -27,6 +27,7 @@ use Rattle.nmgc_round.specs.Objects.{Object, IsLater, IsObject, IsIn, Stands}
 use Rattle.nmgc_round.proofs.Standing.{later_of}
 use Rattle.nmgc_round.specs.Marking.{Marks, marks_of, after_word, folded}
 use Rattle.nmgc_round.specs.Rule.{now, Answers, AllRead, Owes, IsStack, IsHand, Fits, Rests, IsActive, Agrees, IsNew, AreKnown, IsQueued, IsRead, Keeps}
+use Rattle.nmgc_round.specs.Added.{Stays, AddsCommand, AddsScan}
 use Rattle.nmgc_round.specs.Ready.{IsMutator}
 use Rattle.nmgc_round.proofs.Lists.{answer_push, read_push, leave_more, answers_more, reads_more, owed_more}
 use Rattle.nmgc_round.proofs.Fields.{list_more}
@@ -75,6 +76,7 @@ module _ (o : Opening) (born more : List Object) (grow : (x : Object) → IsObje
       serial = f.hand.serial;
       stacks = λ t h. stack_more s.world s.world q.number t (λ name size values e there. there) (f.hand.stacks t h);
     };
+    found = owes_more true q.found _ f.found;
     owed = owes_more o.marking q.owed _ f.owed;
   }
 
@@ -94,20 +96,23 @@ module _ (o : Opening) (born more : List Object) (grow : (x : Object) → IsObje
           serial = f.hand.serial ∙ sym same.serial;
           stacks = λ t h. stack_more s.world (step s.world m c).0 q.number t (λ name size values e there. stacks name size values (λ k. ne (sym e ∙ k)) there) (f.hand.stacks t h);
         };
+        found = subst (λ ns. Owes true (IsIn o more) q.found ns) (sym (names_other s.owed m q.number (names_of s.owed m ++ owed_by s.world m c) ne)) (owes_more true q.found _ f.found);
         owed = subst (λ ns. Owes o.marking (IsIn o more) q.owed ns) (sym (names_other s.owed m q.number (names_of s.owed m ++ owed_by s.world m c) ne)) (owes_more o.marking q.owed _ f.owed);
       }
 
   -- the part of the mutator that did the command
-  pub fits_mine : (s : State) (done : List (Command × Reply)) (p : Part) (used : ℕ) (unborn : List UnbornWord) (fixed : List FixedWord) (c : Command) (r : Reply) (a : Answer) (owed : List ℕ)
+  pub fits_mine : (s : State) (done : List (Command × Reply)) (p : Part) (used : ℕ) (unborn : List UnbornWord) (fixed : List FixedWord) (found : List ℕ) (c : Command) (r : Reply) (a : Answer) (owed : List ℕ)
       → Answers (IsIn o more) a r → IsHand o more (step s.world p.number c).0 p.number (leaves (hand_now o p) c a)
       → Owes o.marking (IsIn o more) (p.owed ++ owed) (names_of s.owed p.number ++ owed_by s.world p.number c)
-      → Fits o born s done p → Fits o more (after_command s p.number c) (done ++ (c, r) ∷ []) (doing (record p { used = used; unborn = unborn; fixed = fixed }) c a owed)
-  fits_mine s done p used unborn fixed c r a owed says hand owes f =
+      → Owes true (IsIn o more) found (names_of s.owed p.number ++ owed_by s.world p.number c)
+      → Fits o born s done p → Fits o more (after_command s p.number c) (done ++ (c, r) ∷ []) (doing (record p { used = used; unborn = unborn; fixed = fixed; found = found }) c a owed)
+  fits_mine s done p used unborn fixed found c r a owed says hand owes finds f =
       let count = (step_grows s.world p.number c f.exists).mutators in record {
         exists = subst (λ n. p.number < n) (sym count) f.exists;
         owing = subst (λ n. p.number < n) (sym (length-set s.owed p.number (names_of s.owed p.number ++ owed_by s.world p.number c))) f.owing;
         rows = answer_push (IsIn o more) p.rows done c a r (answers_more (IsIn o born) (IsIn o more) grown p.rows done f.rows) says;
         hand = subst (λ (h : Hand). IsHand o more (step s.world p.number c).0 p.number h) (sym (leave_more (hand_of o.hands p.number) p.rows (record { command = c; answer = a }))) hand;
+        found = subst (λ ns. Owes true (IsIn o more) found ns) (sym (names_same s.owed p.number (names_of s.owed p.number ++ owed_by s.world p.number c) f.owing)) finds;
         owed = subst (λ ns. Owes o.marking (IsIn o more) (p.owed ++ owed) ns) (sym (names_same s.owed p.number (names_of s.owed p.number ++ owed_by s.world p.number c) f.owing)) owes;
       }
 
@@ -125,25 +130,28 @@ module _ (o : Opening) (words : List ℕ) (views : List Seen) (h : Keeps o words
       → ((entry : Entry) → Contains (now o es).queue entry → IsQueued o entry)
       → Agrees o more new es h.owner h.scanner id w
       → ((j : ℕ) (u : Seen) → j ≢ id → get_elem? views j ≡ some u → Agrees o more new es h.owner h.scanner j u)
-      → Keeps o new (set views id w)
-  change new es more w grow news legal st known queued mine others = record {
-    is = h.is;
-    placed = h.placed;
-    events = es;
-    born = more;
-    owner = h.owner;
-    scanner = h.scanner;
-    legal = legal;
-    stands = st;
-    shared = grown o h.born more grow _ h.shared;
-    new = news;
-    known = known;
-    queued = queued;
-    agrees = λ j u at. ⊎_elim
-        (λ (t : (j ≡ id) × (w ≡ u)). subst (λ (k : ℕ). Agrees o more new es h.owner h.scanner k u) (sym t.0) (subst (Agrees o more new es h.owner h.scanner id) t.1 mine))
-        (λ (t : (j ≢ id) × (get_elem? views j ≡ some u)). others j u t.0 t.1)
-        (at_set views id j w u at);
-  }
+      → (n : Keeps o new (set views id w)) × (n.events ≡ es)
+  change new es more w grow news legal st known queued mine others = (
+    record {
+      is = h.is;
+      placed = h.placed;
+      events = es;
+      born = more;
+      owner = h.owner;
+      scanner = h.scanner;
+      legal = legal;
+      stands = st;
+      shared = grown o h.born more grow _ h.shared;
+      new = news;
+      known = known;
+      queued = queued;
+      agrees = λ j u at. ⊎_elim
+          (λ (t : (j ≡ id) × (w ≡ u)). subst (λ (k : ℕ). Agrees o more new es h.owner h.scanner k u) (sym t.0) (subst (Agrees o more new es h.owner h.scanner id) t.1 mine))
+          (λ (t : (j ≢ id) × (get_elem? views j ≡ some u)). others j u t.0 t.1)
+          (at_set views id j w u at);
+    },
+    refl,
+  )
 
   -- the nodes after a command
   known_more : (more : List Object) → ((x : Object) → IsObject o h.born x → IsObject o more x) → (u : World) → ((n : Name) (node : Node) → node_of u n ≡ Some node → ((before : Node) × (node_of (now o h.events).world n ≡ Some before) × IsLater before node) ⊎ ((x : Object) × Contains more x × (x.name ≡ n))) → AreKnown o more u
@@ -168,27 +176,28 @@ module _ (o : Opening) (words : List ℕ) (views : List Seen) (h : Keeps o words
         (fits_other o h.born more grow (now o h.events) (done_by q.number h.events) m c q lt ne stacks f))
 
   -- a command more: every step with a place in the order is an instance
-  pub command_law : (new : List ℕ) (more : List Object) (p : Part) (used : ℕ) (unborn : List UnbornWord) (fixed : List FixedWord) (c : Command) (r : Reply) (a : Answer) (owed : List ℕ)
+  pub command_law : (new : List ℕ) (more : List Object) (p : Part) (used : ℕ) (unborn : List UnbornWord) (fixed : List FixedWord) (found : List ℕ) (c : Command) (r : Reply) (a : Answer) (owed : List ℕ)
       → IsMutator v p → ((x : Object) → IsObject o h.born x → IsObject o more x) → ((x : Object) → Contains more x → IsNew o x)
       → IsPossible (now o h.events) (event.Command p.number c r)
       → Answers (IsIn o more) a r
       → IsHand o more (step (now o h.events).world p.number c).0 p.number (leaves (hand_now o p) c a)
       → Owes o.marking (IsIn o more) (p.owed ++ owed) (names_of (now o h.events).owed p.number ++ owed_by (now o h.events).world p.number c)
+      → Owes true (IsIn o more) found (names_of (now o h.events).owed p.number ++ owed_by (now o h.events).world p.number c)
       → ((name : Name) (size : ℕ) (values : List Value) → name.maker ≢ p.number → node_of (now o h.events).world name ≡ Some (Stack size values) → node_of (step (now o h.events).world p.number c).0 name ≡ Some (Stack size values))
       → ((n : Name) (node : Node) → node_of (step (now o h.events).world p.number c).0 n ≡ Some node → ((before : Node) × (node_of (now o h.events).world n ≡ Some before) × IsLater before node) ⊎ ((x : Object) × Contains more x × (x.name ≡ n)))
       → Stands o more (step (now o h.events).world p.number c).0 new
-      → Rests o more new (doing (record p { used = used; unborn = unborn; fixed = fixed }) c a owed)
+      → Rests o more new (doing (record p { used = used; unborn = unborn; fixed = fixed; found = found }) c a owed)
       → ((q : Part) → q.number ≢ p.number → Rests o h.born words q → Rests o more new q)
-      → Keeps o new (set views id (record v { parts = doing (record p { used = used; unborn = unborn; fixed = fixed }) c a owed ∷ [] }))
-  command_law new more p used unborn fixed c r a owed is grow news can says hand owes stacks names st rests rest =
+      → AddsCommand o words views h p.number c new (set views id (record v { parts = doing (record p { used = used; unborn = unborn; fixed = fixed; found = found }) c a owed ∷ [] }))
+  command_law new more p used unborn fixed found c r a owed is grow news can says hand owes finds stacks names st rests rest =
       let m : ℕ = p.number in
       let e : Happening = did m c r in
       let s : State = now o h.events in
       let g = h.agrees id v here in
       let mine = g.parts 0 p (ap (λ l. get_elem? l 0) is.alone) in
-      let p' : Part = doing (record p { used = used; unborn = unborn; fixed = fixed }) c a owed in
-      let fits : Fits o more (now o (h.events ++ e ∷ [])) (done_by m (h.events ++ e ∷ [])) p' = subst (λ (t : State). Fits o more t (done_by m (h.events ++ e ∷ [])) p') (sym (now_more e)) (subst (λ d. Fits o more (after_command s m c) d p') (sym (done_more m h.events c r)) (fits_mine o h.born more grow s (done_by m h.events) p used unborn fixed c r a owed says hand owes mine.1)) in
-      change new (h.events ++ e ∷ []) more (record v { parts = p' ∷ [] }) grow news (legal_more o.core h.events e h.legal (can, tt))
+      let p' : Part = doing (record p { used = used; unborn = unborn; fixed = fixed; found = found }) c a owed in
+      let fits : Fits o more (now o (h.events ++ e ∷ [])) (done_by m (h.events ++ e ∷ [])) p' = subst (λ (t : State). Fits o more t (done_by m (h.events ++ e ∷ [])) p') (sym (now_more e)) (subst (λ d. Fits o more (after_command s m c) d p') (sym (done_more m h.events c r)) (fits_mine o h.born more grow s (done_by m h.events) p used unborn fixed found c r a owed says hand owes finds mine.1)) in
+      let n = change new (h.events ++ e ∷ []) more (record v { parts = p' ∷ [] }) grow news (legal_more o.core h.events e h.legal (can, tt))
       (subst (λ (t : State). Stands o more t.world new) (sym (now_more e)) st)
       (subst (λ (t : State). AreKnown o more t.world) (sym (now_more e)) (known_more more grow (step s.world m c).0 names))
       (λ entry q. h.queued entry (subst (λ (t : State). Contains t.queue entry) (now_more e) q))
@@ -206,18 +215,19 @@ module _ (o : Opening) (words : List ℕ) (views : List Seen) (h : Keeps o words
             let apart : q.number ≢ m = λ same. ne (sym t.0 ∙ ap h.owner same ∙ mine.0) in
             (t.0, other_fits m c r mine.1.exists more grow stacks q apart t.1, rest q apart t.2);
         scans = λ yes. let t = f.scans yes in (t.0, subst (λ l. AllRead (IsIn o more) u.scans l) (sym (scans_same h.events m c r)) (reads_more (IsIn o h.born) (IsIn o more) (grown o h.born more grow) u.scans (scans_in h.events) t.1), ap (λ (s : State). marks_of s) (now_more e) ∙ t.2);
-      })
+      }) in
+      (r, n.0, n.1)
 
   -- no event: one part says other things of the words
   pub store_law : (new : List ℕ) (p : Part) (used : ℕ) (unborn : List UnbornWord) (fixed : List FixedWord) → IsMutator v p
       → Stands o h.born (now o h.events).world new → Rests o h.born new (record p { used = used; unborn = unborn; fixed = fixed }) → ((q : Part) → q.number ≢ p.number → Rests o h.born words q → Rests o h.born new q)
-      → Keeps o new (set views id (record v { parts = record p { used = used; unborn = unborn; fixed = fixed } ∷ [] }))
+      → Stays o words views h new (set views id (record v { parts = record p { used = used; unborn = unborn; fixed = fixed } ∷ [] }))
   store_law new p used unborn fixed is st rests rest =
       let g = h.agrees id v here in
       let mine = g.parts 0 p (ap (λ l. get_elem? l 0) is.alone) in
       let p' : Part = record p { used = used; unborn = unborn; fixed = fixed } in
       let f = mine.1 in
-      let fits : Fits o h.born (now o h.events) (done_by p.number h.events) p' = record { exists = f.exists; owing = f.owing; rows = f.rows; hand = f.hand; owed = f.owed } in
+      let fits : Fits o h.born (now o h.events) (done_by p.number h.events) p' = record { exists = f.exists; owing = f.owing; rows = f.rows; hand = f.hand; found = f.found; owed = f.owed } in
       change new h.events h.born (record v { parts = p' ∷ [] }) (λ x y. y) h.new h.legal st h.known h.queued
       (record {
         shares = g.shares;
@@ -235,7 +245,7 @@ module _ (o : Opening) (words : List ℕ) (views : List Seen) (h : Keeps o words
       })
 
   -- no event, and no other word
-  pub same_law : (w : Seen) → Agrees o h.born words h.events h.owner h.scanner id w → Keeps o words (set views id w)
+  pub same_law : (w : Seen) → Agrees o h.born words h.events h.owner h.scanner id w → Stays o words views h words (set views id w)
   same_law w mine = change words h.events h.born w (λ x y. y) h.new h.legal h.stands h.known h.queued mine (λ j u ne at. h.agrees j u at)
 
   -- a part doesn't see a scan
@@ -245,6 +255,7 @@ module _ (o : Opening) (words : List ℕ) (views : List Seen) (h : Keeps o words
     owing = subst (λ (l : List (List Name)). q.number < length l) (sym owed) f.owing;
     rows = f.rows;
     hand = subst (λ (w : World). IsHand o h.born w q.number (hand_now o q)) (sym world) f.hand;
+    found = subst (λ (l : List (List Name)). Owes true (IsIn o h.born) q.found (names_of l q.number)) (sym owed) f.found;
     owed = subst (λ (l : List (List Name)). Owes o.marking (IsIn o h.born) q.owed (names_of l q.number)) (sym owed) f.owed;
   }
 
@@ -253,7 +264,7 @@ module _ (o : Opening) (words : List ℕ) (views : List Seen) (h : Keeps o words
       → read_at (node_of (now o h.events).world entry.name) entry.position ≡ x → IsRead (IsIn o h.born) w x → (x ≡ None → 1 ≤ entry.position → w ≡ 0)
       → marks_of (after_scan (now o h.events) (now o h.events).queue) ≡ after_word o (marks_of (now o h.events)) (record { entry = entry; word = w })
       → ((e : Entry) → Contains (after_scan (now o h.events) (now o h.events).queue).queue e → IsQueued o e)
-      → Keeps o words (set views id (scanning v (record { entry = entry; word = w })))
+      → AddsScan o words views h entry words (set views id (scanning v (record { entry = entry; word = w })))
   scan_law entry rest w x collects queue reads means unset marks queued =
       let e : Happening = scanned entry x in
       let s : State = now o h.events in
@@ -265,7 +276,7 @@ module _ (o : Opening) (words : List ℕ) (views : List Seen) (h : Keeps o words
       let full : s.queue ≡ [] → ⊥ = λ no. let bad : entry ∷ rest ≡ [] = sym queue ∙ no in cc in
       let fits : (q : Part) → Fits o h.born s (done_by q.number h.events) q → Fits o h.born (now o (h.events ++ e ∷ [])) (done_by q.number (h.events ++ e ∷ [])) q =
       λ q f. subst (λ (u : State). Fits o h.born u (done_by q.number (h.events ++ e ∷ [])) q) (sym (now_more e)) (subst (λ d. Fits o h.born t d q) (sym (done_scan q.number h.events entry x)) (fits_rest s t (done_by q.number h.events) q kept.world kept.owed f)) in
-      change words (h.events ++ e ∷ []) h.born (scanning v one) (λ y hy. hy) h.new (legal_more o.core h.events e h.legal ((still_open o.core h.events h.is.not_closed, full), ((rest, queue), reads)))
+      let n = change words (h.events ++ e ∷ []) h.born (scanning v one) (λ y hy. hy) h.new (legal_more o.core h.events e h.legal ((still_open o.core h.events h.is.not_closed, full), ((rest, queue), reads)))
       (subst (λ (u : State). Stands o h.born u.world words) (sym (now_more e)) (subst (λ (u : World). Stands o h.born u words) (sym kept.world) h.stands))
       (subst (λ (u : State). AreKnown o h.born u.world) (sym (now_more e)) (subst (λ (u : World). AreKnown o h.born u) (sym kept.world) h.known))
       (λ k c. queued k (subst (λ (u : State). Contains u.queue k) (now_more e) c))
@@ -284,4 +295,5 @@ module _ (o : Opening) (words : List ℕ) (views : List Seen) (h : Keeps o words
         opening = f.opening;
         parts = λ k q at'. let r = f.parts k q at' in (r.0, fits q r.1, r.2);
         scans = λ yes. absurd (ne (sym (f.scans yes).0 ∙ mine.0));
-      })
+      }) in
+      (x, n.0, n.1)

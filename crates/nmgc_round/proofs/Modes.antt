@@ -12,7 +12,7 @@ use Rattle.nmgc_round.specs.Rule.{IsActive, IsIdle, Keeps, Stopped, Holding}
 use Rattle.nmgc_round.specs.Starting.{CanOpen}
 use Rattle.nmgc_round.specs.Finishing.{HasAll, Ended}
 use Rattle.nmgc_round.specs.Ready.{CanScan, scanned_by, Mutates, CanLoad, CanSwap, CanStore, CanBear}
-use Rattle.nmgc_round.specs.Told.{CanFix, CanTake, taken, Tells, TellsField, IsSafe}
+use Rattle.nmgc_round.specs.Told.{CanFix, CanTake, taken, Tells, TellsField, TellsScan, IsSafe}
 use Rattle.nmgc_round.proofs.Allows as allows
 use Rattle.nmgc_round.proofs.Allows.{set_again}
 use Rattle.nmgc_round.proofs.Keeping.{acts}
@@ -84,8 +84,8 @@ module _ (slots id : ℕ) (me : Me (Unit {0}) Seen) (bare : me.1 ≡ []) where
   pub load_allows : (at index : ℕ) (c : Command) → Mutates (λ o p. CanLoad o p at index c) me.0 → Steps (at + HEADER_WORDS + index) (λ n. n) (λ n w. (w ≡ answered me.0 c (word n)) × IsSafe me.0.opening n)
   load_allows at index c can = within (at + HEADER_WORDS + index) (λ n. n) (λ n w. (w ≡ answered me.0 c (word n)) × IsSafe me.0.opening n) (acts me.0 can.0 can.1) (λ o. allows.load_allows o slots id me bare at index c can)
 
-  pub swap_allows : (at index new : ℕ) (c : Command) → Mutates (λ o p. CanSwap o p at index new c) me.0 → Steps (at + HEADER_WORDS + index) (λ _. new) (λ n w. w ≡ swapped me.0 c n)
-  swap_allows at index new c can = within (at + HEADER_WORDS + index) (λ _. new) (λ n w. w ≡ swapped me.0 c n) (acts me.0 can.0 can.1) (λ o. allows.swap_allows o slots id me bare at index new c can)
+  pub swap_allows : (at index new : ℕ) (c : Command) → Mutates (λ o p. CanSwap o p at index new c) me.0 → Steps (at + HEADER_WORDS + index) (λ _. new) (λ n w. (w ≡ swapped me.0 c n) × IsSafe me.0.opening n)
+  swap_allows at index new c can = within (at + HEADER_WORDS + index) (λ _. new) (λ n w. (w ≡ swapped me.0 c n) × IsSafe me.0.opening n) (acts me.0 can.0 can.1) (λ o. allows.swap_allows o slots id me bare at index new c can)
 
   pub store_allows : (i new : ℕ) → Mutates (λ o p. CanStore o p i) me.0 → Steps i (λ _. new) (λ n w. w ≡ stored me.0 i new)
   store_allows i new can = within i (λ _. new) (λ n w. w ≡ stored me.0 i new) (acts me.0 can.0 can.1) (λ o. allows.store_allows o slots id me bare i new can)
@@ -99,8 +99,8 @@ module _ (slots id : ℕ) (me : Me (Unit {0}) Seen) (bare : me.1 ≡ []) where
   pub take_allows : (at offset : ℕ) (c : Command) → Mutates (λ o p. CanTake o p at offset c) me.0 → Steps (at + offset) (λ n. n) (λ n w. (w ≡ taken me.0 at offset c n) × TellsField me.0.opening offset n)
   take_allows at offset c can = within (at + offset) (λ n. n) (λ n w. (w ≡ taken me.0 at offset c n) × TellsField me.0.opening offset n) (acts me.0 can.0 can.1) (λ o. allows.take_allows o slots id me bare at offset c can)
 
-  pub scan_allows : (at offset : ℕ) → CanScan me.0 at offset → Steps (at + offset) (λ n. n) (λ n w. w ≡ scanned_by me.0 n)
-  scan_allows at offset can = within (at + offset) (λ n. n) (λ n w. w ≡ scanned_by me.0 n) (inr can.collects) (λ o. allows.scan_allows o slots id me bare at offset can)
+  pub scan_allows : (at offset : ℕ) → CanScan me.0 at offset → Steps (at + offset) (λ n. n) (λ n w. (w ≡ scanned_by me.0 n) × TellsScan me.0 n)
+  scan_allows at offset can = within (at + offset) (λ n. n) (λ n w. (w ≡ scanned_by me.0 n) × TellsScan me.0 n) (inr can.collects) (λ o. allows.scan_allows o slots id me bare at offset can)
 
   same_view : (views : List Seen) → get_elem? views id ≡ some me.0 → set views id me.0 ≡ views
   same_view views here = again views id here
@@ -129,7 +129,7 @@ module _ (slots id : ℕ) (me : Me (Unit {0}) Seen) (bare : me.1 ≡ []) where
     pub open_allows : (i : ℕ) (o : Opening) → CanOpen o ws → Steps i (λ n. n) (λ n w. w ≡ whole o)
     open_allows i o starts s h len here small =
         let t = stop s h here in
-        let k = begins o s.words (subst (λ (l : List ℕ). CanOpen o l) t.0 starts) s.views id t.1 in
+        let k = (begins o s.words (subst (λ (l : List ℕ). CanOpen o l) t.0 starts) s.views id t.1).0 in
         (whole o, keeps, tt, subst (λ (l : List ℕ). Holding l (set s.views id (whole o))) (sym (set_again s.words i)) (inr (o, k)), (refl, bare))
 
   pub close_allows : (i : ℕ) → HasAll me.0 → Steps i (λ n. n) (λ n w. Ended me.0 w)

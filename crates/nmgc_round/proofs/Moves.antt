@@ -34,9 +34,10 @@ use Rattle.nmgc_heap.specs.Places.{Place, Means, HasSlots, ListMeans, LiesWell}
 use Rattle.nmgc_round.specs.Events.{done_by}
 use Rattle.nmgc_graph.specs.declared.mutator_state.MutatorState.{MutatorState}
 use Rattle.nmgc_graph.specs.laws.Orders.{contains_cases}
-use Rattle.nmgc_round.specs.View.{FixedWord, loaded, holding, bearing_object, gave_birth, next_of, Answer, plain, word, Hand, Opening, Part, Seen, hand_now, leaves, doing, knowing, storing, first_changed, owed_word, answered, swapped, stored}
+use Rattle.nmgc_round.specs.View.{FixedWord, loaded, holding, bearing_object, gave_birth, next_of, Answer, plain, word, Hand, Opening, Part, Seen, hand_now, leaves, doing, finding, knowing, storing, first_changed, owed_word, answered, swapped, stored}
 use Rattle.nmgc_round.specs.Objects.{Object, place_of, end_of, IsLater, IsObject, IsIn, Stands, IsFree}
 use Rattle.nmgc_round.specs.Rule.{now, Answers, Owes, IsHand, IsFixed, Fits, Rests, IsNew, Keeps, limit_of}
+use Rattle.nmgc_round.specs.Added.{Stays, AddsCommand}
 use Rattle.nmgc_round.specs.Ready.{IsMutator, CanGive, operand_word, Names, IsWritable, IsReadable, CanBear, CanSwap, CanLoad, CanStore}
 use Rattle.nmgc_round.proofs.Fields.{list_more}
 use Rattle.nmgc_round.proofs.Lists.{operand_means, pointer_means, list_set, owed_append}
@@ -119,6 +120,9 @@ module _ (o : Opening) (words : List ℕ) (views : List Seen) (h : Keeps o words
   owes_nothing : (b : Bool) (ws : List ℕ) (ns : List Name) → Owes b P ws ns → Owes b P (ws ++ []) (ns ++ [])
   owes_nothing b ws ns k = rw (append-nil ws, append-nil ns) k
 
+  finds_same : (ws : List ℕ) (ns : List Name) → Owes true P ws ns → Owes true P ws (ns ++ [])
+  finds_same ws ns k = rw (append-nil ns) k
+
   owes_old : (b : Bool) (ws : List ℕ) (ns : List Name) (w : ℕ) (x : Value) → Owes b P ws ns → Means P w x → Owes b P (ws ++ owed_word b w) (ns ++ names_among (x ∷ []))
   owes_old true ws ns w x k m = owed_append P ws (w ∷ []) ns (x ∷ []) k (m, tt)
   owes_old false ws ns w x k m = append-nil ws ∙ k
@@ -133,7 +137,7 @@ module _ (o : Opening) (words : List ℕ) (views : List Seen) (h : Keeps o words
   }
 
   -- `set` with its swap
-  pub swap_keeps : (at index w : ℕ) (c : Command) → CanSwap o p at index w c → Keeps o (set words (at + HEADER_WORDS + index) w) (set views id (swapped v c (slice_index words (at + HEADER_WORDS + index))))
+  pub swap_keeps : (at index w : ℕ) (c : Command) → CanSwap o p at index w c → AddsCommand o words views h p.number c (set words (at + HEADER_WORDS + index) w) (set views id (swapped v c (slice_index words (at + HEADER_WORDS + index))))
   swap_keeps at index w c can =
       let m = meant at can.header can.object can.object_word can.names in
       let x = m.object in
@@ -167,14 +171,15 @@ module _ (o : Opening) (words : List ℕ) (views : List Seen) (h : Keeps o words
       (subst (λ a. HasSlots P (set words (a + HEADER_WORDS + index) w) (a + HEADER_WORDS) (slots_of t.made)) (sym m.is_at) t.fields)) in
       let rest : (q : Part) → Rests o h.born words q → Rests o h.born new q = λ q r. subst (λ a. Rests o h.born (set words (a + HEADER_WORDS + index) w) q) m.is_at (rests_field o h.is h.born W words h.stands h.new x m.there index w within' may' q r) in
       let mine_rests = rest p rests in
-      subst (λ l. Keeps o new (set views id (record v { parts = first_changed (λ q. doing q c (plain Fine) (owed_word v.opening.marking old)) l }))) (sym is.alone)
-      (subst (λ (y : Opening). Keeps o new (set views id (record v { parts = doing p c (plain Fine) (owed_word y.marking old) ∷ [] }))) (sym same_opening)
-      (subst (λ (d : Command). Keeps o new (set views id (record v { parts = doing p d (plain Fine) (owed_word o.marking old) ∷ [] }))) (sym can.command)
-      (command_law o words views h id v here new h.born p p.used p.unborn p.fixed (Set can.object index can.value) Fine (plain Fine) (owed_word o.marking old) is (λ y hy. hy) h.new
+      subst (λ l. AddsCommand o words views h p.number c new (set views id (record v { parts = first_changed (λ q. doing (finding q old) c (plain Fine) (owed_word v.opening.marking old)) l }))) (sym is.alone)
+      (subst (λ (y : Opening). AddsCommand o words views h p.number c new (set views id (record v { parts = doing (finding p old) c (plain Fine) (owed_word y.marking old) ∷ [] }))) (sym same_opening)
+      (subst (λ (d : Command). AddsCommand o words views h p.number d new (set views id (record v { parts = doing (finding p old) d (plain Fine) (owed_word o.marking old) ∷ [] }))) (sym can.command)
+      (command_law o words views h id v here new h.born p p.used p.unborn p.fixed (p.found ++ old ∷ []) (Set can.object index can.value) Fine (plain Fine) (owed_word o.marking old) is (λ y hy. hy) h.new
       (possible (Set can.object index can.value) Fine (subst (λ (d : Command). CanGive o p d) can.command can.gives) (ap (λ (r : World × Reply). r.1) does))
       refl
       (subst (λ (r : World × Reply). IsHand o h.born r.0 p.number (hand_now o p)) (sym does) (hand_kept u (hand_now o p) (node_frame W name st.node t.made st.there p.number) stacks fits.hand))
       (subst (λ ns. Owes o.marking P (p.owed ++ owed_word o.marking old) (names_of S.owed p.number ++ ns)) (sym owes) (owes_old o.marking p.owed (names_of S.owed p.number) old t.old fits.owed t.was))
+      (subst (λ ns. Owes true P (p.found ++ old ∷ []) (names_of S.owed p.number ++ ns)) (sym owes) (owes_old true p.found (names_of S.owed p.number) old t.old fits.found t.was))
       (λ n size values ne e. subst (λ (r : World × Reply). node_of r.0 n ≡ Some (Stack size values)) (sym does) (stacks n size values e))
       (λ n node e. let e' : node_of u n ≡ Some node = subst (λ (r : World × Reply). node_of r.0 n ≡ Some node) does e in elim (cases n) [
         | inl s ↦ let is : Some t.made ≡ Some node = sym s.1 ∙ e' in let same : t.made ≡ node = cc in inl (st.node, ap (λ k. node_of W k) s.0 ∙ st.there, subst (λ (k : Node). IsLater st.node k) same t.later)
@@ -198,14 +203,15 @@ module _ (o : Opening) (words : List ℕ) (views : List Seen) (h : Keeps o words
 
   -- a command that changes no node, and no word changes
   pub still_law : (c : Command) (r : Reply) (a : Answer) (u : World) → CanGive o p c → step W p.number c ≡ (u, r) → ((n : Name) → node_of u n ≡ node_of W n) → owed_by W p.number c ≡ []
-      → Answers P a r → IsHand o h.born u p.number (leaves (hand_now o p) c a) → Keeps o words (set views id (answered v c a))
+      → Answers P a r → IsHand o h.born u p.number (leaves (hand_now o p) c a) → AddsCommand o words views h p.number c words (set views id (answered v c a))
   still_law c r a u gives does same owes says hand =
-      subst (λ l. Keeps o words (set views id (record v { parts = first_changed (λ q. doing q c a []) l }))) (sym is.alone)
-      (command_law o words views h id v here words h.born p p.used p.unborn p.fixed c r a [] is (λ y hy. hy) h.new
+      subst (λ l. AddsCommand o words views h p.number c words (set views id (record v { parts = first_changed (λ q. doing q c a []) l }))) (sym is.alone)
+      (command_law o words views h id v here words h.born p p.used p.unborn p.fixed p.found c r a [] is (λ y hy. hy) h.new
       (possible c r gives (ap (λ (x : World × Reply). x.1) does))
       says
       (subst (λ (x : World × Reply). IsHand o h.born x.0 p.number (leaves (hand_now o p) c a)) (sym does) hand)
       (subst (λ ns. Owes o.marking P (p.owed ++ []) (names_of S.owed p.number ++ ns)) (sym owes) (owes_nothing o.marking p.owed (names_of S.owed p.number) fits.owed))
+      (subst (λ ns. Owes true P p.found (names_of S.owed p.number ++ ns)) (sym owes) (finds_same p.found (names_of S.owed p.number) fits.found))
       (λ n size values ne e. subst (λ (x : World × Reply). node_of x.0 n ≡ Some (Stack size values)) (sym does) (same n ∙ e))
       (λ n node e. inl (node, sym (same n) ∙ subst (λ (x : World × Reply). node_of x.0 n ≡ Some node) does e, same_node node))
       (subst (λ (x : World × Reply). Stands o h.born x.0 words) (sym does) (stands_nodes o h.born W u words same h.stands))
@@ -213,7 +219,7 @@ module _ (o : Opening) (words : List ℕ) (views : List Seen) (h : Keeps o words
       (λ q ne r. r))
 
   -- `get` of a field with its load
-  pub load_keeps : (at index : ℕ) (c : Command) → CanLoad o p at index c → Keeps o words (set views id (answered v c (word (slice_index words (at + HEADER_WORDS + index)))))
+  pub load_keeps : (at index : ℕ) (c : Command) → CanLoad o p at index c → AddsCommand o words views h p.number c words (set views id (answered v c (word (slice_index words (at + HEADER_WORDS + index)))))
   load_keeps at index c can =
       let m = meant at can.header can.object can.object_word can.names in
       let st = h.stands.objects m.object m.there in
@@ -225,7 +231,7 @@ module _ (o : Opening) (words : List ℕ) (views : List Seen) (h : Keeps o words
       let w : ℕ = slice_index words (at + HEADER_WORDS + index) in
       let d : Command = Get can.dest can.object index in
       let q : MutatorState = world_holding (state_of W p.number) can.dest t.value in
-      subst (λ (d : Command). Keeps o words (set views id (answered v d (word w)))) (sym can.command)
+      subst (λ (d : Command). AddsCommand o words views h p.number d words (set views id (answered v d (word w)))) (sym can.command)
       (still_law d (Given t.value) (word w) (with_register W p.number can.dest t.value) (subst (λ (d : Command). CanGive o p d) can.command can.gives)
       (step_get W p.number can.dest can.object index m.object.name st.node t.value m.refers st.there t.reads)
       (nodes_kept W p.number q fits.exists refl)
@@ -234,9 +240,9 @@ module _ (o : Opening) (words : List ℕ) (views : List Seen) (h : Keeps o words
       (register_hand can.dest w t.value t.means))
 
   -- a load of a word that never changes
-  pub fixed_keeps : (at offset : ℕ) → IsFixed o h.born at offset → Keeps o words (set views id (loaded v at offset (slice_index words (at + offset))))
+  pub fixed_keeps : (at offset : ℕ) → IsFixed o h.born at offset → Stays o words views h words (set views id (loaded v at offset (slice_index words (at + offset))))
   fixed_keeps at offset f =
-      subst (λ l. Keeps o words (set views id (record v { parts = first_changed (λ q. knowing q at offset (slice_index words (at + offset))) l }))) (sym is.alone)
+      subst (λ l. Stays o words views h words (set views id (record v { parts = first_changed (λ q. knowing q at offset (slice_index words (at + offset))) l }))) (sym is.alone)
       (store_law o words views h id v here words p p.used p.unborn (record { at = at; offset = offset; word = slice_index words (at + offset) } ∷ p.fixed) is h.stands
       (record {
         exists = rests.exists;
@@ -257,19 +263,19 @@ module _ (o : Opening) (words : List ℕ) (views : List Seen) (h : Keeps o words
       omega arith
 
   -- a store where no object is yet
-  pub store_keeps : (at w : ℕ) → CanStore o p at → Keeps o (set words at w) (set views id (stored v at w))
+  pub store_keeps : (at w : ℕ) → CanStore o p at → Stays o words views h (set words at w) (set views id (stored v at w))
   store_keeps at w can =
       let free : IsFree o h.born at = rest_free o h.is h.born W words p h.stands h.new rests at can.from can.to in
       let l = within_words in
       let to = can.to in
-      subst (λ l. Keeps o (set words at w) (set views id (record v { parts = first_changed (λ q. storing q at w) l }))) (sym is.alone)
+      subst (λ l. Stays o words views h (set words at w) (set views id (record v { parts = first_changed (λ q. storing q at w) l }))) (sym is.alone)
       (store_law o words views h id v here (set words at w) p p.used (record { at = at; word = w } ∷ p.unborn) p.fixed is
       (stands_free o h.born W words at w free h.stands)
       (rests_stored o h.is h.born W words h.stands h.new p rests at w can.from can.to (omega arith) can.fresh)
       (λ q ne r. rests_store o h.is h.born W words h.stands h.new p rests at w can.from can.to q ne r))
 
   -- a birth: the header is written last
-  pub birth_keeps : (at header : ℕ) (c : Command) → CanBear o p at header c → Keeps o (set words at header) (set views id (gave_birth v at header c))
+  pub birth_keeps : (at header : ℕ) (c : Command) → CanBear o p at header c → AddsCommand o words views h p.number c (set words at header) (set views id (gave_birth v at header c))
   birth_keeps at header c can =
       let m : ℕ = p.number in
       let own : m ≢ SHARED_MAKER = λ e. let a = rests.exists in let b = h.is.layout.mutators.1 in omega arith in
@@ -324,14 +330,15 @@ module _ (o : Opening) (words : List ℕ) (views : List Seen) (h : Keeps o words
       let born : Rests o more (set words at header) (bearing_object p at (size_of t.made) header (slice_index words (at + 1))) = rests_born o h.is h.born W words h.stands h.new p rests x refl from (omega arith) header (omega arith) in
       let r : Rests o more (set words at header) (bearing_object p at (words_made c) header (name_word (next_of o p))) =
       subst (λ n. Rests o more (set words at header) (bearing_object p at n header (name_word (next_of o p)))) (sym size) (subst (λ n. Rests o more (set words at header) (bearing_object p at (size_of t.made) header n)) name_there born) in
-      subst (λ l. Keeps o (set words at header) (set views id (record v { parts = first_changed (λ q. doing (bearing_object q at (words_made c) header (name_word (next_of v.opening q))) c (word (2 * at)) []) l }))) (sym is.alone)
-      (subst (λ (y : Opening). Keeps o (set words at header) (set views id (record v { parts = doing (bearing_object p at (words_made c) header (name_word (next_of y p))) c (word (2 * at)) [] ∷ [] }))) (sym same_opening)
-      (command_law o words views h id v here (set words at header) more p (p.used + words_made c) [] (bearing_object p at (words_made c) header (name_word (next_of o p))).fixed c (Given (value.Ref name)) (word (2 * at)) [] is grow
+      subst (λ l. AddsCommand o words views h p.number c (set words at header) (set views id (record v { parts = first_changed (λ q. doing (bearing_object q at (words_made c) header (name_word (next_of v.opening q))) c (word (2 * at)) []) l }))) (sym is.alone)
+      (subst (λ (y : Opening). AddsCommand o words views h p.number c (set words at header) (set views id (record v { parts = doing (bearing_object p at (words_made c) header (name_word (next_of y p))) c (word (2 * at)) [] ∷ [] }))) (sym same_opening)
+      (command_law o words views h id v here (set words at header) more p (p.used + words_made c) [] (bearing_object p at (words_made c) header (name_word (next_of o p))).fixed p.found c (Given (value.Ref name)) (word (2 * at)) [] is grow
       (λ y hy. elim (Contains-push_cases h.born x y hy) [ inl d ↦ h.new y d | inr e ↦ subst (IsNew o) e fresh ])
       (possible c (Given (value.Ref name)) can.gives (ap (λ (z : World × Reply). z.1) t.does))
       (value.Ref name, refl, (at, refl, there))
       (subst (λ (z : World × Reply). IsHand o more z.0 m (leaves (hand_now o p) c (word (2 * at)))) (sym t.does) hand)
       (subst (λ ns. Owes o.marking Q (p.owed ++ []) (names_of S.owed m ++ ns)) (sym t.owes) (owes_more o h.born more grow o.marking (p.owed ++ []) (names_of S.owed m ++ []) (owes_nothing o.marking p.owed (names_of S.owed m) fits.owed)))
+      (subst (λ ns. Owes true Q p.found (names_of S.owed m ++ ns)) (sym t.owes) (owes_more o h.born more grow true p.found (names_of S.owed m ++ []) (finds_same p.found (names_of S.owed m) fits.found)))
       (λ n size values ne e. subst (λ (z : World × Reply). node_of z.0 n ≡ Some (Stack size values)) (sym t.does) (stays n size values e))
       (λ n node e. let e' : node_of u n ≡ Some node = subst (λ (z : World × Reply). node_of z.0 n ≡ Some node) t.does e in elim (cases n) [ inl k ↦ inr (x, Contains-push h.born x, sym k.0) | inr k ↦ inl (node, sym k ∙ e', same_node node) ])
       (subst (λ (z : World × Reply). Stands o more z.0 (set words at header)) (sym t.does) (subst (λ n. Stands o more u (set words at n)) (sym head) st))

@@ -50,7 +50,7 @@ module _ (o : Opening) (words : List ℕ) (v : Seen) (h : IsFinished o words v) 
       ap (λ k. value.Ref k) (one_name name other named.valid.0 n.2.0 word_is)
 
   same_reply : (a : Answer) (r s : Reply) → Answers P a r → Replies p.fixed a s → r ≡ s
-  same_reply (plain x) r s m n = sym m ∙ n
+  same_reply (plain x) r s m n = sym m ∙ n.0
   same_reply (word w) r s m n = sym m.1 ∙ ap (λ y. Given y) (same_value w m.0 n.0 m.2 n.2) ∙ n.1
 
   all_same : (rows : List Row) (xs ys : List (Command × Reply)) → AllAnswer P rows xs → AllReply p.fixed rows ys → xs ≡ ys

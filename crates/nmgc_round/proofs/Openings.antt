@@ -166,7 +166,7 @@ module _ (o : Opening) (words : List ℕ) (h : CanOpen o words) where
   owes_none false m = refl
 
   blank_fits : (m : ℕ) → m < length o.hands → Fits o [] o.core [] (blank m)
-  blank_fits m lt = let a = h.count in let b = h.is.mutators in let c = h.is.owed in record { exists = omega arith; owing = omega arith; rows = tt; hand = hand_stands m lt; owed = owes_none o.marking m }
+  blank_fits m lt = let a = h.count in let b = h.is.mutators in let c = h.is.owed in record { exists = omega arith; owing = omega arith; rows = tt; hand = hand_stands m lt; found = owes_none true m; owed = owes_none o.marking m }
 
   blank_rests : (m : ℕ) → m < length o.hands → Rests o [] words (blank m)
   blank_rests m lt = record {
@@ -179,25 +179,28 @@ module _ (o : Opening) (words : List ℕ) (h : CanOpen o words) where
 
   -- the words of an opening meet the rule, with one seat that has every part
   module _ (views : List Seen) (id : ℕ) (others : (j : ℕ) (u : Seen) → j ≢ id → get_elem? views j ≡ some u → IsIdle u) where
-    pub begins : Keeps o words (set views id (whole o))
-    begins = record {
-      is = h.is;
-      placed = λ name node t e. let p = h.represents.tracked name node t e in (p.at, p.there);
-      events = [];
-      born = [];
-      owner = λ m. id;
-      scanner = id;
-      legal = tt;
-      stands = opens_stands;
-      shared = shared_in;
-      new = λ x c. not_born x c;
-      known = λ name node e. inl (node, e, same_node node);
-      queued = h.queued;
-      agrees = λ j u at. ⊎_elim
-          (λ (t : (j ≡ id) × (whole o ≡ u)). subst (λ (y : ℕ × Seen). Agrees o [] words [] (λ m. id) id y.0 y.1) (λ i. (sym t.0 i, t.1 i)) first)
-          (λ (t : (j ≢ id) × (get_elem? views j ≡ some u)). idle_agrees o [] words [] (λ m. id) id j u (others j u t.0 t.1))
-          (at_set views id j (whole o) u at);
-    }
+    pub begins : (n : Keeps o words (set views id (whole o))) × (n.events ≡ [])
+    begins = (
+      record {
+        is = h.is;
+        placed = λ name node t e. let p = h.represents.tracked name node t e in (p.at, p.there);
+        events = [];
+        born = [];
+        owner = λ m. id;
+        scanner = id;
+        legal = tt;
+        stands = opens_stands;
+        shared = shared_in;
+        new = λ x c. not_born x c;
+        known = λ name node e. inl (node, e, same_node node);
+        queued = h.queued;
+        agrees = λ j u at. ⊎_elim
+            (λ (t : (j ≡ id) × (whole o ≡ u)). subst (λ (y : ℕ × Seen). Agrees o [] words [] (λ m. id) id y.0 y.1) (λ i. (sym t.0 i, t.1 i)) first)
+            (λ (t : (j ≢ id) × (get_elem? views j ≡ some u)). idle_agrees o [] words [] (λ m. id) id j u (others j u t.0 t.1))
+            (at_set views id j (whole o) u at);
+      },
+      refl,
+    )
       where
         part_is : (m : ℕ) (hs : List Hand) (k : ℕ) (p : Part) → get_elem? (blanks m hs) k ≡ some p → (p ≡ blank (m + k)) × (k < length hs)
         part_is m [] k p e = absurd (some-ne-none p (sym e))
@@ -217,7 +220,7 @@ module _ (o : Opening) (words : List ℕ) (h : CanOpen o words) where
         }
 
   -- the same, where there is no other seat
-  pub opens : Keeps o words (whole o ∷ [])
+  pub opens : (n : Keeps o words (whole o ∷ [])) × (n.events ≡ [])
   opens = begins (nobody ∷ []) 0 (λ j u n at. none j u n at)
     where
       none : (j : ℕ) (u : Seen) → j ≢ 0 → get_elem? (nobody ∷ []) j ≡ some u → IsIdle u

@@ -9,6 +9,7 @@ use Rattle.nmgc_round.specs.Events.{Happening, done_by, scans_in}
 use Rattle.nmgc_round.specs.Marking.{marks_of, marks_after}
 use Rattle.nmgc_round.specs.View.{Opening, Part, Seen, exclusive, nobody}
 use Rattle.nmgc_round.specs.Objects.{Object, IsIn}
+use Rattle.nmgc_round.specs.Added.{Stays}
 use Rattle.nmgc_round.specs.Rule.{now, AllRead, Fits, Rests, IsActive, IsIdle, Agrees, Keeps, Stopped}
 use Rattle.nmgc_round.specs.Finishing.{IsFinished, HasAll}
 use Rattle.nmgc_round.specs.Seating.{but_first, first_alone, keeps_rest, gives_first, mutates, collecting, together, CanSplit}
@@ -48,8 +49,8 @@ module _ (o : Opening) where
   holds s = Keeps o s.words s.views
 
   -- a seat gives its first mutator to a new seat
-  pub splits : (id : ℕ) (v : Seen) → CanSplit v → Splits holds id v (keeps_rest v) (gives_first v)
-  splits id v can s h here =
+  pub splits_law : (id : ℕ) (v : Seen) → CanSplit v → (s : State (Unit {0}) Seen) (h : holds s) → get_elem? s.views id ≡ some v → Stays o s.words s.views h s.words (set s.views id (keeps_rest v) ++ gives_first v ∷ [])
+  splits_law id v can s h here =
       let n : ℕ = length s.views in
       let p = can.0 in
       let ps = can.1 in
@@ -59,83 +60,95 @@ module _ (o : Opening) where
       let mine = g.parts 0 p (ap (λ l. get_elem? l 0) can.2) in
       let left = keeps_rest v in
       let right = gives_first v in
-      let short : length (set s.views id left) ≡ n = length-set s.views id left in record {
-        events = h.events;
-        born = h.born;
-        is = h.is;
-        placed = h.placed;
-        shared = h.shared;
-        new = h.new;
-        known = h.known;
-        queued = h.queued;
-        owner = owner;
-        scanner = h.scanner;
-        legal = h.legal;
-        stands = h.stands;
-        agrees = λ j u at. ⊎_elim
-            (λ (t : (j < length (set s.views id left)) × (get_elem? (set s.views id left) j ≡ some u)). ⊎_elim
-            (λ (x : (j ≡ id) × (left ≡ u)). subst (λ (y : ℕ × Seen). Agrees o h.born s.words h.events owner h.scanner y.0 y.1) (λ i. (sym x.0 i, x.1 i))
-            (record {
-              shares = g.shares;
-              opening = λ _. is_o;
-              parts = λ k q e.
-                  let e' : get_elem? ps k ≡ some q = ap (λ l. get_elem? l k) (sym (ap but_first can.2)) ∙ e in
-                  let f = g.parts (suc k) q (ap (λ l. get_elem? l (suc k)) can.2 ∙ e') in
-                  (is_old q.number p.number n (h.owner q.number) (can.3 k q e') ∙ f.0, f.1, f.2);
-              scans = g.scans;
-            }))
-            (λ (x : (j ≢ id) × (get_elem? s.views j ≡ some u)). let f = h.agrees j u x.1 in record {
-              shares = f.shares;
-              opening = f.opening;
-              parts = λ k q e. let t = f.parts k q e in (is_old q.number p.number n (h.owner q.number) (λ (same : q.number ≡ p.number). x.0 (sym t.0 ∙ ap h.owner same ∙ mine.0)) ∙ t.0, t.1, t.2);
-              scans = f.scans;
-            })
-            (at_set s.views id j left u t.1))
-            (λ (t : (j ≡ length (set s.views id left)) × (right ≡ u)). subst (λ (y : ℕ × Seen). Agrees o h.born s.words h.events owner h.scanner y.0 y.1) (λ i. (sym (t.0 ∙ short) i, t.1 i))
-            (record {
-              shares = g.shares;
-              opening = λ _. is_o;
-              parts = λ k q e. only_one (λ (r : Part). (cond (r.number == p.number) n (h.owner r.number) ≡ n) × Fits o h.born (now o h.events) (done_by r.number h.events) r × Rests o h.born s.words r) p (is_new p.number p.number n (h.owner p.number) refl, mine.1, mine.2) k q (ap (λ l. get_elem? l k) (sym (ap first_alone can.2)) ∙ e);
-              scans = λ off. absurd (true≢false (sym off));
-            }))
-            (at_end (set s.views id left) right u j at);
-      }
+      let short : length (set s.views id left) ≡ n = length-set s.views id left in (
+        record {
+          events = h.events;
+          born = h.born;
+          is = h.is;
+          placed = h.placed;
+          shared = h.shared;
+          new = h.new;
+          known = h.known;
+          queued = h.queued;
+          owner = owner;
+          scanner = h.scanner;
+          legal = h.legal;
+          stands = h.stands;
+          agrees = λ j u at. ⊎_elim
+              (λ (t : (j < length (set s.views id left)) × (get_elem? (set s.views id left) j ≡ some u)). ⊎_elim
+              (λ (x : (j ≡ id) × (left ≡ u)). subst (λ (y : ℕ × Seen). Agrees o h.born s.words h.events owner h.scanner y.0 y.1) (λ i. (sym x.0 i, x.1 i))
+              (record {
+                shares = g.shares;
+                opening = λ _. is_o;
+                parts = λ k q e.
+                    let e' : get_elem? ps k ≡ some q = ap (λ l. get_elem? l k) (sym (ap but_first can.2)) ∙ e in
+                    let f = g.parts (suc k) q (ap (λ l. get_elem? l (suc k)) can.2 ∙ e') in
+                    (is_old q.number p.number n (h.owner q.number) (can.3 k q e') ∙ f.0, f.1, f.2);
+                scans = g.scans;
+              }))
+              (λ (x : (j ≢ id) × (get_elem? s.views j ≡ some u)). let f = h.agrees j u x.1 in record {
+                shares = f.shares;
+                opening = f.opening;
+                parts = λ k q e. let t = f.parts k q e in (is_old q.number p.number n (h.owner q.number) (λ (same : q.number ≡ p.number). x.0 (sym t.0 ∙ ap h.owner same ∙ mine.0)) ∙ t.0, t.1, t.2);
+                scans = f.scans;
+              })
+              (at_set s.views id j left u t.1))
+              (λ (t : (j ≡ length (set s.views id left)) × (right ≡ u)). subst (λ (y : ℕ × Seen). Agrees o h.born s.words h.events owner h.scanner y.0 y.1) (λ i. (sym (t.0 ∙ short) i, t.1 i))
+              (record {
+                shares = g.shares;
+                opening = λ _. is_o;
+                parts = λ k q e. only_one (λ (r : Part). (cond (r.number == p.number) n (h.owner r.number) ≡ n) × Fits o h.born (now o h.events) (done_by r.number h.events) r × Rests o h.born s.words r) p (is_new p.number p.number n (h.owner p.number) refl, mine.1, mine.2) k q (ap (λ l. get_elem? l k) (sym (ap first_alone can.2)) ∙ e);
+                scans = λ off. absurd (true≢false (sym off));
+              }))
+              (at_end (set s.views id left) right u j at);
+        },
+        refl,
+      )
+
+  pub splits : (id : ℕ) (v : Seen) → CanSplit v → Splits holds id v (keeps_rest v) (gives_first v)
+  splits id v can s h here = (splits_law id v can s h here).0
 
   -- a seat gives the collector's part to a new seat
-  pub splits_collector : (id : ℕ) (v : Seen) → v.collects ≡ true → Splits holds id v (mutates v) (collecting v)
-  splits_collector id v on s h here =
+  pub splits_collector_law : (id : ℕ) (v : Seen) → v.collects ≡ true → (s : State (Unit {0}) Seen) (h : holds s) → get_elem? s.views id ≡ some v → Stays o s.words s.views h s.words (set s.views id (mutates v) ++ collecting v ∷ [])
+  splits_collector_law id v on s h here =
       let n : ℕ = length s.views in
       let g = h.agrees id v here in
       let left = mutates v in
       let right = collecting v in
-      let short : length (set s.views id left) ≡ n = length-set s.views id left in record {
-        events = h.events;
-        born = h.born;
-        is = h.is;
-        placed = h.placed;
-        shared = h.shared;
-        new = h.new;
-        known = h.known;
-        queued = h.queued;
-        owner = h.owner;
-        scanner = n;
-        legal = h.legal;
-        stands = h.stands;
-        agrees = λ j u at. ⊎_elim
-            (λ (t : (j < length (set s.views id left)) × (get_elem? (set s.views id left) j ≡ some u)). ⊎_elim
-            (λ (x : (j ≡ id) × (left ≡ u)). subst (λ (y : ℕ × Seen). Agrees o h.born s.words h.events h.owner n y.0 y.1) (λ i. (sym x.0 i, x.1 i))
-            (record { shares = g.shares; opening = λ _. g.opening (inr on); parts = g.parts; scans = λ off. absurd (true≢false (sym off)) }))
-            (λ (x : (j ≢ id) × (get_elem? s.views j ≡ some u)). let f = h.agrees j u x.1 in record {
-              shares = f.shares;
-              opening = f.opening;
-              parts = f.parts;
-              scans = λ on'. absurd (x.0 (sym (f.scans on').0 ∙ (g.scans on).0));
-            })
-            (at_set s.views id j left u t.1))
-            (λ (t : (j ≡ length (set s.views id left)) × (right ≡ u)). subst (λ (y : ℕ × Seen). Agrees o h.born s.words h.events h.owner n y.0 y.1) (λ i. (sym (t.0 ∙ short) i, t.1 i))
-            (record { shares = g.shares; opening = λ _. g.opening (inr on); parts = λ k q e. absurd (some-ne-none q (sym e)); scans = λ _. (refl, (g.scans on).1, (g.scans on).2) }))
-            (at_end (set s.views id left) right u j at);
-      }
+      let short : length (set s.views id left) ≡ n = length-set s.views id left in (
+        record {
+          events = h.events;
+          born = h.born;
+          is = h.is;
+          placed = h.placed;
+          shared = h.shared;
+          new = h.new;
+          known = h.known;
+          queued = h.queued;
+          owner = h.owner;
+          scanner = n;
+          legal = h.legal;
+          stands = h.stands;
+          agrees = λ j u at. ⊎_elim
+              (λ (t : (j < length (set s.views id left)) × (get_elem? (set s.views id left) j ≡ some u)). ⊎_elim
+              (λ (x : (j ≡ id) × (left ≡ u)). subst (λ (y : ℕ × Seen). Agrees o h.born s.words h.events h.owner n y.0 y.1) (λ i. (sym x.0 i, x.1 i))
+              (record { shares = g.shares; opening = λ _. g.opening (inr on); parts = g.parts; scans = λ off. absurd (true≢false (sym off)) }))
+              (λ (x : (j ≢ id) × (get_elem? s.views j ≡ some u)). let f = h.agrees j u x.1 in record {
+                shares = f.shares;
+                opening = f.opening;
+                parts = f.parts;
+                scans = λ on'. absurd (x.0 (sym (f.scans on').0 ∙ (g.scans on).0));
+              })
+              (at_set s.views id j left u t.1))
+              (λ (t : (j ≡ length (set s.views id left)) × (right ≡ u)). subst (λ (y : ℕ × Seen). Agrees o h.born s.words h.events h.owner n y.0 y.1) (λ i. (sym (t.0 ∙ short) i, t.1 i))
+              (record { shares = g.shares; opening = λ _. g.opening (inr on); parts = λ k q e. absurd (some-ne-none q (sym e)); scans = λ _. (refl, (g.scans on).1, (g.scans on).2) }))
+              (at_end (set s.views id left) right u j at);
+        },
+        refl,
+      )
+
+  pub splits_collector : (id : ℕ) (v : Seen) → v.collects ≡ true → Splits holds id v (mutates v) (collecting v)
+  splits_collector id v on s h here = (splits_collector_law id v on s h here).0
 
   -- the views but the two that change
   module _ (s : State (Unit {0}) Seen) (h : Keeps o s.words s.views) (id other : ℕ) (v w : Seen) (here : get_elem? s.views id ≡ some v) (apart : ¬ (other ≡ id)) (there : get_elem? s.views other ≡ some w) (same : v.opening ≡ w.opening) where
@@ -182,40 +195,43 @@ module _ (o : Opening) where
           scans = λ on. both_scans v.collects w.collects f.scans refl g.scans refl on;
         }
 
-    pub merged : Keeps o s.words (set (set s.views id (together v w)) other nobody)
-    merged = record {
-      events = h.events;
-      born = h.born;
-      is = h.is;
-      placed = h.placed;
-      shared = h.shared;
-      new = h.new;
-      known = h.known;
-      queued = h.queued;
-      owner = owner';
-      scanner = scanner';
-      legal = h.legal;
-      stands = h.stands;
-      agrees = λ j u at. ⊎_elim
-          (λ (x : (j ≡ other) × (nobody ≡ u)). subst (λ (y : ℕ × Seen). Agrees o h.born s.words h.events owner' scanner' y.0 y.1) (λ i. (sym x.0 i, x.1 i))
-          (idle_agrees o h.born s.words h.events owner' scanner' other nobody (refl, refl, refl)))
-          (λ (x : (j ≢ other) × (get_elem? (set s.views id (together v w)) j ≡ some u)). ⊎_elim
-          (λ (y : (j ≡ id) × (together v w ≡ u)). subst (λ (z : ℕ × Seen). Agrees o h.born s.words h.events owner' scanner' z.0 z.1) (λ i. (sym y.0 i, y.1 i)) joined)
-          (λ (y : (j ≢ id) × (get_elem? s.views j ≡ some u)). let f = h.agrees j u y.1 in record {
-            shares = f.shares;
-            opening = f.opening;
-            parts = λ k q e. let t = f.parts k q e in (is_old (h.owner q.number) other id (h.owner q.number) (λ (e' : h.owner q.number ≡ other). x.0 (sym t.0 ∙ e')) ∙ t.0, t.1, t.2);
-            scans = λ on. kept_scans u j w.collects x.0 y.0 f.scans (h.agrees other w there).scans refl on;
-          })
-          (at_set s.views id j (together v w) u x.1))
-          (at_set (set s.views id (together v w)) other j nobody u at);
-    }
+    pub merged : Stays o s.words s.views h s.words (set (set s.views id (together v w)) other nobody)
+    merged = (
+      record {
+        events = h.events;
+        born = h.born;
+        is = h.is;
+        placed = h.placed;
+        shared = h.shared;
+        new = h.new;
+        known = h.known;
+        queued = h.queued;
+        owner = owner';
+        scanner = scanner';
+        legal = h.legal;
+        stands = h.stands;
+        agrees = λ j u at. ⊎_elim
+            (λ (x : (j ≡ other) × (nobody ≡ u)). subst (λ (y : ℕ × Seen). Agrees o h.born s.words h.events owner' scanner' y.0 y.1) (λ i. (sym x.0 i, x.1 i))
+            (idle_agrees o h.born s.words h.events owner' scanner' other nobody (refl, refl, refl)))
+            (λ (x : (j ≢ other) × (get_elem? (set s.views id (together v w)) j ≡ some u)). ⊎_elim
+            (λ (y : (j ≡ id) × (together v w ≡ u)). subst (λ (z : ℕ × Seen). Agrees o h.born s.words h.events owner' scanner' z.0 z.1) (λ i. (sym y.0 i, y.1 i)) joined)
+            (λ (y : (j ≢ id) × (get_elem? s.views j ≡ some u)). let f = h.agrees j u y.1 in record {
+              shares = f.shares;
+              opening = f.opening;
+              parts = λ k q e. let t = f.parts k q e in (is_old (h.owner q.number) other id (h.owner q.number) (λ (e' : h.owner q.number ≡ other). x.0 (sym t.0 ∙ e')) ∙ t.0, t.1, t.2);
+              scans = λ on. kept_scans u j w.collects x.0 y.0 f.scans (h.agrees other w there).scans refl on;
+            })
+            (at_set s.views id j (together v w) u x.1))
+            (at_set (set s.views id (together v w)) other j nobody u at);
+      },
+      refl,
+    )
 
   -- a seat takes in another's parts
   pub joins : (id : ℕ) (v : Seen) (other : ℕ) (w : Seen) → v.opening ≡ w.opening → Joins holds id v other w (together v w) nobody
   joins id v other w same s h here apart at =
       let there : get_elem? s.views other ≡ some w = ⊎_elim (λ (t : (other ≡ id) × (together v w ≡ w)). absurd (apart t.0)) (λ (t : (other ≢ id) × (get_elem? s.views other ≡ some w)). t.1) (at_set s.views id other (together v w) w at) in
-      merged s h id other v w here apart there same
+      (merged s h id other v w here apart there same).0
 
   -- a round ends: the others have no part, and there is a list of events for which the words stand
   module _ (words : List ℕ) (views : List Seen) (h : Keeps o words views) (id : ℕ) (v : Seen) (here : get_elem? views id ≡ some v) (all : HasAll v) where
@@ -253,24 +269,28 @@ module _ (o : Opening) where
           (at_set views id j (exclusive words) u at);
     }
 
+    pub ends_law : (n : IsFinished o words v) × (n.events ≡ h.events)
+    ends_law =
+        let g = h.agrees id v here in (
+          record {
+            is = h.is;
+            placed = h.placed;
+            events = h.events;
+            born = h.born;
+            legal = h.legal;
+            stands = h.stands;
+            shared = h.shared;
+            new = h.new;
+            known = h.known;
+            queued = h.queued;
+            parts = λ k p e. let t = g.parts k p e in (t.1, t.2);
+            scans = λ on. let t = g.scans on in (t.1, t.2);
+          },
+          refl,
+        )
+
     pub ends : IsFinished v.opening words v
-    ends =
-        let g = h.agrees id v here in
-        subst (λ (y : Opening). IsFinished y words v) (sym is_o)
-        (record {
-          is = h.is;
-          placed = h.placed;
-          events = h.events;
-          born = h.born;
-          legal = h.legal;
-          stands = h.stands;
-          shared = h.shared;
-          new = h.new;
-          known = h.known;
-          queued = h.queued;
-          parts = λ k p e. let t = g.parts k p e in (t.1, t.2);
-          scans = λ on. let t = g.scans on in (t.1, t.2);
-        })
+    ends = subst (λ (y : Opening). IsFinished y words v) (sym is_o) ends_law.0
 
     pub long : length words ≡ word_total v.opening.layout
     long = h.stands.total ∙ ap (λ (y : Opening). word_total y.layout) (sym is_o)

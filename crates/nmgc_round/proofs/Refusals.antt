@@ -34,6 +34,7 @@ use Rattle.nmgc_reach.specs.Owed.{field_held, owed_of, owed_at, names_among, owe
 use Rattle.nmgc_reach.specs.laws.NodeLaws.{nodes_kept, node_cases}
 use Rattle.nmgc_core.specs.laws.Listed.{tested_same, is_same_name-refl}
 use Rattle.nmgc_graph.specs.laws.Orders.{contains_head, contains_tail, contains_cases}
+use Rattle.nmgc_round.specs.Added.{AddsCommand}
 use Rattle.nmgc_round.proofs.Moves.{still_law, register_hand, hand_kept, meant, operand_is}
 use Rattle.nmgc_round.proofs.Frames.{node_frame}
 use Rattle.nmgc_round.proofs.Standing.{placed}
@@ -137,15 +138,15 @@ module _ (o : Opening) (words : List ℕ) (views : List Seen) (h : Keeps o words
       ap (λ (l : List Part). V (first_changed f l)) is.alone ∙ ap (λ (b : Answer). V (doing p c b [] ∷ [])) (sym here') ∙ sym (ap (λ (l : List Part). V (first_changed g l)) is.alone)
 
   tell : (c : Command) (r : Reply) (a : Answer) (u : World) → told_by (hand_now o p) p.fixed c ≡ a → CanGive o p c → step W p.number c ≡ (u, r) → ((n : Name) → node_of u n ≡ node_of W n) → owed_by W p.number c ≡ []
-      → Answers P a r → IsHand o h.born u p.number (leaves (hand_now o p) c a) → Keeps o words (set views id (told v c))
-  tell c r a u e gives does same owes says hand = subst (λ (w : Seen). Keeps o words (set views id w)) (told_is c a e) (still_law o words views h id v here p is c r a u gives does same owes says hand)
+      → Answers P a r → IsHand o h.born u p.number (leaves (hand_now o p) c a) → AddsCommand o words views h p.number c words (set views id (told v c))
+  tell c r a u e gives does same owes says hand = subst (λ (w : Seen). AddsCommand o words views h p.number c words (set views id w)) (told_is c a e) (still_law o words views h id v here p is c r a u gives does same owes says hand)
 
   -- a command that takes its place there and leaves the world
-  tell_same : (c : Command) (r : Reply) (a : Answer) → told_by (hand_now o p) p.fixed c ≡ a → CanGive o p c → step W p.number c ≡ (W, r) → owed_by W p.number c ≡ [] → Answers P a r → leaves (hand_now o p) c a ≡ hand_now o p → Keeps o words (set views id (told v c))
+  tell_same : (c : Command) (r : Reply) (a : Answer) → told_by (hand_now o p) p.fixed c ≡ a → CanGive o p c → step W p.number c ≡ (W, r) → owed_by W p.number c ≡ [] → Answers P a r → leaves (hand_now o p) c a ≡ hand_now o p → AddsCommand o words views h p.number c words (set views id (told v c))
   tell_same c r a e gives does owes says left = tell c r a W e gives does (λ n. refl) owes says (subst (λ (k : Hand). IsHand o h.born W p.number k) (sym left) fits.hand)
 
   -- a command that puts a word into a register
-  tell_register : (c : Command) (dest w : ℕ) (x : Value) → told_by (hand_now o p) p.fixed c ≡ plain Fine → CanGive o p c → step W p.number c ≡ (with_register W p.number dest x, Fine) → owed_by W p.number c ≡ [] → leaves (hand_now o p) c (plain Fine) ≡ holding (hand_now o p) dest w → Means P w x → Keeps o words (set views id (told v c))
+  tell_register : (c : Command) (dest w : ℕ) (x : Value) → told_by (hand_now o p) p.fixed c ≡ plain Fine → CanGive o p c → step W p.number c ≡ (with_register W p.number dest x, Fine) → owed_by W p.number c ≡ [] → leaves (hand_now o p) c (plain Fine) ≡ holding (hand_now o p) dest w → Means P w x → AddsCommand o words views h p.number c words (set views id (told v c))
   tell_register c dest w x e gives does owes left m =
       tell c Fine (plain Fine) (with_register W p.number dest x) e gives does (nodes_kept W p.number _ fits.exists refl) owes refl
       (subst (λ (k : Hand). IsHand o h.born (with_register W p.number dest x) p.number k) (sym left) (register_hand o words views h id v here p is dest w x m))
@@ -168,7 +169,7 @@ module _ (o : Opening) (words : List ℕ) (views : List Seen) (h : Keeps o words
       ap (λ (t : Bool). cond t (plain (refusal (header_at p.fixed (w / 2)))) (plain NoPointer)) b ∙ ap (λ k. plain (refusal k)) (ap (λ k. header_at p.fixed k) half ∙ found)
 
   -- `get` of an object that is none, or of a field that isn't there
-  get_told : (dest : ℕ) (object : Operand) (index : ℕ) → CanGive o p (Get dest object index) → IsRefused o p object (λ header. IsReadable header.kind → header.fields ≤ index) → Keeps o words (set views id (told v (Get dest object index)))
+  get_told : (dest : ℕ) (object : Operand) (index : ℕ) → CanGive o p (Get dest object index) → IsRefused o p object (λ header. IsReadable header.kind → header.fields ≤ index) → AddsCommand o words views h p.number (Get dest object index) words (set views id (told v (Get dest object index)))
   get_told dest object index gives (inl odd) =
       let c : Command = Get dest object index in
       let read : Node → Reply = λ n. field_read n index in
@@ -189,7 +190,7 @@ module _ (o : Opening) (words : List ℕ) (views : List Seen) (h : Keeps o words
       tell_same c r (plain r) (refused_there (operand_word o p object) at header get_refusal e names) gives does refl refl refl
 
   -- `set` likewise
-  set_told : (object : Operand) (index : ℕ) (x : Operand) → CanGive o p (Set object index x) → IsRefused o p object (λ header. IsWritable header.kind → header.fields ≤ index) → Keeps o words (set views id (told v (Set object index x)))
+  set_told : (object : Operand) (index : ℕ) (x : Operand) → CanGive o p (Set object index x) → IsRefused o p object (λ header. IsWritable header.kind → header.fields ≤ index) → AddsCommand o words views h p.number (Set object index x) words (set views id (told v (Set object index x)))
   set_told object index x gives (inl odd) =
       let c : Command = Set object index x in
       let d : Change = change.Set index (value_for W p.number x) in
@@ -249,7 +250,7 @@ module _ (o : Opening) (words : List ℕ) (views : List Seen) (h : Keeps o words
       (λ e. let k = eqb-true a b e in subst (λ z. is_same x z ≡ true) (one_value a x y m (subst (λ z. Means P z y) (sym k) n)) (same_self x))
 
   -- every command that takes its place there
-  pub told_keeps : (c : Command) → CanTell o p c → Keeps o words (set views id (told v c))
+  pub told_keeps : (c : Command) → CanTell o p c → AddsCommand o words views h p.number c words (set views id (told v c))
   told_keeps (Num dest n) can = tell_register (Num dest n) dest (2 * n + 3) (value.Number n) refl can.gives refl refl refl refl
   told_keeps (Nil dest) can = tell_register (Nil dest) dest 1 value.Nil refl can.gives refl refl refl refl
   told_keeps (Mov dest x) can = tell_register (Mov dest x) dest (operand_word o p x) (value_for W p.number x) refl can.gives refl refl refl (operand_is o words views h id v here p is x)

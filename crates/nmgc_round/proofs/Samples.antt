@@ -16,7 +16,7 @@ use Rattle.nmgc_object.specs.Places.{IsLayout, nursery_place}
 use Rattle.nmgc_object.specs.declared.words.Header.{Header}
 use Rattle.nmgc_object.specs.declared.layout.Layout.{Layout}
 use Rattle.nmgc_reach.specs.laws.ItemLaws.{nothing_in, one_is}
-use Rattle.nmgc_round.specs.View.{loaded, stored, gave_birth, swapped, answered, plain, word, Hand, FixedWord, UnbornWord, Opening, Part, Seen, no_hand, hand_of, hand_now, blank, knowing, storing, bearing_object, doing}
+use Rattle.nmgc_round.specs.View.{loaded, stored, gave_birth, swapped, answered, plain, word, Hand, FixedWord, UnbornWord, Opening, Part, Seen, no_hand, hand_of, hand_now, blank, finding, knowing, storing, bearing_object, doing}
 use Rattle.nmgc_round.specs.Seat.{RoundSeat, IsAt, seen}
 use Rattle.nmgc_round.specs.Seating.{alone, alones, all_together}
 use Rattle.nmgc_round.specs.Ready.{IsMutator, HasPart, CanGive, Names, CanLoad, CanSwap, CanStore, CanBear}
@@ -58,11 +58,11 @@ module _ (layout : Layout) (m base : ℕ) where
   abbrev pub after_birth : ℕ → ℕ → Part
   after_birth h n = doing (bearing_object (after_field h n) base 3 2050 (name_word (record { maker = m; serial = (hand_of (first_opening layout).hands m).serial }))) makes (word (2 * base)) []
 
-  abbrev pub after_swap : ℕ → ℕ → Part
-  after_swap h n = doing (after_birth h n) (shares m) (plain Fine) []
+  abbrev pub after_swap : ℕ → ℕ → ℕ → Part
+  after_swap h n old = doing (finding (after_birth h n) old) (shares m) (plain Fine) []
 
-  abbrev pub after_load : ℕ → ℕ → ℕ → Part
-  after_load h n x = doing (after_swap h n) (reads m) (word x) []
+  abbrev pub after_load : ℕ → ℕ → ℕ → ℕ → Part
+  after_load h n old x = doing (after_swap h n old) (reads m) (word x) []
 
   -- the views after the steps, one by one
   pub seen_header : (h : ℕ) (v w : Seen) → v ≡ with_part layout (blank m) → w ≡ loaded v 1 0 h → w ≡ with_part layout (after_header h)
@@ -77,18 +77,18 @@ module _ (layout : Layout) (m base : ℕ) where
   pub seen_birth : (h n : ℕ) (v w : Seen) → v ≡ with_part layout (after_field h n) → w ≡ gave_birth v base 2050 makes → w ≡ with_part layout (after_birth h n)
   seen_birth h n v w e f = f ∙ ap (λ (u : Seen). gave_birth u base 2050 makes) e
 
-  pub seen_swap : (h n old : ℕ) (v w : Seen) → v ≡ with_part layout (after_birth h n) → w ≡ swapped v (shares m) old → w ≡ with_part layout (after_swap h n)
+  pub seen_swap : (h n old : ℕ) (v w : Seen) → v ≡ with_part layout (after_birth h n) → w ≡ swapped v (shares m) old → w ≡ with_part layout (after_swap h n old)
   seen_swap h n old v w e f = f ∙ ap (λ (u : Seen). swapped u (shares m) old) e
 
-  pub seen_load : (h n x : ℕ) (v w : Seen) → v ≡ with_part layout (after_swap h n) → w ≡ answered v (reads m) (word x) → w ≡ with_part layout (after_load h n x)
-  seen_load h n x v w e f = f ∙ ap (λ (u : Seen). answered u (reads m) (word x)) e
+  pub seen_load : (h n old x : ℕ) (v w : Seen) → v ≡ with_part layout (after_swap h n old) → w ≡ answered v (reads m) (word x) → w ≡ with_part layout (after_load h n old x)
+  seen_load h n old x v w e f = f ∙ ap (λ (u : Seen). answered u (reads m) (word x)) e
 
   pub has_part : (p : Part) → p.number ≡ m → (v : Seen) → v ≡ with_part layout p → HasPart v m
   has_part p number v e = subst (λ (u : Seen). HasPart u m) (sym e) (p, mutates layout p, number)
 
-  pub seen_last : (h n x z : ℕ) (v w : Seen) → v ≡ with_part layout (after_load h n x) → w ≡ taken v 1 0 Yield z → HasPart w m
-  seen_last h n x z v w e f =
-      let p : Part = after_load h n x in
+  pub seen_last : (h n old x z : ℕ) (v w : Seen) → v ≡ with_part layout (after_load h n old x) → w ≡ taken v 1 0 Yield z → HasPart w m
+  seen_last h n old x z v w e f =
+      let p : Part = after_load h n old x in
       let q : Part = knowing (doing p Yield (told_by (hand_now (first_opening layout) p) p.fixed Yield) []) 1 0 z in
       has_part q refl w (f ∙ ap (λ (u : Seen). taken u 1 0 Yield z) e)
 
@@ -171,21 +171,21 @@ module _ (layout : Layout) (is : IsLayout layout) (m : ℕ) (mine : m < layout.m
       within = few;
     }
 
-    pub can_load : CanLoad o (after_swap layout m base h n) 1 m (reads m)
-    can_load = record {
-      gives = gives (after_swap layout m base h n) (reads m) (record { registers = (omega arith, tt); numbers = omega (arith, few); size = omega arith }) (subst (λ (k : Hand). k.serial + 1 < 4294967295) hand_is (omega arith));
+    pub can_load : (old : ℕ) → CanLoad o (after_swap layout m base h n old) 1 m (reads m)
+    can_load old = record {
+      gives = gives (after_swap layout m base h n old) (reads m) (record { registers = (omega arith, tt); numbers = omega (arith, few); size = omega arith }) (subst (λ (k : Hand). k.serial + 1 < 4294967295) hand_is (omega arith));
       dest = 1;
       object = Shared;
       command = refl;
       object_word = refl;
       header = array;
-      names = named (after_birth layout m base h n).fixed there (after_swap layout m base h n) refl;
+      names = named (after_birth layout m base h n).fixed there (after_swap layout m base h n old) refl;
       kind = tt;
       within = few;
     }
 
-    pub can_yield : (x : ℕ) → CanTake o (after_load layout m base h n x) 1 0 Yield
-    can_yield x = inl (refl, refl, record { gives = gives (after_load layout m base h n x) Yield (record { registers = tt; numbers = tt; size = omega arith }) (subst (λ (k : Hand). k.serial + 1 < 4294967295) hand_is (omega arith)); told = tt })
+    pub can_yield : (old x : ℕ) → CanTake o (after_load layout m base h n old x) 1 0 Yield
+    can_yield old x = inl (refl, refl, record { gives = gives (after_load layout m base h n old x) Yield (record { registers = tt; numbers = tt; size = omega arith }) (subst (λ (k : Hand). k.serial + 1 < 4294967295) hand_is (omega arith)); told = tt })
 
 -- the k-th seat of all is that of mutator k
 seat_at : (layout : Layout) (r : Round) (n k : ℕ) (hands : List Hand) (seats : List RoundSeat) (d : RoundSeat) → map seen seats ≡ alones (first_opening layout) n hands → k < length seats → seen (slice_index_or seats k d) ≡ alone (first_opening layout) (n + k)

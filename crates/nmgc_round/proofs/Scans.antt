@@ -19,6 +19,10 @@ use Rattle.nmgc_graph.specs.laws.Worlds.{is_some_of}
 use Rattle.nmgc_graph.specs.laws.Orders.{contains_head, contains_tail, contains_cases}
 use Rattle.nmgc_object.specs.declared.words.Header.{Header}
 use Rattle.nmgc_object.specs.declared.size.TheConstants.{HEADER_WORDS}
+use Rattle.nmgc_object.specs.declared.layout.TheConstants.{FIRST_PLACE}
+use Rattle.nmgc_object.specs.Words.{header_word, IsHeader}
+use Rattle.nmgc_object.specs.Places.{word_total}
+use Rattle.nmgc_round.specs.Told.{IsSafe, TellsEntry}
 use Rattle.nmgc_reach.specs.laws.ItemLaws.{one_is}
 use Rattle.nmgc_core.specs.declared.event.Entry.{Entry}
 use Rattle.nmgc_core.specs.State.{State, is_new, is_listed, mark_read, with_mark, entry_of}
@@ -32,9 +36,12 @@ use Rattle.nmgc_round.specs.View.{Opening, Seen, scanning}
 use Rattle.nmgc_round.specs.Marking.{Marks, marks_of, marks_after, name_at, name_meant, name_read, with_name, is_thunk, is_last_word, entry_past, first_past, after_word, offset_of}
 use Rattle.nmgc_round.specs.Objects.{Object, place_of, free_of, IsLater, IsObject, IsIn}
 use Rattle.nmgc_round.specs.Rule.{now, IsRead, IsQueued, Keeps}
+use Rattle.nmgc_round.specs.Added.{AddsScan}
 use Rattle.nmgc_round.specs.Ready.{CanScan, scanned_by, first_of}
 use Rattle.nmgc_round.proofs.Standing.{later_of}
 use Rattle.nmgc_heap.specs.laws.Meanings.{lies_above}
+use Rattle.nmgc_round.proofs.Nurseries.{lies_within}
+use Rattle.nmgc_round.proofs.Lists.{pointer_means}
 use Rattle.nmgc_round.proofs.Runs.{same_snapshot, rest_read}
 use Rattle.nmgc_round.proofs.Keeping.{scan_law}
 
@@ -243,6 +250,15 @@ module _ (o : Opening) (words : List ℕ) (views : List Seen) (h : Keeps o words
       let c : w / 2 ≡ at = omega arith in
       rw (a, b, c) (pointer_name m at name means.2)
 
+  -- a pointer that was read leads within the words
+  read_safe : (w : ℕ) (x : Option Value) → IsRead P w x → (x ≡ None → w ≡ 0) → IsSafe o w
+  read_safe w None m unset at e = let z = unset refl in let l : FIRST_PLACE ≤ word_total o.layout = omega arith in omega arith
+  read_safe w (Some x) m unset at e =
+      let q = pointer_means P at x (subst (λ k. Means P k x) e m) in
+      let y : Object = record { at = at; name = q.0; node = q.2.0 } in
+      let l = lies_within o.layout (place_of y) (size_of y.node) (omega arith) (h.stands.apart y q.2.1).lies in
+      omega arith
+
   -- the scan of the first entry, which is the object at this place
   module _ (id : ℕ) (v : Seen) (here : get_elem? views id ≡ some v) (at offset : ℕ) (can : CanScan v at offset) where
     abbrev S : State
@@ -268,6 +284,9 @@ module _ (o : Opening) (words : List ℕ) (views : List Seen) (h : Keeps o words
       later : IsLater queued.node node
       fields : HasFields P words (at + HEADER_WORDS) node
       kept : KeepsFree P words (at + HEADER_WORDS) queued.node
+      header : slice_index words at ≡ header_word (header_of queued.node)
+      valid : IsHeader (header_of queued.node)
+      room : at + size_of queued.node ≤ word_total o.layout
 
     target : Target
     target =
@@ -284,6 +303,12 @@ module _ (o : Opening) (words : List ℕ) (views : List Seen) (h : Keeps o words
           later = later_of x.node st.node st.later q.node k.0;
           fields = fields_of_slots P words (at + HEADER_WORDS) st.node (subst (λ a. HasSlots P words (a + HEADER_WORDS) (slots_of st.node)) x_at st.fields);
           kept = free_of_slots P words (at + HEADER_WORDS) q.node (subst (λ a. HasSlots P words (a + HEADER_WORDS) (free_slots q.node)) x_at k.1);
+          header = ap (λ a. slice_index words a) (sym x_at) ∙ st.header ∙ ap header_word k.0.header;
+          valid = subst IsHeader k.0.header (h.stands.apart x (inl q.here)).valid;
+          room =
+              let l = lies_within o.layout (place_of x) (size_of x.node) (omega arith) (h.stands.apart x (inl q.here)).lies in
+              let fields = ap (λ (y : Header). y.fields) k.0.header in
+              omega arith;
         }
 
     -- what is read at a position, and what of it the word tells
@@ -306,6 +331,26 @@ module _ (o : Opening) (words : List ℕ) (views : List Seen) (h : Keeps o words
           unset = λ a le. r'.unset a;
           name = λ m. word_name m w (field_at t.node i) r'.means r'.unset;
           result = λ one. let z : i ≡ 0 = omega arith in result_word P least words (at + offset) t.node (subst (λ k. IsReadAt P words (at + offset) (field_at t.node k)) z r');
+        }
+
+    pub scan_tells : TellsEntry o can.entry w
+    scan_tells =
+        let t = target in
+        record {
+          header = λ first.
+              let z : at + offset ≡ at = let e = can.position ∙ ap offset_of first in omega arith in
+              record {
+                node = t.queued.node;
+                there = t.queued.there;
+                valid = t.valid;
+                word_is = ap (λ j. slice_index words j) z ∙ t.header;
+                room = λ a c.
+                    let same = h.stands.one (record { at = a; name = can.entry.name }) (record { at = at; name = can.entry.name }) (inl c) (inl (subst (λ (y : Opening). Contains y.places (record { at = at; name = can.entry.name })) is can.there)) (inl refl) in
+                    let here = ap (λ (p : Place). p.at) same in
+                    let room = t.room in
+                    omega arith;
+              };
+          safe = λ some_. let r = by_position t can.entry.position refl in read_safe w (read_at (Some t.node) can.entry.position) r.means (λ e. r.unset e some_);
         }
 
     snapshot_is : S.snapshot ≡ S0
@@ -363,7 +408,7 @@ module _ (o : Opening) (words : List ℕ) (views : List Seen) (h : Keeps o words
         by_last true q c = absurd (let lt = c.1 in omega arith)
         by_last false q c = subst (IsQueued o) (one_is (record { name = can.entry.name; position = can.entry.position + 1 }) e c) (more q)
 
-    pub scan_keeps : Keeps o words (set views id (scanned_by v w))
+    pub scan_keeps : AddsScan o words views h can.entry words (set views id (scanned_by v w))
     scan_keeps =
         let t = target in
         let entry : Entry = can.entry in
@@ -393,5 +438,5 @@ module _ (o : Opening) (words : List ℕ) (views : List Seen) (h : Keeps o words
             | inr new ↦ subst (IsQueued o) (sym new.3) (name_queued t entry.position r new.0 new.1 new.2)
           ]
         ] in
-        subst (λ (k : Entry). Keeps o words (set views id (scanning v (record { entry = k; word = w })))) (sym (ap (λ (l : List Entry). first_of l) can.first))
+        subst (λ (k : Entry). AddsScan o words views h entry words (set views id (scanning v (record { entry = k; word = w })))) (sym (ap (λ (l : List Entry). first_of l) can.first))
         (scan_law o words views h id v here entry can.rest w x can.collects queue_is read_is r.means r.unset marks each)

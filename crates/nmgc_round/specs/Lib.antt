@@ -1,3 +1,4 @@
+pub mod Added
 pub mod Empty
 pub mod Events
 pub mod Finishing

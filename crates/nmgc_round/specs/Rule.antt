@@ -83,12 +83,13 @@ pub record IsHand (o : Opening) (born : List Object) (w : World) (m : ℕ) (h : 
   pub serial : h.serial ≡ serial_of w m
   pub stacks : (s : Slots) → Contains h.stacks s → IsStack o born w m s
 
--- a part agrees with the state and with what its mutator did
+-- a part agrees with the state and with what its mutator did; what its swaps found refers to what the core machine lists as taken out of fields
 pub record Fits (o : Opening) (born : List Object) (s : State) (done : List (Command × Reply)) (p : Part) : Type 0 where
   pub exists : p.number < length s.world.mutators
   pub owing : p.number < length s.owed
   pub rows : AllAnswer (IsIn o born) p.rows done
   pub hand : IsHand o born s.world p.number (hand_now o p)
+  pub found : AreOwed (IsIn o born) p.found (names_of s.owed p.number)
   pub owed : Owes o.marking (IsIn o born) p.owed (names_of s.owed p.number)
 
 -- a mutator's nursery, and the first word of it that no object has

@@ -1,9 +1,9 @@
 -- When a round may start: the words represent the world, and what is outside them stands for it.
-use Rattle.std.specs.Prelude.{◌≡◌, ℕ, ◌<◌, List, [], length, Contains, Some}
+use Rattle.std.specs.Prelude.{◌≡◌, ℕ, ◌<◌, false, List, [], length, Contains, Some}
 use Rattle.nmgc_graph.specs.declared.node.Node.{Node}
 use Rattle.nmgc_graph.specs.World.{IsWorld, state_of, node_of, serial_of}
 use Rattle.nmgc_core.specs.declared.event.Entry.{Entry}
-use Rattle.nmgc_core.specs.State.{names_of}
+use Rattle.nmgc_core.specs.State.{names_of, unmarked}
 use Rattle.nmgc_heap.specs.Places.{ListMeans}
 use Rattle.nmgc_heap.specs.Represents.{Represents, NoNode}
 use Rattle.nmgc_round.specs.View.{Hand, Opening, hand_of}
@@ -17,10 +17,11 @@ pub record HandStands (o : Opening) (m : ℕ) (h : Hand) : Type 0 where
   pub serial : h.serial ≡ serial_of o.core.world m
   pub stacks : h.stacks ≡ []
 
--- a round may start with these words
+-- a round may start with these words; where it isn't marking, the state is that of the world alone
 pub record CanOpen (o : Opening) (words : List ℕ) : Type 0 where
   pub is : IsOpening o
   pub world : IsWorld o.core.world
+  pub unmarked_is : o.marking ≡ false → o.core ≡ unmarked o.core.world
   pub represents : Represents o.layout (earlier o) NoNode o.places o.core.world words
   pub count : length o.hands ≡ o.layout.mutators
   pub hands : (m : ℕ) → m < o.layout.mutators → HandStands o m (hand_of o.hands m)

@@ -1,7 +1,8 @@
 -- Commands that take their place at a fixed load of word 1: what they answer, by what the seat knows.
 -- They read no word that changes. (`nextfin` joins them with the finaliser queues.) A refusal rests on the header of its object.
-use Rattle.std.specs.Prelude.{◌≡◌, ◌⊎◌, ℕ, zero, suc, ◌+◌, ◌<◌, ◌*◌, ◌/◌, ◌%◌, ◌≤◌, ◌==◌, ◌&&◌, nat_le, List, [], ◌∷◌, if◌then◌else◌}
+use Rattle.std.specs.Prelude.{◌≡◌, ◌⊎◌, ℕ, zero, suc, ◌+◌, ◌<◌, ◌*◌, ◌/◌, ◌%◌, ◌≤◌, ◌==◌, ◌&&◌, nat_le, List, [], ◌∷◌, Contains, Some, if◌then◌else◌}
 use Rattle.nmgc_graph.specs.declared.value.Name.{Name}
+use Rattle.nmgc_graph.specs.declared.node.Node.{Node}
 use Rattle.nmgc_graph.specs.declared.node.Kind.TheVariants as kind
 use Rattle.nmgc_graph.specs.declared.command.Operand.{Operand}
 use Rattle.nmgc_graph.specs.declared.command.Command.{Command}
@@ -14,9 +15,12 @@ use Rattle.nmgc_object.specs.declared.words.TheConstants.{TAG_UNIT}
 use Rattle.nmgc_object.specs.declared.size.TheConstants.{HEADER_WORDS}
 use Rattle.nmgc_object.specs.declared.layout.TheConstants.{SHARED_PLACE}
 use Rattle.nmgc_object.specs.Places.{word_total}
-use Rattle.nmgc_heap.specs.Shape.{MayChange}
+use Rattle.nmgc_graph.specs.World.{node_of}
+use Rattle.nmgc_core.specs.declared.event.Entry.{Entry}
+use Rattle.nmgc_heap.specs.Shape.{MayChange, header_of, size_of}
+use Rattle.nmgc_round.specs.Marking.{marks_after}
 use Rattle.nmgc_round.specs.View.{Answer, plain, word, FixedWord, Hand, Opening, Part, Seen, hand_now, word_of, changing, doing, loaded, answered}
-use Rattle.nmgc_round.specs.Ready.{CanGive, CanLoad, Names, IsReadable, IsWritable, operand_word}
+use Rattle.nmgc_round.specs.Ready.{CanGive, CanLoad, Names, IsReadable, IsWritable, operand_word, first_of}
 
 -- the header word that is named at a place, or 0
 abbrev pub header_at : List FixedWord → ℕ → ℕ
@@ -108,3 +112,20 @@ IsSafe o w = (at : ℕ) → w ≡ 2 * at → at + HEADER_WORDS ≤ word_total o.
 -- a word that was loaded behind header and name is a field
 pub record TellsField (o : Opening) (offset w : ℕ) : Type 0 where
   pub safe : (i : ℕ) → offset ≡ HEADER_WORDS + i → IsSafe o w
+
+-- the word is the header of the node that the name has in the snapshot, whose words are within the words
+pub record TellsNode (o : Opening) (name : Name) (w : ℕ) : Type 0 where
+  pub node : Node
+  pub there : node_of o.core.snapshot name ≡ Some node
+  pub valid : IsHeader (header_of node)
+  pub word_is : w ≡ header_word (header_of node)
+  pub room : (at : ℕ) → Contains o.places (record { at = at; name = name }) → at + size_of node ≤ word_total o.layout
+
+-- what a scan of an entry tells: at position 0 such a header, and behind it a field
+pub record TellsEntry (o : Opening) (entry : Entry) (w : ℕ) : Type 0 where
+  pub header : entry.position ≡ 0 → TellsNode o entry.name w
+  pub safe : 1 ≤ entry.position → IsSafe o w
+
+-- what the next scan of a view tells
+abbrev pub TellsScan : Seen → ℕ → Type 0
+TellsScan v w = TellsEntry v.opening (first_of (marks_after v.opening v.scans).queue) w

@@ -65,10 +65,11 @@ pub record Opening : Type 0 where
   pub places : List Place
   pub hands : List Hand
 
--- one mutator's part of a view: how many words of its nursery are objects, and what it owes, as words
+-- one mutator's part of a view: how many words of its nursery are objects, the words that its swaps found, and those of them that it owes
 pub record Part : Type 0 where
   pub number : ℕ
   pub rows : List Row
+  pub found : List ℕ
   pub owed : List ℕ
   pub used : ℕ
   pub unborn : List UnbornWord
@@ -204,9 +205,13 @@ abbrev pub owed_word : Bool → ℕ → List ℕ
 owed_word true w = w ∷ []
 owed_word false w = []
 
+-- a part whose last swap found this word
+abbrev pub finding : Part → ℕ → Part
+finding p w = record p { found = p.found ++ w ∷ [] }
+
 -- the view after a swap that found this word
 abbrev pub swapped : Seen → Command → ℕ → Seen
-swapped v c old = changing (λ p. doing p c (plain Fine) (owed_word v.opening.marking old)) v
+swapped v c old = changing (λ p. doing (finding p old) c (plain Fine) (owed_word v.opening.marking old)) v
 
 -- the name that a mutator gives next
 abbrev pub next_of : Opening → Part → Name
@@ -233,7 +238,7 @@ exclusive ws = record { is_sole = true; words = ws; opening = no_opening; parts 
 
 -- the part of a mutator that did nothing yet
 abbrev pub blank : ℕ → Part
-blank m = record { number = m; rows = []; owed = []; used = 0; unborn = []; fixed = [] }
+blank m = record { number = m; rows = []; found = []; owed = []; used = 0; unborn = []; fixed = [] }
 
 -- the parts of the mutators from m on, one for each hand
 abbrev pub blanks : ℕ → List Hand → List Part

@@ -1,10 +1,12 @@
 //! What holds of the definitions of a round, for every opening, all words and all views.
 //!
 //! Each function here does nothing; its contract is the law. Those named for a step say that the rule holds
-//! again after it, over lists of words and views alone: one word changes or none, one view changes, and the
-//! others are as they were. Each step of `steps` and `seats` is an instance of one of them, and the rule holds
-//! between any two steps of any threads. So nothing that holds here depends on a schedule.
-ghost use Rattle.std.specs.Prelude.{◌≡◌, ◌+◌, ◌<◌, ℕ, List, [], ◌∷◌, set, slice_index, length, map};
+//! again after it, over lists of words and views alone: one word changes or none, one view changes, the
+//! others are as they were, and the list of events is the one before, or that list with one event at its end
+//! (`specs/Added.antt`). Those named for a split, a join or an end of a round say the same: no word changes,
+//! and no event is added. Each step of `steps`, `seats` and `round` is an instance of one of them, and the
+//! rule holds between any two steps of any threads. So nothing that holds here depends on a schedule.
+ghost use Rattle.std.specs.Prelude.{◌≡◌, ◌≢◌, ◌+◌, ◌<◌, ℕ, true, List, [], ◌∷◌, ◌++◌, set, slice_index, length, map};
 ghost use mathlib.Core.Option.{some};
 ghost use lib.ListN.{get_elem?};
 ghost use Rattle.nmgc_graph.specs.declared.command.Command.{Command};
@@ -15,51 +17,53 @@ ghost use Rattle.nmgc_object.specs.declared.layout.Layout.{Layout};
 ghost use Rattle.nmgc_object.specs.Places.{IsLayout};
 ghost use Rattle.nmgc_core.specs.State.{State};
 ghost use Rattle.nmgc_core.specs.Machine.{Does};
-ghost use Rattle.nmgc_round.specs.View.{Opening, Part, Seen, word, whole, loaded, answered, swapped, stored, gave_birth};
-ghost use Rattle.nmgc_round.specs.Rule.{Keeps};
+ghost use Rattle.nmgc_round.specs.View.{Opening, Part, Seen, word, whole, exclusive, nobody, loaded, answered, swapped, stored, gave_birth};
+ghost use Rattle.nmgc_round.specs.Rule.{Keeps, Stopped};
+ghost use Rattle.nmgc_round.specs.Added.{Stays, AddsCommand, AddsScan};
+ghost use Rattle.nmgc_round.specs.Seating.{CanSplit, keeps_rest, gives_first, mutates, collecting, together};
 ghost use Rattle.nmgc_round.specs.Ready.{IsMutator, CanLoad, CanSwap, CanStore, CanBear, CanScan, scanned_by};
 ghost use Rattle.nmgc_round.specs.Told.{CanFix, CanTake, taken};
 ghost use Rattle.nmgc_round.specs.Events.{Happening, event_of, after, replay, IsLegal, done_by, rows_in};
 ghost use Rattle.nmgc_round.specs.Naming.{AllReply};
 ghost use Rattle.nmgc_round.specs.Empty.{IsEmptyHeap, first_opening};
 ghost use Rattle.nmgc_round.specs.Starting.{CanOpen};
-ghost use Rattle.nmgc_round.specs.Finishing.{IsFinished, HasEach, Leaves};
+ghost use Rattle.nmgc_round.specs.Finishing.{IsFinished, HasAll, HasEach, Leaves};
 
 /// A load of a word that never changes, without a place in the order: no word changes, and no event is added.
 pub fn fixed_load()
-    ensures { (o : Opening) (words : List ℕ) (views : List Seen) (id : ℕ) (v : Seen) (p : Part) (at offset : ℕ) → Keeps o words views → get_elem? views id ≡ some v → IsMutator v p → CanFix o p at offset → Keeps o words (set views id (loaded v at offset (slice_index words (at + offset)))) }
+    ensures { (o : Opening) (words : List ℕ) (views : List Seen) (id : ℕ) (v : Seen) (p : Part) (at offset : ℕ) (k : Keeps o words views) → get_elem? views id ≡ some v → IsMutator v p → CanFix o p at offset → Stays o words views k words (set views id (loaded v at offset (slice_index words (at + offset)))) }
 {}
 
 /// A load of a word that never changes, at which a command takes its place: no word changes, and one command
 /// that changes no node is added.
 pub fn fixed_load_of_command()
-    ensures { (o : Opening) (words : List ℕ) (views : List Seen) (id : ℕ) (v : Seen) (p : Part) (at offset : ℕ) (c : Command) → Keeps o words views → get_elem? views id ≡ some v → IsMutator v p → CanTake o p at offset c → Keeps o words (set views id (taken v at offset c (slice_index words (at + offset)))) }
+    ensures { (o : Opening) (words : List ℕ) (views : List Seen) (id : ℕ) (v : Seen) (p : Part) (at offset : ℕ) (c : Command) (k : Keeps o words views) → get_elem? views id ≡ some v → IsMutator v p → CanTake o p at offset c → AddsCommand o words views k p.number c words (set views id (taken v at offset c (slice_index words (at + offset)))) }
 {}
 
 /// A load of a field: no word changes, and one command that changes no node is added.
 pub fn field_load()
-    ensures { (o : Opening) (words : List ℕ) (views : List Seen) (id : ℕ) (v : Seen) (p : Part) (at index : ℕ) (c : Command) → Keeps o words views → get_elem? views id ≡ some v → IsMutator v p → CanLoad o p at index c → Keeps o words (set views id (answered v c (word (slice_index words (at + HEADER_WORDS + index))))) }
+    ensures { (o : Opening) (words : List ℕ) (views : List Seen) (id : ℕ) (v : Seen) (p : Part) (at index : ℕ) (c : Command) (k : Keeps o words views) → get_elem? views id ≡ some v → IsMutator v p → CanLoad o p at index c → AddsCommand o words views k p.number c words (set views id (answered v c (word (slice_index words (at + HEADER_WORDS + index))))) }
 {}
 
 /// A swap of a field: its word changes, and one command that changes that field of that node is added. While
 /// marking the view owes the old word.
 pub fn field_swap()
-    ensures { (o : Opening) (words : List ℕ) (views : List Seen) (id : ℕ) (v : Seen) (p : Part) (at index w : ℕ) (c : Command) → Keeps o words views → get_elem? views id ≡ some v → IsMutator v p → CanSwap o p at index w c → Keeps o (set words (at + HEADER_WORDS + index) w) (set views id (swapped v c (slice_index words (at + HEADER_WORDS + index)))) }
+    ensures { (o : Opening) (words : List ℕ) (views : List Seen) (id : ℕ) (v : Seen) (p : Part) (at index w : ℕ) (c : Command) (k : Keeps o words views) → get_elem? views id ≡ some v → IsMutator v p → CanSwap o p at index w c → AddsCommand o words views k p.number c (set words (at + HEADER_WORDS + index) w) (set views id (swapped v c (slice_index words (at + HEADER_WORDS + index)))) }
 {}
 
 /// A store where no object is yet: that word changes, and no event is added.
 pub fn unborn_store()
-    ensures { (o : Opening) (words : List ℕ) (views : List Seen) (id : ℕ) (v : Seen) (p : Part) (at w : ℕ) → Keeps o words views → get_elem? views id ≡ some v → IsMutator v p → CanStore o p at → Keeps o (set words at w) (set views id (stored v at w)) }
+    ensures { (o : Opening) (words : List ℕ) (views : List Seen) (id : ℕ) (v : Seen) (p : Part) (at w : ℕ) (k : Keeps o words views) → get_elem? views id ≡ some v → IsMutator v p → CanStore o p at → Stays o words views k (set words at w) (set views id (stored v at w)) }
 {}
 
 /// A birth: a header is written, and one command that makes that node is added.
 pub fn birth()
-    ensures { (o : Opening) (words : List ℕ) (views : List Seen) (id : ℕ) (v : Seen) (p : Part) (at header : ℕ) (c : Command) → Keeps o words views → get_elem? views id ≡ some v → IsMutator v p → CanBear o p at header c → Keeps o (set words at header) (set views id (gave_birth v at header c)) }
+    ensures { (o : Opening) (words : List ℕ) (views : List Seen) (id : ℕ) (v : Seen) (p : Part) (at header : ℕ) (c : Command) (k : Keeps o words views) → get_elem? views id ≡ some v → IsMutator v p → CanBear o p at header c → AddsCommand o words views k p.number c (set words at header) (set views id (gave_birth v at header c)) }
 {}
 
 /// The collector's load: no word changes, and one scan is added.
 pub fn scan()
-    ensures { (o : Opening) (words : List ℕ) (views : List Seen) (id : ℕ) (v : Seen) (at offset : ℕ) → Keeps o words views → get_elem? views id ≡ some v → CanScan v at offset → Keeps o words (set views id (scanned_by v (slice_index words (at + offset)))) }
+    ensures { (o : Opening) (words : List ℕ) (views : List Seen) (id : ℕ) (v : Seen) (at offset : ℕ) (k : Keeps o words views) → get_elem? views id ≡ some v → (can : CanScan v at offset) → AddsScan o words views k can.entry words (set views id (scanned_by v (slice_index words (at + offset)))) }
 {}
 
 /// The words of the heap of which nothing was made open the first round of a run.
@@ -67,9 +71,30 @@ pub fn empty_heap_opens()
     ensures { (layout : Layout) (words : List ℕ) → IsLayout layout → IsEmptyHeap layout words → CanOpen (first_opening layout) words }
 {}
 
-/// Words that represent a world meet the rule, with a seat that has every part.
+/// Words that represent a world meet the rule, with a seat that has every part and no events.
 pub fn words_open()
-    ensures { (o : Opening) (words : List ℕ) → CanOpen o words → Keeps o words (whole o ∷ []) }
+    ensures { (o : Opening) (words : List ℕ) → CanOpen o words → (k : Keeps o words (whole o ∷ [])) × (k.events ≡ []) }
+{}
+
+/// A seat gives its first mutator to a new seat.
+pub fn mutator_split()
+    ensures { (o : Opening) (words : List ℕ) (views : List Seen) (id : ℕ) (v : Seen) (k : Keeps o words views) → get_elem? views id ≡ some v → CanSplit v → Stays o words views k words (set views id (keeps_rest v) ++ gives_first v ∷ []) }
+{}
+
+/// A seat gives the collector to a new seat.
+pub fn collector_split()
+    ensures { (o : Opening) (words : List ℕ) (views : List Seen) (id : ℕ) (v : Seen) (k : Keeps o words views) → get_elem? views id ≡ some v → v.collects ≡ true → Stays o words views k words (set views id (mutates v) ++ collecting v ∷ []) }
+{}
+
+/// A seat takes another's parts in, and that one is no more.
+pub fn join()
+    ensures { (o : Opening) (words : List ℕ) (views : List Seen) (id other : ℕ) (v w : Seen) (k : Keeps o words views) → get_elem? views id ≡ some v → get_elem? views other ≡ some w → other ≢ id → v.opening ≡ w.opening → Stays o words views k words (set (set views id (together v w)) other nobody) }
+{}
+
+/// A seat that has every part ends the round: what it knows holds for the events so far, and from then on it
+/// is the only one.
+pub fn round_end()
+    ensures { (o : Opening) (words : List ℕ) (views : List Seen) (id : ℕ) (v : Seen) (k : Keeps o words views) → get_elem? views id ≡ some v → HasAll v → ((n : IsFinished o words v) × (n.events ≡ k.events)) × Stopped words (set views id (exclusive words)) }
 {}
 
 /// The words that a round leaves represent the world after one order of its commands.

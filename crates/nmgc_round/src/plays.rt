@@ -9,7 +9,7 @@ ghost use Rattle.nmgc_graph.specs.declared.command.Command.{Command};
 ghost use Rattle.nmgc_graph.specs.declared.command.Command.TheVariants.{Yield};
 ghost use Rattle.nmgc_round.specs.View.{Opening, no_opening, word, answered, swapped, stored, loaded, gave_birth, whole, exclusive, nobody};
 ghost use Rattle.nmgc_round.specs.Ready.{scanned_by};
-ghost use Rattle.nmgc_round.specs.Told.{taken, Tells, TellsField, IsSafe};
+ghost use Rattle.nmgc_round.specs.Told.{taken, Tells, TellsField, TellsScan, IsSafe};
 ghost use Rattle.nmgc_round.specs.Seating.{keeps_rest, gives_first, mutates, collecting, together};
 ghost use Rattle.nmgc_round.specs.Rule.{Holding};
 ghost use Rattle.nmgc_round.specs.Finishing.{Ended};
@@ -113,7 +113,7 @@ impl<A: Located, C: Asked> Play<(), View> for Takes<A, C> {
 pub struct Scans;
 
 impl Play<(), View> for Scans {
-    ghost then = { λ s m n w. (w.0 ≡ scanned_by m.0 n) × (w.1 ≡ []) };
+    ghost then = { λ s m n w. ((w.0 ≡ scanned_by m.0 n) × TellsScan m.0 n) × (w.1 ≡ []) };
 }
 
 /// A field is loaded by a command.
@@ -131,7 +131,7 @@ pub struct Swaps<C> {
 }
 
 impl<C: Asked> Play<(), View> for Swaps<C> {
-    ghost then = { λ s m n w. (w.0 ≡ swapped m.0 C.command n) × (w.1 ≡ []) };
+    ghost then = { λ s m n w. ((w.0 ≡ swapped m.0 C.command n) × IsSafe m.0.opening n) × (w.1 ≡ []) };
 }
 
 /// A word is stored where no object is yet.

@@ -18,7 +18,7 @@ ghost use Rattle.std.specs.Prelude.{◌≡◌, ◌+◌, ◌<◌, MatchOption, If
 ghost use Rattle.nmgc_object.specs.declared.size.TheConstants.{HEADER_WORDS};
 ghost use Rattle.nmgc_round.specs.View.{word, loaded, answered, swapped, stored, gave_birth};
 ghost use Rattle.nmgc_round.specs.Ready.{Mutates, CanScan, scanned_by, CanLoad, CanSwap, CanStore, CanBear};
-ghost use Rattle.nmgc_round.specs.Told.{CanFix, CanTake, taken, Tells, TellsField, IsSafe};
+ghost use Rattle.nmgc_round.specs.Told.{CanFix, CanTake, taken, Tells, TellsField, TellsScan, IsSafe};
 ghost use Rattle.nmgc_round.specs.Seat.{IsAt, Knows, seen, word_count};
 
 use crate::plays::{Asked, Births, Fixes, Loads, Located, Scans, Stores, Swaps, Takes};
@@ -90,12 +90,15 @@ impl Round {
     }
 
     /// Loads the word that the core machine's next scan reads: the first queue entry is the object at this
-    /// place, and the word is its next position. The collector's view has that one scan more.
+    /// place, and the word is its next position. The collector's view has that one scan more. Position 0 tells the
+    /// header of the object as it is in the snapshot, and that its words are within the heap's; a field that is
+    /// a pointer leads within them.
     pub fn scan_load(&self, seat: &mut CollectorSeat, at: Address, offset: u32) -> u64
         requires seat { IsAt self.now seat.old }
         requires ready { CanScan (seen seat.old) at.0 offset }
         requires within { at.0 + offset < word_count self.now }
-        ensures { Knows self.now seat.old seat.new (scanned_by (seen seat.old) result) }
+        ensures view { Knows self.now seat.old seat.new (scanned_by (seen seat.old) result) }
+        ensures told { TellsScan (seen seat.old) result }
     {
         self.table
             .shared
@@ -153,7 +156,8 @@ impl Round {
         requires asked { C.command ≡ command.now }
         requires ready { Mutates (λ o p. CanSwap o p at.0 field word command.now) (seen seat.old) }
         requires within { at.0 + HEADER_WORDS + field < word_count self.now }
-        ensures { Knows self.now seat.old seat.new (swapped (seen seat.old) command.now result) }
+        ensures view { Knows self.now seat.old seat.new (swapped (seen seat.old) command.now result) }
+        ensures safe { IsSafe (seen seat.old).opening result }
     {
         let _ = command;
         self.table.shared.swap::<Swaps<C>>(
@@ -164,7 +168,10 @@ impl Round {
     }
 
     /// Stores another word into a field of a variable or an array, and answers the one that stood there. The
-    /// `set` that writes it takes its place here. While marking, the old word is owed from this step on.
+    /// `set` that writes it takes its place here. The view has that word at the end of those that its swaps
+    /// found; the objects that these refer to are those that the order of events takes out of fields, marking
+    /// or not. While marking, the old word is owed from this step on. Where it is a pointer, an object is there
+    /// within the heap's words.
     pub fn swap_field(
         &self,
         seat: &mut MutatorSeat,
@@ -176,7 +183,8 @@ impl Round {
         requires seat { IsAt self.now seat.old }
         requires ready { Mutates (λ o p. CanSwap o p at.0 field word command.now) (seen seat.old) }
         requires within { at.0 + HEADER_WORDS + field < word_count self.now }
-        ensures { Knows self.now seat.old seat.new (swapped (seen seat.old) command.now result) }
+        ensures view { Knows self.now seat.old seat.new (swapped (seen seat.old) command.now result) }
+        ensures safe { IsSafe (seen seat.old).opening result }
     {
         self.swap_asked::<Brand>(seat, at, field, word, command)
     }

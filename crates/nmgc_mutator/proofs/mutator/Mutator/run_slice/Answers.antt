@@ -1,12 +1,11 @@
 use Rattle.std.proofs.Common.{◌≡◌, ◌∙◌, ◌+◌, ◌-◌, ap, sym, subst, arith, take, refl, length}
 use Rattle.std.proofs.lemmas.Option.{slice_get_read}
-use Rattle.nmgc_round.specs.View.{Seen}
 use Rattle.nmgc_round.specs.Seat.{seen}
 use Rattle.nmgc_mutator.specs.declared.mutator.Mutator.{Mutator}
 use Rattle.nmgc_mutator.specs.Ready.{IsReady}
 use Rattle.nmgc_mutator.specs.Slice.{HasRun, next_turn, passed}
 use Rattle.nmgc_mutator.proofs.Steps.{ready_turned}
-use Rattle.nmgc_mutator.proofs.Slices.{running_more, running_on, running_none, room_left, ended_by, ended_tried, passed_more, still_runs}
+use Rattle.nmgc_mutator.proofs.Slices.{running_more, running_on, running_none, ended_by, ended_tried, passed_more, still_runs}
 use Rattle.nmgc_mutator.proofs.mutator.Mutator.run_slice.Goals as goal
 
 pub step-requires-clause-ready : goal.step-requires-clause-ready
