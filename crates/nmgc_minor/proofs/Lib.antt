@@ -1,0 +1,15 @@
+pub mod NoteLaws
+pub mod StartLaws
+pub mod FoundLaws
+pub mod RootLaws
+pub mod Conditions
+pub mod Allows
+pub mod PlacingLaws
+pub mod ForwardLaws
+pub mod WriteLaws
+pub mod Assembly
+pub mod Final
+pub mod PromotedLaws
+pub mod AllocationLaws
+pub mod Stops
+pub mod CheckedLaws

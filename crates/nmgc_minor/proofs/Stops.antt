@@ -1,0 +1,129 @@
+-- A heap at a stop can be promoted, and the passes settle it.
+use Rattle.std.proofs.Common.{◌≡◌, ◌≢◌, ◌<◌, ◌≤◌, ◌+◌, ◌*◌, ◌⊎◌, ℕ, List, [], ◌∷◌, length, map, inl, inr, refl, sym, ap, subst, ◌∙◌, arith, Some}
+use Rattle.std.specs.Prelude.{Contains, slice_index, IsSome}
+use Rattle.nmgc_graph.specs.declared.value.Name.{Name}
+use Rattle.nmgc_graph.specs.World.{World, IsWorld}
+use Rattle.nmgc_graph.specs.Reach.{Lists}
+use Rattle.nmgc_graph.specs.laws.Orders.{contains_tail}
+use Rattle.nmgc_object.specs.Words.{header_word, name_word, IsHeader, IsName}
+use Rattle.nmgc_object.specs.Places.{nursery_place, reserve_count}
+use Rattle.nmgc_object.specs.declared.words.Header.{Header}
+use Rattle.nmgc_object.specs.declared.layout.Layout.{Layout}
+use Rattle.nmgc_object.specs.declared.layout.Nursery.{Nursery}
+use Rattle.nmgc_alloc.specs.Segments.{Segments, IsSegments}
+use Rattle.nmgc_alloc.specs.AllocState.{AllocState, StandsFor}
+use Rattle.nmgc_alloc.specs.Reserve.{KeepsReserve, free_count}
+use Rattle.nmgc_alloc.specs.laws.Reserve.{begins}
+use Rattle.nmgc_heap.specs.Places.{Place}
+use Rattle.nmgc_heap.specs.Represents.{Represents, NoNode}
+use Rattle.nmgc_heap.specs.Roots.{RepresentsRoots}
+use Rattle.nmgc_heap.specs.Moves.{Moved, Moves, StillSpoken, old_place, settled}
+use Rattle.nmgc_heap.specs.laws.Roots.{roots_moved}
+use Rattle.nmgc_blocks.specs.Nurseries.{AreEmpty}
+use Rattle.nmgc_blocks.specs.Occupied.{AreBlocks}
+use Rattle.nmgc_blocks.specs.Promoted.{IsPromoted, PlacesEach}
+use Rattle.nmgc_blocks.specs.Stopped.{Stopped, IsStopped, IsSettled, IsRoundOf, earlier_of, young_base}
+use Rattle.nmgc_minor.specs.declared.placing.Move.{Move}
+use Rattle.nmgc_minor.specs.Inputs.{Inputs, HasInputs}
+use Rattle.nmgc_minor.specs.Found.{IsStart, IsFound}
+use Rattle.nmgc_minor.specs.Forwarding.{forward_word}
+use Rattle.nmgc_minor.specs.Placing.{moved_of, with_names}
+use Rattle.nmgc_minor.specs.Promotes.{CanPromoteWith, Promotes}
+use Rattle.nmgc_minor.proofs.RootLaws.{has_inputs}
+use Rattle.nmgc_minor.proofs.Allows.{recorded_low, world_allows}
+use Rattle.nmgc_minor.proofs.PromotedLaws.{found_promoted, promoted_found}
+use Rattle.nmgc_minor.proofs.WriteLaws.{map_in, map_from}
+use Rattle.nmgc_minor.proofs.Final.{taken, names_are, found_young, moves_in_order, promotes_moves, promotes_represents, promotes_blocks, promotes_fields}
+use Rattle.nmgc_minor.proofs.AllocationLaws.{stands_final, places_each}
+
+-- the names of the moves, as they are told twice
+names_twice : (moves : List Move) → map (λ (m : Moved). m.name) (map moved_of moves) ≡ map (λ (m : Move). m.name) moves
+names_twice [] = refl
+names_twice (m ∷ moves) = ap (λ (names : List Name). m.name ∷ names) (names_twice moves)
+
+module _ (t : Stopped) (s : Segments) (old : List ℕ) (nurseries : List Nursery) (inputs : Inputs)
+    (differ : (a b : Header) → IsHeader a → IsHeader b → header_word a ≡ header_word b → a ≡ b)
+    (names : (a b : Name) → IsName a → IsName b → name_word a ≡ name_word b → a ≡ b)
+    (h : IsStopped t s old nurseries inputs.registers inputs.queues inputs.recorded inputs.weaks) where
+  spoken : StillSpoken (young_base s) t.later (earlier_of t) t.places t.world
+  spoken = record {
+    fewer = λ e c. contains_tail t.began t.later e c;
+    past = λ e c. h.round.past e (contains_tail t.began t.later e c);
+    outside = h.round.outside;
+  }
+
+  has : HasInputs (young_base s) (earlier_of t) t.places t.world inputs
+  has = has_inputs t.places t.world inputs.registers inputs.queues t.serials h.world h.roots (young_base s) (earlier_of t) inputs refl refl h.left
+
+  reserve : KeepsReserve s.layout s.segments 0 ⊎ AreEmpty nurseries
+  reserve = elim h.reserve [
+    | inl enough ↦ inl (begins s.layout h.segments.layout.words s.segments enough)
+    | inr none ↦ inr none
+  ]
+
+  pub stop_allows : CanPromoteWith s old nurseries inputs
+  stop_allows = world_allows s.layout (young_base s) t.later (earlier_of t) t.places t.world old inputs s nurseries differ h.world spoken refl h.represents has h.segments refl h.used reserve
+
+  module _ (s' : Segments) (new : List ℕ) (moves : List Move) (table : List ℕ) (sound : IsSegments s') (same : s'.layout ≡ s.layout)
+      (p : Promotes (young_base s) old new s s' moves inputs table) where
+    taken_at : (d : Moved) → Contains (map moved_of moves) d → Contains t.places (old_place d)
+    taken_at d c = (taken s.layout (young_base s) t.later (earlier_of t) t.places t.world old new inputs s s' moves table differ names h.world spoken refl h.represents has sound same h.blocks p d c).0
+
+    -- a move is of the promoted name at its place
+    move_promoted : (m : Move) → Contains moves m → IsPromoted t.began t.world m.name
+    move_promoted m c =
+        let f = found_promoted s.layout (young_base s) t.later t.began t.places t.world old inputs t.serials differ h.world spoken refl h.represents has h.round m.from.0 (p.found m c) in
+        let e = h.represents.one (record { at = m.from.0; name = f.0 }) (record { at = m.from.0; name = m.name }) f.1 (taken_at (moved_of m) (map_in moved_of moves m c)) (inr refl) in
+        subst (λ (q : Place). IsPromoted t.began t.world q.name) e f.2
+
+    promoted_move : (n : Name) → IsPromoted t.began t.world n → (m : Move) × Contains moves m × (m.name ≡ n)
+    promoted_move n q =
+        let f = promoted_found s.layout (young_base s) t.later t.began t.places t.world old inputs t.serials differ h.world spoken refl h.represents has h.round n q in
+        let d = p.all f.0 f.2 in
+        let there = taken_at (moved_of d.0) (map_in moved_of moves d.0 d.1) in
+        let e = h.represents.one (record { at = d.0.from.0; name = d.0.name }) (record { at = f.0; name = n }) there f.1 (inr d.2) in
+        (d.0, d.1, ap (λ (x : Place). x.name) e)
+
+    lists : Lists (IsPromoted t.began t.world) (map (λ (m : Move). m.name) moves)
+    lists = record {
+      ordered = moves_in_order s.layout (young_base s) t.later (earlier_of t) t.places t.world old new inputs s s' moves table differ names h.world spoken refl h.represents has sound same h.blocks p h.order;
+      sound = λ n c.
+          let x = map_from (λ (m : Move). m.name) moves n c in
+          subst (λ (k : Name). IsPromoted t.began t.world k) (sym x.2) (move_promoted x.0 x.1);
+      complete = λ n q.
+          let x = promoted_move n q in
+          subst (λ (k : Name). Contains (map (λ (m : Move). m.name) moves) k) x.2 (map_in (λ (m : Move). m.name) moves x.0 x.1);
+    }
+
+    pub stop_settles : IsSettled t s' new (map (forward_word table (young_base s)) inputs.registers) (map (map (forward_word table (young_base s))) inputs.queues) (map moved_of moves)
+    stop_settles =
+        let base_same : young_base s ≡ young_base s' = ap (λ (l : Layout). nursery_place l 0) (sym same) in
+        let moved = promotes_moves s.layout (young_base s) t.later (earlier_of t) t.places t.world old new inputs s s' moves table differ names h.world spoken refl h.represents has sound same h.blocks p in
+        let represents = promotes_represents s.layout (young_base s) t.later (earlier_of t) t.places t.world old new inputs s s' moves table differ names h.world spoken refl h.represents has sound same h.blocks p in
+        let blocks = promotes_blocks s.layout (young_base s) t.later (earlier_of t) t.places t.world old new inputs s s' moves table differ names h.world spoken refl h.represents has sound same h.blocks p in
+        let roots = roots_moved s.layout (young_base s) t.later (earlier_of t) NoNode t.places t.world (map moved_of moves) (forward_word table (young_base s)) old new inputs.registers inputs.queues t.serials h.world spoken refl h.represents moved h.roots in
+        record {
+          promoted = subst (λ (xs : List Name). Lists (IsPromoted t.began t.world) xs) (sym (names_twice moves)) lists;
+          moved = taken_at;
+          low = λ d c. subst (λ (b : ℕ). d.to < b) base_same (moved.taken d c).2;
+          represents = subst (λ (l : Layout). Represents l t.later NoNode (settled (nursery_place l 0) (map moved_of moves) t.places) t.world new) (sym same) represents;
+          roots = subst (λ (b : ℕ). RepresentsRoots (settled b (map moved_of moves) t.places) t.world (map (forward_word table (young_base s)) inputs.registers) (map (map (forward_word table (young_base s))) inputs.queues) t.serials) base_same roots;
+          blocks = subst (λ (b : ℕ). AreBlocks s' b (settled b (map moved_of moves) t.places) t.world) base_same blocks;
+        }
+
+    -- the allocation state afterwards is that of placing the promoted names one by one
+    pub stop_places : (a : AllocState) → StandsFor s old a → (b : AllocState) × PlacesEach s.layout t.world a (map (λ (m : Moved). m.name) (map moved_of moves)) b × StandsFor s' new b
+    stop_places a st =
+        let total = h.represents.total in
+        let q = p.stands old a (omega (arith, total)) st in
+        let each = places_each s.layout (young_base s) t.later (earlier_of t) t.places t.world old new inputs s s' moves table differ names h.world spoken refl h.represents has sound same h.blocks p moves (λ x c. c) a q.0 q.1 in (
+          q.0,
+          subst (λ (xs : List Name). PlacesEach s.layout t.world a xs q.0) (sym (names_twice moves)) each,
+          stands_final s.layout (young_base s) t.later (earlier_of t) t.places t.world old new inputs s s' moves table differ names h.world spoken refl h.represents has sound same h.blocks p q.0 q.2,
+        )
+
+    -- each recorded field is forwarded
+    pub stop_fields : (at : ℕ) → Contains inputs.recorded at → slice_index new at ≡ forward_word table (young_base s) (slice_index old at)
+    stop_fields at c =
+        let low = recorded_low s.layout (young_base s) t.later (earlier_of t) t.places t.world old inputs s nurseries differ h.world spoken refl h.represents has h.segments refl h.used reserve at c in
+        promotes_fields s.layout (young_base s) t.later (earlier_of t) t.places t.world old new inputs s s' moves table differ names h.world spoken refl h.represents has sound same h.blocks p at low c

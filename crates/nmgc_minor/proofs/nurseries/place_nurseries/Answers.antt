@@ -1,0 +1,125 @@
+use Rattle.std.proofs.Common.{◌≡◌, ◌+◌, ◌-◌, ◌*◌, ◌<◌, ◌≤◌, ◌++◌, ℕ, List, [], length, refl, sym, ap, subst, ◌∙◌, arith, inl, inr, append_assoc, slice_index}
+use Rattle.std.proofs.Math.Nat.{mul-le-mul_right}
+use Rattle.std.proofs.lemmas.List.{append-nil}
+use Rattle.nmgc_object.specs.Places.{nursery_place}
+use Rattle.nmgc_object.specs.declared.layout.Layout.{Layout}
+use Rattle.nmgc_object.specs.declared.layout.Nursery.{Nursery}
+use Rattle.nmgc_alloc.specs.Reserve.{KeepsReserve}
+use Rattle.nmgc_minor.specs.declared.placing.Move.{Move}
+use Rattle.nmgc_blocks.specs.Nurseries.{nursery_at}
+use Rattle.nmgc_minor.specs.Placing.{AreNurseries, CanPlaceAll, PlacesRange}
+use Rattle.nmgc_minor.proofs.PlacingLaws.{range_none, range_gap, range_then, still_can_place}
+use Rattle.nmgc_minor.proofs.nurseries.place_nurseries.Goals as goal
+
+-- where a nursery lies among all, and where its used part ends
+record Lies (layout : Layout) (base length : ℕ) (n : Nursery) (maker : ℕ) : Type 0 where
+  exists : maker < layout.mutators
+  at : n.base ≡ base + maker * layout.nursery
+  place : n.base ≡ nursery_place layout maker
+  ordered : n.base ≤ n.top
+  within : n.top ≤ n.base + layout.nursery
+  inside : base + maker * layout.nursery + layout.nursery ≤ base + length
+  next : nursery_place layout (maker + 1) ≡ nursery_place layout maker + layout.nursery
+
+lies : (layout : Layout) (base : ℕ) (table : List ℕ) (nurseries : List Nursery) (maker : ℕ) → AreNurseries layout base table nurseries → maker < length nurseries → Lies layout base (length table) (nursery_at nurseries maker) maker
+lies layout base table nurseries maker a lt =
+    let count = a.count in
+    let exists : maker < layout.mutators = omega arith in
+    let place = a.places maker exists in
+    let top = a.tops maker exists in
+    let begins = a.begins in
+    let size = a.size in
+    let up : (maker + 1) * layout.nursery ≤ layout.mutators * layout.nursery = mul-le-mul_right layout.nursery (let e : maker + 1 ≤ layout.mutators = omega arith in e) in
+    let flat : (maker + 1) * layout.nursery ≡ maker * layout.nursery + layout.nursery = omega arith in
+    record {
+      exists = exists;
+      at = omega (arith, place, begins);
+      place = place;
+      ordered = top.0;
+      within = top.1;
+      inside = omega (arith, up, flat, size);
+      next = omega (arith, flat);
+    }
+
+pub loop-maker-init : goal.loop-maker-init
+loop-maker-init g c =
+    let l = c.args.segments.now.layout in
+    let begins = c.requires.nurseries.begins in
+    let place : c.args.base ≡ nursery_place c.args.segments.now.layout 0 = begins in
+    record {
+      sound = c.requires.sound;
+      layout = refl;
+      placed = ([], sym (append-nil c.args.moves.now.items), subst (λ (k : ℕ). PlacesRange c.args.base (g.W.HeapWords.words c.args.words.now) c.args.segments.now c.args.segments.now c.args.table.now c.args.table.now [] c.args.base k) place (range_none c.args.base (g.W.HeapWords.words c.args.words.now) c.args.segments.now c.args.table.now c.args.base));
+      spare = let s = c.requires.spare in omega (arith, s, place);
+      room = refl;
+      reserve = elim c.requires.reserve [
+        | inl k ↦ inl (subst (λ (k : ℕ). KeepsReserve c.args.segments.now.layout c.args.segments.now.segments k) (let z : 0 ≡ 0 * c.args.segments.now.layout.nursery = omega arith in z) k)
+        | inr none ↦ inr none
+      ];
+      same = refl;
+    }
+
+pub place_all-requires-clause-inside : goal.place_all-requires-clause-inside
+place_all-requires-clause-inside g c =
+    let f = lies c.args.segments.now.layout c.args.base c.args.table.now c.args.nurseries.now c.loop-maker.maker c.requires.nurseries c.loop-maker-test.true in
+    let size = c.loop-maker.invariant.placed.2.size in
+    let at = f.at in let within = f.within in let inside = f.inside in
+    omega (arith, at, within, inside, size)
+
+pub place_all-requires-clause-objects : goal.place_all-requires-clause-objects
+place_all-requires-clause-objects g c =
+    let layout = c.args.segments.now.layout in
+    let f = lies c.args.segments.now.layout c.args.base c.args.table.now c.args.nurseries.now c.loop-maker.maker c.requires.nurseries c.loop-maker-test.true in
+    let n = nursery_at c.args.nurseries.now c.loop-maker.maker in
+    let at = f.at in
+    let place = f.place in
+    let r = c.loop-maker.invariant.placed.2 in
+    let can = still_can_place c.args.segments.now.layout c.loop-maker.maker (g.W.HeapWords.words c.args.words.now) c.args.table.now c.loop-maker.table c.args.base n.base n.top (omega (arith, at)) (λ k l. r.outside k (omega (arith, at, l)) (inr (omega (arith, place, l)))) (c.requires.objects c.loop-maker.maker f.exists) in
+    rw (c.loop-maker.invariant.same) (subst (λ (x : Layout). CanPlaceAll x c.loop-maker.maker (g.W.HeapWords.words c.args.words.now) c.loop-maker.table c.args.base n.base n.top) (sym c.loop-maker.invariant.layout) can)
+
+pub place_all-requires-clause-reserve : goal.place_all-requires-clause-reserve
+place_all-requires-clause-reserve g c = elim c.loop-maker.invariant.reserve [
+  | inl k ↦ inl (subst (λ (l : Layout). KeepsReserve c.loop-maker.segments.layout c.loop-maker.segments.segments (c.loop-maker.maker * l.nursery)) (sym c.loop-maker.invariant.layout) k)
+  | inr none ↦ inr (sym (none c.loop-maker.maker))
+]
+
+pub place_all-requires-clause-spare : goal.place_all-requires-clause-spare
+place_all-requires-clause-spare g c =
+    let f = lies c.args.segments.now.layout c.args.base c.args.table.now c.args.nurseries.now c.loop-maker.maker c.requires.nurseries c.loop-maker-test.true in
+    let spare = c.loop-maker.invariant.spare in
+    let at = f.at in let place = f.place in let within = f.within in let inside = f.inside in
+    omega (arith, at, place, within, inside, spare)
+
+pub loop-maker-preserved : goal.loop-maker-preserved
+loop-maker-preserved g c =
+    let base = c.args.base in
+    let layout = c.args.segments.now.layout in
+    let maker = c.loop-maker.maker in
+    let i = c.loop-maker.invariant in
+    let f = lies c.args.segments.now.layout c.args.base c.args.table.now c.args.nurseries.now c.loop-maker.maker c.requires.nurseries c.loop-maker-test.true in
+    let n = nursery_at c.args.nurseries.now c.loop-maker.maker in
+    let at = f.at in let place = f.place in let ordered = f.ordered in let within = f.within in let next = f.next in let inside = f.inside in
+    let p = c.place_all.ensures in
+    let from = nursery_place c.args.segments.now.layout c.loop-maker.maker in
+    let to = nursery_place c.args.segments.now.layout (c.loop-maker.maker + 1) in
+    let places = subst (λ (ws : List ℕ). PlacesRange c.args.base ws c.loop-maker.segments c.place_all.new.segments c.loop-maker.table c.place_all.new.table p.places.0 n.base n.top) i.same p.places.2 in
+    let gap : (k : ℕ) → n.top ≤ k → k < to → slice_index c.loop-maker.table (k - c.args.base) ≡ 0 = λ k l h. i.placed.2.outside k (omega (arith, at, ordered, l)) (inr (omega (arith, place, ordered, l))) ∙ c.requires.nurseries.unused c.loop-maker.maker k f.exists l (omega (arith, next, h)) in
+    let part = range_gap c.args.base (g.W.HeapWords.words c.args.words.now) c.loop-maker.segments c.place_all.new.segments c.loop-maker.table c.place_all.new.table p.places.0 n.base n.top to (omega (arith, at)) ordered (omega (arith, within, place, next)) gap places in
+    let part' = subst (λ (k : ℕ). PlacesRange c.args.base (g.W.HeapWords.words c.args.words.now) c.loop-maker.segments c.place_all.new.segments c.loop-maker.table c.place_all.new.table p.places.0 k to) place part in
+    let low : c.args.base ≤ from = omega (arith, at, place) in
+    record {
+      sound = p.sound;
+      layout = p.layout ∙ i.layout;
+      placed = (
+        i.placed.0 ++ p.places.0,
+        p.places.1 ∙ ap (λ (xs : List Move). xs ++ p.places.0) i.placed.1 ∙ append_assoc c.args.moves.now.items i.placed.0 p.places.0,
+        range_then c.args.base (g.W.HeapWords.words c.args.words.now) c.args.segments.now c.loop-maker.segments c.place_all.new.segments c.args.table.now c.loop-maker.table c.place_all.new.table i.placed.0 p.places.0 c.args.base from to (omega arith) low (omega (arith, next)) i.placed.2 part',
+      );
+      spare = let s = i.spare in let t = p.spare in omega (arith, s, t, place, within, next);
+      room = p.room ∙ i.room;
+      reserve = elim i.reserve [
+        | inr none ↦ inr none
+        | inl k ↦ inl (subst (λ (l : Layout). KeepsReserve c.place_all.new.segments.layout c.place_all.new.segments.segments ((c.loop-maker.maker + 1) * l.nursery)) i.layout (p.reserve (subst (λ (l : Layout). KeepsReserve c.loop-maker.segments.layout c.loop-maker.segments.segments (c.loop-maker.maker * l.nursery)) (sym i.layout) k)))
+      ];
+      same = p.same ∙ i.same;
+    }

@@ -1,0 +1,19 @@
+use Rattle.std.proofs.Common.{◌≡◌, ◌+◌, ◌*◌, ◌≤◌, ◌⊎◌, ◌++◌, List, length}
+use Rattle.nmgc_object.specs.Places.{nursery_place}
+use Rattle.nmgc_alloc.specs.Segments.{IsSegments}
+use Rattle.nmgc_alloc.specs.Reserve.{KeepsReserve}
+use Rattle.nmgc_blocks.specs.Nurseries.{AreEmpty}
+use Rattle.nmgc_minor.specs.declared.placing.Move.{Move}
+use Rattle.nmgc_minor.specs.Placing.{PlacesRange}
+use Rattle.nmgc_minor.proofs.nurseries.place_nurseries.Given as goal
+
+abbrev pub invariant-loop-maker : goal.invariant-loop-maker
+invariant-loop-maker g l = record {
+  sound : IsSegments l.segments;
+  layout : l.segments.layout ≡ l.initial.segments.layout;
+  placed : (added : List Move) × (l.moves.items ≡ l.initial.moves.items ++ added) × PlacesRange l.base (g.W.HeapWords.words l.initial.words) l.initial.segments l.segments l.initial.table l.table added l.base (nursery_place l.initial.segments.layout l.maker);
+  spare : length l.initial.table + l.base ≤ l.moves.spare + nursery_place l.initial.segments.layout l.maker;
+  room : l.moves.spare + length l.moves.items ≡ l.initial.moves.spare + length l.initial.moves.items;
+  reserve : KeepsReserve l.segments.layout l.segments.segments (l.maker * l.initial.segments.layout.nursery) ⊎ AreEmpty l.nurseries;
+  same : g.W.HeapWords.words l.words ≡ g.W.HeapWords.words l.initial.words;
+}

@@ -1,0 +1,10 @@
+use Rattle.std.proofs.Common.{List, length, ap, subst, arith}
+use Rattle.std.specs.Prelude.{Contains}
+use Rattle.nmgc_object.specs.declared.words.Address.{Address}
+use Rattle.nmgc_minor.proofs.passes.clear.Goals as goal
+
+pub forget-requires : goal.forget-requires
+forget-requires c = λ at h.
+    let t = c.requires.tabled at.0 (subst (λ (xs : List Address). Contains xs at) c.items.ensures h) in
+    let e = ap length c.as_mut_slice.ensures.value in
+    (t.0, omega (arith, t.1, e))

@@ -1,0 +1,10 @@
+use Rattle.std.proofs.Common.{◌≡◌, ◌+◌, ◌⊎◌, ℕ, slice_index, take}
+use Rattle.std.specs.Prelude.{Contains}
+use Rattle.nmgc_minor.proofs.passes.forget.Given as goal
+
+-- an entry is as it was, or it was freed; and the entries of those gone through are free
+abbrev pub invariant-loop-at : goal.invariant-loop-at
+invariant-loop-at l = record {
+  kept : (k : ℕ) → (slice_index l.table k ≡ slice_index l.initial.table k) ⊎ (slice_index l.table k ≡ 0);
+  freed : (k : ℕ) → Contains (take l.at-index l.found) (record { 0 = l.base + k }) → slice_index l.table k ≡ 0;
+}

@@ -1,0 +1,55 @@
+-- What a walk through the words of a heap can test of what promotion asks: only tests cite it.
+--
+-- The sizes tell for each word of the nurseries how many words the object has that begins there, or 0.
+use Rattle.std.specs.Prelude.{ℕ, ◌≡◌, ◌≢◌, ◌+◌, ◌-◌, ◌*◌, ◌<◌, ◌≤◌, List, length, slice_index, Contains}
+use Rattle.nmgc_graph.specs.declared.value.Name.{Name}
+use Rattle.nmgc_object.specs.Words.{header_word, name_word, IsHeader, IsName}
+use Rattle.nmgc_object.specs.Places.{nursery_place}
+use Rattle.nmgc_object.specs.declared.layout.Layout.{Layout}
+use Rattle.nmgc_object.specs.declared.layout.Nursery.{Nursery}
+use Rattle.nmgc_object.specs.declared.words.Header.{Header}
+use Rattle.nmgc_object.specs.declared.size.TheConstants.{HEADER_WORDS}
+use Rattle.nmgc_blocks.specs.Nurseries.{nursery_at}
+use Rattle.nmgc_minor.specs.Inputs.{Inputs}
+
+-- where the word points to the nurseries, an object begins there
+abbrev pub PointsWell : ℕ → List ℕ → ℕ → Type 0
+PointsWell base sizes word = (at : ℕ) → word ≡ 2 * at → base ≤ at → slice_index sizes (at - base) ≢ 0
+
+-- an object begins at the place: its header with its size, its name, and its words in the used part of its maker's nursery
+pub record IsMade (layout : Layout) (base : ℕ) (words sizes : List ℕ) (nurseries : List Nursery) (k : ℕ) : Type 0 where
+  pub header : Header
+  pub valid : IsHeader header
+  pub read : slice_index words (base + k) ≡ header_word header
+  pub size : slice_index sizes k ≡ HEADER_WORDS + header.fields
+  pub small : slice_index sizes k ≤ layout.words
+  pub name : Name
+  pub named : IsName name
+  pub told : slice_index words (base + k + 1) ≡ name_word name
+  pub maker : name.maker < layout.mutators
+  pub above : (nursery_at nurseries name.maker).base ≤ base + k
+  pub below : base + k + slice_index sizes k ≤ (nursery_at nurseries name.maker).top
+
+-- the nurseries are the mutators' parts of the words
+pub record AreParts (layout : Layout) (nurseries : List Nursery) : Type 0 where
+  pub count : length nurseries ≡ layout.mutators
+  pub places : (maker : ℕ) → maker < layout.mutators → (nursery_at nurseries maker).base ≡ nursery_place layout maker
+  pub tops : (maker : ℕ) → maker < layout.mutators → ((nursery_at nurseries maker).base ≤ (nursery_at nurseries maker).top) × ((nursery_at nurseries maker).top ≤ (nursery_at nurseries maker).base + layout.nursery)
+
+-- objects are made, one after another
+pub record AreMade (layout : Layout) (base : ℕ) (words sizes : List ℕ) (nurseries : List Nursery) (count : ℕ) : Type 0 where
+  pub each : (k : ℕ) → k < count → slice_index sizes k ≢ 0 → IsMade layout base words sizes nurseries k
+  pub apart : (j k : ℕ) → j < k → k < count → slice_index sizes j ≢ 0 → slice_index sizes k ≢ 0 → j + slice_index sizes j ≤ k
+
+-- all that promotion asks but for the segments
+pub record IsChecked (layout : Layout) (base : ℕ) (words sizes : List ℕ) (nurseries : List Nursery) (inputs : Inputs) : Type 0 where
+  pub begins : base ≡ nursery_place layout 0
+  pub size : length sizes ≡ layout.mutators * layout.nursery
+  pub long : base + layout.mutators * layout.nursery ≤ length words
+  pub parts : AreParts layout nurseries
+  pub objects : AreMade layout base words sizes nurseries (length sizes)
+  pub words_point : (k : ℕ) → k < length words → PointsWell base sizes (slice_index words k)
+  pub registers : (word : ℕ) → Contains inputs.registers word → PointsWell base sizes word
+  pub queues : (queue : List ℕ) (word : ℕ) → Contains inputs.queues queue → Contains queue word → PointsWell base sizes word
+  pub recorded : (at : ℕ) → Contains inputs.recorded at → at < base
+  pub weaks : (at : ℕ) → Contains inputs.weaks at → PointsWell base sizes (2 * at) × (at + 5 ≤ length words)

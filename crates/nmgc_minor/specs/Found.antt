@@ -1,0 +1,28 @@
+-- Which young objects are promoted: a least set, told of the words alone.
+--
+-- Young objects lie from the word `base` on. `laws` ties this set to the world that the words represent.
+use Rattle.std.specs.Prelude.{ℕ, ◌≡◌, ◌≢◌, ◌+◌, ◌*◌, ◌<◌, ◌≤◌, List, slice_index, Contains}
+use Rattle.nmgc_graph.specs.declared.value.TheConstants.{SHARED_SLOTS}
+use Rattle.nmgc_object.specs.declared.layout.TheConstants.{SHARED_PLACE}
+use Rattle.nmgc_object.specs.declared.words.TheConstants.{WEAK_FIELDS}
+use Rattle.nmgc_object.specs.declared.size.TheConstants.{HEADER_WORDS}
+use Rattle.nmgc_minor.specs.Inputs.{Inputs}
+use Rattle.nmgc_blocks.specs.Strong.{HasStrong}
+
+-- the young weak pointer at the place is alive
+abbrev pub IsAliveAt : List ℕ → ℕ → Type 0
+IsAliveAt words at = slice_index words (at + HEADER_WORDS + 1) ≢ 0
+
+-- the search starts at the word: a root, a slot of g, a recorded field, an alive young weak pointer or one of its parts
+pub data IsStart (inputs : Inputs) (words : List ℕ) (word : ℕ) : Type 0 where
+  register : Contains inputs.registers word → IsStart inputs words word
+  queued : (queue : List ℕ) → Contains inputs.queues queue → Contains queue word → IsStart inputs words word
+  shared : (i : ℕ) → i < SHARED_SLOTS → slice_index words (SHARED_PLACE + HEADER_WORDS + i) ≡ word → IsStart inputs words word
+  recorded : (at : ℕ) → Contains inputs.recorded at → slice_index words at ≡ word → IsStart inputs words word
+  weak : (at : ℕ) → Contains inputs.weaks at → IsAliveAt words at → 2 * at ≡ word → IsStart inputs words word
+  part : (at i : ℕ) → Contains inputs.weaks at → IsAliveAt words at → i < WEAK_FIELDS → slice_index words (at + HEADER_WORDS + i) ≡ word → IsStart inputs words word
+
+-- the young objects that are found: those that the search starts at, and those that strong fields of found ones point to
+pub data IsFound (base : ℕ) (words : List ℕ) (Starts : ℕ → Type 0) : ℕ → Type 0 where
+  start : (at : ℕ) → base ≤ at → Starts (2 * at) → IsFound base words Starts at
+  field : (from at : ℕ) → IsFound base words Starts from → base ≤ at → HasStrong words from (2 * at) → IsFound base words Starts at

@@ -1,0 +1,10 @@
+pub mod Inputs
+pub mod Found
+pub mod Young
+pub mod Placing
+pub mod Forwarding
+pub mod Start
+pub mod Promotes
+pub mod Resting
+pub mod Promotion
+pub mod Checked

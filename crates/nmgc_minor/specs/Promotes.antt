@@ -1,0 +1,67 @@
+-- What the three passes together do to words and segments.
+use Rattle.std.specs.Prelude.{ℕ, ◌≡◌, ◌≢◌, ◌+◌, ◌*◌, ◌<◌, ◌≤◌, ◌⊎◌, List, [], length, map, slice_index, Contains}
+use Rattle.nmgc_object.specs.Words.{name_word, IsName}
+use Rattle.nmgc_object.specs.Places.{nursery_place}
+use Rattle.nmgc_object.specs.declared.layout.Nursery.{Nursery}
+use Rattle.nmgc_alloc.specs.Segments.{Segments, IsSegments}
+use Rattle.nmgc_alloc.specs.Reserve.{KeepsReserve}
+use Rattle.nmgc_heap.specs.Moves.{Moved, Forwards}
+use Rattle.nmgc_blocks.specs.Nurseries.{AreEmpty}
+use Rattle.nmgc_minor.specs.declared.placing.Move.{Move}
+use Rattle.nmgc_minor.specs.declared.young.Young.{Young}
+use Rattle.nmgc_minor.specs.Inputs.{Inputs}
+use Rattle.nmgc_minor.specs.Found.{IsStart, IsFound}
+use Rattle.nmgc_minor.specs.Young.{IsIn, IsYoung, IsWithin, CanFollow}
+use Rattle.nmgc_minor.specs.Placing.{AreNurseries, CanPlaceEach, IsMarked, IsPlacing, Rewrites, StandsAfter, AreRising, moved_of}
+use Rattle.nmgc_minor.specs.Forwarding.{forward_word}
+
+-- what the passes ask of the words, of segments and of their own lists, all of which the world gives
+pub record CanPromote (y : Young) (s : Segments) (words : List ℕ) (nurseries : List Nursery) (inputs : Inputs) : Type 0 where
+  pub sound : IsSegments s
+  pub lists : IsYoung y
+  pub empty : y.found.items ≡ []
+  pub above : 32 ≤ y.base
+  pub inside : y.base ≤ length words
+  pub recorded : (at : ℕ) → Contains inputs.recorded at → at < y.base
+  pub weaks : (at : ℕ) → Contains inputs.weaks at → at + 5 ≤ length words
+  pub within : (word : ℕ) → IsStart inputs words word → IsWithin y word
+  pub can : (at : ℕ) → IsFound y.base words (IsStart inputs words) at → CanFollow y words at
+  pub parts : (table : List ℕ) → length table ≡ length y.table.items → ((at : ℕ) → y.base ≤ at → IsMarked y.base table at → IsFound y.base words (IsStart inputs words) at) → AreNurseries s.layout y.base table nurseries × CanPlaceEach s.layout words table y.base nurseries
+  pub reserve : KeepsReserve s.layout s.segments 0 ⊎ AreEmpty nurseries
+
+-- the same, for the lists of a promotion that begins
+abbrev pub CanPromoteWith : Segments → List ℕ → List Nursery → Inputs → Type 0
+CanPromoteWith s words nurseries inputs = (y : Young) → IsYoung y → y.found.items ≡ [] → y.base ≡ nursery_place s.layout 0 → length y.table.items ≡ s.layout.mutators * s.layout.nursery → CanPromote y s words nurseries inputs
+
+-- a nursery without objects
+abbrev pub emptied : Nursery → Nursery
+emptied nursery = record nursery { top = nursery.base }
+
+-- what is left in the lists: only found objects have entries, and no room was lost
+pub record Leaves (old new : Young) : Type 0 where
+  pub base : new.base ≡ old.base
+  pub size : length new.table.items ≡ length old.table.items
+  pub listed : (k : ℕ) → slice_index new.table.items k ≢ 0 → IsIn new (new.base + k)
+  pub tabled : (at : ℕ) → IsIn new at → (new.base ≤ at) × (at < new.base + length new.table.items)
+  pub kept_room : new.found.spare + length new.found.items ≡ old.found.spare + length old.found.items
+
+-- exactly the found objects moved, each to a block of its own, and each pointer to them was changed
+pub record Promotes (base : ℕ) (old new : List ℕ) (s s' : Segments) (moves : List Move) (inputs : Inputs) (table : List ℕ) : Type 0 where
+  pub found : (m : Move) → Contains moves m → IsFound base old (IsStart inputs old) m.from.0
+  pub all : (at : ℕ) → IsFound base old (IsStart inputs old) at → (m : Move) × Contains moves m × (m.from.0 ≡ at)
+  pub once : (a b : Move) → Contains moves a → Contains moves b → a.from.0 ≡ b.from.0 → a ≡ b
+  pub named : (m : Move) → Contains moves m → IsName m.name × (slice_index old (m.from.0 + 1) ≡ name_word m.name)
+  pub placing : IsPlacing s s' old (map moved_of moves)
+  pub stands : StandsAfter s s' old moves
+  pub rising : AreRising moves
+  pub few : length moves ≤ length table
+  pub forwards : Forwards base (map moved_of moves) (forward_word table base)
+  pub rewrites : Rewrites base inputs.recorded (map moved_of moves) (forward_word table base) old new
+
+-- each pointer to what moved was changed, in recorded fields, slots of g, moved objects, registers and queues, by one function of words; the other words below the nurseries are unchanged but in the moved objects' new places
+pub record Changes (base : ℕ) (recorded : List ℕ) (moves : List Moved) (forward : ℕ → ℕ) (old new : List ℕ) (registers registers' : List ℕ) (queues queues' : List (List ℕ)) : Type 0 where
+  pub forwards : Forwards base moves forward
+  pub rewrites : Rewrites base recorded moves forward old new
+  pub fields : (at : ℕ) → Contains recorded at → slice_index new at ≡ forward (slice_index old at)
+  pub held : registers' ≡ map forward registers
+  pub queued : queues' ≡ map (map forward) queues

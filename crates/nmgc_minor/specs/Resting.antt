@@ -1,0 +1,21 @@
+-- The working lists between two promotions.
+use Rattle.std.specs.Prelude.{ℕ, ◌≡◌, ◌≢◌, ◌+◌, ◌<◌, ◌≤◌, [], length, slice_index}
+use Rattle.nmgc_graph.specs.Room.{Room}
+use Rattle.nmgc_minor.specs.declared.placing.Move.{Move}
+use Rattle.nmgc_minor.specs.declared.young.Young.{Young}
+use Rattle.nmgc_minor.specs.Young.{IsIn}
+
+-- the lists have room for every entry of the table, and only what was found by the last promotion has an entry
+pub record IsResting (y : Young) (moves : Room Move) : Type 0 where
+  pub listed : (k : ℕ) → slice_index y.table.items k ≢ 0 → IsIn y (y.base + k)
+  pub tabled : (at : ℕ) → IsIn y at → (y.base ≤ at) × (at < y.base + length y.table.items)
+  pub found : length y.table.items ≤ y.found.spare + length y.found.items
+  pub room : length y.table.items ≤ moves.spare + length moves.items
+
+-- nothing is left of the last promotion
+pub record IsCleared (y : Young) (moves : Room Move) : Type 0 where
+  pub free : (k : ℕ) → slice_index y.table.items k ≡ 0
+  pub none : y.found.items ≡ []
+  pub found : length y.table.items ≤ y.found.spare
+  pub no_moves : moves.items ≡ []
+  pub room : length y.table.items ≤ moves.spare

@@ -1,0 +1,45 @@
+-- What the first pass reads and finds.
+use Rattle.std.specs.Prelude.{ℕ, ◌≡◌, ◌+◌, ◌*◌, ◌<◌, ◌⊎◌, List, length, map, slice_index}
+use Rattle.nmgc_object.specs.FinQueue.{FinQueue}
+use Rattle.nmgc_object.specs.declared.words.Address.{Address}
+use Rattle.nmgc_object.specs.declared.words.TheConstants.{WEAK_FIELDS}
+use Rattle.nmgc_object.specs.declared.size.TheConstants.{HEADER_WORDS}
+use Rattle.nmgc_minor.specs.declared.young.Young.{Young}
+use Rattle.nmgc_minor.specs.Forwarding.{forward_word}
+use Rattle.nmgc_minor.specs.Inputs.{Inputs}
+use Rattle.nmgc_minor.specs.Found.{IsAliveAt, IsStart, IsFound}
+use Rattle.nmgc_minor.specs.Young.{IsYoung, IsIn}
+
+-- the words of queues
+abbrev pub words_of : List FinQueue → List (List ℕ)
+words_of queues = map (λ (queue : FinQueue). queue.words) queues
+
+-- the places of addresses
+abbrev pub places_of : List Address → List ℕ
+places_of addresses = map (λ (at : Address). at.0) addresses
+
+-- the inputs as the code has them
+abbrev pub inputs_of : List ℕ → List FinQueue → List Address → List Address → Inputs
+inputs_of registers queues recorded weaks = record {
+  registers = registers;
+  queues = words_of queues;
+  recorded = places_of recorded;
+  weaks = places_of weaks;
+}
+
+-- the word points to the alive weak pointer, or is one of its parts
+abbrev pub IsWeakStart : List ℕ → Address → ℕ → Type 0
+IsWeakStart words at word = IsAliveAt words at.0 × ((2 * at.0 ≡ word) ⊎ ((i : ℕ) × (i < WEAK_FIELDS) × (slice_index words (at.0 + HEADER_WORDS + i) ≡ word)))
+
+-- exactly the young objects that are to be moved were found
+pub record Finds (old new : Young) (words : List ℕ) (inputs : Inputs) : Type 0 where
+  pub young : IsYoung new
+  pub base : new.base ≡ old.base
+  pub size : length new.table.items ≡ length old.table.items
+  pub kept_room : new.found.spare + length new.found.items ≡ old.found.spare + length old.found.items
+  pub sound : (at : ℕ) → IsIn new at → IsFound old.base words (IsStart inputs words) at
+  pub complete : (at : ℕ) → IsFound old.base words (IsStart inputs words) at → IsIn new at
+
+-- a queue with its words forwarded
+abbrev pub forwarded_queue : List ℕ → ℕ → FinQueue → FinQueue
+forwarded_queue table base queue = record queue { words = map (forward_word table base) queue.words }

@@ -1,0 +1,90 @@
+-- The table and the list of the young objects that were found.
+use Rattle.std.specs.Prelude.{ℕ, ◌≡◌, ◌≢◌, ◌+◌, ◌*◌, ◌<◌, ◌≤◌, ◌⊎◌, ◌^◌, ◌==◌, List, ◌++◌, length, slice_index, slice_index_or, count_by, Contains}
+use Rattle.nmgc_object.specs.Words.{header_word, IsHeader}
+use Rattle.nmgc_object.specs.declared.words.Address.{Address}
+use Rattle.nmgc_object.specs.declared.words.Header.{Header}
+use Rattle.nmgc_object.specs.declared.size.TheConstants.{HEADER_WORDS}
+use Rattle.nmgc_blocks.specs.Strong.{HasStrong, strong_of}
+use Rattle.nmgc_minor.specs.declared.young.Young.{Young}
+use Rattle.nmgc_minor.specs.declared.young.TheConstants.{FOUND}
+use Rattle.nmgc_minor.specs.Found.{IsFound}
+
+-- the object at the place was found
+abbrev pub IsIn : Young → ℕ → Type 0
+IsIn y at = Contains y.found.items (record { 0 = at })
+
+-- how many entries are free
+abbrev pub unfound_count : Young → ℕ
+unfound_count y = count_by (λ entry. entry == 0) y.table.items
+
+-- the table and the list tell the same, and there is room in the list for what isn't found yet
+pub record IsYoung (y : Young) : Type 0 where
+  pub fits : y.base + length y.table.items < 2 ^ 32
+  pub listed : (k : ℕ) → slice_index y.table.items k ≢ 0 → IsIn y (y.base + k)
+  pub tabled : (at : ℕ) → IsIn y at → (k : ℕ) × (at ≡ y.base + k) × (k < length y.table.items) × (slice_index y.table.items k ≡ FOUND)
+  pub room : unfound_count y ≤ y.found.spare
+
+-- a word that points to a young object points into the table
+abbrev pub IsWithin : Young → ℕ → Type 0
+IsWithin y word = (at : ℕ) → word ≡ 2 * at → y.base ≤ at → at < y.base + length y.table.items
+
+-- the word is one of those from one place up to another
+abbrev pub IsAmong : List ℕ → ℕ → ℕ → ℕ → Type 0
+IsAmong words from to word = (i : ℕ) × (from ≤ i) × (i < to) × (slice_index words i ≡ word)
+
+-- exactly what these words point to was found beside what was found before, at the end of the list
+pub record Notes (old new : Young) (Given : ℕ → Type 0) : Type 0 where
+  pub young : IsYoung new
+  pub base : new.base ≡ old.base
+  pub size : length new.table.items ≡ length old.table.items
+  pub more : (added : List Address) × (new.found.items ≡ old.found.items ++ added)
+  pub sound : (at : ℕ) → IsIn new at → IsIn old at ⊎ ((old.base ≤ at) × Given (2 * at))
+  pub complete : (at : ℕ) → old.base ≤ at → Given (2 * at) → IsIn new at
+  pub conserved : unfound_count new + length new.found.items ≡ unfound_count old + length old.found.items
+  pub kept_room : new.found.spare + length new.found.items ≡ old.found.spare + length old.found.items
+
+-- the words that point to what was found
+abbrev pub PointsIn : Young → ℕ → Type 0
+PointsIn y word = (at : ℕ) × (word ≡ 2 * at) × IsIn y at
+
+-- an object of a valid header lies within the words
+pub record HasHeader (words : List ℕ) (at : ℕ) : Type 0 where
+  pub header : Header
+  pub valid : IsHeader header
+  pub read : slice_index words at ≡ header_word header
+  pub inside : at + HEADER_WORDS + header.fields ≤ length words
+
+-- where the strong fields of the object at the place begin and end
+pub record IsStrongRange (words : List ℕ) (at from to : ℕ) : Type 0 where
+  pub header : Header
+  pub valid : IsHeader header
+  pub read : slice_index words at ≡ header_word header
+  pub first : from ≡ at + HEADER_WORDS + (strong_of words at header).0
+  pub last : to ≡ at + HEADER_WORDS + (strong_of words at header).1
+  pub ordered : from ≤ to
+  pub inside : to ≤ length words
+
+-- what can be followed: a young object within the words, whose strong fields point into the table where they point to young objects
+pub record CanFollow (y : Young) (words : List ℕ) (at : ℕ) : Type 0 where
+  pub header : HasHeader words at
+  pub within : (word : ℕ) → HasStrong words at word → IsWithin y word
+
+-- the search from what was found before has come to its end: the found objects are exactly those that it reaches
+pub record Follows (old new : Young) (words : List ℕ) : Type 0 where
+  pub young : IsYoung new
+  pub base : new.base ≡ old.base
+  pub size : length new.table.items ≡ length old.table.items
+  pub kept_room : new.found.spare + length new.found.items ≡ old.found.spare + length old.found.items
+  pub sound : (at : ℕ) → IsIn new at → IsFound old.base words (PointsIn old) at
+  pub complete : (at : ℕ) → IsFound old.base words (PointsIn old) at → IsIn new at
+
+-- how far the search has come: the objects of the list up to the next one have been followed
+pub record Following (old new : Young) (words : List ℕ) (next : ℕ) : Type 0 where
+  pub young : IsYoung new
+  pub base : new.base ≡ old.base
+  pub size : length new.table.items ≡ length old.table.items
+  pub more : (added : List Address) × (new.found.items ≡ old.found.items ++ added)
+  pub kept_room : new.found.spare + length new.found.items ≡ old.found.spare + length old.found.items
+  pub sound : (at : ℕ) → IsIn new at → IsFound old.base words (PointsIn old) at
+  pub within : next ≤ length new.found.items
+  pub traced : (i at to : ℕ) → i < next → (slice_index_or new.found.items i (record { 0 = 0 })).0 ≡ at → old.base ≤ to → HasStrong words at (2 * to) → IsIn new to

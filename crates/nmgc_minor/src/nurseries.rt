@@ -1,0 +1,90 @@
+//! The second pass through the nurseries, and through the words of one.
+//!
+//! Easy to get wrong: an object's words beyond its first have free entries, so the loop steps over
+//! them; that the objects lie apart is what keeps their words within the nursery's, and so the reserve
+//! sufficient.
+ghost use Rattle.std.specs.Prelude.{ℕ, ◌≡◌, ◌+◌, ◌-◌, ◌*◌, ◌<◌, ◌≤◌, ◌⊎◌, ◌++◌, List, length};
+ghost use Rattle.nmgc_alloc.specs.Reserve.{KeepsReserve};
+ghost use Rattle.nmgc_blocks.specs.Nurseries.{AreEmpty};
+ghost use Rattle.nmgc_alloc.specs.Segments.{IsSegments, IsMutator};
+ghost use Rattle.nmgc_minor.specs.declared.placing.Move.{Move as Shown};
+ghost use Rattle.nmgc_object.specs.Places.{nursery_place};
+ghost use Rattle.nmgc_minor.specs.Placing.{CanPlaceAll, CanPlaceEach, AreNurseries, PlacesRange};
+
+use crate::placing::{Move, place_object};
+use nmgc_alloc::Segments;
+use nmgc_graph::Room;
+use nmgc_heap::HeapWords;
+use nmgc_object::Nursery;
+
+/// Gives each found object of a part of the table a block, in their order.
+pub fn place_all<W: HeapWords>(
+    base: u32,
+    table: &mut [u32],
+    moves: &mut Room<Move>,
+    words: &mut W,
+    segments: &mut Segments,
+    maker: u8,
+    from: u32,
+    to: u32,
+)
+    requires sound { IsSegments segments.old }
+    requires maker { IsMutator segments.old.layout maker }
+    requires above { base ≤ from }
+    requires ordered { from ≤ to }
+    requires inside { to ≤ base + length table.old }
+    requires nursery { to ≤ from + segments.old.layout.nursery }
+    requires objects { CanPlaceAll segments.old.layout maker (W.words words.old) table.old base from to }
+    requires spare { to ≤ from + moves.old.spare }
+    requires reserve { KeepsReserve segments.old.layout segments.old.segments (maker * segments.old.layout.nursery) ⊎ (from ≡ to) }
+    ensures sound { IsSegments segments.new }
+    ensures layout { segments.new.layout ≡ segments.old.layout }
+    ensures places { (added : List Shown) × (moves.new.items ≡ moves.old.items ++ added) × PlacesRange base (W.words words.old) segments.old segments.new table.old table.new added from to }
+    ensures spare { moves.old.spare + from ≤ moves.new.spare + to }
+    ensures room { moves.new.spare + length moves.new.items ≡ moves.old.spare + length moves.old.items }
+    ensures reserve { KeepsReserve segments.old.layout segments.old.segments (maker * segments.old.layout.nursery) → KeepsReserve segments.new.layout segments.new.segments ((maker + 1) * segments.old.layout.nursery) }
+    ensures same { W.words words.new ≡ W.words words.old }
+{
+    for at in from..to {
+        let index = (at - base) as usize;
+        if table[index] != 0 {
+            let moved = place_object(words, segments, maker, at);
+            table[index] = moved.to.0;
+            moves.add(moved);
+        }
+    }
+}
+
+/// Gives each found object of all nurseries a block, in the order of their places.
+pub fn place_nurseries<W: HeapWords>(
+    base: u32,
+    table: &mut [u32],
+    moves: &mut Room<Move>,
+    words: &mut W,
+    segments: &mut Segments,
+    nurseries: &[Nursery],
+)
+    requires sound { IsSegments segments.old }
+    requires nurseries { AreNurseries segments.old.layout base table.old nurseries.now }
+    requires objects { CanPlaceEach segments.old.layout (W.words words.old) table.old base nurseries.now }
+    requires spare { length table.old ≤ moves.old.spare }
+    requires reserve { KeepsReserve segments.old.layout segments.old.segments 0 ⊎ AreEmpty nurseries.now }
+    ensures sound { IsSegments segments.new }
+    ensures layout { segments.new.layout ≡ segments.old.layout }
+    ensures places { (added : List Shown) × (moves.new.items ≡ moves.old.items ++ added) × PlacesRange base (W.words words.old) segments.old segments.new table.old table.new added base (base + length table.old) }
+    ensures room { moves.new.spare + length moves.new.items ≡ moves.old.spare + length moves.old.items }
+    ensures same { W.words words.new ≡ W.words words.old }
+{
+    for (maker, nursery) in nurseries.iter().enumerate() {
+        place_all(
+            base,
+            table,
+            moves,
+            words,
+            segments,
+            maker as u8,
+            nursery.base,
+            nursery.top,
+        );
+    }
+}

@@ -1,0 +1,161 @@
+//! The three passes over the words, and what lies outside them.
+//!
+//! The working lists rest between two promotions with what the last one found: its entries are freed one
+//! by one as the next begins, since a table as long as all nurseries is too long to be wiped at each stop.
+ghost use Rattle.std.specs.Prelude.{ℕ, ◌≡◌, ◌≢◌, ◌+◌, ◌*◌, ◌<◌, ◌≤◌, List, [], length, map, slice_index, Contains};
+ghost use Rattle.nmgc_object.specs.Places.{nursery_place};
+ghost use Rattle.nmgc_alloc.specs.Segments.{IsSegments};
+ghost use Rattle.nmgc_minor.specs.Start.{inputs_of, forwarded_queue};
+ghost use Rattle.nmgc_minor.specs.Forwarding.{forward_word};
+ghost use Rattle.nmgc_minor.specs.Promotes.{CanPromote, CanPromoteWith, Promotes, Leaves, emptied};
+ghost use Rattle.nmgc_minor.specs.Resting.{IsResting, IsCleared};
+
+use crate::forwarding::{copy_all, forward_recorded, forward_shared, forward_words, forwarded};
+use crate::nurseries::place_nurseries;
+use crate::placing::Move;
+use crate::roots::Roots;
+use crate::starts::mark;
+use crate::young::Young;
+use nmgc_alloc::Segments;
+use nmgc_graph::Room;
+use nmgc_heap::HeapWords;
+use nmgc_object::{Address, FinQueue, Nursery};
+
+// The three passes, over words.
+fn promote_words<W: HeapWords>(
+    young: &mut Young,
+    moves: &mut Room<Move>,
+    words: &mut W,
+    segments: &mut Segments,
+    nurseries: &[Nursery],
+    registers: &[u64],
+    queues: &[FinQueue],
+    recorded: &[Address],
+    weaks: &[Address],
+)
+    requires can { CanPromote young.old segments.old (W.words words.old) nurseries.now (inputs_of registers.now queues.now recorded.now weaks.now) }
+    requires moves { moves.old.items ≡ [] }
+    requires spare { length young.old.table.items ≤ moves.old.spare }
+    ensures promotes { Promotes young.old.base (W.words words.old) (W.words words.new) segments.old segments.new moves.new.items (inputs_of registers.now queues.now recorded.now weaks.now) young.new.table.items }
+    ensures leaves { Leaves young.old young.new }
+    ensures room { moves.new.spare + length moves.new.items ≡ moves.old.spare + length moves.old.items }
+    ensures sound { IsSegments segments.new }
+    ensures layout { segments.new.layout ≡ segments.old.layout }
+{
+    mark(young, words, registers, queues, recorded, weaks);
+    let base = young.base;
+    place_nurseries(
+        base,
+        young.table.as_mut_slice(),
+        moves,
+        words,
+        segments,
+        nurseries,
+    );
+    let table = young.table.as_slice();
+    forward_shared(table, base, words);
+    forward_recorded(table, base, words, recorded);
+    copy_all(table, base, words, moves.items());
+}
+
+// Empties nurseries.
+fn empty(nurseries: &mut [Nursery])
+    ensures { nurseries.new ≡ map emptied nurseries.old }
+{
+    for nursery in nurseries.iter_mut() {
+        nursery.top = nursery.base;
+    }
+}
+
+// Frees the entries of these objects.
+fn forget(base: u32, table: &mut [u32], found: &[Address])
+    requires { (at : Address) → Contains found.now at → (base ≤ at.0) × (at.0 < base + length table.old) }
+    ensures size { length table.new ≡ length table.old }
+    ensures free { ((k : ℕ) → slice_index table.old k ≢ 0 → Contains found.now (record { 0 = base + k })) → (k : ℕ) → slice_index table.new k ≡ 0 }
+{
+    for at in found {
+        table[(at.0 - base) as usize] = 0;
+    }
+}
+
+// What the mutators hold points to the new places.
+fn forward_roots(table: &[u32], base: u32, roots: &mut Roots)
+    ensures registers { roots.new.registers ≡ map (forward_word table.now base) roots.old.registers }
+    ensures queues { roots.new.queues ≡ map (forwarded_queue table.now base) roots.old.queues }
+{
+    forward_words(table, base, roots.registers.items_mut());
+    forward_queues(table, base, roots.queues.items_mut());
+}
+
+// Forwards the words of queues.
+fn forward_queues(table: &[u32], base: u32, queues: &mut [FinQueue])
+    ensures { queues.new ≡ map (forwarded_queue table.now base) queues.old }
+{
+    for queue in queues.iter_mut() {
+        forward_queue(table, base, queue);
+    }
+}
+
+// Forwards the words of a queue.
+fn forward_queue(table: &[u32], base: u32, queue: &mut FinQueue)
+    ensures { queue.new ≡ forwarded_queue table.now base queue.old }
+{
+    for i in 0..queue.words().len() {
+        let word = queue.words()[i];
+        queue.set(i, forwarded(table, base, word));
+    }
+}
+
+// Forgets what the last promotion moved.
+fn clear(young: &mut Young, moves: &mut Room<Move>)
+    requires { IsResting young.old moves.old }
+    ensures cleared { IsCleared young.new moves.new }
+    ensures base { young.new.base ≡ young.old.base }
+    ensures size { length young.new.table.items ≡ length young.old.table.items }
+{
+    forget(young.base, young.table.as_mut_slice(), young.found.items());
+    young.found.clear();
+    moves.clear();
+}
+
+/// The passes, and what is outside the words: registers, queues and nurseries.
+pub fn run_passes<W: HeapWords>(
+    young: &mut Young,
+    moves: &mut Room<Move>,
+    words: &mut W,
+    segments: &mut Segments,
+    nurseries: &mut [Nursery],
+    roots: &mut Roots,
+    recorded: &[Address],
+    weaks: &[Address],
+)
+    requires resting { IsResting young.old moves.old }
+    requires base { young.old.base ≡ nursery_place segments.old.layout 0 }
+    requires size { length young.old.table.items ≡ segments.old.layout.mutators * segments.old.layout.nursery }
+    requires can { CanPromoteWith segments.old (W.words words.old) nurseries.old (inputs_of roots.old.registers roots.old.queues recorded.now weaks.now) }
+    ensures promotes { Promotes (nursery_place segments.old.layout 0) (W.words words.old) (W.words words.new) segments.old segments.new moves.new.items (inputs_of roots.old.registers roots.old.queues recorded.now weaks.now) young.new.table.items }
+    ensures registers { roots.new.registers ≡ map (forward_word young.new.table.items (nursery_place segments.old.layout 0)) roots.old.registers }
+    ensures queues { roots.new.queues ≡ map (forwarded_queue young.new.table.items (nursery_place segments.old.layout 0)) roots.old.queues }
+    ensures emptied { nurseries.new ≡ map emptied nurseries.old }
+    ensures sound { IsSegments segments.new }
+    ensures layout { segments.new.layout ≡ segments.old.layout }
+    ensures base { young.new.base ≡ young.old.base }
+    ensures size { length young.new.table.items ≡ length young.old.table.items }
+    ensures resting { IsResting young.new moves.new }
+{
+    let _ = segments.layout();
+    clear(young, moves);
+    promote_words(
+        young,
+        moves,
+        words,
+        segments,
+        nurseries,
+        roots.registers.items(),
+        roots.queues.items(),
+        recorded,
+        weaks,
+    );
+    forward_roots(young.table.as_slice(), young.base, roots);
+    empty(nurseries);
+}

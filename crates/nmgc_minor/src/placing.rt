@@ -1,0 +1,76 @@
+//! The second pass: each found object is given a block, in order of names.
+//!
+//! The words are only read here. A nursery's objects lie in the order of their serials, and the
+//! nurseries in the order of their makers, so the table is read from its beginning to its end, and no
+//! sort is needed.
+ghost use Rattle.std.specs.Prelude.{ℕ, ◌≡◌, ◌+◌, ◌<◌, ◌≤◌, ◌*◌, ◌++◌, List, length, slice_index};
+ghost use Rattle.nmgc_object.specs.Size.{block_size};
+ghost use Rattle.nmgc_object.specs.Words.{name_word};
+ghost use Rattle.nmgc_object.specs.declared.words.Header.{Header};
+ghost use Rattle.nmgc_alloc.specs.Reserve.{KeepsReserve};
+ghost use Rattle.nmgc_alloc.specs.Segments.{IsSegments, IsMutator, IsClass, HasRoom};
+ghost use Rattle.nmgc_minor.specs.Young.{HasHeader};
+ghost use Rattle.nmgc_minor.specs.Placing.{CanPlace, PlacesOne, HasHeaderWord};
+ghost use Rattle.nmgc_object.specs.declared.size.TheConstants.{HEADER_WORDS as HEADERS};
+
+use nmgc_alloc::Segments;
+use nmgc_graph::{Name, Room};
+use nmgc_heap::HeapWords;
+use nmgc_object::laws::words_differ;
+use nmgc_object::{Address, HEADER_WORDS, class_of, decode_header, decode_name};
+
+/// An object that was moved: its name, the place in the nursery, and the place in a segment.
+#[derive(Clone, Copy, Debug, PartialEq, Eq)]
+pub struct Move {
+    pub name: Name,
+    pub from: Address,
+    pub to: Address,
+}
+
+// The words of an object.
+fn object_words<W: HeapWords>(words: &mut W, from: u32) -> u32
+    requires { HasHeader (W.words words.old) from }
+    ensures holds { (header : Header) → HasHeaderWord (W.words words.old) from header → result ≡ HEADERS + header.fields }
+    ensures least { 2 ≤ result }
+    ensures most { result ≤ 4096 }
+    ensures same { W.words words.new ≡ W.words words.old }
+{
+    words_differ();
+    let word = words.load(from as usize);
+    match decode_header(word) {
+        None => unreachable!(),
+        Some(header) => HEADER_WORDS + header.fields,
+    }
+}
+
+/// Gives an object a block of the least class that holds it.
+pub fn place_object<W: HeapWords>(
+    words: &mut W,
+    segments: &mut Segments,
+    maker: u8,
+    from: u32,
+) -> Move
+    requires sound { IsSegments segments.old }
+    requires maker { IsMutator segments.old.layout maker }
+    requires object { CanPlace segments.old.layout maker (W.words words.old) from }
+    requires room { (class : ℕ) → IsClass segments.old.layout class → HasRoom segments.old maker class }
+    ensures from { result.from.0 ≡ from }
+    ensures sound { IsSegments segments.new }
+    ensures layout { segments.new.layout ≡ segments.old.layout }
+    ensures places { PlacesOne segments.old segments.new (W.words words.old) maker result }
+    ensures same { W.words words.new ≡ W.words words.old }
+{
+    words_differ();
+    let class = class_of(object_words(words, from));
+    let name = decode_name(words.load(from as usize + 1));
+    let to = segments.allocate(maker, class);
+    let _ = segments.layout();
+    match name {
+        None => unreachable!(),
+        Some(name) => Move {
+            name,
+            from: Address(from),
+            to,
+        },
+    }
+}

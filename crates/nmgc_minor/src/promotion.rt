@@ -1,0 +1,129 @@
+//! Promotion as a whole: what it is given, and what it promises of the world.
+ghost use Rattle.std.specs.Prelude.{ℕ, ◌≡◌, ◌+◌, ◌*◌, ◌<◌, ◌≤◌, length, map, IfOk};
+ghost use Rattle.nmgc_alloc.specs.AllocState.{AllocState, StandsFor};
+ghost use Rattle.nmgc_alloc.specs.Segments.{IsSegments};
+ghost use Rattle.nmgc_blocks.specs.Occupied.{KeepsMarks};
+ghost use Rattle.nmgc_blocks.specs.Promoted.{PlacesEach};
+ghost use Rattle.nmgc_blocks.specs.Stopped.{Stopped, IsStopped, IsSettled, young_base};
+ghost use Rattle.nmgc_minor.specs.Placing.{moved_of};
+ghost use Rattle.nmgc_minor.specs.Promotes.{Changes, emptied};
+ghost use Rattle.nmgc_minor.specs.Start.{words_of, places_of};
+
+use crate::passes::run_passes;
+use crate::placing::Move;
+use crate::roots::Roots;
+use crate::young::Young;
+use nmgc_alloc::Segments;
+use nmgc_graph::{NoMemory, Room};
+use nmgc_heap::HeapWords;
+use nmgc_object::laws::words_differ;
+use nmgc_object::{Address, Layout, Nursery};
+use std::alloc::Global;
+use std::marker::Model;
+
+/// The working lists of promotion, and what the last one moved.
+#[derive(Drop)]
+pub struct Promotion {
+    young: Young,
+    moves: Room<Move>,
+}
+
+impl Model for Promotion {
+    ghost use Rattle.std.specs.Prelude.{length};
+    ghost use Rattle.nmgc_minor.specs.Promotion.{Promotion as Shown};
+    ghost use Rattle.nmgc_minor.specs.Resting.{IsResting};
+
+    ghost Value = { Shown };
+
+    ghost view = { λ p. record {
+      base = p.young.base;
+      size = length p.young.table.items;
+      moves = p.moves.items;
+    } };
+
+    ghost invariant = { λ p. IsResting p.young p.moves };
+}
+
+impl Promotion {
+    ghost use Rattle.nmgc_object.specs.Places.{IsLayout};
+    ghost use Rattle.nmgc_minor.specs.Promotion.{IsFor};
+
+    /// Takes all the memory that promotions of this layout need.
+    pub fn reserve(alloc: Global, layout: Layout) -> Result<Self, NoMemory>
+        requires { IsLayout layout }
+        ensures { IfOk result (IsFor layout) }
+    {
+        let count = u32::from(layout.mutators) * layout.nursery;
+        let base = layout.nursery_base(0);
+        let table = vec![in alloc; 0u32; count as usize]?;
+        let mut found = Room::new(alloc);
+        found.reserve(count)?;
+        let mut moves = Room::new(alloc);
+        moves.reserve(count)?;
+        Ok(Promotion {
+            young: Young { base, table, found },
+            moves,
+        })
+    }
+
+    /// The moves of the last call, in order of names.
+    pub fn moves(&self) -> &[Move]
+        ensures { result.now ≡ self.now.moves }
+    {
+        self.moves.items()
+    }
+
+    /// Moves the promoted objects from the nurseries into segments, each once, in order of names, into the
+    /// block that the placing rule gives for its maker and its class. Every pointer to one is changed, in
+    /// the roots, the slots of g, the recorded fields and the moved objects, so the words stand for the
+    /// same world. The nurseries are empty afterwards. Takes no memory. Its time is that of what it and the
+    /// last promotion move, with its fields, of the roots, the two lists and the used words of the nurseries,
+    /// up to whose tops the table is read; and of the search for the next segment where one was filled. It
+    /// grows neither with the heap nor with what is left of the nurseries.
+    ///
+    /// `recorded` are the places of the fields of older objects that the round wrote, `young_weaks` the
+    /// weak pointers that it made. So many segments are free as the layout's reserve, or no nursery has
+    /// an object.
+    pub fn promote<W: HeapWords>(
+        &mut self,
+        words: &mut W,
+        segments: &mut Segments,
+        nurseries: &mut [Nursery],
+        roots: &mut Roots,
+        recorded: &[Address],
+        young_weaks: &[Address],
+    )
+        requires layout { IsFor segments.old.layout self.old }
+        requires stopped { (t : Stopped) × IsStopped t segments.old (W.words words.old) nurseries.old roots.old.registers (words_of roots.old.queues) (places_of recorded.now) (places_of young_weaks.now) }
+
+        // What words, roots and blocks stand for; that exactly the promoted objects moved; and the state
+        // of the segments.
+        ensures settled { (t : Stopped) → IsStopped t segments.old (W.words words.old) nurseries.old roots.old.registers (words_of roots.old.queues) (places_of recorded.now) (places_of young_weaks.now) → IsSettled t segments.new (W.words words.new) roots.new.registers (words_of roots.new.queues) (map moved_of self.new.moves) }
+        ensures places { (t : Stopped) → IsStopped t segments.old (W.words words.old) nurseries.old roots.old.registers (words_of roots.old.queues) (places_of recorded.now) (places_of young_weaks.now) → (a : AllocState) → StandsFor segments.old (W.words words.old) a → (b : AllocState) × PlacesEach segments.old.layout t.world a (map (λ m. m.name) (map moved_of self.new.moves)) b × StandsFor segments.new (W.words words.new) b }
+
+        // Which words changed, and how.
+        ensures changes { (forward : ℕ → ℕ) × Changes (young_base segments.old) (places_of recorded.now) (map moved_of self.new.moves) forward (W.words words.old) (W.words words.new) roots.old.registers roots.new.registers (words_of roots.old.queues) (words_of roots.new.queues) }
+        ensures room { map (λ queue. queue.spare) roots.new.queues ≡ map (λ queue. queue.spare) roots.old.queues }
+        ensures emptied { nurseries.new ≡ map emptied nurseries.old }
+        ensures sound { IsSegments segments.new }
+        ensures marks { KeepsMarks segments.old segments.new }
+        ensures layout { segments.new.layout ≡ segments.old.layout }
+        ensures lists { IsFor segments.old.layout self.new }
+        ensures few { length self.new.moves ≤ segments.old.layout.mutators * segments.old.layout.nursery }
+    {
+        words_differ();
+        run_passes(
+            &mut self.young,
+            &mut self.moves,
+            words,
+            segments,
+            nurseries,
+            roots,
+            recorded,
+            young_weaks,
+        );
+    }
+}
+
+#[cfg(test)]
+mod tests;

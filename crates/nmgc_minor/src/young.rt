@@ -1,0 +1,146 @@
+//! The young objects that were found: a table by nursery word, and the list in which they wait.
+//!
+//! An entry of the table is 0 for a word at which no found object begins, `FOUND` for a found one, and
+//! from the second pass on the place that it was given. No place is 0 or `FOUND`, since segments begin
+//! above g. Each found object is in the list once, and the list is gone through once, from its front.
+ghost use Rattle.std.specs.Prelude.{ℕ, ◌≡◌, ◌+◌, ◌*◌, ◌<◌, ◌≤◌, ◌⊎◌, length, slice_index, Contains, IfSome, IfNone};
+ghost use Rattle.nmgc_minor.specs.Found.{IsFound};
+ghost use Rattle.nmgc_blocks.specs.Strong.{HasStrong};
+ghost use Rattle.nmgc_minor.specs.Young.{HasHeader, IsStrongRange};
+
+use nmgc_graph::{Kind, Room};
+use nmgc_heap::HeapWords;
+use nmgc_object::laws::words_differ;
+use nmgc_object::{Address, HEADER_WORDS, decode_header};
+
+/// The entry of an object that was found and has no place yet.
+pub const FOUND: u32 = 1;
+
+/// The table, the word at which it begins, and the list.
+#[derive(Drop)]
+pub struct Young {
+    pub base: u32,
+    pub table: Vec<u32>,
+    pub found: Room<Address>,
+}
+
+/// Which words of an object are its strong fields: from the first place up to the second. A thunk with
+/// a result no longer holds its free variables, and a weak pointer holds nothing.
+pub fn strong_fields<W: HeapWords>(words: &mut W, at: Address) -> (usize, usize)
+    requires { HasHeader (W.words words.old) at.0 }
+    ensures range { IsStrongRange (W.words words.old) at.0 result.0 result.1 }
+    ensures same { W.words words.new ≡ W.words words.old }
+{
+    let fields = at.0 as usize + HEADER_WORDS as usize;
+    let word = words.load(at.0 as usize);
+    match decode_header(word) {
+        None => unreachable!(),
+        Some(header) => match header.kind {
+            Kind::Con | Kind::Var | Kind::Arr | Kind::Stack => {
+                (fields, fields + header.fields as usize)
+            }
+            Kind::Thunk => {
+                if words.load(fields) == 0 {
+                    (fields + 1, fields + header.fields as usize)
+                } else {
+                    (fields, fields + 1)
+                }
+            }
+            Kind::Weak => (fields, fields),
+        },
+    }
+}
+
+impl Young {
+    ghost use Rattle.nmgc_minor.specs.Young.{IsIn, IsYoung, IsWithin, IsAmong, Notes, PointsIn, CanFollow, Follows};
+
+    /// The entry of the table for a pointer to a young object.
+    pub fn entry(&self, word: u64) -> Option<usize>
+        ensures some { IfSome result (λ index. word ≡ 2 * (self.now.base + index)) }
+        ensures none { IfNone result ((at : ℕ) → word ≡ 2 * at → self.now.base ≤ at → ⊥) }
+    {
+        let at = word / 2;
+        let base = u64::from(self.base);
+        if word % 2 == 0 && at >= base {
+            Some((at - base) as usize)
+        } else {
+            None
+        }
+    }
+
+    /// Notes the young object of an entry.
+    fn put(&mut self, index: usize)
+        requires young { IsYoung self.old }
+        requires index { index < length self.old.table.items }
+        ensures { Notes self.old self.new (λ w. w ≡ 2 * (self.old.base + index)) }
+    {
+        if self.table[index] == 0 {
+            self.table[index] = FOUND;
+            self.found.add(Address(self.base + index as u32));
+        }
+    }
+
+    /// Notes the young object that a field word points to, if it points to one.
+    pub fn note(&mut self, word: u64)
+        requires young { IsYoung self.old }
+        requires within { IsWithin self.old word }
+        ensures { Notes self.old self.new (λ w. w ≡ word) }
+    {
+        if let Some(index) = self.entry(word) {
+            self.put(index);
+        }
+    }
+
+    /// Notes what each of the field words points to.
+    pub fn note_all(&mut self, words: &[u64])
+        requires young { IsYoung self.old }
+        requires within { (word : ℕ) → Contains words.now word → IsWithin self.old word }
+        ensures { Notes self.old self.new (Contains words.now) }
+    {
+        for word in words {
+            self.note(*word);
+        }
+    }
+
+    /// Notes what each word of the heap from one place up to another points to.
+    pub fn note_range<W: HeapWords>(&mut self, words: &mut W, from: usize, to: usize)
+        requires young { IsYoung self.old }
+        requires ordered { from ≤ to }
+        requires inside { to ≤ length (W.words words.old) }
+        requires within { (word : ℕ) → IsAmong (W.words words.old) from to word → IsWithin self.old word }
+        ensures notes { Notes self.old self.new (IsAmong (W.words words.old) from to) }
+        ensures same { W.words words.new ≡ W.words words.old }
+    {
+        for at in from..to {
+            let word = words.load(at);
+            self.note(word);
+        }
+    }
+
+    /// Notes what the strong fields of an object point to.
+    fn note_fields<W: HeapWords>(&mut self, words: &mut W, at: Address)
+        requires young { IsYoung self.old }
+        requires can { CanFollow self.old (W.words words.old) at.0 }
+        ensures notes { Notes self.old self.new (HasStrong (W.words words.old) at.0) }
+        ensures same { W.words words.new ≡ W.words words.old }
+    {
+        words_differ();
+        let (from, to) = strong_fields(words, at);
+        self.note_range(words, from, to);
+    }
+
+    /// Goes through the list, and notes what strong fields of found objects point to.
+    pub fn follow<W: HeapWords>(&mut self, words: &mut W)
+        requires young { IsYoung self.old }
+        requires can { (at : ℕ) → IsFound self.old.base (W.words words.old) (PointsIn self.old) at → CanFollow self.old (W.words words.old) at }
+        ensures follows { Follows self.old self.new (W.words words.old) }
+        ensures same { W.words words.new ≡ W.words words.old }
+    {
+        let mut next = 0;
+        while next < self.found.items().len() {
+            let at = self.found.items()[next];
+            self.note_fields(words, at);
+            next += 1;
+        }
+    }
+}
