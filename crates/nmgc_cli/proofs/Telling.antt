@@ -9,7 +9,7 @@ use Rattle.nmgc_cli.specs.Answer.{Answer, answer_status, answer_text, text_bytes
 use Rattle.nmgc_cli.specs.Built.{IsBuilt}
 use Rattle.nmgc_cli.specs.Status.{status_of}
 use Rattle.nmgc_cli.specs.Task.{Asks}
-use Rattle.nmgc_cli.specs.Told.{IsRead, Answers, IsTold, IsWritten, Ends, IsComplete}
+use Rattle.nmgc_cli.specs.Told.{IsRead, Answers, AnswersScript, IsTold, IsWritten, Ends, IsComplete}
 use Rattle.nmgc_cli.specs.declared.answer.Refusal.TheVariants as no
 use Rattle.nmgc_cli.specs.declared.told.Told.{Told}
 use Rattle.nmgc_cli.specs.declared.status.Status.{Status}
@@ -38,7 +38,7 @@ taken_within bytes (Some left) n h = omega (arith, ap length h.1, length-append 
 abbrev TellsScript : Status → Script → Type 0
 TellsScript status script = (status ≡ NoMemory) ⊎ ((status ≡ Done) × IsBuilt script) ⊎ ((status ≡ Unbuilt) × (IsBuilt script → ⊥))
 
-of_run : (bytes : List ℕ) (script : Script) (new : Option (List ℕ)) (rose : Type 0) (answer : Answer) → length bytes ≤ most_script_bytes → Spells bytes script → (rose → ⊥) → Answers Run (Some bytes) new rose answer → TellsScript (answer_status answer) script
+of_run : (bytes : List ℕ) (script : Script) (new : Option (List ℕ)) (rose : Type 0) (answer : Answer) → length bytes ≤ most_script_bytes → Spells bytes script → (rose → ⊥) → AnswersScript (Some bytes) new rose answer → TellsScript (answer_status answer) script
 of_run bytes script new rose (Ok report) within spells none h =
     let same : bytes ≡ h.0 = whole bytes h.0 new h.1 in
     let one : script ≡ h.2.0 = h.2.1.only script (subst (λ (b : List ℕ). Spells b script) same spells) in

@@ -2,6 +2,10 @@
 use Rattle.std.specs.Prelude.{◌≡◌, ℕ, List, [], ◌∷◌, ◌++◌, codes, decimal, Option, Some, None, Result, Ok, Err}
 use Rattle.nmgc_script.specs.declared.fault.Cause.{Cause}
 use Rattle.nmgc_script.specs.declared.fault.Cause.TheVariants as cause
+use Rattle.nmgc_io.specs.declared.ends.ReadEnd.{ReadEnd}
+use Rattle.nmgc_io.specs.declared.ends.ReadEnd.TheVariants as read
+use Rattle.nmgc_script.specs.declared.fault.ScriptFault.{ScriptFault}
+use Rattle.nmgc_script.specs.declared.fault.ScriptFault.TheVariants as script
 use Rattle.nmgc_journal.specs.declared.report.Report.{Report}
 use Rattle.nmgc_journal.specs.Text.{report_text}
 use Rattle.nmgc_cli.specs.Status.{status_of}
@@ -16,6 +20,17 @@ use Rattle.nmgc_cli.specs.declared.status.Status.TheVariants.{Usage, ReadFault, 
 -- a report, or why there is none
 abbrev pub Answer : Type 0
 Answer = Result Report Refusal
+
+-- the refusal of a source that wasn't read to its end
+abbrev pub read_refusal : ReadEnd → Refusal
+read_refusal read.ReadFault = no.ReadFault
+read_refusal read.TooLong = no.TooLong
+read_refusal read.NoMemory = no.NoMemory
+
+-- the refusal of bytes that spell no script
+abbrev pub script_refusal : ScriptFault → Refusal
+script_refusal (script.Bad line c) = no.Bad line c
+script_refusal script.NoMemory = no.NoMemory
 
 -- the status of a refusal
 abbrev pub refusal_status : Refusal → Status

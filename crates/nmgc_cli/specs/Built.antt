@@ -5,6 +5,8 @@ use Rattle.nmgc_graph.specs.Replay.{replies_of}
 use Rattle.nmgc_graph.specs.declared.command.Command.{Command}
 use Rattle.nmgc_graph.specs.declared.command.Command.TheVariants.{Num, Nil, Mov, Con, Var, Arr, Get, Set, Show, Same, Yield}
 use Rattle.nmgc_graph.specs.declared.command.Reply.{Reply}
+use Rattle.nmgc_object.specs.declared.layout.Layout.{Layout}
+use Rattle.nmgc_alloc.specs.Segments.{all_free}
 use Rattle.nmgc_script.specs.declared.script.Script.{Script}
 use Rattle.nmgc_journal.specs.declared.report.Report.{Report}
 use Rattle.nmgc_journal.specs.declared.report.RoundRows.{RoundRows}
@@ -35,14 +37,26 @@ pub record IsBuilt (script : Script) : Type 0 where
   pub no_trigger : script.config.trigger ≡ 0
   pub commands : All IsBuiltCommand (program_of script)
 
+-- the layout of the heap that a script asks for
+abbrev pub layout_of : Script → Layout
+layout_of script = record { segments = script.config.segments; words = script.config.words; nursery = script.config.nursery; mutators = length script.threads }
+
 -- one round with all replies, where there is a command
 abbrev pub rounds_of : List Reply → List RoundRows
 rounds_of [] = []
 rounds_of (reply ∷ replies) = record { replies = (reply ∷ replies) ∷ [] } ∷ []
 
--- the report's replies are those of a heap that is never collected, in the program's order; such a run makes no stop and no cycle
+-- the report tells of a heap that nobody used
+pub record IsUnused (layout : Layout) (report : Report) : Type 0 where
+  pub words : report.words ≡ []
+  pub segments : report.segments ≡ all_free layout
+  pub mutators : report.mutators ≡ []
+  pub weaks : report.weaks ≡ []
+
+-- the report's replies are those of a heap that is never collected, in the program's order; such a run makes no stop and no cycle, and uses no heap
 pub record IsLawful (script : Script) (report : Report) : Type 0 where
   pub rounds : report.rounds ≡ rounds_of (replies_of (new_world 1) 0 (program_of script))
   pub stops : report.stops ≡ []
   pub cycles : report.cycles ≡ []
+  pub heap : IsUnused (layout_of script) report
   pub end : report.end ≡ end.Done

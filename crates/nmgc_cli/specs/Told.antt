@@ -42,13 +42,17 @@ AnswersBytes bytes (Err no.Unbuilt) = (script : Script) × SpellsOnly bytes scri
 AnswersBytes bytes (Err no.NoMemory) = Unit {0}
 AnswersBytes bytes (Err _) = ⊥
 
--- the answer to a task, by what a source had left and what it has now, and whether its count of faults rose
+-- the answer to a script that is read, by what a source had left and what it has now, and whether its count of faults rose
+abbrev pub AnswersScript : Option (List ℕ) → Option (List ℕ) → Type 0 → Answer → Type 0
+AnswersScript old new rose (Err no.Usage) = ⊥
+AnswersScript old new rose (Err no.ReadFault) = TakesUpTo old new most_script_bytes × rose
+AnswersScript old new rose (Err no.TooLong) = Takes old new (most_script_bytes + 1)
+AnswersScript old new rose (Err no.NoMemory) = TakesUpTo old new most_script_bytes
+AnswersScript old new rose answer = (bytes : List ℕ) × IsRead old new bytes × AnswersBytes bytes answer
+
+-- the answer to a task
 abbrev pub Answers : Task → Option (List ℕ) → Option (List ℕ) → Type 0 → Answer → Type 0
-Answers Run old new rose (Err no.Usage) = ⊥
-Answers Run old new rose (Err no.ReadFault) = TakesUpTo old new most_script_bytes × rose
-Answers Run old new rose (Err no.TooLong) = Takes old new (most_script_bytes + 1)
-Answers Run old new rose (Err no.NoMemory) = TakesUpTo old new most_script_bytes
-Answers Run old new rose answer = (bytes : List ℕ) × IsRead old new bytes × AnswersBytes bytes answer
+Answers Run old new rose answer = AnswersScript old new rose answer
 
 -- the answer to these words
 abbrev pub IsTold : List (List ℕ) → Option (List ℕ) → Option (List ℕ) → Type 0 → Answer → Type 0

@@ -6,10 +6,13 @@
 //! Easy to get wrong: a text that takes memory may not be there after all. The answer is then
 //! `NoMemory`, whose own text takes none.
 ghost use Rattle.std.specs.Prelude.{◌≡◌};
-ghost use Rattle.nmgc_cli.specs.Answer.{refusal_status};
+ghost use Rattle.nmgc_cli.specs.Answer.{refusal_status, read_refusal, script_refusal};
+ghost use Rattle.nmgc_cli.specs.declared.answer.Refusal.TheVariants.{NoMemory as no_memory};
 
 use crate::Status;
-use nmgc_script::Cause;
+use nmgc_graph::NoMemory;
+use nmgc_io::ReadEnd;
+use nmgc_script::{Cause, ScriptFault};
 
 /// Why there is no report.
 #[derive(Clone, Copy, Debug, PartialEq, Eq)]
@@ -40,6 +43,37 @@ impl Refusal {
             Refusal::Bad { .. } => Status::BadScript,
             Refusal::Unbuilt => Status::Unbuilt,
             Refusal::NoMemory => Status::NoMemory,
+        }
+    }
+}
+
+impl From<NoMemory> for Refusal {
+    ghost from_gives = { λ _ refusal. refusal ≡ no_memory };
+
+    fn from(_: NoMemory) -> Self {
+        Refusal::NoMemory
+    }
+}
+
+impl From<ReadEnd> for Refusal {
+    ghost from_gives = { λ end refusal. refusal ≡ read_refusal end };
+
+    fn from(end: ReadEnd) -> Self {
+        match end {
+            ReadEnd::ReadFault => Refusal::ReadFault,
+            ReadEnd::TooLong => Refusal::TooLong,
+            ReadEnd::NoMemory => Refusal::NoMemory,
+        }
+    }
+}
+
+impl From<ScriptFault> for Refusal {
+    ghost from_gives = { λ fault refusal. refusal ≡ script_refusal fault };
+
+    fn from(fault: ScriptFault) -> Self {
+        match fault {
+            ScriptFault::Bad { line, cause } => Refusal::Bad { line, cause },
+            ScriptFault::NoMemory => Refusal::NoMemory,
         }
     }
 }

@@ -8,15 +8,16 @@ use crate::{Status, nmgc};
 use nmgc_io::{Sink, Source};
 use std::alloc::Global;
 
-/// Runs the program on a command line, and answers the number with which the process ends. Where there
-/// is no memory for the words, that is 7, and nothing is read or written.
+/// Runs the program on a command line, and answers the number with which the process ends. For wrong
+/// words nothing is read. Where there is no memory for the words, the number is 7, and nothing is read or
+/// written.
 pub fn program<L: CommandLine, S: Source, K: Sink>(
     alloc: Global,
     line: &L,
     source: &mut S,
     sink: &mut K,
 ) -> u8
-    ensures { Ran (L.words line.now) (S.left source.old) (S.left source.new) (Rose (S.faults source.old) (S.faults source.new)) (K.taken sink.old) (K.taken sink.new) (Rose (K.faults sink.old) (K.faults sink.new)) result
+    ensures { Ran (L.words line.now) (S.left source.old) (S.left source.new) (Rose (S.faults source.old) (S.faults source.new)) (source.new ≡ source.old) (K.taken sink.old) (K.taken sink.new) (Rose (K.faults sink.old) (K.faults sink.new)) result
         ⊎ ((result ≡ 7) × (source.new ≡ source.old) × (sink.new ≡ sink.old)) }
 {
     let Ok(words) = words_of(alloc, line) else {

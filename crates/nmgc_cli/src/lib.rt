@@ -12,7 +12,7 @@
 //! - `status`, `entry`: statuses with their numbers, and the whole program but for its streams.
 #![tactic(auto)]
 
-pub mod answer;
+mod answer;
 mod built;
 pub mod entry;
 mod message;
@@ -23,7 +23,6 @@ mod told;
 pub mod top;
 pub mod words;
 
-pub use answer::Refusal;
 pub use entry::program;
 pub use status::{Ended, Status};
 pub use task::{Task, task_of};

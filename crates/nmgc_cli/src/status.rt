@@ -56,7 +56,8 @@ impl Status {
     }
 }
 
-/// The status, and the report of a run that was done.
+/// The status, and the report where a script was run, whether to its end or until its heap was full. Where
+/// the sink failed, the report is there if it was its text that was to be written.
 #[derive(Drop)]
 pub struct Ended {
     pub status: Status,

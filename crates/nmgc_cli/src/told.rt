@@ -3,7 +3,6 @@
 //! The text of a report and that of a bad line take memory. Where there is none, the answer is
 //! `NoMemory` in place of the one that was found.
 ghost use Rattle.std.specs.Prelude.{◌≡◌, ◌⊎◌, Ok, Err};
-ghost use Rattle.nmgc_journal.specs.Stops.{AreEndedFrom};
 ghost use Rattle.nmgc_cli.specs.Answer.{IsBad, IsToldAs, text_bytes};
 
 use crate::Status;
@@ -43,7 +42,6 @@ impl Text {
 
 /// What is told of a report.
 pub fn told_report(alloc: Global, report: Report) -> Told
-    requires { AreEndedFrom 0 report.cycles }
     ensures { IsToldAs (Ok report) result ⊎ IsToldAs (Err Refusal.NoMemory) result }
 {
     match text(alloc, &report) {

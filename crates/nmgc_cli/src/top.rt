@@ -5,12 +5,13 @@
 //! a sink that fails replaces the status and nothing else.
 ghost use Rattle.std.specs.Prelude.{◌≡◌, ◌≤◌, ◌⊎◌, map, string_bytes, length, IfOk};
 ghost use Rattle.nmgc_io.specs.Causes.{Rose};
+ghost use Rattle.nmgc_object.specs.Places.{IsLayout};
 ghost use Rattle.nmgc_script.specs.Limits.{FitsScript};
 ghost use Rattle.nmgc_cli.specs.Answer.{Answer, IsToldAs};
-ghost use Rattle.nmgc_cli.specs.Built.{IsLawful, rounds_of, program_of};
+ghost use Rattle.nmgc_cli.specs.Built.{IsLawful, layout_of, rounds_of, program_of};
 ghost use Rattle.nmgc_cli.specs.Task.{IsWrong};
 ghost use Rattle.nmgc_limits.specs.Limits.{most_script_bytes};
-ghost use Rattle.nmgc_cli.specs.Told.{IsTold, Answers, AnswersBytes, IsWritten, Ends, IsComplete};
+ghost use Rattle.nmgc_cli.specs.Told.{IsTold, Answers, AnswersScript, AnswersBytes, IsWritten, Ends, IsComplete};
 
 use crate::answer::Refusal;
 use crate::built::is_built;
@@ -18,11 +19,13 @@ use crate::replay::replies;
 use crate::task::{Task, task_of};
 use crate::told::{Told, told_refusal, told_report};
 use crate::{Ended, Status};
-use nmgc_graph::{List as Items, NoMemory, Reply};
-use nmgc_io::{ReadEnd, Sink, Source, read_all, write_all};
+use nmgc_alloc::Segments;
+use nmgc_graph::{List, NoMemory, Reply};
+use nmgc_io::{Sink, Source, read_all, write_all};
 use nmgc_journal::{End, Report, RoundRows};
 use nmgc_limits::MAX_SCRIPT_BYTES;
-use nmgc_script::{Script, ScriptFault, parse};
+use nmgc_object::Layout;
+use nmgc_script::{Script, parse};
 use std::alloc::Global;
 
 /// Does what the words ask for. For `run`, reads a script from the source to its end, runs it, and writes
@@ -93,14 +96,10 @@ fn answer<S: Source>(alloc: Global, words: &[String], source: &mut S) -> Result<
 
 // The answer to `run`.
 fn run<S: Source>(alloc: Global, source: &mut S) -> Result<Report, Refusal>
-    ensures { Answers Task.Run (S.left source.old) (S.left source.new) (Rose (S.faults source.old) (S.faults source.new)) result }
+    ensures { AnswersScript (S.left source.old) (S.left source.new) (Rose (S.faults source.old) (S.faults source.new)) result }
 {
-    match read_all(alloc, source, MAX_SCRIPT_BYTES) {
-        Ok(bytes) => run_bytes(alloc, &bytes),
-        Err(ReadEnd::ReadFault) => Err(Refusal::ReadFault),
-        Err(ReadEnd::TooLong) => Err(Refusal::TooLong),
-        Err(ReadEnd::NoMemory) => Err(Refusal::NoMemory),
-    }
+    let bytes = read_all(alloc, source, MAX_SCRIPT_BYTES)?;
+    run_bytes(alloc, &bytes)
 }
 
 // The answer to a script's bytes.
@@ -108,19 +107,14 @@ fn run_bytes(alloc: Global, bytes: &[u8]) -> Result<Report, Refusal>
     requires { length bytes.now ≤ most_script_bytes }
     ensures { AnswersBytes bytes.now result }
 {
-    match parse(alloc, bytes) {
-        Ok(script) => {
-            if !is_built(&script) {
-                return Err(Refusal::Unbuilt);
-            }
-            report(alloc, &script).or(Err(Refusal::NoMemory))
-        }
-        Err(ScriptFault::Bad { line, cause }) => Err(Refusal::Bad { line, cause }),
-        Err(ScriptFault::NoMemory) => Err(Refusal::NoMemory),
+    let script = parse(alloc, bytes)?;
+    if !is_built(&script) {
+        return Err(Refusal::Unbuilt);
     }
+    Ok(report(alloc, &script)?)
 }
 
-// The report of a script that is built. Its run makes no stop and no cycle.
+// The report of a script that is built. Its run makes no stop and no cycle, and uses no heap.
 fn report(alloc: Global, script: &Script) -> Result<Report, NoMemory>
     requires fits { FitsScript script.now }
     requires few { length (program_of script.now) ≤ most_script_bytes }
@@ -129,21 +123,40 @@ fn report(alloc: Global, script: &Script) -> Result<Report, NoMemory>
     let replies = replies(alloc, script.threads.items()[0].items())?;
     Ok(Report {
         rounds: rounds(alloc, replies)?,
-        stops: Items::new(alloc),
-        cycles: Items::new(alloc),
+        stops: List::new(alloc),
+        cycles: List::new(alloc),
+        words: List::new(alloc),
+        segments: Segments::new(alloc, layout(script))?,
+        mutators: List::new(alloc),
+        weaks: List::new(alloc),
         end: End::Done,
     })
 }
 
+// The layout of the heap that a script asks for.
+fn layout(script: &Script) -> Layout
+    requires { FitsScript script.now }
+    ensures layout { result ≡ layout_of script.now }
+    ensures fits { IsLayout result }
+{
+    let config = &script.config;
+    Layout {
+        segments: config.segments,
+        words: config.words,
+        nursery: config.nursery,
+        mutators: script.threads.items().len() as u8,
+    }
+}
+
 // One round with all replies, where there is one.
-fn rounds(alloc: Global, replies: Items<Reply>) -> Result<Items<RoundRows>, NoMemory>
+fn rounds(alloc: Global, replies: List<Reply>) -> Result<List<RoundRows>, NoMemory>
     ensures { IfOk result (λ rounds. rounds ≡ rounds_of replies) }
 {
-    let mut rounds = Items::new(alloc);
+    let mut rounds = List::new(alloc);
     if replies.items().is_empty() {
         return Ok(rounds);
     }
-    let mut all = Items::new(alloc);
+    let mut all = List::new(alloc);
     all.push(replies)?;
     rounds.push(RoundRows { replies: all })?;
     Ok(rounds)

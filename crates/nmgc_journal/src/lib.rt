@@ -1,8 +1,9 @@
 //! The report of a run, and its text.
 //!
 //! A report holds what a run did: the replies of each round, mutator by mutator, what each stop left, what
-//! each cycle freed, and how the run ended. Its text is what the program writes. The definitions of the
-//! text (`specs/Text.antt`) are the format; the code appends the same bytes from left to right, once.
+//! each cycle freed, the heap as the last stop left it, and how the run ended. Its text is what the program
+//! writes, and tells all of this but the heap. The definitions of the text (`specs/Text.antt`) are the
+//! format; the code appends the same bytes from left to right, once.
 //!
 //! - `report`: the rows. `text`: the whole text, with the rounds and their replies.
 //! - `stops`: the lines of a stop and of the cycles that ended there.
@@ -14,7 +15,7 @@ mod stops;
 pub mod text;
 mod words;
 
-pub use report::{CycleRow, End, Phase, Report, RoundRows, StopRow};
+pub use report::{CycleRow, End, MutatorEnd, Phase, Report, RoundRows, StopRow};
 
 #[cfg(test)]
 mod tests;

@@ -5,7 +5,13 @@
 //! written at the stop at which the cycle ends, so the rows of the cycles stand in the order of the stops
 //! at which they ended.
 //!
-//! Today's run is that of the model: it makes no stop and no cycle, and its report has no row of them.
+//! Beside the rows a report has the heap as the last stop left it: its words, its segments, what the
+//! mutators have in hand, and the weak pointers. The text tells nothing of the heap. It is there so that a
+//! contract can say of a whole run that the words still stand for the world which the replies made.
+//!
+//! Today's run is that of the model: it makes no stop and no cycle, and its report has no row of them. It
+//! has no words either, so its heap is one that nobody used.
+use nmgc_alloc::Segments;
 use nmgc_graph::{List, Name, Reply};
 
 /// The replies of one round: a list for each mutator, in the mutator's own order.
@@ -66,6 +72,18 @@ pub struct CycleRow {
     pub kept: u32,
 }
 
+/// What a mutator has in hand as the run ends. Registers and queue are field words: each is the word of a
+/// number, of nil, or of a pointer to the first word of an object.
+#[derive(Drop)]
+pub struct MutatorEnd {
+    /// Its registers, in order of their numbers.
+    pub registers: List<u64>,
+    /// Its finaliser queue, from the first one on.
+    pub queue: List<u64>,
+    /// How many objects it made, which is the serial of its next one.
+    pub serial: u32,
+}
+
 /// How a run ended.
 #[derive(Clone, Copy, Debug, PartialEq, Eq)]
 pub enum End {
@@ -75,12 +93,23 @@ pub enum End {
     HeapFull { free: u32, reserve: u32 },
 }
 
-/// What happened in a run: its rounds in order, from round 1 on, its stops, from stop 0 on, its cycles, and
-/// its end.
+/// What happened in a run, and the heap that it left.
 #[derive(Drop)]
 pub struct Report {
+    /// The replies of each round, from round 1 on.
     pub rounds: List<RoundRows>,
+    /// The stops, from stop 0 on.
     pub stops: List<StopRow>,
+    /// The cycles, in the order of their numbers.
     pub cycles: List<CycleRow>,
+    /// All words of the heap, from word 0 on.
+    pub words: List<u64>,
+    /// The segments of the heap.
+    pub segments: Segments,
+    /// The mutators, in order of their numbers.
+    pub mutators: List<MutatorEnd>,
+    /// The names of the alive weak pointers that have a block, in order of names.
+    pub weaks: List<Name>,
+    /// How the run ended.
     pub end: End,
 }

@@ -1,12 +1,12 @@
 //! The lines of a stop, and of the cycles that ended there.
 //!
-//! The cycles of a report stand in the order of the stops at which they ended. So those that ended at a
-//! stop are a front of those that no earlier stop has taken, and a cursor moves over all of them once: a
-//! run of two million stops and half as many cycles takes time in the length of its text. The format
-//! itself says 'the cycles that ended at this stop', whatever their order (`specs/Text.antt`, `ended_at`).
+//! The format says 'the cycles that ended at this stop', whatever their order (`specs/Text.antt`,
+//! `ended_at`), and `push_stop_at` looks through all of them. Where the cycles stand in the order of the
+//! stops at which they ended, those that ended at a stop are a front of those that no earlier stop has
+//! taken, so `push_next_stop` looks at these alone.
 //! Easy to get wrong: a stop without a row takes its cycles off all the same, or the next one would begin
 //! at cycles that ended before it.
-ghost use Rattle.std.specs.Prelude.{◌≡◌, ◌≢◌, ℕ, ◌+◌, ◌<◌, ◌≤◌, ◌++◌, ◌==◌, length, take, drop, OnOk, IfOk};
+ghost use Rattle.std.specs.Prelude.{◌≡◌, ◌≢◌, ◌↔◌, ℕ, ◌+◌, ◌<◌, ◌≤◌, ◌++◌, ◌==◌, length, take, drop, IsTrue, OnOk, IfOk};
 ghost use Rattle.std.specs.List.{flat_map, take_while};
 ghost use Rattle.nmgc_journal.specs.Text.{phase_text, stop_line, stop_counts, cycle_line, cycle_stops, cycle_swept, cycle_kept, cycle_text, name_line, stop_at};
 ghost use Rattle.nmgc_journal.specs.Stops.{AreEndedFrom, ended_at, IsRestAfter};
@@ -15,9 +15,39 @@ use crate::words::{push_count, push_name, push_word};
 use crate::{CycleRow, Phase, StopRow};
 use nmgc_graph::{Name, NoMemory};
 
-/// Appends the lines of the stop of this number, where there is a row of it, and answers how many of the
-/// cycles ended there. They are the first of those that ended at this stop or later.
+/// Whether each cycle ended no earlier than the one before it. Takes no memory.
+pub fn are_in_order(cycles: &[CycleRow]) -> bool
+    ensures { IsTrue result ↔ AreEndedFrom 0 cycles.now }
+{
+    let mut last = 0;
+    for cycle in cycles {
+        if cycle.ended < last {
+            return false;
+        }
+        last = cycle.ended;
+    }
+    true
+}
+
+/// Appends the lines of the stop of this number, where there is a row of it.
 pub fn push_stop_at(
+    out: &mut Vec<u8>,
+    stops: &[StopRow],
+    number: usize,
+    cycles: &[CycleRow],
+) -> Result<(), NoMemory>
+    ensures { OnOk result (out.new.items ≡ out.old.items ++ stop_at stops.now cycles.now number) }
+{
+    if let Some(row) = stops.get(number) {
+        push_stop_line(out, row)?;
+        push_ended_at(out, number as u64, cycles)?;
+    }
+    Ok(())
+}
+
+/// Does the same, and answers how many of the cycles ended there. They are the first of those that ended
+/// at this stop or later.
+pub fn push_next_stop(
     out: &mut Vec<u8>,
     stops: &[StopRow],
     number: usize,
@@ -35,7 +65,7 @@ pub fn push_stop_at(
     Ok(count)
 }
 
-// How many cycles ended at this stop.
+// How many cycles ended at this stop, where they are in order.
 fn ended_count(cycles: &[CycleRow], number: u64) -> usize
     requires { AreEndedFrom number cycles.now }
     ensures ended { take result cycles.now ≡ ended_at number cycles.now }
@@ -81,6 +111,18 @@ fn push_stop_counts(out: &mut Vec<u8>, row: &StopRow) -> Result<(), NoMemory>
     push_count(out, b" sweep ", u64::from(row.sweep))?;
     push_count(out, b" promoted ", u64::from(row.promoted))?;
     push_word(out, b"\n")
+}
+
+// Appends the cycles that ended at this stop.
+fn push_ended_at(out: &mut Vec<u8>, number: u64, cycles: &[CycleRow]) -> Result<(), NoMemory>
+    ensures { OnOk result (out.new.items ≡ out.old.items ++ flat_map cycle_text (ended_at number cycles.now)) }
+{
+    for cycle in cycles {
+        if u64::from(cycle.ended) == number {
+            push_cycle(out, cycle)?;
+        }
+    }
+    Ok(())
 }
 
 fn push_cycles(out: &mut Vec<u8>, cycles: &[CycleRow]) -> Result<(), NoMemory>

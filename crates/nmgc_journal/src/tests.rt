@@ -1,8 +1,8 @@
 // The text of every kind of line, and the worked examples' stops and cycles.
-ghost use Rattle.std.specs.Prelude.{◌≡◌, IfOk, slice_index};
-
 use super::*;
+use nmgc_alloc::Segments;
 use nmgc_graph::{List, Name, Reply, SHARED_MAKER, Value};
+use nmgc_object::Layout;
 use std::alloc::Global;
 use std::test::Fail;
 use text::text;
@@ -51,6 +51,32 @@ const LINES: [(Reply, &str); 19] = [
     (Reply::StackEmpty, "stackempty"),
 ];
 
+// The report of these rows, over one segment that nobody used.
+fn report_of(
+    alloc: Global,
+    rounds: List<RoundRows>,
+    stops: List<StopRow>,
+    cycles: List<CycleRow>,
+    end: End,
+) -> Result<Report, Fail> {
+    let layout = Layout {
+        segments: 1,
+        words: 16,
+        nursery: 16,
+        mutators: 1,
+    };
+    Ok(Report {
+        rounds,
+        stops,
+        cycles,
+        words: List::new(alloc),
+        segments: Segments::new(alloc, layout)?,
+        mutators: List::new(alloc),
+        weaks: List::new(alloc),
+        end,
+    })
+}
+
 fn one(alloc: Global, reply: Reply) -> Result<RoundRows, Fail> {
     let mut replies = List::new(alloc);
     replies.push(reply)?;
@@ -64,12 +90,8 @@ fn each_reply_has_its_line(rt: HostRuntime) -> Result<(), Fail> {
     for (reply, word) in &LINES {
         let mut rounds = List::new(rt.alloc());
         rounds.push(one(rt.alloc(), *reply)?)?;
-        let report = Report {
-            rounds,
-            stops: List::new(rt.alloc()),
-            cycles: List::new(rt.alloc()),
-            end: End::Done,
-        };
+        let (stops, cycles) = (List::new(rt.alloc()), List::new(rt.alloc()));
+        let report = report_of(rt.alloc(), rounds, stops, cycles, End::Done)?;
         let want = format!(in rt.alloc(); "report 1\nround 1\n0 {word}\nend done\n")?;
         assert_eq!(rt;
             text(rt.alloc(), &report)?.as_slice(),
@@ -92,12 +114,8 @@ fn rounds_and_mutators_are_counted(rt: HostRuntime) -> Result<(), Fail> {
     rounds.push(RoundRows {
         replies: List::new(rt.alloc()),
     })?;
-    let report = Report {
-        rounds,
-        stops: List::new(rt.alloc()),
-        cycles: List::new(rt.alloc()),
-        end: End::Done,
-    };
+    let (stops, cycles) = (List::new(rt.alloc()), List::new(rt.alloc()));
+    let report = report_of(rt.alloc(), rounds, stops, cycles, End::Done)?;
     let want = "report 1\nround 1\n0 none\n1 yes\n1 no\nround 2\nend done\n";
     assert_eq!(rt; text(rt.alloc(), &report)?.as_slice(), want.as_bytes());
     Ok(())
@@ -140,9 +158,7 @@ fn names(alloc: Global, count: u32) -> Result<List<Name>, Fail> {
 
 // A cycle: its number, its three stops and what it kept; how many segments it swept, how many names
 // they had, how many of these it freed, and how many weak pointers died.
-fn cycle(alloc: Global, at: [u32; 4], kept: u32, counts: [u32; 4]) -> Result<CycleRow, Fail>
-    ensures { IfOk result (λ row. slice_index at 3 ≡ row.ended) }
-{
+fn cycle(alloc: Global, at: [u32; 4], kept: u32, counts: [u32; 4]) -> Result<CycleRow, Fail> {
     let [number, from, closed, ended] = at;
     let [swept, had, freed, dead] = counts;
     let mut segments = List::new(alloc);
@@ -166,20 +182,17 @@ fn cycle(alloc: Global, at: [u32; 4], kept: u32, counts: [u32; 4]) -> Result<Cyc
 fn a_cycle_stands_at_the_stop_at_which_it_ended(rt: HostRuntime) -> Result<(), Fail> {
     let mut cycles = List::new(rt.alloc());
     cycles.push(cycle(rt.alloc(), [1, 1, 2, 3], 16, [1, 16, 1, 2])?)?;
-    let report = Report {
-        rounds: silent(rt.alloc(), 3)?,
-        stops: stops(
-            rt.alloc(),
-            &[
-                (Phase::Idle, [32, 0, 0, 0]),
-                (Phase::Marking, [30, 0, 1, 17]),
-                (Phase::Sweeping, [30, 0, 1, 0]),
-                (Phase::Idle, [30, 0, 0, 0]),
-            ],
-        )?,
-        cycles,
-        end: End::Done,
-    };
+    let stops = stops(
+        rt.alloc(),
+        &[
+            (Phase::Idle, [32, 0, 0, 0]),
+            (Phase::Marking, [30, 0, 1, 17]),
+            (Phase::Sweeping, [30, 0, 1, 0]),
+            (Phase::Idle, [30, 0, 0, 0]),
+        ],
+    )?;
+    let rounds = silent(rt.alloc(), 3)?;
+    let report = report_of(rt.alloc(), rounds, stops, cycles, End::Done)?;
     let want = "report 1
 stop 0 idle free 32 filled 0 sweep 0 promoted 0
 round 1
@@ -203,22 +216,20 @@ fn two_cycles_end_at_one_stop(rt: HostRuntime) -> Result<(), Fail> {
     let mut cycles = List::new(rt.alloc());
     cycles.push(cycle(rt.alloc(), [1, 1, 2, 2], 3, [0, 0, 0, 0])?)?;
     cycles.push(cycle(rt.alloc(), [2, 2, 2, 2], 7, [2, 7, 0, 0])?)?;
-    let report = Report {
-        rounds: silent(rt.alloc(), 2)?,
-        stops: stops(
-            rt.alloc(),
-            &[
-                (Phase::Idle, [6, 0, 0, 0]),
-                (Phase::Marking, [5, 0, 0, 3]),
-                (Phase::Idle, [4, 1, 0, 4]),
-            ],
-        )?,
-        cycles,
-        end: End::HeapFull {
-            free: 4,
-            reserve: 5,
-        },
+    let stops = stops(
+        rt.alloc(),
+        &[
+            (Phase::Idle, [6, 0, 0, 0]),
+            (Phase::Marking, [5, 0, 0, 3]),
+            (Phase::Idle, [4, 1, 0, 4]),
+        ],
+    )?;
+    let rounds = silent(rt.alloc(), 2)?;
+    let end = End::HeapFull {
+        free: 4,
+        reserve: 5,
     };
+    let report = report_of(rt.alloc(), rounds, stops, cycles, end)?;
     let want = "report 1
 stop 0 idle free 6 filled 0 sweep 0 promoted 0
 round 1
@@ -228,6 +239,31 @@ stop 2 idle free 4 filled 1 sweep 0 promoted 4
 cycle 1 from 1 closed 2 swept 0 had 0 freed 0 kept 3 dead 0
 cycle 2 from 2 closed 2 swept 2 had 7 freed 0 kept 7 dead 0
 end heapfull free 4 reserve 5
+";
+    assert_eq!(rt; text(rt.alloc(), &report)?.as_slice(), want.as_bytes());
+    Ok(())
+}
+
+#[test]
+fn rows_out_of_order_stand_at_their_stops(rt: HostRuntime) -> Result<(), Fail> {
+    let mut cycles = List::new(rt.alloc());
+    cycles.push(cycle(rt.alloc(), [2, 1, 1, 1], 7, [0, 0, 0, 0])?)?;
+    cycles.push(cycle(rt.alloc(), [1, 0, 0, 0], 3, [0, 0, 0, 0])?)?;
+    cycles.push(cycle(rt.alloc(), [3, 1, 1, 1], 8, [0, 0, 0, 0])?)?;
+    let stops = stops(
+        rt.alloc(),
+        &[(Phase::Idle, [6, 0, 0, 0]), (Phase::Idle, [5, 0, 0, 3])],
+    )?;
+    let rounds = silent(rt.alloc(), 1)?;
+    let report = report_of(rt.alloc(), rounds, stops, cycles, End::Done)?;
+    let want = "report 1
+stop 0 idle free 6 filled 0 sweep 0 promoted 0
+cycle 1 from 0 closed 0 swept 0 had 0 freed 0 kept 3 dead 0
+round 1
+stop 1 idle free 5 filled 0 sweep 0 promoted 3
+cycle 2 from 1 closed 1 swept 0 had 0 freed 0 kept 7 dead 0
+cycle 3 from 1 closed 1 swept 0 had 0 freed 0 kept 8 dead 0
+end done
 ";
     assert_eq!(rt; text(rt.alloc(), &report)?.as_slice(), want.as_bytes());
     Ok(())

@@ -2,22 +2,26 @@
 //!
 //! Every function here appends one piece of the text to the bytes so far, and its contract says which
 //! piece of the format that is.
+//!
+//! A run writes its cycles in the order of the stops at which they ended. One pass looks whether that is
+//! so, and a cursor then takes the cycles of each stop from the front of those left: a run of two million
+//! stops and half as many cycles takes time in the length of its text. In a report whose cycles stand in
+//! another order each stop looks through all of them, which takes time in stops times cycles.
 ghost use Rattle.std.specs.Prelude.{◌≡◌, ◌+◌, ◌<◌, ◌≤◌, ◌^◌, ◌++◌, length, codes, OnOk, IfOk};
 ghost use Rattle.std.specs.List.{flat_map};
 ghost use Rattle.nmgc_journal.specs.Stops.{AreEndedFrom};
 ghost use Rattle.nmgc_journal.specs.Text.{reply_text, HasWord, reply_line, replies_text, round_text, rounds_text, stop_at, end_counts, heap_full_line, end_text, report_text};
 
-use crate::stops::push_stop_at;
+use crate::stops::{are_in_order, push_next_stop, push_stop_at};
 use crate::words::{push_count, push_value, push_word};
 use crate::{End, Report, RoundRows};
 use nmgc_graph::{NoMemory, Reply};
 use nmgc_io::push_number;
 use std::alloc::Global;
 
-/// The text of a report, as `docs/FORMATS.md` gives it. The cycles stand in the order of the stops at
-/// which they ended, as a run writes them.
+/// The text of a report, as `docs/FORMATS.md` gives it, for every report. The cycles that ended at one
+/// stop come in the order of their rows; a run writes the rows in the order of their numbers.
 pub fn text(alloc: Global, report: &Report) -> Result<Vec<u8>, NoMemory>
-    requires { AreEndedFrom 0 report.now.cycles }
     ensures { IfOk result (λ text. text.items ≡ report_text report.now) }
 {
     let mut out = Vec::new(alloc);
@@ -29,14 +33,37 @@ pub fn text(alloc: Global, report: &Report) -> Result<Vec<u8>, NoMemory>
 
 // Appends the first stop, and each round with its stop.
 fn push_rounds(out: &mut Vec<u8>, report: &Report) -> Result<(), NoMemory>
+    ensures { OnOk result (out.new.items ≡ out.old.items ++ (stop_at report.now.stops report.now.cycles 0 ++ rounds_text report.now.stops report.now.cycles 1 report.now.rounds)) }
+{
+    if are_in_order(report.cycles.items()) {
+        return push_rounds_in_order(out, report);
+    }
+    push_rounds_in_any_order(out, report)
+}
+
+// The same where the cycles stand in any order: each stop looks through all of them.
+fn push_rounds_in_any_order(out: &mut Vec<u8>, report: &Report) -> Result<(), NoMemory>
+    ensures { OnOk result (out.new.items ≡ out.old.items ++ (stop_at report.now.stops report.now.cycles 0 ++ rounds_text report.now.stops report.now.cycles 1 report.now.rounds)) }
+{
+    let cycles = report.cycles.items();
+    push_stop_at(out, report.stops.items(), 0, cycles)?;
+    for (place, rows) in report.rounds.items().iter().enumerate() {
+        push_round(out, place as u64 + 1, rows)?;
+        push_stop_at(out, report.stops.items(), place + 1, cycles)?;
+    }
+    Ok(())
+}
+
+// The same where the cycles stand in the order of the stops at which they ended.
+fn push_rounds_in_order(out: &mut Vec<u8>, report: &Report) -> Result<(), NoMemory>
     requires { AreEndedFrom 0 report.now.cycles }
     ensures { OnOk result (out.new.items ≡ out.old.items ++ (stop_at report.now.stops report.now.cycles 0 ++ rounds_text report.now.stops report.now.cycles 1 report.now.rounds)) }
 {
     let cycles = report.cycles.items();
-    let mut done = push_stop_at(out, report.stops.items(), 0, cycles)?;
+    let mut done = push_next_stop(out, report.stops.items(), 0, cycles)?;
     for (place, rows) in report.rounds.items().iter().enumerate() {
         push_round(out, place as u64 + 1, rows)?;
-        done += push_stop_at(out, report.stops.items(), place + 1, &cycles[done..])?;
+        done += push_next_stop(out, report.stops.items(), place + 1, &cycles[done..])?;
     }
     Ok(())
 }

@@ -1,0 +1,9 @@
+use Rattle.std.proofs.Common.{◌≡◌, ◌++◌, drop}
+use Rattle.std.specs.List.{flat_map}
+use Rattle.nmgc_journal.specs.Stops.{ended_at}
+use Rattle.nmgc_journal.specs.Text.{cycle_text}
+use Rattle.nmgc_journal.proofs.stops.push_ended_at.Given as goal
+
+-- the lines so far and those of the rest are all
+abbrev pub invariant-loop-cycle : goal.invariant-loop-cycle
+invariant-loop-cycle l = l.out.items ++ flat_map cycle_text (ended_at l.number (drop l.cycle-index l.cycles)) ≡ l.fn.out.items ++ flat_map cycle_text (ended_at l.number l.cycles)
