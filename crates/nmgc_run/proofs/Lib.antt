@@ -1,0 +1,10 @@
+mod Array
+mod ArrayHeap
+mod Asking
+mod FullCycle
+mod Life
+mod Listed
+mod Nothing
+mod Object
+mod Reading
+mod Words

@@ -1,0 +1,171 @@
+-- A collector's whole life, on a small script: what contracts see of it at each point.
+--
+-- The script makes an array and asks for a cycle. The array fills its segment, so the cycle has something
+-- to sweep: it begins at the first stop, marks beside the second round, is closed at the second stop,
+-- sweeps beside the third round and ends at the third stop.
+use Rattle.std.specs.Prelude.{ℕ, List, [], ◌∷◌, ◌++◌, replicate, true, false, Some, None}
+use Rattle.nmgc_graph.specs.declared.value.Value.TheVariants.{Ref}
+use Rattle.nmgc_graph.specs.declared.command.Command.TheVariants.{Arr, Collect}
+use Rattle.nmgc_graph.specs.declared.command.Operand.TheVariants.{Register}
+use Rattle.nmgc_graph.specs.declared.command.Reply.{Reply}
+use Rattle.nmgc_graph.specs.declared.command.Reply.TheVariants.{Fine, Given}
+use Rattle.nmgc_object.specs.declared.layout.Layout.{Layout}
+use Rattle.nmgc_segment.specs.Segment.{Segment, free_segment}
+use Rattle.nmgc_segment.specs.declared.state.State.TheVariants as stands
+use Rattle.nmgc_alloc.specs.Segments.{Segments, all_free}
+use Rattle.nmgc_journal.specs.declared.report.RoundRows.{RoundRows}
+use Rattle.nmgc_journal.specs.declared.report.StopRow.{StopRow}
+use Rattle.nmgc_journal.specs.declared.report.CycleRow.{CycleRow}
+use Rattle.nmgc_journal.specs.declared.report.Phase.{Phase}
+use Rattle.nmgc_journal.specs.declared.report.Phase.TheVariants.{Idle, Marking, Sweeping}
+use Rattle.nmgc_journal.specs.declared.report.End.TheVariants.{Done}
+use Rattle.nmgc_script.specs.declared.script.Script.{Script}
+use Rattle.nmgc_run.specs.State.{Plan, plan_of, layout_of}
+use Rattle.nmgc_run.specs.Samples.{object_name}
+use Rattle.nmgc_run.specs.Seen.{Seen, MutatorSeen}
+use Rattle.nmgc_run.specs.Collector.{IsNew, HasWorked, HasStopped}
+
+-- 8 segments of 16 words, and a nursery as large as a segment; an array of seven fields fills a segment's only block
+abbrev pub array_script : Script
+array_script = record {
+  version = 1;
+  config = record { segments = 8; words = 16; nursery = 16; slice = 100; quota = 1000; trigger = 0 };
+  threads = (Arr 0 7 (Register 1) ∷ Collect ∷ []) ∷ [];
+}
+
+abbrev pub array_plan : Plan
+array_plan = plan_of array_script
+
+abbrev pub array_layout : Layout
+array_layout = layout_of array_plan
+
+abbrev pub array_replies : List Reply
+array_replies = Given (Ref object_name) ∷ Fine ∷ []
+
+-- the words of word 0 and of g, whose slots are nil
+abbrev pub shared_words : List ℕ
+shared_words = 0 ∷ 32771 ∷ 8 ∷ replicate 16 1
+
+-- the words of the array: its header, its name, and seven nils
+abbrev pub array_words : List ℕ
+array_words = 14339 ∷ 0 ∷ replicate 7 1
+
+-- the words of the heap at the beginning, with the array in the nursery, and with the array in its block
+abbrev pub new_words : List ℕ
+new_words = shared_words ++ replicate 157 0
+
+abbrev pub young_words : List ℕ
+young_words = shared_words ++ (replicate 141 0 ++ (array_words ++ replicate 7 0))
+
+abbrev pub old_words : List ℕ
+old_words = shared_words ++ (replicate 13 0 ++ (array_words ++ replicate 135 0))
+
+-- the segment of the array as it waits to be swept, and once it was
+abbrev pub waiting_segment : Segment
+waiting_segment = record { class = 2; state = stands.Sweeping; marks = 1 ∷ replicate 3 0; next_free = 1; snap = 1 }
+
+abbrev pub swept_segment : Segment
+swept_segment = record { class = 2; state = stands.Filled; marks = 1 ∷ replicate 3 0; next_free = 1; snap = 0 }
+
+-- all segments with this first one
+abbrev pub segments_of : Segment → Segments
+segments_of first = record { layout = array_layout; segments = first ∷ replicate 7 (free_segment 16); fresh = 0 }
+
+-- a mutator with this word in its first register and nil in the others, a next serial, and the end of what is used in its nursery
+abbrev pub hand : ℕ → ℕ → ℕ → MutatorSeen
+hand word serial top = record { registers = word ∷ replicate 15 1; queue = record { words = []; spare = 0 }; serial = serial; nursery = record { base = 160; top = top; end = 176 }; recorded = []; young_weaks = []; entries = [] }
+
+abbrev pub array_stop : ℕ → Phase → ℕ → ℕ → ℕ → ℕ → StopRow
+array_stop number phase free filled sweep promoted = record { number = number; phase = phase; free = free; filled = filled; sweep = sweep; promoted = promoted }
+
+-- the replies of the one mutator
+abbrev pub replied : List Reply → RoundRows
+replied replies = record { replies = replies ∷ [] }
+
+-- a new collector
+abbrev pub new_seen : Seen
+new_seen = record {
+  rounds = [];
+  stops = [];
+  cycles = [];
+  words = new_words;
+  segments = all_free array_layout;
+  mutators = hand 1 0 160 ∷ [];
+  weaks = [];
+  phase = Idle;
+  begun = 0;
+  collect = false;
+  full = false;
+  answered = None;
+  work = record { scanned = 0; empty = false };
+  marker = record { epoch = 1; queue = []; spare = 0; marked = 0 };
+  sweeper = record { epoch = 1; swept = []; had = []; freed = [] };
+  cycle = record { from = 0; closed = 0; dead = []; kept = 0 };
+}
+
+-- after its opening stop
+abbrev pub opened_seen : Seen
+opened_seen = record new_seen { stops = array_stop 0 Idle 8 0 0 0 ∷ [] }
+
+-- after the first round: the array was born
+abbrev pub born_seen : Seen
+born_seen = record opened_seen { rounds = replied array_replies ∷ []; words = young_words; mutators = hand 320 1 169 ∷ []; collect = true }
+
+-- after the first stop: the array was promoted, and a cycle began, which has marked the array and is to scan it
+abbrev pub marking_seen : Seen
+marking_seen = record born_seen {
+  stops = array_stop 0 Idle 8 0 0 0 ∷ array_stop 1 Marking 7 0 1 1 ∷ [];
+  words = old_words;
+  segments = segments_of waiting_segment;
+  mutators = hand 64 1 160 ∷ [];
+  phase = Marking;
+  begun = 1;
+  collect = false;
+  marker = record { epoch = 1; queue = 32 ∷ []; spare = 0; marked = 1 };
+  sweeper = record { epoch = 1; swept = 0 ∷ []; had = object_name ∷ []; freed = [] };
+  cycle = record { from = 1; closed = 0; dead = []; kept = 0 };
+}
+
+-- after the second round: the array was scanned
+abbrev pub scanned_seen : Seen
+scanned_seen = record marking_seen {
+  rounds = replied array_replies ∷ replied [] ∷ [];
+  work = record { scanned = 1; empty = true };
+  marker = record { epoch = 1; queue = []; spare = 0; marked = 1 };
+}
+
+-- after the second stop: the cycle was closed, and keeps the array
+abbrev pub closed_seen : Seen
+closed_seen = record scanned_seen {
+  stops = array_stop 0 Idle 8 0 0 0 ∷ array_stop 1 Marking 7 0 1 1 ∷ array_stop 2 Sweeping 7 0 1 0 ∷ [];
+  phase = Sweeping;
+  cycle = record { from = 1; closed = 2; dead = []; kept = 1 };
+}
+
+-- after the third round: the segment was swept
+abbrev pub swept_seen : Seen
+swept_seen = record closed_seen { rounds = replied array_replies ∷ replied [] ∷ replied [] ∷ []; segments = segments_of swept_segment }
+
+-- the cycle's row
+abbrev pub array_row : CycleRow
+array_row = record { number = 1; from = 1; closed = 2; ended = 3; swept = 0 ∷ []; had = object_name ∷ []; freed = []; dead = []; kept = 1 }
+
+-- after the third stop: the cycle has ended, and the run is done
+abbrev pub ended_seen : Seen
+ended_seen = record swept_seen {
+  stops = array_stop 0 Idle 8 0 0 0 ∷ array_stop 1 Marking 7 0 1 1 ∷ array_stop 2 Sweeping 7 0 1 0 ∷ array_stop 3 Idle 7 1 0 0 ∷ [];
+  cycles = array_row ∷ [];
+  phase = Idle;
+  answered = Some Done;
+}
+
+-- at each of its stops, and after each of its rounds, the collector has what it is to have
+pub record LifeIsSeen : Type 0 where
+  pub new : IsNew array_plan new_seen
+  pub opened : HasStopped array_script opened_seen
+  pub born : HasWorked array_script born_seen
+  pub marking : HasStopped array_script marking_seen
+  pub scanned : HasWorked array_script scanned_seen
+  pub closed : HasStopped array_script closed_seen
+  pub swept : HasWorked array_script swept_seen
+  pub ended : HasStopped array_script ended_seen

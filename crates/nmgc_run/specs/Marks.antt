@@ -1,0 +1,60 @@
+-- What holds of mark bytes between two cycles, and of the sweeper of a closed cycle.
+use Rattle.std.specs.Prelude.{ℕ, ◌≡◌, ◌≢◌, ◌⊎◌, ◌↔◌, ◌%◌, ◌==◌, ◌<◌, List, slice_get, Contains, Some, if◌then◌else◌}
+use Rattle.nmgc_graph.specs.declared.value.Name.{Name}
+use Rattle.nmgc_graph.specs.Reach.{Lists}
+use Rattle.nmgc_segment.specs.Segment.{mark_of, IsMarked}
+use Rattle.nmgc_segment.specs.declared.state.State.TheVariants as stands
+use Rattle.nmgc_alloc.specs.Search.{nth}
+use Rattle.nmgc_alloc.specs.Segments.{Segments, HasNumber}
+use Rattle.nmgc_alloc.specs.AllocState.{AllocState, LiesIn, IsIn, cells}
+use Rattle.nmgc_run.specs.Listing.{ListsNumbers, Counts}
+use Rattle.nmgc_run.specs.Census.{IsDeadIn, IsKeptIn, IsKeptObject, IsSweptIn, IsHadIn}
+use Rattle.nmgc_run.specs.State.{Cycle}
+use Rattle.nmgc_run.specs.Seen.{SweeperSeen, CycleSeen}
+
+-- the epoch of a cycle by its number: 1 and 2 in turn
+abbrev pub epoch_of : ℕ → ℕ
+epoch_of number = if (number % 2) == 0 then 2 else 1
+
+-- the byte is 0, or the epoch of the last cycle begun; before the first cycle it is 0
+abbrev pub IsSettledByte : ℕ → ℕ → Type 0
+IsSettledByte begun byte = (byte ≡ 0) ⊎ ((0 < begun) × (byte ≡ epoch_of begun))
+
+-- while no cycle is marking, marks are settled in each segment that doesn't wait to be swept; so no byte is the epoch of the next cycle
+abbrev pub AreSettled : ℕ → Segments → Type 0
+AreSettled begun segments = (number block : ℕ) → HasNumber segments number → (nth segments.segments number).state ≢ stands.Sweeping → IsSettledByte begun (mark_of (nth segments.segments number) block)
+
+-- no item stands at two places
+abbrev pub IsWithoutDoubles : {A : Type 0} → List A → Type 0
+IsWithoutDoubles {A} items = (i j : ℕ) (item : A) → slice_get items i ≡ Some item → slice_get items j ≡ Some item → i ≡ j
+
+-- what the sweeper noted as the cycle began: the segments to sweep, and the names in them, in any order
+pub record HasNoted (c : Cycle) (sweeper : SweeperSeen) : Type 0 where
+  pub epoch : sweeper.epoch ≡ epoch_of c.number
+  pub swept : ListsNumbers (IsSweptIn c) sweeper.swept
+  pub had : (name : Name) → Contains sweeper.had name ↔ IsHadIn c name
+  pub once : IsWithoutDoubles sweeper.had
+
+-- a waiting segment is one that the cycle had, and as it was then
+abbrev pub AreAsNoted : Cycle → AllocState → Type 0
+AreAsNoted c allocation = (number : ℕ) → IsIn stands.Sweeping (cells allocation number) → IsSweptIn c number × ((cells allocation number).names ≡ (cells c.heap number).names)
+
+-- in a waiting segment, marked are exactly the blocks whose name is kept
+abbrev pub AreKeptMarked : Cycle → AllocState → Segments → ℕ → Type 0
+AreKeptMarked c allocation segments epoch = (number block : ℕ) (name : Name) → IsIn stands.Sweeping (cells allocation number) → LiesIn allocation number block name → IsMarked (nth segments.segments number) epoch block ↔ IsKeptIn c name
+
+-- a name that was freed so far: it lay in a segment that was swept since, and isn't kept
+abbrev pub IsFreedSoFar : Cycle → AllocState → Name → Type 0
+IsFreedSoFar c allocation name = (number block : ℕ) × IsSweptIn c number × (IsIn stands.Sweeping (cells allocation number) → ⊥) × LiesIn c.heap number block name × (IsKeptIn c name → ⊥)
+
+-- a cycle that was closed: what contracts see of it is its census, and the sweeper has freed what it is to
+pub record IsSweeping (c : Cycle) (closed : ℕ) (allocation : AllocState) (segments : Segments) (cycle : CycleSeen) (sweeper : SweeperSeen) : Type 0 where
+  pub from_is : cycle.from ≡ c.from
+  pub closed_is : cycle.closed ≡ closed
+  pub dead : Lists (IsDeadIn c) cycle.dead
+  pub kept : Counts (IsKeptObject c) cycle.kept
+  pub noted : HasNoted c sweeper
+  pub as_noted : AreAsNoted c allocation
+  pub marked : AreKeptMarked c allocation segments sweeper.epoch
+  pub freed : (name : Name) → Contains sweeper.freed name ↔ IsFreedSoFar c allocation name
+  pub freed_once : IsWithoutDoubles sweeper.freed

@@ -1,0 +1,65 @@
+-- Laws of runs, as statements. Each is proved where a function of `laws` has it.
+use Rattle.std.specs.Prelude.{ℕ, ◌≡◌, ◌↔◌, ◌+◌, List, [], ◌∷◌, ◌++◌, length, drop, slice_index_or, count_by, Some, ◌<◌, fold}
+use Rattle.nmgc_segment.specs.declared.state.State.TheVariants as stands
+use Rattle.nmgc_segment.specs.Segment.{Segment}
+use Rattle.nmgc_alloc.specs.Search.{is}
+use Rattle.nmgc_journal.specs.declared.report.RoundRows.{RoundRows}
+use Rattle.nmgc_script.specs.declared.script.Script.{Script}
+use Rattle.nmgc_journal.specs.declared.report.Report.{Report}
+use Rattle.nmgc_journal.specs.declared.report.StopRow.{StopRow}
+use Rattle.nmgc_journal.specs.declared.report.CycleRow.{CycleRow}
+use Rattle.nmgc_run.specs.Slice.{program_of}
+use Rattle.nmgc_run.specs.State.{Plan, reserve_of}
+use Rattle.nmgc_journal.specs.declared.report.End.{End}
+use Rattle.nmgc_journal.specs.declared.report.End.TheVariants.{HeapFull}
+use Rattle.nmgc_run.specs.Sound.{IsRunnable}
+use Rattle.nmgc_run.specs.Stop.{answer_of}
+use Rattle.nmgc_run.specs.Run.{Run, Turn, IsRun, IsTurn, Tells, last_state, with_turn}
+use Rattle.nmgc_run.specs.Lawful.{IsLawful, IsLawfulFor}
+
+-- how many commands of a mutator the rounds answered
+abbrev pub answered_count : List RoundRows → ℕ → ℕ
+answered_count [] m = 0
+answered_count (rows ∷ rounds) m = length (slice_index_or rows.replies m []) + answered_count rounds m
+
+-- what is left of a program are the commands that no round answered: the report determines them
+abbrev pub LeftIsTold : Type 0
+LeftIsTold = (plan : Plan) (run : Run) (rounds : List RoundRows) (stops : List StopRow) (cycles : List CycleRow) → IsRun plan run → Tells run rounds stops cycles → (m : ℕ) → program_of (last_state run).left m ≡ drop (answered_count rounds m) (program_of plan.threads m)
+
+-- the free segments that the last of the rows tells
+abbrev pub free_told : List StopRow → ℕ
+free_told [] = 0
+free_told (row ∷ []) = row.free
+free_told (row ∷ next ∷ rows) = free_told (next ∷ rows)
+
+-- the row of the last stop counts the free segments that the report's heap has
+abbrev pub FreeIsReal : Type 0
+FreeIsReal = (plan : Plan) (report : Report) → IsLawfulFor plan report → free_told report.stops ≡ count_by (λ (segment : Segment). is segment.state stands.Free) report.segments.segments
+
+-- a report is lawful for a script whatever its version: the plan is the same
+abbrev pub VersionIsNothing : Type 0
+VersionIsNothing = (script : Script) (version : ℕ) (report : Report) → IsLawful script report ↔ IsLawful (record script { version = version }) report
+
+-- once a run has ended, there is a row for each cycle that was begun
+abbrev pub EachCycleHasItsRow : Type 0
+EachCycleHasItsRow = (plan : Plan) (run : Run) (rounds : List RoundRows) (stops : List StopRow) (cycles : List CycleRow) (end : End) → IsRun plan run → Tells run rounds stops cycles → answer_of plan (last_state run) ≡ Some end → length cycles ≡ (last_state run).begun
+
+-- how many objects the last of the cycles kept, or 0 where there was none
+abbrev pub last_kept : List CycleRow → ℕ
+last_kept cycles = fold (λ (kept : ℕ) (c : CycleRow). c.kept) 0 cycles
+
+-- a run that ends as heap full is crowded: its last cycle kept more objects than there are segments above the reserve
+abbrev pub FullHeapIsCrowded : Type 0
+FullHeapIsCrowded = (plan : Plan) (run : Run) (rounds : List RoundRows) (stops : List StopRow) (cycles : List CycleRow) (free reserve : ℕ) → IsRunnable plan → IsRun plan run → Tells run rounds stops cycles → answer_of plan (last_state run) ≡ Some (HeapFull free reserve) → plan.config.segments < last_kept cycles + reserve_of plan
+
+-- a run with one turn more at its end is a run
+abbrev pub RunGoesOn : Type 0
+RunGoesOn = (plan : Plan) (run : Run) (turn : Turn) → IsRun plan run → IsTurn plan (last_state run) turn → IsRun plan (with_turn run turn)
+
+-- of it is told what was told before, and what the turn tells
+abbrev pub TellsOneMore : Type 0
+TellsOneMore = (run : Run) (turn : Turn) (rounds : List RoundRows) (stops : List StopRow) (cycles : List CycleRow) → Tells run rounds stops cycles → Tells (with_turn run turn) (rounds ++ turn.replies ∷ []) (stops ++ turn.stop.row ∷ []) (cycles ++ turn.stop.cycles)
+
+-- and its last state is that of the turn
+abbrev pub LastIsOfTurn : Type 0
+LastIsOfTurn = (run : Run) (turn : Turn) → last_state (with_turn run turn) ≡ turn.stop.state
