@@ -1,0 +1,204 @@
+-- Recorded places are of fields that are there, of objects below the nurseries that the round reached.
+use Rattle.std.proofs.Common.{◌≡◌, ◌+◌, ◌*◌, ◌/◌, ◌%◌, ◌<◌, ◌&&◌, ℕ, Bool, true, false, cond, eqb, leb, List, [], ◌∷◌, length, set, refl, sym, subst, ◌∙◌, arith, Option, Some, None, inl, inr, eqb-true, leb-true}
+use Rattle.std.specs.Prelude.{IsSome, Contains}
+use Rattle.std.proofs.lemmas.List.{get_or_past}
+use Rattle.std.proofs.lemmas.List.Elements.{Contains-append_left, Contains-append_cases, Contains-get_or}
+use Rattle.std.proofs.lemmas.Bool.{and_parts, cases_lt, le-ltb}
+use Rattle.std.proofs.lemmas.Bool.Decides.{eqb_tells}
+use Rattle.nmgc_graph.specs.declared.value.Name.{Name}
+use Rattle.nmgc_graph.specs.declared.value.Value.{Value}
+use Rattle.nmgc_graph.specs.declared.value.Value.TheVariants as value
+use Rattle.nmgc_graph.specs.declared.node.Node.{Node}
+use Rattle.nmgc_graph.specs.declared.node.Node.TheVariants.{Con, Var, Arr, Thunk, Weak, Stack}
+use Rattle.nmgc_graph.specs.declared.node.Kind.{Kind}
+use Rattle.nmgc_graph.specs.declared.change.Change.TheVariants as change
+use Rattle.nmgc_graph.specs.declared.command.Operand.{Operand}
+use Rattle.nmgc_graph.specs.declared.command.Operand.TheVariants.{Register, Shared}
+use Rattle.nmgc_graph.specs.declared.command.Command.{Command}
+use Rattle.nmgc_graph.specs.declared.command.Command.TheVariants.{Set}
+use Rattle.nmgc_graph.specs.declared.command.Reply.{Reply}
+use Rattle.nmgc_graph.specs.declared.command.Reply.TheVariants.{Fine, NoField}
+use Rattle.nmgc_graph.specs.World.{World, IsWorld, state_of, node_of}
+use Rattle.nmgc_graph.specs.Change.{field_set}
+use Rattle.nmgc_graph.specs.Step.{CanApply, shared_name, value_for, next_name, change_node, change_object, step}
+use Rattle.nmgc_graph.specs.History.{Row, replayed, IsLegal}
+use Rattle.nmgc_graph.specs.Reach.{start}
+use Rattle.nmgc_graph.specs.laws.Growth.{step_grows}
+use Rattle.nmgc_graph.specs.laws.Worlds.{not_shared}
+use Rattle.nmgc_object.specs.declared.size.TheConstants.{HEADER_WORDS}
+use Rattle.nmgc_object.specs.declared.layout.TheConstants.{SHARED_PLACE, FIRST_PLACE}
+use Rattle.nmgc_object.specs.declared.layout.Layout.{Layout}
+use Rattle.nmgc_object.specs.Places.{nursery_place}
+use Rattle.nmgc_reach.specs.Wide.{IsWide}
+use Rattle.nmgc_reach.specs.Shape.{kind_of, part_count, SameShape}
+use Rattle.nmgc_reach.specs.Reachable.{CanReplay}
+use Rattle.nmgc_reach.specs.laws.ItemLaws.{nothing_in, one_is}
+use Rattle.nmgc_reach.specs.laws.NodeLaws.{next_is_new}
+use Rattle.nmgc_reach.specs.laws.HeldSteps.{absent}
+use Rattle.nmgc_reach.specs.laws.Reached.{step_adds_one}
+use Rattle.nmgc_reach.specs.laws.Shapes.{rows_keep_shapes}
+use Rattle.nmgc_reach.specs.laws.WorldSteps.{step_keeps_world}
+use Rattle.nmgc_heap.specs.Places.{Place, Means}
+use Rattle.nmgc_heap.specs.laws.Roots.{root_wide}
+use Rattle.nmgc_round.specs.Ready.{IsWritable}
+use Rattle.nmgc_round.specs.View.{Answer, plain, word, Hand, word_of, leaves}
+use Rattle.nmgc_round.specs.View.{Row as OwnRow}
+use Rattle.nmgc_round.specs.Rule.{Answers}
+use Rattle.nmgc_mutator.specs.Records.{is_old, is_young, recorded_by, all_recorded}
+use Rattle.nmgc_turn.proofs.RowRegisters.{operand_means}
+use Rattle.nmgc_turn.proofs.Along.{IsOwn, Along}
+
+-- a field that `set` writes
+pub record IsField (node : Node) (index : ℕ) : Type 0 where
+  pub kind : IsWritable (kind_of node)
+  pub within : index < part_count node
+
+field_later : (before after : Node) (index : ℕ) → SameShape before after → IsField before index → IsField after index
+field_later before after index same f = record { kind = subst (λ (k : Kind). IsWritable k) (sym same.kind) f.kind; within = (let a = f.within in let b = same.parts in omega arith) }
+
+fine_in : (found : Node) (index : ℕ) (v : Value) → (field_set found index v).1 ≡ Fine → IsField found index
+fine_in (Con tag values) index v e = absurd cc
+fine_in (Var old) index v e = elim (eqb_tells index 0) [
+  | inl t ↦ record { kind = tt; within = (let z = t.1 in omega arith) }
+  | inr t ↦ let bad : NoField ≡ Fine = subst (λ (b : Bool). (cond {A = Node × Reply} b (Var v, Fine) (Var old, NoField)).1 ≡ Fine) t.0 e in absurd cc
+]
+fine_in (Arr values) index v e = elim (cases_lt index (length values)) [
+  | inl lt ↦ record { kind = tt; within = lt }
+  | inr le ↦ let bad : NoField ≡ Fine = subst (λ (b : Bool). (cond {A = Node × Reply} b (Arr (set values index v), Fine) (Arr values, NoField)).1 ≡ Fine) (le-ltb index (length values) le) e in absurd cc
+]
+fine_in (Thunk free result) index v e = absurd cc
+fine_in (Weak parts) index v e = absurd cc
+fine_in (Stack size values) index v e = absurd cc
+
+fine_at : (w : World) (name : Name) (index : ℕ) (v : Value) (o : Option Node) → node_of w name ≡ o → (change_node w name o (change.Set index v)).1 ≡ Fine → (found : Node) × (node_of w name ≡ Some found) × IsField found index
+fine_at w name index v None there e = absurd cc
+fine_at w name index v (Some found) there e = (found, there, fine_in found index v e)
+
+-- a `set` that was done wrote a field that is there
+set_field : (w : World) (m : ℕ) (object v : Operand) (index : ℕ) (name : Name) → value_for w m object ≡ value.Ref name → (step w m (Set object index v)).1 ≡ Fine → (found : Node) × (node_of w name ≡ Some found) × IsField found index
+set_field w m object v index name is e = fine_at w name index (value_for w m v) (node_of w name) refl (subst (λ x. (change_object w x (change.Set index (value_for w m v))).1 ≡ Fine) is e)
+
+-- what an operand refers to is in the wide reach
+operand_wide : (w : World) (m : ℕ) (o : Operand) (name : Name) → value_for w m o ≡ value.Ref name → IsWide w name
+operand_wide w m (Register r) name e = elim (cases_lt r (length (state_of w m).registers)) [
+  | inl lt ↦ root_wide w m name (Contains-append_left (state_of w m).registers (state_of w m).queue (value.Ref name) (subst (λ (v : Value). Contains (state_of w m).registers v) e (Contains-get_or (state_of w m).registers r value.Nil lt)))
+  | inr le ↦ let none : value.Nil ≡ value.Ref name = sym (get_or_past (state_of w m).registers r value.Nil le) ∙ e in absurd cc
+]
+operand_wide w m Shared name e = let same : name ≡ shared_name = cc in start name (inl (inl same))
+
+-- a word that refers to an object in a segment
+record IsPointer (P : Place → Type 0) (layout : Layout) (w : ℕ) (v : Value) : Type 0 where
+  place : Place
+  refers : v ≡ value.Ref place.name
+  word_is : w ≡ 2 * place.at
+  there : P place
+  low : place.at < nursery_place layout 0
+
+pointer_old : (P : Place → Type 0) (layout : Layout) (w : ℕ) (v : Value) → is_old layout w ≡ true → Means P w v → IsPointer P layout w v
+pointer_old P layout w v old m =
+    let a = and_parts (eqb (w % 2) 0) (leb FIRST_PLACE (w / 2) && leb (w / 2 + 1) (nursery_place layout 0)) old in
+    let b = and_parts (leb FIRST_PLACE (w / 2)) (leb (w / 2 + 1) (nursery_place layout 0)) a.1 in
+    by_value v (eqb-true (w % 2) 0 a.0) (let l = leb-true (w / 2 + 1) (nursery_place layout 0) b.1 in omega arith) m
+  where
+    by_value : (v : Value) → w % 2 ≡ 0 → w / 2 < nursery_place layout 0 → Means P w v → IsPointer P layout w v
+    by_value value.Nil even low m = absurd (omega arith)
+    by_value (value.Number n) even low m = absurd (omega arith)
+    by_value (value.Ref name) even low m = record { place = record { at = m.0; name = name }; refers = refl; word_is = m.1; there = m.2; low = (let e = m.1 in omega arith) }
+
+-- a command records a place
+record IsRecording (layout : Layout) (registers : List ℕ) (c : Command) (a : Answer) (at : ℕ) : Type 0 where
+  object : Operand
+  v : Operand
+  index : ℕ
+  is : c ≡ Set object index v
+  fine : a ≡ plain Fine
+  old : is_old layout (word_of registers object) ≡ true
+  at_is : word_of registers object / 2 + HEADER_WORDS + index ≡ at
+
+one_if : (b : Bool) (x at : ℕ) → Contains (cond b (x ∷ []) []) at → (b ≡ true) × (x ≡ at)
+one_if true x at h = (refl, one_is x at h)
+one_if false x at h = absurd (nothing_in at h)
+
+recording : (layout : Layout) (registers : List ℕ) (c : Command) (a : Answer) (at : ℕ) → Contains (recorded_by layout registers c a) at → IsRecording layout registers c a at
+recording layout registers (Set object index v) (plain Fine) at h =
+    let old : Bool = is_old layout (word_of registers object) in
+    let young : Bool = is_young layout (word_of registers v) in
+    let t = one_if (old && young) (word_of registers object / 2 + HEADER_WORDS + index) at h in
+    record { object = object; v = v; index = index; is = refl; fine = refl; old = (and_parts old young t.0).0; at_is = t.1 }
+recording layout registers (Set object index v) (plain _) at h = absurd (nothing_in at h)
+recording layout registers (Set object index v) (word w) at h = absurd (nothing_in at h)
+recording layout registers _ a at h = absurd (nothing_in at h)
+
+-- a later world: it has the names of the beginning, and reaches none of them that wasn't reached
+pub record IsSince (began w : World) : Type 0 where
+  pub names : (name : Name) → IsSome (node_of began name) → IsSome (node_of w name)
+  pub wide : (name : Name) → IsSome (node_of began name) → IsWide w name → IsWide began name
+
+pub since_itself : (w : World) → IsSince w w
+since_itself w = record { names = λ name there. there; wide = λ name there h. h }
+
+pub since_step : (began w : World) (m : ℕ) (c : Command) → IsWorld w → CanApply w m c → IsSince began w → IsSince began (step w m c).0
+since_step began w m c is can h = record {
+  names = λ name there. (step_grows w m c can.mutator).names name (h.names name there);
+  wide = λ name there k. elim (step_adds_one w m c is can name k) [
+    | inl was ↦ h.wide name there was
+    | inr new ↦
+        let next : Name = next_name (state_of w m) m in
+        absurd (absent (node_of w next) (next_is_new w m (not_shared w m is can.mutator)) (subst (λ (n : Name). IsSome (node_of w n)) new (h.names name there)))
+  ];
+}
+
+module _ (P : Place → Type 0) (layout : Layout) (began : World) where
+  -- a place of a field that is there, of an object below the nurseries that was reached as the round began if it was there
+  pub record IsFieldOf (v : World) (at : ℕ) : Type 0 where
+    pub place : Place
+    pub index : ℕ
+    pub there : P place
+    pub at_is : at ≡ place.at + HEADER_WORDS + index
+    pub low : place.at < nursery_place layout 0
+    pub wide : IsSome (node_of began place.name) → IsWide began place.name
+    pub node : Node
+    pub node_is : node_of v place.name ≡ Some node
+    pub field : IsField node index
+
+  module _ (m : ℕ) (shared : P (record { at = SHARED_PLACE; name = shared_name })) where
+    fine_own : (w : World) (row : Row) (h : Hand) (r : OwnRow) (d : Command) → (step w row.mutator row.command).1 ≡ row.reply → IsOwn P m w h r row → r.command ≡ d → r.answer ≡ plain Fine → (step w m d).1 ≡ Fine
+    fine_own w row h r d gives own is fine =
+        let reply : Fine ≡ row.reply = subst (λ (a : Answer). Answers P a row.reply) fine own.answers in
+        subst (λ c. (step w m c).1 ≡ Fine) (sym own.command ∙ is) (subst (λ j. (step w j row.command).1 ≡ Fine) own.number (gives ∙ sym reply))
+
+    recorded_here : (w : World) (row : Row) (rows : List Row) (h : Hand) (r : OwnRow) → IsSince began w → IsWorld w → CanReplay w (row ∷ rows) → (step w row.mutator row.command).1 ≡ row.reply → IsOwn P m w h r row → (at : ℕ) → Contains (recorded_by layout h.registers r.command r.answer) at → IsFieldOf (replayed w (row ∷ rows)) at
+    recorded_here w row rows h r since is can gives own at c =
+        let k : IsRecording layout h.registers r.command r.answer at = recording layout h.registers r.command r.answer at c in
+        let p : IsPointer P layout (word_of h.registers k.object) (value_for w m k.object) = pointer_old P layout (word_of h.registers k.object) (value_for w m k.object) k.old (operand_means P shared h.registers (state_of w m).registers k.object own.registers) in
+        let f = set_field w m k.object k.v k.index p.place.name p.refers (fine_own w row h r (Set k.object k.index k.v) gives own k.is k.fine) in
+        let later = rows_keep_shapes w (row ∷ rows) is can p.place.name f.0 f.1 in
+        record {
+          place = p.place;
+          index = k.index;
+          there = p.there;
+          at_is = (let a = k.at_is in let b = p.word_is in omega arith);
+          low = p.low;
+          wide = λ known. since.wide p.place.name known (operand_wide w m k.object p.place.name p.refers);
+          node = later.0;
+          node_is = later.1;
+          field = field_later f.0 later.0 k.index later.2 f.2;
+        }
+
+    -- so is every place that rows of the round recorded
+    pub recorded_is : (w : World) (rows : List Row) (h : Hand) (own : List OwnRow) → IsSince began w → IsWorld w → CanReplay w rows → IsLegal w rows → Along P m w h own rows → (at : ℕ) → Contains (all_recorded layout h own) at → IsFieldOf (replayed w rows) at
+    recorded_is w [] h own since is can legal along at c = absurd (nothing_in at (subst (λ (l : List OwnRow). Contains (all_recorded layout h l) at) along c))
+    recorded_is w (row ∷ rows) h own since is can legal along at c =
+        let v : World = (step w row.mutator row.command).0 in
+        let next : IsWorld v = step_keeps_world w row.mutator row.command is can.0 in
+        let later : IsSince began v = since_step began w row.mutator row.command is can.0 since in
+        elim along [
+          | inl other ↦ recorded_is v rows h own later next can.1 legal.1 other.1 at c
+          | inr mine ↦
+              let r : OwnRow = mine.0 in
+              let here : List ℕ = recorded_by layout h.registers r.command r.answer in
+              elim (Contains-append_cases here (all_recorded layout (leaves h r.command r.answer) mine.1) at (subst (λ (l : List OwnRow). Contains (all_recorded layout h l) at) mine.2 c)) [
+                | inl a ↦ recorded_here w row rows h r since is can legal.0 mine.3 at a
+                | inr a ↦ recorded_is v rows (leaves h r.command r.answer) mine.1 later next can.1 legal.1 mine.4 at a
+              ]
+        ]

@@ -1,0 +1,5 @@
+use Rattle.nmgc_turn.proofs.Rests.{rests}
+use Rattle.nmgc_turn.proofs.laws.a_promotion_rests.Goals as goal
+
+pub returns : goal.returns
+returns c = rests

@@ -1,0 +1,5 @@
+use Rattle.nmgc_turn.proofs.Gathered.{slices_gathered}
+use Rattle.nmgc_turn.proofs.laws.slices_are_gathered.Goals as goal
+
+pub returns : goal.returns
+returns c = slices_gathered
