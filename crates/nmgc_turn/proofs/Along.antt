@@ -24,7 +24,7 @@ use Rattle.nmgc_round.specs.Rule.{Answers, AllAnswer}
 use Rattle.nmgc_mutator.specs.Ready.{IsBuilt}
 use Rattle.nmgc_turn.specs.Worked.{Done}
 use Rattle.nmgc_turn.proofs.RowRegisters.{IsPlain, registers_left}
-use Rattle.nmgc_turn.proofs.Replays.{world_scanned}
+use Rattle.nmgc_turn.specs.laws.Replays.{world_scanned}
 
 -- a row of a built command, whose plain answer gives no value
 pub record IsTold (r : OwnRow) : Type 0 where

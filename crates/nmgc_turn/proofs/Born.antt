@@ -34,9 +34,9 @@ use Rattle.nmgc_mutator.specs.declared.mutator.Mutator.{Mutator}
 use Rattle.nmgc_mutator.specs.Ready.{LieFrom, words_by}
 use Rattle.nmgc_turn.specs.Worked.{Done, HaveWorked, nurseries_of}
 use Rattle.nmgc_turn.proofs.Names.{made_count, all_made, makes_or_not, NamedFrom, gives}
-use Rattle.nmgc_turn.proofs.Openings.{opened_below}
-use Rattle.nmgc_turn.proofs.Placed.{place_cases, is_place}
-use Rattle.nmgc_turn.proofs.Workers.{Worker, worker_at}
+use Rattle.nmgc_turn.specs.laws.Openings.{opened_below}
+use Rattle.nmgc_turn.specs.laws.Placed.{place_cases, is_place}
+use Rattle.nmgc_turn.specs.laws.Workers.{Worker, worker_at}
 
 -- objects that commands made lie one after another from a place on, with names from a serial on
 abbrev pub MadeFrom : (Place → Type 0) → ℕ → ℕ → ℕ → List Done → Type 0

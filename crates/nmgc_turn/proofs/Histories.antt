@@ -19,8 +19,8 @@ use Rattle.nmgc_round.specs.Finishing.{IsFinished}
 use Rattle.nmgc_mutator.specs.declared.mutator.Mutator.{Mutator}
 use Rattle.nmgc_turn.specs.Worked.{Done, HaveWorked}
 use Rattle.nmgc_turn.specs.Turn.{RoundIsHistory}
-use Rattle.nmgc_turn.proofs.Replays.{EventsAreHistory, world_scanned}
-use Rattle.nmgc_turn.proofs.Workers.{worker_at}
+use Rattle.nmgc_turn.specs.laws.Replays.{EventsAreHistory, world_scanned}
+use Rattle.nmgc_turn.specs.laws.Workers.{worker_at}
 
 -- what `nmgc_round` says of one mutator's rows of the commands among events, and of its replies
 abbrev pub HistoriesHaveRows : Type 0

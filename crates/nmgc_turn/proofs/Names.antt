@@ -23,7 +23,7 @@ use Rattle.nmgc_core.specs.State.{State}
 use Rattle.nmgc_core.specs.Machine.{after_command, after_scan}
 use Rattle.nmgc_round.specs.Events.{Happening, did, scanned, replay, IsLegal, done_by}
 use Rattle.nmgc_turn.specs.Worked.{Done}
-use Rattle.nmgc_turn.proofs.Replays.{world_scanned}
+use Rattle.nmgc_turn.specs.laws.Replays.{world_scanned}
 
 -- how many objects a command makes
 abbrev pub made_count : Command → ℕ

@@ -16,8 +16,8 @@ use Rattle.nmgc_round.specs.Starting.{HandStands, CanOpen}
 use Rattle.nmgc_mutator.specs.declared.mutator.Mutator.{Mutator}
 use Rattle.nmgc_turn.specs.Rest.{IsAtRest, hand_of, opening_at}
 use Rattle.nmgc_turn.specs.Turn.{RestOpens}
-use Rattle.nmgc_turn.proofs.Reading.{item}
-use Rattle.nmgc_turn.proofs.Registers.{HaveAll, own_mean}
+use Rattle.nmgc_turn.specs.laws.Reading.{item}
+use Rattle.nmgc_turn.specs.laws.Registers.{HaveAll, own_mean}
 
 -- nobody owes anything at first
 none_owed : (count m : ℕ) → names_of (replicate count []) m ≡ []

@@ -45,10 +45,10 @@ use Rattle.nmgc_mutator.specs.Ready.{IsBuilt}
 use Rattle.nmgc_mutator.specs.Records.{numbers, all_recorded}
 use Rattle.nmgc_turn.specs.Worked.{Done, HaveWorked, recorded_of}
 use Rattle.nmgc_turn.specs.Turn.{RoundIsRemembered}
-use Rattle.nmgc_turn.proofs.Replays.{EventsAreHistory, can_replay}
-use Rattle.nmgc_turn.proofs.Placed.{place_cases, is_place}
-use Rattle.nmgc_turn.proofs.Workers.{Worker, worker_at}
-use Rattle.nmgc_turn.proofs.Openings.{opened_below}
+use Rattle.nmgc_turn.specs.laws.Replays.{EventsAreHistory, can_replay}
+use Rattle.nmgc_turn.specs.laws.Placed.{place_cases, is_place}
+use Rattle.nmgc_turn.specs.laws.Workers.{Worker, worker_at}
+use Rattle.nmgc_turn.specs.laws.Openings.{opened_below}
 use Rattle.nmgc_turn.proofs.Along.{Along, all_told, along, all_built}
 use Rattle.nmgc_turn.proofs.Recorded.{IsFieldOf, since_itself, recorded_is}
 use Rattle.nmgc_turn.proofs.Puts.{IsOldWeak, IsPut, rows_put, old_weaks}

@@ -17,11 +17,11 @@ use Rattle.nmgc_mutator.specs.declared.mutator.Mutator.{Mutator}
 use Rattle.nmgc_turn.specs.Worked.{Done, HaveWorked, registers_of, queues_of, serials_of}
 use Rattle.nmgc_turn.specs.Rest.{hand_of}
 use Rattle.nmgc_turn.specs.Turn.{RootsAreLeft}
-use Rattle.nmgc_turn.proofs.Replays.{same_count}
-use Rattle.nmgc_turn.proofs.Placed.{in_place}
-use Rattle.nmgc_turn.proofs.Reading.{item}
-use Rattle.nmgc_turn.proofs.Workers.{worker_at}
-use Rattle.nmgc_turn.proofs.Registers.{HaveAll, registers_count, all_mean}
+use Rattle.nmgc_turn.specs.laws.Replays.{same_count}
+use Rattle.nmgc_turn.specs.laws.Placed.{in_place}
+use Rattle.nmgc_turn.specs.laws.Reading.{item}
+use Rattle.nmgc_turn.specs.laws.Workers.{worker_at}
+use Rattle.nmgc_turn.specs.laws.Registers.{HaveAll, registers_count, all_mean}
 
 module _ (o : Opening) (words : List ℕ) (v : Seen) (mutators : List Mutator) (done : List (List Done)) (h : IsFinished o words v) (all : HaveWorked o v.parts mutators done) where
   abbrev W : World

@@ -39,9 +39,9 @@ use Rattle.nmgc_round.specs.Finishing.{IsFinished, places_then, IsKeptThen}
 use Rattle.nmgc_mutator.specs.declared.mutator.Mutator.{Mutator}
 use Rattle.nmgc_turn.specs.Worked.{nurseries_of, recorded_of}
 use Rattle.nmgc_turn.specs.Turn.{RootsAreLeft, BirthsAreInOrder, RoundIsRemembered, RoundIsStopped, stop_after}
-use Rattle.nmgc_turn.proofs.Replays.{EventsAreHistory, can_replay, still_world, still_earlier}
-use Rattle.nmgc_turn.proofs.Openings.{opened_below}
-use Rattle.nmgc_turn.proofs.Placed.{place_cases}
+use Rattle.nmgc_turn.specs.laws.Replays.{EventsAreHistory, can_replay, still_world, still_earlier}
+use Rattle.nmgc_turn.specs.laws.Openings.{opened_below}
+use Rattle.nmgc_turn.specs.laws.Placed.{place_cases}
 
 -- the earlier world while a cycle marks is the snapshot
 one_earlier : (marking : Bool) (snapshot e : World) → Contains (cond marking (snapshot ∷ []) []) e → snapshot ≡ e

@@ -1,3 +1,4 @@
 pub mod Rest
 pub mod Turn
 pub mod Worked
+pub mod laws

@@ -1,4 +1,4 @@
-use Rattle.nmgc_turn.proofs.Rests.{rests}
+use Rattle.nmgc_turn.specs.laws.Rests.{rests}
 use Rattle.nmgc_turn.proofs.laws.a_promotion_rests.Goals as goal
 
 pub returns : goal.returns

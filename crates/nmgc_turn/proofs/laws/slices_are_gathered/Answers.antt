@@ -1,4 +1,4 @@
-use Rattle.nmgc_turn.proofs.Gathered.{slices_gathered}
+use Rattle.nmgc_turn.specs.laws.Gathered.{slices_gathered}
 use Rattle.nmgc_turn.proofs.laws.slices_are_gathered.Goals as goal
 
 pub returns : goal.returns

@@ -12,7 +12,7 @@ use Rattle.nmgc_blocks.specs.Stopped.{Stopped, IsSettled, young_base}
 use Rattle.nmgc_turn.specs.Turn.{SettledIsAtRest}
 
 -- what moved lies in segments, and what didn't lay there
-settled_low : (t : Stopped) (s : Segments) (words registers : List ℕ) (queues : List (List ℕ)) (moves : List Moved) → IsSettled t s words registers queues moves → (p : Place) → Contains (settled (young_base s) moves t.places) p → p.at < young_base s
+pub settled_low : (t : Stopped) (s : Segments) (words registers : List ℕ) (queues : List (List ℕ)) (moves : List Moved) → IsSettled t s words registers queues moves → (p : Place) → Contains (settled (young_base s) moves t.places) p → p.at < young_base s
 settled_low t s words registers queues moves h p c = elim (settled_cases (young_base s) moves t.places p c) [
   | inl x ↦ subst (λ (q : Place). q.at < young_base s) (sym x.2) (h.low x.0 x.1)
   | inr x ↦ x.1

@@ -18,10 +18,10 @@ use Rattle.nmgc_mutator.specs.Does.{HasDone}
 use Rattle.nmgc_turn.specs.Worked.{Done, HasWorked, HaveWorked}
 use Rattle.nmgc_turn.specs.Rest.{IsResting}
 use Rattle.nmgc_turn.specs.Turn.{SlicesAreDone, SlicesAreGathered}
-use Rattle.nmgc_turn.proofs.Reading.{item, item_found}
+use Rattle.nmgc_turn.specs.laws.Reading.{item, item_found}
 
 -- the part of a mutator's seat
-abbrev own_part : RoundSeat → Part
+abbrev pub own_part : RoundSeat → Part
 own_part seat = part_of (seen seat)
 
 -- gathering keeps the opening and the collector
@@ -43,23 +43,24 @@ parts_together v (s ∷ ss) one =
 
 module _ (o : Opening) (before : List ℕ) (round : Round) (old mutators : List Mutator) (seats : List RoundSeat) (done : List (List Done)) (opens : CanOpen o before) (h : SlicesAreDone o round old mutators seats done) where
   -- what was done from the seat of this number
-  record IsSlice (k : ℕ) (seat : RoundSeat) : Type 0 where
-    m : Mutator
-    n : Mutator
-    d : List Done
-    new : slice_get mutators k ≡ Some n
-    own : slice_get done k ≡ Some d
-    resting : IsResting o.layout k m
-    did : HasDone round (alone o k) seat m n d
+  pub record IsSlice (k : ℕ) (seat : RoundSeat) : Type 0 where
+    pub m : Mutator
+    pub n : Mutator
+    pub d : List Done
+    pub was : slice_get old k ≡ Some m
+    pub new : slice_get mutators k ≡ Some n
+    pub own : slice_get done k ≡ Some d
+    pub resting : IsResting o.layout k m
+    pub did : HasDone round (alone o k) seat m n d
 
-  slice_at : (k : ℕ) (seat : RoundSeat) → slice_get seats k ≡ Some seat → IsSlice k seat
+  pub slice_at : (k : ℕ) (seat : RoundSeat) → slice_get seats k ≡ Some seat → IsSlice k seat
   slice_at k seat e =
       let lt = slice_get_within seats k seat e in
       let many = h.mutators_are in let as_many = h.seats_are in let lists = h.done_are in
       let m = item old k (omega arith) in
       let n = item mutators k (omega arith) in
       let d = item done k (omega arith) in
-      record { m = m.0; n = n.0; d = d.0; new = n.1; own = d.1; resting = h.resting k m.0 m.1; did = h.each k m.0 n.0 seat d.0 m.1 n.1 e d.1 }
+      record { m = m.0; n = n.0; d = d.0; was = m.1; new = n.1; own = d.1; resting = h.resting k m.0 m.1; did = h.each k m.0 n.0 seat d.0 m.1 n.1 e d.1 }
 
   -- its part says what its mutator did
   part_worked : (k : ℕ) (seat : RoundSeat) (s : IsSlice k seat) → HasWorked o (own_part seat) s.n s.d
@@ -80,10 +81,10 @@ module _ (o : Opening) (before : List ℕ) (round : Round) (old mutators : List 
       }
 
   -- what the seat knows that takes all of them in
-  abbrev gathered : Seen
+  abbrev pub gathered : Seen
   gathered = all_together (collecting (whole o)) (map seen seats)
 
-  parts_are : gathered.parts ≡ map own_part seats
+  pub parts_are : gathered.parts ≡ map own_part seats
   parts_are = parts_together (collecting (whole o)) seats (λ k seat e. (slice_at k seat e).did.went.is.alone)
 
   opening_is : gathered.opening ≡ o

@@ -6,7 +6,7 @@ use lib.ListN.{get_elem?}
 use Rattle.nmgc_round.specs.View.{Opening, Part}
 use Rattle.nmgc_mutator.specs.declared.mutator.Mutator.{Mutator}
 use Rattle.nmgc_turn.specs.Worked.{Done, HasWorked, HaveWorked}
-use Rattle.nmgc_turn.proofs.Reading.{item, item_found}
+use Rattle.nmgc_turn.specs.laws.Reading.{item, item_found}
 
 pub record Worker (o : Opening) (parts : List Part) (mutators : List Mutator) (done : List (List Done)) (k : ℕ) : Type 0 where
   pub part : Part
