@@ -464,7 +464,7 @@ scanned_is new = record {
   ordered = low_ordered;
   left = nothing_left 32 (born.world ∷ born.world ∷ []) (inr (lit< tt));
   reserve = inl (lit≤ tt);
-  cycle = (marking_last, record { scanned = refl; most = lit≤ tt; quota_or_done = inr refl; empty = (λ e. refl, λ e. refl) });
+  cycle = (marking_last, record { scanned = refl; most = lit≤ tt; some = λ later. lit≤ tt; quota_or_done = inr refl; empty = (λ e. refl, λ e. refl) });
 }
 
 -- sweeping

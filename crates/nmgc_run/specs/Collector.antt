@@ -78,10 +78,11 @@ pub record IsPacedAtStop (quota : ℕ) (c : Cycle) (s : State) (seen : Seen) : T
   pub scanned : HasScanned seen.marker ((s.number - c.from) * quota)
   pub not_done : c.from < s.number → seen.marker.queue ≢ []
 
--- the pace after a round: the rounds before scanned their quota, and this one did unless nothing was left
+-- the pace after a round: the rounds before scanned their quota, and this one did unless nothing was left; the first stop aside, something waited at the stop before, and so something was scanned
 pub record IsPacedAfterRound (quota : ℕ) (c : Cycle) (t : State) (seen : Seen) : Type 0 where
   pub scanned : HasScanned seen.marker ((t.number - c.from - 1) * quota + seen.work.scanned)
   pub most : seen.work.scanned ≤ quota
+  pub some : c.from + 1 < t.number → 1 ≤ seen.work.scanned
   pub quota_or_done : (seen.work.scanned ≡ quota) ⊎ (seen.work.empty ≡ true)
   pub empty : (seen.work.empty ≡ true) ↔ (seen.marker.queue ≡ [])
 
