@@ -1,8 +1,8 @@
 -- The census of a cycle: what it had to judge, and what it found, by its snapshot alone.
 --
--- The names opened since the snapshot count as reached, and so do the weak pointers finalised since
--- then as not to die. Everything else that happened after the snapshot is left out: a cycle frees what
--- could not be reached at its snapshot.
+-- The names opened since the snapshot count as reached, and the weak pointers finalised since then don't
+-- die. Everything else that happened after the snapshot is left out: a cycle frees what could not be reached
+-- at its snapshot.
 use Rattle.std.specs.Prelude.{ℕ, ◌≡◌, ◌≢◌}
 use Rattle.nmgc_graph.specs.declared.value.Name.{Name}
 use Rattle.nmgc_graph.specs.Step.{shared_name}

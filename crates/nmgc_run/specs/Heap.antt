@@ -60,7 +60,7 @@ serials_of mutators = map (λ (m : MutatorEnd). m.serial) mutators
 abbrev pub HasAllRegisters : MutatorEnd → Type 0
 HasAllRegisters m = length m.registers ≡ REGISTERS
 
--- words, roots and segments stand for a world and an allocation state, where of earlier worlds the collector still speaks
+-- words, roots and segments stand for a world and an allocation state, where the collector still speaks of these earlier worlds
 pub record Holds (layout : Layout) (earlier : List World) (places : List Place) (w : World) (allocation : AllocState) (words : List ℕ) (segments : Segments) (mutators : List MutatorEnd) : Type 0 where
   pub fit : FitBlocks w allocation
   pub represents : Represents layout earlier NoNode places w words

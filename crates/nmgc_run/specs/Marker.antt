@@ -32,7 +32,7 @@ pub record IsCoreOf (c : Cycle) (w : World) (core : Core) : Type 0 where
   pub world_is : core.world ≡ w
   pub nothing_owed : AreEmpty core.owed
 
--- the remembered entries of a mutator are what it pushed, with those left out that aren't in the snapshot
+-- the remembered entries, without those whose names the snapshot doesn't have, are what the machine says that the mutator pushed
 pub record AreRemembered (c : Cycle) (places : List Place) (entries : List ℕ) (pushed : List Name) : Type 0 where
   pub names : List Name
   pub at : AreAt places entries names

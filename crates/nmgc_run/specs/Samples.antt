@@ -1,4 +1,4 @@
--- Two small scripts, and what is told of a run of each.
+-- Four small scripts, and what is told of a run of each.
 use Rattle.std.specs.Prelude.{ℕ, ◌≡◌, List, [], ◌∷◌, ◌++◌, replicate, codes, false, Some}
 use Rattle.nmgc_graph.specs.declared.value.Name.{Name}
 use Rattle.nmgc_graph.specs.declared.value.Value.TheVariants.{Number, Ref}

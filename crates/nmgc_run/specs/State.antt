@@ -32,13 +32,13 @@ pub record Cycle : Type 0 where
   pub heap : AllocState
   pub rows : List Row
 
--- what the collector does: nothing, or it marks in a cycle, or it sweeps in a cycle that was closed at this stop
+-- what the collector does: nothing, or it marks in a cycle, or it sweeps in a cycle that was closed at the stop of this number
 pub data Progress : Type 0 where
   idle : Progress
   marking : (c : Cycle) → Progress
   sweeping : (c : Cycle) (closed : ℕ) → Progress
 
--- the number of the last stop, the world, where its objects lie, what the collector does, how many cycles were begun, whether a cycle or a full cycle is asked for, and what is left of the programs
+-- the number of the stop (after a round that of the stop to come), the world, where its objects lie, what the collector does, how many cycles were begun, whether a cycle or a full cycle is asked for, and what is left of the programs
 pub record State : Type 0 where
   pub number : ℕ
   pub world : World
