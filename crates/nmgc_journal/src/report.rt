@@ -9,8 +9,7 @@
 //! mutators have in hand, and the weak pointers. The text tells nothing of the heap. It is there so that a
 //! contract can say of a whole run that the words still stand for the world which the replies made.
 //!
-//! Today's run is that of the model: it makes no stop and no cycle, and its report has no row of them. It
-//! has no words either, so its heap is one that nobody used.
+//! No cycle begins in today's runs, so their reports have no row of one.
 use nmgc_alloc::Segments;
 use nmgc_graph::{List, Name, Reply};
 
