@@ -1,0 +1,240 @@
+-- What a collector has once the promotion of its stop is done.
+use Rattle.std.proofs.Common.{ℕ, ◌≡◌, ◌≢◌, ◌+◌, ◌*◌, ◌<◌, List, [], length, map, arith, refl, sym, ap, subst, ◌∙◌, inl, inr, slice_index_or, Some}
+use Rattle.std.specs.Prelude.{All, Contains, slice_get, slice_index}
+use Rattle.std.proofs.Math.ListN.{get_or-map}
+use Rattle.std.proofs.lemmas.List.{length-map}
+use Rattle.std.proofs.lemmas.Option.{slice_get-get_or}
+use Rattle.nmgc_graph.specs.declared.value.TheConstants.{REGISTERS}
+use Rattle.nmgc_graph.specs.World.{World}
+use Rattle.nmgc_reach.specs.laws.ItemLaws.{nothing_in}
+use Rattle.nmgc_object.specs.declared.layout.Layout.{Layout}
+use Rattle.nmgc_object.specs.declared.layout.Nursery.{Nursery}
+use Rattle.nmgc_object.specs.FinQueue.{FinQueue}
+use Rattle.nmgc_segment.specs.declared.state.State.TheVariants as stands
+use Rattle.nmgc_alloc.specs.Search.{nth}
+use Rattle.nmgc_alloc.specs.Segments.{HasNumber}
+use Rattle.nmgc_alloc.specs.AllocState.{AllocState, StandsFor}
+use Rattle.nmgc_heap.specs.Moves.{Moved, settled}
+use Rattle.nmgc_heap.specs.Places.{Place}
+use Rattle.nmgc_heap.specs.Represents.{Represents, NoNode}
+use Rattle.nmgc_heap.specs.Roots.{RepresentsRoots, ListsWeaks}
+use Rattle.nmgc_heap.specs.laws.Kinds.{map_item}
+use Rattle.nmgc_heap.specs.laws.Moving.{settled_cases}
+use Rattle.nmgc_blocks.specs.Nurseries.{AreEmpty, nursery_at}
+use Rattle.nmgc_blocks.specs.Promoted.{PlacesEach}
+use Rattle.nmgc_blocks.specs.Stopped.{Stopped, IsSettled, young_base}
+use Rattle.nmgc_minor.specs.Placing.{moved_of}
+use Rattle.nmgc_minor.specs.Promotes.{emptied}
+use Rattle.nmgc_minor.specs.Start.{words_of}
+use Rattle.nmgc_mutator.specs.declared.mutator.Mutator.{Mutator}
+use Rattle.nmgc_script.specs.declared.script.Script.{Script}
+use Rattle.nmgc_run.specs.Collector.{AreNurseries, AreAtRest, IsAtRest}
+use Rattle.nmgc_run.specs.Heap.{HoldsAtStop, snapshots, registers_of, queues_of, serials_of}
+use Rattle.nmgc_run.specs.Marks.{AreSettled, IsSettledByte}
+use Rattle.nmgc_run.specs.Places.{BlocksArePlaces}
+use Rattle.nmgc_run.specs.Promotion.{Promotes}
+use Rattle.nmgc_run.specs.Seen.{MutatorSeen, ends_of, nurseries_of}
+use Rattle.nmgc_run.specs.State.{Plan, State, Progress, plan_of, layout_of}
+use Rattle.nmgc_cycle.specs.declared.collector.Collector.{Collector}
+use Rattle.nmgc_cycle.specs.Keeps.{CanStop, IsKept, IsOwn}
+use Rattle.nmgc_cycle.specs.Roots.{HasRegisters, own_registers, no_queue, given_back}
+use Rattle.nmgc_cycle.specs.Shown.{seen, seen_mutator, words_in}
+use Rattle.nmgc_cycle.specs.Stopping.{HasPromoted, moves_of, moved_names}
+use Rattle.nmgc_cycle.proofs.Begins.{Begins}
+use Rattle.nmgc_cycle.proofs.GivenBack.{HaveGiven, have_given, one_given, own_count}
+use Rattle.nmgc_cycle.proofs.MutatorLists.{registers_count}
+use Rattle.nmgc_cycle.proofs.NewStops.{stopped_in}
+use Rattle.nmgc_cycle.proofs.SweepingStays.{sweeping_stays}
+use Rattle.nmgc_cycle.proofs.Views.{registers_seen, queues_seen, serials_seen, nurseries_seen, whole_seen}
+
+-- the mutators of a collector have all their registers
+pub all_whole : (script : Script) (c : Collector) → IsKept script c → All HasRegisters c.mutators.items
+all_whole script c kept k d lt = (kept.own k (slice_index_or c.mutators.items k d) (slice_get-get_or c.mutators.items k d lt)).whole.size
+
+-- a stop may follow, so the collector is kept
+pub kept_of : (script : Script) (c : Collector) → CanStop script c → IsKept script c
+kept_of script c (inl fresh) = fresh.kept
+kept_of script c (inr worked) = worked.kept
+
+module _ (script : Script) (old new : Collector) (kept : IsKept script old) (b : Begins script old) (p : HasPromoted old new) where
+  abbrev pub plan : Plan
+  plan = plan_of script
+
+  abbrev pub at_stop : Stopped
+  at_stop = stopped_in b.began b.state.world b.places (seen old)
+
+  abbrev pub w : World
+  w = b.state.world
+
+  -- what the promotion settled, and the allocation state then
+  pub settled_heap : IsSettled at_stop new.segments (words_in new.words) p.registers (words_of p.queues) (moves_of new)
+  settled_heap = p.settled at_stop b.stopped
+
+  abbrev pub placed : (a : AllocState) × PlacesEach old.segments.layout w b.state.allocation (moved_names new) a × StandsFor new.segments (words_in new.words) a
+  placed = p.places at_stop b.stopped b.state.allocation b.stands
+
+  -- the state after the promotion
+  abbrev pub promoted : State
+  promoted = record b.state { allocation = placed.0 }
+
+  -- how many objects moved
+  abbrev pub count : ℕ
+  count = length new.promotion.moves
+
+  -- where they are
+  abbrev places : List Place
+  places = settled (young_base new.segments) (moves_of new) b.places
+
+  low : (q : Place) → Contains places q → q.at < young_base new.segments
+  low q c = elim (settled_cases (young_base new.segments) (moves_of new) b.places q c) [
+    | inl x ↦ subst (λ (r : Place). r.at < young_base new.segments) (sym x.2) (settled_heap.low x.0 x.1)
+    | inr x ↦ x.1
+  ]
+
+  -- the sizes of the heap are those of the plan
+  pub layout_is : new.segments.layout ≡ layout_of plan
+  layout_is = p.layout ∙ kept.layout
+
+  pub promotes : Promotes (layout_of plan) b.began b.state promoted count
+  promotes = record {
+    names = moved_names new;
+    lists = settled_heap.promoted;
+    places = subst (λ (l : Layout). PlacesEach l w b.state.allocation (moved_names new) placed.0) kept.layout placed.1;
+    many = sym (length-map (moves_of new) (λ (m : Moved). m.name) ∙ length-map new.promotion.moves moved_of);
+    rest = refl;
+  }
+
+  -- the mutators
+
+  whole : All HasRegisters old.mutators.items
+  whole = all_whole script old kept
+
+  registers_many : length p.registers ≡ REGISTERS * length old.mutators.items
+  registers_many =
+      let after = settled_heap.roots.count in
+      let before = b.stopped.roots.count in
+      let own = registers_count old.mutators.items whole in
+      omega (arith, after, before, own)
+
+  queues_many : length p.queues ≡ length old.mutators.items
+  queues_many =
+      let after = settled_heap.roots.mutators.0 in
+      let before = b.stopped.roots.mutators.0 in
+      let words = length-map p.queues (λ (queue : FinQueue). queue.words) in
+      let own = length-map old.mutators.items (λ (m : Mutator). m.queue.words) in
+      omega (arith, after, before, words, own)
+
+  pub lists : HaveGiven p.registers p.queues old.mutators.items new.mutators.items
+  lists = have_given p.registers p.queues old.mutators.items new.mutators.items p.given registers_many queues_many
+
+  -- each mutator is whole, with nothing left of the round
+  pub own : (k : ℕ) (m : Mutator) → slice_get new.mutators.items k ≡ Some m → IsOwn new k m × IsAtRest (seen_mutator m)
+  own k m e =
+      let was = one_given p.registers p.queues old.mutators.items new.mutators.items p.given k m e in
+      let before = kept.own k was.0 was.2 in
+      let back : Mutator = given_back (own_registers p.registers k) (slice_index_or p.queues k no_queue) was.0 in
+      let size : length (own_registers p.registers k) ≡ REGISTERS = own_count p.registers (length old.mutators.items) k registers_many was.1 in
+      subst (λ (x : Mutator). IsOwn new k x × IsAtRest (seen_mutator x)) (sym was.3) (
+        record {
+          number = before.number;
+          layout = before.layout ∙ sym p.layout;
+          whole = record { layout = before.whole.layout; number = before.whole.number; size = size };
+          no_replies = before.no_replies;
+        },
+        record { recorded = refl; young_weaks = refl; entries = refl },
+      )
+
+  -- the heap: words, segments and roots, and what the mutators have at rest
+
+  -- each mutator as contracts see it
+  at_rest : (k : ℕ) (m : MutatorSeen) → slice_get (seen new).mutators k ≡ Some m → IsAtRest m
+  at_rest k m e = let x = map_item seen_mutator new.mutators.items k m e in subst IsAtRest (sym x.2) (own k x.0 x.1).1
+
+  emptied_are : nurseries_of (seen new) ≡ map emptied (nurseries_of (seen old))
+  emptied_are = nurseries_seen new ∙ lists.nurseries_are ∙ ap (λ (ns : List Nursery). map emptied ns) (sym (nurseries_seen old))
+
+  emptied_at : (maker : ℕ) → nursery_at (nurseries_of (seen new)) maker ≡ emptied (nursery_at (nurseries_of (seen old)) maker)
+  emptied_at maker = ap (λ (ns : List Nursery). nursery_at ns maker) emptied_are ∙ get_or-map emptied (nurseries_of (seen old)) maker (record { base = 0; top = 0; end = 0 })
+
+  are_empty : AreEmpty (nurseries_of (seen new))
+  are_empty maker = ap (λ (n : Nursery). n.top) (emptied_at maker) ∙ ap (λ (n : Nursery). n.base) (sym (emptied_at maker))
+
+  base_at : (maker : ℕ) → (nursery_at (nurseries_of (seen new)) maker).base ≡ (nursery_at (nurseries_of (seen old)) maker).base
+  base_at maker = ap (λ (n : Nursery). n.base) (emptied_at maker)
+
+  are_nurseries : AreNurseries new.segments.layout places w (nurseries_of (seen new))
+  are_nurseries =
+      let before : AreNurseries new.segments.layout b.places w (nurseries_of (seen old)) = subst (λ (l : Layout). AreNurseries l b.places w (nurseries_of (seen old))) (sym layout_is) b.nurseries in
+      record {
+        used = record {
+          count = ap (λ (ns : List Nursery). length ns) emptied_are ∙ length-map (nurseries_of (seen old)) emptied ∙ before.used.count;
+          places_are = λ maker lt. base_at maker ∙ before.used.places_are maker lt;
+          tops = λ maker lt. let top = are_empty maker in (omega (arith, top), omega (arith, top));
+          used = λ q node c high e. absurd (let l = low q c in omega (arith, l, high));
+        };
+        ends = λ maker lt.
+            let end = ap (λ (n : Nursery). n.end) (emptied_at maker) in
+            end ∙ before.ends maker lt ∙ ap (λ (n : ℕ). n + new.segments.layout.nursery) (sym (base_at maker));
+      }
+
+  -- the roots, as a report would tell them
+  roots : RepresentsRoots places w (registers_of (ends_of (seen new))) (queues_of (ends_of (seen new))) (serials_of (ends_of (seen new)))
+  roots =
+      let registers : p.registers ≡ registers_of (ends_of (seen new)) = sym (registers_seen new ∙ lists.registers_are) in
+      let queues : words_of p.queues ≡ queues_of (ends_of (seen new)) = sym (queues_seen new ∙ lists.queues_are) in
+      let serials : serials_of (ends_of (seen old)) ≡ serials_of (ends_of (seen new)) = sym (serials_seen new ∙ lists.serials_are ∙ sym (serials_seen old)) in
+      subst (λ (y : List ℕ). RepresentsRoots places w (registers_of (ends_of (seen new))) (queues_of (ends_of (seen new))) y) serials
+      (subst (λ (y : List (List ℕ)). RepresentsRoots places w (registers_of (ends_of (seen new))) y (serials_of (ends_of (seen old)))) queues
+      (subst (λ (y : List ℕ). RepresentsRoots places w y (words_of p.queues) (serials_of (ends_of (seen old)))) registers settled_heap.roots))
+
+  -- no weak pointer is listed, since none is alive
+  listed : ListsWeaks new.segments.layout places w []
+  listed = record {
+    ordered = tt;
+    sound = λ q c. absurd (nothing_in q c);
+    complete = λ q h. absurd (b.weakless q.name h.1.0 h.1.1);
+  }
+
+  -- the heap at the stop, and that nothing is left for the next, for one layout
+  abbrev pub RestsIn : Layout → Type 0
+  RestsIn l = (h : HoldsAtStop l promoted (words_in new.words) new.segments (ends_of (seen new)) []) × AreAtRest l h.places w (seen new)
+
+  rests_in : BlocksArePlaces → RestsIn new.segments.layout
+  rests_in back =
+      let told = back new.segments.layout [] places w placed.0 (words_in new.words) new.segments settled_heap.represents p.sound refl placed.2 low settled_heap.blocks in (
+        record {
+          places = places;
+          all = told.1;
+          holds = record {
+            fit = told.0;
+            represents = subst (λ (q : Progress). Represents new.segments.layout (snapshots q) NoNode places w (words_in new.words)) (sym b.quiet) settled_heap.represents;
+            registers = whole_seen new (λ k d lt. (own k (slice_index_or new.mutators.items k d) (slice_get-get_or new.mutators.items k d lt)).0.whole.size);
+            roots = roots;
+            layout_is = refl;
+            stands = placed.2;
+          };
+          listed = listed;
+        },
+        record { nurseries = are_nurseries; empty = are_empty; nothing = at_rest },
+      )
+
+  pub rests : BlocksArePlaces → RestsIn (layout_of plan)
+  rests back = subst RestsIn layout_is (rests_in back)
+
+  -- marks
+
+  -- what doesn't wait to be swept didn't wait before
+  not_waiting : (number : ℕ) → HasNumber old.segments number → HasNumber new.segments number → (nth new.segments.segments number).state ≢ stands.Sweeping → (nth old.segments.segments number).state ≢ stands.Sweeping
+  not_waiting number was is now e =
+      let before = (b.stands.shows number was).state in
+      let after = (placed.2.shows number is).state in
+      let waits = sweeping_stays old.segments.layout w b.state.allocation placed.0 (moved_names new) number placed.1 (before ∙ e) in
+      now (sym after ∙ waits)
+
+  pub still_settled : AreSettled 0 new.segments
+  still_settled number block is now =
+      let before = b.stopped.segments.count in
+      let after = p.sound.count in
+      let same = ap (λ (l : Layout). l.segments) p.layout in
+      let was : HasNumber old.segments number = omega (arith, before, after, same, is) in
+      subst (λ (marks : List ℕ). IsSettledByte 0 (slice_index marks block)) (sym (p.marks.marks number)) (b.settled number block was (not_waiting number was is now))

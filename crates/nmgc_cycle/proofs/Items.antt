@@ -1,0 +1,38 @@
+-- Items of lists.
+use Rattle.std.proofs.Common.{ℕ, zero, suc, ◌≡◌, ◌<◌, List, [], ◌∷◌, length, inl, inr, refl, ap, subst, sym, Some}
+use Rattle.std.specs.Prelude.{All, slice_get, slice_index_or}
+use Rattle.std.proofs.lemmas.Bool.{cases_lt}
+use Rattle.std.proofs.lemmas.List.{get_or_past}
+use Rattle.std.proofs.lemmas.List.Elements.{All-nil, All-get_or}
+use Rattle.std.proofs.lemmas.Option.{get_or_from_slice_get, slice_get_within}
+use Rattle.nmgc_graph.specs.laws.Worlds.{is_some_get, is_some_of}
+
+-- a place within the list has an item
+pub item : {A : Type 0} (xs : List A) (k : ℕ) → k < length xs → (x : A) × (slice_get xs k ≡ Some x)
+item xs k lt = is_some_of (slice_get xs k) (is_some_get xs k lt)
+
+-- what holds of all items holds of each
+pub of_item : {A : Type 0} (P : A → Type 0) (xs : List A) (k : ℕ) (x : A) → All P xs → slice_get xs k ≡ Some x → P x
+of_item P xs k x all e = subst P (get_or_from_slice_get xs k x x e) (all k x (slice_get_within xs k x e))
+
+-- what holds of each list's items holds of those of each list, and of the empty list past them
+pub of_list : {A : Type 0} (P : A → Type 0) (lists : List (List A)) → All (λ (l : List A). All P l) lists → (m : ℕ) → All P (slice_index_or lists m [])
+of_list {A} P lists h m = elim (cases_lt m (length lists)) [
+  | inl lt ↦ All-get_or (λ (l : List A). All P l) lists m [] lt h
+  | inr ge ↦ subst (λ (l : List A). All P l) (sym (get_or_past lists m [] ge)) (All-nil P)
+]
+
+-- where each item has something that fits it, there is a list of these
+pub chosen : {A B : Type 0} (P : ℕ → A → B → Type 0) (xs : List A) → ((k : ℕ) (x : A) → slice_get xs k ≡ Some x → (y : B) × P k x y) → (ys : List B) × (length ys ≡ length xs) × ((k : ℕ) (x : A) (y : B) → slice_get xs k ≡ Some x → slice_get ys k ≡ Some y → P k x y)
+chosen {A} {B} P [] h = ([], refl, λ k x y e f. absurd (none_here k x e))
+  where
+    none_here : (k : ℕ) (x : A) → slice_get {X = A} [] k ≡ Some x → ⊥
+    none_here k x e = cc
+chosen {A} {B} P (x ∷ xs) h =
+    let first = h 0 x refl in
+    let rest = chosen (λ k. P (suc k)) xs (λ k y e. h (suc k) y e) in
+    (first.0 ∷ rest.0, ap suc rest.1, each first.0 first.1 rest.0 rest.2)
+  where
+    each : (b : B) → P 0 x b → (ys : List B) → ((k : ℕ) (z : A) (y : B) → slice_get xs k ≡ Some z → slice_get ys k ≡ Some y → P (suc k) z y) → (k : ℕ) (z : A) (y : B) → slice_get (x ∷ xs) k ≡ Some z → slice_get (b ∷ ys) k ≡ Some y → P k z y
+    each b p ys rest zero z y e f = let same : x ≡ z = cc in let also : b ≡ y = cc in subst (λ v. P 0 v y) same (subst (λ v. P 0 x v) also p)
+    each b p ys rest (suc k) z y e f = rest k z y e f

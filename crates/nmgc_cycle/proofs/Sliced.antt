@@ -1,0 +1,92 @@
+-- The collector once the round is over: the words are those that it left, and each mutator did its slice.
+use Rattle.std.proofs.Common.{ℕ, zero, suc, ◌≡◌, ◌+◌, ◌-◌, ◌<◌, ◌^◌, List, [], ◌∷◌, ◌++◌, length, map, take, drop, slice_index, refl, sym, ap, subst, ◌∙◌, arith, Some}
+use Rattle.std.specs.Prelude.{slice_get, option_map}
+use Rattle.std.specs.declared.vec.Vec.{Vec}
+use Rattle.std.proofs.Common.{Global}
+use Rattle.std.proofs.lemmas.List.{length-map, length-drop}
+use Rattle.std.proofs.lemmas.Option.{slice_get-map, slice_get_within, get_or_from_slice_get}
+use Rattle.nmgc_round.specs.declared.table.Round.{Round}
+use Rattle.nmgc_round.specs.View.{Opening, whole}
+use Rattle.nmgc_round.specs.Seat.{seen}
+use Rattle.nmgc_round.specs.Seating.{all_together, collecting}
+use Rattle.nmgc_round.specs.Finishing.{Leaves}
+use Rattle.nmgc_mutator.specs.declared.mutator.Mutator.{Mutator}
+use Rattle.nmgc_turn.specs.Worked.{Done, HaveWorked}
+use Rattle.nmgc_script.specs.declared.script.Script.{Script}
+use Rattle.nmgc_run.specs.Run.{Run}
+use Rattle.nmgc_run.specs.Slice.{program_of}
+use Rattle.nmgc_cycle.specs.declared.collector.Collector.{Collector}
+use Rattle.nmgc_cycle.specs.declared.worker.Worker.{Worker}
+use Rattle.nmgc_cycle.specs.Keeps.{IsStill}
+use Rattle.nmgc_cycle.specs.Stage.{IsStaged}
+use Rattle.nmgc_cycle.specs.Working.{left_at, mutator_of, seat_of, done_by, DidSlice, DidSlices}
+use Rattle.nmgc_cycle.proofs.Gathering.{AllDid, OneDid, IsGathered, mapped}
+use Rattle.nmgc_cycle.proofs.Items.{item}
+use Rattle.nmgc_cycle.proofs.Plans.{program_few}
+use Rattle.nmgc_cycle.proofs.Positions.{position_within}
+
+-- a whole list is overwritten
+pub overwritten : {A : Type 0} (n : ℕ) (xs ys : List A) → length ys ≡ length xs → n ≡ length xs → take n (ys ++ drop (length ys) xs) ≡ ys
+overwritten zero [] [] l e = refl
+overwritten (suc n) [] [] l e = refl
+overwritten n [] (y ∷ ys) l e = absurd (omega arith)
+overwritten n (x ∷ xs) [] l e = absurd (omega arith)
+overwritten zero (x ∷ xs) (y ∷ ys) l e = absurd (omega arith)
+overwritten (suc n) (x ∷ xs) (y ∷ ys) l e = ap (λ rest. y ∷ rest) (overwritten n xs ys (omega arith) (omega arith))
+
+module _ (script : Script) (c : Collector) (run : Run) (staged : IsStaged script) (still : IsStill script c run) (o : Opening) (round : Round) (new : List Worker) (count : length new ≡ length c.mutators.items) (did : AllDid script c round o new) where
+  positions_counted : length c.positions.items ≡ length new
+  positions_counted = still.kept.positions_are ∙ sym (count ∙ still.kept.count)
+
+  pub counts_are : length (map done_by new) ≡ length c.positions.items
+  counts_are = length-map new done_by ∙ sym positions_counted
+
+  done_at : (k : ℕ) (x : Worker) → slice_get new k ≡ Some x → slice_index (map done_by new) k ≡ x.done
+  done_at k x e = get_or_from_slice_get (map done_by new) k x.done 0 (slice_get-map done_by new k ∙ ap (option_map done_by) e)
+
+  one_at : (k : ℕ) → k < length new → (x : Worker) × (slice_get new k ≡ Some x) × ((d : List Done) × OneDid script c round o k x d)
+  one_at k lt =
+      let x = item new k lt in
+      let d = item did.done k (let n = did.count in omega (arith, n, lt)) in
+      (x.0, x.1, (d.0, did.each k x.0 d.0 x.1 d.1))
+
+  -- a position doesn't pass the end of its program
+  pub positions_fit : (k : ℕ) → k < length c.positions.items → slice_index c.positions.items k + slice_index (map done_by new) k < 2 ^ 32
+  positions_fit k lt =
+      let x = one_at k (omega (arith, lt, positions_counted)) in
+      let is = done_at k x.0 x.1 in
+      let most = x.2.1.slice.within in
+      let left : length (left_at script c.positions.items k) ≡ length (program_of script.threads k) - slice_index c.positions.items k = length-drop (slice_index c.positions.items k) (program_of script.threads k) in
+      let within = position_within script c run still k (let n = still.kept.positions_are in omega (arith, lt, n)) in
+      let few = program_few script staged k in
+      omega (arith, is, most, left, within, few)
+
+  pub did_slices : (gathered : IsGathered o round new did.done) (words : List ℕ) (leaves : Leaves o words (all_together (collecting (whole o)) (map seen (map seat_of new)))) (mutators : Vec Mutator Global) (positions : Vec ℕ Global) → mutators.items ≡ map mutator_of new → length positions.items ≡ length c.positions.items → ((k : ℕ) → k < length c.positions.items → slice_index positions.items k ≡ slice_index c.positions.items k + slice_index (map done_by new) k) → DidSlices script o c (record c { words = Some words; mutators = mutators; positions = positions })
+  did_slices gathered words leaves mutators positions same size moved = record {
+    rest = refl;
+    words = words;
+    words_are = refl;
+    knows = all_together (collecting (whole o)) (map seen (map seat_of new));
+    leaves = leaves;
+    all = gathered.all;
+    done = did.done;
+    worked = subst (λ (l : List Mutator). HaveWorked o (all_together (collecting (whole o)) (map seen (map seat_of new))).parts l did.done) (sym same) gathered.worked;
+    positions_are = size;
+    each = each;
+  }
+    where
+      each : (k : ℕ) (m n : Mutator) (d : List Done) → slice_get c.mutators.items k ≡ Some m → slice_get mutators.items k ≡ Some n → slice_get did.done k ≡ Some d → DidSlice script c (record c { words = Some words; mutators = mutators; positions = positions }) k m n d
+      each k m n d e f g =
+          let x = mapped mutator_of new k n (ap (λ (l : List Mutator). slice_get l k) (sym same) ∙ f) in
+          let h = did.each k x.0 d x.1 g in
+          let old_is = h.old_is in
+          let old : h.old ≡ m = cc (old_is, e) in
+          let within = slice_get_within new k x.0 x.1 in
+          let is = done_at k x.0 x.1 in
+          let many = h.slice.count in
+          let now = moved k (omega (arith, within, positions_counted)) in
+          record {
+            commands = h.slice.commands;
+            replies = ap (λ (u : Mutator). u.replies.items) x.2 ∙ h.slice.did.replies ∙ ap (λ (u : Mutator). u.replies.items ++ map (λ (p : Done). p.1) d) old;
+            position = omega (arith, is, many, now);
+          }

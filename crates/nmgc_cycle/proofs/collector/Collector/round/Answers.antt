@@ -1,0 +1,34 @@
+use Rattle.std.proofs.Common.{◌≡◌, ◌++◌, List, [], ◌∷◌, length, map, None, ap, sym, subst, ◌∙◌}
+use Rattle.std.specs.Vec.{with_items}
+use Rattle.std.proofs.lemmas.List.{length-map}
+use Rattle.nmgc_journal.specs.declared.report.RoundRows.{RoundRows}
+use Rattle.nmgc_mutator.specs.declared.mutator.Mutator.{Mutator}
+use Rattle.nmgc_cycle.specs.declared.collector.Collector.{Collector}
+use Rattle.nmgc_cycle.specs.Keeps.{DidRound}
+use Rattle.nmgc_cycle.specs.Working.{cleared, replies_of}
+use Rattle.nmgc_cycle.proofs.MutatorLists.{vec_back}
+use Rattle.nmgc_cycle.proofs.Reserved.{reserved_stopped, still_before}
+use Rattle.nmgc_cycle.proofs.RoundOver.{HasLaws}
+use Rattle.nmgc_cycle.proofs.RoundWorked.{on_ok, worked_after}
+use Rattle.nmgc_cycle.proofs.collector.Collector.round.Goals as goal
+
+pub opening_of-opening-requires : goal.opening_of-opening-requires
+opening_of-opening-requires g c = reserved_stopped c.args.script.now c.args.self.now c.make_room.new.self c.requires.stopped.0 c.in_ok-make_room.ensures.rest c.in_ok-make_room.ensures.mutators
+
+pub returns-clause-worked : goal.returns-clause-worked
+returns-clause-worked g c =
+    let laws : HasLaws = record { opens = c.a_rest_opens_a_round.ensures; history = c.a_round_is_a_history.ensures; stopped = c.a_round_is_stopped.ensures } in
+    let script = c.args.script.now in
+    let roomy : Collector = c.make_room.new.self in
+    let did : Collector = c.do_slices.new.self in
+    let goes_on : roomy.answered ≡ None = ap (λ (x : Collector). x.answered) c.in_ok-make_room.ensures.rest ∙ c.requires.stopped.1 in
+    let was = c.as_mut_slice.ensures.value in
+    let new : List Mutator = c.taken.new.mutators in
+    let rows : RoundRows = c.in_ok-rows.rows in
+    let left : new ≡ map cleared did.mutators.items = c.in_ok-rows.ensures.rest ∙ ap (λ (ms : List Mutator). map cleared ms) was in
+    let many : length new ≡ length did.mutators.items = ap (λ (ms : List Mutator). length ms) left ∙ length-map did.mutators.items cleared in
+    let told : rows.replies ≡ replies_of did.mutators.items = c.in_ok-rows.ensures.rows ∙ ap replies_of was in
+    let own : Collector = c.args.self.now in
+    let before : (x : Collector) → DidRound script roomy x → DidRound script own x = λ x d. (d.0, still_before script own roomy d.0.run c.requires.stopped.0.1.kept c.in_ok-make_room.ensures.rest c.in_ok-make_room.ensures.mutators d.1) in
+    let worked : DidRound script roomy (record did { mutators = with_items did.mutators new; rounds = did.rounds ++ rows ∷ [] }) = worked_after laws script roomy did c.opening_of-opening.result.value c.requires.staged goes_on c.opening_of-opening.ensures c.do_slices.ensures (with_items did.mutators new) (vec_back did.mutators new many ∙ left) rows told in
+    on_ok c.push.result c.push.ensures.ok (λ pushed. subst (λ (l : List RoundRows). DidRound script own (record did { mutators = with_items did.mutators new; rounds = l })) (sym pushed) (before (record did { mutators = with_items did.mutators new; rounds = did.rounds ++ rows ∷ [] }) worked))

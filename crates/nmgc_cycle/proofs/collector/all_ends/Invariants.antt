@@ -1,0 +1,10 @@
+use Rattle.std.proofs.Common.{◌≡◌, map, vec_capacity}
+use Rattle.nmgc_run.specs.Seen.{end_of}
+use Rattle.nmgc_cycle.specs.Shown.{seen_mutator}
+use Rattle.nmgc_cycle.proofs.collector.all_ends.Given as goal
+
+abbrev pub invariant-loop-mutator : goal.invariant-loop-mutator
+invariant-loop-mutator l = record {
+  ends_are : l.ends.items ≡ map end_of (map seen_mutator l.yielded);
+  room : vec_capacity l.ends ≡ vec_capacity l.initial.ends;
+}

@@ -1,0 +1,108 @@
+-- What a collector keeps from call to call, while no cycle is built.
+use Rattle.std.specs.Prelude.{ℕ, ◌≡◌, ◌<◌, ◌≤◌, ◌⊎◌, List, [], ◌∷◌, ◌++◌, length, slice_get, slice_index, Some, None, IsSome, vec_capacity}
+use Rattle.nmgc_graph.specs.World.{World}
+use Rattle.nmgc_graph.specs.declared.value.Name.{Name}
+use Rattle.nmgc_graph.specs.declared.node.Parts.{Parts}
+use Rattle.nmgc_graph.specs.declared.command.Reply.{Reply}
+use Rattle.nmgc_graph.specs.History.{Row}
+use Rattle.nmgc_journal.specs.declared.report.StopRow.{StopRow}
+use Rattle.nmgc_graph.specs.Reach.{IsAlive}
+use Rattle.nmgc_alloc.specs.Segments.{IsSegments}
+use Rattle.nmgc_minor.specs.Promotion.{IsFor}
+use Rattle.nmgc_mutator.specs.declared.mutator.Mutator.{Mutator}
+use Rattle.nmgc_mutator.specs.Ready.{IsWhole}
+use Rattle.nmgc_script.specs.declared.script.Script.{Script}
+use Rattle.nmgc_journal.specs.declared.report.End.{End}
+use Rattle.nmgc_journal.specs.declared.report.End.TheVariants.{Done, HeapFull}
+use Rattle.nmgc_run.specs.State.{State, plan_of, layout_of, reserve_of, free_count}
+use Rattle.nmgc_run.specs.Statements.{answered_count}
+use Rattle.nmgc_run.specs.Run.{Run, last_state}
+use Rattle.nmgc_run.specs.Heap.{HoldsAtStop}
+use Rattle.nmgc_run.specs.Seen.{ends_of}
+use Rattle.nmgc_run.specs.Collector.{IsNew, IsAtStop, IsAfterRound}
+use Rattle.nmgc_cycle.specs.declared.collector.Collector.{Collector}
+use Rattle.nmgc_cycle.specs.declared.stop.StopEnd.{StopEnd}
+use Rattle.nmgc_cycle.specs.declared.stop.StopEnd.TheVariants as answer
+use Rattle.nmgc_cycle.specs.Shown.{seen}
+use Rattle.nmgc_cycle.specs.Stage.{IsShortAfter}
+
+-- the world has no weak pointer that is alive
+abbrev pub HasNoWeak : World → Type 0
+HasNoWeak w = (weak : Name) (parts : Parts) → IsAlive w weak parts → ⊥
+
+-- a mutator between two calls: it has its number and the layout of the heap, and its replies were told
+pub record IsOwn (c : Collector) (k : ℕ) (m : Mutator) : Type 0 where
+  pub number : m.number ≡ k
+  pub layout : m.layout ≡ c.segments.layout
+  pub whole : IsWhole m
+  pub no_replies : m.replies.items ≡ []
+
+-- what is true of a collector whatever its run: its parts are for one layout, and it knows how many commands of each program were answered
+pub record IsKept (script : Script) (c : Collector) : Type 0 where
+  pub layout : c.segments.layout ≡ layout_of (plan_of script)
+  pub sound : IsSegments c.segments
+  pub lists : IsFor c.segments.layout c.promotion
+  pub has_words : IsSome c.words
+  pub list : length c.list.items ≡ length (seen c).words
+  pub count : length c.mutators.items ≡ length script.threads
+  pub own : (k : ℕ) (m : Mutator) → slice_get c.mutators.items k ≡ Some m → IsOwn c k m
+  pub positions_are : length c.positions.items ≡ length script.threads
+  pub positions : (k : ℕ) → k < length script.threads → slice_index c.positions.items k ≡ answered_count c.rounds k
+  pub no_ends : c.ends.items ≡ []
+  pub room : length script.threads ≤ vec_capacity c.ends
+
+-- a new collector
+pub record IsFresh (script : Script) (c : Collector) : Type 0 where
+  pub kept : IsKept script c
+  pub new : IsNew (plan_of script) (seen c)
+
+-- after a stop of this run
+pub record IsStill (script : Script) (c : Collector) (run : Run) : Type 0 where
+  pub kept : IsKept script c
+  pub at_stop : IsAtStop (plan_of script) run (seen c)
+  pub weakless : HasNoWeak (last_state run).world
+
+-- after a stop, and the run goes on or is done
+abbrev pub HasStopped : Script → Collector → Type 0
+HasStopped script c = (run : Run) × IsStill script c run
+
+-- after a round
+pub record HasWorked (script : Script) (c : Collector) : Type 0 where
+  pub kept : IsKept script c
+  pub run : Run
+  pub replies : List (List Reply)
+  pub history : List Row
+  pub worked : State
+  pub after : IsAfterRound (plan_of script) run replies history worked (seen c)
+  pub weakless : HasNoWeak worked.world
+
+-- a round was done from there: it follows the last stop of a run for which the collector before stands
+abbrev pub DidRound : Script → Collector → Collector → Type 0
+DidRound script old new = (worked : HasWorked script new) × IsStill script old worked.run
+
+-- a stop may follow: the collector is new, or did a round
+abbrev pub CanStop : Script → Collector → Type 0
+CanStop script c = IsFresh script c ⊎ HasWorked script c
+
+-- a stop was short of segments, and the run can't go on
+pub record IsShort (script : Script) (c : Collector) (free reserve : ℕ) : Type 0 where
+  pub kept : IsKept script c
+  pub state : State
+  pub row : StopRow
+  pub stops : List StopRow
+  pub before : IsShortAfter (plan_of script) state row c.rounds stops
+  pub stops_are : c.stops ≡ stops ++ row ∷ []
+  pub free_is : free ≡ free_count state
+  pub reserve_is : reserve ≡ reserve_of (plan_of script)
+  pub heap : HoldsAtStop (layout_of (plan_of script)) state (seen c).words c.segments (ends_of (seen c)) []
+
+-- what a stop that answered so left
+abbrev pub HasAnswered : Script → Collector → StopEnd → Type 0
+HasAnswered script c answer.GoOn = HasStopped script c × (c.answered ≡ None)
+HasAnswered script c answer.Done = HasStopped script c × (c.answered ≡ Some Done)
+HasAnswered script c (answer.HeapFull free reserve) = IsShort script c free reserve × (c.answered ≡ Some (HeapFull free reserve))
+
+-- the run has ended so
+abbrev pub HasEnded : Script → Collector → End → Type 0
+HasEnded script c Done = HasAnswered script c answer.Done
+HasEnded script c (HeapFull free reserve) = HasAnswered script c (answer.HeapFull free reserve)

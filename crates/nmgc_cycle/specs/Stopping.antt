@@ -1,0 +1,61 @@
+-- The parts of a stop: its promotion, what is left of the programs, and what its answer says of the run.
+use Rattle.std.specs.Prelude.{ℕ, ◌≡◌, ◌<◌, List, [], map, length, slice_index, slice_index_or, Option, Some, None, IsSome}
+use Rattle.nmgc_graph.specs.declared.value.Name.{Name}
+use Rattle.nmgc_graph.specs.declared.command.Command.{Command}
+use Rattle.nmgc_alloc.specs.AllocState.{AllocState, StandsFor}
+use Rattle.nmgc_alloc.specs.Segments.{IsSegments}
+use Rattle.nmgc_heap.specs.Moves.{Moved}
+use Rattle.nmgc_blocks.specs.Occupied.{KeepsMarks}
+use Rattle.nmgc_blocks.specs.Promoted.{PlacesEach}
+use Rattle.nmgc_blocks.specs.Stopped.{Stopped, IsStopped, IsSettled}
+use Rattle.nmgc_journal.specs.declared.report.End.{End}
+use Rattle.nmgc_journal.specs.declared.report.End.TheVariants as end
+use Rattle.nmgc_minor.specs.Placing.{moved_of}
+use Rattle.nmgc_minor.specs.Promotion.{IsFor}
+use Rattle.nmgc_object.specs.FinQueue.{FinQueue}
+use Rattle.nmgc_turn.specs.Worked.{registers_of, queues_of, nurseries_of, recorded_of}
+use Rattle.nmgc_cycle.specs.declared.collector.Collector.{Collector}
+use Rattle.nmgc_cycle.specs.declared.stop.StopEnd.{StopEnd}
+use Rattle.nmgc_cycle.specs.declared.stop.StopEnd.TheVariants as answer
+use Rattle.nmgc_cycle.specs.Roots.{AreGivenBack}
+use Rattle.nmgc_cycle.specs.Shown.{words_in}
+
+-- words, segments and mutators of the collector stand for the heap at a stop; no weak pointer was made
+abbrev pub StandsStopped : Stopped → Collector → Type 0
+StandsStopped t c = IsStopped t c.segments (words_in c.words) (nurseries_of c.mutators.items) (registers_of c.mutators.items) (queues_of c.mutators.items) (recorded_of c.mutators.items) []
+
+-- what the last promotion moved
+abbrev pub moves_of : Collector → List Moved
+moves_of c = map moved_of c.promotion.moves
+
+-- the names of what it moved
+abbrev pub moved_names : Collector → List Name
+moved_names c = map (λ (m : Moved). m.name) (moves_of c)
+
+-- what the round made was promoted: of the collector only words, segments and what mutators hold changed
+pub record HasPromoted (old new : Collector) : Type 0 where
+  pub rest : new ≡ record old { words = new.words; segments = new.segments; promotion = new.promotion; mutators = new.mutators }
+  pub has_words : IsSome new.words
+  pub registers : List ℕ
+  pub queues : List FinQueue
+  pub given : AreGivenBack registers queues old.mutators.items new.mutators.items
+  pub settled : (t : Stopped) → StandsStopped t old → IsSettled t new.segments (words_in new.words) registers (map (λ (queue : FinQueue). queue.words) queues) (moves_of new)
+  pub places : (t : Stopped) → StandsStopped t old → (a : AllocState) → StandsFor old.segments (words_in old.words) a → (b : AllocState) × PlacesEach old.segments.layout t.world a (moved_names new) b × StandsFor new.segments (words_in new.words) b
+  pub sound : IsSegments new.segments
+  pub marks : KeepsMarks old.segments new.segments
+  pub layout : new.segments.layout ≡ old.segments.layout
+  pub lists : IsFor old.segments.layout new.promotion
+
+-- whatever heap the collector before stood for was promoted, and the collector after stands for it
+abbrev pub KeepsWorld : Collector → Collector → Type 0
+KeepsWorld old new = (t : Stopped) → StandsStopped t old → IsSettled t new.segments (words_in new.words) (registers_of new.mutators.items) (queues_of new.mutators.items) (moves_of new)
+
+-- some program is longer than what was done of it
+abbrev pub SomeIsLeft : List (List Command) → List ℕ → Type 0
+SomeIsLeft programs positions = (k : ℕ) × (k < length programs) × (slice_index positions k < length (slice_index_or programs k []))
+
+-- the end of the run that a stop's answer is, if it is one
+abbrev pub ended_by : StopEnd → Option End
+ended_by answer.GoOn = None
+ended_by answer.Done = Some end.Done
+ended_by (answer.HeapFull free reserve) = Some (end.HeapFull free reserve)

@@ -1,0 +1,266 @@
+//! A collector: how a run begins, how it goes on, and what it tells in the end.
+//!
+//! Here is all the memory that grows with the heap, and it is taken at the beginning: the words in their table,
+//! a list as long as the words, the segments, and the lists of promotion. So a run holds the words twice.
+//!
+//! The report is made where nothing can fail any more. So its words go into the list that the run began with,
+//! and what the mutators have in hand into a list whose room was made then; these two lists stay as they were in
+//! between (`IsKept` of `specs/Keeps.antt`).
+//!
+//! A run ends since each round answers at least one command: a stop goes on only where commands are left, a slice
+//! has room for one command at least, and a nursery for the largest object.
+//!
+//! Easy to get wrong: what is left of a program is what no round answered, and a command that waits for room in
+//! the nursery was not answered.
+ghost use Rattle.std.specs.Prelude.{◌≡◌, ℕ, ◌+◌, ◌<◌, ◌≤◌, ◌⊎◌, [], length, map, slice_get, slice_index, vec_len, vec_capacity, Some, IfOk, IfSome};
+ghost use Rattle.nmgc_graph.specs.declared.value.TheConstants.{SHARED_SLOTS};
+ghost use Rattle.nmgc_object.specs.declared.layout.TheConstants.{SHARED_PLACE};
+ghost use Rattle.nmgc_object.specs.declared.size.TheConstants.{HEADER_WORDS};
+ghost use Rattle.nmgc_object.specs.Places.{IsLayout};
+ghost use Rattle.nmgc_round.specs.Empty.{IsEmptyHeap};
+ghost use Rattle.nmgc_mutator.specs.declared.mutator.Mutator.{Mutator as MutatorShown};
+ghost use Rattle.nmgc_mutator.specs.Ready.{IsNew};
+ghost use Rattle.nmgc_script.specs.declared.script.Script.{Script as ScriptSeen};
+ghost use Rattle.nmgc_script.specs.Limits.{FitsScript};
+ghost use Rattle.nmgc_run.specs.State.{plan_of, layout_of as planned_layout};
+ghost use Rattle.nmgc_run.specs.Seen.{end_of as told_end};
+ghost use Rattle.nmgc_cycle.specs.Shown.{seen_mutator, report_of};
+ghost use Rattle.nmgc_cycle.specs.Stage.{IsStaged, IsTold};
+ghost use Rattle.nmgc_cycle.specs.Keeps.{IsFresh, HasEnded};
+
+use crate::stop::StopEnd;
+use nmgc_alloc::Segments;
+use nmgc_graph::{Kind, List, Name, NoMemory, SHARED_MAKER, SHARED_SLOTS};
+use nmgc_journal::{End, MutatorEnd, Report, RoundRows, StopRow};
+use nmgc_minor::Promotion;
+use nmgc_mutator::Mutator;
+use nmgc_object::layout::SHARED_PLACE;
+use nmgc_object::size::HEADER_WORDS;
+use nmgc_object::words::{NIL_WORD, encode_header, encode_name};
+use nmgc_object::{Header, Layout};
+use nmgc_round::laws::empty_heap_opens;
+use nmgc_round::{Gate, Words};
+use nmgc_script::Script;
+use std::alloc::Global;
+use std::thread::Threads;
+
+/// A run, as far as it has come: its heap, its mutators, and what its report tells so far.
+#[derive(Drop)]
+pub struct Collector {
+    pub(crate) alloc: Global,
+    // The words of the heap. They are away only within a round.
+    pub(crate) words: Option<Words>,
+    // As many words, for the report.
+    pub(crate) list: Vec<u64>,
+    pub(crate) segments: Segments,
+    pub(crate) promotion: Promotion,
+    // By their numbers.
+    pub(crate) mutators: Vec<Mutator>,
+    // How many commands of each program were answered.
+    pub(crate) positions: Vec<u32>,
+    pub(crate) rounds: List<RoundRows>,
+    pub(crate) stops: List<StopRow>,
+    // The end that the last stop answered, if it was one.
+    pub(crate) answered: Option<End>,
+    // Empty, with room for what each mutator has in hand in the end.
+    pub(crate) ends: Vec<MutatorEnd>,
+}
+
+// The layout of a script's heap.
+fn layout_of(script: &Script) -> Layout
+    requires { FitsScript script.now }
+    ensures value { result ≡ planned_layout (plan_of script.now) }
+    ensures lawful { IsLayout result }
+{
+    Layout {
+        segments: script.config.segments,
+        words: script.config.words,
+        nursery: script.config.nursery,
+        mutators: script.threads.items().len() as u8,
+    }
+}
+
+// The words of the heap of which nothing was made: all but g's are 0.
+fn empty_words(alloc: Global, layout: Layout) -> Result<Vec<u64>, NoMemory>
+    requires { IsLayout layout }
+    ensures heap { IfOk result (λ words. IsEmptyHeap layout words.items) }
+    ensures zeros { IfOk result (λ words. (at : ℕ) → (at < SHARED_PLACE) ⊎ (SHARED_PLACE + HEADER_WORDS + SHARED_SLOTS ≤ at) → slice_index words.items at ≡ 0) }
+{
+    let mut words = vec![in alloc; 0u64; layout.total() as usize]?;
+    let place = SHARED_PLACE as usize;
+    words[place] = encode_header(Header {
+        kind: Kind::Arr,
+        tag: 0,
+        fields: u32::from(SHARED_SLOTS),
+    });
+    words[place + 1] = encode_name(Name {
+        maker: SHARED_MAKER,
+        serial: 0,
+    });
+    let first = place + HEADER_WORDS as usize;
+    for slot in 0..SHARED_SLOTS as usize {
+        words[first + slot] = NIL_WORD;
+    }
+    Ok(words)
+}
+
+// As many mutators as the layout has, by their numbers, which did nothing yet.
+fn new_mutators(alloc: Global, layout: Layout) -> Result<Vec<Mutator>, NoMemory>
+    requires { IsLayout layout }
+    ensures count { IfOk result (λ mutators. length mutators.items ≡ layout.mutators) }
+    ensures new { IfOk result (λ mutators. (k : ℕ) (m : MutatorShown) → slice_get mutators.items k ≡ Some m → IsNew k layout m) }
+{
+    let mut mutators = Vec::with_capacity(alloc, layout.mutators as usize)?;
+    for number in 0..layout.mutators {
+        mutators.push(Mutator::new(alloc, number, layout)?)?;
+    }
+    Ok(mutators)
+}
+
+impl Collector {
+    /// The collector of a script's run, before its first stop: no command was answered, the registers and g are
+    /// full of nil, and every segment is free.
+    ///
+    /// Asks that the script is within the limits, that no cycle begins in it by itself, and that its
+    /// commands are built. Takes all memory that grows with the heap: the words twice, the segments with their
+    /// marks, and what the promotion of full nurseries needs.
+    pub fn new(alloc: Global, script: &Script) -> Result<Collector, NoMemory>
+        requires { IsStaged script.now }
+        ensures { IfOk result (λ collector. IsFresh script.now collector) }
+    {
+        empty_heap_opens();
+        let layout = layout_of(script);
+        let list = empty_words(alloc, layout)?;
+        let words = Words::new(alloc, list.as_slice())?;
+        let segments = Segments::new(alloc, layout)?;
+        let promotion = Promotion::reserve(alloc, layout)?;
+        let mutators = new_mutators(alloc, layout)?;
+        let count = layout.mutators as usize;
+        let positions = vec![in alloc; 0u32; count]?;
+        let ends = Vec::with_capacity(alloc, count)?;
+        Ok(Collector {
+            alloc,
+            words: Some(words),
+            list,
+            segments,
+            promotion,
+            mutators,
+            positions,
+            rounds: List::new(alloc),
+            stops: List::new(alloc),
+            answered: None,
+            ends,
+        })
+    }
+
+    /// A whole run of a script: a stop, and then rounds, each with a stop after it, until a stop answers an end.
+    ///
+    /// In a round each mutator works in a thread of its own, and passes `gate` before each command that it tries;
+    /// where a thread can't be started, its work is done by this one. The report is lawful, or tells a run that
+    /// was short of segments. Asks what `new` asks. After `NoMemory` nothing of the run is left.
+    pub fn run<R: Threads + Sync, G: Gate>(
+        alloc: Global,
+        rt: &R,
+        script: &Script,
+        gate: &G,
+    ) -> Result<Report, NoMemory>
+        requires { IsStaged script.now }
+        ensures { IfOk result (λ report. IsTold script.now report) }
+    {
+        let mut collector = Collector::new(alloc, script)?;
+        'stops: loop {
+            match collector.stop(script)? {
+                StopEnd::GoOn => collector.round(rt, script, gate)?,
+                StopEnd::Done => return Ok(collector.into_report(End::Done)),
+                StopEnd::HeapFull { free, reserve } => {
+                    return Ok(collector.into_report(End::HeapFull { free, reserve }));
+                }
+            }
+        }
+    }
+
+    /// The report of the run. Asks that the run has ended so, as its last stop answered.
+    ///
+    /// Its rows, words and segments are those of the collector, and each mutator's registers, queue and serial
+    /// are told as they are. Takes no memory, and time for each word of the heap.
+    pub fn into_report(self, end: End) -> Report
+        requires { (script : ScriptSeen) × HasEnded script self end }
+        ensures parts { result ≡ report_of self end }
+        ensures told { (script : ScriptSeen) → HasEnded script self end → IsTold script result }
+    {
+        let Collector {
+            alloc,
+            words,
+            list,
+            segments,
+            promotion: _,
+            mutators,
+            positions: _,
+            rounds,
+            stops,
+            answered: _,
+            ends,
+        } = self;
+        let words = copied(words, list);
+        let ends = all_ends(mutators, ends);
+        Report {
+            rounds,
+            stops,
+            cycles: List::new(alloc),
+            words: List::from_vec(words),
+            segments,
+            mutators: List::from_vec(ends),
+            weaks: List::new(alloc),
+            end,
+        }
+    }
+}
+
+// The words, in the list that the run began with.
+fn copied(words: Option<Words>, list: Vec<u64>) -> Vec<u64>
+    requires { IfSome words (λ w. length list.items ≡ length w) }
+    ensures { IfSome words (λ w. result.items ≡ w) }
+{
+    let mut list = list;
+    if let Some(words) = words {
+        words.copy_out(list.as_mut_slice());
+    }
+    list
+}
+
+// What the mutators have in hand as the run ends, in a list that has room for it.
+fn all_ends(mutators: Vec<Mutator>, ends: Vec<MutatorEnd>) -> Vec<MutatorEnd>
+    requires empty { ends.items ≡ [] }
+    requires room { vec_len mutators ≤ vec_capacity ends }
+    ensures { result.items ≡ map told_end (map seen_mutator mutators.items) }
+{
+    let mut ends = ends;
+    for mutator in mutators {
+        ends.push_reserved(end_of(mutator));
+    }
+    ends
+}
+
+// What a mutator has in hand as the run ends.
+fn end_of(mutator: Mutator) -> MutatorEnd
+    ensures { result ≡ told_end (seen_mutator mutator) }
+{
+    let Mutator {
+        number: _,
+        layout: _,
+        registers,
+        queue,
+        nursery: _,
+        serial,
+        turns: _,
+        replies: _,
+        recorded: _,
+        young_weaks: _,
+        updrem: _,
+    } = mutator;
+    MutatorEnd {
+        registers,
+        queue: queue.into_list(),
+        serial,
+    }
+}

@@ -1,0 +1,215 @@
+//! A round: each mutator does a slice of what is left of its program, in a thread of its own.
+//!
+//! What can fail comes first: room for the replies and for what the mutators note, and the lists that the round
+//! fills. Then the words go into the round and come back from it, and nothing in between can fail. Only then are the
+//! replies taken off the mutators, for the report.
+//!
+//! The opening of the round, which world the words stand for, is known in proofs alone (`Chosen`): it is the last
+//! state of the run that the collector's rows tell.
+ghost use Rattle.std.specs.Prelude.{ℕ, ◌≡◌, ◌<◌, ◌≤◌, ◌+◌, ◌^◌, [], ◌∷◌, ◌++◌, None, IfOk, OnOk, length, map, min, slice_index, slice_index_or};
+ghost use Rattle.nmgc_mutator.specs.declared.mutator.Mutator.{Mutator as MutatorSeen};
+ghost use Rattle.nmgc_run.specs.Slice.{program_of};
+ghost use Rattle.nmgc_cycle.specs.Stage.{IsStaged};
+ghost use Rattle.nmgc_cycle.specs.Keeps.{HasStopped, DidRound};
+ghost use Rattle.nmgc_cycle.specs.Working.{left_at, HaveRoom, HasLists, HaveSliceRoom, AreReserved, OpensAt, DidSlices, cleared, replies_of};
+
+use crate::Collector;
+use crate::worker::{Worker, seated, unseated, work_all};
+use nmgc_graph::{List, NoMemory, Reply};
+use nmgc_journal::RoundRows;
+use nmgc_mutator::Mutator;
+use nmgc_mutator::laws::a_round_finds_mutators_ready;
+use nmgc_round::chosen::Wanted;
+use nmgc_round::{Chosen, Finished, Gate, MutatorSeat, Opened, Round, Started};
+use nmgc_script::Script;
+use nmgc_turn::laws::{
+    a_rest_opens_a_round, a_round_is_a_history, a_round_is_stopped, slices_are_gathered,
+};
+use std::alloc::Global;
+use std::mem;
+use std::thread::Threads;
+
+// The lists that a round fills.
+#[derive(Drop)]
+struct Lists {
+    room: Vec<MutatorSeat>,
+    workers: Vec<Worker>,
+    mutators: Vec<Mutator>,
+    seats: Vec<MutatorSeat>,
+    done: Vec<u32>,
+}
+
+impl Lists {
+    // Empty lists, with room for so many mutators.
+    fn new(alloc: Global, count: usize) -> Result<Lists, NoMemory>
+        ensures { IfOk result (λ lists. HaveRoom count lists) }
+    {
+        Ok(Lists {
+            room: Vec::with_capacity(alloc, count)?,
+            workers: Vec::with_capacity(alloc, count)?,
+            mutators: Vec::with_capacity(alloc, count)?,
+            seats: Vec::with_capacity(alloc, count)?,
+            done: Vec::with_capacity(alloc, count)?,
+        })
+    }
+}
+
+// The opening of the round after a stop.
+struct AfterStop;
+
+impl<'a> Wanted<(&'a Script, &'a Collector), Opened> for AfterStop {
+    ghost use Rattle.nmgc_cycle.specs.Working.{OpensAt};
+
+    ghost wanted = { λ about o. OpensAt about.0.now about.1.now o };
+}
+
+fn opening_of(script: &Script, collector: &Collector) -> Chosen<Opened>
+    requires { HasStopped script.now collector.now }
+    ensures { OpensAt script.now collector.now result.value }
+{
+    Chosen::of::<(&Script, &Collector), AfterStop>(&(script, collector))
+}
+
+impl Collector {
+    /// One round: each mutator with commands left does a slice, in a thread of its own, and passes `gate` before each
+    /// command that it tries. The replies of the round are told after those of the rounds before.
+    ///
+    /// Asks that the last stop answered `GoOn`, and that no round was done since. After `NoMemory` nothing
+    /// is known of the collector.
+    pub fn round<R: Threads + Sync, G: Gate>(
+        &mut self,
+        rt: &R,
+        script: &Script,
+        gate: &G,
+    ) -> Result<(), NoMemory>
+        requires staged { IsStaged script.now }
+        requires stopped { HasStopped script.now self.old × (self.old.answered ≡ None) }
+        ensures worked { OnOk result (DidRound script.now self.old self.new) }
+        ensures told { OnOk result ((rows : RoundRows) × (self.new.rounds ≡ self.old.rounds ++ rows ∷ [])) }
+        ensures stops { OnOk result (self.new.stops ≡ self.old.stops) }
+    {
+        a_rest_opens_a_round();
+        a_round_is_a_history();
+        a_round_is_stopped();
+        self.make_room(script)?;
+        let lists = Lists::new(self.alloc, self.mutators.len())?;
+        let opening = opening_of(script, self);
+        self.do_slices(rt, script, gate, &opening, lists);
+        let rows = taken(self.alloc, self.mutators.as_mut_slice())?;
+        self.rounds.push(rows)
+    }
+
+    // Makes room for what the mutators note in the round.
+    fn make_room(&mut self, script: &Script) -> Result<(), NoMemory>
+        requires staged { IsStaged script.now }
+        requires stopped { HasStopped script.now self.old }
+        ensures rest { OnOk result (self.new ≡ record self.old { mutators = self.new.mutators }) }
+        ensures mutators { OnOk result (AreReserved self.old.mutators.items self.new.mutators.items) }
+        ensures room { OnOk result (HaveSliceRoom script.now self.new) }
+    {
+        reserve_all(
+            self.mutators.as_mut_slice(),
+            script,
+            self.positions.as_slice(),
+        )
+    }
+
+    // The slices of all mutators. Nothing here can fail.
+    fn do_slices<R: Threads + Sync, G: Gate>(
+        &mut self,
+        rt: &R,
+        script: &Script,
+        gate: &G,
+        opening: &Chosen<Opened>,
+        lists: Lists,
+    )
+        requires staged { IsStaged script.now }
+        requires opens { OpensAt script.now self.old opening.now.value }
+        requires room { HaveSliceRoom script.now self.old }
+        requires lists { HaveRoom (length self.old.mutators.items) lists }
+        ensures { DidSlices script.now opening.now.value self.old self.new }
+    {
+        a_round_finds_mutators_ready();
+        a_rest_opens_a_round();
+        slices_are_gathered();
+        let Lists {
+            room,
+            mut workers,
+            mut mutators,
+            mut seats,
+            mut done,
+        } = lists;
+        let words = self.words.take().unwrap();
+        let Started {
+            round,
+            mutators: given,
+            collector,
+        } = Round::start(words, self.segments.layout(), false, opening, room);
+        let own = mem::replace(&mut self.mutators, Vec::new(self.alloc));
+        seated(own, given, &mut workers);
+        work_all(
+            rt,
+            &round,
+            workers.as_mut_slice(),
+            script,
+            self.positions.as_slice(),
+            gate,
+        );
+        unseated(workers, &mut mutators, &mut seats, &mut done);
+        let Finished { words } = round.finish(List::from_vec(seats), collector);
+        self.words = Some(words);
+        self.mutators = mutators;
+        advance(self.positions.as_mut_slice(), done.as_slice());
+    }
+}
+
+// Each mutator gets room for its slice of what is left of its program.
+fn reserve_all(mutators: &mut [Mutator], script: &Script, positions: &[u32]) -> Result<(), NoMemory>
+    requires threads { length script.now.threads ≡ length mutators.old }
+    requires positions { length positions.now ≡ length mutators.old }
+    requires within { (k : ℕ) → k < length mutators.old → slice_index positions.now k ≤ length (program_of script.now.threads k) }
+    requires few { (k : ℕ) → k < length mutators.old → length (program_of script.now.threads k) < 2 ^ 32 }
+    ensures kept { OnOk result (AreReserved mutators.old mutators.new) }
+    ensures room { OnOk result ((k : ℕ) (d : MutatorSeen) → k < length mutators.old → HasLists (min script.now.config.slice (length (left_at script.now positions.now k))) (slice_index_or mutators.new k d)) }
+{
+    for (number, mutator) in mutators.iter_mut().enumerate() {
+        let program = script.threads.items()[number].items();
+        let left = program.len() as u32 - positions[number];
+        mutator.reserve(left.min(script.config.slice))?;
+    }
+    Ok(())
+}
+
+// Each position moves on by so many commands.
+fn advance(positions: &mut [u32], done: &[u32])
+    requires count { length done.now ≡ length positions.old }
+    requires fits { (k : ℕ) → k < length positions.old → slice_index positions.old k + slice_index done.now k < 2 ^ 32 }
+    ensures count { length positions.new ≡ length positions.old }
+    ensures each { (k : ℕ) → k < length positions.old → slice_index positions.new k ≡ slice_index positions.old k + slice_index done.now k }
+{
+    for (number, position) in positions.iter_mut().enumerate() {
+        *position += done[number];
+    }
+}
+
+// Takes the replies off a mutator.
+fn take_replies(alloc: Global, mutator: &mut Mutator) -> Result<List<Reply>, NoMemory>
+    ensures replies { IfOk result (λ replies. replies ≡ mutator.old.replies.items) }
+    ensures rest { OnOk result (mutator.new ≡ cleared mutator.old) }
+{
+    let replies = Vec::from_slice(alloc, mutator.replies.items())?;
+    mutator.replies.clear();
+    Ok(List::from_vec(replies))
+}
+
+// Takes the replies of the round off all mutators.
+fn taken(alloc: Global, mutators: &mut [Mutator]) -> Result<RoundRows, NoMemory>
+    ensures rows { IfOk result (λ rows. rows.replies ≡ replies_of mutators.old) }
+    ensures rest { OnOk result (mutators.new ≡ map cleared mutators.old) }
+{
+    let mut replies = List::new(alloc);
+    for mutator in mutators {
+        replies.push(take_replies(alloc, mutator)?)?;
+    }
+    Ok(RoundRows { replies })
+}

@@ -1,0 +1,125 @@
+//! A stop: what the round made is promoted, and the stop tells its row.
+//!
+//! The mutators stand still, so the words are read and written plainly. Roots and recorded fields are taken off the
+//! mutators (`roots`), promoted, and given back; then the nurseries are empty and nothing of the round is left. So
+//! a stop leads from what a round left, or from a new collector, to words, segments and mutators that stand for the
+//! state of the same run after that stop.
+//!
+//! The row is taken after the promotion: its numbers are those of the heap that the next round begins with.
+//!
+//! Easy to get wrong: fewer free segments than the reserve end a run only while commands are left, so what is
+//! asked first is whether any are.
+ghost use Rattle.std.specs.Prelude.{◌≡◌, ◌↔◌, ◌<◌, [], ◌∷◌, ◌++◌, All, IfOk, OnOk, IsSome, IsTrue, length};
+ghost use Rattle.nmgc_blocks.specs.Stopped.{Stopped};
+ghost use Rattle.nmgc_minor.specs.Promotion.{IsFor};
+ghost use Rattle.nmgc_cycle.specs.Stage.{IsStaged};
+ghost use Rattle.nmgc_cycle.specs.Roots.{HasRegisters};
+ghost use Rattle.nmgc_cycle.specs.Keeps.{CanStop, HasAnswered};
+ghost use Rattle.nmgc_cycle.specs.Stopping.{StandsStopped, HasPromoted, KeepsWorld, SomeIsLeft, ended_by};
+
+use crate::{Collector, roots};
+use nmgc_graph::NoMemory;
+use nmgc_journal::{End, Phase, StopRow};
+use nmgc_run::laws::places_are_blocks;
+use nmgc_script::Script;
+
+/// What a stop answers.
+#[derive(Clone, Copy, Debug, PartialEq, Eq)]
+pub enum StopEnd {
+    /// Commands are left, and at least as many segments are free as the reserve: a round follows.
+    GoOn,
+    /// Every command was answered.
+    Done,
+    /// Commands are left, and only `free` segments are free, fewer than the reserve.
+    HeapFull { free: u32, reserve: u32 },
+}
+
+impl Collector {
+    /// A stop: what the round made is promoted, the nurseries are empty afterwards, and the stop's row is told. No
+    /// command is answered.
+    ///
+    /// Asks that no stop was done yet, or a round since the last one. Whatever world words, segments and mutators
+    /// stood for before, they stand for it afterwards, and exactly what the promotion rule says has moved. Takes memory for the roots and the
+    /// recorded fields, and time for what is promoted, the roots, the recorded fields and the number of segments.
+    /// After `NoMemory` nothing is known of the collector.
+    pub fn stop(&mut self, script: &Script) -> Result<StopEnd, NoMemory>
+        requires staged { IsStaged script.now }
+        requires can { CanStop script.now self.old }
+        ensures answered { IfOk result (λ end. HasAnswered script.now self.new end) }
+        ensures world { OnOk result (KeepsWorld self.old self.new) }
+        ensures rounds { OnOk result (self.new.rounds ≡ self.old.rounds) }
+        ensures stops { OnOk result ((row : StopRow) × (self.new.stops ≡ self.old.stops ++ row ∷ [])) }
+    {
+        places_are_blocks();
+        let promoted = self.promote()?;
+        let free = self.segments.free_count();
+        let row = StopRow {
+            number: self.stops.items().len() as u32,
+            phase: Phase::Idle,
+            free,
+            filled: self.segments.filled_count(),
+            sweep: self.segments.sweep_count(),
+            promoted,
+        };
+        self.stops.push(row)?;
+        let reserve = self.segments.layout().reserve();
+        let end = if !self.has_left(script) {
+            StopEnd::Done
+        } else if free < reserve {
+            StopEnd::HeapFull { free, reserve }
+        } else {
+            StopEnd::GoOn
+        };
+        self.answered = ended(end);
+        Ok(end)
+    }
+
+    // Whether some program has commands left.
+    fn has_left(&self, script: &Script) -> bool
+        requires { length self.now.positions.items ≡ length script.now.threads }
+        ensures { IsTrue result ↔ SomeIsLeft script.now.threads self.now.positions.items }
+    {
+        script.threads.items().iter().zip(self.positions.iter()).any(|(
+            program,
+            position,
+        )| (*position as usize) < program.items().len())
+    }
+
+    // Promotes what the round made, and answers how many objects moved.
+    fn promote(&mut self) -> Result<u32, NoMemory>
+        requires whole { All HasRegisters self.old.mutators.items }
+        requires words { IsSome self.old.words }
+        requires lists { IsFor self.old.segments.layout self.old.promotion }
+        requires stopped { (t : Stopped) × StandsStopped t self.old }
+        ensures promoted { OnOk result (HasPromoted self.old self.new) }
+        ensures many { IfOk result (λ count. count ≡ length self.new.promotion.moves) }
+    {
+        let mut roots = roots::taken(self.alloc, self.mutators.as_mut_slice())?;
+        let mut nurseries = roots::nurseries(self.alloc, self.mutators.as_slice())?;
+        let recorded = roots::recorded(self.alloc, self.mutators.as_slice())?;
+        let Some(words) = &mut self.words else {
+            unreachable!()
+        };
+        self.promotion.promote(
+            words,
+            &mut self.segments,
+            nurseries.as_mut_slice(),
+            &mut roots,
+            recorded.as_slice(),
+            &[],
+        );
+        roots::give_back(self.mutators.as_mut_slice(), roots);
+        Ok(self.promotion.moves().len() as u32)
+    }
+}
+
+// The end of the run that a stop's answer is, if it is one.
+fn ended(end: StopEnd) -> Option<End>
+    ensures { result ≡ ended_by end }
+{
+    match end {
+        StopEnd::GoOn => None,
+        StopEnd::Done => Some(End::Done),
+        StopEnd::HeapFull { free, reserve } => Some(End::HeapFull { free, reserve }),
+    }
+}

@@ -1,0 +1,103 @@
+//! A mutator on a thread of its own in a round.
+//!
+//! A worker is a mutator with its seat. It reads its program from where it stands, and no other's, and notes how many
+//! commands it did; so the workers share the round alone, and what each did is told by its own contract.
+ghost use Rattle.std.specs.Prelude.{◌≡◌, ◌<◌, ◌≤◌, [], length, map, slice_index, vec_len, vec_capacity};
+ghost use Rattle.nmgc_run.specs.Slice.{program_of};
+ghost use Rattle.nmgc_cycle.specs.Working.{left_at, CanWork, HasWorkedOn, CanAllWork, HaveAllWorked, workers_of, mutator_of, seat_of, done_by};
+
+use nmgc_graph::{Command, List, MAKERS};
+use nmgc_mutator::Mutator;
+use nmgc_round::{Gate, MutatorSeat, Round};
+use nmgc_script::Script;
+use std::thread;
+use std::thread::Threads;
+
+/// A mutator with its seat in the round, and how many commands it did.
+#[derive(Drop)]
+pub struct Worker {
+    pub mutator: Mutator,
+    pub seat: MutatorSeat,
+    pub done: u32,
+}
+
+impl Worker {
+    // Does its slice.
+    fn work<G: Gate>(&mut self, round: &Round, program: &[Command], slice: u32, gate: &G)
+        requires { CanWork round.now slice program.now self.old }
+        ensures { HasWorkedOn round.now slice program.now self.old self.new }
+    {
+        let ended = self
+            .mutator
+            .run_slice(round, &mut self.seat, program, slice, gate);
+        self.done = ended.done;
+    }
+}
+
+/// Each does its slice of what is left of its program, in a thread of its own.
+pub fn work_all<R: Threads + Sync, G: Gate>(
+    rt: &R,
+    round: &Round,
+    workers: &mut [Worker],
+    script: &Script,
+    positions: &[u32],
+    gate: &G,
+)
+    requires { CanAllWork round.now script.now positions.now workers.old }
+    ensures { HaveAllWorked round.now script.now positions.now workers.old workers.new }
+{
+    thread::for_each_mut(
+        rt,
+        workers,
+        MAKERS as usize,
+        &|number, worker: &mut Worker|
+            requires { (number < length script.now.threads) × (number < length positions.now) × (slice_index positions.now number ≤ length (program_of script.now.threads number)) × CanWork round.now script.now.config.slice (left_at script.now positions.now number) worker.now }
+            ensures { HasWorkedOn round.entry.now script.entry.now.config.slice (left_at script.entry.now positions.entry.now number) worker.entry.now worker.exit.now }
+        {
+            let program = script.threads.items()[number].items();
+            let left = &program[positions[number] as usize..];
+            worker.work(round, left, script.config.slice, gate);
+        },
+    );
+}
+
+/// Each mutator gets its seat. The list has room for them.
+pub fn seated(mutators: Vec<Mutator>, seats: List<MutatorSeat>, workers: &mut Vec<Worker>)
+    requires count { vec_len mutators ≡ length seats }
+    requires room { (workers.old.items ≡ []) × (vec_len mutators ≤ vec_capacity workers.old) }
+    ensures { workers.new.items ≡ workers_of mutators.items seats }
+{
+    for (mutator, seat) in mutators.into_iter().zip(seats.into_vec()) {
+        workers.push_reserved(Worker {
+            mutator,
+            seat,
+            done: 0,
+        });
+    }
+}
+
+/// The mutators, their seats, and how many commands each did. The lists have room for them.
+pub fn unseated(
+    workers: Vec<Worker>,
+    mutators: &mut Vec<Mutator>,
+    seats: &mut Vec<MutatorSeat>,
+    done: &mut Vec<u32>,
+)
+    requires mutators { (mutators.old.items ≡ []) × (vec_len workers ≤ vec_capacity mutators.old) }
+    requires seats { (seats.old.items ≡ []) × (vec_len workers ≤ vec_capacity seats.old) }
+    requires done { (done.old.items ≡ []) × (vec_len workers ≤ vec_capacity done.old) }
+    ensures mutators { mutators.new.items ≡ map mutator_of workers.items }
+    ensures seats { seats.new.items ≡ map seat_of workers.items }
+    ensures done { done.new.items ≡ map done_by workers.items }
+{
+    for worker in workers {
+        let Worker {
+            mutator,
+            seat,
+            done: count,
+        } = worker;
+        mutators.push_reserved(mutator);
+        seats.push_reserved(seat);
+        done.push_reserved(count);
+    }
+}
