@@ -12,5 +12,5 @@ fn main(rt: HostRuntime) -> ExitCode {
     let mut source = StdSource::new(rt.stdin());
     let mut sink = StdSink::new(rt.stdout());
     let line = Arguments::new(&rt);
-    ExitCode::from(program(rt.alloc(), &line, &mut source, &mut sink))
+    ExitCode::from(program(rt.alloc(), &rt, &line, &mut source, &mut sink))
 }

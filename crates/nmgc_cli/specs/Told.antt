@@ -1,5 +1,5 @@
 -- What the program answers to which words and bytes, and what is written of it.
-use Rattle.std.specs.Prelude.{◌≡◌, ◌⊎◌, ◌≤◌, ◌+◌, ℕ, List, length, Option, Some, Ok, Err}
+use Rattle.std.specs.Prelude.{◌≡◌, ◌⊎◌, ◌≤◌, ◌+◌, ℕ, List, length, Option, Some, None, Ok, Err}
 use Rattle.std.specs.Io.KnownBytes.{Consumes, Appends, Keeps, IsAtEnd}
 use Rattle.nmgc_io.specs.Counts.{Takes, TakesUpTo, AppendsFront}
 use Rattle.nmgc_script.specs.Spelling.{Spells}
@@ -9,11 +9,16 @@ use Rattle.nmgc_script.specs.declared.script.Script.{Script}
 use Rattle.nmgc_script.specs.declared.fault.Cause.{Cause}
 use Rattle.nmgc_journal.specs.declared.report.Report.{Report}
 use Rattle.nmgc_cli.specs.Answer.{Answer, answer_status, answer_report, answer_text}
-use Rattle.nmgc_cli.specs.Built.{IsBuilt, IsLawful}
+use Rattle.nmgc_cycle.specs.Stage.{IsCutShort}
+use Rattle.nmgc_cycle.specs.Stage as run
+use Rattle.nmgc_run.specs.State.{plan_of}
+use Rattle.nmgc_journal.specs.Text.{report_text}
+use Rattle.nmgc_cli.specs.Built.{IsBuilt}
+use Rattle.nmgc_cli.specs.Status.{status_of}
 use Rattle.nmgc_cli.specs.Task.{Asks, IsWrong}
 use Rattle.nmgc_cli.specs.declared.answer.Refusal.TheVariants as no
 use Rattle.nmgc_cli.specs.declared.status.Status.{Status}
-use Rattle.nmgc_cli.specs.declared.status.Status.TheVariants.{Done, WriteFault, NoMemory, Unbuilt}
+use Rattle.nmgc_cli.specs.declared.status.Status.TheVariants.{Done, WriteFault, HeapFull, NoMemory, Unbuilt}
 use Rattle.nmgc_cli.specs.declared.task.Task.{Task}
 use Rattle.nmgc_cli.specs.declared.task.Task.TheVariants.{Run}
 use Rattle.nmgc_limits.specs.Limits.{most_script_bytes}
@@ -36,7 +41,7 @@ pub record SpellsNone (bytes : List ℕ) (line : ℕ) (c : Cause) : Type 0 where
 
 -- the answer to a script's bytes
 abbrev pub AnswersBytes : List ℕ → Answer → Type 0
-AnswersBytes bytes (Ok report) = (script : Script) × SpellsOnly bytes script × IsBuilt script × IsLawful script report
+AnswersBytes bytes (Ok report) = (script : Script) × SpellsOnly bytes script × IsBuilt script × run.IsTold script report
 AnswersBytes bytes (Err (no.Bad line c)) = SpellsNone bytes line c
 AnswersBytes bytes (Err no.Unbuilt) = (script : Script) × SpellsOnly bytes script × (IsBuilt script → ⊥)
 AnswersBytes bytes (Err no.NoMemory) = Unit {0}
@@ -68,7 +73,27 @@ pub record Ends (old new : Option (List ℕ)) (rose : Type 0) (answer : Answer) 
   pub report_of : report ≡ answer_report answer
   pub written : IsWritten old new rose (answer_status answer) (answer_text answer) status
 
--- a script within the limit is run if it is built, and else told to be unbuilt, where neither the source nor the sink fails and there is memory
-abbrev pub IsComplete : List (List ℕ) → Option (List ℕ) → Type 0 → Type 0 → Status → Type 0
-IsComplete words left read_fault write_fault status = (bytes : List ℕ) (script : Script) → Asks words Run → left ≡ Some bytes → length bytes ≤ most_script_bytes → Spells bytes script
-    → (read_fault → ⊥) → (write_fault → ⊥) → (status ≡ NoMemory) ⊎ ((status ≡ Done) × IsBuilt script) ⊎ ((status ≡ Unbuilt) × (IsBuilt script → ⊥))
+-- what a report is: the words asked for a run, what was left was read to its end and spells one script, which is built; the report tells a run of it; and its text was written, with the status of its end
+pub record IsReport (words : List (List ℕ)) (left left' taken taken' : Option (List ℕ)) (rose : Type 0) (status : Status) (report : Report) : Type 0 where
+  pub asked : Asks words Run
+  pub bytes : List ℕ
+  pub read : IsRead left left' bytes
+  pub script : Script
+  pub spells : SpellsOnly bytes script
+  pub built : IsBuilt script
+  pub tells : run.IsTold script report
+  pub written : IsWritten taken taken' rose (status_of report.end) (report_text report) status
+
+-- the report tells a run that ended at a stop where commands were left, and fewer segments were free than the reserve
+abbrev pub IsShortOf : Script → Option Report → Type 0
+IsShortOf script None = ⊥
+IsShortOf script (Some report) = IsCutShort (plan_of script) report
+
+-- a script that is built is run to its end, or to a stop that is short of segments; one that isn't is told so; or there was no memory
+abbrev pub IsRunThrough : Script → Status → Option Report → Type 0
+IsRunThrough script status report = (status ≡ NoMemory) ⊎ (IsBuilt script × ((status ≡ Done) ⊎ ((status ≡ HeapFull) × IsShortOf script report))) ⊎ ((status ≡ Unbuilt) × (IsBuilt script → ⊥))
+
+-- a script within the limit is run through, where neither the source nor the sink fails
+abbrev pub IsComplete : List (List ℕ) → Option (List ℕ) → Type 0 → Type 0 → Status → Option Report → Type 0
+IsComplete words left read_fault write_fault status report = (bytes : List ℕ) (script : Script) → Asks words Run → left ≡ Some bytes → length bytes ≤ most_script_bytes → Spells bytes script
+    → (read_fault → ⊥) → (write_fault → ⊥) → IsRunThrough script status report

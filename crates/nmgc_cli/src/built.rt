@@ -2,17 +2,21 @@
 ghost use Rattle.std.specs.Prelude.{◌≡◌, ◌↔◌, IsTrue, All};
 ghost use Rattle.nmgc_cli.specs.Built.{IsBuilt, IsBuiltCommand};
 
-use nmgc_graph::Command;
+use nmgc_graph::{Command, List};
 use nmgc_script::Script;
 
 /// Whether the run of a script is built.
 pub fn is_built(script: &Script) -> bool
     ensures { IsTrue result ↔ IsBuilt script.now }
 {
-    match script.threads.items() {
-        [program] => script.config.trigger == 0 && are_built(program.items()),
-        _ => false,
-    }
+    script.config.trigger == 0 && are_all_built(script.threads.items())
+}
+
+// Whether each command of each thread is built.
+fn are_all_built(threads: &[List<Command>]) -> bool
+    ensures { IsTrue result ↔ All (λ program. All IsBuiltCommand program) threads.now }
+{
+    threads.iter().all(|program| are_built(program.items()))
 }
 
 // Whether each command is built.

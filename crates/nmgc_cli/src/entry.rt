@@ -7,12 +7,14 @@ use crate::words::{CommandLine, words_of};
 use crate::{Status, nmgc};
 use nmgc_io::{Sink, Source};
 use std::alloc::Global;
+use std::thread::Threads;
 
 /// Runs the program on a command line, and answers the number with which the process ends. For wrong
 /// words nothing is read. Where there is no memory for the words, the number is 7, and nothing is read or
 /// written.
-pub fn program<L: CommandLine, S: Source, K: Sink>(
+pub fn program<R: Threads + Sync, L: CommandLine, S: Source, K: Sink>(
     alloc: Global,
+    rt: &R,
     line: &L,
     source: &mut S,
     sink: &mut K,
@@ -23,5 +25,5 @@ pub fn program<L: CommandLine, S: Source, K: Sink>(
     let Ok(words) = words_of(alloc, line) else {
         return Status::NoMemory.number();
     };
-    nmgc(alloc, &words, source, sink).status.number()
+    nmgc(alloc, rt, &words, source, sink).status.number()
 }

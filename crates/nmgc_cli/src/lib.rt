@@ -3,12 +3,11 @@
 //! `nmgc` does what the words ask for: it reads a script, runs it and writes the report's text, or tells
 //! why not. Its contract is the theorem of the repository: what was read, what the replies are, what was
 //! written, and which refusal comes when. `program` takes the words from a command line before it, and
-//! gives the number of the status after it. At this stage the run is one program on a heap that is never
-//! collected.
+//! gives the number of the status after it. The run is that of the collector (`nmgc_cycle`).
 //!
 //! - `words`, `task`: the words of the command line, and what they ask for.
 //! - `top`: the top call. `answer`, `told`, `message`: what is answered, and what is told of it.
-//! - `built`, `replay`: which scripts are built so far, and their run.
+//! - `built`: which scripts are built so far.
 //! - `status`, `entry`: statuses with their numbers, and the whole program but for its streams.
 #![tactic(auto)]
 
@@ -16,7 +15,6 @@ mod answer;
 mod built;
 pub mod entry;
 mod message;
-mod replay;
 pub mod status;
 pub mod task;
 mod told;

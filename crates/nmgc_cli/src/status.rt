@@ -19,8 +19,8 @@ pub enum Status {
     BadScript,
     /// There are more bytes than a script may have. Number 5.
     TooLong,
-    /// The run ended with a full heap; the report's text was written. Number 6. The run of the model has
-    /// no heap that could be full, so no run ends so yet.
+    /// The run ended at a stop where commands were left, and fewer segments were free than the reserve; the
+    /// report's text was written. Number 6.
     HeapFull,
     /// There was no memory. Number 7.
     NoMemory,

@@ -8,6 +8,7 @@ use nmgc_limits::MAX_SCRIPT_BYTES;
 use std::alloc::{AllocError, Global};
 use std::env::FillError;
 use std::test::Fail;
+use std::thread::Threads;
 
 // The first three lines of every script here: 41 bytes.
 const HEAD: &str = "nmgc 1\nheap 32 64 64 100 1000 0\nthread 0\n";
@@ -16,29 +17,112 @@ const HEAD: &str = "nmgc 1\nheap 32 64 64 100 1000 0\nthread 0\n";
 const ONE_OBJECT: &str =
     "num r1 5\ncon r0 7 r1\nget r2 r0 0\nshow r2\nget r2 r0 1\nget r2 r1 0\nshow r0\n";
 
-const ONE_OBJECT_REPORT: &str =
-    "report 1\nround 1\n0 ok\n0 0.0\n0 5\n0 5\n0 nofield\n0 nopointer\n0 0.0\nend done\n";
+const ONE_OBJECT_REPORT: &str = "report 1
+stop 0 idle free 32 filled 0 sweep 0 promoted 0
+round 1
+0 ok
+0 0.0
+0 5
+0 5
+0 nofield
+0 nopointer
+0 0.0
+stop 1 idle free 31 filled 0 sweep 0 promoted 1
+end done
+";
 
-const EMPTY_REPORT: &str = "report 1\nend done\n";
+const EMPTY_REPORT: &str = "report 1
+stop 0 idle free 32 filled 0 sweep 0 promoted 0
+end done
+";
 
 // Programs under the head, and what is written.
-const PROGRAMS: [(&str, Status, &str); 12] = [
+const PROGRAMS: [(&str, Status, &str); 13] = [
     ("", Status::Done, EMPTY_REPORT),
     (ONE_OBJECT, Status::Done, ONE_OBJECT_REPORT),
     (
         "con r0 7 r1\nget r2 r0 0\nshow r0\nget r2 r0 1\nget r3 r2 0",
         Status::Done,
-        "report 1\nround 1\n0 0.0\n0 nil\n0 0.0\n0 nofield\n0 nopointer\nend done\n",
+        "report 1
+stop 0 idle free 32 filled 0 sweep 0 promoted 0
+round 1
+0 0.0
+0 nil
+0 0.0
+0 nofield
+0 nopointer
+stop 1 idle free 31 filled 0 sweep 0 promoted 1
+end done
+",
     ),
     (
         "num r1 5\ncon r0 0 r1\nset r0 0 r1\nvar r2 r1\nnum r3 9\nset r2 0 r3\nget r4 r2 0\nset r2 1 r3\nget r4 r3 0\n",
         Status::Done,
-        "report 1\nround 1\n0 ok\n0 0.0\n0 fixed\n0 0.1\n0 ok\n0 ok\n0 9\n0 nofield\n0 nopointer\nend done\n",
+        "report 1
+stop 0 idle free 32 filled 0 sweep 0 promoted 0
+round 1
+0 ok
+0 0.0
+0 fixed
+0 0.1
+0 ok
+0 ok
+0 9
+0 nofield
+0 nopointer
+stop 1 idle free 31 filled 0 sweep 0 promoted 2
+end done
+",
     ),
     (
         "# the shared array\n\nset g 3 g\nget r1 g 3\nsame r1 g\nsame r1 r2\narr r3 2 g\nget r4 r3 1\nnil r4\nmov r5 r3\nshow r5\nyield\n",
         Status::Done,
-        "report 1\nround 1\n0 ok\n0 g\n0 yes\n0 no\n0 0.0\n0 g\n0 ok\n0 ok\n0 0.0\n0 ok\nend done\n",
+        "report 1
+stop 0 idle free 32 filled 0 sweep 0 promoted 0
+round 1
+0 ok
+0 g
+0 yes
+0 no
+0 0.0
+0 g
+0 ok
+0 ok
+0 0.0
+0 ok
+stop 1 idle free 31 filled 0 sweep 0 promoted 1
+end done
+",
+    ),
+    // The variable waits for the next round: 16 objects of 4 words fill the nursery.
+    (
+        "con r0 0 r1 r1\ncon r0 0 r1 r1\ncon r0 0 r1 r1\ncon r0 0 r1 r1\ncon r0 0 r1 r1\ncon r0 0 r1 r1\ncon r0 0 r1 r1\ncon r0 0 r1 r1\ncon r0 0 r1 r1\ncon r0 0 r1 r1\ncon r0 0 r1 r1\ncon r0 0 r1 r1\ncon r0 0 r1 r1\ncon r0 0 r1 r1\ncon r0 0 r1 r1\ncon r0 0 r1 r1\nvar r2 r0\n",
+        Status::Done,
+        "report 1
+stop 0 idle free 32 filled 0 sweep 0 promoted 0
+round 1
+0 0.0
+0 0.1
+0 0.2
+0 0.3
+0 0.4
+0 0.5
+0 0.6
+0 0.7
+0 0.8
+0 0.9
+0 0.10
+0 0.11
+0 0.12
+0 0.13
+0 0.14
+0 0.15
+stop 1 idle free 31 filled 0 sweep 0 promoted 1
+round 2
+0 0.16
+stop 2 idle free 31 filled 0 sweep 0 promoted 1
+end done
+",
     ),
     ("full\n", Status::Unbuilt, "unbuilt\n"),
     ("stack r0 2\n", Status::Unbuilt, "unbuilt\n"),
@@ -53,8 +137,192 @@ const PROGRAMS: [(&str, Status, &str); 12] = [
     ("arr r0 63 r1\n", Status::BadScript, "bad line 4 size\n"),
 ];
 
+// Each thread reads what the other put into the shared array in the round before.
+const TWO_THREADS: &str = "nmgc 1
+heap 32 64 64 100 1000 0
+thread 0
+num r1 5
+con r0 0 r1
+set g 0 r0
+yield
+get r2 g 1
+thread 1
+num r1 6
+con r0 0 r1
+set g 1 r0
+yield
+get r2 g 0
+get r3 r2 0
+";
+
+const TWO_THREADS_REPORT: &str = "report 1
+stop 0 idle free 32 filled 0 sweep 0 promoted 0
+round 1
+0 ok
+0 0.0
+0 ok
+0 ok
+1 ok
+1 1.0
+1 ok
+1 ok
+stop 1 idle free 30 filled 0 sweep 0 promoted 2
+round 2
+0 1.0
+1 0.0
+1 5
+stop 2 idle free 30 filled 0 sweep 0 promoted 0
+end done
+";
+
+// As many threads as there may be: each reads what the next one put into the shared array in the round before.
+const EIGHT_THREADS: &str = "nmgc 1
+heap 64 64 64 100 1000 0
+thread 0
+con r0 0
+set g 0 r0
+yield
+get r1 g 1
+thread 1
+con r0 1
+set g 1 r0
+yield
+get r1 g 2
+thread 2
+con r0 2
+set g 2 r0
+yield
+get r1 g 3
+thread 3
+con r0 3
+set g 3 r0
+yield
+get r1 g 4
+thread 4
+con r0 4
+set g 4 r0
+yield
+get r1 g 5
+thread 5
+con r0 5
+set g 5 r0
+yield
+get r1 g 6
+thread 6
+con r0 6
+set g 6 r0
+yield
+get r1 g 7
+thread 7
+con r0 7
+set g 7 r0
+yield
+get r1 g 0
+";
+
+const EIGHT_THREADS_REPORT: &str = "report 1
+stop 0 idle free 64 filled 0 sweep 0 promoted 0
+round 1
+0 0.0
+0 ok
+0 ok
+1 1.0
+1 ok
+1 ok
+2 2.0
+2 ok
+2 ok
+3 3.0
+3 ok
+3 ok
+4 4.0
+4 ok
+4 ok
+5 5.0
+5 ok
+5 ok
+6 6.0
+6 ok
+6 ok
+7 7.0
+7 ok
+7 ok
+stop 1 idle free 56 filled 0 sweep 0 promoted 8
+round 2
+0 1.0
+1 2.0
+2 3.0
+3 4.0
+4 5.0
+5 6.0
+6 7.0
+7 0.0
+stop 2 idle free 56 filled 0 sweep 0 promoted 0
+end done
+";
+
+// Eight objects that stay, in segments of four; the reserve is 5 segments.
+const EIGHT_OBJECTS: &str = "thread 0
+con r0 0 r0 r1
+con r0 0 r0 r1
+con r0 0 r0 r1
+con r0 0 r0 r1
+con r0 0 r0 r1
+con r0 0 r0 r1
+con r0 0 r0 r1
+con r0 0 r0 r1
+show r0
+";
+
+// How many segments there are for them, and what is written.
+const HEAPS: [(&str, Status, &str); 3] = [
+    (
+        "nmgc 1\nheap 4 16 16 100 1000 0\n",
+        Status::HeapFull,
+        "report 1
+stop 0 idle free 4 filled 0 sweep 0 promoted 0
+end heapfull free 4 reserve 5
+",
+    ),
+    (
+        "nmgc 1\nheap 5 16 16 100 1000 0\n",
+        Status::HeapFull,
+        "report 1
+stop 0 idle free 5 filled 0 sweep 0 promoted 0
+round 1
+0 0.0
+0 0.1
+0 0.2
+0 0.3
+stop 1 idle free 4 filled 1 sweep 0 promoted 4
+end heapfull free 4 reserve 5
+",
+    ),
+    (
+        "nmgc 1\nheap 6 16 16 100 1000 0\n",
+        Status::Done,
+        "report 1
+stop 0 idle free 6 filled 0 sweep 0 promoted 0
+round 1
+0 0.0
+0 0.1
+0 0.2
+0 0.3
+stop 1 idle free 5 filled 1 sweep 0 promoted 4
+round 2
+0 0.4
+0 0.5
+0 0.6
+0 0.7
+0 0.7
+stop 2 idle free 4 filled 2 sweep 0 promoted 4
+end done
+",
+    ),
+];
+
 // Whole scripts, and what is written.
-const SCRIPTS: [(&str, Status, &str); 9] = [
+const SCRIPTS: [(&str, Status, &str); 13] = [
     ("", Status::BadScript, "bad line 1 version\n"),
     (
         "nmgc 1\nheap 32 64 64 100 1000 0\n",
@@ -84,7 +352,22 @@ const SCRIPTS: [(&str, Status, &str); 9] = [
     (
         "nmgc 1\nheap 32 64 64 100 1000 0\nthread 0\narr r0 62 r1\n",
         Status::Done,
-        "report 1\nround 1\n0 0.0\nend done\n",
+        "report 1
+stop 0 idle free 32 filled 0 sweep 0 promoted 0
+round 1
+0 0.0
+stop 1 idle free 31 filled 1 sweep 0 promoted 1
+end done
+",
+    ),
+    // Fewer segments than the reserve are no matter where no command is left.
+    (
+        "nmgc 1\nheap 4 16 16 100 1000 0\nthread 0\n",
+        Status::Done,
+        "report 1
+stop 0 idle free 4 filled 0 sweep 0 promoted 0
+end done
+",
     ),
     (
         "nmgc 1\nheap 32 64 64 100 1000 1\nthread 0\n",
@@ -93,6 +376,14 @@ const SCRIPTS: [(&str, Status, &str); 9] = [
     ),
     (
         "nmgc 1\nheap 32 64 64 100 1000 0\nthread 0\nthread 1\n",
+        Status::Done,
+        EMPTY_REPORT,
+    ),
+    (TWO_THREADS, Status::Done, TWO_THREADS_REPORT),
+    (EIGHT_THREADS, Status::Done, EIGHT_THREADS_REPORT),
+    // What isn't built stands in the second section.
+    (
+        "nmgc 1\nheap 32 64 64 100 1000 0\nthread 0\nthread 1\ncollect\n",
         Status::Unbuilt,
         "unbuilt\n",
     ),
@@ -108,7 +399,16 @@ fn told_of(cut: usize) -> (Status, &'static str) {
         42..=43 => (Status::BadScript, "bad line 4 command\n"),
         44..=47 => (Status::BadScript, "bad line 4 arity\n"),
         48 => (Status::BadScript, "bad line 4 operand\n"),
-        _ => (Status::Done, "report 1\nround 1\n0 ok\nend done\n"),
+        _ => (
+            Status::Done,
+            "report 1
+stop 0 idle free 32 filled 0 sweep 0 promoted 0
+round 1
+0 ok
+stop 1 idle free 32 filled 0 sweep 0 promoted 0
+end done
+",
+        ),
     }
 }
 
@@ -132,11 +432,17 @@ fn one_word(alloc: Global, word: &str) -> Result<Vec<String>, AllocError> {
 }
 
 // Runs a script in pieces of 5 bytes, where the read and the write of these numbers fail. No call has number 0.
-fn run_failing(alloc: Global, script: &[u8], read: u64, write: u64) -> Result<Run, Fail> {
+fn run_failing<R: Threads + Sync>(
+    rt: &R,
+    alloc: Global,
+    script: &[u8],
+    read: u64,
+    write: u64,
+) -> Result<Run, Fail> {
     let bytes = Vec::from_slice(alloc, script)?;
     let mut source = MemorySource::new(bytes, 5, listed(alloc, read)?);
     let mut sink = MemorySink::new(alloc, 5, listed(alloc, write)?, 1000)?;
-    let ended = nmgc(alloc, &one_word(alloc, "run")?, &mut source, &mut sink);
+    let ended = nmgc(alloc, rt, &one_word(alloc, "run")?, &mut source, &mut sink);
     Ok(Run { ended, sink })
 }
 
@@ -150,7 +456,7 @@ fn script_of(alloc: Global, program: &str) -> Result<Vec<u8>, AllocError> {
 fn programs_are_run_or_refused(rt: HostRuntime) -> Result<(), Fail> {
     for (program, status, text) in &PROGRAMS {
         let script = script_of(rt.alloc(), program)?;
-        let run = run_failing(rt.alloc(), &script, 0, 0)?;
+        let run = run_failing(&rt, rt.alloc(), &script, 0, 0)?;
         assert_eq!(rt; run.ended.status, *status, "{program}");
         assert_eq!(rt; run.sink.bytes(), text.as_bytes(), "{program}");
         assert_eq!(rt;
@@ -165,9 +471,22 @@ fn programs_are_run_or_refused(rt: HostRuntime) -> Result<(), Fail> {
 #[test]
 fn scripts_are_run_or_refused(rt: HostRuntime) -> Result<(), Fail> {
     for (script, status, text) in &SCRIPTS {
-        let run = run_failing(rt.alloc(), script.as_bytes(), 0, 0)?;
+        let run = run_failing(&rt, rt.alloc(), script.as_bytes(), 0, 0)?;
         assert_eq!(rt; run.ended.status, *status, "{script}");
         assert_eq!(rt; run.sink.bytes(), text.as_bytes(), "{script}");
+    }
+    Ok(())
+}
+
+#[test]
+fn a_heap_runs_full(rt: HostRuntime) -> Result<(), Fail> {
+    for (head, status, text) in &HEAPS {
+        let mut script = Vec::from_slice(rt.alloc(), head.as_bytes())?;
+        script.extend_from_slice(EIGHT_OBJECTS.as_bytes())?;
+        let run = run_failing(&rt, rt.alloc(), &script, 0, 0)?;
+        assert_eq!(rt; run.ended.status, *status, "{head}");
+        assert_eq!(rt; run.sink.bytes(), text.as_bytes(), "{head}");
+        assert!(rt; run.ended.report.is_some(), "{head}");
     }
     Ok(())
 }
@@ -177,7 +496,7 @@ fn a_script_is_cut(rt: HostRuntime) -> Result<(), Fail> {
     let script = script_of(rt.alloc(), ONE_OBJECT)?;
     for cut in 0..51 {
         let (status, text) = told_of(cut);
-        let run = run_failing(rt.alloc(), &script[..cut.min(script.len())], 0, 0)?;
+        let run = run_failing(&rt, rt.alloc(), &script[..cut.min(script.len())], 0, 0)?;
         assert_eq!(rt; run.ended.status, status, "{cut}");
         assert_eq!(rt; run.sink.bytes(), text.as_bytes(), "{cut}");
     }
@@ -189,7 +508,7 @@ fn each_read_fails(rt: HostRuntime) -> Result<(), Fail> {
     let script = script_of(rt.alloc(), ONE_OBJECT)?;
     let reads = script.len().div_ceil(5) as u64 + 1;
     for read in 1..reads + 1 {
-        let run = run_failing(rt.alloc(), &script, read, 0)?;
+        let run = run_failing(&rt, rt.alloc(), &script, read, 0)?;
         assert_eq!(rt; run.ended.status, Status::ReadFault, "{read}");
         assert_eq!(rt; run.sink.bytes(), b"read fault\n".as_slice(), "{read}");
     }
@@ -201,11 +520,21 @@ fn each_write_fails(rt: HostRuntime) -> Result<(), Fail> {
     let script = script_of(rt.alloc(), ONE_OBJECT)?;
     let report = ONE_OBJECT_REPORT.as_bytes();
     for write in 1..report.len().div_ceil(5) as u64 + 1 {
-        let run = run_failing(rt.alloc(), &script, 0, write)?;
+        let run = run_failing(&rt, rt.alloc(), &script, 0, write)?;
         let written = (5 * (write as usize - 1)).min(report.len());
         assert_eq!(rt; run.ended.status, Status::WriteFault, "{write}");
         assert_eq!(rt; run.sink.bytes(), &report[..written], "{write}");
     }
+    Ok(())
+}
+
+// The report is there also where its text wasn't written whole.
+#[test]
+fn a_cut_report_is_handed_on(rt: HostRuntime) -> Result<(), Fail> {
+    let run = run_failing(&rt, rt.alloc(), &script_of(rt.alloc(), "")?, 0, 3)?;
+    assert_eq!(rt; run.ended.status, Status::WriteFault);
+    assert_eq!(rt; run.sink.bytes(), b"report 1\ns".as_slice());
+    assert!(rt; run.ended.report.is_some());
     Ok(())
 }
 
@@ -222,7 +551,7 @@ fn other_words_are_refused(rt: HostRuntime) -> Result<(), Fail> {
     ] {
         let mut source = MemorySource::new(Vec::new(alloc), 1, Vec::new(alloc));
         let mut sink = MemorySink::new(alloc, 100, Vec::new(alloc), 100)?;
-        let ended = nmgc(alloc, words, &mut source, &mut sink);
+        let ended = nmgc(alloc, &rt, words, &mut source, &mut sink);
         assert_eq!(rt; ended.status, Status::Usage);
         assert_eq!(rt; sink.bytes(), b"usage: nmgc run\n".as_slice());
     }
@@ -230,37 +559,41 @@ fn other_words_are_refused(rt: HostRuntime) -> Result<(), Fail> {
 }
 
 // Runs many bytes at once.
-fn run_many(alloc: Global, bytes: Vec<u8>) -> Result<Run, Fail> {
+fn run_many<R: Threads + Sync>(rt: &R, alloc: Global, bytes: Vec<u8>) -> Result<Run, Fail> {
     let mut source = MemorySource::new(bytes, 1 << 20, Vec::new(alloc));
     let mut sink = MemorySink::new(alloc, 1 << 20, Vec::new(alloc), 1 << 24)?;
-    let ended = nmgc(alloc, &one_word(alloc, "run")?, &mut source, &mut sink);
+    let ended = nmgc(alloc, rt, &one_word(alloc, "run")?, &mut source, &mut sink);
     Ok(Run { ended, sink })
 }
 
 #[test]
 fn one_byte_more_is_too_long(rt: HostRuntime) -> Result<(), Fail> {
     let bytes = vec![in rt.alloc(); b'#'; MAX_SCRIPT_BYTES + 1]?;
-    let run = run_many(rt.alloc(), bytes)?;
+    let run = run_many(&rt, rt.alloc(), bytes)?;
     assert_eq!(rt; run.ended.status, Status::TooLong);
     assert_eq!(rt; run.sink.bytes(), b"too long\n".as_slice());
     Ok(())
 }
 
-// 41 bytes of head, 2,097,146 lines of 8 bytes and one of 7 are 16,777,216 bytes.
+// 43 bytes of head, 3 lines of 7 bytes and 2,097,144 of 8 are 16,777,216 bytes. They are 2,097,147 commands,
+// which are 32 rounds of 65,536.
 #[test]
 fn the_longest_script_is_run(rt: HostRuntime) -> Result<(), Fail> {
-    let mut bytes = script_of(rt.alloc(), "nil r1\n")?;
-    for _ in 0..2_097_146 {
+    let head = b"nmgc 1\nheap 32 64 64 65536 1000 0\nthread 0\nnil r1\nnil r1\nnil r1\n";
+    let mut bytes = Vec::from_slice(rt.alloc(), head)?;
+    for _ in 0..2_097_144 {
         bytes.extend_from_slice(b"show r1\n")?;
     }
     assert_eq!(rt; bytes.len(), MAX_SCRIPT_BYTES);
-    let run = run_many(rt.alloc(), bytes)?;
+    let run = run_many(&rt, rt.alloc(), bytes)?;
     assert_eq!(rt; run.ended.status, Status::Done);
-    // "report 1", "round 1", "0 ok", and "0 nil" for each line, then "end done".
+    // A line for the report, the end, each stop, each round and each command.
     let text = run.sink.bytes();
-    assert_eq!(rt; text.len(), 9 + 8 + 5 + 6 * 2_097_146 + 9);
-    assert!(rt; text.starts_with(b"report 1\nround 1\n0 ok\n0 nil\n"));
-    assert!(rt; text.ends_with(b"0 nil\nend done\n"));
+    let lines = text.iter().filter(|byte| **byte == b'\n').count();
+    assert_eq!(rt; lines, 2 + 33 + 32 + 2_097_147);
+    assert!(rt;
+        text.ends_with(b"0 nil\nstop 32 idle free 32 filled 0 sweep 0 promoted 0\nend done\n")
+    );
     Ok(())
 }
 
@@ -318,7 +651,7 @@ fn the_program_ends_with_its_number(rt: HostRuntime) -> Result<(), Fail> {
         let bytes = Vec::from_slice(rt.alloc(), &script[..script.len().min(*cut)])?;
         let mut source = MemorySource::new(bytes, 100, Vec::new(rt.alloc()));
         let mut sink = MemorySink::new(rt.alloc(), 100, Vec::new(rt.alloc()), 1000)?;
-        let ended = program(rt.alloc(), &Line { words }, &mut source, &mut sink);
+        let ended = program(rt.alloc(), &rt, &Line { words }, &mut source, &mut sink);
         assert_eq!(rt; ended, *number);
         assert_eq!(rt; sink.bytes(), text.as_bytes());
     }
