@@ -1,0 +1,239 @@
+-- A collector that scans alone: each load is the machine's next scan, by the law of scans.
+use Rattle.std.proofs.Common.{◌≡◌, inl, inr, ℕ, suc, ◌+◌, ◌-◌, ◌*◌, ◌<◌, ◌≤◌, ◌^◌, Bool, true, false, cond, List, [], ◌∷◌, ◌++◌, length, set, refl, sym, ap, subst, ◌∙◌, arith, Some, None, Option}
+use Rattle.std.specs.Prelude.{Contains, slice_index, IsSome}
+use mathlib.Core.Option.{some}
+use lib.ListN.{get_elem?}
+use Rattle.nmgc_graph.specs.declared.value.Name.{Name}
+use Rattle.nmgc_graph.specs.declared.value.Value.{Value}
+use Rattle.nmgc_graph.specs.declared.value.Value.TheVariants as value
+use Rattle.nmgc_graph.specs.declared.node.Node.{Node}
+use Rattle.nmgc_graph.specs.World.{World, node_of}
+use Rattle.nmgc_graph.specs.laws.Orders.{contains_head}
+use Rattle.nmgc_object.specs.declared.layout.Layout.{Layout}
+use Rattle.nmgc_object.specs.declared.words.Header.{Header}
+use Rattle.nmgc_object.specs.declared.size.TheConstants.{HEADER_WORDS}
+use Rattle.nmgc_object.specs.Places.{word_total}
+use Rattle.nmgc_object.specs.Words.{header_word, IsHeader}
+use Rattle.nmgc_core.specs.declared.event.Entry.{Entry}
+use Rattle.nmgc_core.specs.State.{State, mark_value, mark_read}
+use Rattle.nmgc_core.specs.Scan.{read_at, moved_on}
+use Rattle.nmgc_core.specs.Machine.{after_scan, advanced}
+use Rattle.nmgc_alloc.specs.Segments.{Segments}
+use Rattle.nmgc_alloc.specs.laws.Placing.{step}
+use Rattle.nmgc_heap.specs.Shape.{header_of, size_of}
+use Rattle.nmgc_heap.specs.Places.{Place, Means, LiesWell}
+use Rattle.nmgc_round.specs.Events.{Happening, did, scanned, after, replay}
+use Rattle.nmgc_round.specs.View.{Opening, Seen, Scan, whole}
+use Rattle.nmgc_round.specs.Marking.{Marks, marks_of, marks_after, offset_of}
+use Rattle.nmgc_round.specs.Objects.{Object, place_of, IsIn}
+use Rattle.nmgc_round.specs.Rule.{Keeps, now, AllRead, IsRead}
+use Rattle.nmgc_round.specs.Added.{AddsScan}
+use Rattle.nmgc_round.specs.Ready.{CanScan, scanned_by}
+use Rattle.nmgc_round.specs.Starting.{CanOpen}
+use Rattle.nmgc_round.specs.Told.{TellsEntry, TellsNode, IsSafe}
+use Rattle.nmgc_run.specs.Seen.{MarkerSeen}
+use Rattle.nmgc_mark.specs.Stopped.{AreScans, IsAlone, IsReady, HasFinished}
+use Rattle.nmgc_mark.specs.Tie.{IsTied, AreQueued}
+use Rattle.nmgc_mark.specs.Work.{IsScanning, IsAtField, entry_now, marks_seen, rest_of}
+use Rattle.nmgc_mark.proofs.Takes.{mark_is}
+
+-- what the laws of rounds say of a scan and of an opening
+abbrev pub ScanLaw : Type 0
+ScanLaw = (o : Opening) (words : List ℕ) (views : List Seen) (id : ℕ) (v : Seen) (at offset : ℕ) (k : Keeps o words views) → get_elem? views id ≡ some v → (can : CanScan v at offset) → AddsScan o words views k can.entry words (set views id (scanned_by v (slice_index words (at + offset))))
+
+abbrev pub OpenLaw : Type 0
+OpenLaw = (o : Opening) (words : List ℕ) → CanOpen o words → (k : Keeps o words (whole o ∷ [])) × (k.events ≡ [])
+
+-- the words of an object are among the heap's
+pub lies_within : (layout : Layout) (p : Place) (size : ℕ) → 0 < size → LiesWell layout p size → p.at + size ≤ word_total layout
+lies_within layout p size pos (inl g) = let e = g.2 in omega arith
+lies_within layout p size pos (inr (ne, inl segment)) =
+    let last = (segment.1 (p.at + size - 1) (omega arith) (omega arith)) in
+    let more = step segment.0 layout.segments layout.words last.exists in
+    let before = last.before in
+    omega arith
+lies_within layout p size pos (inr (ne, inr nursery)) =
+    let last = (nursery.1 (p.at + size - 1) (omega arith) (omega arith)) in
+    let more = step p.name.maker layout.mutators layout.nursery last.exists in
+    let before = last.before in
+    omega arith
+
+-- what the last of the scans read
+last_read : (P : Place → Type 0) (ss : List Scan) (s : Scan) (xs : List (Entry × Option Value)) → AllRead P (ss ++ s ∷ []) xs → (x : Option Value) × IsRead P s.word x × (x ≡ None → 1 ≤ s.entry.position → s.word ≡ 0)
+last_read P [] s [] a = absurd a
+last_read P [] s (x ∷ xs) a = (x.1, a.0.1, a.0.2)
+last_read P (r ∷ ss) s [] a = absurd a
+last_read P (r ∷ ss) s (x ∷ xs) a = last_read P ss s xs a.1
+
+more_scans : (es : List Happening) (entry : Entry) (v : Option Value) → AreScans es → AreScans (es ++ scanned entry v ∷ [])
+more_scans [] entry v h = tt
+more_scans (did m c r ∷ es) entry v h = absurd h
+more_scans (scanned e x ∷ es) entry v h = more_scans es entry v h
+
+-- the first entry can be scanned
+abbrev pub can_scan : (v : Seen) (s : Segments) (m : MarkerSeen) (at position offset : ℕ) → v.collects ≡ true → IsScanning v s m at position → offset ≡ offset_of position → CanScan v at offset
+can_scan v s m at position offset collects h e = record {
+  collects = collects;
+  entry = entry_now v;
+  rest = (rest_of (marks_seen v)).queue;
+  first = ap (λ (k : Marks). k.queue) h.first;
+  there = h.there;
+  position = e ∙ ap offset_of (sym h.stands);
+}
+
+module _ (o : Opening) (words : List ℕ) (v : Seen) (a : IsAlone o words v) (s : Segments) (m : MarkerSeen) (at position offset : ℕ) (h : IsScanning v s m at position) (e : offset ≡ offset_of position) (law : ScanLaw) where
+  added : AddsScan o words (v ∷ []) a.keeps (entry_now v) words (scanned_by v (slice_index words (at + offset)) ∷ [])
+  added = law o words (v ∷ []) 0 v at offset a.keeps refl (can_scan v s m at position offset a.collects h e)
+
+  pub alone_then : IsAlone o words (scanned_by v (slice_index words (at + offset)))
+  alone_then = record {
+    opening = a.opening;
+    collects = a.collects;
+    keeps = added.1;
+    scans = subst AreScans (sym added.2) (more_scans a.keeps.events (entry_now v) added.0 a.scans);
+  }
+
+  queue_is : (now o a.keeps.events).queue ≡ entry_now v ∷ (rest_of (marks_seen v)).queue
+  queue_is =
+      ap (λ (x : Marks). x.queue) ((a.keeps.agrees 0 v refl).scans a.collects).2
+      ∙ ap (λ (y : Opening). (marks_after y v.scans).queue) (sym a.opening)
+      ∙ ap (λ (x : Marks). x.queue) h.first
+
+  there_is : Contains o.places (record { at = at; name = (entry_now v).name })
+  there_is = subst (λ (y : Opening). Contains y.places (record { at = at; name = (entry_now v).name })) a.opening h.there
+
+  node_told : position ≡ 0 → TellsNode o (entry_now v).name (slice_index words (at + offset))
+  node_told first =
+      let q = a.keeps.queued (entry_now v) (subst (λ (l : List Entry). Contains l (entry_now v)) (sym queue_is) (contains_head (entry_now v) (rest_of (marks_seen v)).queue)) in
+      let x : Object = q.object in
+      let same = a.keeps.stands.one (place_of q.object) (record { at = at; name = (entry_now v).name }) (inl q.here.there) (inl there_is) (inl q.name) in
+      let x_at : q.object.at ≡ at = ap (λ (p : Place). p.at) same in
+      let st = a.keeps.stands.objects q.object (inl q.here) in
+      let known : node_of o.core.snapshot q.object.name ≡ Some q.node = ap (λ (n : Name). node_of o.core.snapshot n) q.name ∙ q.there in
+      let wide = a.keeps.is.wide q.marking q.object q.here (subst (λ (y : Option Node). IsSome y) (sym known) refl) in
+      let later = (st.kept q.node (inr (record { marking = q.marking; wide = wide; there = known }))).0 in
+      let apart = a.keeps.stands.apart q.object (inl q.here) in
+      let z : at + offset ≡ at = let f = e ∙ ap offset_of first in omega arith in
+      record {
+        node = q.node;
+        there = q.there;
+        valid = subst IsHeader later.header apart.valid;
+        word_is = ap (λ i. slice_index words i) (z ∙ sym x_at) ∙ st.header ∙ ap header_word later.header;
+        room = λ b c.
+            let one = a.keeps.stands.one (record { at = b; name = (entry_now v).name }) (place_of q.object) (inl c) (inl q.here.there) (inl (sym q.name)) in
+            let b_at : b ≡ q.object.at = ap (λ (p : Place). p.at) one in
+            let fields = ap (λ (y : Header). y.fields) later.header in
+            let within = lies_within o.layout (place_of q.object) (size_of q.object.node) (omega arith) apart.lies in
+            omega arith;
+      }
+
+  pointer_safe : (P : Place → Type 0) → ((p : Place) → P p → p.at + 2 ≤ word_total o.layout) → (x : Option Value) → IsRead P (slice_index words (at + offset)) x → (x ≡ None → slice_index words (at + offset) ≡ 0) → IsSafe o (slice_index words (at + offset))
+  pointer_safe P low None r unset b is = let z = unset refl in omega arith
+  pointer_safe P low (Some value.Nil) r unset b is = absurd (omega arith)
+  pointer_safe P low (Some (value.Number n)) r unset b is = absurd (omega arith)
+  pointer_safe P low (Some (value.Ref name)) r unset b is =
+      let l = low (record { at = r.0; name = name }) r.2 in
+      let f = r.1 in
+      omega arith
+
+  field_safe : 1 ≤ position → IsSafe o (slice_index words (at + offset))
+  field_safe some_ =
+      let n = added.1 in
+      let reads = ((added.1.agrees 0 (scanned_by v (slice_index words (at + offset))) refl).scans a.collects).1 in
+      let last = last_read (IsIn o added.1.born) v.scans (record { entry = entry_now v; word = slice_index words (at + offset) }) _ reads in
+      pointer_safe (IsIn o added.1.born)
+      (λ p q. let x : Object = record { at = p.at; name = p.name; node = q.0 } in let l = lies_within o.layout (place_of x) (size_of q.0) (omega arith) (added.1.stands.apart x q.1).lies in omega arith)
+      last.0 last.1 (λ none. last.2 none (let f = h.stands in omega arith))
+
+  pub alone_tells : TellsEntry o (entry_now v) (slice_index words (at + offset))
+  alone_tells = record { header = λ first. node_told (sym h.stands ∙ first); safe = λ some_. field_safe (let f = h.stands in omega arith) }
+
+-- the same at a word that is known to be there
+pub scan_alone : ScanLaw → (o : Opening) (words : List ℕ) (v : Seen) (s : Segments) (m : MarkerSeen) (at position offset i w : ℕ) → IsAlone o words v → IsScanning v s m at position → offset ≡ offset_of position → i ≡ at + offset → w ≡ slice_index words i → IsAlone o words (scanned_by v w) × TellsEntry v.opening (entry_now v) w
+scan_alone law o words v s m at position offset i w a h e place is =
+    let word : slice_index words (at + offset) ≡ w = ap (λ j. slice_index words j) (sym place) ∙ sym is in (
+      subst (λ x. IsAlone o words (scanned_by v x)) word (alone_then o words v a s m at position offset h e law),
+      subst (λ (y : Opening). TellsEntry y (entry_now v) w) (sym a.opening) (subst (λ x. TellsEntry o (entry_now v) x) word (alone_tells o words v a s m at position offset h e law)),
+    )
+
+-- every word is among those that the layout has
+pub alone_total : (o : Opening) (words : List ℕ) (v : Seen) → IsAlone o words v → (length words ≡ word_total v.opening.layout) × (word_total v.opening.layout < 2 ^ 32)
+alone_total o words v a =
+    let l = a.keeps.is.layout in
+    let heap = l.heap in
+    let t = a.keeps.stands.total in (
+      t ∙ ap (λ (y : Opening). word_total y.layout) (sym a.opening),
+      subst (λ (y : Opening). word_total y.layout < 2 ^ 32) (sym a.opening) (omega arith),
+    )
+
+-- a collector alone as it begins
+pub alone_opens : OpenLaw → (o : Opening) (words : List ℕ) → CanOpen o words → IsAlone o words (whole o)
+alone_opens law o words can = let k = law o words can in record { opening = refl; collects = refl; keeps = k.0; scans = subst AreScans (sym k.1) tt }
+
+-- a scan changes marks and queue alone
+value_rest : (s : State) (v : Value) → mark_value s v ≡ record s { marked = (mark_value s v).marked; queue = (mark_value s v).queue }
+value_rest s value.Nil = refl
+value_rest s (value.Number n) = refl
+value_rest s (value.Ref name) = (mark_is s name).rest
+
+read_rest : (s : State) (x : Option Value) → mark_read s x ≡ record s { marked = (mark_read s x).marked; queue = (mark_read s x).queue }
+read_rest s None = refl
+read_rest s (Some v) = value_rest s v
+
+advanced_rest : (s t : State) (queue : List Entry) → t ≡ record s { marked = t.marked; queue = t.queue } → advanced t queue ≡ record s { marked = (advanced t queue).marked; queue = (advanced t queue).queue }
+advanced_rest s t [] e = e
+advanced_rest s t (entry ∷ rest) e = ap (λ (x : State). let u : State = record x { queue = moved_on (node_of t.world entry.name) entry ++ rest } in u) e
+
+scan_rest : (s : State) (queue : List Entry) → after_scan s queue ≡ record s { marked = (after_scan s queue).marked; queue = (after_scan s queue).queue }
+scan_rest s [] = refl
+scan_rest s (entry ∷ rest) =
+    let t : State = mark_read s (read_at (node_of s.world entry.name) entry.position) in
+    advanced_rest s t t.queue (read_rest s (read_at (node_of s.world entry.name) entry.position))
+
+-- so do scans
+pub scans_rest : (s : State) (es : List Happening) → AreScans es → replay s es ≡ record s { marked = (replay s es).marked; queue = (replay s es).queue }
+scans_rest s [] h = refl
+scans_rest s (did m c r ∷ es) h = absurd h
+scans_rest s (scanned entry v ∷ es) h =
+    let one = scan_rest s s.queue in
+    scans_rest (after_scan s s.queue) es h ∙ ap (λ (x : State). let u : State = record x { marked = (replay (after_scan s s.queue) es).marked; queue = (replay (after_scan s s.queue) es).queue } in u) one
+
+none_queued : (places : List Place) (ats : List ℕ) (entries : List Entry) → ats ≡ [] → AreQueued places ats entries → entries ≡ []
+none_queued places [] [] e q = refl
+none_queued places (x ∷ ats) entries e q = absurd cc
+none_queued places [] (x ∷ entries) e q = absurd q
+
+-- the queue is empty, and all that the machine would scan was scanned
+pub alone_ends : (o : Opening) (words : List ℕ) (v : Seen) (s : Segments) (m : MarkerSeen) → IsAlone o words v → IsTied o (marks_seen v) s m → m.queue ≡ [] → HasFinished o s m
+alone_ends o words v s m a h empty =
+    let told = ((a.keeps.agrees 0 v refl).scans a.collects).2 in
+    let same : marks_of (now o a.keeps.events) ≡ marks_seen v = told ∙ ap (λ (y : Opening). marks_after y v.scans) (sym a.opening) in
+    let none : (marks_seen v).queue ≡ [] = none_queued o.places m.queue (marks_seen v).queue empty h.queue in
+    let queue : (now o a.keeps.events).queue ≡ [] = ap (λ (k : Marks). k.queue) same ∙ none in
+    record {
+      events = a.keeps.events;
+      scans = a.scans;
+      legal = a.keeps.legal;
+      rest = scans_rest o.core a.keeps.events a.scans ∙ ap (λ (l : List Entry). let u : State = record o.core { marked = (now o a.keeps.events).marked; queue = l } in u) queue;
+      tied = subst (λ (k : Marks). IsTied o k s m) (sym same) h;
+    }
+
+field_offset : (field : ℕ) → 2 + field ≡ offset_of (field + 1)
+field_offset field = let z : field + 1 ≡ suc field = omega arith in sym (ap offset_of z)
+
+-- the next field of an object, by a load
+pub field_alone : ScanLaw → (o : Opening) (words : List ℕ) (from v : Seen) (s : Segments) (m : MarkerSeen) (at fields field i w : ℕ) → IsAlone o words v → IsAtField from v s m at fields field → field < fields → i ≡ at + 2 + field → w ≡ slice_index words i → IsAlone o words (scanned_by v w) × TellsEntry v.opening (entry_now v) w
+field_alone law o words from v s m at fields field i w a h lt place is =
+    scan_alone law o words v s m at (field + 1) (2 + field) i w a (h.more lt).0 (field_offset field) (let e = place in omega arith) is
+
+-- its word is no pointer past the heap's words
+pub field_small : (o : Opening) (words : List ℕ) (from v : Seen) (s : Segments) (m : MarkerSeen) (at fields field w : ℕ) → IsAlone o words v → IsAtField from v s m at fields field → field < fields → TellsEntry v.opening (entry_now v) w → (a : ℕ) → w ≡ 2 * a → a < 2 ^ 32
+field_small o words from v s m at fields field w a h lt tells b e =
+    let stands = (h.more lt).0.stands in
+    let l = tells.safe (omega arith) b e in
+    let t = (alone_total o words v a).1 in
+    omega arith
+
+-- the header of an object, by a load
+pub header_alone : ScanLaw → (o : Opening) (words : List ℕ) (v : Seen) (s : Segments) (m : MarkerSeen) (at w : ℕ) → IsAlone o words v → IsScanning v s m at 0 → w ≡ slice_index words at → IsAlone o words (scanned_by v w) × TellsEntry v.opening (entry_now v) w
+header_alone law o words v s m at w a h is = scan_alone law o words v s m at 0 0 at w a h refl (omega arith) is

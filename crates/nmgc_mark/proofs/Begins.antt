@@ -1,0 +1,187 @@
+-- A heap at a stop, just prepared, is one with which marking begins.
+use Rattle.std.proofs.Common.{◌≡◌, ◌≢◌, ◌⊎◌, inl, inr, ◌↔◌, ℕ, zero, suc, ◌+◌, ◌-◌, ◌*◌, ◌<◌, ◌≤◌, List, [], ◌∷◌, ◌++◌, map, length, take, drop, get_or, refl, sym, ap, subst, ◌∙◌, arith, Some, None, Option, length-drop}
+use Rattle.std.specs.Prelude.{Contains, IsSome, slice_get, slice_index}
+use Rattle.std.specs.List.{flat_map}
+use Rattle.std.proofs.lemmas.List.{get_or-take, get_or-drop, length-take-le, take-append-drop}
+use Rattle.nmgc_graph.specs.declared.value.Name.{Name}
+use Rattle.nmgc_graph.specs.declared.value.Value.{Value}
+use Rattle.nmgc_graph.specs.declared.node.Node.{Node}
+use Rattle.nmgc_graph.specs.declared.node.Node.TheVariants.{Con, Var, Arr, Thunk, Weak, Stack}
+use Rattle.nmgc_graph.specs.declared.mutator_state.MutatorState.{MutatorState}
+use Rattle.nmgc_graph.specs.World.{World, IsWorld, IsShared, state_of, node_of, no_mutator}
+use Rattle.nmgc_graph.specs.Step.{shared_name}
+use Rattle.nmgc_graph.specs.Reach.{start, strong_fields}
+use Rattle.nmgc_graph.specs.laws.Orders.{contains_head}
+use Rattle.nmgc_object.specs.FinQueue.{FinQueue}
+use Rattle.nmgc_object.specs.declared.layout.Layout.{Layout}
+use Rattle.nmgc_object.specs.declared.size.TheConstants.{HEADER_WORDS}
+use Rattle.nmgc_object.specs.Places.{IsLayout, word_total}
+use Rattle.nmgc_segment.specs.Segment.{InUse}
+use Rattle.nmgc_alloc.specs.Search.{nth}
+use Rattle.nmgc_alloc.specs.Segments.{Segments, IsSegments, IsBlockAt, HasNumber, block_place}
+use Rattle.nmgc_alloc.specs.AllocState.{AllocState, StandsFor, LiesIn, Cells, cells, name_in}
+use Rattle.nmgc_alloc.specs.Blocks.{IsSnapshotAt, IsMarkedAt}
+use Rattle.nmgc_alloc.specs.laws.Placing.{inside}
+use Rattle.nmgc_alloc.specs.laws.Sound.{stands_sound, used_exists}
+use Rattle.nmgc_segment.specs.declared.state.State.TheVariants.{Free}
+use Rattle.nmgc_heap.specs.Shape.{holds, slots_of as slots_in}
+use Rattle.nmgc_heap.specs.Places.{Place, Means, ListMeans, AllMean, LiesWell}
+use Rattle.nmgc_heap.specs.Represents.{Represents, NoNode}
+use Rattle.nmgc_heap.specs.Tracked.{IsTracked}
+use Rattle.nmgc_round.specs.Empty.{shared_place}
+use Rattle.nmgc_round.specs.View.{Opening}
+use Rattle.nmgc_run.specs.Heap.{IsBlockPlace}
+use Rattle.nmgc_mark.specs.Beginning.{IsBeginning, IsPrepared, slots_of}
+use Rattle.nmgc_mark.specs.Tie.{AreApart, IsRightSnapshot}
+use Rattle.nmgc_mark.proofs.Alone.{lies_within}
+use Rattle.nmgc_mark.proofs.Roots.{means_append}
+use Rattle.nmgc_mark.proofs.Words.{slot_word, slots_count}
+
+above_zero : (layout : Layout) (p : Place) (size : ℕ) → 0 < size → LiesWell layout p size → 1 ≤ p.at
+above_zero layout p size pos (inl g) = let e = g.1 in omega arith
+above_zero layout p size pos (inr (ne, inl segment)) = let first = segment.1 p.at (omega arith) (omega arith) in let from = first.from in omega arith
+above_zero layout p size pos (inr (ne, inr nursery)) = let first = nursery.1 p.at (omega arith) (omega arith) in let from = first.from in omega arith
+
+-- places that words represent are apart
+pub apart_of : (layout : Layout) (earlier : List World) (places : List Place) (w : World) (words : List ℕ) → Represents layout earlier NoNode places w words → AreApart layout places
+apart_of layout earlier places w words h = record {
+  one = h.one;
+  above = λ p c. above_zero layout p HEADER_WORDS (omega arith) (h.named p c).lies;
+  inside = λ p c. lies_within layout p HEADER_WORDS (omega arith) (h.named p c).lies;
+}
+
+got_below : {A : Type 0} (xs : List A) (i : ℕ) (x : A) → slice_get xs i ≡ Some x → i < length xs
+got_below [] i x e = absurd cc
+got_below (y ∷ xs) zero x e = omega arith
+got_below (y ∷ xs) (suc i) x e = let r = got_below xs i x e in omega arith
+
+list_means : (P : Place → Type 0) (ws : List ℕ) (values : List Value) → length ws ≡ length values → ((i : ℕ) (v : Value) → slice_get values i ≡ Some v → Means P (get_or ws i 0) v) → ListMeans P ws values
+list_means P [] [] e h = tt
+list_means P [] (v ∷ vs) e h = absurd (omega arith)
+list_means P (w ∷ ws) [] e h = absurd (omega arith)
+list_means P (w ∷ ws) (v ∷ vs) e h = (h 0 v refl, list_means P ws vs (omega arith) (λ i u g. h (suc i) u g))
+
+-- the registers of all mutators as one list
+flat_registers : (P : Place → Type 0) (xs : List MutatorState) (ws : List ℕ) → length ws ≡ 16 * length xs → ((m : ℕ) → m < length xs → (length (get_or xs m no_mutator).registers ≡ 16) × AllMean P ws (16 * m) (get_or xs m no_mutator).registers) → ListMeans P ws (flat_map (λ (state : MutatorState). state.registers) xs)
+flat_registers P [] [] size h = tt
+flat_registers P [] (w ∷ ws) size h = absurd (omega arith)
+flat_registers P (x ∷ xs) ws size h =
+    let first = h 0 (omega arith) in
+    let n : length (take 16 ws) ≡ 16 = length-take-le 16 ws (omega arith) in
+    let d = length-drop 16 ws in
+    let a : ListMeans P (take 16 ws) x.registers = list_means P (take 16 ws) x.registers (n ∙ sym first.0)
+    (λ i v e.
+    let lt = got_below x.registers i v e in
+    let same : get_or ws (16 * 0 + i) 0 ≡ get_or (take 16 ws) i 0 = (let z : 16 * 0 + i ≡ i = omega arith in ap (λ j. get_or ws j 0) z) ∙ sym (get_or-take 16 ws i 0 (let f = first.0 in omega arith)) in
+    subst (λ y. Means P y v) same (first.1 i v e)) in
+    let b = flat_registers P xs (drop 16 ws) (omega arith)
+    (λ m lt.
+    let r = h (suc m) (omega arith) in (
+      r.0,
+      λ i v e.
+          let z : 16 * suc m + i ≡ 16 + (16 * m + i) = omega arith in
+          subst (λ y. Means P y v) (ap (λ j. get_or ws j 0) z ∙ sym (get_or-drop 16 ws (16 * m + i) 0)) (r.1 i v e),
+    )) in
+    subst (λ l. ListMeans P l (flat_map (λ (state : MutatorState). state.registers) (x ∷ xs))) (take-append-drop 16 ws) (means_append P (take 16 ws) (drop 16 ws) x.registers (flat_map (λ (state : MutatorState). state.registers) xs) a b)
+
+-- the finaliser queues of all mutators
+flat_queues : (P : Place → Type 0) (qs : List FinQueue) (xs : List MutatorState) → length qs ≡ length xs → ((m : ℕ) (own : List ℕ) → slice_get (map (λ (q : FinQueue). q.words) qs) m ≡ Some own → ListMeans P own (get_or xs m no_mutator).queue) → ListMeans P (flat_map (λ (q : FinQueue). q.words) qs) (flat_map (λ (state : MutatorState). state.queue) xs)
+flat_queues P [] [] e h = tt
+flat_queues P [] (x ∷ xs) e h = absurd (omega arith)
+flat_queues P (q ∷ qs) [] e h = absurd (omega arith)
+flat_queues P (q ∷ qs) (x ∷ xs) e h =
+    means_append P q.words (flat_map (λ (k : FinQueue). k.words) qs) x.queue (flat_map (λ (state : MutatorState). state.queue) xs) (h 0 q.words refl) (flat_queues P qs xs (omega arith) (λ m own g. h (suc m) own g))
+
+held_slot : (values : List Value) (i : ℕ) (v : Value) → slice_get values i ≡ Some v → slice_get (map holds values) i ≡ Some (holds v)
+held_slot [] i v e = absurd cc
+held_slot (x ∷ xs) zero v e = let same : x ≡ v = cc in ap (λ y. Some (holds y)) same
+held_slot (x ∷ xs) (suc i) v e = held_slot xs i v e
+
+shared_fields : (node : Node) → IsShared node → (length (strong_fields node) ≡ 16) × ((i : ℕ) (v : Value) → slice_get (strong_fields node) i ≡ Some v → slice_get (slots_in node) i ≡ Some (holds v))
+shared_fields (Con tag values) h = absurd h
+shared_fields (Var v) h = absurd h
+shared_fields (Arr values) h = (h, λ i v e. held_slot values i v e)
+shared_fields (Thunk free result) h = absurd h
+shared_fields (Weak parts) h = absurd h
+shared_fields (Stack size values) h = absurd h
+
+map_length : {A B : Type 0} (f : A → B) (xs : List A) → length (map f xs) ≡ length xs
+map_length f [] = refl
+map_length f (x ∷ xs) = let e = map_length f xs in omega arith
+
+module _ (o : Opening) (s : Segments) (epoch : ℕ) (words registers : List ℕ) (queues : List FinQueue) (h : IsPrepared o s epoch words registers queues) where
+  apart : AreApart o.layout o.places
+  apart = apart_of o.layout h.earlier o.places o.core.snapshot words h.represents
+
+  shared_there : Contains o.places shared_place
+  shared_there = (h.places shared_place).1 (inl refl)
+
+  -- the block of a name begins at its place, and is in use
+  name_used : (n b : ℕ) (name : Name) → LiesIn h.allocation n b name → IsBlockAt s n b (block_place o.layout n (cells h.allocation n).class b) × InUse (nth s.segments n) b
+  name_used n b name lies =
+      let used : (cells h.allocation n).state ≡ Free → ⊥ = λ free.
+      let none : name_in (cells h.allocation n) b ≡ None = ap (λ (x : Cells). name_in x b) ((stands_sound s words h.allocation h.sound h.stands).free n free) in
+      cc in
+      let low = used_exists h.allocation n used in
+      let there : HasNumber s n = let e = h.stands.count in omega arith in
+      let shows = h.stands.shows n there in
+      let class : (cells h.allocation n).class ≡ (nth s.segments n).class = shows.class used in (
+        record {
+          exists = there;
+          used = λ e. used (shows.state ∙ e);
+          within = inside s words n (cells h.allocation n) b name shows lies;
+          place = (λ i. block_place (sym h.layout i) n (class i) b);
+        },
+        (shows.used b).0 (subst (λ (x : Option Name). IsSome x) (sym lies) refl),
+      )
+
+  name_of : (x : Option Name) → IsSome x → (name : Name) × (x ≡ Some name)
+  name_of None k = absurd cc
+  name_of (Some name) k = (name, refl)
+
+  right : IsRightSnapshot o s
+  right = record {
+    layout = h.layout;
+    apart = apart;
+    sound = λ at g.
+        let u = (h.in_use at).0 g in
+        let shows = h.stands.shows u.0 u.2.exists in
+        let k = name_of (name_in (cells h.allocation u.0) u.1) ((shows.used u.1).1 u.3) in
+        let place = name_used u.0 u.1 k.0 k.1 in
+        let is : block_place o.layout u.0 (cells h.allocation u.0).class u.1 ≡ at = place.0.place ∙ sym u.2.place in
+        let c = (h.places (record { at = at; name = k.0 })).1 (inr (record { number = u.0; block = u.1; lies = k.1; at = sym is })) in
+        (k.0, c, (h.represents.named (record { at = at; name = k.0 }) c).known);
+    complete = λ p c some_. elim ((h.places p).0 c) [
+      | inl e ↦ inl (ap (λ (q : Place). q.name) e)
+      | inr x ↦
+          let place = name_used x.number x.block p.name x.lies in
+          inr ((h.in_use p.at).1 (x.number, x.block, subst (λ y. IsBlockAt s x.number x.block y) (sym x.at) place.0, place.1))
+    ];
+  }
+
+  shared_tracked : IsTracked o.core.snapshot h.earlier shared_name
+  shared_tracked = start shared_name (o.core.snapshot, contains_head o.core.snapshot h.earlier, start shared_name (inl (inl refl)))
+
+  slots : ListMeans (Contains o.places) (slots_of words) (strong_fields o.core.snapshot.shared)
+  slots =
+      let g = h.represents.tracked shared_name o.core.snapshot.shared shared_tracked refl in
+      let same = h.represents.one (record { at = g.at; name = shared_name }) shared_place g.there shared_there (inl refl) in
+      let at : g.at ≡ 1 = ap (λ (p : Place). p.at) same in
+      let f = shared_fields o.core.snapshot.shared h.world.shared in
+      let total = h.represents.total in
+      let n = slots_count words (omega arith) in
+      list_means (Contains o.places) (slots_of words) (strong_fields o.core.snapshot.shared) (n ∙ sym f.0)
+      (λ i v e.
+      let lt = got_below (strong_fields o.core.snapshot.shared) i v e in
+      let z : g.at + HEADER_WORDS + i ≡ 3 + i = omega arith in
+      subst (λ y. Means (Contains o.places) y v) (ap (λ j. get_or words j 0) z ∙ sym (slot_word words i (let l = f.0 in omega arith))) (g.fields i (holds v) (f.1 i v e)))
+
+  pub begins_then : IsBeginning o s epoch words registers queues
+  begins_then = record {
+    right = right;
+    shared = shared_there;
+    unmarked = h.unmarked;
+    registers_are = flat_registers (Contains o.places) o.core.snapshot.mutators registers h.roots.count (λ m lt. (h.world.registers m lt, h.roots.held m lt));
+    queues_are = flat_queues (Contains o.places) queues o.core.snapshot.mutators (sym (map_length (λ (q : FinQueue). q.words) queues) ∙ h.roots.mutators.0) h.roots.queued;
+    slots_are = slots;
+  }

@@ -1,0 +1,174 @@
+-- The loop over the fields of one object, and over objects.
+use Rattle.std.proofs.Common.{◌≡◌, ℕ, suc, ◌+◌, ◌^◌, ◌<◌, ◌≤◌, true, false, List, [], ◌∷◌, ◌++◌, length, refl, sym, ap, subst, ◌∙◌, arith, append_assoc}
+use Rattle.std.proofs.lemmas.List.{append-nil}
+use Rattle.nmgc_graph.specs.declared.value.Name.{Name}
+use Rattle.nmgc_graph.specs.declared.node.Kind.{Kind}
+use Rattle.nmgc_graph.specs.declared.node.Kind.TheVariants as kind
+use Rattle.nmgc_object.specs.declared.words.Header.{Header}
+use Rattle.nmgc_object.specs.declared.size.TheConstants.{HEADER_WORDS}
+use Rattle.nmgc_object.specs.Places.{IsLayout, word_total}
+use Rattle.nmgc_object.specs.declared.layout.Layout.{Layout}
+use Rattle.nmgc_core.specs.Scan.{fields_of}
+use Rattle.nmgc_alloc.specs.Segments.{Segments}
+use Rattle.nmgc_round.specs.declared.table.Round.{Round}
+use Rattle.nmgc_round.specs.View.{Opening, Seen, Scan}
+use Rattle.nmgc_round.specs.Marking.{Marks, name_meant, name_read, with_name, is_last_word}
+use Rattle.nmgc_round.specs.Ready.{first_of, scanned_by}
+use Rattle.nmgc_round.specs.Seat.{RoundSeat, IsAt, Knows, seen, word_count}
+use Rattle.nmgc_run.specs.Seen.{MarkerSeen}
+use Rattle.nmgc_run.specs.Marker.{HasRoomToMark}
+use Rattle.nmgc_mark.specs.Marker.{HasScanned, HasMarked, StandAsBefore}
+use Rattle.nmgc_mark.specs.Tie.{IsTied}
+use Rattle.nmgc_mark.specs.Work.{IsScanning, IsCollector, IsLaterSeat, IsAtField, HasWorked, entry_now, marks_seen, rest_of, fields_scanned, is_result}
+use Rattle.nmgc_mark.proofs.Scanning.{IsNode, goes_on, ends, not_last, header_more, field_last, result_last, fields_are}
+
+pub few : (k : Kind) (n : ℕ) → fields_scanned k n ≤ n
+few kind.Con n = omega arith
+few kind.Var n = omega arith
+few kind.Arr n = omega arith
+few kind.Thunk n = omega arith
+few kind.Weak n = omega arith
+few kind.Stack n = omega arith
+
+pub scanned_none : (m : MarkerSeen) → HasScanned m m 0
+scanned_none m = record { epoch = refl; pace = omega arith; room = refl }
+
+scanned_then : (a b c : MarkerSeen) (i j : ℕ) → HasScanned a b i → HasScanned b c j → HasScanned a c (i + j)
+scanned_then a b c i j x y = record { epoch = y.epoch ∙ x.epoch; pace = (let p = x.pace in let q = y.pace in omega arith); room = y.room ∙ x.room }
+
+-- nothing was marked
+pub marked_none : (s : Segments) (m : MarkerSeen) → HasRoomToMark s m → HasMarked s s m m 0
+marked_none s m h = record { room = h; scanned = scanned_none m; layout = refl; stands = λ words a k. k }
+
+-- marks follow marks
+pub marked_then : (s t u : Segments) (a b c : MarkerSeen) (i j : ℕ) → HasMarked s t a b i → HasMarked t u b c j → HasMarked s u a c (i + j)
+marked_then s t u a b c i j x y = record {
+  room = y.room;
+  scanned = scanned_then a b c i j x.scanned y.scanned;
+  layout = y.layout ∙ x.layout;
+  stands = λ words k h. y.stands words k (x.stands words k h);
+}
+
+pub marked_more : (s t u : Segments) (a b c : MarkerSeen) → HasMarked s t a b 0 → HasMarked t u b c 0 → HasMarked s u a c 0
+marked_more s t u a b c x y = marked_then s t u a b c 0 0 x y
+
+read_field : (o : Opening) (m : Marks) (field w : ℕ) → with_name o.core.snapshot m (name_read o.places (field + 1) w) ≡ with_name o.core.snapshot m (name_meant o.places w)
+read_field o m field w = let z : field + 1 ≡ suc field = omega arith in ap (λ n. with_name o.core.snapshot m (name_read o.places n w)) z
+
+-- after the header
+pub first_field : (v : Seen) (s : Segments) (m : MarkerSeen) (at w fields : ℕ) (header : Header) → IsScanning v s m at 0 → IsNode v.opening (entry_now v).name header → fields ≡ fields_scanned header.kind header.fields → IsAtField v (scanned_by v w) s m at fields 0
+first_field v s m at w fields header h n f =
+    let are = fields_are n.node header fields n.is f in
+    record {
+      opening = refl;
+      more = λ lt. goes_on v w at s s m m 0 h n.node n.there (header_more n.node fields w are lt) h.tied;
+      last = λ le. ends v w at s s m m 0 h n.node n.there (field_last n.node fields 0 w are le) h.tied;
+    }
+
+-- the node of the object that is scanned, later
+pub node_later : (from v : Seen) (s : Segments) (m : MarkerSeen) (at fields field : ℕ) (header : Header) → IsNode from.opening (entry_now from).name header → IsAtField from v s m at fields field → field < fields → IsNode v.opening (entry_now v).name header
+node_later from v s m at fields field header n h lt =
+    subst (λ (y : Opening). IsNode y (entry_now v).name header) (sym h.opening) (subst (λ (k : Name). IsNode from.opening k header) (sym (h.more lt).1) n)
+
+-- the field is within the words
+pub field_within : (from v : Seen) (s : Segments) (m : MarkerSeen) (at fields field : ℕ) (header : Header) → IsNode from.opening (entry_now from).name header → IsAtField from v s m at fields field → field < fields → fields ≡ fields_scanned header.kind header.fields → at + HEADER_WORDS + field < word_total v.opening.layout
+field_within from v s m at fields field header n h lt f =
+    let node = node_later from v s m at fields field header n h lt in
+    let r = node.room at (h.more lt).0.there in
+    let fewer : fields ≤ header.fields = subst (λ k. k ≤ header.fields) (sym f) (few header.kind header.fields) in
+    let is = ap (λ (x : Header). x.fields) node.is in
+    omega arith
+
+module _ (from v : Seen) (s t : Segments) (m n : MarkerSeen) (at w fields field : ℕ) (header : Header) (first : IsNode from.opening (entry_now from).name header) (inv : IsAtField from v s m at fields field) (lt : field < fields) (f : fields ≡ fields_scanned header.kind header.fields)
+    (tied : IsTied v.opening (with_name v.opening.core.snapshot (rest_of (marks_seen v)) (name_meant v.opening.places w)) t n) where
+  scanning : IsScanning v s m at (field + 1)
+  scanning = (inv.more lt).0
+
+  node : IsNode v.opening (entry_now v).name header
+  node = node_later from v s m at fields field header first inv lt
+
+  tied' : IsTied v.opening (with_name v.opening.core.snapshot (rest_of (marks_seen v)) (name_read v.opening.places (field + 1) w)) t n
+  tied' = subst (λ (k : Marks). IsTied v.opening k t n) (sym (read_field v.opening (rest_of (marks_seen v)) field w)) tied
+
+  are : fields_of node.node ≡ fields
+  are = fields_are node.node header fields node.is f
+
+  done : is_last_word node.node (field + 1) w ≡ true → IsTied v.opening (marks_seen (scanned_by v w)) t n
+  done last = ends v w at s t m n (field + 1) scanning node.node node.there last tied'
+
+  -- the next field
+  pub next_field : is_result header.kind field w ≡ false → IsAtField from (scanned_by v w) t n at fields (field + 1)
+  next_field none = record {
+    opening = inv.opening;
+    more = λ l.
+        let g = goes_on v w at s t m n (field + 1) scanning node.node node.there (not_last node.node fields field w are l (ap (λ (h : Header). is_result h.kind field w) node.is ∙ none)) tied' in
+        (g.0, g.1 ∙ (inv.more lt).1);
+    last = λ le. done (field_last node.node fields (field + 1) w are le);
+  }
+
+  -- a result that was set
+  pub with_result : is_result header.kind field w ≡ true → IsTied v.opening (marks_seen (scanned_by v w)) t n
+  with_result set = done (result_last node.node field w (ap (λ (h : Header). is_result h.kind field w) node.is ∙ set))
+
+-- the first of the queue was taken
+pub room_taken : (s : Segments) (old new : MarkerSeen) → HasRoomToMark s old → new ≡ record old { queue = new.queue } → HasRoomToMark s new
+room_taken s old new h e = subst (λ (m : MarkerSeen). HasRoomToMark s m) (sym e) (record { places = h.places; all = h.all; room = h.room })
+
+-- an object was taken off the queue, and scanned
+pub object_marked : (s t u : Segments) (before m taken n : MarkerSeen) (at count : ℕ) → HasMarked s t before m count → m.queue ≡ at ∷ taken.queue → taken ≡ record m { queue = taken.queue } → HasMarked t u taken n 0 → HasMarked s u before n (count + 1)
+object_marked s t u before m taken n at count inv q e done = record {
+  room = done.room;
+  scanned = record {
+    epoch = done.scanned.epoch ∙ ap (λ (k : MarkerSeen). k.epoch) e ∙ inv.scanned.epoch;
+    pace =
+        (let a = inv.scanned.pace in
+        let b = done.scanned.pace in
+        let l : length m.queue ≡ length taken.queue + 1 = ap (λ (k : List ℕ). length k) q ∙ (let z : length (at ∷ taken.queue) ≡ length taken.queue + 1 = omega arith in z) in
+        let k : taken.marked ≡ m.marked = ap (λ (k : MarkerSeen). k.marked) e in
+        omega arith);
+    room =
+        (let a = inv.scanned.room in
+        let b = done.scanned.room in
+        let k : taken.marked ≡ m.marked = ap (λ (k : MarkerSeen). k.marked) e in
+        let l : taken.spare ≡ m.spare = ap (λ (k : MarkerSeen). k.spare) e in
+        omega arith);
+  };
+  layout = done.layout ∙ inv.layout;
+  stands = λ words k h. done.stands words k (inv.stands words k h);
+}
+
+-- a seat that made one scan more, or none
+pub same_seat : (seat : RoundSeat) → IsLaterSeat seat seat
+same_seat seat = record { id = refl; scans = []; knows = ap (λ (l : List Scan). let v : Seen = record (seen seat) { scans = l } in v) (sym (append-nil (seen seat).scans)) }
+
+pub one_scan : (round : Round) (from old new : RoundSeat) (w : ℕ) → IsLaterSeat from old → Knows round old new (scanned_by (seen old) w) → IsLaterSeat from new
+one_scan round from old new w l k =
+    let s : Scan = record { entry = entry_now (seen old); word = w } in
+    let is : seen old ≡ record (seen from) { scans = (seen from).scans ++ l.scans } = l.knows in
+    record {
+      id = k.1 ∙ l.id;
+      scans = l.scans ++ s ∷ [];
+      knows = k.2 ∙ ap (λ (v : Seen). let u : Seen = record v { scans = v.scans ++ s ∷ [] } in u) is ∙ ap (λ (xs : List Scan). let u : Seen = record (seen from) { scans = xs } in u) (append_assoc (seen from).scans l.scans (s ∷ []));
+    }
+
+pub later_seat : (a b c : RoundSeat) → IsLaterSeat a b → IsLaterSeat b c → IsLaterSeat a c
+later_seat a b c x y = record {
+  id = y.id ∙ x.id;
+  scans = x.scans ++ y.scans;
+  knows = y.knows ∙ ap (λ (v : Seen). let u : Seen = record v { scans = v.scans ++ y.scans } in u) x.knows ∙ ap (λ (xs : List Scan). let u : Seen = record (seen a) { scans = xs } in u) (append_assoc (seen a).scans x.scans y.scans);
+}
+
+pub still_collector : (round : Round) (old new : RoundSeat) (w : ℕ) → IsCollector round old → Knows round old new (scanned_by (seen old) w) → IsCollector round new
+still_collector round old new w h k = (k.0, ap (λ (v : Seen). v.collects) k.2 ∙ h.1)
+
+-- the view of a round has as many words as the round
+pub words_in : (round : Round) (seat : RoundSeat) → IsAt round seat → word_total (seen seat).opening.layout ≡ word_count round
+words_in round seat h = ap (λ (o : Opening). word_total o.layout) h.2 ∙ round.sized
+
+-- the words of a heap are few enough for an address
+pub total_small : (layout : Layout) → IsLayout layout → word_total layout < 2 ^ 32
+total_small layout h = let heap = h.heap in omega arith
+
+-- the same marker, whose queue's first was taken, after a pass of the gate
+pub passed_taken : (old taken new : MarkerSeen) → taken ≡ record old { queue = taken.queue } → new ≡ taken → new ≡ record old { queue = new.queue }
+passed_taken old taken new e same = same ∙ e ∙ ap (λ (m : MarkerSeen). let k : MarkerSeen = record old { queue = m.queue } in k) (sym same)

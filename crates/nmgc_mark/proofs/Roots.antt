@@ -1,0 +1,138 @@
+-- What the words of the roots refer to is what the machine's values do.
+use Rattle.std.proofs.Common.{ne_eqb, eq-eqb, ◌≡◌, inr, ℕ, ◌*◌, ◌/◌, ◌%◌, true, false, eqb, List, [], ◌∷◌, ◌++◌, ◌+◌, ◌≤◌, ◌<◌, refl, sym, ap, ◌∙◌, arith, Option, Some, None, inl}
+use Rattle.std.specs.Prelude.{Contains}
+use Rattle.std.specs.List.{flat_map}
+use Rattle.std.proofs.lemmas.Nat.{pow_pos}
+use Rattle.nmgc_graph.specs.declared.value.Name.{Name}
+use Rattle.nmgc_graph.specs.declared.mutator_state.MutatorState.{MutatorState}
+use Rattle.nmgc_graph.specs.Step.{shared_name}
+use Rattle.nmgc_graph.specs.Reach.{strong_fields}
+use Rattle.nmgc_graph.specs.laws.Orders.{contains_head, contains_cases}
+use Rattle.nmgc_reach.specs.laws.ItemLaws.{contains_flat}
+use Rattle.nmgc_object.specs.FinQueue.{FinQueue}
+use Rattle.nmgc_object.specs.Places.{word_total}
+use Rattle.nmgc_object.specs.Size.{block_size}
+use Rattle.nmgc_alloc.specs.Search.{nth}
+use Rattle.nmgc_alloc.specs.Segments.{Segments, IsSegments}
+use Rattle.nmgc_alloc.specs.laws.Apart.{lies_in}
+use Rattle.nmgc_graph.specs.declared.value.Value.{Value}
+use Rattle.nmgc_graph.specs.declared.value.Value.TheVariants as value
+use Rattle.nmgc_graph.specs.World.{World}
+use Rattle.nmgc_core.specs.State.{State, mark_value, mark_values, unmarked, opening}
+use Rattle.nmgc_heap.specs.Places.{Place, Means, ListMeans}
+use Rattle.nmgc_round.specs.Empty.{shared_place}
+use Rattle.nmgc_round.specs.View.{Opening}
+use Rattle.nmgc_round.specs.Marking.{Marks, marks_of, name_meant, with_name}
+use Rattle.nmgc_object.specs.declared.layout.Layout.{Layout}
+use Rattle.nmgc_mark.specs.Beginning.{IsBeginning, slots_of}
+use Rattle.nmgc_mark.specs.Marker.{blank}
+use Rattle.nmgc_mark.specs.Tie.{IsTied, AreApart, with_words, with_queues}
+use Rattle.nmgc_mark.proofs.Words.{words_append, queues_flat}
+use Rattle.nmgc_mark.proofs.Names.{some_at}
+use Rattle.nmgc_mark.proofs.Takes.{mark_is}
+
+-- the name that a value refers to
+abbrev ref_in : Value → Option Name
+ref_in value.Nil = None
+ref_in (value.Number n) = None
+ref_in (value.Ref name) = Some name
+
+value_word : (o : Opening) (m : Marks) (w : ℕ) (v : Value) → AreApart o.layout o.places → Means (Contains o.places) w v → with_name o.core.snapshot m (name_meant o.places w) ≡ with_name o.core.snapshot m (ref_in v)
+value_word o m w value.Nil h e = ap (λ k. with_name o.core.snapshot m (name_meant o.places k)) e
+value_word o m w (value.Number n) h e =
+    let a : eqb w 0 ≡ false = ne_eqb w 0 (λ z. omega arith) in
+    let b : eqb (w % 2) 0 ≡ false = ne_eqb (w % 2) 0 (λ z. omega arith) in
+    rw (a, b) refl
+value_word o m w (value.Ref name) h means =
+    let at : ℕ = means.0 in
+    let is : w ≡ 2 * at = means.1 in
+    let l = h.above (record { at = at; name = name }) means.2 in
+    let a : eqb w 0 ≡ false = ne_eqb w 0 (λ e. omega arith) in
+    let b : eqb (w % 2) 0 ≡ true = eq-eqb (w % 2) 0 (omega arith) in
+    let c : w / 2 ≡ at = omega arith in
+    let r = some_at o.places at name means.2 in
+    let same = h.one (record { at = at; name = r.0 }) (record { at = at; name = name }) r.2 means.2 (inr refl) in
+    rw (a, b, c) (ap (λ (y : Option Name). with_name o.core.snapshot m y) (r.1 ∙ ap (λ (p : Place). Some p.name) same))
+
+value_marks : (s : State) (v : Value) → (marks_of (mark_value s v) ≡ with_name s.snapshot (marks_of s) (ref_in v)) × ((mark_value s v).snapshot ≡ s.snapshot)
+value_marks s value.Nil = (refl, refl)
+value_marks s (value.Number n) = (refl, refl)
+value_marks s (value.Ref name) = let k = mark_is s name in (k.marks, ap (λ (t : State). t.snapshot) k.rest)
+
+pub words_mark : (o : Opening) (s : State) (ws : List ℕ) (values : List Value) → o.core.snapshot ≡ s.snapshot → AreApart o.layout o.places → ListMeans (Contains o.places) ws values → marks_of (mark_values s values) ≡ with_words o (marks_of s) ws
+words_mark o s [] [] same h means = refl
+words_mark o s [] (v ∷ vs) same h means = absurd means
+words_mark o s (w ∷ ws) [] same h means = absurd means
+words_mark o s (w ∷ ws) (v ∷ vs) same h means =
+    let k = value_marks s v in
+    words_mark o (mark_value s v) ws vs (same ∙ sym k.1) h means.1
+    ∙ ap (λ (m : Marks). with_words o m ws) (k.0 ∙ ap (λ (x : World). with_name x (marks_of s) (ref_in v)) (sym same) ∙ sym (value_word o (marks_of s) w v h means.0))
+
+values_append : (s : State) (xs ys : List Value) → mark_values s (xs ++ ys) ≡ mark_values (mark_values s xs) ys
+values_append s [] ys = refl
+values_append s (x ∷ xs) ys = values_append (mark_value s x) xs ys
+
+pub means_append : (P : Place → Type 0) (ws us : List ℕ) (xs ys : List Value) → ListMeans P ws xs → ListMeans P us ys → ListMeans P (ws ++ us) (xs ++ ys)
+means_append P [] us [] ys a b = b
+means_append P [] us (x ∷ xs) ys a b = absurd a
+means_append P (w ∷ ws) us [] ys a b = absurd a
+means_append P (w ∷ ws) us (x ∷ xs) ys a b = (a.0, means_append P ws us xs ys a.1 b)
+
+-- a word that stands for a value is no pointer past the heap's words
+pub word_small : (o : Opening) (w : ℕ) (v : Value) → AreApart o.layout o.places → Means (Contains o.places) w v → (at : ℕ) → w ≡ 2 * at → at + 2 ≤ word_total o.layout
+word_small o w value.Nil h e at is = absurd (omega arith)
+word_small o w (value.Number n) h e at is = absurd (omega arith)
+word_small o w (value.Ref name) h means at is =
+    let l = h.inside (record { at = means.0; name = name }) means.2 in
+    let e = means.1 in
+    omega arith
+
+pub words_small : (o : Opening) (ws : List ℕ) (values : List Value) → AreApart o.layout o.places → ListMeans (Contains o.places) ws values → (w at : ℕ) → Contains ws w → w ≡ 2 * at → at + 2 ≤ word_total o.layout
+words_small o [] values h means w at c e = absurd (let lt = c.1 in omega arith)
+words_small o (x ∷ xs) [] h means w at c e = absurd means
+words_small o (x ∷ xs) (v ∷ vs) h means w at c e = elim (contains_cases x xs w c) [
+  | inl same ↦ word_small o x v h means.0 at (same ∙ e)
+  | inr d ↦ words_small o xs vs h means.1 w at d e
+]
+
+-- the roots of the snapshot, marked in their order
+pub roots_mark : (o : Opening) (s : Segments) (epoch : ℕ) (words registers : List ℕ) (queues : List FinQueue) → IsBeginning o s epoch words registers queues → with_words o (with_queues o (with_words o (marks_of (unmarked o.core.snapshot)) registers) queues) (slots_of words) ≡ marks_of (opening o.core.snapshot)
+roots_mark o s epoch words registers queues h =
+    let S : World = o.core.snapshot in
+    let m : Marks = marks_of (unmarked o.core.snapshot) in
+    let flat : List ℕ = flat_map (λ (q : FinQueue). q.words) queues in
+    let regs : List Value = flat_map (λ (state : MutatorState). state.registers) S.mutators in
+    let fins : List Value = flat_map (λ (state : MutatorState). state.queue) S.mutators in
+    let all = words_mark o (unmarked S) (registers ++ (flat ++ slots_of words)) (regs ++ (fins ++ strong_fields S.shared)) refl h.right.apart
+    (means_append (Contains o.places) registers (flat ++ slots_of words) regs (fins ++ strong_fields S.shared) h.registers_are (means_append (Contains o.places) flat (slots_of words) fins (strong_fields S.shared) h.queues_are h.slots_are)) in
+    ap (λ (k : Marks). with_words o k (slots_of words)) (queues_flat o (with_words o m registers) queues)
+    ∙ sym (words_append o (with_words o m registers) flat (slots_of words))
+    ∙ sym (words_append o m registers (flat ++ slots_of words))
+    ∙ sym all
+
+-- a blank marker is the machine's of which nothing but g is marked
+pub blank_tied : (o : Opening) (s : Segments) (epoch spare : ℕ) (words registers : List ℕ) (queues : List FinQueue) → IsSegments s → IsBeginning o s epoch words registers queues → IsTied o (marks_of (unmarked o.core.snapshot)) s (blank epoch spare)
+blank_tied o s epoch spare words registers queues sound h = record {
+  snapshot = h.right;
+  shared = contains_head shared_name [];
+  marks = λ p c g. (
+    λ k. absurd (h.unmarked p.at k),
+    λ k. elim (contains_cases shared_name [] p.name k) [
+      | inl e ↦
+          let same = h.right.apart.one shared_place p h.shared c (inl e) in
+          let at : 1 ≡ p.at = ap (λ (q : Place). q.at) same in
+          let begins = g.2 in
+          let lies = lies_in s g.0 g.1 p.at p.at sound g.2 (omega arith) (let pos : 0 < block_size (nth s.segments g.0).class = omega (arith, pow_pos (nth s.segments g.0).class) in omega arith) in
+          absurd (let from = lies.from in omega arith)
+      | inr d ↦ absurd (let lt = d.1 in omega arith)
+    ],
+  );
+  queue = tt;
+  count = refl;
+}
+
+flat_has : (queues : List FinQueue) (q : FinQueue) (w : ℕ) → Contains queues q → Contains q.words w → Contains (flat_map (λ (x : FinQueue). x.words) queues) w
+flat_has queues q w a b = contains_flat (λ (x : FinQueue). x.words) queues q w a b
+
+pub flat_small : (o : Opening) (queues : List FinQueue) (values : List Value) → AreApart o.layout o.places → ListMeans (Contains o.places) (flat_map (λ (q : FinQueue). q.words) queues) values → (q : FinQueue) (w at : ℕ) → Contains queues q → Contains q.words w → w ≡ 2 * at → at + 2 ≤ word_total o.layout
+flat_small o queues values h means q w at a b e = words_small o (flat_map (λ (x : FinQueue). x.words) queues) values h means w at (flat_has queues q w a b) e

@@ -1,0 +1,47 @@
+-- Words and places that are marked one after another.
+use Rattle.std.proofs.Common.{◌≡◌, ℕ, zero, suc, ◌+◌, ◌<◌, ◌≤◌, List, [], ◌∷◌, ◌++◌, length, refl, sym, ap, ◌∙◌, arith, take, drop, get_or, length-drop}
+use Rattle.std.proofs.lemmas.List.{get_or-take, get_or-drop, length-take-le}
+use Rattle.std.specs.List.{flat_map}
+use Rattle.nmgc_object.specs.declared.words.Address.{Address}
+use Rattle.nmgc_object.specs.FinQueue.{FinQueue}
+use Rattle.nmgc_round.specs.View.{Opening}
+use Rattle.nmgc_round.specs.Marking.{Marks, name_at, name_meant, with_name}
+use Rattle.nmgc_mark.specs.Beginning.{slots_of}
+use Rattle.nmgc_mark.specs.Marker.{places}
+use Rattle.nmgc_mark.specs.Tie.{with_places, with_words, with_queues}
+
+pub places_more : (o : Opening) (m : Marks) (xs : List Address) (i : ℕ) (a : Address) → i < length xs → with_places o m (places (take (i + 1) xs)) ≡ with_name o.core.snapshot (with_places o m (places (take i xs))) (name_at o.places (get_or xs i a).0)
+places_more o m [] i a lt = absurd (omega arith)
+places_more o m (x ∷ xs) zero a lt = refl
+places_more o m (x ∷ xs) (suc i) a lt =
+    let z : suc i + 1 ≡ suc (i + 1) = omega arith in
+    ap (λ n. with_places o m (places (take n (x ∷ xs)))) z ∙ places_more o (with_name o.core.snapshot m (name_at o.places x.0)) xs i a (omega arith)
+
+pub words_more : (o : Opening) (m : Marks) (xs : List ℕ) (i : ℕ) → i < length xs → with_words o m (take (i + 1) xs) ≡ with_name o.core.snapshot (with_words o m (take i xs)) (name_meant o.places (get_or xs i 0))
+words_more o m [] i lt = absurd (omega arith)
+words_more o m (x ∷ xs) zero lt = refl
+words_more o m (x ∷ xs) (suc i) lt =
+    let z : suc i + 1 ≡ suc (i + 1) = omega arith in
+    ap (λ n. with_words o m (take n (x ∷ xs))) z ∙ words_more o (with_name o.core.snapshot m (name_meant o.places x)) xs i (omega arith)
+
+pub queues_more : (o : Opening) (m : Marks) (xs : List FinQueue) (i : ℕ) (d : FinQueue) → i < length xs → with_queues o m (take (i + 1) xs) ≡ with_words o (with_queues o m (take i xs)) (get_or xs i d).words
+queues_more o m [] i d lt = absurd (omega arith)
+queues_more o m (x ∷ xs) zero d lt = refl
+queues_more o m (x ∷ xs) (suc i) d lt =
+    let z : suc i + 1 ≡ suc (i + 1) = omega arith in
+    ap (λ n. with_queues o m (take n (x ∷ xs))) z ∙ queues_more o (with_words o m x.words) xs i d (omega arith)
+
+pub words_append : (o : Opening) (m : Marks) (xs ys : List ℕ) → with_words o m (xs ++ ys) ≡ with_words o (with_words o m xs) ys
+words_append o m [] ys = refl
+words_append o m (x ∷ xs) ys = words_append o (with_name o.core.snapshot m (name_meant o.places x)) xs ys
+
+pub queues_flat : (o : Opening) (m : Marks) (qs : List FinQueue) → with_queues o m qs ≡ with_words o m (flat_map (λ (q : FinQueue). q.words) qs)
+queues_flat o m [] = refl
+queues_flat o m (q ∷ qs) = queues_flat o (with_words o m q.words) qs ∙ sym (words_append o m q.words (flat_map (λ (q : FinQueue). q.words) qs))
+
+-- a slot of g is a word of the heap
+pub slot_word : (words : List ℕ) (i : ℕ) → i < 16 → get_or (slots_of words) i 0 ≡ get_or words (3 + i) 0
+slot_word words i lt = get_or-take 16 (drop 3 words) i 0 lt ∙ get_or-drop 3 words i 0
+
+pub slots_count : (words : List ℕ) → 32 ≤ length words → length (slots_of words) ≡ 16
+slots_count words le = length-take-le 16 (drop 3 words) (let d = length-drop 3 words in omega arith)

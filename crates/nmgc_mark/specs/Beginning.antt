@@ -1,0 +1,53 @@
+-- When marking begins: nothing is marked yet, and the roots are those of the snapshot.
+use Rattle.std.specs.Prelude.{ℕ, ◌*◌, ◌+◌, ◌/◌, List, map, take, drop, Contains, ◌≡◌, ◌↔◌}
+use Rattle.std.specs.List.{flat_map}
+use Rattle.nmgc_graph.specs.declared.mutator_state.MutatorState.{MutatorState}
+use Rattle.nmgc_graph.specs.declared.value.TheConstants.{SHARED_SLOTS}
+use Rattle.nmgc_graph.specs.World.{World, IsWorld}
+use Rattle.nmgc_graph.specs.Reach.{strong_fields}
+use Rattle.nmgc_object.specs.FinQueue.{FinQueue}
+use Rattle.nmgc_object.specs.declared.layout.Layout.{Layout}
+use Rattle.nmgc_object.specs.declared.layout.TheConstants.{SHARED_PLACE}
+use Rattle.nmgc_object.specs.declared.size.TheConstants.{HEADER_WORDS, MIN_BLOCK_WORDS}
+use Rattle.nmgc_alloc.specs.Segments.{Segments, IsSegments}
+use Rattle.nmgc_alloc.specs.AllocState.{AllocState, StandsFor}
+use Rattle.nmgc_alloc.specs.Blocks.{IsMarkedAt, IsSnapshotAt, IsUsedAt}
+use Rattle.nmgc_heap.specs.Places.{Place, ListMeans}
+use Rattle.nmgc_heap.specs.Represents.{Represents, NoNode}
+use Rattle.nmgc_heap.specs.Roots.{RepresentsRoots}
+use Rattle.nmgc_round.specs.Empty.{shared_place}
+use Rattle.nmgc_round.specs.View.{Opening}
+use Rattle.nmgc_run.specs.Heap.{IsPlaceAtStop}
+use Rattle.nmgc_mark.specs.Tie.{IsRightSnapshot}
+
+-- the slots of g
+abbrev pub slots_of : List ℕ → List ℕ
+slots_of words = take SHARED_SLOTS (drop (SHARED_PLACE + HEADER_WORDS) words)
+
+-- no more blocks than these can be in use
+abbrev pub most_blocks : Layout → ℕ
+most_blocks layout = layout.segments * layout.words / MIN_BLOCK_WORDS
+
+-- as a cycle begins: no block is marked with its epoch, and registers, finaliser queues and the slots of g stand for the roots of the snapshot
+pub record IsBeginning (o : Opening) (s : Segments) (epoch : ℕ) (words registers : List ℕ) (queues : List FinQueue) : Type 0 where
+  pub right : IsRightSnapshot o s
+  pub shared : Contains o.places shared_place
+  pub unmarked : (at : ℕ) → IsMarkedAt s epoch at → ⊥
+  pub registers_are : ListMeans (Contains o.places) registers (flat_map (λ (state : MutatorState). state.registers) o.core.snapshot.mutators)
+  pub queues_are : ListMeans (Contains o.places) (flat_map (λ (q : FinQueue). q.words) queues) (flat_map (λ (state : MutatorState). state.queue) o.core.snapshot.mutators)
+  pub slots_are : ListMeans (Contains o.places) (slots_of words) (strong_fields o.core.snapshot.shared)
+
+-- a heap at a stop whose segments were just prepared for a cycle: words and roots stand for the snapshot, the places are those of g and of the blocks, the blocks in use are those in the snapshot, and no mark byte is the epoch
+pub record IsPrepared (o : Opening) (s : Segments) (epoch : ℕ) (words registers : List ℕ) (queues : List FinQueue) : Type 0 where
+  pub world : IsWorld o.core.snapshot
+  pub earlier : List World
+  pub represents : Represents o.layout earlier NoNode o.places o.core.snapshot words
+  pub serials : List ℕ
+  pub roots : RepresentsRoots o.places o.core.snapshot registers (map (λ (q : FinQueue). q.words) queues) serials
+  pub sound : IsSegments s
+  pub layout : s.layout ≡ o.layout
+  pub allocation : AllocState
+  pub stands : StandsFor s words allocation
+  pub places : (p : Place) → Contains o.places p ↔ IsPlaceAtStop o.layout allocation p
+  pub in_use : (at : ℕ) → IsSnapshotAt s at ↔ IsUsedAt s at
+  pub unmarked : (at : ℕ) → IsMarkedAt s epoch at → ⊥

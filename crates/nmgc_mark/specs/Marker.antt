@@ -1,0 +1,45 @@
+-- What one mark does to a marker and to the segments, and what many do.
+use Rattle.std.specs.Prelude.{ℕ, ◌≡◌, ◌+◌, ◌-◌, Bool, List, [], ◌∷◌, ◌++◌, length, map, if◌then◌else◌}
+use Rattle.nmgc_object.specs.declared.words.Address.{Address}
+use Rattle.nmgc_alloc.specs.Segments.{Segments}
+use Rattle.nmgc_alloc.specs.AllocState.{AllocState, StandsFor}
+use Rattle.nmgc_alloc.specs.Blocks.{MarksPlace}
+use Rattle.nmgc_run.specs.Seen.{MarkerSeen}
+use Rattle.nmgc_run.specs.Marker.{HasRoomToMark}
+
+-- the words at which addresses point
+abbrev pub places : List Address → List ℕ
+places entries = map (λ (at : Address). at.0) entries
+
+-- a marker that marked nothing yet
+abbrev pub blank : ℕ → ℕ → MarkerSeen
+blank epoch spare = record { epoch = epoch; queue = []; spare = spare; marked = 0 }
+
+-- the segments stand for what they stood for
+abbrev pub StandAsBefore : Segments → Segments → Type 0
+StandAsBefore old new = (words : List ℕ) (allocation : AllocState) → StandsFor old words allocation → StandsFor new words allocation
+
+-- the place was queued, if it was marked
+abbrev pub noted : Bool → ℕ → MarkerSeen → MarkerSeen
+noted answer at m = if answer then record m { queue = m.queue ++ at ∷ []; spare = m.spare - 1; marked = m.marked + 1 } else m
+
+-- the block that begins at the place was marked and queued, if it is one of the snapshot and wasn't marked
+pub record MarksAt (old new : Segments) (before after : MarkerSeen) (at : ℕ) : Type 0 where
+  pub answer : Bool
+  pub place : MarksPlace old new before.epoch at answer
+  pub marker : after ≡ noted answer at before
+  pub layout : new.layout ≡ old.layout
+  pub stands : StandAsBefore old new
+
+-- of what the marker had marked it scanned so many objects more; what it marked has used its room up
+pub record HasScanned (old new : MarkerSeen) (count : ℕ) : Type 0 where
+  pub epoch : new.epoch ≡ old.epoch
+  pub pace : new.marked + length old.queue ≡ old.marked + length new.queue + count
+  pub room : new.marked + new.spare ≡ old.marked + old.spare
+
+-- blocks were marked, and so many objects scanned: there is room for all that are left, and no segment changed but by marks
+pub record HasMarked (old new : Segments) (before after : MarkerSeen) (count : ℕ) : Type 0 where
+  pub room : HasRoomToMark new after
+  pub scanned : HasScanned before after count
+  pub layout : new.layout ≡ old.layout
+  pub stands : StandAsBefore old new

@@ -1,0 +1,80 @@
+-- Scanning: the marks of the collector's view, and how far the scan of an object has come.
+use Rattle.std.specs.Prelude.{ℕ, ◌≡◌, ◌+◌, ◌<◌, ◌≤◌, Bool, true, false, not, ◌&&◌, ◌==◌, List, ◌∷◌, ◌++◌, drop, Contains}
+use Rattle.nmgc_graph.specs.declared.node.Kind.{Kind}
+use Rattle.nmgc_graph.specs.declared.node.Kind.TheVariants as kind
+use Rattle.nmgc_core.specs.declared.event.Entry.{Entry}
+use Rattle.nmgc_alloc.specs.Segments.{Segments}
+use Rattle.nmgc_round.specs.declared.table.Round.{Round}
+use Rattle.nmgc_round.specs.View.{Seen, Scan}
+use Rattle.nmgc_round.specs.Marking.{Marks, marks_after}
+use Rattle.nmgc_round.specs.Ready.{first_of}
+use Rattle.nmgc_round.specs.Seat.{RoundSeat, IsAt, seen}
+use Rattle.nmgc_run.specs.Seen.{MarkerSeen}
+use Rattle.nmgc_mark.specs.Marker.{HasMarked}
+use Rattle.nmgc_mark.specs.Tie.{IsTied}
+
+-- the marks that a collector's view gives
+abbrev pub marks_seen : Seen → Marks
+marks_seen v = marks_after v.opening v.scans
+
+-- the entry that is scanned next
+abbrev pub entry_now : Seen → Entry
+entry_now v = first_of (marks_seen v).queue
+
+-- the same marks without the first entry, and with one more at the front
+abbrev pub rest_of : Marks → Marks
+rest_of m = record { marked = m.marked; queue = drop 1 m.queue }
+
+abbrev pub with_first : Entry → Marks → Marks
+with_first entry m = record { marked = m.marked; queue = entry ∷ m.queue }
+
+-- the collector's seat of this round
+abbrev pub IsCollector : Round → RoundSeat → Type 0
+IsCollector round seat = IsAt round seat × ((seen seat).collects ≡ true)
+
+-- the same seat later: it knows of more scans, and of nothing else
+pub record IsLaterSeat (old new : RoundSeat) : Type 0 where
+  pub id : new.id ≡ old.id
+  pub scans : List Scan
+  pub knows : seen new ≡ record (seen old) { scans = (seen old).scans ++ scans }
+
+-- the first entry is the object at this place, at this position, and all else is tied
+pub record IsScanning (v : Seen) (s : Segments) (marker : MarkerSeen) (at position : ℕ) : Type 0 where
+  pub first : marks_seen v ≡ with_first (entry_now v) (rest_of (marks_seen v))
+  pub there : Contains v.opening.places (record { at = at; name = (entry_now v).name })
+  pub stands : (entry_now v).position ≡ position
+  pub tied : IsTied v.opening (rest_of (marks_seen v)) s marker
+
+-- so many fields of the object were scanned, from the header on
+pub record IsAtField (from v : Seen) (s : Segments) (marker : MarkerSeen) (at fields field : ℕ) : Type 0 where
+  pub opening : v.opening ≡ from.opening
+  pub more : field < fields → IsScanning v s marker at (field + 1) × ((entry_now v).name ≡ (entry_now from).name)
+  pub last : fields ≤ field → IsTied v.opening (marks_seen v) s marker
+
+-- so many objects were scanned, and the marker's marks and queue are those of the view
+pub record HasWorked (round : Round) (from seat : RoundSeat) (old new : Segments) (before marker : MarkerSeen) (count : ℕ) : Type 0 where
+  pub collector : IsCollector round seat
+  pub later : IsLaterSeat from seat
+  pub marked : HasMarked old new before marker count
+  pub tied : IsTied (seen seat).opening (marks_seen (seen seat)) new marker
+
+-- how many fields of an object are scanned: those of a weak pointer never are
+abbrev pub fields_scanned : Kind → ℕ → ℕ
+fields_scanned kind.Con n = n
+fields_scanned kind.Var n = n
+fields_scanned kind.Arr n = n
+fields_scanned kind.Thunk n = n
+fields_scanned kind.Weak n = 0
+fields_scanned kind.Stack n = n
+
+abbrev pub has_results : Kind → Bool
+has_results kind.Con = false
+has_results kind.Var = false
+has_results kind.Arr = false
+has_results kind.Thunk = true
+has_results kind.Weak = false
+has_results kind.Stack = false
+
+-- the word is a result that was set, after which nothing of a thunk is scanned
+abbrev pub is_result : Kind → ℕ → ℕ → Bool
+is_result k field w = (field == 0) && (has_results k && not (w == 0))

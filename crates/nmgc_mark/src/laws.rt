@@ -1,0 +1,67 @@
+//! The marker against the core machine: each function does nothing, and its contract is the law.
+ghost use Rattle.std.specs.Prelude.{◌≡◌, ◌<◌, ℕ, [], List, Contains, IsSome, filter, true, false, length};
+ghost use Rattle.nmgc_graph.specs.declared.value.Name.{Name};
+ghost use Rattle.nmgc_graph.specs.Step.{shared_name};
+ghost use Rattle.nmgc_graph.specs.World.{node_of};
+ghost use Rattle.nmgc_graph.specs.Reach.{IsReached, IsRoot};
+ghost use Rattle.nmgc_object.specs.FinQueue.{FinQueue};
+ghost use Rattle.nmgc_core.specs.Facts.{Facts};
+ghost use Rattle.nmgc_core.specs.State.{State as Core, names_of};
+ghost use Rattle.nmgc_core.specs.Machine.{is_pushed_in};
+ghost use Rattle.nmgc_alloc.specs.Segments.{Segments};
+ghost use Rattle.nmgc_heap.specs.Places.{Place};
+ghost use Rattle.nmgc_round.specs.View.{Opening, Seen, whole};
+ghost use Rattle.nmgc_round.specs.Seating.{collecting};
+ghost use Rattle.nmgc_round.specs.Marking.{Marks, marks_of};
+ghost use Rattle.nmgc_round.specs.Rule.{now};
+ghost use Rattle.nmgc_round.specs.Finishing.{IsFinished};
+ghost use Rattle.nmgc_run.specs.Seen.{MarkerSeen};
+ghost use Rattle.nmgc_mark.specs.Beginning.{IsBeginning, IsPrepared};
+ghost use Rattle.nmgc_mark.specs.Blocks.{TiesAgree};
+ghost use Rattle.nmgc_mark.specs.Tie.{IsRightSnapshot, IsTied, AreNamed, TakesAll};
+ghost use Rattle.nmgc_mark.specs.Work.{marks_seen};
+
+/// A heap at a stop whose segments were just prepared is one with which marking begins.
+pub fn prepared_heaps_begin()
+    ensures { (o : Opening) (s : Segments) (epoch : ℕ) (words registers : List ℕ) (queues : List FinQueue) → IsPrepared o s epoch words registers queues → IsBeginning o s epoch words registers queues }
+{}
+
+/// As a round begins, a marker that is the machine's is the collector's view's.
+pub fn round_begins()
+    ensures { (o : Opening) (s : Segments) (marker : MarkerSeen) → IsTied o (marks_of o.core) s marker → IsTied o (marks_seen (collecting (whole o))) s marker }
+{}
+
+/// Once a round is over, a marker that is the collector's view's is that of the machine after the round's
+/// events.
+pub fn round_ends()
+    ensures { (o : Opening) (words : List ℕ) (v : Seen) (s : Segments) (marker : MarkerSeen) (h : IsFinished o words v) → v.collects ≡ true → v.opening ≡ o → IsTied v.opening (marks_seen v) s marker → IsTied o (marks_of (now o h.events)) s marker }
+{}
+
+/// The remembered places of a mutator, marked one after another, are the machine's takes of what that
+/// mutator pushed.
+pub fn entries_are_takes()
+    ensures { (o : Opening) (core : Core) (m : ℕ) (entries : List ℕ) (names : List Name) → o.core.snapshot ≡ core.snapshot → AreNamed o.places entries names → filter (is_pushed_in core.snapshot) names ≡ names_of core.pushed m → core.is_closed ≡ false → m < length core.pushed → Contains core.marked shared_name → (after : Core) × TakesAll o core m entries after }
+{}
+
+/// A marker stays the machine's where there are more places: objects born in a round and those that were
+/// promoted since are in no snapshot.
+pub fn places_may_grow()
+    ensures { (o : Opening) (places : List Place) (m : Marks) (s : Segments) (marker : MarkerSeen) → ((p : Place) → Contains o.places p → Contains places p) → IsRightSnapshot (record o { places = places }) s → IsTied o m s marker → IsTied (record o { places = places }) m s marker }
+{}
+
+/// The tie by places is the tie by blocks that a run keeps, where the places are those of the blocks.
+pub fn ties_agree()
+    ensures { TiesAgree }
+{}
+
+/// Where the facts of the core machine hold, marked names are of the snapshot, g among them.
+pub fn marks_are_of_the_snapshot()
+    ensures { (core : Core) → Facts core → ((name : Name) → Contains core.marked name → IsSome (node_of core.snapshot name)) × Contains core.marked shared_name }
+{}
+
+/// Where the facts of the core machine hold and nothing is queued, owed or pushed, all is marked that strong
+/// fields reach in the snapshot from its roots. So where no command owed a reference, a marker whose queue is
+/// empty has scanned as many objects.
+pub fn all_reached_is_marked()
+    ensures { (core : Core) → Facts core → core.queue ≡ [] → ((m : ℕ) → names_of core.owed m ≡ []) → ((m : ℕ) → names_of core.pushed m ≡ []) → (name : Name) → IsReached core.snapshot (IsRoot core.snapshot) name → Contains core.marked name }
+{}

@@ -1,0 +1,236 @@
+//! The marker of one cycle: how it begins, and what one mark does.
+//!
+//! All marked places stand in one list in the order of marking, of which those before an index were scanned;
+//! the rest is the queue. So a place is queued at most once in a cycle, and the list never needs more room
+//! than there are blocks.
+ghost use Rattle.std.specs.Prelude.{ℕ, ◌≡◌, ◌+◌, ◌-◌, ◌*◌, ◌^◌, ◌<◌, ◌≤◌, [], ◌∷◌, ◌++◌, ◌↔◌, length, Contains, IsTrue, IfSome, IfNone, IfOk};
+ghost use Rattle.nmgc_segment.specs.Marks.{IsEpoch};
+ghost use Rattle.nmgc_object.specs.declared.layout.TheConstants.{FIRST_PLACE};
+ghost use Rattle.nmgc_object.specs.Places.{IsLayout};
+ghost use Rattle.nmgc_object.specs.FinQueue.{FinQueue as Queue};
+ghost use Rattle.nmgc_core.specs.State.{opening};
+ghost use Rattle.nmgc_round.specs.View.{Opening};
+ghost use Rattle.nmgc_round.specs.Marking.{Marks, marks_of, with_name, name_meant};
+ghost use Rattle.nmgc_run.specs.Marker.{HasRoomToMark};
+ghost use Rattle.nmgc_mark.specs.Beginning.{IsBeginning, slots_of, most_blocks};
+ghost use Rattle.nmgc_mark.specs.Marker.{MarksAt, HasMarked, places, blank};
+ghost use Rattle.nmgc_mark.specs.Tie.{IsTied, with_places, with_words, with_queues};
+
+use nmgc_alloc::Segments;
+use nmgc_graph::{NoMemory, Room, SHARED_SLOTS};
+use nmgc_heap::HeapWords;
+use nmgc_object::{Address, FinQueue, HEADER_WORDS, Layout, MIN_BLOCK_WORDS, SHARED_PLACE};
+use std::alloc::Global;
+use std::marker::Model;
+
+/// What the marker did in a round: how many objects it scanned, and whether none is left.
+#[derive(Clone, Copy, Debug, PartialEq, Eq)]
+pub struct Work {
+    pub scanned: u32,
+    pub empty: bool,
+}
+
+/// The marker of a cycle. Contracts see its epoch, its queue of places, for how many more there is room, and
+/// how many blocks it marked.
+#[derive(Drop)]
+pub struct Marker {
+    /// How often the collector passed the gate in the whole run. Stands still at 2^64 - 1.
+    pub turns: u64,
+    epoch: u8,
+    found: Room<Address>,
+    first: u32,
+    limit: u32,
+}
+
+impl Model for Marker {
+    ghost use Rattle.std.specs.Prelude.{◌-◌, ◌+◌, ◌≤◌, drop, length};
+    ghost use Rattle.nmgc_segment.specs.Marks.{IsEpoch};
+    ghost use Rattle.nmgc_run.specs.Seen.{MarkerSeen};
+    ghost use Rattle.nmgc_mark.specs.Marker.{places};
+
+    ghost Value = { MarkerSeen };
+
+    ghost view = { λ m. record {
+      epoch = m.epoch;
+      queue = drop m.first (places m.found.items);
+      spare = m.limit - length m.found.items;
+      marked = length m.found.items;
+    } };
+
+    ghost invariant = { λ m. IsEpoch m.epoch × (m.first ≤ length m.found.items) × (length m.found.items ≤ m.limit) × (m.limit ≤ length m.found.items + m.found.spare) };
+}
+
+/// No more blocks than these can be in use.
+pub(crate) fn most_blocks(layout: Layout) -> u32
+    requires { IsLayout layout }
+    ensures { result ≡ most_blocks layout }
+{
+    layout.segments * layout.words / MIN_BLOCK_WORDS
+}
+
+impl Marker {
+    /// A marker that marked nothing, with room for so many blocks.
+    pub(crate) fn blank(alloc: Global, epoch: u8, blocks: u32) -> Result<Marker, NoMemory>
+        requires { IsEpoch epoch }
+        ensures { IfOk result (λ marker. marker ≡ blank epoch blocks) }
+    {
+        let mut found = Room::new(alloc);
+        found.reserve(blocks)?;
+        Ok(Marker {
+            turns: 0,
+            epoch,
+            found,
+            first: 0,
+            limit: blocks,
+        })
+    }
+
+    /// Begins to mark: what registers, finaliser queues and the slots of g refer to is marked and queued, in
+    /// this order. `Segments::prepare` was just called, and no mark byte is the epoch. Marks and queue are those
+    /// with which the core machine opens. There is room for every block, which is the only memory that a marker
+    /// takes; after `NoMemory` no block was marked.
+    pub fn snapshot<W: HeapWords>(
+        alloc: Global,
+        words: &mut W,
+        segments: &mut Segments,
+        registers: &[u64],
+        queues: &[FinQueue],
+        epoch: u8,
+    ) -> Result<Marker, NoMemory>
+        requires epoch { IsEpoch epoch }
+        requires inside { FIRST_PLACE ≤ length (W.words words.old) }
+        requires begins { (o : Opening) × IsBeginning o segments.old epoch (W.words words.old) registers.now queues.now }
+        ensures words { W.words words.new ≡ W.words words.old }
+        ensures marked { IfOk result (λ marker. HasMarked segments.old segments.new (blank epoch (most_blocks segments.old.layout)) marker 0) }
+        ensures tied { IfOk result (λ marker. (o : Opening) → IsBeginning o segments.old epoch (W.words words.old) registers.now queues.now → IsTied o (marks_of (opening o.core.snapshot)) segments.new marker) }
+    {
+        let blocks = most_blocks(segments.layout());
+        let mut marker = Marker::blank(alloc, epoch, blocks)?;
+        marker.mark_all(segments, registers);
+        marker.mark_queues(segments, queues);
+        marker.mark_shared(words, segments);
+        Ok(marker)
+    }
+
+    // Marks what words refer to.
+    fn mark_all(&mut self, segments: &mut Segments, words: &[u64])
+        requires room { HasRoomToMark segments.old self.old }
+        requires small { (w at : ℕ) → Contains words.now w → w ≡ 2 * at → at < 2 ^ 32 }
+        ensures marked { HasMarked segments.old segments.new self.old self.new 0 }
+        ensures tied { (o : Opening) (m : Marks) → IsTied o m segments.old self.old → IsTied o (with_words o m words.now) segments.new self.new }
+    {
+        for word in words {
+            self.mark_word(segments, *word);
+        }
+    }
+
+    // Marks what finaliser queues refer to.
+    fn mark_queues(&mut self, segments: &mut Segments, queues: &[FinQueue])
+        requires room { HasRoomToMark segments.old self.old }
+        requires small { (queue : Queue) (w at : ℕ) → Contains queues.now queue → Contains queue.words w → w ≡ 2 * at → at < 2 ^ 32 }
+        ensures marked { HasMarked segments.old segments.new self.old self.new 0 }
+        ensures tied { (o : Opening) (m : Marks) → IsTied o m segments.old self.old → IsTied o (with_queues o m queues.now) segments.new self.new }
+    {
+        for queue in queues {
+            self.mark_all(segments, queue.words());
+        }
+    }
+
+    // Marks what the slots of g refer to.
+    fn mark_shared<W: HeapWords>(&mut self, words: &mut W, segments: &mut Segments)
+        requires room { HasRoomToMark segments.old self.old }
+        requires inside { FIRST_PLACE ≤ length (W.words words.old) }
+        requires small { (w at : ℕ) → Contains (slots_of (W.words words.old)) w → w ≡ 2 * at → at < 2 ^ 32 }
+        ensures words { W.words words.new ≡ W.words words.old }
+        ensures marked { HasMarked segments.old segments.new self.old self.new 0 }
+        ensures tied { (o : Opening) (m : Marks) → IsTied o m segments.old self.old → IsTied o (with_words o m (slots_of (W.words words.old))) segments.new self.new }
+    {
+        let first = (SHARED_PLACE + HEADER_WORDS) as usize;
+        for slot in 0..usize::from(SHARED_SLOTS) {
+            let word = words.load(first + slot);
+            self.mark_word(segments, word);
+        }
+    }
+
+    /// Marks and queues the remembered places that are blocks of the snapshot and weren't marked, in their
+    /// order: the machine takes what the mutator pushed. A place at which no block begins is passed over.
+    pub fn add(&mut self, segments: &mut Segments, entries: &[Address])
+        requires { HasRoomToMark segments.old self.old }
+        ensures marked { HasMarked segments.old segments.new self.old self.new 0 }
+        ensures tied { (o : Opening) (m : Marks) → IsTied o m segments.old self.old → IsTied o (with_places o m (places entries.now)) segments.new self.new }
+    {
+        for at in entries {
+            self.mark(segments, *at);
+        }
+    }
+
+    /// The epoch with which blocks are marked. Takes no memory, as every call but `snapshot`.
+    pub fn epoch(&self) -> u8
+        ensures epoch { result ≡ self.now.epoch }
+        ensures sound { IsEpoch self.now.epoch }
+    {
+        let _ = &self.found;
+        self.epoch
+    }
+
+    /// How many blocks were marked by this marker, those of the snapshot's roots among them.
+    pub fn marked(&self) -> u32
+        ensures { result ≡ self.now.marked }
+    {
+        let _limit = self.limit;
+        self.found.items().len() as u32
+    }
+
+    /// Whether no object waits to be scanned.
+    pub fn is_empty(&self) -> bool
+        ensures { IsTrue result ↔ (self.now.queue ≡ []) }
+    {
+        self.first as usize == self.found.items().len()
+    }
+
+    /// Takes the first place off the queue.
+    pub(crate) fn take_first(&mut self) -> Option<Address>
+        ensures some { IfSome result (λ at. (self.old.queue ≡ at.0 ∷ self.new.queue) × (self.new ≡ record self.old { queue = self.new.queue })) }
+        ensures none { IfNone result ((self.old.queue ≡ []) × (self.new ≡ self.old)) }
+    {
+        if self.first as usize == self.found.items().len() {
+            return None;
+        }
+        let at = self.found.items()[self.first as usize];
+        self.first += 1;
+        Some(at)
+    }
+
+    // Queues a place that was marked.
+    fn queue(&mut self, at: Address)
+        requires { 0 < self.old.spare }
+        ensures { self.new ≡ record self.old { queue = self.old.queue ++ at.0 ∷ []; spare = self.old.spare - 1; marked = self.old.marked + 1 } }
+    {
+        self.found.add(at);
+    }
+
+    // Marks and queues the block that begins at a place, where it is of the snapshot and wasn't marked.
+    fn mark(&mut self, segments: &mut Segments, at: Address)
+        requires { HasRoomToMark segments.old self.old }
+        ensures { MarksAt segments.old segments.new self.old self.new at.0 }
+    {
+        let epoch = self.epoch();
+        let _ = segments.layout();
+        if segments.block_at(at).is_some() && segments.mark_at(at, epoch) {
+            self.queue(at);
+        }
+    }
+
+    /// Marks and queues what a field refers to, if it refers to a block of the snapshot that wasn't marked.
+    pub(crate) fn mark_word(&mut self, segments: &mut Segments, word: u64)
+        requires room { HasRoomToMark segments.old self.old }
+        requires small { (at : ℕ) → word ≡ 2 * at → at < 2 ^ 32 }
+        ensures marked { HasMarked segments.old segments.new self.old self.new 0 }
+        ensures tied { (o : Opening) (m : Marks) → IsTied o m segments.old self.old → IsTied o (with_name o.core.snapshot m (name_meant o.places word)) segments.new self.new }
+    {
+        if word == 0 || word % 2 != 0 {
+            return;
+        }
+        self.mark(segments, Address((word / 2) as u32));
+    }
+}

@@ -1,0 +1,143 @@
+//! Scanning beside the mutators.
+//!
+//! Each word of an object is one load of the round, and one scan of the core machine: first the header, then
+//! field after field. What a field refers to is marked before the next one is read. An object is scanned to its
+//! end once it was begun, so between two calls every queued object is still to be scanned from its header on.
+ghost use Rattle.std.specs.Prelude.{◌≡◌, ◌+◌, ◌<◌, ◌≤◌, [], ◌↔◌, IsTrue};
+ghost use Rattle.nmgc_object.specs.declared.size.TheConstants.{HEADER_WORDS};
+ghost use Rattle.nmgc_round.specs.Marking.{with_name, name_meant};
+ghost use Rattle.nmgc_round.specs.Ready.{scanned_by};
+ghost use Rattle.nmgc_round.specs.Seat.{Knows, seen, word_count};
+ghost use Rattle.nmgc_run.specs.Marker.{HasRoomToMark};
+ghost use Rattle.nmgc_mark.specs.Marker.{HasMarked};
+ghost use Rattle.nmgc_mark.specs.Tie.{IsTied};
+ghost use Rattle.nmgc_mark.specs.Work.{IsCollector, IsScanning, HasWorked, marks_seen, rest_of, fields_scanned, is_result};
+
+use crate::marker::{Marker, Work};
+use nmgc_alloc::Segments;
+use nmgc_graph::{Kind, MAKERS};
+use nmgc_object::laws::words_differ;
+use nmgc_object::{Address, HEADER_WORDS, Header, decode_header};
+use nmgc_round::{CollectorSeat, Gate, Round};
+
+/// How many fields of an object are scanned.
+pub(crate) fn fields_scanned(header: Header) -> u32
+    ensures { result ≡ fields_scanned header.kind header.fields }
+{
+    match header.kind {
+        Kind::Weak => 0,
+        Kind::Con | Kind::Var | Kind::Arr | Kind::Thunk | Kind::Stack => header.fields,
+    }
+}
+
+/// Whether the word is a result that was set, after which nothing of a thunk is scanned.
+pub(crate) fn is_result(header: Header, field: u32, word: u64) -> bool
+    ensures { result ≡ is_result header.kind field word }
+{
+    match header.kind {
+        Kind::Thunk => field == 0 && word != 0,
+        Kind::Con | Kind::Var | Kind::Arr | Kind::Weak | Kind::Stack => false,
+    }
+}
+
+impl Marker {
+    // Passes the gate.
+    fn pass<G: Gate>(&mut self, gate: &G)
+        ensures { self.new ≡ self.old }
+    {
+        self.turns = self.turns.saturating_add(1);
+        gate.pass(MAKERS, self.turns);
+    }
+
+    // Scans one field of the object that the first entry names, and marks what it refers to.
+    fn scan_field(
+        &mut self,
+        round: &Round,
+        seat: &mut CollectorSeat,
+        segments: &mut Segments,
+        at: Address,
+        field: u32,
+    ) -> u64
+        requires collector { IsCollector round.now seat.old }
+        requires room { HasRoomToMark segments.old self.old }
+        requires scanning { IsScanning (seen seat.old) segments.old self.old at.0 (field + 1) }
+        requires within { at.0 + HEADER_WORDS + field < word_count round.now }
+        ensures view { Knows round.now seat.old seat.new (scanned_by (seen seat.old) result) }
+        ensures marked { HasMarked segments.old segments.new self.old self.new 0 }
+        ensures tied { IsTied (seen seat.old).opening (with_name (seen seat.old).opening.core.snapshot (rest_of (marks_seen (seen seat.old))) (name_meant (seen seat.old).opening.places result)) segments.new self.new }
+    {
+        let _ = segments.layout();
+        let word = round.scan_load(seat, at, HEADER_WORDS + field);
+        self.mark_word(segments, word);
+        word
+    }
+
+    // Scans the object at a place, whose entry is the first: its header, and then field after field. A thunk
+    // with a result is done after that.
+    fn scan(
+        &mut self,
+        round: &Round,
+        seat: &mut CollectorSeat,
+        segments: &mut Segments,
+        at: Address,
+    )
+        requires collector { IsCollector round.now seat.old }
+        requires room { HasRoomToMark segments.old self.old }
+        requires scanning { IsScanning (seen seat.old) segments.old self.old at.0 0 }
+        ensures { HasWorked round.now seat.old seat.new segments.old segments.new self.old self.new 0 }
+    {
+        words_differ();
+        let Some(header) = decode_header(round.scan_load(seat, at, 0)) else {
+            unreachable!();
+        };
+        let fields = fields_scanned(header);
+        for field in 0..fields {
+            let word = self.scan_field(round, seat, segments, at, field);
+            if is_result(header, field, word) {
+                return;
+            }
+        }
+    }
+
+    /// Scans objects from the queue's front beside the mutators, at most so many, each to its end and each word
+    /// by the scan load. Before each the gate is passed and counted.
+    ///
+    /// Marks and queue are the machine's before and after, as the collector's view tells them. Each object is
+    /// scanned once in a cycle: what was marked and doesn't wait was scanned. `empty` is false exactly where
+    /// `quota` objects were scanned and the queue isn't empty. Takes no memory, and waits for nobody but the gate.
+    pub fn work<G: Gate>(
+        &mut self,
+        round: &Round,
+        seat: &mut CollectorSeat,
+        segments: &mut Segments,
+        quota: u32,
+        gate: &G,
+    ) -> Work
+        requires collector { IsCollector round.now seat.old }
+        requires room { HasRoomToMark segments.old self.old }
+        requires tied { IsTied (seen seat.old).opening (marks_seen (seen seat.old)) segments.old self.old }
+        ensures worked { HasWorked round.now seat.old seat.new segments.old segments.new self.old self.new result.scanned }
+        ensures most { result.scanned ≤ quota }
+        ensures least { result.scanned < quota → self.new.queue ≡ [] }
+        ensures empty { IsTrue result.empty ↔ (self.new.queue ≡ []) }
+    {
+        for scanned in 0..quota {
+            match self.take_first() {
+                None => {
+                    return Work {
+                        scanned,
+                        empty: true,
+                    };
+                }
+                Some(at) => {
+                    self.pass(gate);
+                    self.scan(round, seat, segments, at);
+                }
+            }
+        }
+        Work {
+            scanned: quota,
+            empty: self.is_empty(),
+        }
+    }
+}
