@@ -1,0 +1,63 @@
+-- The bounds of a closing, by the pace of marking.
+use Rattle.std.proofs.Common.{◌/◌, ◌≡◌, ◌+◌, ◌-◌, ◌*◌, ◌≤◌, ℕ, suc, List, [], ◌∷◌, length, map, refl, sym, ap, subst, ◌∙◌, arith, inl, inr}
+use Rattle.std.specs.Prelude.{Contains}
+use Rattle.std.proofs.Math.Nat.{le-div_iff_mul-le}
+use Rattle.std.proofs.lemmas.Bool.{cases_lt}
+use Rattle.nmgc_graph.specs.declared.value.Name.{Name}
+use Rattle.nmgc_graph.specs.Step.{shared_name}
+use Rattle.nmgc_core.specs.declared.event.Entry.{Entry}
+use Rattle.nmgc_core.specs.State.{opening}
+use Rattle.nmgc_heap.specs.Places.{Place}
+use Rattle.nmgc_run.specs.Census.{IsKeptObject}
+use Rattle.nmgc_run.specs.Closing.{IsStrongObject}
+use Rattle.nmgc_run.specs.Listing.{Counts}
+use Rattle.nmgc_run.specs.Marker.{AreAt}
+use Rattle.nmgc_beside.specs.Closes.{ClosingIsSoon, ClosingComes, ClosingIsPaced}
+use Rattle.nmgc_beside.proofs.Once.{IsOnce, once_runs, once_opening}
+use Rattle.nmgc_beside.proofs.Sorting.{AreDistinct, rest_counted, one_count}
+use Rattle.nmgc_beside.proofs.Strong.{IsExactlyStrong, Strong, exactly_strong}
+
+pub closing_is_soon : ClosingIsSoon
+closing_is_soon quota c t seen kept h more counts = elim (cases_lt (c.from + 1) t.number) [
+  | inr soon ↦ inl soon
+  | inl later ↦ let one = h.some later in let scanned = h.scanned in inr (kept, counts, omega arith)
+]
+
+pub closing_comes : ClosingComes
+closing_comes quota c closed kept some (inl first) counts = omega arith
+closing_comes quota c closed kept some (inr (count, own, less)) counts =
+    let same : count ≡ kept = one_count (IsKeptObject c) count kept own counts in
+    let rounds : (closed - c.from - 1) * quota ≤ kept - 1 = omega arith in
+    let most : closed - c.from - 1 ≤ (kept - 1) / quota = (le-div_iff_mul-le {k = quota} {x = closed - c.from - 1} {y = kept - 1} (omega arith)).1 rounds in
+    omega arith
+
+-- where nothing waits at any place, nothing waits
+none_waits : (places : List Place) (entries : List Entry) → AreAt places [] (map (λ (entry : Entry). entry.name) entries) → entries ≡ []
+none_waits places [] h = refl
+none_waits places (entry ∷ entries) h = absurd h
+
+-- one round more
+pub one_more : (n from quota : ℕ) → from + 1 ≤ n → (n - from - 1) * quota + quota ≡ (n - from) * quota
+one_more n from quota le =
+    let k : ℕ = n - from - 1 in
+    let next : n - from ≡ suc k = omega arith in
+    sym (ap (λ j. j * quota) next ∙ (omega arith))
+
+pub closing_is_paced : ClosingIsPaced
+closing_is_paced quota c t seen allocation places core sound m tied after paced empty = record {
+  after = after;
+  work = λ none.
+      let queue : seen.marker.queue ≡ [] = (paced.empty).0 empty in
+      let waits : core.queue ≡ [] = none_waits places core.queue (subst (λ (l : List ℕ). AreAt places l (map (λ (entry : Entry). entry.name) core.queue)) queue tied.queue) in
+      let e : IsExactlyStrong c.snapshot sound.world core = exactly_strong c.snapshot sound.world m.events c.rows core m.runs m.open_yet none waits in
+      let o : IsOnce core = once_runs (opening c.snapshot) m.events c.rows core m.runs m.open_yet (once_opening c.snapshot) in
+      let long : length core.marked ≡ length o.others + 1 = ap (λ (l : List Name). length l) o.marked_are ∙ (omega arith) in
+      let counted = tied.count in
+      let all : Counts (IsStrongObject c.snapshot) (length o.others) = rest_counted (Strong c.snapshot sound.world) shared_name o.others (subst AreDistinct o.marked_are o.once)
+      (λ n d. e.sound n (subst (λ (l : List Name). Contains l n) (sym o.marked_are) d))
+      (λ n k. subst (λ (l : List Name). Contains l n) o.marked_are (e.complete n k))
+      in
+      let none_left : length seen.marker.queue ≡ 0 = ap (λ (l : List ℕ). length l) queue in
+      let scanned = paced.scanned in let most = paced.most in let more = one_more t.number c.from quota after in
+      (length o.others, all, omega arith);
+}

@@ -1,0 +1,15 @@
+use Rattle.nmgc_beside.proofs.RoundHeap.{round_holds, promotion_holds, marked_holds}
+use Rattle.nmgc_beside.proofs.Stopping.{stop_rests}
+use Rattle.nmgc_beside.proofs.laws.the_heap_goes_on.Goals as goal
+
+pub returns-clause-stop : goal.returns-clause-stop
+returns-clause-stop c = stop_rests
+
+pub returns-clause-round : goal.returns-clause-round
+returns-clause-round c = round_holds
+
+pub returns-clause-marked : goal.returns-clause-marked
+returns-clause-marked c = marked_holds
+
+pub returns-clause-promotion : goal.returns-clause-promotion
+returns-clause-promotion c = promotion_holds c.places_are_blocks.ensures.back

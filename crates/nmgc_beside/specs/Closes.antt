@@ -1,0 +1,52 @@
+-- How a cycle closes whose snapshot has no weak pointer that is alive: what is marked by then is what it keeps. And when the marker is done, so that the bounds of a closing hold.
+use Rattle.std.specs.Prelude.{ℕ, ◌≡◌, ◌↔◌, ◌+◌, ◌-◌, ◌/◌, ◌≤◌, List, [], All, true}
+use Rattle.nmgc_graph.specs.declared.node.Parts.{Parts}
+use Rattle.nmgc_graph.specs.declared.value.Name.{Name}
+use Rattle.nmgc_graph.specs.World.{World}
+use Rattle.nmgc_graph.specs.Reach.{IsAlive}
+use Rattle.nmgc_segment.specs.Segment.{IsMarked}
+use Rattle.nmgc_core.specs.State.{State as Core}
+use Rattle.nmgc_alloc.specs.Search.{nth}
+use Rattle.nmgc_alloc.specs.Segments.{Segments}
+use Rattle.nmgc_alloc.specs.AllocState.{AllocState, LiesIn}
+use Rattle.nmgc_heap.specs.Places.{Place}
+use Rattle.nmgc_round.specs.Events.{Happening, IsLegal, replay, rows_in}
+use Rattle.nmgc_run.specs.Census.{IsKeptIn, IsKeptObject, interval_of}
+use Rattle.nmgc_reach.specs.Reachable.{IsSound}
+use Rattle.nmgc_run.specs.Closing.{Closes, IsSoon, IsPaced}
+use Rattle.nmgc_run.specs.Collector.{IsPacedAfterRound}
+use Rattle.nmgc_run.specs.Listing.{Counts}
+use Rattle.nmgc_run.specs.Marker.{IsCoreOf, IsFresh, IsTied}
+use Rattle.nmgc_run.specs.Seen.{Seen, MarkerSeen}
+use Rattle.nmgc_run.specs.State.{Cycle, State, sweeping}
+use Rattle.nmgc_beside.specs.Rest.{IsMachineAtRest}
+
+-- the machine at a stop goes on by scans alone, and is at rest again where it scanned whole objects
+abbrev pub MachineScans : Type 0
+MachineScans = (c : Cycle) (w : World) (core : Core) (events : List Happening) → IsMachineAtRest c w core → IsLegal core events → rows_in events ≡ [] → All IsFresh (replay core events).queue → IsMachineAtRest c w (replay core events)
+
+-- the world has no weak pointer that is alive
+abbrev pub HasNoWeak : World → Type 0
+HasNoWeak w = (weak : Name) (parts : Parts) → IsAlive w weak parts → ⊥
+
+-- the cycle is closed at this stop: no weak pointer dies; of the names in blocks exactly those are marked that the cycle keeps, and the marker has counted them
+pub record HasClosed (c : Cycle) (s : State) (segments : Segments) (marker : MarkerSeen) : Type 0 where
+  pub closes : Closes c s (record s { progress = sweeping c s.number })
+  pub kept : Counts (IsKeptObject c) marker.marked
+  pub exact : (number block : ℕ) (name : Name) → LiesIn s.allocation number block name → IsMarked (nth segments.segments number) marker.epoch block ↔ IsKeptIn c name
+
+-- where nothing waits any more, the cycle may close so
+abbrev pub CycleCloses : Type 0
+CycleCloses = (c : Cycle) (s : State) (segments : Segments) (places : List Place) (marker : MarkerSeen) (core : Core) → HasNoWeak c.snapshot → IsMachineAtRest c s.world core → core.queue ≡ [] → IsTied c s.allocation segments places marker core → HasClosed c s segments marker
+
+-- it isn't too late: each round before the last one scanned its quota, and the last one something
+abbrev pub ClosingIsSoon : Type 0
+ClosingIsSoon = (quota : ℕ) (c : Cycle) (t : State) (seen : Seen) (kept : ℕ) → IsPacedAfterRound quota c t seen → seen.marker.marked ≤ kept → Counts (IsKeptObject c) kept → IsSoon quota c t.number
+
+-- so it comes within as many rounds as scan one object less than is kept, and one more
+abbrev pub ClosingComes : Type 0
+ClosingComes = (quota : ℕ) (c : Cycle) (closed kept : ℕ) → 1 ≤ quota → IsSoon quota c closed → Counts (IsKeptObject c) kept → closed ≤ c.from + ((kept - 1) / quota + 1)
+
+-- nor too early: after a round whose work answered that nothing is left, all that the snapshot's roots reach was scanned in some round, where nothing was owed
+abbrev pub ClosingIsPaced : Type 0
+ClosingIsPaced = (quota : ℕ) (c : Cycle) (t : State) (seen : Seen) (allocation : AllocState) (places : List Place) (core : Core) → IsSound (interval_of c) → IsCoreOf c t.world core → IsTied c allocation seen.segments places seen.marker core → c.from + 1 ≤ t.number → IsPacedAfterRound quota c t seen → seen.work.empty ≡ true → IsPaced quota c t.number

@@ -1,0 +1,94 @@
+-- The heap of a marking cycle in the words of a run: at a stop it is at rest, and what a round and its promotion leave of it.
+use Rattle.std.specs.Prelude.{ℕ, ◌≡◌, List, map, slice_get, Some, All}
+use Rattle.nmgc_object.specs.declared.layout.Layout.{Layout}
+use Rattle.nmgc_alloc.specs.AllocState.{AllocState, StandsFor}
+use Rattle.nmgc_alloc.specs.Segments.{Segments, IsSegments}
+use Rattle.nmgc_heap.specs.Places.{Place}
+use Rattle.nmgc_heap.specs.Moves.{Moved}
+use Rattle.nmgc_heap.specs.Roots.{RepresentsRoots, ListsWeaks}
+use Rattle.nmgc_blocks.specs.Stopped.{Stopped, IsSettled}
+use Rattle.nmgc_journal.specs.declared.report.MutatorEnd.{MutatorEnd}
+use Rattle.nmgc_round.specs.View.{Opening, Seen as View}
+use Rattle.nmgc_round.specs.Objects.{earlier}
+use Rattle.nmgc_round.specs.Rule.{now}
+use Rattle.nmgc_round.specs.Starting.{CanOpen}
+use Rattle.nmgc_round.specs.Finishing.{Leaves, places_then}
+use Rattle.nmgc_mutator.specs.declared.mutator.Mutator.{Mutator}
+use Rattle.nmgc_mutator.specs.Ready.{IsWhole}
+use Rattle.nmgc_mutator.specs.Records.{numbers}
+use Rattle.nmgc_run.specs.Collector.{IsAtStop, IsMarking, IsPacedAtStop}
+use Rattle.nmgc_run.specs.Heap.{HoldsAtStop, HoldsAfterRound, HasAllRegisters, registers_of, queues_of, serials_of, snapshots}
+use Rattle.nmgc_run.specs.Run.{Run, last_state}
+use Rattle.nmgc_run.specs.Seen.{Seen, MutatorSeen}
+use Rattle.nmgc_run.specs.Sound.{IsRunnable, LieKnown}
+use Rattle.nmgc_run.specs.State.{Plan, Cycle, State, marking}
+use Rattle.nmgc_beside.specs.Rest.{IsAtRest}
+use Rattle.nmgc_beside.specs.Stays.{places_after}
+
+-- a mutator as contracts of a collector see it
+abbrev pub shown : Mutator → MutatorSeen
+shown m = record {
+  registers = m.registers;
+  queue = m.queue;
+  serial = m.serial;
+  nursery = m.nursery;
+  recorded = numbers m.recorded.items;
+  young_weaks = numbers m.young_weaks.items;
+  entries = numbers m.updrem.items;
+}
+
+-- these are the mutators of a collector, by their numbers, each with all its registers
+pub record AreShown (layout : Layout) (seen : Seen) (mutators : List Mutator) : Type 0 where
+  pub are : seen.mutators ≡ map shown mutators
+  pub each : (k : ℕ) (m : Mutator) → slice_get mutators k ≡ Some m → (m.number ≡ k) × (m.layout ≡ layout) × IsWhole m
+
+-- at a stop of a run while a cycle marks, the heap is at rest beside it, with the machine to which the marker is tied
+abbrev pub StopRests : Type 0
+StopRests = (plan : Plan) (run : Run) (seen : Seen) (c : Cycle) (mutators : List Mutator) → IsRunnable plan → (h : IsAtStop plan run seen) → (last_state run).progress ≡ marking c → IsSegments seen.segments → AreShown seen.segments.layout seen mutators →
+    (k : IsMarking c (last_state run) seen h.heap.places) × IsPacedAtStop plan.config.quota c (last_state run) seen × IsAtRest c k.core seen.segments h.heap.places (last_state run).world seen.words mutators seen.marker.queue
+
+-- a round that began with the heap of a stop: what it left, and what its mutators have in hand; the segments stand for what they stood for, though the marker marked
+pub record IsRoundFrom (layout : Layout) (s t : State) (o : Opening) (before after : List ℕ) (v : View) (old new : Segments) (ends later : List MutatorEnd) (weaks : List Place) : Type 0 where
+  pub heap : HoldsAtStop layout s before old ends weaks
+  pub known : LieKnown s.world s.allocation
+  pub can : CanOpen o before
+  pub layout_is : o.layout ≡ layout
+  pub places_are : o.places ≡ heap.places
+  pub began : o.core.world ≡ s.world
+  pub left : Leaves o after v
+  pub world_is : t.world ≡ (now o left.0.events).world
+  pub spoken : snapshots t.progress ≡ earlier o
+  pub allocation_is : t.allocation ≡ s.allocation
+  pub new_layout : new.layout ≡ layout
+  pub stands : StandsFor new before s.allocation
+  pub registers : All HasAllRegisters later
+  pub roots : RepresentsRoots (places_then o left.0.born) t.world (registers_of later) (queues_of later) (serials_of later)
+
+-- words and segments then stand for the state after the round
+abbrev pub RoundHolds : Type 0
+RoundHolds = (layout : Layout) (s t : State) (o : Opening) (before after : List ℕ) (v : View) (old new : Segments) (ends later : List MutatorEnd) (weaks : List Place) → (r : IsRoundFrom layout s t o before after v old new ends later weaks) →
+    HoldsAfterRound layout s t (places_then o r.left.0.born) after new later weaks
+
+-- a promotion that is done, with what the mutators have in hand then and the list of weak pointers
+pub record IsPromotionOf (layout : Layout) (s : State) (t : Stopped) (new : Segments) (after registers : List ℕ) (queues : List (List ℕ)) (moves : List Moved) (placed : AllocState) (ends : List MutatorEnd) (weaks : List Place) : Type 0 where
+  pub layout_is : new.layout ≡ layout
+  pub sound : IsSegments new
+  pub is_settled : IsSettled t new after registers queues moves
+  pub spoken : t.later ≡ snapshots s.progress
+  pub world_is : t.world ≡ s.world
+  pub stands : StandsFor new after placed
+  pub registers_are : registers_of ends ≡ registers
+  pub queues_are : queues_of ends ≡ queues
+  pub serials_are : serials_of ends ≡ t.serials
+  pub whole : All HasAllRegisters ends
+  pub listed : ListsWeaks layout (places_after new moves t) s.world weaks
+
+-- words and segments then stand for the state of the stop, at the places after the promotion
+abbrev pub PromotionHolds : Type 0
+PromotionHolds = (layout : Layout) (s : State) (t : Stopped) (new : Segments) (after registers : List ℕ) (queues : List (List ℕ)) (moves : List Moved) (placed : AllocState) (ends : List MutatorEnd) (weaks : List Place) → IsPromotionOf layout s t new after registers queues moves placed ends weaks →
+    (h : HoldsAtStop layout (record s { allocation = placed }) after new ends weaks) × (h.places ≡ places_after new moves t)
+
+-- segments of which blocks were marked stand for the same heap
+abbrev pub MarkedHolds : Type 0
+MarkedHolds = (layout : Layout) (s : State) (words : List ℕ) (old new : Segments) (ends : List MutatorEnd) (weaks : List Place) (h : HoldsAtStop layout s words old ends weaks) → new.layout ≡ layout → StandsFor new words s.allocation →
+    (k : HoldsAtStop layout s words new ends weaks) × (k.places ≡ h.places)

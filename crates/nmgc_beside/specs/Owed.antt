@@ -1,0 +1,45 @@
+-- What the mutators of a marking round remember, and how the machine goes on: through the events of the round, and then by pushing all that is owed.
+use Rattle.std.specs.Prelude.{ℕ, ◌≡◌, ◌<◌, true, List, [], map, slice_get, Contains, Some}
+use Rattle.nmgc_object.specs.Places.{nursery_place}
+use Rattle.nmgc_core.specs.State.{State as Core, names_of}
+use Rattle.nmgc_round.specs.declared.table.Round.{Round}
+use Rattle.nmgc_round.specs.Events.{rows_in}
+use Rattle.nmgc_round.specs.View.{Opening, Part, Seen, whole}
+use Rattle.nmgc_round.specs.Marking.{marks_of}
+use Rattle.nmgc_round.specs.Rule.{now}
+use Rattle.nmgc_round.specs.Seat.{RoundSeat, seen}
+use Rattle.nmgc_round.specs.Seating.{collecting, all_together}
+use Rattle.nmgc_round.specs.Starting.{CanOpen}
+use Rattle.nmgc_round.specs.Finishing.{IsFinished, places_then}
+use Rattle.nmgc_mutator.specs.declared.mutator.Mutator.{Mutator}
+use Rattle.nmgc_mutator.specs.Records.{numbers, all_pushed}
+use Rattle.nmgc_turn.specs.Turn.{SlicesAreDone}
+use Rattle.nmgc_turn.specs.Worked.{Done, HaveWorked}
+use Rattle.nmgc_run.specs.Marker.{AreRemembered, IsCoreOf}
+use Rattle.nmgc_run.specs.State.{Cycle}
+use Rattle.nmgc_beside.specs.Rest.{IsMachineAtRest, with_rows}
+
+-- each mutator remembers the places in segments of what its part owes, in order
+abbrev pub HaveOwed : Opening → List Part → List Mutator → Type 0
+HaveOwed o parts mutators = (k : ℕ) (p : Part) (m : Mutator) → slice_get parts k ≡ Some p → slice_get mutators k ≡ Some m → numbers m.updrem.items ≡ all_pushed o.layout p.owed
+
+-- none of them remembers anything
+abbrev pub RememberNothing : List Mutator → Type 0
+RememberNothing mutators = (k : ℕ) (m : Mutator) → slice_get mutators k ≡ Some m → m.updrem.items ≡ []
+
+-- mutators that remembered nothing as the round began remember what their slices owe
+abbrev pub SlicesAreOwed : Type 0
+SlicesAreOwed = (o : Opening) (before : List ℕ) (round : Round) (old mutators : List Mutator) (seats : List RoundSeat) (done : List (List Done)) → CanOpen o before → SlicesAreDone o round old mutators seats done → RememberNothing old →
+    HaveOwed o (all_together (collecting (whole o)) (map seen seats)).parts mutators
+
+-- the machine after a round and after all pushes: it has the rows of the round, the marks and the queue that the events left, and for each mutator it has pushed exactly what that mutator remembers of the snapshot, at places in segments
+pub record GoesOn (c : Cycle) (o : Opening) (words : List ℕ) (v : Seen) (h : IsFinished o words v) (mutators : List Mutator) (core : Core) : Type 0 where
+  pub machine : IsCoreOf (with_rows c (rows_in h.events)) (now o h.events).world core
+  pub marks : marks_of core ≡ marks_of (now o h.events)
+  pub remembered : (k : ℕ) (m : Mutator) → slice_get mutators k ≡ Some m → AreRemembered (with_rows c (rows_in h.events)) (places_then o h.born) (numbers m.updrem.items) (names_of core.pushed k)
+  pub low : (k : ℕ) (m : Mutator) → slice_get mutators k ≡ Some m → (at : ℕ) → Contains (numbers m.updrem.items) at → at < nursery_place o.layout 0
+
+-- after each finished round there is such a state
+abbrev pub MachineGoesOn : Type 0
+MachineGoesOn = (c : Cycle) (o : Opening) (before words : List ℕ) (v : Seen) (mutators : List Mutator) (done : List (List Done)) → o.marking ≡ true → CanOpen o before → IsMachineAtRest c o.core.world o.core → (h : IsFinished o words v) → HaveWorked o v.parts mutators done → HaveOwed o v.parts mutators →
+    (core : Core) × GoesOn c o words v h mutators core

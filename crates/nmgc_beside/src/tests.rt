@@ -1,0 +1,21 @@
+//! Each law is called once, so that it is seen to ask nothing.
+use crate::laws;
+
+#[test]
+fn laws_ask_nothing(rt: HostRuntime) {
+    let _ = &rt;
+    laws::a_rest_opens_a_round();
+    laws::slices_are_owed();
+    laws::the_machine_goes_on();
+    laws::a_marker_is_tied_by_its_marks();
+    laws::a_promotion_keeps_the_tie();
+    laws::a_promotion_rests();
+    laws::a_cycle_begins();
+    laws::the_machine_takes();
+    laws::the_machine_scans();
+    laws::a_cycle_closes();
+    laws::a_closing_is_in_bounds();
+    laws::marking_goes_on();
+    laws::the_pace_is_kept();
+    laws::the_heap_goes_on();
+}
