@@ -1,5 +1,5 @@
 -- A collector that scans alone: each load is the machine's next scan, by the law of scans.
-use Rattle.std.proofs.Common.{◌≡◌, inl, inr, ℕ, suc, ◌+◌, ◌-◌, ◌*◌, ◌<◌, ◌≤◌, ◌^◌, Bool, true, false, cond, List, [], ◌∷◌, ◌++◌, length, set, refl, sym, ap, subst, ◌∙◌, arith, Some, None, Option}
+use Rattle.std.proofs.Common.{◌≡◌, inl, inr, ℕ, suc, ◌+◌, ◌-◌, ◌*◌, ◌<◌, ◌≤◌, ◌^◌, true, List, [], ◌∷◌, ◌++◌, length, set, refl, sym, ap, subst, ◌∙◌, arith, Some, None, Option}
 use Rattle.std.specs.Prelude.{Contains, slice_index, IsSome}
 use mathlib.Core.Option.{some}
 use lib.ListN.{get_elem?}
@@ -7,11 +7,10 @@ use Rattle.nmgc_graph.specs.declared.value.Name.{Name}
 use Rattle.nmgc_graph.specs.declared.value.Value.{Value}
 use Rattle.nmgc_graph.specs.declared.value.Value.TheVariants as value
 use Rattle.nmgc_graph.specs.declared.node.Node.{Node}
-use Rattle.nmgc_graph.specs.World.{World, node_of}
+use Rattle.nmgc_graph.specs.World.{node_of}
 use Rattle.nmgc_graph.specs.laws.Orders.{contains_head}
 use Rattle.nmgc_object.specs.declared.layout.Layout.{Layout}
 use Rattle.nmgc_object.specs.declared.words.Header.{Header}
-use Rattle.nmgc_object.specs.declared.size.TheConstants.{HEADER_WORDS}
 use Rattle.nmgc_object.specs.Places.{word_total}
 use Rattle.nmgc_object.specs.Words.{header_word, IsHeader}
 use Rattle.nmgc_core.specs.declared.event.Entry.{Entry}
@@ -20,9 +19,9 @@ use Rattle.nmgc_core.specs.Scan.{read_at, moved_on}
 use Rattle.nmgc_core.specs.Machine.{after_scan, advanced}
 use Rattle.nmgc_alloc.specs.Segments.{Segments}
 use Rattle.nmgc_alloc.specs.laws.Placing.{step}
-use Rattle.nmgc_heap.specs.Shape.{header_of, size_of}
-use Rattle.nmgc_heap.specs.Places.{Place, Means, LiesWell}
-use Rattle.nmgc_round.specs.Events.{Happening, did, scanned, after, replay}
+use Rattle.nmgc_heap.specs.Shape.{size_of}
+use Rattle.nmgc_heap.specs.Places.{Place, LiesWell}
+use Rattle.nmgc_round.specs.Events.{Happening, did, scanned, replay}
 use Rattle.nmgc_round.specs.View.{Opening, Seen, Scan, whole}
 use Rattle.nmgc_round.specs.Marking.{Marks, marks_of, marks_after, offset_of}
 use Rattle.nmgc_round.specs.Objects.{Object, place_of, IsIn}
@@ -32,7 +31,7 @@ use Rattle.nmgc_round.specs.Ready.{CanScan, scanned_by}
 use Rattle.nmgc_round.specs.Starting.{CanOpen}
 use Rattle.nmgc_round.specs.Told.{TellsEntry, TellsNode, IsSafe}
 use Rattle.nmgc_run.specs.Seen.{MarkerSeen}
-use Rattle.nmgc_mark.specs.Stopped.{AreScans, IsAlone, IsReady, HasFinished}
+use Rattle.nmgc_mark.specs.Stopped.{AreScans, IsAlone, HasFinished}
 use Rattle.nmgc_mark.specs.Tie.{IsTied, AreQueued}
 use Rattle.nmgc_mark.specs.Work.{IsScanning, IsAtField, entry_now, marks_seen, rest_of}
 use Rattle.nmgc_mark.proofs.Takes.{mark_is}

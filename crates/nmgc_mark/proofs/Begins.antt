@@ -1,6 +1,6 @@
 -- A heap at a stop, just prepared, is one with which marking begins.
-use Rattle.std.proofs.Common.{◌≡◌, ◌≢◌, ◌⊎◌, inl, inr, ◌↔◌, ℕ, zero, suc, ◌+◌, ◌-◌, ◌*◌, ◌<◌, ◌≤◌, List, [], ◌∷◌, ◌++◌, map, length, take, drop, get_or, refl, sym, ap, subst, ◌∙◌, arith, Some, None, Option, length-drop}
-use Rattle.std.specs.Prelude.{Contains, IsSome, slice_get, slice_index}
+use Rattle.std.proofs.Common.{◌≡◌, inl, inr, ℕ, zero, suc, ◌+◌, ◌*◌, ◌<◌, ◌≤◌, List, [], ◌∷◌, map, length, take, drop, get_or, refl, sym, ap, subst, ◌∙◌, arith, Some, None, Option, length-drop}
+use Rattle.std.specs.Prelude.{Contains, IsSome, slice_get}
 use Rattle.std.specs.List.{flat_map}
 use Rattle.std.proofs.lemmas.List.{get_or-take, get_or-drop, length-take-le, take-append-drop}
 use Rattle.nmgc_graph.specs.declared.value.Name.{Name}
@@ -8,19 +8,17 @@ use Rattle.nmgc_graph.specs.declared.value.Value.{Value}
 use Rattle.nmgc_graph.specs.declared.node.Node.{Node}
 use Rattle.nmgc_graph.specs.declared.node.Node.TheVariants.{Con, Var, Arr, Thunk, Weak, Stack}
 use Rattle.nmgc_graph.specs.declared.mutator_state.MutatorState.{MutatorState}
-use Rattle.nmgc_graph.specs.World.{World, IsWorld, IsShared, state_of, node_of, no_mutator}
+use Rattle.nmgc_graph.specs.World.{World, IsShared, no_mutator}
 use Rattle.nmgc_graph.specs.Step.{shared_name}
 use Rattle.nmgc_graph.specs.Reach.{start, strong_fields}
 use Rattle.nmgc_graph.specs.laws.Orders.{contains_head}
 use Rattle.nmgc_object.specs.FinQueue.{FinQueue}
 use Rattle.nmgc_object.specs.declared.layout.Layout.{Layout}
 use Rattle.nmgc_object.specs.declared.size.TheConstants.{HEADER_WORDS}
-use Rattle.nmgc_object.specs.Places.{IsLayout, word_total}
 use Rattle.nmgc_segment.specs.Segment.{InUse}
 use Rattle.nmgc_alloc.specs.Search.{nth}
-use Rattle.nmgc_alloc.specs.Segments.{Segments, IsSegments, IsBlockAt, HasNumber, block_place}
-use Rattle.nmgc_alloc.specs.AllocState.{AllocState, StandsFor, LiesIn, Cells, cells, name_in}
-use Rattle.nmgc_alloc.specs.Blocks.{IsSnapshotAt, IsMarkedAt}
+use Rattle.nmgc_alloc.specs.Segments.{Segments, IsBlockAt, HasNumber, block_place}
+use Rattle.nmgc_alloc.specs.AllocState.{LiesIn, Cells, cells, name_in}
 use Rattle.nmgc_alloc.specs.laws.Placing.{inside}
 use Rattle.nmgc_alloc.specs.laws.Sound.{stands_sound, used_exists}
 use Rattle.nmgc_segment.specs.declared.state.State.TheVariants.{Free}
@@ -30,7 +28,6 @@ use Rattle.nmgc_heap.specs.Represents.{Represents, NoNode}
 use Rattle.nmgc_heap.specs.Tracked.{IsTracked}
 use Rattle.nmgc_round.specs.Empty.{shared_place}
 use Rattle.nmgc_round.specs.View.{Opening}
-use Rattle.nmgc_run.specs.Heap.{IsBlockPlace}
 use Rattle.nmgc_mark.specs.Beginning.{IsBeginning, IsPrepared, slots_of}
 use Rattle.nmgc_mark.specs.Tie.{AreApart, IsRightSnapshot}
 use Rattle.nmgc_mark.proofs.Alone.{lies_within}

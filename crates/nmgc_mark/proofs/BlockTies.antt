@@ -1,5 +1,5 @@
 -- Places of blocks, and the tie by blocks.
-use Rattle.std.proofs.Common.{◌≡◌, ◌≢◌, inl, inr, ◌↔◌, ℕ, ◌+◌, ◌<◌, ◌≤◌, ◌%◌, ◌==◌, Bool, true, false, cond, List, [], ◌∷◌, map, length, refl, sym, ap, subst, ◌∙◌, arith, Some, None, Option}
+use Rattle.std.proofs.Common.{◌≡◌, ◌≢◌, inl, inr, ℕ, ◌<◌, ◌≤◌, ◌%◌, ◌==◌, Bool, true, false, cond, List, [], ◌∷◌, map, length, refl, sym, ap, subst, ◌∙◌, arith, None}
 use Rattle.std.specs.Prelude.{Contains, IsSome, All}
 use Rattle.std.proofs.Math.ListN.{get_or-eq_default}
 use Rattle.std.proofs.lemmas.Bool.{cases_lt}
@@ -8,16 +8,14 @@ use Rattle.std.proofs.lemmas.List.Elements.{All-nil, All-cons, All-head, All-tai
 use Rattle.nmgc_graph.specs.declared.value.Name.{Name}
 use Rattle.nmgc_graph.specs.World.{World, node_of}
 use Rattle.nmgc_graph.specs.Step.{shared_name}
-use Rattle.nmgc_object.specs.declared.layout.Layout.{Layout}
 use Rattle.nmgc_object.specs.Size.{block_size}
 use Rattle.nmgc_segment.specs.Segment.{Segment, InSnapshot, IsMarked, mark_of, free_segment}
 use Rattle.nmgc_segment.specs.declared.state.State.TheVariants.{Free}
 use Rattle.nmgc_core.specs.declared.event.Entry.{Entry}
 use Rattle.nmgc_core.specs.State.{State}
 use Rattle.nmgc_alloc.specs.Search.{nth}
-use Rattle.nmgc_alloc.specs.Segments.{Segments, IsSegments, IsBlockAt, HasNumber, block_place}
-use Rattle.nmgc_alloc.specs.AllocState.{AllocState, StandsFor, LiesIn, cells, name_in, no_cells, Cells}
-use Rattle.nmgc_alloc.specs.Blocks.{IsSnapshotAt, IsMarkedAt}
+use Rattle.nmgc_alloc.specs.Segments.{Segments, IsBlockAt, HasNumber, block_place}
+use Rattle.nmgc_alloc.specs.AllocState.{AllocState, LiesIn, cells, name_in, Cells}
 use Rattle.nmgc_alloc.specs.laws.Apart.{lies_in, same_block}
 use Rattle.nmgc_alloc.specs.laws.Blocks.{snapshot_within}
 use Rattle.nmgc_alloc.specs.laws.Placing.{inside}
@@ -27,7 +25,6 @@ use Rattle.nmgc_round.specs.Empty.{shared_place}
 use Rattle.nmgc_round.specs.View.{Opening}
 use Rattle.nmgc_round.specs.Marking.{marks_of}
 use Rattle.nmgc_run.specs.State.{Cycle}
-use Rattle.nmgc_run.specs.Heap.{IsBlockPlace}
 use Rattle.nmgc_run.specs.Marks.{epoch_of}
 use Rattle.nmgc_run.specs.Marker.{AreAt, IsFresh, IsTied as IsTiedByBlocks, IsRightSnapshot as IsRightByBlocks}
 use Rattle.nmgc_run.specs.Seen.{MarkerSeen}

@@ -13,13 +13,13 @@ use Rattle.nmgc_alloc.specs.Segments.{Segments}
 use Rattle.nmgc_round.specs.declared.table.Round.{Round}
 use Rattle.nmgc_round.specs.View.{Opening, Seen, Scan}
 use Rattle.nmgc_round.specs.Marking.{Marks, name_meant, name_read, with_name, is_last_word}
-use Rattle.nmgc_round.specs.Ready.{first_of, scanned_by}
+use Rattle.nmgc_round.specs.Ready.{scanned_by}
 use Rattle.nmgc_round.specs.Seat.{RoundSeat, IsAt, Knows, seen, word_count}
 use Rattle.nmgc_run.specs.Seen.{MarkerSeen}
 use Rattle.nmgc_run.specs.Marker.{HasRoomToMark}
-use Rattle.nmgc_mark.specs.Marker.{HasScanned, HasMarked, StandAsBefore}
+use Rattle.nmgc_mark.specs.Marker.{HasScanned, HasMarked}
 use Rattle.nmgc_mark.specs.Tie.{IsTied}
-use Rattle.nmgc_mark.specs.Work.{IsScanning, IsCollector, IsLaterSeat, IsAtField, HasWorked, entry_now, marks_seen, rest_of, fields_scanned, is_result}
+use Rattle.nmgc_mark.specs.Work.{IsScanning, IsCollector, IsLaterSeat, IsAtField, entry_now, marks_seen, rest_of, fields_scanned, is_result}
 use Rattle.nmgc_mark.proofs.Scanning.{IsNode, goes_on, ends, not_last, header_more, field_last, result_last, fields_are}
 
 pub few : (k : Kind) (n : ℕ) → fields_scanned k n ≤ n

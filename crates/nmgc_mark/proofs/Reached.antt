@@ -1,11 +1,10 @@
 -- Once nothing is queued, owed or pushed, what the snapshot's roots reach is marked.
-use Rattle.std.proofs.Common.{◌≡◌, ◌⊎◌, inl, inr, ℕ, List, [], ◌∷◌, refl, subst, arith}
+use Rattle.std.proofs.Common.{◌≡◌, inl, inr, ℕ, List, [], ◌∷◌, refl, arith}
 use Rattle.std.specs.Prelude.{Contains, IsSome}
 use Rattle.nmgc_graph.specs.declared.value.Name.{Name}
 use Rattle.nmgc_graph.specs.World.{node_of}
 use Rattle.nmgc_graph.specs.Step.{shared_name}
-use Rattle.nmgc_graph.specs.Reach.{IsReached, IsRoot, RefersTo, start, field}
-use Rattle.nmgc_core.specs.declared.event.Entry.{Entry}
+use Rattle.nmgc_graph.specs.Reach.{IsReached, IsRoot, start, field}
 use Rattle.nmgc_core.specs.State.{State, names_of}
 use Rattle.nmgc_core.specs.Facts.{Facts, Kept, IsSafe, IsAhead, owed, pushed, queued, marked, unmarked}
 use Rattle.nmgc_core.specs.laws.Lives.{stands, live_there}

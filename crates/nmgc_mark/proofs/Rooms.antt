@@ -1,14 +1,11 @@
 -- A blank marker has room for every block: blocks begin at multiples of their least size.
-use Rattle.std.proofs.Common.{◌≡◌, inl, inr, ℕ, zero, suc, ◌+◌, ◌*◌, ◌/◌, ◌^◌, ◌<◌, ◌≤◌, List, [], ◌∷◌, length, refl, sym, ap, subst, ◌∙◌, arith}
+use Rattle.std.proofs.Common.{◌≡◌, ℕ, zero, suc, ◌+◌, ◌*◌, ◌/◌, ◌^◌, ◌<◌, List, [], ◌∷◌, length, refl, sym, ap, subst, ◌∙◌, arith}
 use Rattle.std.specs.Prelude.{Contains}
 use Rattle.std.proofs.lemmas.Nat.{pow_pos}
 use Rattle.nmgc_graph.specs.laws.Orders.{contains_head, contains_tail}
 use Rattle.nmgc_object.specs.Size.{block_size}
-use Rattle.nmgc_object.specs.Places.{IsLayout}
-use Rattle.nmgc_object.specs.declared.layout.Layout.{Layout}
 use Rattle.nmgc_alloc.specs.Search.{nth}
 use Rattle.nmgc_alloc.specs.Segments.{Segments, IsSegments, IsBlockAt}
-use Rattle.nmgc_alloc.specs.Blocks.{IsSnapshotAt, IsMarkedAt}
 use Rattle.nmgc_alloc.specs.laws.Apart.{lies_in}
 use Rattle.nmgc_alloc.specs.laws.Placing.{step}
 use Rattle.nmgc_alloc.specs.laws.Reserve.{whole_blocks}

@@ -23,7 +23,6 @@ use Rattle.nmgc_heap.specs.Places.{Place, Means, ListMeans}
 use Rattle.nmgc_round.specs.Empty.{shared_place}
 use Rattle.nmgc_round.specs.View.{Opening}
 use Rattle.nmgc_round.specs.Marking.{Marks, marks_of, name_meant, with_name}
-use Rattle.nmgc_object.specs.declared.layout.Layout.{Layout}
 use Rattle.nmgc_mark.specs.Beginning.{IsBeginning, slots_of}
 use Rattle.nmgc_mark.specs.Marker.{blank}
 use Rattle.nmgc_mark.specs.Tie.{IsTied, AreApart, with_words, with_queues}

@@ -1,5 +1,5 @@
 -- What one scan adds to a collector's view.
-use Rattle.std.proofs.Common.{ne_eqb, eq-eqb, le-leb, leb-true, ◌≡◌, ◌≢◌, inl, inr, ◌↔◌, ℕ, zero, suc, ◌+◌, ◌<◌, ◌≤◌, Bool, true, false, not, ◌&&◌, ◌||◌, cond, eqb, leb, List, [], ◌∷◌, ◌++◌, length, refl, sym, ap, subst, ◌∙◌, arith, Option, Some, None, is_some, drop}
+use Rattle.std.proofs.Common.{ne_eqb, eq-eqb, le-leb, leb-true, ◌≡◌, ◌≢◌, inl, inr, ◌↔◌, ℕ, ◌+◌, ◌<◌, ◌≤◌, Bool, true, false, not, ◌&&◌, ◌||◌, cond, eqb, leb, List, [], ◌∷◌, ◌++◌, refl, sym, ap, subst, ◌∙◌, arith, Option, Some, None, is_some, drop}
 use Rattle.std.specs.Prelude.{Contains}
 use Rattle.std.proofs.lemmas.Bool.Decides.{eqb_tells}
 use Rattle.nmgc_graph.specs.declared.value.Name.{Name}
@@ -16,7 +16,7 @@ use Rattle.nmgc_alloc.specs.Segments.{Segments}
 use Rattle.nmgc_alloc.specs.Blocks.{IsMarkedAt}
 use Rattle.nmgc_heap.specs.Shape.{header_of, size_of}
 use Rattle.nmgc_round.specs.View.{Opening, Seen, Scan}
-use Rattle.nmgc_round.specs.Marking.{Marks, marks_of, name_meant, name_read, with_name, after_word, folded, entry_past, first_past, is_last_word, is_thunk}
+use Rattle.nmgc_round.specs.Marking.{Marks, marks_of, name_read, with_name, after_word, folded, entry_past, first_past, is_last_word, is_thunk}
 use Rattle.nmgc_round.specs.Ready.{first_of, scanned_by}
 use Rattle.nmgc_round.specs.Told.{TellsEntry}
 use Rattle.nmgc_run.specs.Seen.{MarkerSeen}

@@ -8,7 +8,6 @@ use Rattle.nmgc_round.specs.Rule.{Keeps, now}
 use Rattle.nmgc_round.specs.Starting.{CanOpen}
 use Rattle.nmgc_run.specs.Seen.{MarkerSeen}
 use Rattle.nmgc_mark.specs.Tie.{IsTied}
-use Rattle.nmgc_mark.specs.Work.{marks_seen}
 
 -- the events are scans alone
 abbrev pub AreScans : List Happening → Type 0

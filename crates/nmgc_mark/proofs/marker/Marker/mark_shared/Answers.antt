@@ -1,5 +1,5 @@
 use Rattle.std.proofs.Common.{ℕ, ◌≡◌, ◌+◌, ◌<◌, ◌∙◌, List, take, get_or, length, sym, subst, ap, refl, arith}
-use Rattle.std.specs.Prelude.{Contains, slice_index}
+use Rattle.std.specs.Prelude.{slice_index}
 use Rattle.std.proofs.lemmas.List.Elements.{Contains-get_or}
 use Rattle.std.proofs.lemmas.List.{take_all}
 use Rattle.nmgc_round.specs.Marking.{Marks, with_name, name_meant}

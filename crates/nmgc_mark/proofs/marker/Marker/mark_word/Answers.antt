@@ -1,5 +1,4 @@
 use Rattle.std.proofs.Common.{◌/◌, ◌<◌, ◌^◌, arith, refl}
-use Rattle.nmgc_mark.proofs.Fields.{marked_none}
 use Rattle.nmgc_mark.proofs.Ties.{place_marked, tied_word}
 use Rattle.nmgc_mark.proofs.marker.Marker.mark_word.Goals as goal
 

@@ -1,9 +1,9 @@
-use Rattle.std.proofs.Common.{◌+◌, ◌∙◌, sym, ap, subst, arith}
+use Rattle.std.proofs.Common.{◌+◌, ◌∙◌, sym, subst, arith}
 use Rattle.nmgc_round.specs.Seat.{seen}
 use Rattle.nmgc_round.specs.View.{Seen}
 use Rattle.nmgc_mark.specs.Tie.{IsTied}
 use Rattle.nmgc_mark.specs.Work.{IsAtField, marks_seen}
-use Rattle.nmgc_mark.proofs.Scanning.{node_told, header_told}
+use Rattle.nmgc_mark.proofs.Scanning.{node_told}
 use Rattle.nmgc_mark.proofs.Fields.{first_field, field_within, next_field, with_result, marked_none, marked_more, same_seat, one_scan, still_collector, words_in}
 use Rattle.nmgc_mark.proofs.marker.Marker.scan.Goals as goal
 

@@ -1,6 +1,5 @@
-use Rattle.std.proofs.Common.{◌+◌, ◌≤◌, arith, subst}
+use Rattle.std.proofs.Common.{arith, subst}
 use Rattle.nmgc_object.specs.Places.{IsLayout}
-use Rattle.nmgc_object.specs.declared.layout.Layout.{Layout}
 use Rattle.nmgc_round.specs.Seat.{seen}
 use Rattle.nmgc_mark.proofs.Fields.{total_small}
 use Rattle.nmgc_mark.proofs.marker.Marker.scan_field.Goals as goal

@@ -1,11 +1,10 @@
-use Rattle.std.proofs.Common.{ℕ, ◌≡◌, ◌+◌, ◌<◌, ◌∙◌, List, refl, sym, ap, subst, arith, length}
+use Rattle.std.proofs.Common.{ℕ, ◌≡◌, ◌+◌, ◌∙◌, List, refl, sym, ap, subst, arith, length}
 use Rattle.std.specs.Prelude.{slice_index}
-use Rattle.nmgc_round.specs.View.{Opening, Seen}
+use Rattle.nmgc_round.specs.View.{Opening}
 use Rattle.nmgc_round.specs.Ready.{scanned_by}
-use Rattle.nmgc_mark.specs.Stopped.{IsAlone}
 use Rattle.nmgc_mark.specs.Tie.{IsTied}
-use Rattle.nmgc_mark.specs.Work.{IsScanning, IsAtField, entry_now, marks_seen, rest_of}
-use Rattle.nmgc_mark.proofs.Scanning.{IsNode, node_told, header_told}
+use Rattle.nmgc_mark.specs.Work.{marks_seen, rest_of}
+use Rattle.nmgc_mark.proofs.Scanning.{node_told, header_told}
 use Rattle.nmgc_mark.proofs.Fields.{first_field, field_within, next_field, with_result, marked_none, marked_more}
 use Rattle.nmgc_mark.proofs.Alone.{header_alone, field_alone, field_small, alone_total}
 use Rattle.nmgc_mark.proofs.marker.Marker.scan_stopped.Goals as goal

@@ -1,6 +1,5 @@
-use Rattle.std.proofs.Common.{ℕ, ◌≡◌, ◌+◌, ◌≤◌, ◌<◌, ◌^◌, ◌∙◌, arith, sym, subst, ap}
-use Rattle.nmgc_object.specs.Places.{IsLayout, word_total}
-use Rattle.nmgc_object.specs.declared.layout.Layout.{Layout}
+use Rattle.std.proofs.Common.{◌≡◌, ◌∙◌, arith, sym, subst, ap}
+use Rattle.nmgc_object.specs.Places.{IsLayout}
 use Rattle.nmgc_core.specs.State.{unmarked}
 use Rattle.nmgc_round.specs.Marking.{Marks, marks_of}
 use Rattle.nmgc_mark.specs.Beginning.{slots_of, most_blocks}
