@@ -44,7 +44,7 @@ cycle_is_marking s seen places world tied room queue_room nothing from noted =
     record {
       core = core;
       machine = record { events = []; runs = (refl, refl); open_yet = b.open_yet; world_is = b.world_is; nothing_owed = all_empty core.owed (λ k lt. ap (λ (l : List (List Name)). names_of l k) b.owed_is ∙ none_at_first (length s.world.mutators) k) };
-      tied = record { epoch = tied.epoch; snapshot = tied.snapshot; marks = tied.marks; queue = tied.queue; fresh = tied.fresh; count = tied.count };
+      tied = tied;
       remembered = λ k mutator there. subst (λ (y : List ℕ × List Name). AreRemembered (next_cycle s) places y.0 y.1) (λ i. (sym (nothing k mutator there) i, sym (none k) i)) (record { names = []; at = tt; counted = refl });
       room = room;
       queue_room = queue_room;

@@ -1,5 +1,5 @@
 -- The machine takes all that was pushed: mutator after mutator, and of each one name after another.
-use Rattle.std.proofs.Common.{◌≡◌, ◌≢◌, ◌+◌, ◌<◌, ◌≤◌, ℕ, suc, Bool, true, false, not, ◌&&◌, cond, List, [], ◌∷◌, ◌++◌, length, set, refl, sym, ap, subst, ◌∙◌, arith, append-nil, length-set, inl, inr, Some}
+use Rattle.std.proofs.Common.{eqb, eq-eqb, eqb-true, Option, ◌≡◌, ◌≢◌, ◌+◌, ◌<◌, ◌≤◌, ℕ, suc, Bool, true, false, not, ◌&&◌, cond, List, [], ◌∷◌, ◌++◌, length, set, refl, sym, ap, subst, ◌∙◌, arith, append-nil, length-set, inl, inr, Some}
 use Rattle.std.specs.Prelude.{Contains, slice_get, is_some}
 use Rattle.std.specs.List.{filter, flat_map}
 use Rattle.std.proofs.lemmas.Bool.{cases_eq, and_cases, not-false}
@@ -8,6 +8,8 @@ use Rattle.nmgc_graph.specs.declared.value.Name.{Name}
 use Rattle.nmgc_graph.specs.World.{World, node_of}
 use Rattle.nmgc_graph.specs.Change.{is_same_name}
 use Rattle.nmgc_graph.specs.Step.{shared_name}
+use Rattle.nmgc_graph.specs.laws.Orders.{contains_head, contains_tail, contains_cases}
+use Rattle.nmgc_reach.specs.laws.ItemLaws.{nothing_in}
 use Rattle.nmgc_core.specs.declared.event.Event.{Event}
 use Rattle.nmgc_core.specs.declared.event.Event.TheVariants as event
 use Rattle.nmgc_core.specs.Facts.{Facts}
@@ -18,10 +20,10 @@ use Rattle.nmgc_core.specs.laws.Listed.{names_same, names_other, listed_from, te
 use Rattle.nmgc_core.specs.laws.Marking.{mark_cases}
 use Rattle.nmgc_core.specs.laws.Runs.{facts_kept, snapshot_theorem}
 use Rattle.nmgc_heap.specs.Places.{Place}
-use Rattle.nmgc_round.specs.Marking.{Marks, marks_of, with_name}
+use Rattle.nmgc_round.specs.Marking.{Marks, marks_of, name_at, with_name}
 use Rattle.nmgc_run.specs.Marker.{AreAt, AreRemembered}
 use Rattle.nmgc_run.specs.State.{Cycle}
-use Rattle.nmgc_beside.specs.Begins.{with_names, MachineTakes}
+use Rattle.nmgc_beside.specs.Begins.{with_names, with_places, MachineTakes, PlacesMark, PlacesMarkOn}
 use Rattle.nmgc_beside.proofs.Going.{runs_then}
 use Rattle.nmgc_beside.proofs.Pushing.{all_empty}
 
@@ -231,3 +233,31 @@ machine_takes c w core places entries world m many own =
         marks = h.marks;
       },
     )
+
+-- the name at a place
+
+name_if : (b : Bool) (p : Place) (ps : List Place) (at : ℕ) (name : Name) → (b ≡ true → p.name ≡ name) → (b ≡ false → name_at ps at ≡ Some name) → cond b (Some p.name) (name_at ps at) ≡ Some name
+name_if true p ps at name here later = ap (λ (n : Name). Some n) (here refl)
+name_if false p ps at name here later = later refl
+
+found_at : (all places : List Place) → ((p q : Place) → Contains all p → Contains all q → p.at ≡ q.at → p ≡ q) → ((p : Place) → Contains places p → Contains all p) → (at : ℕ) (name : Name) → Contains places (record { at = at; name = name }) → name_at places at ≡ Some name
+found_at all [] one among at name c = absurd (nothing_in (record { at = at; name = name }) c)
+found_at all (p ∷ places) one among at name c =
+    name_if (eqb p.at at) p places at name
+    (λ same. ap (λ (q : Place). q.name) (one p (record { at = at; name = name }) (among p (contains_head p places)) (among (record { at = at; name = name }) c) (eqb-true p.at at same)))
+    (λ other. elim (contains_cases p places (record { at = at; name = name }) c) [
+      | inl is ↦ let same : eqb p.at at ≡ true = eq-eqb p.at at (ap (λ (q : Place). q.at) is) in let bad : true ≡ false = sym same ∙ other in absurd cc
+      | inr later ↦ found_at all places one (λ q d. among q (contains_tail p places q d)) at name later
+    ])
+
+pub places_mark : PlacesMark
+places_mark snapshot places m [] [] one h = refl
+places_mark snapshot places m [] (name ∷ names) one h = absurd h
+places_mark snapshot places m (at ∷ ats) [] one h = absurd h
+places_mark snapshot places m (at ∷ ats) (name ∷ names) one h =
+    ap (λ (o : Option Name). with_places snapshot places (with_name snapshot m o) ats) (found_at places places one (λ p c. c) at name h.0)
+    ∙ places_mark snapshot places (with_name snapshot m (Some name)) ats names one h.1
+
+pub places_mark_on : PlacesMarkOn
+places_mark_on snapshot places m [] more = refl
+places_mark_on snapshot places m (at ∷ ats) more = places_mark_on snapshot places (with_name snapshot m (name_at places at)) ats more

@@ -13,7 +13,7 @@ use Rattle.nmgc_round.specs.Finishing.{places_then}
 use Rattle.nmgc_run.specs.Marker.{AreAt, IsTied}
 use Rattle.nmgc_run.specs.Seen.{MarkerSeen}
 use Rattle.nmgc_run.specs.State.{Cycle}
-use Rattle.nmgc_beside.specs.Tie.{IsTiedTo, TieIsOfMarks, RoundBeginsTied, RoundEndsTied}
+use Rattle.nmgc_beside.specs.Tie.{IsTiedTo, TieIsOfMarks, RoundBeginsTied, RoundEndsTied, TieGrows}
 
 -- places of names, among more places
 pub at_more : (places more : List Place) (ats : List ℕ) (names : List Name) → ((p : Place) → Contains places p → Contains more p) → AreAt places ats names → AreAt more ats names
@@ -46,3 +46,6 @@ round_ends c o words v mutators a s marker core h on goes t =
       fresh = then.fresh;
       count = then.count;
     }
+
+pub tie_grows : TieGrows
+tie_grows c rows a s places more marker core all t = record { epoch = t.epoch; snapshot = t.snapshot; marks = t.marks; queue = at_more places more marker.queue _ all t.queue; fresh = t.fresh; count = t.count }

@@ -11,7 +11,6 @@ use Rattle.nmgc_heap.specs.Moves.{Moved}
 use Rattle.nmgc_blocks.specs.Stopped.{Stopped, young_base}
 use Rattle.nmgc_round.specs.Events.{rows_in}
 use Rattle.nmgc_round.specs.View.{Opening, Seen as View}
-use Rattle.nmgc_round.specs.Marking.{marks_of}
 use Rattle.nmgc_round.specs.Rule.{now}
 use Rattle.nmgc_round.specs.Finishing.{IsFinished, places_then}
 use Rattle.nmgc_mutator.specs.declared.mutator.Mutator.{Mutator}
@@ -25,7 +24,6 @@ use Rattle.nmgc_run.specs.State.{Cycle, State, next_cycle, cycle_started}
 use Rattle.nmgc_beside.specs.Rest.{IsMachineAtRest, with_rows}
 use Rattle.nmgc_beside.specs.Owed.{GoesOn}
 use Rattle.nmgc_beside.specs.Stays.{HasPromoted, places_after}
-use Rattle.nmgc_beside.specs.Tie.{IsTiedTo}
 use Rattle.nmgc_beside.specs.Begins.{HasTaken}
 
 -- no mutator remembers anything
@@ -34,7 +32,7 @@ NoneRemember seen = EachMutator seen (λ m mutator. mutator.entries ≡ [])
 
 -- a cycle begins: the marker has marked what the machine marks of the roots, and the sweeper has noted what it is to sweep
 abbrev pub CycleIsMarking : Type 0
-CycleIsMarking = (s : State) (seen : Seen) (places : List Place) → IsWorld s.world → IsTiedTo (next_cycle s) (cycle_begun s.allocation) seen.segments places seen.marker (marks_of (opening s.world)) → HasRoomToMark seen.segments seen.marker
+CycleIsMarking = (s : State) (seen : Seen) (places : List Place) → IsWorld s.world → IsTied (next_cycle s) (cycle_begun s.allocation) seen.segments places seen.marker (opening s.world) → HasRoomToMark seen.segments seen.marker
     → EachMutator seen (λ m mutator. weaks_of s.world m seen.weaks ≤ mutator.queue.spare) → NoneRemember seen → seen.cycle.from ≡ s.number → HasNoted (next_cycle s) seen.sweeper
     → IsMarking (next_cycle s) (cycle_started s) seen places
 

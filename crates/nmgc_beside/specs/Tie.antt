@@ -1,6 +1,7 @@
 -- What a marker owes: its marks and its queue are those of the collector's view, which are the machine's.
 use Rattle.std.specs.Prelude.{ℕ, ◌≡◌, ◌↔◌, ◌+◌, true, List, [], map, length, Contains, All}
 use Rattle.nmgc_graph.specs.declared.value.Name.{Name}
+use Rattle.nmgc_graph.specs.History.{Row}
 use Rattle.nmgc_segment.specs.Segment.{IsMarked}
 use Rattle.nmgc_core.specs.declared.event.Entry.{Entry}
 use Rattle.nmgc_core.specs.State.{State as Core}
@@ -40,3 +41,7 @@ RoundBeginsTied = (c : Cycle) (o : Opening) (allocation : AllocState) (segments 
 -- once it is over, a marker that has the marks of the collector's view is tied to the machine as it goes on
 abbrev pub RoundEndsTied : Type 0
 RoundEndsTied = (c : Cycle) (o : Opening) (words : List ℕ) (v : Seen) (mutators : List Mutator) (allocation : AllocState) (segments : Segments) (marker : MarkerSeen) (core : Core) (h : IsFinished o words v) → v.collects ≡ true → GoesOn c o words v h mutators core → IsTiedTo c allocation segments o.places marker (marks_after o v.scans) → IsTied (with_rows c (rows_in h.events)) allocation segments (places_then o h.born) marker core
+
+-- rows since the snapshot, and places of what was born since, change nothing of the tie
+abbrev pub TieGrows : Type 0
+TieGrows = (c : Cycle) (rows : List Row) (allocation : AllocState) (segments : Segments) (places more : List Place) (marker : MarkerSeen) (core : Core) → ((p : Place) → Contains places p → Contains more p) → IsTied c allocation segments places marker core → IsTied (with_rows c rows) allocation segments more marker core

@@ -3,9 +3,9 @@
 //! Each function's contract is the law. A body does nothing but call the laws that its proof rests on.
 ghost use Rattle.nmgc_beside.specs.Rest.{RestOpens};
 ghost use Rattle.nmgc_beside.specs.Owed.{SlicesAreOwed, MachineGoesOn};
-ghost use Rattle.nmgc_beside.specs.Tie.{TieIsOfMarks, RoundBeginsTied, RoundEndsTied};
+ghost use Rattle.nmgc_beside.specs.Tie.{TieIsOfMarks, RoundBeginsTied, RoundEndsTied, TieGrows};
 ghost use Rattle.nmgc_beside.specs.Stays.{TieStays, RememberedStays, SettledIsAtRest};
-ghost use Rattle.nmgc_beside.specs.Begins.{CycleBegins, MachineTakes};
+ghost use Rattle.nmgc_beside.specs.Begins.{CycleBegins, MachineTakes, PlacesMark, PlacesMarkOn};
 ghost use Rattle.nmgc_beside.specs.Closes.{MachineScans, CycleCloses, ClosingIsSoon, ClosingComes, ClosingIsPaced};
 ghost use Rattle.nmgc_beside.specs.Heaps.{StopRests, RoundHolds, MarkedHolds, PromotionHolds};
 ghost use Rattle.nmgc_beside.specs.Keeps.{CycleIsMarking, StopIsAtRest, RoundKeepsMarking, PromotionKeepsMarking, AddKeepsMarking, PaceAfterRound, PaceAtStop, PaceBegins};
@@ -30,11 +30,13 @@ pub fn the_machine_goes_on()
 {}
 
 /// A marker is tied to the machine where it has its marks and its queue. So it begins a round with those of a
-/// view without scans, and where it ends with those of the collector's view, it is tied again.
+/// view without scans, and where it ends with those of the collector's view, it is tied again. More places change
+/// nothing of the tie.
 pub fn a_marker_is_tied_by_its_marks()
     ensures same { TieIsOfMarks }
     ensures begins { RoundBeginsTied }
     ensures ends { RoundEndsTied }
+    ensures grows { TieGrows }
 {}
 
 /// After a promotion the marker is tied to the same machine as before, and what the mutators remember is where it was.
@@ -53,9 +55,12 @@ pub fn a_cycle_begins()
     ensures { CycleBegins }
 {}
 
-/// The machine takes all that was pushed, and marks the names of all that is remembered, in order.
+/// The machine takes all that was pushed, and marks the names of all that is remembered, in order: which the
+/// remembered places mark too.
 pub fn the_machine_takes()
-    ensures { MachineTakes }
+    ensures takes { MachineTakes }
+    ensures places { PlacesMark }
+    ensures on { PlacesMarkOn }
 {}
 
 /// At a stop the machine goes on by scans alone, as the marker does that finishes.
