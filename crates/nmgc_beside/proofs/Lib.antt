@@ -10,6 +10,7 @@ mod Placing
 mod Pushing
 mod Remembering
 mod RoundHeap
+mod SmallLife
 mod Snapshots
 mod Sorting
 mod Staying

@@ -178,8 +178,7 @@ promotion_holds back layout s t new after registers queues moves placed ends wea
     let represents : Represents layout (snapshots s.progress) NoNode places s.world after = subst (λ (y : Layout × List World × World). Represents y.0 y.1 NoNode places y.2 after) (λ i. (p.layout_is i, p.spoken i, p.world_is i)) h.represents in
     let same : nursery_place new.layout 0 ≡ nursery_place layout 0 = ap (λ (l : Layout). nursery_place l 0) p.layout_is in
     let blocks = subst (λ (y : ℕ × World). AreBlocks new y.0 places y.1) (λ i. (same i, p.world_is i)) h.blocks in
-    let told = back layout (snapshots s.progress) places s.world placed after new represents p.sound p.layout_is p.stands (λ q d. subst (λ n. q.at < n) same (settled_low t new after registers queues moves h q d)) blocks in
-    (
+    let told = back layout (snapshots s.progress) places s.world placed after new represents p.sound p.layout_is p.stands (λ q d. subst (λ n. q.at < n) same (settled_low t new after registers queues moves h q d)) blocks in (
       record {
         places = places;
         all = told.1;

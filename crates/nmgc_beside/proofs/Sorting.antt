@@ -122,14 +122,16 @@ remove x (y ∷ ys) c = elim (name_cases y x) [
     | inl same ↦ absurd (other same)
     | inr later ↦
         let rest : (zs : List Name) × IsLess x ys zs = remove x ys later in
-        let long = rest.1.long in
-        (y ∷ rest.0, record {
-          long = omega arith;
-          kept = λ n d ne. elim (contains_cases y ys n d) [
-            | inl e ↦ subst (λ (k : Name). Contains (y ∷ rest.0) k) e (contains_head y rest.0)
-            | inr k ↦ contains_tail y rest.0 n (rest.1.kept n k ne)
-          ];
-        })
+        let long = rest.1.long in (
+          y ∷ rest.0,
+          record {
+            long = omega arith;
+            kept = λ n d ne. elim (contains_cases y ys n d) [
+              | inl e ↦ subst (λ (k : Name). Contains (y ∷ rest.0) k) e (contains_head y rest.0)
+              | inr k ↦ contains_tail y rest.0 n (rest.1.kept n k ne)
+            ];
+          },
+        )
   ]
 ]
 

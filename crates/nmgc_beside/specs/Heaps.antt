@@ -1,6 +1,8 @@
 -- The heap of a marking cycle in the words of a run: at a stop it is at rest, and what a round and its promotion leave of it.
 use Rattle.std.specs.Prelude.{ℕ, ◌≡◌, List, map, slice_get, Some, All}
+use Rattle.nmgc_graph.specs.World.{World}
 use Rattle.nmgc_object.specs.declared.layout.Layout.{Layout}
+use Rattle.nmgc_core.specs.State.{State as Core}
 use Rattle.nmgc_alloc.specs.AllocState.{AllocState, StandsFor}
 use Rattle.nmgc_alloc.specs.Segments.{Segments, IsSegments}
 use Rattle.nmgc_heap.specs.Places.{Place}
@@ -18,6 +20,7 @@ use Rattle.nmgc_mutator.specs.Ready.{IsWhole}
 use Rattle.nmgc_mutator.specs.Records.{numbers}
 use Rattle.nmgc_run.specs.Collector.{IsAtStop, IsMarking, IsPacedAtStop}
 use Rattle.nmgc_run.specs.Heap.{HoldsAtStop, HoldsAfterRound, HasAllRegisters, registers_of, queues_of, serials_of, snapshots}
+use Rattle.nmgc_run.specs.Life.{array_layout, marking_seen}
 use Rattle.nmgc_run.specs.Run.{Run, last_state}
 use Rattle.nmgc_run.specs.Seen.{Seen, MutatorSeen}
 use Rattle.nmgc_run.specs.Sound.{IsRunnable, LieKnown}
@@ -92,3 +95,7 @@ PromotionHolds = (layout : Layout) (s : State) (t : Stopped) (new : Segments) (a
 abbrev pub MarkedHolds : Type 0
 MarkedHolds = (layout : Layout) (s : State) (words : List ℕ) (old new : Segments) (ends : List MutatorEnd) (weaks : List Place) (h : HoldsAtStop layout s words old ends weaks) → new.layout ≡ layout → StandsFor new words s.allocation →
     (k : HoldsAtStop layout s words new ends weaks) × (k.places ≡ h.places)
+
+-- the collector of the array script, at the stop at which its cycle began: with any mutators that show the same, its heap is at rest beside the cycle, so the conditions of these laws can be met
+abbrev pub SmallLifeRests : Type 0
+SmallLifeRests = (mutators : List Mutator) → AreShown array_layout marking_seen mutators → (c : Cycle) × (core : Core) × (places : List Place) × (w : World) × IsAtRest c core marking_seen.segments places w marking_seen.words mutators marking_seen.marker.queue

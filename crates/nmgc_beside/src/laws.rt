@@ -7,10 +7,10 @@ ghost use Rattle.nmgc_beside.specs.Tie.{TieIsOfMarks, RoundBeginsTied, RoundEnds
 ghost use Rattle.nmgc_beside.specs.Stays.{TieStays, RememberedStays, SettledIsAtRest};
 ghost use Rattle.nmgc_beside.specs.Begins.{CycleBegins, MachineTakes, PlacesMark, PlacesMarkOn};
 ghost use Rattle.nmgc_beside.specs.Closes.{MachineScans, CycleCloses, ClosingIsSoon, ClosingComes, ClosingIsPaced};
-ghost use Rattle.nmgc_beside.specs.Heaps.{StopRests, RoundHolds, MarkedHolds, PromotionHolds};
+ghost use Rattle.nmgc_beside.specs.Heaps.{StopRests, RoundHolds, MarkedHolds, PromotionHolds, SmallLifeRests};
 ghost use Rattle.nmgc_beside.specs.Keeps.{CycleIsMarking, StopIsAtRest, RoundKeepsMarking, PromotionKeepsMarking, AddKeepsMarking, PaceAfterRound, PaceAtStop, PaceBegins};
 
-use nmgc_run::laws::places_are_blocks;
+use nmgc_run::laws::{one_life_seen, places_are_blocks};
 
 /// Words, blocks and mutators that stand for a world beside a marking cycle open a round with the cycle's machine,
 /// and the collector may speak of the snapshot in it.
@@ -109,4 +109,12 @@ pub fn the_heap_goes_on()
     ensures promotion { PromotionHolds }
 {
     places_are_blocks();
+}
+
+/// The conditions of these laws can be met: the small life that `nmgc_run` tells has a heap at rest beside its
+/// marking cycle.
+pub fn a_small_life_rests()
+    ensures { SmallLifeRests }
+{
+    one_life_seen();
 }

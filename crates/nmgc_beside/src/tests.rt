@@ -18,4 +18,5 @@ fn laws_ask_nothing(rt: HostRuntime) {
     laws::marking_goes_on();
     laws::the_pace_is_kept();
     laws::the_heap_goes_on();
+    laws::a_small_life_rests();
 }

@@ -1,0 +1,118 @@
+-- The small life of `nmgc_run` has a heap at rest beside a marking cycle.
+use Rattle.std.proofs.Common.{◌≡◌, ◌<◌, ◌≤◌, ◌^◌, ◌-◌, ℕ, zero, suc, [], ◌∷◌, length, replicate, refl, sym, ap, subst, ◌∙◌, arith, lit<, lit≤}
+use Rattle.std.specs.Prelude.{All, slice_index}
+use Rattle.std.proofs.lemmas.List.Elements.{All-nil, All-cons}
+use lib.Count.{ones}
+use Rattle.nmgc_graph.specs.Command.{HasRegisters}
+use Rattle.nmgc_graph.specs.declared.command.Command.TheVariants.{Arr, Collect}
+use Rattle.nmgc_graph.specs.declared.command.Operand.TheVariants.{Register}
+use Rattle.nmgc_object.specs.Places.{IsLayout}
+use Rattle.nmgc_segment.specs.Segment.{Segment, IsSegment, mark_of, free_segment}
+use Rattle.nmgc_segment.specs.declared.state.State.TheVariants as stands
+use Rattle.nmgc_alloc.specs.Search.{nth}
+use Rattle.nmgc_alloc.specs.Segments.{IsSegments, IsMember, IsOwn, HasNumber}
+use Rattle.nmgc_alloc.specs.laws.Numbers.{nth_free, unmarked}
+use Rattle.nmgc_journal.specs.declared.report.Phase.TheVariants.{Marking}
+use Rattle.nmgc_run.specs.Life.{LifeIsSeen, array_layout, array_plan, marking_seen, waiting_segment}
+use Rattle.nmgc_run.specs.Run.{Run, last_state}
+use Rattle.nmgc_run.specs.Slice.{program_of}
+use Rattle.nmgc_run.specs.Sound.{IsRunnable}
+use Rattle.nmgc_run.specs.State.{Cycle, Progress, idle, marking, sweeping, phase_of}
+use Rattle.nmgc_beside.specs.Heaps.{SmallLifeRests}
+use Rattle.nmgc_beside.proofs.Stopping.{stop_rests}
+
+-- a progress whose phase is marking
+marking_of : (p : Progress) → Marking ≡ phase_of p → (c : Cycle) × (p ≡ marking c)
+marking_of idle e = absurd cc
+marking_of (marking c) e = (c, refl)
+marking_of (sweeping c closed) e = absurd cc
+
+-- the plan is one that can be run
+
+all_registers : (m : ℕ) → All HasRegisters (program_of array_plan.threads m)
+all_registers zero = All-cons HasRegisters (Arr 0 7 (Register 1)) (Collect ∷ []) (lit< tt, lit< tt) (All-cons HasRegisters Collect [] tt (All-nil HasRegisters))
+all_registers (suc m) = All-nil HasRegisters
+
+all_short : (m : ℕ) → length (program_of array_plan.threads m) < 2 ^ 32 - 1
+all_short zero = lit< tt
+all_short (suc m) = lit< tt
+
+runnable : IsRunnable array_plan
+runnable = record { some = lit≤ tt; few = lit≤ tt; registers = all_registers; short = all_short }
+
+-- its segments are sound
+
+waiting_bytes : (block : ℕ) → mark_of waiting_segment block ≤ 2
+waiting_bytes zero = lit≤ tt
+waiting_bytes (suc block) = let none : slice_index (replicate 3 0) block ≡ 0 = unmarked 3 block in omega (arith, none)
+
+waiting_none : (block : ℕ) → 1 ≤ block → mark_of waiting_segment block ≡ 0
+waiting_none zero le = absurd (omega arith)
+waiting_none (suc block) le = unmarked 3 block
+
+waiting_sound : IsSegment waiting_segment
+waiting_sound = record {
+  class = lit≤ tt;
+  fits = lit≤ tt;
+  words = lit≤ tt;
+  snap = lit≤ tt;
+  next_free = lit≤ tt;
+  next_unmarked = refl;
+  bytes = waiting_bytes;
+  no_block = waiting_none;
+  free = λ e. absurd cc;
+}
+
+free_sound : IsSegment (free_segment 16)
+free_sound = record {
+  class = lit≤ tt;
+  fits = lit≤ tt;
+  words = lit≤ tt;
+  snap = lit≤ tt;
+  next_free = lit≤ tt;
+  next_unmarked = refl;
+  bytes = λ block. let none : slice_index (replicate 4 0) block ≡ 0 = unmarked 4 block in omega (arith, none);
+  no_block = λ block le. unmarked 4 block;
+  free = λ e. record { next_free = refl; unmarked = unmarked 4 };
+}
+
+waiting_member : IsMember array_layout waiting_segment
+waiting_member = record { sound = waiting_sound; words = refl; active_room = λ e. absurd cc; current_room = λ m e. absurd cc; owner = λ m e. absurd cc }
+
+free_member : IsMember array_layout (free_segment 16)
+free_member = record { sound = free_sound; words = refl; active_room = λ e. absurd cc; current_room = λ m e. absurd cc; owner = λ m e. absurd cc }
+
+free_there : (k : ℕ) → suc k < 8 → nth (replicate 7 (free_segment 16)) k ≡ free_segment 16
+free_there k lt = nth_free array_layout 7 k (omega arith)
+
+members : (number : ℕ) → HasNumber marking_seen.segments number → IsMember array_layout (nth marking_seen.segments.segments number)
+members zero lt = waiting_member
+members (suc k) lt = subst (IsMember array_layout) (sym (free_there k lt)) free_member
+
+none_current : (mutator class number : ℕ) → IsOwn marking_seen.segments mutator class number → ⊥
+none_current mutator class zero own = let e = own.is.0 in absurd cc
+none_current mutator class (suc k) own =
+    let e : (nth (replicate 7 (free_segment 16)) k).state ≡ stands.Current mutator = own.is.0 in
+    let f : stands.Free ≡ stands.Current mutator = sym (ap (λ (x : Segment). x.state) (free_there k own.exists)) ∙ e in
+    absurd cc
+
+layout_sound : IsLayout array_layout
+unfolding ones
+layout_sound = record { some = lit≤ tt; segments = lit≤ tt; words = record { power = refl; least = lit≤ tt; most = lit≤ tt }; nursery = lit≤ tt; mutators = (lit≤ tt, lit≤ tt); heap = lit≤ tt }
+
+segments_sound : IsSegments marking_seen.segments
+segments_sound = record {
+  layout = layout_sound;
+  count = refl;
+  members = members;
+  one_current = λ mutator class a b own other. absurd (none_current mutator class a own);
+  fresh = omega arith;
+}
+
+pub small_life_rests : LifeIsSeen → SmallLifeRests
+small_life_rests life mutators are =
+    let run : Run = life.marking.0 in
+    let h = life.marking.1 in
+    let c = marking_of (last_state run).progress h.matches.phase in
+    let r = stop_rests array_plan run marking_seen c.0 mutators runnable h c.1 segments_sound are in
+    (c.0, r.0.core, h.heap.places, (last_state run).world, r.2)
