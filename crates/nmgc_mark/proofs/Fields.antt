@@ -31,10 +31,10 @@ few kind.Weak n = omega arith
 few kind.Stack n = omega arith
 
 pub scanned_none : (m : MarkerSeen) → HasScanned m m 0
-scanned_none m = record { epoch = refl; pace = omega arith; room = refl }
+scanned_none m = record { epoch = refl; grows = omega arith; pace = omega arith; room = refl }
 
 scanned_then : (a b c : MarkerSeen) (i j : ℕ) → HasScanned a b i → HasScanned b c j → HasScanned a c (i + j)
-scanned_then a b c i j x y = record { epoch = y.epoch ∙ x.epoch; pace = (let p = x.pace in let q = y.pace in omega arith); room = y.room ∙ x.room }
+scanned_then a b c i j x y = record { epoch = y.epoch ∙ x.epoch; grows = (let p = x.grows in let q = y.grows in omega arith); pace = (let p = x.pace in let q = y.pace in omega arith); room = y.room ∙ x.room }
 
 -- nothing was marked
 pub marked_none : (s : Segments) (m : MarkerSeen) → HasRoomToMark s m → HasMarked s s m m 0
@@ -120,6 +120,11 @@ object_marked s t u before m taken n at count inv q e done = record {
   room = done.room;
   scanned = record {
     epoch = done.scanned.epoch ∙ ap (λ (k : MarkerSeen). k.epoch) e ∙ inv.scanned.epoch;
+    grows =
+        (let a = inv.scanned.grows in
+        let b = done.scanned.grows in
+        let k : taken.marked ≡ m.marked = ap (λ (k : MarkerSeen). k.marked) e in
+        omega arith);
     pace =
         (let a = inv.scanned.pace in
         let b = done.scanned.pace in

@@ -81,8 +81,8 @@ room_case old new before at true h p =
 room_case old new before at false h p = record { places = h.places; all = λ a s fresh. h.all a ((p.snapshot a).0 s) (λ k. fresh ((p.marked a).1 (inl k))); room = h.room }
 
 count_case : (before : MarkerSeen) (at : ℕ) (answer : Bool) → (IsTrue answer → 0 < before.spare) → HasScanned before (noted answer at before) 0
-count_case before at true room = record { epoch = refl; pace = (let l = length-append before.queue (at ∷ []) in omega arith); room = (let r = room refl in omega arith) }
-count_case before at false room = record { epoch = refl; pace = omega arith; room = refl }
+count_case before at true room = record { epoch = refl; grows = omega arith; pace = (let l = length-append before.queue (at ∷ []) in omega arith); room = (let r = room refl in omega arith) }
+count_case before at false room = record { epoch = refl; grows = omega arith; pace = omega arith; room = refl }
 
 -- one mark leaves room for the rest, and scans nothing
 pub place_marked : (old new : Segments) (before later : MarkerSeen) (at : ℕ) → HasRoomToMark old before → MarksAt old new before later at → HasMarked old new before later 0

@@ -1,5 +1,5 @@
 -- What one mark does to a marker and to the segments, and what many do.
-use Rattle.std.specs.Prelude.{ℕ, ◌≡◌, ◌+◌, ◌-◌, Bool, List, [], ◌∷◌, ◌++◌, length, map, if◌then◌else◌}
+use Rattle.std.specs.Prelude.{◌≤◌, ℕ, ◌≡◌, ◌+◌, ◌-◌, Bool, List, [], ◌∷◌, ◌++◌, length, map, if◌then◌else◌}
 use Rattle.nmgc_object.specs.declared.words.Address.{Address}
 use Rattle.nmgc_alloc.specs.Segments.{Segments}
 use Rattle.nmgc_alloc.specs.AllocState.{AllocState, StandsFor}
@@ -34,10 +34,11 @@ pub record MarksAt (old new : Segments) (before after : MarkerSeen) (at : ℕ) :
 -- of what the marker had marked it scanned so many objects more; what it marked has used its room up
 pub record HasScanned (old new : MarkerSeen) (count : ℕ) : Type 0 where
   pub epoch : new.epoch ≡ old.epoch
+  pub grows : old.marked ≤ new.marked
   pub pace : new.marked + length old.queue ≡ old.marked + length new.queue + count
   pub room : new.marked + new.spare ≡ old.marked + old.spare
 
--- blocks were marked, and so many objects scanned: there is room for all that are left, and no segment changed but by marks
+-- blocks were marked, and so many objects scanned: there is room for all that are left, and segments and words stand for what they stood for
 pub record HasMarked (old new : Segments) (before after : MarkerSeen) (count : ℕ) : Type 0 where
   pub room : HasRoomToMark new after
   pub scanned : HasScanned before after count
