@@ -1,0 +1,6 @@
+pub mod Begins
+pub mod Lists
+pub mod Noting
+pub mod Orders
+pub mod Starts
+pub mod Steps

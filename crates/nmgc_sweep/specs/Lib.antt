@@ -1,0 +1,3 @@
+pub mod Sweeper
+pub mod Work
+pub mod Statements

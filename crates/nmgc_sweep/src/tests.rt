@@ -1,0 +1,265 @@
+//! Cycles over small heaps, as a table. What is expected follows from the rules: filled segments are swept,
+//! least number first; had are the names in them, freed those whose blocks aren't marked with the epoch, both
+//! by maker and then by serial; a segment is then free, filled or active.
+ghost use Rattle.std.specs.Prelude.{◌≡◌};
+ghost use Rattle.nmgc_sweep.specs.Sweeper.{HasStood};
+
+use crate::Sweeper;
+use nmgc_alloc::{Segments, laws};
+use nmgc_graph::{MAKERS, Name};
+use nmgc_object::{Address, Layout, NAME_OFFSET, block_words, encode_name};
+use nmgc_round::OpenGate;
+use nmgc_segment::State;
+use std::alloc::Global;
+use std::process::Abort;
+use std::test::Fail;
+
+// Eight segments of four blocks.
+const LAYOUT: Layout = Layout {
+    segments: 8,
+    words: 16,
+    nursery: 16,
+    mutators: 2,
+};
+
+// A cycle: the objects placed in this order, whether current segments are retired before, which of them have a
+// mark of the cycle before and which one of this cycle; and what is expected: how many calls with a quota of 1
+// sweep a segment, the lists, and the states of the first segments after the sweep.
+#[derive(Drop)]
+struct Row<'a> {
+    placed: &'a [Name],
+    retired: bool,
+    stale: &'a [usize],
+    marked: &'a [usize],
+    works: u32,
+    swept: &'a [u32],
+    had: &'a [Name],
+    freed: &'a [Name],
+    states: &'a [State],
+}
+
+fn name(maker: u8, serial: u32) -> Name {
+    Name { maker, serial }
+}
+
+// Places an object of four words and writes its name's word.
+fn place(rt: &impl Abort, words: &mut Vec<u64>, segments: &mut Segments, name: Name) -> Address
+    requires { HasStood segments.old words.old.items }
+    ensures { HasStood segments.new words.new.items }
+{
+    laws::allocate();
+    let layout = segments.layout();
+    assert!(rt; name.maker < MAKERS && name.maker < layout.mutators);
+    assert!(rt; block_words(0) <= layout.words);
+    assert!(rt; segments.has_room(name.maker, 0));
+    let at = segments.allocate(name.maker, 0);
+    let second = at.0 as usize + NAME_OFFSET as usize;
+    assert!(rt; second < words.len());
+    words[second] = encode_name(name);
+    at
+}
+
+// Begins a cycle.
+fn begin(rt: &impl Abort, words: &[u64], segments: &mut Segments, retired: bool)
+    requires { HasStood segments.old words.now }
+    ensures { HasStood segments.new words.now }
+{
+    laws::prepare();
+    laws::retire_all();
+    if retired {
+        segments.retire_all();
+    }
+    let left = segments.sweep_next(1);
+    assert!(rt; left.is_none());
+    segments.prepare();
+}
+
+// Marks objects by their places.
+fn mark(
+    rt: &impl Abort,
+    words: &[u64],
+    segments: &mut Segments,
+    places: &[Address],
+    marked: &[usize],
+    epoch: u8,
+)
+    requires { HasStood segments.old words.now }
+    ensures { HasStood segments.new words.now }
+{
+    laws::mark_at();
+    assert!(rt; 1 <= epoch && epoch <= 2);
+    for index in marked {
+        let _ = segments.layout();
+        assert!(rt; *index < places.len());
+        let at = places[*index];
+        assert!(rt; segments.block_at(at).is_some());
+        assert!(rt; segments.mark_at(at, epoch));
+    }
+}
+
+// Does the cycle, and compares.
+fn check(rt: &impl Abort, alloc: Global, row: &Row) -> Result<(), Fail> {
+    laws::new();
+    let mut words = vec![in alloc; 0u64; LAYOUT.total() as usize]?;
+    let mut segments = Segments::new(alloc, LAYOUT)?;
+    let mut places = Vec::new(alloc);
+    for name in row.placed {
+        places.push(place(rt, &mut words, &mut segments, *name))?;
+    }
+    begin(rt, words.as_slice(), &mut segments, row.retired);
+    mark(
+        rt,
+        words.as_slice(),
+        &mut segments,
+        places.as_slice(),
+        row.stale,
+        1,
+    );
+    mark(
+        rt,
+        words.as_slice(),
+        &mut segments,
+        places.as_slice(),
+        row.marked,
+        2,
+    );
+    let mut sweeper = Sweeper::start(alloc, &mut words, &segments, 2)?;
+    assert_eq!(rt; sweeper.freed().len(), 0);
+    for _ in 0..row.works {
+        let done = sweeper.work(&mut segments, 1, &OpenGate);
+        assert_eq!(rt; done.swept, 1);
+    }
+    assert_eq!(rt; sweeper.turns, u64::from(row.works));
+    let done = sweeper.work(&mut segments, 0, &OpenGate);
+    assert_eq!(rt; done.finished, row.works as usize == row.swept.len());
+    sweeper.finish(&mut segments);
+    assert_eq!(rt; sweeper.swept(), row.swept);
+    assert_eq!(rt; sweeper.had(), row.had);
+    assert_eq!(rt; sweeper.freed(), row.freed);
+    for number in 0..row.states.len() {
+        assert!(rt; number < 8);
+        assert_eq!(rt; segments.segment(number as u32).state(), row.states[number]);
+    }
+    Ok(())
+}
+
+#[test]
+fn cycles(rt: HostRuntime) -> Result<(), Fail> {
+    let few = [name(0, 0), name(0, 1)];
+    let four = [name(0, 0), name(0, 1), name(0, 2), name(0, 3)];
+    let eight = [
+        name(0, 0),
+        name(0, 1),
+        name(0, 2),
+        name(0, 3),
+        name(1, 0),
+        name(1, 1),
+        name(1, 2),
+        name(1, 3),
+    ];
+    let current = State::Current { mutator: 0 };
+    // The other mutator's segment is the first; one more object is in a segment that isn't full.
+    check(
+        &rt,
+        rt.alloc(),
+        &Row {
+            placed: &[
+                name(1, 0),
+                name(1, 1),
+                name(1, 2),
+                name(1, 3),
+                name(0, 0),
+                name(0, 1),
+                name(0, 2),
+                name(0, 3),
+                name(0, 4),
+            ],
+            retired: false,
+            stale: &[],
+            marked: &[1, 4, 5, 6, 7],
+            works: 2,
+            swept: &[0, 1],
+            had: &eight,
+            freed: &[name(1, 0), name(1, 2), name(1, 3)],
+            states: &[State::Active, State::Filled, current, State::Free],
+        },
+    )?;
+    // A mark of the cycle before keeps nothing.
+    check(
+        &rt,
+        rt.alloc(),
+        &Row {
+            placed: &four,
+            retired: false,
+            stale: &[0, 1, 2, 3],
+            marked: &[2],
+            works: 1,
+            swept: &[0],
+            had: &four,
+            freed: &[name(0, 0), name(0, 1), name(0, 3)],
+            states: &[State::Active],
+        },
+    )?;
+    // A retired segment has blocks that aren't in use.
+    check(
+        &rt,
+        rt.alloc(),
+        &Row {
+            placed: &few,
+            retired: true,
+            stale: &[],
+            marked: &[],
+            works: 1,
+            swept: &[0],
+            had: &few,
+            freed: &few,
+            states: &[State::Free],
+        },
+    )?;
+    check(
+        &rt,
+        rt.alloc(),
+        &Row {
+            placed: &few,
+            retired: true,
+            stale: &[],
+            marked: &[0, 1],
+            works: 0,
+            swept: &[0],
+            had: &few,
+            freed: &[],
+            states: &[State::Active],
+        },
+    )?;
+    // What no call of a round swept is swept in the end; and with nothing filled, nothing is.
+    check(
+        &rt,
+        rt.alloc(),
+        &Row {
+            placed: &eight,
+            retired: false,
+            stale: &[],
+            marked: &[],
+            works: 1,
+            swept: &[0, 1],
+            had: &eight,
+            freed: &eight,
+            states: &[State::Free, State::Free],
+        },
+    )?;
+    check(
+        &rt,
+        rt.alloc(),
+        &Row {
+            placed: &few,
+            retired: false,
+            stale: &[],
+            marked: &[],
+            works: 0,
+            swept: &[],
+            had: &[],
+            freed: &[],
+            states: &[current],
+        },
+    )
+}
