@@ -26,7 +26,7 @@ use Rattle.nmgc_sweep.specs.declared.notes.Note.{Note}
 use Rattle.nmgc_sweep.specs.declared.notes.Section.{Section}
 use Rattle.nmgc_sweep.specs.Sweeper.{Sweeper, AreLeft, AreSorted, HasNotes, IsNotesOf, IsWaiting, all_names, numbers_of}
 use Rattle.nmgc_sweep.specs.Work.{HasBegun}
-use Rattle.nmgc_sweep.specs.Statements.{StartIsNoted, LeftStays, ClosingBeginsWork, EndTellsCensus, LeftIsCounted}
+use Rattle.nmgc_sweep.specs.Statements.{StartIsAsNoted, StaysAsNoted, StartIsNoted, LeftStays, ClosingBeginsWork, EndTellsCensus, LeftIsCounted}
 use Rattle.nmgc_sweep.proofs.Lists.{ascends_first, ascends_rest, distinct_once, once_distinct}
 use Rattle.nmgc_sweep.proofs.Noting.{all_distinct, all_have, have_all, have_number, numbers_have}
 use Rattle.nmgc_sweep.proofs.Orders.{sorted_in_order}
@@ -135,6 +135,15 @@ module _ (c : Cycle) (words : List ℕ) (segments : Segments) (epoch : ℕ) (swe
 
 pub start_is_noted : StartIsNoted
 start_is_noted c words segments epoch sweeper stands none once e h = start_notes c words segments epoch sweeper stands none once e h
+
+pub start_is_as_noted : StartIsAsNoted
+start_is_as_noted c none n is = ((swept_waits c none n).1 is, ap (λ (k : Cells). k.names) (begun_cells c.heap n))
+
+pub stays_as_noted : StaysAsNoted
+stays_as_noted c words after a b old new before now k h n is =
+    let was : IsIn Sweeping (cells a n) = (waits_there old words a before n).0 ((k.waits n).0 ((waits_there new after b now n).1 is)) in
+    let noted = h n was in
+    (noted.0, k.names n was ∙ noted.1)
 
 pub left_stays : LeftStays
 left_stays old new left same h = record {

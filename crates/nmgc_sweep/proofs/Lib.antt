@@ -1,4 +1,5 @@
 pub mod Begins
+pub mod Going
 pub mod Lists
 pub mod Noting
 pub mod Orders

@@ -1,5 +1,5 @@
 -- One segment is swept: what was lost in it is freed, and the sweeper is at work still.
-use Rattle.std.proofs.Common.{ℕ, ◌≡◌, ◌≢◌, ◌⊎◌, ◌↔◌, ◌+◌, ◌<◌, ◌∙◌, inl, inr, refl, sym, ap, subst, arith, List, [], ◌∷◌, ◌++◌, length, map, set, slice_index, Option, Some, length-set, length-append}
+use Rattle.std.proofs.Common.{ℕ, ◌≡◌, ◌≢◌, ◌↔◌, ◌+◌, ◌<◌, ◌∙◌, inl, inr, refl, sym, ap, subst, arith, List, [], ◌∷◌, ◌++◌, length, Option, Some, length-set, length-append}
 use Rattle.std.specs.Prelude.{Contains}
 use Rattle.std.specs.List.Sorted.{IsPermutation}
 use Rattle.std.proofs.lemmas.Bool.{cases_eq}
@@ -9,7 +9,7 @@ use Rattle.nmgc_graph.specs.declared.value.Name.{Name}
 use Rattle.nmgc_graph.specs.laws.Orders.{contains_head, contains_tail, contains_cases}
 use Rattle.nmgc_segment.specs.Marks.{IsEpoch, swept}
 use Rattle.nmgc_segment.specs.Segment.{Segment, InUse, IsMarked, mark_of}
-use Rattle.nmgc_segment.specs.declared.state.State.TheVariants.{Free, Active, Filled, Sweeping}
+use Rattle.nmgc_segment.specs.declared.state.State.TheVariants.{Sweeping}
 use Rattle.nmgc_segment.specs.laws.Segments.{mark-map, zero_swept}
 use Rattle.nmgc_alloc.specs.Search.{nth}
 use Rattle.nmgc_alloc.specs.Segments.{Segments, HasNumber, SweepsNext}
@@ -17,14 +17,12 @@ use Rattle.nmgc_alloc.specs.AllocState.{AllocState, Cells, StandsFor, Sweeps, Sw
 use Rattle.nmgc_alloc.specs.laws.Cells.{swept_by_names, swept_other, swept_state}
 use Rattle.nmgc_alloc.specs.laws.Numbers.{nth-set_other}
 use Rattle.nmgc_alloc.specs.laws.Sweeping.{swept_stands}
-use Rattle.nmgc_run.specs.Census.{IsKeptIn, IsSweptIn, IsHadIn}
-use Rattle.nmgc_run.specs.Listing.{ListsNumbers}
-use Rattle.nmgc_run.specs.Marks.{HasNoted, IsFreedSoFar, IsSettledByte, IsSweeping, IsWithoutDoubles, epoch_of}
-use Rattle.nmgc_run.specs.Seen.{CycleSeen, SweeperSeen}
+use Rattle.nmgc_run.specs.Census.{IsKeptIn, IsSweptIn}
+use Rattle.nmgc_run.specs.Marks.{HasNoted, IsFreedSoFar, IsSettledByte, epoch_of}
+use Rattle.nmgc_run.specs.Seen.{CycleSeen}
 use Rattle.nmgc_run.specs.State.{Cycle}
-use Rattle.nmgc_sweep.specs.declared.notes.Note.{Note}
 use Rattle.nmgc_sweep.specs.declared.notes.Section.{Section}
-use Rattle.nmgc_sweep.specs.Sweeper.{Sweeper, AreInOrder, AreLeft, AreSorted, HasNotes, IsNotesOf, IsWaiting, lost, numbers_of}
+use Rattle.nmgc_sweep.specs.Sweeper.{Sweeper, AreLeft, AreSorted, IsNotesOf, IsWaiting, lost, numbers_of}
 use Rattle.nmgc_sweep.specs.Work.{HasSwept, IsAtWork}
 use Rattle.nmgc_sweep.proofs.Lists.{AreDistinct, ascends_first, ascends_rest, distinct_append, distinct_once, once_distinct}
 use Rattle.nmgc_sweep.proofs.Noting.{lost_distinct, lost_from, lost_has}

@@ -1,8 +1,12 @@
 -- What a sweeper tells of its cycle, from the cycle's beginning to its end.
 use Rattle.std.specs.Prelude.{ℕ, ◌≡◌, ◌↔◌, ◌<◌, List, [], length}
+use Rattle.nmgc_graph.specs.declared.value.Name.{Name}
 use Rattle.nmgc_graph.specs.Reach.{Lists}
-use Rattle.nmgc_alloc.specs.Segments.{Segments}
-use Rattle.nmgc_alloc.specs.AllocState.{AllocState, StandsFor, LieOnce, NoneIs, IsIn, count_in, cycle_begun}
+use Rattle.nmgc_object.specs.declared.layout.Layout.{Layout}
+use Rattle.nmgc_segment.specs.Segment.{mark_of}
+use Rattle.nmgc_alloc.specs.Search.{nth}
+use Rattle.nmgc_alloc.specs.Segments.{Segments, Allocates}
+use Rattle.nmgc_alloc.specs.AllocState.{AllocState, StandsFor, LieOnce, NoneIs, IsIn, count_in, cycle_begun, cells, Places}
 use Rattle.nmgc_segment.specs.declared.state.State.TheVariants as stands
 use Rattle.nmgc_run.specs.Census.{IsDeadIn, IsKeptObject, IsSweptIn, IsHadIn, IsFreedIn}
 use Rattle.nmgc_run.specs.Listing.{ListsNumbers, Counts}
@@ -48,3 +52,25 @@ EndTellsCensus = (c : Cycle) (closed : ℕ) (words : List ℕ) (a : AllocState) 
 -- as many wait as are left
 abbrev pub LeftIsCounted : Type 0
 LeftIsCounted = (words : List ℕ) (a : AllocState) (segments : Segments) (left : List Section) → StandsFor segments words a → AreLeft segments left → count_in stands.Sweeping a ≡ length left
+
+-- segments and blocks changed, but neither what waits and its names, nor a mark
+pub record KeepsWaiting (old new : Segments) (a b : AllocState) : Type 0 where
+  pub waits : (number : ℕ) → IsWaiting new number ↔ IsWaiting old number
+  pub marks : (number block : ℕ) → mark_of (nth new.segments number) block ≡ mark_of (nth old.segments number) block
+  pub names : (number : ℕ) → IsIn stands.Sweeping (cells a number) → (cells b number).names ≡ (cells a number).names
+  pub count : length new.segments ≡ length old.segments
+
+-- as a cycle begins, and while nothing changes in what waits, a waiting segment is one that the cycle had, and as it was then
+abbrev pub StartIsAsNoted : Type 0
+StartIsAsNoted = (c : Cycle) → NoneIs (IsIn stands.Sweeping) c.heap → AreAsNoted c (cycle_begun c.heap)
+
+abbrev pub StaysAsNoted : Type 0
+StaysAsNoted = (c : Cycle) (words after : List ℕ) (a b : AllocState) (old new : Segments) → StandsFor old words a → StandsFor new after b → KeepsWaiting old new a b → AreAsNoted c a → AreAsNoted c b
+
+-- then a sweeper at work is at work still, and its segments are left
+abbrev pub WorkGoesOn : Type 0
+WorkGoesOn = (c : Cycle) (closed : ℕ) (words after : List ℕ) (a b : AllocState) (old new : Segments) (cycle : CycleSeen) (sweeper : Sweeper) → IsAtWork c closed words a old cycle sweeper → AreLeft old sweeper.left → StandsFor new after b → KeepsWaiting old new a b → IsAtWork c closed after b new cycle sweeper × AreLeft new sweeper.left
+
+-- a placing is such a change
+abbrev pub PlacingKeepsWaiting : Type 0
+PlacingKeepsWaiting = (layout : Layout) (old new : Segments) (a b : AllocState) (mutator class at : ℕ) (name : Name) → Allocates old new mutator class at → Places layout a b mutator class name → KeepsWaiting old new a b

@@ -1,4 +1,12 @@
-//! The sweeper of one cycle.
+//! The sweeper of one cycle: what it noted, what is left to be swept, and what it freed.
+//!
+//! The segments that wait are exactly those that are left, in the same order, so each sweep takes the notes at
+//! the front. Each name is judged once: its block is looked at after its segment's sweep, when a block is in use
+//! exactly where it was marked in this cycle, and before anything can be placed there. Room for all freed names
+//! is taken at the start, so that sweeping beside the mutators takes no memory.
+//!
+//! Easy to get wrong: the names that were had and freed lie in order of blocks, and several makers' segments
+//! alternate. They are sorted with the last segment, in place, and by maker before serial.
 ghost use Rattle.std.specs.Prelude.{ℕ, ◌≡◌, ◌≢◌, ◌+◌, ◌≤◌, [], length, min, IsTrue, IfOk, OnOk, ◌↔◌};
 ghost use Rattle.nmgc_segment.specs.Marks.{IsEpoch};
 ghost use Rattle.nmgc_alloc.specs.Segments.{HasNumber};

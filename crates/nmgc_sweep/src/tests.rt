@@ -14,33 +14,86 @@ use std::alloc::Global;
 use std::process::Abort;
 use std::test::Fail;
 
-// Eight segments of four blocks.
-const LAYOUT: Layout = Layout {
-    segments: 8,
-    words: 16,
-    nursery: 16,
-    mutators: 2,
-};
-
 // A cycle: the objects placed in this order, whether current segments are retired before, which of them have a
 // mark of the cycle before and which one of this cycle; and what is expected: how many calls with a quota of 1
 // sweep a segment, the lists, and the states of the first segments after the sweep.
 #[derive(Drop)]
-struct Row<'a> {
-    placed: &'a [Name],
+struct Row {
+    placed: &'static [Name],
     retired: bool,
-    stale: &'a [usize],
-    marked: &'a [usize],
+    stale: &'static [usize],
+    marked: &'static [usize],
     works: u32,
-    swept: &'a [u32],
-    had: &'a [Name],
-    freed: &'a [Name],
-    states: &'a [State],
+    swept: &'static [u32],
+    had: &'static [Name],
+    freed: &'static [Name],
+    states: &'static [State],
 }
 
-fn name(maker: u8, serial: u32) -> Name {
-    Name { maker, serial }
-}
+const FEW: [Name; 2] = [
+    Name {
+        maker: 0,
+        serial: 0,
+    },
+    Name {
+        maker: 0,
+        serial: 1,
+    },
+];
+
+const FOUR: [Name; 4] = [
+    Name {
+        maker: 0,
+        serial: 0,
+    },
+    Name {
+        maker: 0,
+        serial: 1,
+    },
+    Name {
+        maker: 0,
+        serial: 2,
+    },
+    Name {
+        maker: 0,
+        serial: 3,
+    },
+];
+
+const EIGHT: [Name; 8] = [
+    Name {
+        maker: 0,
+        serial: 0,
+    },
+    Name {
+        maker: 0,
+        serial: 1,
+    },
+    Name {
+        maker: 0,
+        serial: 2,
+    },
+    Name {
+        maker: 0,
+        serial: 3,
+    },
+    Name {
+        maker: 1,
+        serial: 0,
+    },
+    Name {
+        maker: 1,
+        serial: 1,
+    },
+    Name {
+        maker: 1,
+        serial: 2,
+    },
+    Name {
+        maker: 1,
+        serial: 3,
+    },
+];
 
 // Places an object of four words and writes its name's word.
 fn place(rt: &impl Abort, words: &mut Vec<u64>, segments: &mut Segments, name: Name) -> Address
@@ -49,7 +102,8 @@ fn place(rt: &impl Abort, words: &mut Vec<u64>, segments: &mut Segments, name: N
 {
     laws::allocate();
     let layout = segments.layout();
-    assert!(rt; name.maker < MAKERS && name.maker < layout.mutators);
+    assert!(rt; name.maker < MAKERS);
+    assert!(rt; name.maker < layout.mutators);
     assert!(rt; block_words(0) <= layout.words);
     assert!(rt; segments.has_room(name.maker, 0));
     let at = segments.allocate(name.maker, 0);
@@ -66,11 +120,11 @@ fn begin(rt: &impl Abort, words: &[u64], segments: &mut Segments, retired: bool)
 {
     laws::prepare();
     laws::retire_all();
+    laws::counts_tell();
     if retired {
         segments.retire_all();
     }
-    let left = segments.sweep_next(1);
-    assert!(rt; left.is_none());
+    assert_eq!(rt; segments.sweep_count(), 0);
     segments.prepare();
 }
 
@@ -87,7 +141,8 @@ fn mark(
     ensures { HasStood segments.new words.now }
 {
     laws::mark_at();
-    assert!(rt; 1 <= epoch && epoch <= 2);
+    assert!(rt; 1 <= epoch);
+    assert!(rt; epoch <= 2);
     for index in marked {
         let _ = segments.layout();
         assert!(rt; *index < places.len());
@@ -98,10 +153,17 @@ fn mark(
 }
 
 // Does the cycle, and compares.
-fn check(rt: &impl Abort, alloc: Global, row: &Row) -> Result<(), Fail> {
+fn check(rt: &impl Abort, alloc: Global, row: Row) -> Result<(), Fail> {
     laws::new();
-    let mut words = vec![in alloc; 0u64; LAYOUT.total() as usize]?;
-    let mut segments = Segments::new(alloc, LAYOUT)?;
+    let layout = Layout {
+        segments: 8,
+        words: 16,
+        nursery: 16,
+        mutators: 2,
+    };
+    assert!(rt; layout.words.is_power_of_two());
+    let mut words = vec![in alloc; 0u64; layout.total() as usize]?;
+    let mut segments = Segments::new(alloc, layout)?;
     let mut places = Vec::new(alloc);
     for name in row.placed {
         places.push(place(rt, &mut words, &mut segments, *name))?;
@@ -125,7 +187,8 @@ fn check(rt: &impl Abort, alloc: Global, row: &Row) -> Result<(), Fail> {
     );
     let mut sweeper = Sweeper::start(alloc, &mut words, &segments, 2)?;
     assert_eq!(rt; sweeper.freed().len(), 0);
-    for _ in 0..row.works {
+    for turn in 0..row.works {
+        let _ = turn;
         let done = sweeper.work(&mut segments, 1, &OpenGate);
         assert_eq!(rt; done.swept, 1);
     }
@@ -136,67 +199,113 @@ fn check(rt: &impl Abort, alloc: Global, row: &Row) -> Result<(), Fail> {
     assert_eq!(rt; sweeper.swept(), row.swept);
     assert_eq!(rt; sweeper.had(), row.had);
     assert_eq!(rt; sweeper.freed(), row.freed);
-    for number in 0..row.states.len() {
-        assert!(rt; number < 8);
-        assert_eq!(rt; segments.segment(number as u32).state(), row.states[number]);
+    for number in 0..segments.layout().segments {
+        if let Some(state) = row.states.get(number as usize) {
+            assert_eq!(rt; segments.segment(number).state(), *state);
+        }
     }
     Ok(())
 }
 
 #[test]
 fn cycles(rt: HostRuntime) -> Result<(), Fail> {
-    let few = [name(0, 0), name(0, 1)];
-    let four = [name(0, 0), name(0, 1), name(0, 2), name(0, 3)];
-    let eight = [
-        name(0, 0),
-        name(0, 1),
-        name(0, 2),
-        name(0, 3),
-        name(1, 0),
-        name(1, 1),
-        name(1, 2),
-        name(1, 3),
-    ];
-    let current = State::Current { mutator: 0 };
     // The other mutator's segment is the first; one more object is in a segment that isn't full.
     check(
         &rt,
         rt.alloc(),
-        &Row {
+        Row {
             placed: &[
-                name(1, 0),
-                name(1, 1),
-                name(1, 2),
-                name(1, 3),
-                name(0, 0),
-                name(0, 1),
-                name(0, 2),
-                name(0, 3),
-                name(0, 4),
+                Name {
+                    maker: 1,
+                    serial: 0,
+                },
+                Name {
+                    maker: 1,
+                    serial: 1,
+                },
+                Name {
+                    maker: 1,
+                    serial: 2,
+                },
+                Name {
+                    maker: 1,
+                    serial: 3,
+                },
+                Name {
+                    maker: 0,
+                    serial: 0,
+                },
+                Name {
+                    maker: 0,
+                    serial: 1,
+                },
+                Name {
+                    maker: 0,
+                    serial: 2,
+                },
+                Name {
+                    maker: 0,
+                    serial: 3,
+                },
+                Name {
+                    maker: 0,
+                    serial: 4,
+                },
             ],
             retired: false,
             stale: &[],
             marked: &[1, 4, 5, 6, 7],
             works: 2,
             swept: &[0, 1],
-            had: &eight,
-            freed: &[name(1, 0), name(1, 2), name(1, 3)],
-            states: &[State::Active, State::Filled, current, State::Free],
+            had: &EIGHT,
+            freed: &[
+                Name {
+                    maker: 1,
+                    serial: 0,
+                },
+                Name {
+                    maker: 1,
+                    serial: 2,
+                },
+                Name {
+                    maker: 1,
+                    serial: 3,
+                },
+            ],
+            states: &[
+                State::Active,
+                State::Filled,
+                State::Current { mutator: 0 },
+                State::Free,
+            ],
         },
     )?;
     // A mark of the cycle before keeps nothing.
     check(
         &rt,
         rt.alloc(),
-        &Row {
-            placed: &four,
+        Row {
+            placed: &FOUR,
             retired: false,
             stale: &[0, 1, 2, 3],
             marked: &[2],
             works: 1,
             swept: &[0],
-            had: &four,
-            freed: &[name(0, 0), name(0, 1), name(0, 3)],
+            had: &FOUR,
+            freed: &[
+                Name {
+                    maker: 0,
+                    serial: 0,
+                },
+                Name {
+                    maker: 0,
+                    serial: 1,
+                },
+                Name {
+                    maker: 0,
+                    serial: 3,
+                },
+            ],
             states: &[State::Active],
         },
     )?;
@@ -204,29 +313,29 @@ fn cycles(rt: HostRuntime) -> Result<(), Fail> {
     check(
         &rt,
         rt.alloc(),
-        &Row {
-            placed: &few,
+        Row {
+            placed: &FEW,
             retired: true,
             stale: &[],
             marked: &[],
             works: 1,
             swept: &[0],
-            had: &few,
-            freed: &few,
+            had: &FEW,
+            freed: &FEW,
             states: &[State::Free],
         },
     )?;
     check(
         &rt,
         rt.alloc(),
-        &Row {
-            placed: &few,
+        Row {
+            placed: &FEW,
             retired: true,
             stale: &[],
             marked: &[0, 1],
             works: 0,
             swept: &[0],
-            had: &few,
+            had: &FEW,
             freed: &[],
             states: &[State::Active],
         },
@@ -235,23 +344,23 @@ fn cycles(rt: HostRuntime) -> Result<(), Fail> {
     check(
         &rt,
         rt.alloc(),
-        &Row {
-            placed: &eight,
+        Row {
+            placed: &EIGHT,
             retired: false,
             stale: &[],
             marked: &[],
             works: 1,
             swept: &[0, 1],
-            had: &eight,
-            freed: &eight,
+            had: &EIGHT,
+            freed: &EIGHT,
             states: &[State::Free, State::Free],
         },
     )?;
     check(
         &rt,
         rt.alloc(),
-        &Row {
-            placed: &few,
+        Row {
+            placed: &FEW,
             retired: false,
             stale: &[],
             marked: &[],
@@ -259,7 +368,7 @@ fn cycles(rt: HostRuntime) -> Result<(), Fail> {
             swept: &[],
             had: &[],
             freed: &[],
-            states: &[current],
+            states: &[State::Current { mutator: 0 }],
         },
     )
 }
