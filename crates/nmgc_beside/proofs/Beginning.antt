@@ -87,6 +87,16 @@ lies_within s words a stood number block name lies = elim (cases_lt number (leng
   | inr past ↦ absurd (past_lies a number block name past lies)
 ]
 
+-- where marks are settled and no segment waits, none is of the next epoch
+pub unmarked_there : (t : RunState) (s : Segments) (words : List ℕ) → StandsFor s words t.allocation → NoneIs (IsIn stands.Sweeping) t.allocation → AreSettled t.begun s → (number block : ℕ) → HasNumber s number → mark_of (nth s.segments number) block ≡ epoch_of (t.begun + 1) → ⊥
+unmarked_there t s words stood none settled number block lt e =
+    let state = (stood.shows number lt).state in
+    let many = stood.count in
+    elim (settled number block lt (λ waits. none number (omega arith) (state ∙ waits))) [
+      | inl unset ↦ epoch_is_some (t.begun + 1) (sym e ∙ unset)
+      | inr (some, last) ↦ next_epoch t.begun (sym e ∙ last)
+    ]
+
 module _ (t : RunState) (s : Segments) (words : List ℕ) (world : IsWorld t.world) (sound : IsSegments s) (stood : StandsFor s words t.allocation) (known : LieKnown t.world t.allocation) (shared : LiesNowhere t.allocation shared_name) (none : NoneIs (IsIn stands.Sweeping) t.allocation) (settled : AreSettled t.begun s) where
   abbrev after : Segments
   after = all_prepared s
@@ -120,18 +130,9 @@ module _ (t : RunState) (s : Segments) (words : List ℕ) (world : IsWorld t.wor
   none_marked number block name begun_lies =
       let lies = (begun_names t.allocation number block name).0 begun_lies in
       let lt = lies_within s words t.allocation stood number block name lies in (
-        λ marked. absurd (unmarked_there number block lt (ap (λ (x : Segment). mark_of x block) (sym (segment_is number lt)) ∙ marked)),
+        λ marked. absurd (unmarked_there t s words stood none settled number block lt (ap (λ (x : Segment). mark_of x block) (sym (segment_is number lt)) ∙ marked)),
         λ c. absurd (shared number block (subst (λ (n : Name). LiesIn t.allocation number block n) (sym (one_is shared_name name c)) lies)),
       )
-    where
-      unmarked_there : (number block : ℕ) → HasNumber s number → mark_of (nth s.segments number) block ≡ epoch_of (t.begun + 1) → ⊥
-      unmarked_there number block lt e =
-          let state = (stood.shows number lt).state in
-          let many = stood.count in
-          elim (settled number block lt (λ waits. none number (omega arith) (state ∙ waits))) [
-            | inl unset ↦ epoch_is_some (t.begun + 1) (sym e ∙ unset)
-            | inr (some, last) ↦ next_epoch t.begun (sym e ∙ last)
-          ]
 
 -- marking the roots changes nothing but marks, and queues names of which nothing was read
 pub record IsBegun (w : World) (s : State) : Type 0 where

@@ -17,6 +17,7 @@ use Rattle.nmgc_turn.specs.laws.Replays.{world_scanned}
 use Rattle.nmgc_run.specs.Census.{IsDeadIn, IsKeptIn, IsKeptObject}
 use Rattle.nmgc_run.specs.Listing.{Counts}
 use Rattle.nmgc_run.specs.State.{Cycle}
+use Rattle.nmgc_mark.specs.Stopped.{AreScans}
 use Rattle.nmgc_beside.specs.Closes.{HasNoWeak, CycleCloses, MachineScans}
 use Rattle.nmgc_beside.specs.Rest.{IsMachineAtRest}
 use Rattle.nmgc_beside.proofs.Going.{Leaves, runs_then, round_runs, leaves_round, same_owed}
@@ -87,12 +88,20 @@ cycle_closes c s segments places marker core none h empty tied =
     in
     record {
       closes = record { dead = []; lists = e.dead; rest = refl };
+      none_dead = e.dead;
       kept = subst (λ (k : ℕ). Counts (IsKeptObject c) k) many all;
       exact = λ number block name lies. (λ marked. e.kept name ((tied.marks number block name lies).0 marked), λ k. (tied.marks number block name lies).1 (e.all name k));
     }
 
+-- scans alone have no rows
+no_rows : (hs : List Happening) → AreScans hs → rows_in hs ≡ []
+no_rows [] alone = refl
+no_rows (did m c r ∷ hs) alone = absurd alone
+no_rows (scanned entry v ∷ hs) alone = no_rows hs alone
+
 pub machine_scans : MachineScans
-machine_scans c w core events h legal none fresh =
+machine_scans c w core events h legal scans fresh =
+    let none : rows_in events ≡ [] = no_rows events scans in
     let t : State = replay core events in
     let l : Leaves core t = leaves_round core events in
     let m = h.machine in

@@ -1,9 +1,12 @@
 -- A marking cycle, kept over a round, a promotion and an add; and its pace.
-use Rattle.std.proofs.Common.{◌≡◌, ◌≢◌, ◌-◌, ◌*◌, ◌≤◌, ◌↔◌, ℕ, true, false, List, [], ◌∷◌, length, refl, sym, ap, subst, ◌∙◌, arith, inl, inr}
-use Rattle.std.specs.Prelude.{Contains}
+use Rattle.std.proofs.Common.{◌≡◌, ◌≢◌, ◌-◌, ◌*◌, ◌<◌, ◌≤◌, ◌↔◌, ℕ, true, false, List, [], ◌∷◌, length, refl, sym, ap, subst, ◌∙◌, arith, inl, inr, Some}
+use Rattle.std.specs.Prelude.{Contains, slice_get}
 use Rattle.std.specs.List.{filter}
 use Rattle.nmgc_graph.specs.declared.value.Name.{Name}
 use Rattle.nmgc_graph.specs.World.{World}
+use Rattle.nmgc_reach.specs.laws.ItemLaws.{nothing_in}
+use Rattle.nmgc_object.specs.Places.{nursery_place}
+use Rattle.nmgc_object.specs.declared.layout.Layout.{Layout}
 use Rattle.nmgc_core.specs.Machine.{is_pushed_in}
 use Rattle.nmgc_core.specs.State.{State as Core, names_of, opening}
 use Rattle.nmgc_segment.specs.declared.state.State.TheVariants as stands
@@ -15,11 +18,11 @@ use Rattle.nmgc_turn.specs.laws.Reading.{item}
 use Rattle.nmgc_run.specs.Listing.{ListsNumbers}
 use Rattle.nmgc_run.specs.Marker.{AreAt, AreRemembered, IsCoreOf, IsTied, HasRoomToMark}
 use Rattle.nmgc_run.specs.Marks.{HasNoted, epoch_of}
-use Rattle.nmgc_run.specs.Seen.{CycleSeen, MarkerSeen, SweeperSeen}
+use Rattle.nmgc_run.specs.Seen.{Seen, CycleSeen, MarkerSeen, MutatorSeen, SweeperSeen}
 use Rattle.nmgc_run.specs.State.{Cycle, next_cycle}
 use Rattle.nmgc_beside.specs.Rest.{with_rows}
 use Rattle.nmgc_beside.specs.Stays.{places_after}
-use Rattle.nmgc_beside.specs.Keeps.{CycleIsMarking, StopIsAtRest, RoundKeepsMarking, PromotionKeepsMarking, AddKeepsMarking, PaceAfterRound, PaceAtStop, PaceBegins}
+use Rattle.nmgc_beside.specs.Keeps.{NoneRemember, CycleIsMarking, StopIsAtRest, RoundKeepsMarking, PromotionKeepsMarking, AddKeepsMarking, PaceAfterRound, PaceAtStop, PaceBegins}
 use Rattle.nmgc_beside.proofs.Beginning.{IsBegun, begun, none_at_first}
 use Rattle.nmgc_beside.proofs.Pacing.{one_more}
 use Rattle.nmgc_beside.proofs.Pushing.{all_empty, each_empty}
@@ -36,6 +39,10 @@ none_pushed c places entries pushed none r =
     let names : r.names ≡ [] = none_at places r.names (subst (λ (l : List ℕ). AreAt places l r.names) none r.at) in
     sym r.counted ∙ ap (λ (l : List Name). filter (is_pushed_in c.snapshot) l) names
 
+-- nor is any place
+none_low : (seen : Seen) → NoneRemember seen → (k : ℕ) (mutator : MutatorSeen) → slice_get seen.mutators k ≡ Some mutator → (at : ℕ) → Contains mutator.entries at → at < nursery_place seen.segments.layout 0
+none_low seen nothing k mutator there at d = absurd (nothing_in at (subst (λ (l : List ℕ). Contains l at) (nothing k mutator there) d))
+
 pub cycle_is_marking : CycleIsMarking
 cycle_is_marking s seen places world tied room queue_room nothing from noted =
     let core : Core = opening s.world in
@@ -46,6 +53,7 @@ cycle_is_marking s seen places world tied room queue_room nothing from noted =
       machine = record { events = []; runs = (refl, refl); open_yet = b.open_yet; world_is = b.world_is; nothing_owed = all_empty core.owed (λ k lt. ap (λ (l : List (List Name)). names_of l k) b.owed_is ∙ none_at_first (length s.world.mutators) k) };
       tied = tied;
       remembered = λ k mutator there. subst (λ (y : List ℕ × List Name). AreRemembered (next_cycle s) places y.0 y.1) (λ i. (sym (nothing k mutator there) i, sym (none k) i)) (record { names = []; at = tt; counted = refl });
+      low = none_low seen nothing;
       room = room;
       queue_room = queue_room;
       from_is = from;
@@ -77,7 +85,7 @@ still_noted c d old new number heap same n = subst (HasNoted d) (sym same) (reco
 })
 
 pub round_keeps_marking : RoundKeepsMarking
-round_keeps_marking c s t old new o words v h mutators core was goes world tied room left entries =
+round_keeps_marking c s t old new o words v h mutators core was goes world tied room layout left entries =
     let d : Cycle = with_rows c (rows_in h.events) in
     record {
       core = core;
@@ -86,6 +94,9 @@ round_keeps_marking c s t old new o words v h mutators core was goes world tied 
       remembered = λ k mutator there.
           let m = entries k mutator there in
           subst (λ (l : List ℕ). AreRemembered d (places_then o h.born) l (names_of core.pushed k)) (sym m.2) (goes.remembered k m.0 m.1);
+      low = λ k mutator there at d.
+          let m = entries k mutator there in
+          subst (λ (l : Layout). at < nursery_place l 0) (sym layout) (goes.low k m.0 m.1 at (subst (λ (l : List ℕ). Contains l at) m.2 d));
       room = room;
       queue_room = left.queue_room;
       from_is = ap (λ (x : CycleSeen). x.from) left.cycle ∙ was.from_is;
@@ -93,9 +104,10 @@ round_keeps_marking c s t old new o words v h mutators core was goes world tied 
     }
 
 pub promotion_keeps_marking : PromotionKeepsMarking
-promotion_keeps_marking c s old new t words after registers queues moves placed sound world was promoted low same left entries =
+promotion_keeps_marking c s old new t words after registers queues moves placed sound world was promoted same left entries =
     let core : Core = was.core in
     let machine : IsCoreOf c t.world core = subst (λ (w : World). IsCoreOf c w core) (sym world) was.machine in
+    let low : (k : ℕ) (mutator : MutatorSeen) → slice_get old.mutators k ≡ Some mutator → (at : ℕ) → Contains mutator.entries at → at < nursery_place new.segments.layout 0 = λ k mutator there at d. subst (λ (l : Layout). at < nursery_place l 0) (sym promoted.layout_is) (was.low k mutator there at d) in
     let kept = tie_is_kept c t old.segments new.segments words after registers queues moves s.allocation placed old.marker core promoted sound.world machine was.tied in
     record {
       core = core;
@@ -105,6 +117,7 @@ promotion_keeps_marking c s old new t words after registers queues moves placed 
           let m = entries k mutator there in
           subst (λ (l : List ℕ). AreRemembered c (places_after new.segments moves t) l (names_of core.pushed k)) (sym m.2)
           (remembered_stays c t new.segments moves m.0.entries (names_of core.pushed k) (low k m.0 m.1) (was.remembered k m.0 m.1));
+      low = λ k mutator there at d. let m = entries k mutator there in low k m.0 m.1 at (subst (λ (l : List ℕ). Contains l at) m.2 d);
       room = subst (λ (m : MarkerSeen). HasRoomToMark new.segments m) (sym same) (kept.1 was.room);
       queue_room = left.queue_room;
       from_is = ap (λ (x : CycleSeen). x.from) left.cycle ∙ was.from_is;
@@ -119,6 +132,7 @@ add_keeps_marking c s old new places names core was taken tied room left nothing
   remembered = λ k mutator there.
       let none : names_of core.pushed k ≡ [] = each_empty core.pushed taken.none_pushed k in
       subst (λ (y : List ℕ × List Name). AreRemembered c places y.0 y.1) (λ i. (sym (nothing k mutator there) i, sym none i)) (record { names = []; at = tt; counted = refl });
+  low = none_low new nothing;
   room = room;
   queue_room = left.queue_room;
   from_is = ap (λ (x : CycleSeen). x.from) left.cycle ∙ was.from_is;

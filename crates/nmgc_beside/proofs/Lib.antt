@@ -1,5 +1,7 @@
 mod Beginning
+mod Calling
 mod Closing
+mod Dropping
 mod Going
 mod Keeping
 mod Once
@@ -7,14 +9,17 @@ mod Opens
 mod Owing
 mod Pacing
 mod Placing
+mod Preparing
 mod Pushing
 mod Remembering
 mod RoundHeap
 mod SmallLife
+mod Seats
 mod Snapshots
 mod Sorting
 mod Staying
 mod Stopping
 mod Strong
+mod Sweeping
 mod Taking
 mod Tying

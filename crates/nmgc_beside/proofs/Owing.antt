@@ -33,10 +33,11 @@ use Rattle.nmgc_beside.specs.Owed.{HaveOwed, SlicesAreOwed, GoesOn, MachineGoesO
 use Rattle.nmgc_beside.proofs.Going.{Leaves, runs_then, round_runs, leaves_round}
 use Rattle.nmgc_beside.proofs.Pushing.{AllPushed, push_all, each_empty}
 use Rattle.nmgc_beside.proofs.Remembering.{all_found, pushed_low}
+use Rattle.nmgc_beside.proofs.Seats.{parts_gathered}
 
 pub slices_owed : SlicesAreOwed
-slices_owed o before round old mutators seats done opens h nothing k p n there new =
-    let here : slice_get (map own_part seats) k ≡ Some p = subst (λ (ps : List Part). slice_get ps k ≡ Some p) (parts_are o before round old mutators seats done opens h) there in
+slices_owed o before round old mutators seats done scans opens h nothing k p n there new =
+    let here : slice_get (map own_part seats) k ≡ Some p = subst (λ (ps : List Part). slice_get ps k ≡ Some p) (parts_gathered o scans seats ∙ parts_are o before round old mutators seats done opens h) there in
     let seat = map_item own_part seats k p here in
     let s = slice_at o before round old mutators seats done opens h k seat.0 seat.1 in
     let both : Some s.n ≡ Some n = sym s.new ∙ new in

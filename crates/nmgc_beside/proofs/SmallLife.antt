@@ -1,6 +1,6 @@
 -- The small life of `nmgc_run` has a heap at rest beside a marking cycle.
-use Rattle.std.proofs.Common.{◌≡◌, ◌<◌, ◌≤◌, ◌^◌, ◌-◌, ℕ, zero, suc, [], ◌∷◌, length, replicate, refl, sym, ap, subst, ◌∙◌, arith, lit<, lit≤}
-use Rattle.std.specs.Prelude.{All, slice_index}
+use Rattle.std.proofs.Common.{◌≡◌, ◌<◌, ◌≤◌, ◌^◌, ◌-◌, ℕ, zero, suc, [], ◌∷◌, length, replicate, refl, sym, ap, subst, ◌∙◌, arith, lit<, lit≤, Some}
+use Rattle.std.specs.Prelude.{All, slice_get, slice_index}
 use Rattle.std.proofs.lemmas.List.Elements.{All-nil, All-cons}
 use lib.Count.{ones}
 use Rattle.nmgc_graph.specs.Command.{HasRegisters}
@@ -13,12 +13,14 @@ use Rattle.nmgc_alloc.specs.Search.{nth}
 use Rattle.nmgc_alloc.specs.Segments.{IsSegments, IsMember, IsOwn, HasNumber}
 use Rattle.nmgc_alloc.specs.laws.Numbers.{nth_free, unmarked}
 use Rattle.nmgc_journal.specs.declared.report.Phase.TheVariants.{Marking}
+use Rattle.nmgc_mutator.specs.declared.mutator.Mutator.{Mutator}
+use Rattle.nmgc_mutator.specs.Ready.{IsWhole}
 use Rattle.nmgc_run.specs.Life.{LifeIsSeen, array_layout, array_plan, marking_seen, waiting_segment}
 use Rattle.nmgc_run.specs.Run.{Run, last_state}
 use Rattle.nmgc_run.specs.Slice.{program_of}
 use Rattle.nmgc_run.specs.Sound.{IsRunnable}
 use Rattle.nmgc_run.specs.State.{Cycle, Progress, idle, marking, sweeping, phase_of}
-use Rattle.nmgc_beside.specs.Heaps.{SmallLifeRests}
+use Rattle.nmgc_beside.specs.Heaps.{AreShown, SmallLifeRests, marking_mutator}
 use Rattle.nmgc_beside.proofs.Stopping.{stop_rests}
 
 -- a progress whose phase is marking
@@ -109,10 +111,20 @@ segments_sound = record {
   fresh = omega arith;
 }
 
+whole : IsWhole marking_mutator
+whole = record { layout = layout_sound; number = lit< tt; size = refl }
+
+each_shown : (k : ℕ) (m : Mutator) → slice_get (marking_mutator ∷ []) k ≡ Some m → (m.number ≡ k) × (m.layout ≡ array_layout) × IsWhole m
+each_shown zero m e = let is : marking_mutator ≡ m = cc in subst (λ (x : Mutator). (x.number ≡ 0) × (x.layout ≡ array_layout) × IsWhole x) is (refl, refl, whole)
+each_shown (suc k) m e = absurd cc
+
+are_shown : AreShown array_layout marking_seen (marking_mutator ∷ [])
+are_shown = record { are = refl; each = each_shown }
+
 pub small_life_rests : LifeIsSeen → SmallLifeRests
-small_life_rests life mutators are =
+small_life_rests life =
     let run : Run = life.marking.0 in
     let h = life.marking.1 in
     let c = marking_of (last_state run).progress h.matches.phase in
-    let r = stop_rests array_plan run marking_seen c.0 mutators runnable h c.1 segments_sound are in
-    (c.0, r.0.core, h.heap.places, (last_state run).world, r.2)
+    let r = stop_rests array_plan run marking_seen c.0 (marking_mutator ∷ []) runnable h c.1 segments_sound are_shown in
+    (are_shown, (c.0, r.0.core, h.heap.places, (last_state run).world, r.2))

@@ -23,17 +23,21 @@ use Rattle.nmgc_mutator.specs.Ready.{IsUnused}
 use Rattle.nmgc_mutator.specs.Records.{numbers}
 use Rattle.nmgc_turn.specs.Rest.{IsResting}
 use Rattle.nmgc_turn.specs.Worked as turn
-use Rattle.nmgc_run.specs.Collector.{IsAtStop, IsMarking, IsPacedAtStop, HoldsInCycle}
-use Rattle.nmgc_run.specs.Heap.{registers_of, queues_of, serials_of, snapshots}
-use Rattle.nmgc_run.specs.Run.{Run, last_state}
+use Rattle.nmgc_run.specs.Collector.{AreAtRest, IsMarking, IsPacedAtStop, HoldsInCycle}
+use Rattle.nmgc_run.specs.Heap.{HoldsAtStop, registers_of, queues_of, serials_of, snapshots}
+use Rattle.nmgc_run.specs.Run.{last_state}
 use Rattle.nmgc_run.specs.Seen.{Seen, MutatorSeen, end_of, ends_of, nurseries_of}
-use Rattle.nmgc_run.specs.Sound.{IsRunnable, IsSoundState, IsInCycle}
+use Rattle.nmgc_run.specs.Sound.{IsSoundState, IsInCycle}
 use Rattle.nmgc_run.specs.State.{Plan, Cycle, State, Progress, marking, layout_of}
 use Rattle.nmgc_run.specs.laws.Places.{blocks_at_stop, block_used}
 use Rattle.nmgc_run.specs.laws.Runs.{states_are_sound}
-use Rattle.nmgc_beside.specs.Heaps.{shown, AreShown, StopRests}
-use Rattle.nmgc_beside.specs.Rest.{IsAtRest}
+use Rattle.nmgc_round.specs.View.{Opening}
+use Rattle.nmgc_mark.specs.Blocks.{AreOfBlocks, TiesAgree}
+use Rattle.nmgc_beside.specs.Heaps.{shown, AreShown, HeapRests, StopRests}
+use Rattle.nmgc_beside.specs.Rest.{IsAtRest, opening_beside}
 use Rattle.nmgc_beside.proofs.Keeping.{stop_is_at_rest}
+use Rattle.nmgc_beside.proofs.Opens.{rest_opens}
+use Rattle.nmgc_beside.proofs.Tying.{MarksLaw, core_snapshot, heap_of_blocks}
 
 -- the roots of mutators, as a run reads them and as a turn does
 abbrev told : List Mutator → List MutatorSeen
@@ -56,30 +60,21 @@ none_told : (l : List Address) → numbers l ≡ [] → l ≡ []
 none_told [] e = refl
 none_told (a ∷ l) e = absurd cc
 
-module _ (plan : Plan) (run : Run) (seen : Seen) (c : Cycle) (mutators : List Mutator) (runnable : IsRunnable plan) (h : IsAtStop plan run seen) (marks : (last_state run).progress ≡ marking c) (segments : IsSegments seen.segments) (are : AreShown seen.segments.layout seen mutators) where
-  abbrev s : State
-  s = last_state run
-
+module _ (plan : Plan) (s : State) (seen : Seen) (c : Cycle) (mutators : List Mutator) (sound : IsSoundState plan s) (heap : HoldsAtStop (layout_of plan) s seen.words seen.segments (ends_of seen) seen.weaks) (at_rest : AreAtRest (layout_of plan) heap.places s.world seen) (marks : s.progress ≡ marking c) (kept : IsMarking c s seen heap.places) (segments : IsSegments seen.segments) (are : AreShown seen.segments.layout seen mutators) where
   abbrev places : List Place
-  places = h.heap.places
+  places = heap.places
 
   layout_is : seen.segments.layout ≡ layout_of plan
-  layout_is = h.heap.holds.layout_is
-
-  sound : IsSoundState plan s
-  sound = states_are_sound plan run runnable h.is_run
+  layout_is = heap.holds.layout_is
 
   in_cycle : IsInCycle (marking c) s.world s.allocation
   in_cycle = subst (λ (p : Progress). IsInCycle p s.world s.allocation) marks sound.cycle
 
-  both : IsMarking c s seen places × IsPacedAtStop plan.config.quota c s seen
-  both = subst (λ (p : Progress). HoldsInCycle (λ (k : Cycle). IsPacedAtStop plan.config.quota k s seen) p s seen places) marks h.cycle
-
   low : (p : Place) → Contains places p → p.at < young_base seen.segments
-  low p d = elim ((h.heap.all p).0 d) [
+  low p d = elim ((heap.all p).0 d) [
     | inl g ↦ let at : p.at ≡ SHARED_PLACE = ap (λ (q : Place). q.at) g in omega (arith, at)
     | inr b ↦
-        let used = block_used (layout_of plan) s.allocation seen.words seen.segments layout_is h.heap.holds.stands b.number b.block p.name b.lies in
+        let used = block_used (layout_of plan) s.allocation seen.words seen.segments layout_is heap.holds.stands b.number b.block p.name b.lies in
         let lies = is_block seen.segments (young_base seen.segments) _ _ segments refl used in
         let four = lies.four in
         let below = lies.below in
@@ -95,7 +90,7 @@ module _ (plan : Plan) (run : Run) (seen : Seen) (c : Cycle) (mutators : List Mu
       let e : ends_of seen ≡ map end_of (map shown mutators) = ap (λ (l : List MutatorSeen). map end_of l) are.are in
       subst (λ (y : List ℕ × List (List ℕ) × List ℕ). RepresentsRoots places s.world y.0 y.1 y.2)
       (λ i. ((ap registers_of e ∙ same_registers mutators) i, (ap queues_of e ∙ same_queues mutators) i, (ap serials_of e ∙ same_serials mutators) i))
-      h.heap.holds.roots
+      heap.holds.roots
 
   many : length mutators ≡ length s.world.mutators
   many = sym (length-map mutators (λ (m : Mutator). m.queue.words)) ∙ roots.mutators.0
@@ -106,7 +101,7 @@ module _ (plan : Plan) (run : Run) (seen : Seen) (c : Cycle) (mutators : List Mu
   unused : (k : ℕ) (m : Mutator) → slice_get mutators k ≡ Some m → IsUnused m
   unused k m e =
       let own = are.each k m e in
-      let rest = h.at_rest in
+      let rest = at_rest in
       let at : nursery_at (nurseries_of seen) k ≡ m.nursery = get_or_from_slice_get (nurseries_of seen) k m.nursery _ (item_map (λ (x : MutatorSeen). x.nursery) seen.mutators k (shown m) (seen_at k m e)) in
       let same : m.layout ≡ layout_of plan = own.1 ∙ layout_is in
       let within = slice_get_within mutators k m e in
@@ -121,7 +116,7 @@ module _ (plan : Plan) (run : Run) (seen : Seen) (c : Cycle) (mutators : List Mu
   resting : (k : ℕ) (m : Mutator) → slice_get mutators k ≡ Some m → IsResting seen.segments.layout k m
   resting k m e =
       let own = are.each k m e in
-      let nothing = h.at_rest.nothing k (shown m) (seen_at k m e) in
+      let nothing = at_rest.nothing k (shown m) (seen_at k m e) in
       record {
         number_is = own.0;
         layout_is = own.1;
@@ -131,26 +126,35 @@ module _ (plan : Plan) (run : Run) (seen : Seen) (c : Cycle) (mutators : List Mu
         no_weaks = none_told m.young_weaks.items nothing.young_weaks;
       }
 
-  rests : IsAtRest c both.0.core seen.segments places s.world seen.words mutators seen.marker.queue
+  rests : IsAtRest c kept.core seen.segments places s.world seen.words mutators seen.marker.queue
   rests =
       let length_seen : length seen.mutators ≡ length s.world.mutators = ap (λ (l : List MutatorSeen). length l) are.are ∙ length-map mutators shown ∙ many in
-      let at_stop = stop_is_at_rest c s seen places both.0 in_cycle.0 length_seen (λ k mutator e. (h.at_rest.nothing k mutator e).entries) in
+      let at_stop = stop_is_at_rest c s seen places kept in_cycle.0 length_seen (λ k mutator e. (at_rest.nothing k mutator e).entries) in
       record {
         world = sound.world;
         machine = at_stop.0;
         sound = segments;
-        represents = subst (λ (y : Layout × List World). Represents y.0 y.1 NoNode places s.world seen.words) (λ i. (sym layout_is i, ap snapshots marks i)) h.heap.holds.represents;
+        represents = subst (λ (y : Layout × List World). Represents y.0 y.1 NoNode places s.world seen.words) (λ i. (sym layout_is i, ap snapshots marks i)) heap.holds.represents;
         roots = roots;
-        blocks = subst (λ (l : Layout). AreBlocks seen.segments (nursery_place l 0) places s.world) (sym layout_is) (blocks_at_stop (layout_of plan) s seen.words seen.segments (ends_of seen) seen.weaks h.heap);
+        blocks = subst (λ (l : Layout). AreBlocks seen.segments (nursery_place l 0) places s.world) (sym layout_is) (blocks_at_stop (layout_of plan) s seen.words seen.segments (ends_of seen) seen.weaks heap);
         low = low;
         count = count;
         mutators_are = resting;
         waits = at_stop.1;
       }
 
+-- so the marker may finish there
+pub heap_rests : MarksLaw → TiesAgree → HeapRests
+heap_rests law agree plan s seen c mutators sound heap at_rest marks kept segments are =
+    let rest = rests plan s seen c mutators sound heap at_rest marks kept segments are in
+    let interval = rest.machine.sound in
+    let o : Opening = opening_beside seen.segments.layout kept.core heap.places mutators in
+    let snapshot = core_snapshot c s.world kept.core interval kept.machine in
+    let blocks : AreOfBlocks o c seen.segments seen.words s.allocation kept.core = heap_of_blocks law (layout_of plan) s seen.words seen.segments (ends_of seen) seen.weaks c s.world kept.core o heap segments interval kept.machine heap.holds.layout_is refl snapshot in
+    (rest, record { opens = (rest_opens c kept.core seen.segments heap.places s.world seen.words mutators seen.marker.queue rest).0; tied = ((agree o c seen.segments seen.words s.allocation kept.core seen.marker blocks).0 kept.tied).1 })
+
 pub stop_rests : StopRests
-stop_rests plan run seen c mutators runnable h marks segments are = (
-  (both plan run seen c mutators runnable h marks segments are).0,
-  (both plan run seen c mutators runnable h marks segments are).1,
-  rests plan run seen c mutators runnable h marks segments are,
-)
+stop_rests plan run seen c mutators runnable h marks segments are =
+    let s : State = last_state run in
+    let both : IsMarking c s seen h.heap.places × IsPacedAtStop plan.config.quota c s seen = subst (λ (p : Progress). HoldsInCycle (λ (k : Cycle). IsPacedAtStop plan.config.quota k s seen) p s seen h.heap.places) marks h.cycle in
+    (both.0, both.1, rests plan s seen c mutators (states_are_sound plan run runnable h.is_run) h.heap h.at_rest marks both.0 segments are)

@@ -23,7 +23,8 @@ use Rattle.nmgc_heap.specs.Places.{Place}
 use Rattle.nmgc_round.specs.Marking.{Marks, marks_of, name_at, with_name}
 use Rattle.nmgc_run.specs.Marker.{AreAt, AreRemembered}
 use Rattle.nmgc_run.specs.State.{Cycle}
-use Rattle.nmgc_beside.specs.Begins.{with_names, with_places, MachineTakes, PlacesMark, PlacesMarkOn}
+use Rattle.nmgc_mark.specs.Tie.{with_places}
+use Rattle.nmgc_beside.specs.Begins.{with_names, MachineTakes, PlacesMark, PlacesMarkOn}
 use Rattle.nmgc_beside.proofs.Going.{runs_then}
 use Rattle.nmgc_beside.proofs.Pushing.{all_empty}
 
@@ -251,13 +252,13 @@ found_at all (p ∷ places) one among at name c =
     ])
 
 pub places_mark : PlacesMark
-places_mark snapshot places m [] [] one h = refl
-places_mark snapshot places m [] (name ∷ names) one h = absurd h
-places_mark snapshot places m (at ∷ ats) [] one h = absurd h
-places_mark snapshot places m (at ∷ ats) (name ∷ names) one h =
-    ap (λ (o : Option Name). with_places snapshot places (with_name snapshot m o) ats) (found_at places places one (λ p c. c) at name h.0)
-    ∙ places_mark snapshot places (with_name snapshot m (Some name)) ats names one h.1
+places_mark o m [] [] one h = refl
+places_mark o m [] (name ∷ names) one h = absurd h
+places_mark o m (at ∷ ats) [] one h = absurd h
+places_mark o m (at ∷ ats) (name ∷ names) one h =
+    ap (λ (n : Option Name). with_places o (with_name o.core.snapshot m n) ats) (found_at o.places o.places one (λ p c. c) at name h.0)
+    ∙ places_mark o (with_name o.core.snapshot m (Some name)) ats names one h.1
 
 pub places_mark_on : PlacesMarkOn
-places_mark_on snapshot places m [] more = refl
-places_mark_on snapshot places m (at ∷ ats) more = places_mark_on snapshot places (with_name snapshot m (name_at places at)) ats more
+places_mark_on o m [] more = refl
+places_mark_on o m (at ∷ ats) more = places_mark_on o (with_name o.core.snapshot m (name_at o.places at)) ats more

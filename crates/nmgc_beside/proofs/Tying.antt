@@ -1,19 +1,39 @@
--- A marker is tied to the machine by its marks, before a round and after it.
-use Rattle.std.proofs.Common.{◌≡◌, ℕ, List, [], ◌∷◌, map, sym, subst, ◌∙◌}
-use Rattle.std.specs.Prelude.{Contains}
-use Rattle.std.proofs.lemmas.List.Elements.{Contains-append_left}
+-- A marker's tie by places and by blocks, at a stop.
+use Rattle.std.proofs.Common.{◌≡◌, ◌⊎◌, ◌<◌, ◌≤◌, ℕ, List, [], ◌∷◌, map, true, sym, ap, subst, ◌∙◌, arith, inl, inr}
+use Rattle.std.specs.Prelude.{Contains, IsSome}
 use Rattle.nmgc_graph.specs.declared.value.Name.{Name}
+use Rattle.nmgc_graph.specs.Step.{shared_name}
+use Rattle.nmgc_graph.specs.World.{World, node_of}
+use Rattle.nmgc_reach.specs.Reachable.{IsSound}
+use Rattle.nmgc_object.specs.declared.layout.Layout.{Layout}
+use Rattle.nmgc_object.specs.declared.size.TheConstants.{HEADER_WORDS}
+use Rattle.nmgc_core.specs.Facts.{Facts}
 use Rattle.nmgc_core.specs.State.{State as Core}
-use Rattle.nmgc_alloc.specs.Segments.{Segments}
-use Rattle.nmgc_alloc.specs.AllocState.{AllocState}
-use Rattle.nmgc_heap.specs.Places.{Place}
-use Rattle.nmgc_round.specs.Marking.{Marks, marks_of, marks_after}
+use Rattle.nmgc_core.specs.laws.Runs.{facts_kept, snapshot_theorem}
+use Rattle.std.proofs.lemmas.List.Elements.{Contains-append_left}
+use Rattle.nmgc_alloc.specs.Segments.{Segments, block_place}
+use Rattle.nmgc_alloc.specs.AllocState.{cells}
+use Rattle.nmgc_heap.specs.Places.{Place, LiesWell}
+use Rattle.nmgc_heap.specs.Represents.{Represents, NoNode}
+use Rattle.nmgc_heap.specs.laws.Changes.{lies_within}
+use Rattle.nmgc_round.specs.Events.{rows_in}
+use Rattle.nmgc_round.specs.Finishing.{IsFinished, places_then}
+use Rattle.nmgc_round.specs.Marking.{Marks, marks_of}
 use Rattle.nmgc_round.specs.Objects.{place_of}
-use Rattle.nmgc_round.specs.Finishing.{places_then}
-use Rattle.nmgc_run.specs.Marker.{AreAt, IsTied}
+use Rattle.nmgc_round.specs.Rule.{now}
+use Rattle.nmgc_round.specs.Seating.{collecting}
+use Rattle.nmgc_round.specs.View.{Opening, Seen, whole}
+use Rattle.nmgc_run.specs.Census.{interval_of}
+use Rattle.nmgc_run.specs.Heap.{IsBlockPlace, shared_place}
+use Rattle.nmgc_run.specs.Marker.{AreAt, IsCoreOf, IsTied}
 use Rattle.nmgc_run.specs.Seen.{MarkerSeen}
 use Rattle.nmgc_run.specs.State.{Cycle}
-use Rattle.nmgc_beside.specs.Tie.{IsTiedTo, TieIsOfMarks, RoundBeginsTied, RoundEndsTied, TieGrows}
+use Rattle.nmgc_mark.specs.Blocks.{AreOfBlocks, TiesAgree}
+use Rattle.nmgc_mark.specs.Tie.{AreApart, IsTied as IsTiedByPlaces}
+use Rattle.nmgc_mark.specs.Work.{marks_seen}
+use Rattle.nmgc_beside.specs.Rest.{with_rows}
+use Rattle.nmgc_beside.specs.Tie.{CoreHasSnapshot, HeapIsOfBlocks, RoundBeginsTied, RoundEndsTied, TieGrows}
+use Rattle.nmgc_beside.proofs.RoundHeap.{marked_holds}
 
 -- places of names, among more places
 pub at_more : (places more : List Place) (ats : List ℕ) (names : List Name) → ((p : Place) → Contains places p → Contains more p) → AreAt places ats names → AreAt more ats names
@@ -22,30 +42,78 @@ at_more places more [] (name ∷ names) all h = h
 at_more places more (at ∷ ats) [] all h = h
 at_more places more (at ∷ ats) (name ∷ names) all h = (all (record { at = at; name = name }) h.0, at_more places more ats names all h.1)
 
-to_marks : (c : Cycle) (a : AllocState) (s : Segments) (places : List Place) (marker : MarkerSeen) (core : Core) → IsTied c a s places marker core → IsTiedTo c a s places marker (marks_of core)
-to_marks c a s places marker core t = record { epoch = t.epoch; snapshot = t.snapshot; marks = t.marks; queue = t.queue; fresh = t.fresh; count = t.count }
-
-of_marks : (c : Cycle) (a : AllocState) (s : Segments) (places : List Place) (marker : MarkerSeen) (core : Core) → IsTiedTo c a s places marker (marks_of core) → IsTied c a s places marker core
-of_marks c a s places marker core t = record { epoch = t.epoch; snapshot = t.snapshot; marks = t.marks; queue = t.queue; fresh = t.fresh; count = t.count }
-
-pub tie_is_of_marks : TieIsOfMarks
-tie_is_of_marks c a s places marker core = (to_marks c a s places marker core, of_marks c a s places marker core)
-
-pub round_begins : RoundBeginsTied
-round_begins c o a s marker t = to_marks c a s o.places marker o.core t
-
-pub round_ends : RoundEndsTied
-round_ends c o words v mutators a s marker core h on goes t =
-    let same : marks_after o v.scans ≡ marks_of core = sym ((h.scans on).1) ∙ sym goes.marks in
-    let then : IsTiedTo c a s o.places marker (marks_of core) = subst (λ (m : Marks). IsTiedTo c a s o.places marker m) same t in
-    record {
-      epoch = then.epoch;
-      snapshot = then.snapshot;
-      marks = then.marks;
-      queue = at_more o.places (places_then o h.born) marker.queue _ (λ p d. Contains-append_left o.places (map place_of h.born) p d) then.queue;
-      fresh = then.fresh;
-      count = then.count;
-    }
-
 pub tie_grows : TieGrows
 tie_grows c rows a s places more marker core all t = record { epoch = t.epoch; snapshot = t.snapshot; marks = t.marks; queue = at_more places more marker.queue _ all t.queue; fresh = t.fresh; count = t.count }
+
+-- places that words represent are apart
+
+lies_above : (layout : Layout) (p : Place) (size : ℕ) → 0 < size → LiesWell layout p size → 1 ≤ p.at
+lies_above layout p size pos (inl g) = let e = g.1 in omega arith
+lies_above layout p size pos (inr (ne, inl segment)) = let first = segment.1 p.at (omega arith) (omega arith) in let from = first.from in omega arith
+lies_above layout p size pos (inr (ne, inr nursery)) = let first = nursery.1 p.at (omega arith) (omega arith) in let from = first.from in omega arith
+
+places_apart : (layout : Layout) (earlier : List World) (places : List Place) (w : World) (words : List ℕ) → Represents layout earlier NoNode places w words → AreApart layout places
+places_apart layout earlier places w words h = record {
+  one = h.one;
+  above = λ p d. lies_above layout p HEADER_WORDS (omega arith) (h.named p d).lies;
+  inside = λ p d. lies_within layout p HEADER_WORDS (omega arith) (h.named p d).lies;
+}
+
+-- the facts of a cycle's machine, and its snapshot
+
+pub core_facts : (c : Cycle) (w : World) (core : Core) → IsSound (interval_of c) → IsCoreOf c w core → Facts core
+core_facts c w core sound m = facts_kept c.snapshot sound.world m.events c.rows core m.runs m.open_yet
+
+pub core_snapshot : CoreHasSnapshot
+core_snapshot c w core sound m = ((snapshot_theorem c.snapshot sound.world m.events c.rows core m.runs).before m.open_yet).snapshot
+
+-- what the law of marks says
+abbrev pub MarksLaw : Type 0
+MarksLaw = (core : Core) → Facts core → ((name : Name) → Contains core.marked name → IsSome (node_of core.snapshot name)) × Contains core.marked shared_name
+
+pub heap_of_blocks : MarksLaw → HeapIsOfBlocks
+heap_of_blocks law layout s words segments ends weaks c w core o h segments_are sound machine same places snapshot =
+    let marked = law core (core_facts c w core sound machine) in
+    let here : (p : Place) → Contains h.places p → Contains o.places p = λ p d. subst (λ (l : List Place). Contains l p) (sym places) d in
+    record {
+      sound = segments_are;
+      stands = h.holds.stands;
+      layout = h.holds.layout_is ∙ sym same;
+      cycle = sym snapshot;
+      apart = subst (λ (y : Layout × List Place). AreApart y.0 y.1) (λ i. (sym same i, sym places i)) (places_apart layout _ h.places s.world words h.holds.represents);
+      shared = here shared_place ((h.all shared_place).1 (inl (λ i. shared_place)));
+      blocks = λ number block name lies. here _ ((h.all _).1 (inr (record { number = number; block = block; lies = lies; at = ap (λ (l : Layout). block_place l number (cells s.allocation number).class block) same })));
+      named = λ p d known. subst (λ (l : Layout). (p ≡ shared_place) ⊎ IsBlockPlace l s.allocation p) (sym same) ((h.all p).0 (subst (λ (l : List Place). Contains l p) places d));
+      marked = λ name d. subst (λ (x : World). IsSome (node_of x name)) (core_snapshot c w core sound machine ∙ sym snapshot) (marked.0 name d);
+      shared_marked = marked.1;
+    }
+
+-- a round, from the tie by blocks to that by places and back
+
+-- what the marker's laws say
+abbrev pub BeginsLaw : Type 0
+BeginsLaw = (o : Opening) (s : Segments) (marker : MarkerSeen) → IsTiedByPlaces o (marks_of o.core) s marker → IsTiedByPlaces o (marks_seen (collecting (whole o))) s marker
+
+abbrev pub EndsLaw : Type 0
+EndsLaw = (o : Opening) (words : List ℕ) (v : Seen) (s : Segments) (marker : MarkerSeen) (h : IsFinished o words v) → v.collects ≡ true → v.opening ≡ o → IsTiedByPlaces v.opening (marks_seen v) s marker → IsTiedByPlaces o (marks_of (now o h.events)) s marker
+
+pub round_begins : MarksLaw → TiesAgree → BeginsLaw → RoundBeginsTied
+round_begins law agree begins layout s words segments ends weaks c o marker h sound interval machine same places tied =
+    let blocks : AreOfBlocks o c segments words s.allocation o.core = heap_of_blocks law layout s words segments ends weaks c s.world o.core o h sound interval machine same places (core_snapshot c s.world o.core interval machine) in
+    begins o segments marker ((agree o c segments words s.allocation o.core marker blocks).0 tied).1
+
+pub round_ends : MarksLaw → TiesAgree → EndsLaw → RoundEndsTied
+round_ends law agree ending layout s before after old new ends weaks c o v mutators core marker h f sound same_layout stands interval goes on opening same places snapshot epoch tied =
+    let d : Cycle = with_rows c (rows_in f.events) in
+    let k = marked_holds layout s before old new ends weaks h same_layout stands in
+    let then : IsTiedByPlaces o (marks_of core) new marker = subst (λ (m : Marks). IsTiedByPlaces o m new marker) (sym goes.marks) (ending o after v new marker f on opening tied) in
+    let blocks : AreOfBlocks o d new before s.allocation core = heap_of_blocks law layout s before new ends weaks d (now o f.events).world core o k.0 sound interval goes.machine same (places ∙ sym k.1) snapshot in
+    let t : IsTied d s.allocation new o.places marker core = (agree o d new before s.allocation core marker blocks).1 (epoch, then) in
+    record {
+      epoch = t.epoch;
+      snapshot = t.snapshot;
+      marks = t.marks;
+      queue = at_more o.places (places_then o f.born) marker.queue _ (λ p e. Contains-append_left o.places (map place_of f.born) p e) t.queue;
+      fresh = t.fresh;
+      count = t.count;
+    }

@@ -10,12 +10,14 @@ use Rattle.nmgc_alloc.specs.Segments.{Segments, IsSegments}
 use Rattle.nmgc_alloc.specs.AllocState.{StandsFor, LiesNowhere, NoneIs, IsIn, cycle_begun}
 use Rattle.nmgc_alloc.specs.Turns.{prepared}
 use Rattle.nmgc_heap.specs.Places.{Place}
-use Rattle.nmgc_round.specs.Marking.{Marks, marks_of, name_at, with_name}
+use Rattle.nmgc_round.specs.View.{Opening}
+use Rattle.nmgc_round.specs.Marking.{Marks, marks_of, with_name}
 use Rattle.nmgc_run.specs.Marks.{AreSettled, epoch_of}
 use Rattle.nmgc_run.specs.Marker.{AreAt, AreRemembered, IsCoreOf, IsTied}
 use Rattle.nmgc_run.specs.Seen.{MarkerSeen}
 use Rattle.nmgc_run.specs.Sound.{LieKnown}
 use Rattle.nmgc_run.specs.State.{Cycle, State, next_cycle}
+use Rattle.nmgc_mark.specs.Tie.{with_places}
 use Rattle.nmgc_beside.specs.Rest.{IsMachineAtRest}
 
 -- the segments as a cycle begins
@@ -47,14 +49,9 @@ abbrev pub MachineTakes : Type 0
 MachineTakes = (c : Cycle) (w : World) (core : Core) (places : List Place) (entries : List (List ℕ)) → IsWorld c.snapshot → IsCoreOf c w core → length entries ≡ length core.pushed → ((k : ℕ) (own : List ℕ) → slice_get entries k ≡ Some own → AreRemembered c places own (names_of core.pushed k)) →
     (names : List Name) × (after : Core) × AreAt places (flat_map (λ (own : List ℕ). own) entries) names × HasTaken c w core names after
 
--- places are marked one after another, each for the name of what begins there
-abbrev pub with_places : World → List Place → Marks → List ℕ → Marks
-with_places snapshot places m [] = m
-with_places snapshot places m (at ∷ ats) = with_places snapshot places (with_name snapshot m (name_at places at)) ats
-
 -- where no two places are the same, they mark what their names mark; and so they do one list after another
 abbrev pub PlacesMark : Type 0
-PlacesMark = (snapshot : World) (places : List Place) (m : Marks) (entries : List ℕ) (names : List Name) → ((p q : Place) → Contains places p → Contains places q → p.at ≡ q.at → p ≡ q) → AreAt places entries names → with_places snapshot places m entries ≡ with_names snapshot m names
+PlacesMark = (o : Opening) (m : Marks) (entries : List ℕ) (names : List Name) → ((p q : Place) → Contains o.places p → Contains o.places q → p.at ≡ q.at → p ≡ q) → AreAt o.places entries names → with_places o m entries ≡ with_names o.core.snapshot m names
 
 abbrev pub PlacesMarkOn : Type 0
-PlacesMarkOn = (snapshot : World) (places : List Place) (m : Marks) (entries more : List ℕ) → with_places snapshot places m (entries ++ more) ≡ with_places snapshot places (with_places snapshot places m entries) more
+PlacesMarkOn = (o : Opening) (m : Marks) (entries more : List ℕ) → with_places o m (entries ++ more) ≡ with_places o (with_places o m entries) more

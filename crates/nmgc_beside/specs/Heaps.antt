@@ -1,5 +1,5 @@
 -- The heap of a marking cycle in the words of a run: at a stop it is at rest, and what a round and its promotion leave of it.
-use Rattle.std.specs.Prelude.{ℕ, ◌≡◌, List, map, slice_get, Some, All}
+use Rattle.std.specs.Prelude.{ℕ, ◌≡◌, List, [], ◌∷◌, map, replicate, slice_get, Some, All}
 use Rattle.nmgc_graph.specs.World.{World}
 use Rattle.nmgc_object.specs.declared.layout.Layout.{Layout}
 use Rattle.nmgc_core.specs.State.{State as Core}
@@ -18,14 +18,15 @@ use Rattle.nmgc_round.specs.Finishing.{Leaves, places_then}
 use Rattle.nmgc_mutator.specs.declared.mutator.Mutator.{Mutator}
 use Rattle.nmgc_mutator.specs.Ready.{IsWhole}
 use Rattle.nmgc_mutator.specs.Records.{numbers}
-use Rattle.nmgc_run.specs.Collector.{IsAtStop, IsMarking, IsPacedAtStop}
+use Rattle.nmgc_run.specs.Collector.{AreAtRest, IsAtStop, IsMarking, IsPacedAtStop}
 use Rattle.nmgc_run.specs.Heap.{HoldsAtStop, HoldsAfterRound, HasAllRegisters, registers_of, queues_of, serials_of, snapshots}
 use Rattle.nmgc_run.specs.Life.{array_layout, marking_seen}
 use Rattle.nmgc_run.specs.Run.{Run, last_state}
-use Rattle.nmgc_run.specs.Seen.{Seen, MutatorSeen}
-use Rattle.nmgc_run.specs.Sound.{IsRunnable, LieKnown}
-use Rattle.nmgc_run.specs.State.{Plan, Cycle, State, marking}
-use Rattle.nmgc_beside.specs.Rest.{IsAtRest}
+use Rattle.nmgc_run.specs.Seen.{Seen, MutatorSeen, ends_of}
+use Rattle.nmgc_run.specs.Sound.{IsRunnable, IsSoundState, LieKnown}
+use Rattle.nmgc_run.specs.State.{Plan, Cycle, State, marking, layout_of}
+use Rattle.nmgc_mark.specs.Stopped.{IsReady}
+use Rattle.nmgc_beside.specs.Rest.{IsAtRest, opening_beside}
 use Rattle.nmgc_beside.specs.Stays.{places_after}
 
 -- a mutator as contracts of a collector see it
@@ -45,12 +46,17 @@ pub record AreShown (layout : Layout) (seen : Seen) (mutators : List Mutator) : 
   pub are : seen.mutators ≡ map shown mutators
   pub each : (k : ℕ) (m : Mutator) → slice_get mutators k ≡ Some m → (m.number ≡ k) × (m.layout ≡ layout) × IsWhole m
 
+-- the heap of a sound state at a stop, also before the stop has answered, is at rest beside a cycle that marks, where nothing is left of the mutators' round; so the marker may finish there
+abbrev pub HeapRests : Type 0
+HeapRests = (plan : Plan) (s : State) (seen : Seen) (c : Cycle) (mutators : List Mutator) → IsSoundState plan s → (h : HoldsAtStop (layout_of plan) s seen.words seen.segments (ends_of seen) seen.weaks) → AreAtRest (layout_of plan) h.places s.world seen → s.progress ≡ marking c → (k : IsMarking c s seen h.places) → IsSegments seen.segments → AreShown seen.segments.layout seen mutators →
+    IsAtRest c k.core seen.segments h.places s.world seen.words mutators seen.marker.queue × IsReady (opening_beside seen.segments.layout k.core h.places mutators) seen.words seen.segments seen.marker
+
 -- at a stop of a run while a cycle marks, the heap is at rest beside it, with the machine to which the marker is tied
 abbrev pub StopRests : Type 0
 StopRests = (plan : Plan) (run : Run) (seen : Seen) (c : Cycle) (mutators : List Mutator) → IsRunnable plan → (h : IsAtStop plan run seen) → (last_state run).progress ≡ marking c → IsSegments seen.segments → AreShown seen.segments.layout seen mutators →
     (k : IsMarking c (last_state run) seen h.heap.places) × IsPacedAtStop plan.config.quota c (last_state run) seen × IsAtRest c k.core seen.segments h.heap.places (last_state run).world seen.words mutators seen.marker.queue
 
--- a round that began with the heap of a stop: what it left, and what its mutators have in hand; the segments stand for what they stood for, though the marker marked
+-- a round that began with the heap of a stop: what it left, and what its mutators have in hand; the segments stand for what they stood for, whatever blocks the marker marked
 pub record IsRoundFrom (layout : Layout) (s t : State) (o : Opening) (before after : List ℕ) (v : View) (old new : Segments) (ends later : List MutatorEnd) (weaks : List Place) : Type 0 where
   pub heap : HoldsAtStop layout s before old ends weaks
   pub known : LieKnown s.world s.allocation
@@ -96,6 +102,22 @@ abbrev pub MarkedHolds : Type 0
 MarkedHolds = (layout : Layout) (s : State) (words : List ℕ) (old new : Segments) (ends : List MutatorEnd) (weaks : List Place) (h : HoldsAtStop layout s words old ends weaks) → new.layout ≡ layout → StandsFor new words s.allocation →
     (k : HoldsAtStop layout s words new ends weaks) × (k.places ≡ h.places)
 
--- the collector of the array script, at the stop at which its cycle began: with any mutators that show the same, its heap is at rest beside the cycle, so the conditions of these laws can be met
+-- the one mutator of the array script, at the stop at which its cycle began
+abbrev pub marking_mutator : Mutator
+marking_mutator = record {
+  number = 0;
+  layout = array_layout;
+  registers = 64 ∷ replicate 15 1;
+  queue = record { words = []; spare = 0 };
+  nursery = record { base = 160; top = 160; end = 176 };
+  serial = 1;
+  turns = 0;
+  replies = record { items = []; spare = 0 };
+  recorded = record { items = []; spare = 0 };
+  young_weaks = record { items = []; spare = 0 };
+  updrem = record { items = []; spare = 0 };
+}
+
+-- its collector has a heap at rest beside the cycle: so there is one
 abbrev pub SmallLifeRests : Type 0
-SmallLifeRests = (mutators : List Mutator) → AreShown array_layout marking_seen mutators → (c : Cycle) × (core : Core) × (places : List Place) × (w : World) × IsAtRest c core marking_seen.segments places w marking_seen.words mutators marking_seen.marker.queue
+SmallLifeRests = AreShown array_layout marking_seen (marking_mutator ∷ []) × ((c : Cycle) × (core : Core) × (places : List Place) × (w : World) × IsAtRest c core marking_seen.segments places w marking_seen.words (marking_mutator ∷ []) marking_seen.marker.queue)

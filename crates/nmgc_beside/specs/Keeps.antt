@@ -1,5 +1,5 @@
 -- A marking cycle as a running collector keeps it: at a stop, over a round, over the promotion after it, and once the marker has added what was remembered.
-use Rattle.std.specs.Prelude.{ℕ, ◌≡◌, ◌+◌, ◌<◌, ◌≤◌, ◌⊎◌, ◌↔◌, true, false, List, [], length, map, slice_get, Contains, Some}
+use Rattle.std.specs.Prelude.{ℕ, ◌≡◌, ◌+◌, ◌<◌, ◌≤◌, ◌⊎◌, ◌↔◌, true, false, List, [], length, map, slice_get, Some}
 use Rattle.nmgc_graph.specs.declared.value.Name.{Name}
 use Rattle.nmgc_graph.specs.World.{IsWorld}
 use Rattle.nmgc_reach.specs.Reachable.{IsSound}
@@ -8,7 +8,7 @@ use Rattle.nmgc_core.specs.State.{State as Core, opening}
 use Rattle.nmgc_alloc.specs.AllocState.{AllocState, cycle_begun}
 use Rattle.nmgc_heap.specs.Places.{Place}
 use Rattle.nmgc_heap.specs.Moves.{Moved}
-use Rattle.nmgc_blocks.specs.Stopped.{Stopped, young_base}
+use Rattle.nmgc_blocks.specs.Stopped.{Stopped}
 use Rattle.nmgc_round.specs.Events.{rows_in}
 use Rattle.nmgc_round.specs.View.{Opening, Seen as View}
 use Rattle.nmgc_round.specs.Rule.{now}
@@ -41,7 +41,7 @@ abbrev pub StopIsAtRest : Type 0
 StopIsAtRest = (c : Cycle) (s : State) (seen : Seen) (places : List Place) (h : IsMarking c s seen places) → IsSound (interval_of c) → length seen.mutators ≡ length s.world.mutators → NoneRemember seen →
     IsMachineAtRest c s.world h.core × AreAt places seen.marker.queue (map (λ (entry : Entry). entry.name) h.core.queue)
 
--- what a step leaves of a collector's cycle: its beginning and what its sweeper noted; and the finaliser queues have room for what may die
+-- a step leaves the cycle and what the sweeper noted as they were, and the finaliser queues have room for what may die
 pub record HasLeft (c : Cycle) (old new : Seen) : Type 0 where
   pub cycle : new.cycle ≡ old.cycle
   pub sweeper : new.sweeper ≡ old.sweeper
@@ -54,13 +54,13 @@ ShowEntries seen mutators = EachMutator seen (λ k mutator. (m : Mutator) × (sl
 -- over a round: with the machine as it goes on, and a marker that is tied to it and has room
 abbrev pub RoundKeepsMarking : Type 0
 RoundKeepsMarking = (c : Cycle) (s t : State) (old new : Seen) (o : Opening) (words : List ℕ) (v : View) (h : IsFinished o words v) (mutators : List Mutator) (core : Core) → IsMarking c s old o.places → GoesOn c o words v h mutators core → t.world ≡ (now o h.events).world
-    → IsTied (with_rows c (rows_in h.events)) t.allocation new.segments (places_then o h.born) new.marker core → HasRoomToMark new.segments new.marker → HasLeft c old new → ShowEntries new mutators
+    → IsTied (with_rows c (rows_in h.events)) t.allocation new.segments (places_then o h.born) new.marker core → HasRoomToMark new.segments new.marker → new.segments.layout ≡ o.layout → HasLeft c old new → ShowEntries new mutators
     → IsMarking (with_rows c (rows_in h.events)) t new (places_then o h.born)
 
 -- over a promotion: the marker and what is remembered stay as they are
 abbrev pub PromotionKeepsMarking : Type 0
 PromotionKeepsMarking = (c : Cycle) (s : State) (old new : Seen) (t : Stopped) (words after registers : List ℕ) (queues : List (List ℕ)) (moves : List Moved) (placed : AllocState) → IsSound (interval_of c) → t.world ≡ s.world → IsMarking c s old t.places → HasPromoted c t old.segments new.segments words after registers queues moves s.allocation placed
-    → EachMutator old (λ m mutator. (at : ℕ) → Contains mutator.entries at → at < young_base new.segments) → new.marker ≡ old.marker → HasLeft c old new → EachMutator new (λ m mutator. (before : MutatorSeen) × (slice_get old.mutators m ≡ Some before) × (mutator.entries ≡ before.entries))
+    → new.marker ≡ old.marker → HasLeft c old new → EachMutator new (λ m mutator. (before : MutatorSeen) × (slice_get old.mutators m ≡ Some before) × (mutator.entries ≡ before.entries))
     → IsMarking c (record s { allocation = placed }) new (places_after new.segments moves t)
 
 -- once the marker has added what was remembered, which the machine took: nothing is remembered any more

@@ -1,8 +1,12 @@
 pub mod Begins
+pub mod Calls
 pub mod Closes
+pub mod Drops
 pub mod Heaps
 pub mod Keeps
 pub mod Owed
+pub mod Prepares
 pub mod Rest
 pub mod Stays
+pub mod Sweeps
 pub mod Tie

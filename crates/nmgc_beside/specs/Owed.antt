@@ -4,13 +4,13 @@ use Rattle.nmgc_object.specs.Places.{nursery_place}
 use Rattle.nmgc_core.specs.State.{State as Core, names_of}
 use Rattle.nmgc_round.specs.declared.table.Round.{Round}
 use Rattle.nmgc_round.specs.Events.{rows_in}
-use Rattle.nmgc_round.specs.View.{Opening, Part, Seen, whole}
+use Rattle.nmgc_round.specs.View.{Opening, Part, Scan, Seen, whole}
 use Rattle.nmgc_round.specs.Marking.{marks_of}
 use Rattle.nmgc_round.specs.Rule.{now}
 use Rattle.nmgc_round.specs.Seat.{RoundSeat, seen}
 use Rattle.nmgc_round.specs.Seating.{collecting, all_together}
 use Rattle.nmgc_round.specs.Starting.{CanOpen}
-use Rattle.nmgc_round.specs.Finishing.{IsFinished, places_then}
+use Rattle.nmgc_round.specs.Finishing.{HasAll, IsFinished, places_then}
 use Rattle.nmgc_mutator.specs.declared.mutator.Mutator.{Mutator}
 use Rattle.nmgc_mutator.specs.Records.{numbers, all_pushed}
 use Rattle.nmgc_turn.specs.Turn.{SlicesAreDone}
@@ -27,10 +27,25 @@ HaveOwed o parts mutators = (k : ℕ) (p : Part) (m : Mutator) → slice_get par
 abbrev pub RememberNothing : List Mutator → Type 0
 RememberNothing mutators = (k : ℕ) (m : Mutator) → slice_get mutators k ≡ Some m → m.updrem.items ≡ []
 
+-- what the seats of a round know together, where the collector's knows of these scans
+abbrev pub gathered : Opening → List Scan → List RoundSeat → Seen
+gathered o scans seats = all_together (record (collecting (whole o)) { scans = scans }) (map seen seats)
+
+-- it is the round's, with all parts and the collector's scans, and the mutators have worked as their parts say
+pub record IsGathered (o : Opening) (scans : List Scan) (seats : List RoundSeat) (mutators : List Mutator) (done : List (List Done)) : Type 0 where
+  pub all : HasAll (gathered o scans seats)
+  pub worked : HaveWorked o (gathered o scans seats).parts mutators done
+  pub opening : (gathered o scans seats).opening ≡ o
+  pub scans_are : (gathered o scans seats).scans ≡ scans
+
+-- so it is after the slices of all mutators, whatever the collector scanned beside them
+abbrev pub SlicesAreGathered : Type 0
+SlicesAreGathered = (o : Opening) (before : List ℕ) (round : Round) (old mutators : List Mutator) (seats : List RoundSeat) (done : List (List Done)) (scans : List Scan) → CanOpen o before → SlicesAreDone o round old mutators seats done → IsGathered o scans seats mutators done
+
 -- mutators that remembered nothing as the round began remember what their slices owe
 abbrev pub SlicesAreOwed : Type 0
-SlicesAreOwed = (o : Opening) (before : List ℕ) (round : Round) (old mutators : List Mutator) (seats : List RoundSeat) (done : List (List Done)) → CanOpen o before → SlicesAreDone o round old mutators seats done → RememberNothing old →
-    HaveOwed o (all_together (collecting (whole o)) (map seen seats)).parts mutators
+SlicesAreOwed = (o : Opening) (before : List ℕ) (round : Round) (old mutators : List Mutator) (seats : List RoundSeat) (done : List (List Done)) (scans : List Scan) → CanOpen o before → SlicesAreDone o round old mutators seats done → RememberNothing old →
+    HaveOwed o (gathered o scans seats).parts mutators
 
 -- the machine after a round and after all pushes: it has the rows of the round, the marks and the queue that the events left, and for each mutator it has pushed exactly what that mutator remembers of the snapshot, at places in segments
 pub record GoesOn (c : Cycle) (o : Opening) (words : List ℕ) (v : Seen) (h : IsFinished o words v) (mutators : List Mutator) (core : Core) : Type 0 where

@@ -2,14 +2,19 @@
 //!
 //! Each function's contract is the law. A body does nothing but call the laws that its proof rests on.
 ghost use Rattle.nmgc_beside.specs.Rest.{RestOpens};
-ghost use Rattle.nmgc_beside.specs.Owed.{SlicesAreOwed, MachineGoesOn};
-ghost use Rattle.nmgc_beside.specs.Tie.{TieIsOfMarks, RoundBeginsTied, RoundEndsTied, TieGrows};
+ghost use Rattle.nmgc_beside.specs.Owed.{SlicesAreGathered, SlicesAreOwed, MachineGoesOn};
+ghost use Rattle.nmgc_beside.specs.Tie.{HeapIsOfBlocks, CoreHasSnapshot, RoundBeginsTied, RoundEndsTied, TieGrows};
 ghost use Rattle.nmgc_beside.specs.Stays.{TieStays, RememberedStays, SettledIsAtRest};
 ghost use Rattle.nmgc_beside.specs.Begins.{CycleBegins, MachineTakes, PlacesMark, PlacesMarkOn};
+ghost use Rattle.nmgc_beside.specs.Prepares.{StopIsPrepared, StopBegins, FreeStays, StopForgets};
+ghost use Rattle.nmgc_beside.specs.Calls.{SnapshotIsMarking, RoundIsMarking, AddIsMarking, FinishCloses};
 ghost use Rattle.nmgc_beside.specs.Closes.{MachineScans, CycleCloses, ClosingIsSoon, ClosingComes, ClosingIsPaced};
-ghost use Rattle.nmgc_beside.specs.Heaps.{StopRests, RoundHolds, MarkedHolds, PromotionHolds, SmallLifeRests};
+ghost use Rattle.nmgc_beside.specs.Sweeps.{CarrySettles, ClosingSweeps, MarkedWait, PlacedWait, SweepingStays, SettledStays};
+ghost use Rattle.nmgc_beside.specs.Drops.{RoundFreesUntracked, StopFreesUntracked, FreeGrows, SweptHoldsAfterRound, SweepingRoundHolds, SweptHoldsAtStop, DropKeepsRound};
+ghost use Rattle.nmgc_beside.specs.Heaps.{HeapRests, StopRests, RoundHolds, MarkedHolds, PromotionHolds, SmallLifeRests};
 ghost use Rattle.nmgc_beside.specs.Keeps.{CycleIsMarking, StopIsAtRest, RoundKeepsMarking, PromotionKeepsMarking, AddKeepsMarking, PaceAfterRound, PaceAtStop, PaceBegins};
 
+use nmgc_mark::laws::{marks_are_of_the_snapshot, round_begins, round_ends, ties_agree};
 use nmgc_run::laws::{one_life_seen, places_are_blocks};
 
 /// Words, blocks and mutators that stand for a world beside a marking cycle open a round with the cycle's machine,
@@ -18,9 +23,11 @@ pub fn a_rest_opens_a_round()
     ensures { RestOpens }
 {}
 
-/// After their slices the mutators remember the places in segments of what their parts owe, in order.
+/// The seats of mutators that did their slices have every part of the round between them, beside a collector's that
+/// scanned. The mutators then remember the places in segments of what their parts owe, in order.
 pub fn slices_are_owed()
-    ensures { SlicesAreOwed }
+    ensures gathered { SlicesAreGathered }
+    ensures owed { SlicesAreOwed }
 {}
 
 /// The machine goes through the events of a finished round and then pushes all that is owed. What it has pushed for
@@ -29,15 +36,21 @@ pub fn the_machine_goes_on()
     ensures { MachineGoesOn }
 {}
 
-/// A marker is tied to the machine where it has its marks and its queue. So it begins a round with those of a
-/// view without scans, and where it ends with those of the collector's view, it is tied again. More places change
-/// nothing of the tie.
-pub fn a_marker_is_tied_by_its_marks()
-    ensures same { TieIsOfMarks }
+/// While a cycle marks, the places of a heap at a stop are those of its blocks. So there a marker that is tied by places,
+/// as it works, is tied by blocks, as a run tells it, and the other way round: so a round begins, and so it ends. More
+/// places and rows change nothing of the tie.
+pub fn a_heap_ties_by_blocks()
+    ensures blocks { HeapIsOfBlocks }
+    ensures snapshot { CoreHasSnapshot }
     ensures begins { RoundBeginsTied }
     ensures ends { RoundEndsTied }
     ensures grows { TieGrows }
-{}
+{
+    marks_are_of_the_snapshot();
+    ties_agree();
+    round_begins();
+    round_ends();
+}
 
 /// After a promotion the marker is tied to the same machine as before, and what the mutators remember is where it was.
 pub fn a_promotion_keeps_the_tie()
@@ -53,6 +66,15 @@ pub fn a_promotion_rests()
 /// As a cycle begins, the blocks in use are its snapshot, and none is marked.
 pub fn a_cycle_begins()
     ensures { CycleBegins }
+{}
+
+/// A heap at a stop where no segment waits, with its segments prepared, is one with which marking begins, and stands for
+/// the state with which the cycle begins. Once the cycle marks no more, its snapshot is forgotten.
+pub fn a_stop_is_prepared()
+    ensures prepared { StopIsPrepared }
+    ensures begins { StopBegins }
+    ensures free { FreeStays }
+    ensures forgets { StopForgets }
 {}
 
 /// The machine takes all that was pushed, and marks the names of all that is remembered, in order: which the
@@ -72,6 +94,44 @@ pub fn the_machine_scans()
 /// marker has counted it.
 pub fn a_cycle_closes()
     ensures { CycleCloses }
+{}
+
+/// The marker's calls, by their contracts: with its snapshot a cycle marks, it marks on after its work in a round and
+/// once it has added what was remembered, and once it has finished the cycle is closed.
+pub fn the_marker_leads_a_cycle()
+    ensures snapshot { SnapshotIsMarking }
+    ensures round { RoundIsMarking }
+    ensures add { AddIsMarking }
+    ensures finish { FinishCloses }
+{
+    marks_are_of_the_snapshot();
+    ties_agree();
+    round_ends();
+}
+
+/// A cycle that closes begins to sweep: its marks are carried over and settled, all of its segments wait, and nothing was
+/// freed yet. Marks change nothing of what waits, and a promotion leaves the cycle as it is, since names are placed in no
+/// segment that waits.
+pub fn a_closed_cycle_sweeps()
+    ensures carries { CarrySettles }
+    ensures sweeps { ClosingSweeps }
+    ensures marked { MarkedWait }
+    ensures placed { PlacedWait }
+    ensures stays { SweepingStays }
+    ensures settled { SettledStays }
+{}
+
+/// A sweep beside a round, or at a stop, frees no name of which anybody may speak. So the freed places go, and words and
+/// swept segments stand for what is left, with no fewer segments free; of what a round leaves for its promotion nothing
+/// changes.
+pub fn freed_places_go()
+    ensures round { RoundFreesUntracked }
+    ensures stop { StopFreesUntracked }
+    ensures free { FreeGrows }
+    ensures after_round { SweptHoldsAfterRound }
+    ensures whole_round { SweepingRoundHolds }
+    ensures at_stop { SweptHoldsAtStop }
+    ensures remembered { DropKeepsRound }
 {}
 
 /// A closing comes within its bounds: as soon as the rounds could have marked all that is kept, and, where no command
@@ -100,19 +160,22 @@ pub fn the_pace_is_kept()
     ensures stop { PaceAtStop }
 {}
 
-/// At a stop of a run while a cycle marks, the heap is at rest beside it. What a round leaves of the heap of a stop
+/// At a stop while a cycle marks, the heap is at rest beside it, and the marker may finish there. What a round leaves of the heap of a stop
 /// stands for the state after it, whatever blocks were marked, and what a promotion leaves for that of the next stop.
 pub fn the_heap_goes_on()
+    ensures rests { HeapRests }
     ensures stop { StopRests }
     ensures round { RoundHolds }
     ensures marked { MarkedHolds }
     ensures promotion { PromotionHolds }
 {
     places_are_blocks();
+    marks_are_of_the_snapshot();
+    ties_agree();
 }
 
-/// The conditions of these laws can be met: the small life that `nmgc_run` tells has a heap at rest beside its
-/// marking cycle.
+/// There is a heap at rest beside a cycle: the small life that `nmgc_run` tells has one, at the stop where its cycle
+/// begins to mark.
 pub fn a_small_life_rests()
     ensures { SmallLifeRests }
 {

@@ -1,13 +1,16 @@
-//! A round and its stop while a cycle is marking.
+//! A round and its stop while a cycle is marking, and how a closed cycle sweeps beside them.
 //!
 //! `nmgc_turn` has the laws of a turn for every opening. Here is what a marking cycle adds to them: the heap at
 //! rest speaks of the cycle's snapshot too, the core machine goes through the round's commands and the
 //! collector's scans, and the marks and the queue of the marker are the machine's, from the stop at which the
 //! cycle begins on. `specs/Rest.antt` says when a heap is at rest beside a cycle, `specs/Owed.antt` what the
-//! mutators remember of a round, `specs/Tie.antt` what a marker owes, `specs/Stays.antt` what a promotion leaves
-//! of all this, `specs/Begins.antt` how a cycle begins and how the machine takes what is remembered, and
-//! `specs/Closes.antt` how a cycle closes. `specs/Keeps.antt` joins these in the words in which `nmgc_run` says
-//! what a collector keeps.
+//! mutators remember of a round, `specs/Tie.antt` what is asked of a marker, `specs/Stays.antt` what a promotion leaves
+//! of all this, `specs/Begins.antt` how a cycle begins and how the machine takes what is remembered,
+//! `specs/Prepares.antt` what the heap of a stop becomes as a cycle begins, and `specs/Closes.antt` how a cycle closes.
+//! `specs/Keeps.antt` joins these in the words in which `nmgc_run` says what a collector keeps, and
+//! `specs/Calls.antt` says so of each call of the marker by that call's own contract. A closed cycle
+//! sweeps: `specs/Sweeps.antt` says how that begins and what a promotion leaves of it, and `specs/Drops.antt` what a
+//! sweep leaves of the heap.
 //!
 //! Nothing here runs. `laws` has one function for each of these steps, and its contract is the law.
 //!

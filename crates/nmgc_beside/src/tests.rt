@@ -7,13 +7,17 @@ fn laws_ask_nothing(rt: HostRuntime) {
     laws::a_rest_opens_a_round();
     laws::slices_are_owed();
     laws::the_machine_goes_on();
-    laws::a_marker_is_tied_by_its_marks();
+    laws::a_heap_ties_by_blocks();
     laws::a_promotion_keeps_the_tie();
     laws::a_promotion_rests();
     laws::a_cycle_begins();
+    laws::a_stop_is_prepared();
     laws::the_machine_takes();
     laws::the_machine_scans();
     laws::a_cycle_closes();
+    laws::the_marker_leads_a_cycle();
+    laws::a_closed_cycle_sweeps();
+    laws::freed_places_go();
     laws::a_closing_is_in_bounds();
     laws::marking_goes_on();
     laws::the_pace_is_kept();

@@ -34,7 +34,7 @@ use Rattle.nmgc_run.specs.Seen.{MarkerSeen}
 use Rattle.nmgc_mark.specs.Stopped.{AreScans, IsAlone, HasFinished}
 use Rattle.nmgc_mark.specs.Tie.{IsTied, AreQueued}
 use Rattle.nmgc_mark.specs.Work.{IsScanning, IsAtField, entry_now, marks_seen, rest_of}
-use Rattle.nmgc_mark.proofs.Takes.{mark_is}
+use Rattle.nmgc_mark.proofs.OneMark.{mark_is}
 
 -- what the laws of rounds say of a scan and of an opening
 abbrev pub ScanLaw : Type 0

@@ -28,7 +28,7 @@ use Rattle.nmgc_mark.specs.Marker.{blank}
 use Rattle.nmgc_mark.specs.Tie.{IsTied, AreApart, with_words, with_queues}
 use Rattle.nmgc_mark.proofs.Words.{words_append, queues_flat}
 use Rattle.nmgc_mark.proofs.Names.{some_at}
-use Rattle.nmgc_mark.proofs.Takes.{mark_is}
+use Rattle.nmgc_mark.proofs.OneMark.{mark_is}
 
 -- the name that a value refers to
 abbrev ref_in : Value → Option Name

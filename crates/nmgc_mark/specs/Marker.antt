@@ -31,7 +31,7 @@ pub record MarksAt (old new : Segments) (before after : MarkerSeen) (at : ℕ) :
   pub layout : new.layout ≡ old.layout
   pub stands : StandAsBefore old new
 
--- of what the marker had marked it scanned so many objects more; what it marked has used its room up
+-- so many more objects were scanned, and each mark used room for one
 pub record HasScanned (old new : MarkerSeen) (count : ℕ) : Type 0 where
   pub epoch : new.epoch ≡ old.epoch
   pub grows : old.marked ≤ new.marked

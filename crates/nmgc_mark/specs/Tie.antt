@@ -2,7 +2,7 @@
 --
 -- An opening is a core state with the places in use, at a stop as well as in a round. The marks are those of
 -- that state, or those that the collector's scans have made of them. A marker knows blocks by their places.
-use Rattle.std.specs.Prelude.{ℕ, ◌≡◌, ◌≢◌, ◌+◌, ◌≤◌, ◌⊎◌, ◌↔◌, List, [], ◌∷◌, length, Contains, Some, IsSome}
+use Rattle.std.specs.Prelude.{ℕ, ◌≡◌, ◌+◌, ◌≤◌, ◌⊎◌, ◌↔◌, List, [], ◌∷◌, length, Contains, IsSome}
 use Rattle.nmgc_graph.specs.declared.value.Name.{Name}
 use Rattle.nmgc_graph.specs.World.{node_of}
 use Rattle.nmgc_graph.specs.Step.{shared_name}
@@ -11,15 +11,11 @@ use Rattle.nmgc_object.specs.FinQueue.{FinQueue}
 use Rattle.nmgc_object.specs.declared.layout.Layout.{Layout}
 use Rattle.nmgc_object.specs.declared.size.TheConstants.{HEADER_WORDS}
 use Rattle.nmgc_core.specs.declared.event.Entry.{Entry}
-use Rattle.nmgc_core.specs.declared.event.Event.{Event}
-use Rattle.nmgc_core.specs.declared.event.Event.TheVariants as event
-use Rattle.nmgc_core.specs.State.{State, names_of}
-use Rattle.nmgc_core.specs.Run.{Runs}
 use Rattle.nmgc_alloc.specs.Segments.{Segments}
 use Rattle.nmgc_alloc.specs.Blocks.{IsSnapshotAt, IsMarkedAt}
 use Rattle.nmgc_heap.specs.Places.{Place}
 use Rattle.nmgc_round.specs.View.{Opening}
-use Rattle.nmgc_round.specs.Marking.{Marks, marks_of, with_name, name_at, name_meant}
+use Rattle.nmgc_round.specs.Marking.{Marks, with_name, name_at, name_meant}
 use Rattle.nmgc_run.specs.Seen.{MarkerSeen}
 
 -- no two places share a word or a name, and at each there is room for a header and a name within the heap's words
@@ -62,19 +58,3 @@ with_queues o m (q ∷ qs) = with_queues o (with_words o m q.words) qs
 abbrev pub with_places : Opening → Marks → List ℕ → Marks
 with_places o m [] = m
 with_places o m (at ∷ ats) = with_places o (with_name o.core.snapshot m (name_at o.places at)) ats
-
--- these names are at the places, one by one
-abbrev pub AreNamed : List Place → List ℕ → List Name → Type 0
-AreNamed places [] [] = Unit {0}
-AreNamed places (at ∷ ats) (name ∷ names) = (name_at places at ≡ Some name) × AreNamed places ats names
-AreNamed places _ _ = ⊥
-
--- the machine takes all that the mutator pushed, and has then marked these places
-pub record TakesAll (o : Opening) (s : State) (m : ℕ) (entries : List ℕ) (after : State) : Type 0 where
-  pub events : List Event
-  pub only : (e : Event) → Contains events e → e ≡ event.Take m
-  pub runs : Runs s events [] after
-  pub marks : marks_of after ≡ with_places o (marks_of s) entries
-  pub none_left : names_of after.pushed m ≡ []
-  pub others : (k : ℕ) → k ≢ m → names_of after.pushed k ≡ names_of s.pushed k
-  pub rest : after ≡ record s { marked = after.marked; queue = after.queue; pushed = after.pushed }

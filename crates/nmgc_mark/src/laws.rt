@@ -7,7 +7,6 @@ ghost use Rattle.nmgc_graph.specs.Reach.{IsReached, IsRoot};
 ghost use Rattle.nmgc_object.specs.FinQueue.{FinQueue};
 ghost use Rattle.nmgc_core.specs.Facts.{Facts};
 ghost use Rattle.nmgc_core.specs.State.{State as Core, names_of};
-ghost use Rattle.nmgc_core.specs.Machine.{is_pushed_in};
 ghost use Rattle.nmgc_alloc.specs.Segments.{Segments};
 ghost use Rattle.nmgc_heap.specs.Places.{Place};
 ghost use Rattle.nmgc_round.specs.View.{Opening, Seen, whole};
@@ -18,7 +17,7 @@ ghost use Rattle.nmgc_round.specs.Finishing.{IsFinished};
 ghost use Rattle.nmgc_run.specs.Seen.{MarkerSeen};
 ghost use Rattle.nmgc_mark.specs.Beginning.{IsBeginning, IsPrepared};
 ghost use Rattle.nmgc_mark.specs.Blocks.{TiesAgree};
-ghost use Rattle.nmgc_mark.specs.Tie.{IsRightSnapshot, IsTied, AreNamed, TakesAll};
+ghost use Rattle.nmgc_mark.specs.Tie.{IsRightSnapshot, IsTied};
 ghost use Rattle.nmgc_mark.specs.Work.{marks_seen};
 
 /// A heap at a stop whose segments were just prepared is one with which marking begins.
@@ -37,14 +36,8 @@ pub fn round_ends()
     ensures { (o : Opening) (words : List ℕ) (v : Seen) (s : Segments) (marker : MarkerSeen) (h : IsFinished o words v) → v.collects ≡ true → v.opening ≡ o → IsTied v.opening (marks_seen v) s marker → IsTied o (marks_of (now o h.events)) s marker }
 {}
 
-/// The remembered places of a mutator, marked one after another, are the machine's takes of what that
-/// mutator pushed.
-pub fn entries_are_takes()
-    ensures { (o : Opening) (core : Core) (m : ℕ) (entries : List ℕ) (names : List Name) → o.core.snapshot ≡ core.snapshot → AreNamed o.places entries names → filter (is_pushed_in core.snapshot) names ≡ names_of core.pushed m → core.is_closed ≡ false → m < length core.pushed → Contains core.marked shared_name → (after : Core) × TakesAll o core m entries after }
-{}
-
 /// A marker stays the machine's where there are more places: objects born in a round and those that were
-/// promoted since are in no snapshot.
+/// promoted since aren't in the snapshot.
 pub fn places_may_grow()
     ensures { (o : Opening) (places : List Place) (m : Marks) (s : Segments) (marker : MarkerSeen) → ((p : Place) → Contains o.places p → Contains places p) → IsRightSnapshot (record o { places = places }) s → IsTied o m s marker → IsTied (record o { places = places }) m s marker }
 {}
@@ -61,7 +54,7 @@ pub fn marks_are_of_the_snapshot()
 
 /// Where the facts of the core machine hold and nothing is queued, owed or pushed, all is marked that strong
 /// fields reach in the snapshot from its roots. So where no command owed a reference, a marker whose queue is
-/// empty has scanned as many objects.
+/// empty has scanned at least as many objects as these.
 pub fn all_reached_is_marked()
     ensures { (core : Core) → Facts core → core.queue ≡ [] → ((m : ℕ) → names_of core.owed m ≡ []) → ((m : ℕ) → names_of core.pushed m ≡ []) → (name : Name) → IsReached core.snapshot (IsRoot core.snapshot) name → Contains core.marked name }
 {}

@@ -95,7 +95,6 @@ fn laws_ask_nothing(rt: HostRuntime) {
     laws::prepared_heaps_begin();
     laws::round_begins();
     laws::round_ends();
-    laws::entries_are_takes();
     laws::places_may_grow();
     laws::ties_agree();
     laws::marks_are_of_the_snapshot();

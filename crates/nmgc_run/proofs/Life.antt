@@ -380,6 +380,11 @@ nothing_pushed : (m : ℕ) (mutator_seen : MutatorSeen) → slice_get (hand 64 1
 nothing_pushed zero mutator_seen e = subst (λ (x : MutatorSeen). AreRemembered c (places_at 32) x.entries []) (some_is (hand 64 1 160) mutator_seen e) (record { names = []; at = tt; counted = refl })
 nothing_pushed (suc m) mutator_seen e = absurd cc
 
+-- no place is remembered
+none_high : (m : ℕ) (mutator_seen : MutatorSeen) → slice_get (hand 64 1 160 ∷ []) m ≡ Some mutator_seen → (at : ℕ) → Contains mutator_seen.entries at → at < nursery_place array_layout 0
+none_high zero mutator_seen e at there = let none : mutator_seen.entries ≡ [] = ap (λ (x : MutatorSeen). x.entries) (sym (some_is (hand 64 1 160) mutator_seen e)) in absurd (none_in at (subst (λ (l : List ℕ). Contains l at) none there))
+none_high (suc m) mutator_seen e at there = absurd cc
+
 each_waits : (m : ℕ) (mutator_seen : MutatorSeen) → slice_get (hand 64 1 160 ∷ []) m ≡ Some mutator_seen → 0 ≤ mutator_seen.queue.spare
 each_waits m mutator_seen e = omega arith
 
@@ -404,6 +409,7 @@ marking_first = record {
     count = refl;
   };
   remembered = λ m mutator_seen e. subst (λ pushed. AreRemembered c (places_at 32) mutator_seen.entries pushed) (sym (pushed_none m)) (nothing_pushed m mutator_seen e);
+  low = none_high;
   room = no_room marking_seen.marker refl;
   queue_room = each_waits;
   from_is = refl;
@@ -443,6 +449,7 @@ marking_last = record {
     count = refl;
   };
   remembered = λ m mutator_seen e. subst (λ pushed. AreRemembered c (places_at 32) mutator_seen.entries pushed) (sym (last_pushed m)) (nothing_pushed m mutator_seen e);
+  low = none_high;
   room = no_room scanned_seen.marker refl;
   queue_room = each_waits;
   from_is = refl;

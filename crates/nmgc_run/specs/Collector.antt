@@ -3,7 +3,7 @@
 --
 -- It holds of a new collector's opening stop, of every stop after a round, and between the two, for the
 -- same run. `Seen` is what contracts see of the collector.
-use Rattle.std.specs.Prelude.{ℕ, ◌≡◌, ◌≢◌, ◌⊎◌, ◌↔◌, ◌+◌, ◌-◌, ◌*◌, ◌<◌, ◌≤◌, List, [], ◌∷◌, ◌++◌, length, slice_get, Some, None, true, count_by, ◌==◌, ◌&&◌, is_some}
+use Rattle.std.specs.Prelude.{ℕ, ◌≡◌, ◌≢◌, ◌⊎◌, ◌↔◌, ◌+◌, ◌-◌, ◌*◌, ◌<◌, ◌≤◌, List, [], ◌∷◌, ◌++◌, length, slice_get, Contains, Some, None, true, count_by, ◌==◌, ◌&&◌, is_some}
 use Rattle.nmgc_graph.specs.declared.command.Reply.{Reply}
 use Rattle.nmgc_graph.specs.World.{World, node_of}
 use Rattle.nmgc_graph.specs.History.{Row}
@@ -62,12 +62,13 @@ weaks_of snapshot m weaks = count_by (λ (p : Place). (p.name.maker == m) && is_
 abbrev pub HasScanned : MarkerSeen → ℕ → Type 0
 HasScanned marker count = marker.marked ≡ count + length marker.queue
 
--- a cycle that is marking: its marker is a core machine's, with the entries as what was pushed, and there is room for what the closing needs
+-- a cycle that is marking: its marker is a core machine's, with the entries, which are places in segments, as what was pushed, and there is room for what the closing needs
 pub record IsMarking (c : Cycle) (s : State) (seen : Seen) (places : List Place) : Type 0 where
   pub core : Core
   pub machine : IsCoreOf c s.world core
   pub tied : IsTied c s.allocation seen.segments places seen.marker core
   pub remembered : EachMutator seen (λ m mutator. AreRemembered c places mutator.entries (names_of core.pushed m))
+  pub low : EachMutator seen (λ m mutator. (at : ℕ) → Contains mutator.entries at → at < nursery_place seen.segments.layout 0)
   pub room : HasRoomToMark seen.segments seen.marker
   pub queue_room : EachMutator seen (λ m mutator. weaks_of c.snapshot m seen.weaks ≤ mutator.queue.spare)
   pub from_is : seen.cycle.from ≡ c.from
@@ -78,7 +79,7 @@ pub record IsPacedAtStop (quota : ℕ) (c : Cycle) (s : State) (seen : Seen) : T
   pub scanned : HasScanned seen.marker ((s.number - c.from) * quota)
   pub not_done : c.from < s.number → seen.marker.queue ≢ []
 
--- the pace after a round: the rounds before scanned their quota, and this one did unless nothing was left; the first stop aside, something waited at the stop before, and so something was scanned
+-- the pace after a round: the rounds before scanned their quota, and this one did unless nothing was left; the first round aside, something waited at the stop before, and so something was scanned
 pub record IsPacedAfterRound (quota : ℕ) (c : Cycle) (t : State) (seen : Seen) : Type 0 where
   pub scanned : HasScanned seen.marker ((t.number - c.from - 1) * quota + seen.work.scanned)
   pub most : seen.work.scanned ≤ quota

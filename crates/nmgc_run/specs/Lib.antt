@@ -1,6 +1,7 @@
 pub mod Census
 pub mod Closing
 pub mod Collector
+pub mod Course
 pub mod Heap
 pub mod Lawful
 pub mod Leaving

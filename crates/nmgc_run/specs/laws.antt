@@ -1,3 +1,4 @@
+pub mod Course
 pub mod Crowds
 pub mod CycleCounts
 pub mod Filing

@@ -5,6 +5,7 @@
 //! nothing meets them.
 ghost use Rattle.nmgc_run.specs.Samples.{NothingIsTold, ObjectIsTold, CycleIsTold, MarkingIsTold, ObjectIsLawful, ObjectIsSeen, HaveTexts, HaveReserves};
 ghost use Rattle.nmgc_run.specs.Sound.{StatesAreSound, RoundsAreSound, TrackedHaveBlocks};
+ghost use Rattle.nmgc_run.specs.Course.{RunsAreInCourse, RoundsStayInCourse, PromotionsStayInCourse, CyclesBeginInCourse};
 ghost use Rattle.nmgc_run.specs.Places.{BlocksAtStop, BlocksAfterRound, BlocksArePlaces};
 ghost use Rattle.nmgc_run.specs.Life.{LifeIsSeen};
 ghost use Rattle.nmgc_run.specs.Limits.{ScriptsHaveGoodPlans, StatesAreWithin, RoundsAreWithin};
@@ -127,6 +128,15 @@ pub fn tracked_names_have_blocks()
     ensures states { StatesAreSound }
     ensures rounds { RoundsAreSound }
     ensures blocks { TrackedHaveBlocks }
+{}
+
+/// The cycle in progress is the last that was begun, at this stop or before; while it marks, exactly the segments wait
+/// that were filled as it began, and each that still waits has its names of then. While none is in progress, none waits.
+pub fn cycles_are_in_course()
+    ensures runs { RunsAreInCourse }
+    ensures rounds { RoundsStayInCourse }
+    ensures promotions { PromotionsStayInCourse }
+    ensures begins { CyclesBeginInCourse }
 {}
 
 /// The limits of a script give its runs a layout, and hold of worlds and of what is left of the programs at

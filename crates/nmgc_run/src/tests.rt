@@ -22,6 +22,7 @@ fn laws_ask_nothing(rt: HostRuntime) {
     laws::round_is_remembered();
     laws::round_is_forgotten();
     laws::tracked_names_have_blocks();
+    laws::cycles_are_in_course();
     laws::limits_stay();
     laws::full_heap_is_crowded();
 }

@@ -1,6 +1,9 @@
 use Rattle.nmgc_beside.proofs.RoundHeap.{round_holds, promotion_holds, marked_holds}
-use Rattle.nmgc_beside.proofs.Stopping.{stop_rests}
+use Rattle.nmgc_beside.proofs.Stopping.{heap_rests, stop_rests}
 use Rattle.nmgc_beside.proofs.laws.the_heap_goes_on.Goals as goal
+
+pub returns-clause-rests : goal.returns-clause-rests
+returns-clause-rests c = heap_rests c.marks_are_of_the_snapshot.ensures c.ties_agree.ensures
 
 pub returns-clause-stop : goal.returns-clause-stop
 returns-clause-stop c = stop_rests

@@ -1,0 +1,20 @@
+use Rattle.nmgc_beside.proofs.Sweeping.{carry_settles, closing_sweeps, marked_wait, placed_wait, sweeping_stays, settled_stays}
+use Rattle.nmgc_beside.proofs.laws.a_closed_cycle_sweeps.Goals as goal
+
+pub returns-clause-carries : goal.returns-clause-carries
+returns-clause-carries c = carry_settles
+
+pub returns-clause-sweeps : goal.returns-clause-sweeps
+returns-clause-sweeps c = closing_sweeps
+
+pub returns-clause-marked : goal.returns-clause-marked
+returns-clause-marked c = marked_wait
+
+pub returns-clause-placed : goal.returns-clause-placed
+returns-clause-placed c = placed_wait
+
+pub returns-clause-stays : goal.returns-clause-stays
+returns-clause-stays c = sweeping_stays
+
+pub returns-clause-settled : goal.returns-clause-settled
+returns-clause-settled c = settled_stays

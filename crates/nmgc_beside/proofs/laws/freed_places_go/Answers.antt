@@ -1,0 +1,23 @@
+use Rattle.nmgc_beside.proofs.Dropping.{round_frees, stop_frees, free_grows, swept_holds_after_round, sweeping_round_holds, swept_holds_at_stop, drop_keeps_round}
+use Rattle.nmgc_beside.proofs.laws.freed_places_go.Goals as goal
+
+pub returns-clause-round : goal.returns-clause-round
+returns-clause-round c = round_frees
+
+pub returns-clause-stop : goal.returns-clause-stop
+returns-clause-stop c = stop_frees
+
+pub returns-clause-free : goal.returns-clause-free
+returns-clause-free c = free_grows
+
+pub returns-clause-after_round : goal.returns-clause-after_round
+returns-clause-after_round c = swept_holds_after_round
+
+pub returns-clause-whole_round : goal.returns-clause-whole_round
+returns-clause-whole_round c = sweeping_round_holds
+
+pub returns-clause-at_stop : goal.returns-clause-at_stop
+returns-clause-at_stop c = swept_holds_at_stop
+
+pub returns-clause-remembered : goal.returns-clause-remembered
+returns-clause-remembered c = drop_keeps_round

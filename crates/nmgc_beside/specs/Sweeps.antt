@@ -1,0 +1,66 @@
+-- How a closed cycle begins to sweep, and what a promotion leaves of one that sweeps.
+use Rattle.std.specs.Prelude.{ℕ, ◌≡◌, ◌↔◌, ◌<◌, List, [], map}
+use Rattle.nmgc_graph.specs.declared.value.Name.{Name}
+use Rattle.nmgc_graph.specs.World.{World}
+use Rattle.nmgc_object.specs.declared.layout.Layout.{Layout}
+use Rattle.nmgc_segment.specs.declared.state.State.TheVariants as stands
+use Rattle.nmgc_alloc.specs.Search.{nth}
+use Rattle.nmgc_alloc.specs.Segments.{Segments, IsSegments}
+use Rattle.nmgc_alloc.specs.AllocState.{AllocState, StandsFor}
+use Rattle.nmgc_alloc.specs.Turns.{carried_over}
+use Rattle.nmgc_blocks.specs.Occupied.{KeepsMarks}
+use Rattle.nmgc_blocks.specs.Promoted.{PlacesEach}
+use Rattle.nmgc_run.specs.Course.{IsLastBegun, WaitsWhole}
+use Rattle.nmgc_run.specs.Marks.{AreSettled, HasNoted, IsSweeping, epoch_of}
+use Rattle.nmgc_run.specs.Seen.{CycleSeen, MarkerSeen, SweeperSeen}
+use Rattle.nmgc_run.specs.State.{Cycle, State}
+use Rattle.nmgc_beside.specs.Closes.{HasClosed}
+
+-- the segments as a cycle is closed: marks are carried over in those that don't wait
+abbrev pub all_carried : ℕ → Segments → Segments
+all_carried epoch s = record s { segments = map (carried_over epoch) s.segments }
+
+-- so they are settled there
+abbrev pub CarrySettles : Type 0
+CarrySettles = (begun : ℕ) (segments : Segments) → IsSegments segments → 0 < begun → AreSettled begun (all_carried (epoch_of begun) segments)
+
+-- what contracts see of a cycle that was closed at this stop without weak pointers: no name died, and what the marker counted is kept
+pub record TellsClosing (c : Cycle) (closed : ℕ) (marker : MarkerSeen) (cycle : CycleSeen) : Type 0 where
+  pub from_is : cycle.from ≡ c.from
+  pub closed_is : cycle.closed ≡ closed
+  pub none_dead : cycle.dead ≡ []
+  pub kept_is : cycle.kept ≡ marker.marked
+
+-- a cycle that closes while all of its segments wait begins to sweep, and nothing was freed yet
+abbrev pub ClosingSweeps : Type 0
+ClosingSweeps = (c : Cycle) (s : State) (words : List ℕ) (segments : Segments) (marker : MarkerSeen) (cycle : CycleSeen) (sweeper : SweeperSeen) → IsSegments segments → StandsFor segments words s.allocation → IsLastBegun c s.number s.begun → WaitsWhole c s.allocation
+    → HasClosed c s segments marker → marker.epoch ≡ epoch_of c.number → TellsClosing c s.number marker cycle → HasNoted c sweeper → sweeper.freed ≡ []
+    → IsSweeping c s.number s.allocation (all_carried marker.epoch segments) cycle sweeper × AreSettled s.begun (all_carried marker.epoch segments)
+
+-- names were placed, and no mark byte changed
+pub record HasPlaced (old new : Segments) (words after : List ℕ) (allocation placed : AllocState) : Type 0 where
+  pub layout : Layout
+  pub world : World
+  pub names : List Name
+  pub stood : StandsFor old words allocation
+  pub stands : StandsFor new after placed
+  pub places_each : PlacesEach layout world allocation names placed
+  pub marks : KeepsMarks old new
+
+-- the segment waits to be swept
+abbrev pub IsWaiting : Segments → ℕ → Type 0
+IsWaiting segments number = (nth segments.segments number).state ≡ stands.Sweeping
+
+-- as many wait where marks change alone, as by a marker or as they are carried over, and over a promotion: so what a sweeper has left is right still
+abbrev pub MarkedWait : Type 0
+MarkedWait = (old new : Segments) (words after : List ℕ) (allocation : AllocState) → StandsFor old words allocation → StandsFor new after allocation → (number : ℕ) → IsWaiting new number ↔ IsWaiting old number
+
+abbrev pub PlacedWait : Type 0
+PlacedWait = (old new : Segments) (words after : List ℕ) (allocation placed : AllocState) → HasPlaced old new words after allocation placed → (number : ℕ) → IsWaiting new number ↔ IsWaiting old number
+
+-- no segment that waits was touched, so the cycle sweeps as before, and marks are settled as before
+abbrev pub SweepingStays : Type 0
+SweepingStays = (c : Cycle) (closed : ℕ) (old new : Segments) (words after : List ℕ) (allocation placed : AllocState) (cycle : CycleSeen) (sweeper : SweeperSeen) → HasPlaced old new words after allocation placed → IsSweeping c closed allocation old cycle sweeper → IsSweeping c closed placed new cycle sweeper
+
+abbrev pub SettledStays : Type 0
+SettledStays = (begun : ℕ) (old new : Segments) (words after : List ℕ) (allocation placed : AllocState) → HasPlaced old new words after allocation placed → AreSettled begun old → AreSettled begun new

@@ -1,0 +1,21 @@
+-- One mark of the machine.
+use Rattle.std.proofs.Common.{◌≡◌, Bool, true, false, cond, [], ◌∷◌, ◌++◌, refl, sym, ap, Some}
+use Rattle.std.specs.Prelude.{Contains}
+use Rattle.std.proofs.lemmas.List.Elements.{Contains-append_left}
+use Rattle.nmgc_graph.specs.declared.value.Name.{Name}
+use Rattle.nmgc_graph.specs.Step.{shared_name}
+use Rattle.nmgc_core.specs.State.{State, is_new, mark_name, with_mark, entry_of}
+use Rattle.nmgc_round.specs.Marking.{marks_of, with_name}
+
+-- a mark changes marks and queue alone
+pub record IsMarkOf (s t : State) (name : Name) : Type 0 where
+  pub marks : marks_of t ≡ with_name s.snapshot (marks_of s) (Some name)
+  pub rest : t ≡ record s { marked = t.marked; queue = t.queue }
+  pub shared : Contains s.marked shared_name → Contains t.marked shared_name
+
+mark_if : (b : Bool) (s : State) (name : Name) → is_new s name ≡ b → IsMarkOf s (cond b (with_mark s name) s) name
+mark_if true s name e = record { marks = ap (λ (b : Bool). cond b (record { marked = s.marked ++ name ∷ []; queue = s.queue ++ entry_of name ∷ [] }) (marks_of s)) (sym e); rest = refl; shared = λ c. Contains-append_left s.marked (name ∷ []) shared_name c }
+mark_if false s name e = record { marks = ap (λ (b : Bool). cond b (record { marked = s.marked ++ name ∷ []; queue = s.queue ++ entry_of name ∷ [] }) (marks_of s)) (sym e); rest = refl; shared = λ c. c }
+
+pub mark_is : (s : State) (name : Name) → IsMarkOf s (mark_name s name) name
+mark_is s name = mark_if (is_new s name) s name refl
