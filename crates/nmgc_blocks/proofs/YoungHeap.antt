@@ -1,5 +1,5 @@
 -- The heap of one young object: each of its words is as it is said to be, and nothing else is in it.
-use Rattle.std.proofs.Common.{◌≡◌, ◌≢◌, ◌⊎◌, inl, inr, ℕ, zero, suc, ◌+◌, ◌*◌, ◌<◌, ◌≤◌, List, [], ◌∷◌, length, map, replicate, get_or, refl, sym, ap, subst, ◌∙◌, arith, zero-add, slice_index, Option, Some, None, Bool, true, false, lit≤, lit<}
+use Rattle.std.proofs.Common.{◌≡◌, ◌≢◌, ◌⊎◌, inl, inr, ℕ, zero, suc, ◌+◌, ◌*◌, ◌<◌, ◌≤◌, List, [], ◌∷◌, replicate, get_or, refl, sym, ap, subst, ◌∙◌, arith, zero-add, slice_index, Option, Some, None, Bool, true, false, lit≤, lit<}
 use Rattle.std.specs.Prelude.{slice_get, Contains, IsSome, if◌then◌else◌, ◌==◌, ◌↔◌}
 use Rattle.std.proofs.lemmas.Bool.{eqb-true}
 use Rattle.std.proofs.lemmas.List.{get_or-replicate}
@@ -16,17 +16,15 @@ use Rattle.nmgc_graph.specs.declared.mutator_state.MutatorState.{MutatorState}
 use Rattle.nmgc_graph.specs.World.{World, node_of, state_of, serial_of, IsWorld, new_world, new_mutator}
 use Rattle.nmgc_graph.specs.Command.{IsOperand}
 use Rattle.nmgc_graph.specs.Step.{CanApply, shared_name, step}
-use Rattle.nmgc_graph.specs.Reach.{strong_fields, RefersTo, IsAlive}
+use Rattle.nmgc_graph.specs.Reach.{strong_fields, RefersTo}
 use Rattle.nmgc_graph.specs.laws.Orders.{contains_head, contains_tail, contains_cases}
 use Rattle.nmgc_reach.specs.laws.ItemLaws.{place_of, nothing_in, one_is}
 use Rattle.nmgc_reach.specs.laws.NewWorlds.{new_is_world}
 use Rattle.nmgc_reach.specs.laws.WorldSteps.{step_keeps_world}
-use Rattle.nmgc_object.specs.Places.{InNursery, nursery_place}
+use Rattle.nmgc_object.specs.Places.{nursery_place}
 use Rattle.nmgc_segment.specs.Segment.{Segment, free_segment}
-use Rattle.nmgc_alloc.specs.Search.{nth}
 use Rattle.nmgc_alloc.specs.Segments.{Segments, IsSegments, all_free}
-use Rattle.nmgc_heap.specs.Shape.{Slot, holds, header_of, size_of, slots_of, free_slots}
-use Rattle.nmgc_heap.specs.Tracked.{IsTracked}
+use Rattle.nmgc_heap.specs.Shape.{Slot, holds, size_of, slots_of, free_slots}
 use Rattle.nmgc_heap.specs.Places.{Place, Means, Fills, HasSlots, LiesWell, AllMean, ListMeans}
 use Rattle.nmgc_heap.specs.Represents.{NoNode, IsNamed, IsObject, IsPlaced, Represents, IsEarlier}
 use Rattle.nmgc_heap.specs.Roots.{RepresentsRoots}
@@ -34,8 +32,7 @@ use Rattle.nmgc_heap.specs.Samples.{small_layout, own, shared_place}
 use Rattle.nmgc_heap.specs.laws.CommandLaws.{world_is_earlier, step_keeps_earlier}
 use Rattle.nmgc_heap.specs.laws.Kinds.{all_item}
 use Rattle.nmgc_blocks.specs.Nurseries.{nursery_at}
-use Rattle.nmgc_blocks.specs.Occupied.{IsOccupied, AreBlocks}
-use Rattle.nmgc_blocks.specs.Remembers.{Remembers}
+use Rattle.nmgc_blocks.specs.Occupied.{IsOccupied}
 use Rattle.nmgc_blocks.specs.Stopped.{IsStopped, IsRoundOf}
 use Rattle.nmgc_blocks.specs.Samples.{young_world, young_place, young_stop, young_registers, young_nurseries, HoldsYoung, OneYoung}
 

@@ -1,5 +1,5 @@
 -- Promotion: which objects of a round get a block at its stop, and where.
-use Rattle.std.specs.Prelude.{ℕ, ◌≡◌, ◌⊎◌, ◌<◌, ◌≤◌, List, [], ◌∷◌, Some, None, IsSome}
+use Rattle.std.specs.Prelude.{ℕ, ◌≡◌, ◌⊎◌, List, [], ◌∷◌, Some, None, IsSome}
 use Rattle.nmgc_graph.specs.declared.value.Name.{Name}
 use Rattle.nmgc_graph.specs.declared.node.Node.{Node}
 use Rattle.nmgc_graph.specs.declared.node.Parts.{Parts}

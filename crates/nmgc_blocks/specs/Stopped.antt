@@ -3,7 +3,7 @@
 -- Until the promotion is done the collector speaks of the world as the round began too: the recorded
 -- fields are of objects that the mutators may have dropped in the round. What the words stand for is told
 -- with the places, and with the worlds of which the collector speaks.
-use Rattle.std.specs.Prelude.{ℕ, ◌≡◌, ◌*◌, ◌<◌, ◌≤◌, ◌⊎◌, ◌↔◌, List, ◌∷◌, map, Contains, None, IsSome}
+use Rattle.std.specs.Prelude.{ℕ, ◌≡◌, ◌<◌, ◌≤◌, ◌⊎◌, ◌↔◌, List, ◌∷◌, map, Contains, None, IsSome}
 use Rattle.nmgc_graph.specs.declared.value.Name.{Name}
 use Rattle.nmgc_graph.specs.declared.node.Parts.{Parts}
 use Rattle.nmgc_graph.specs.World.{World, node_of, IsWorld}
@@ -38,7 +38,7 @@ earlier_of t = t.began ∷ t.later
 abbrev pub young_base : Segments → ℕ
 young_base s = nursery_place s.layout 0
 
--- what the round did to the world: young places are those of the names that it made; an object that isn't young and refers to a young one is tracked; a weak pointer that is alive has the parts that it was made with
+-- what the round did to the world: earlier worlds have the same objects; of later snapshots no object lies in a nursery; young places are those of the names that it made; an object that isn't young and refers to a young one is tracked; a weak pointer that isn't young and is alive has the parts that it had as the round began
 pub record IsRoundOf (base : ℕ) (t : Stopped) : Type 0 where
   pub past : (e : World) → Contains (earlier_of t) e → IsEarlier e t.world
   pub outside : (e : World) (p : Place) → Contains t.later e → Contains t.places p → IsSome (node_of e p.name) → p.at < base

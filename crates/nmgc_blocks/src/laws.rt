@@ -48,7 +48,7 @@ pub fn placing_takes_a_new_block()
     ensures marks { (s new : Segments) (m c at : ℕ) → IsSegments s → IsSegments new → Allocates s new m c at → KeepsMarks s new }
 {}
 
-/// With so many free segments as the reserve, all that the nurseries hold finds room: whichever objects were
+/// With at least as many free segments as the reserve, all that the nurseries hold finds room: whichever objects were
 /// placed since, one after the other, there is room for another one, as long as together they had no more
 /// words than the nurseries have. For a segment that was free and is filled has objects of at least half its
 /// words, and beside those a mutator has one segment at most that is begun, for each class.

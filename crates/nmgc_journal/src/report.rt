@@ -88,7 +88,7 @@ pub struct MutatorEnd {
 pub enum End {
     /// Every command was answered.
     Done,
-    /// Some command was not, and a full cycle left fewer free segments than the reserve.
+    /// Some command was not, and fewer segments are free than the reserve.
     HeapFull { free: u32, reserve: u32 },
 }
 

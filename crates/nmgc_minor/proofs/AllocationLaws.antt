@@ -1,11 +1,10 @@
 -- The final words show the allocation state once the promoted names were placed.
-use Rattle.std.proofs.Common.{◌≡◌, ◌≢◌, ◌<◌, ◌≤◌, ◌+◌, ◌⊎◌, ℕ, List, [], ◌∷◌, length, map, set, inl, inr, refl, sym, ap, subst, ◌∙◌, arith, Some, None}
+use Rattle.std.proofs.Common.{◌≡◌, ◌≢◌, ◌<◌, ◌+◌, ◌⊎◌, ℕ, List, [], ◌∷◌, length, map, set, inl, inr, refl, sym, ap, subst, ◌∙◌, arith, Some, None}
 use Rattle.std.specs.Prelude.{Contains, slice_index}
 use Rattle.std.proofs.Math.ListN.{length-set}
 use Rattle.std.proofs.lemmas.Bool.{cases_eq, cases_lt}
 use Rattle.std.proofs.lemmas.List.{get_or_past, get_or-set_same, get_or-set_other}
 use Rattle.nmgc_graph.specs.declared.value.Name.{Name}
-use Rattle.nmgc_graph.specs.declared.node.Node.{Node}
 use Rattle.nmgc_graph.specs.World.{World, node_of, IsWorld}
 use Rattle.nmgc_graph.specs.laws.Orders.{contains_head, contains_tail, contains_cases}
 use Rattle.nmgc_object.specs.Words.{header_word, name_word, IsHeader, IsName}
@@ -13,18 +12,17 @@ use Rattle.nmgc_object.specs.Size.{block_size}
 use Rattle.nmgc_object.specs.Places.{nursery_place}
 use Rattle.nmgc_object.specs.declared.words.Header.{Header}
 use Rattle.nmgc_object.specs.declared.layout.Layout.{Layout}
-use Rattle.nmgc_segment.specs.Segment.{InUse, block_count}
 use Rattle.nmgc_segment.specs.declared.state.State.TheVariants as stands
 use Rattle.nmgc_alloc.specs.Search.{nth}
-use Rattle.nmgc_alloc.specs.Segments.{Segments, IsSegments, HasNumber, IsBlockAt, block_place}
+use Rattle.nmgc_alloc.specs.Segments.{Segments, IsSegments, HasNumber, block_place}
 use Rattle.nmgc_alloc.specs.AllocState.{AllocState, Cells, Shows, StandsFor, name_in, cells}
-use Rattle.nmgc_heap.specs.Shape.{header_of, size_of}
+use Rattle.nmgc_heap.specs.Shape.{header_of}
 use Rattle.nmgc_heap.specs.Places.{Place}
 use Rattle.nmgc_heap.specs.Represents.{Represents, NoNode}
-use Rattle.nmgc_heap.specs.Moves.{Moved, Moves, StillSpoken, settled}
+use Rattle.nmgc_heap.specs.Moves.{Moved, Moves, StillSpoken}
 use Rattle.nmgc_blocks.specs.Occupied.{IsOccupied, AreBlocks}
-use Rattle.nmgc_blocks.specs.Promoted.{PlacesEach, PlacesObject}
-use Rattle.nmgc_blocks.specs.laws.Blocks.{IsBlock, is_block}
+use Rattle.nmgc_blocks.specs.Promoted.{PlacesEach}
+use Rattle.nmgc_blocks.specs.laws.Blocks.{is_block}
 use Rattle.nmgc_blocks.specs.laws.Fields.{stands}
 use Rattle.nmgc_minor.specs.declared.placing.Move.{Move}
 use Rattle.nmgc_minor.specs.Inputs.{Inputs, HasInputs}

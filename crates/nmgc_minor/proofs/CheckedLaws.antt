@@ -1,12 +1,12 @@
 -- A heap that was checked word by word meets what promotion asks.
 use Rattle.std.proofs.Common.{◌≡◌, ◌≢◌, ◌<◌, ◌≤◌, ◌+◌, ◌-◌, ◌*◌, ◌⊎◌, ℕ, List, length, inl, inr, refl, sym, ap, subst, ◌∙◌, arith, Bool, true, false, eqb}
-use Rattle.std.specs.Prelude.{Contains, slice_index}
+use Rattle.std.specs.Prelude.{slice_index}
 use Rattle.std.proofs.Math.Nat.{mul-le-mul_right}
 use Rattle.std.proofs.Math.ListN.{get_or-eq_default}
 use Rattle.std.proofs.lemmas.Bool.{cases_eq, cases_lt, cases_order}
 use Rattle.nmgc_graph.specs.declared.node.Kind.{Kind}
 use Rattle.nmgc_graph.specs.declared.node.Kind.TheVariants.{Con, Var, Arr, Thunk, Weak, Stack}
-use Rattle.nmgc_object.specs.Words.{header_word, IsHeader, HasFields}
+use Rattle.nmgc_object.specs.Words.{header_word, HasFields}
 use Rattle.nmgc_object.specs.Places.{nursery_place}
 use Rattle.nmgc_object.specs.declared.layout.Layout.{Layout}
 use Rattle.nmgc_object.specs.declared.layout.Nursery.{Nursery}
@@ -16,12 +16,12 @@ use Rattle.nmgc_alloc.specs.Segments.{Segments, IsSegments}
 use Rattle.nmgc_alloc.specs.Reserve.{KeepsReserve}
 use Rattle.nmgc_heap.specs.laws.Headers.{same_header}
 use Rattle.nmgc_blocks.specs.Nurseries.{AreEmpty, nursery_at}
-use Rattle.nmgc_blocks.specs.Strong.{HasStrong, strong_part, strong_of}
+use Rattle.nmgc_blocks.specs.Strong.{HasStrong, strong_part}
 use Rattle.nmgc_minor.specs.declared.young.Young.{Young}
 use Rattle.nmgc_minor.specs.Inputs.{Inputs}
 use Rattle.nmgc_minor.specs.Found.{IsStart, IsFound}
-use Rattle.nmgc_minor.specs.Young.{IsYoung, IsWithin, HasHeader, CanFollow}
-use Rattle.nmgc_minor.specs.Placing.{AreNurseries, CanPlaceAll, CanPlaceEach, IsMarked}
+use Rattle.nmgc_minor.specs.Young.{IsWithin, HasHeader}
+use Rattle.nmgc_minor.specs.Placing.{AreNurseries, CanPlaceEach, IsMarked}
 use Rattle.nmgc_minor.specs.Promotes.{CanPromoteWith}
 use Rattle.nmgc_minor.specs.Checked.{PointsWell, IsMade, AreMade, IsChecked}
 

@@ -1,14 +1,12 @@
 -- The world gives what the passes ask of the words.
-use Rattle.std.proofs.Common.{◌≡◌, ◌≢◌, ◌<◌, ◌≤◌, ◌+◌, ◌-◌, ◌*◌, ℕ, List, length, inl, inr, sym, ap, subst, ◌∙◌, arith, Some, eqb, false}
-use Rattle.std.specs.Prelude.{Contains, slice_get}
+use Rattle.std.proofs.Common.{◌≡◌, ◌<◌, ◌≤◌, ◌+◌, ◌-◌, ◌*◌, ℕ, List, length, inl, inr, sym, ap, subst, ◌∙◌, arith, Some}
+use Rattle.std.specs.Prelude.{Contains}
 use Rattle.std.proofs.Math.Nat.{mul-le-mul_right}
-use Rattle.std.proofs.lemmas.Bool.{cases_order, ne_eqb}
-use Rattle.std.proofs.lemmas.Option.{slice_get_within}
+use Rattle.std.proofs.lemmas.Bool.{cases_order}
 use Rattle.nmgc_graph.specs.declared.value.Name.{Name}
-use Rattle.nmgc_graph.specs.declared.value.TheConstants.{SHARED_MAKER, MAKERS}
 use Rattle.nmgc_graph.specs.declared.node.Node.{Node}
-use Rattle.nmgc_graph.specs.World.{World, node_of, state_of, IsWorld}
-use Rattle.nmgc_object.specs.Words.{header_word, IsHeader, IsName}
+use Rattle.nmgc_graph.specs.World.{World, node_of, IsWorld}
+use Rattle.nmgc_object.specs.Words.{header_word, IsHeader}
 use Rattle.nmgc_object.specs.Places.{InNursery, nursery_place}
 use Rattle.nmgc_object.specs.declared.words.Header.{Header}
 use Rattle.nmgc_object.specs.declared.layout.Layout.{Layout}

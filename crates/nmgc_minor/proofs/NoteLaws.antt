@@ -1,9 +1,9 @@
 -- What noting words changes, and what it keeps.
-use Rattle.std.proofs.Common.{◌≡◌, ◌≢◌, ◌<◌, ◌≤◌, ◌+◌, ◌-◌, ◌*◌, ℕ, List, [], ◌∷◌, ◌++◌, length, set, take, drop, inl, inr, refl, sym, ap, subst, ◌∙◌, arith, ◌⊎◌, cond, eqb, count_by, append_assoc, length-append}
-use Rattle.std.specs.Prelude.{Contains, slice_index, slice_range, get_or}
+use Rattle.std.proofs.Common.{◌≡◌, ◌≢◌, ◌<◌, ◌≤◌, ◌+◌, ◌-◌, ◌*◌, ℕ, List, [], ◌∷◌, ◌++◌, length, set, take, inl, inr, refl, sym, ap, subst, ◌∙◌, arith, ◌⊎◌, cond, eqb, count_by, append_assoc, length-append}
+use Rattle.std.specs.Prelude.{Contains, slice_index, get_or}
 use Rattle.std.proofs.Math.ListN.{length-set}
 use Rattle.std.proofs.lemmas.Bool.{cases_lt, cases_eq}
-use Rattle.std.proofs.lemmas.List.{append-nil, get_or-set_same, get_or-set_other, get_or_append_left, get_or_default, get_or-take, get_or-drop, length-take, length-drop, take_more}
+use Rattle.std.proofs.lemmas.List.{append-nil, get_or-set_same, get_or-set_other, get_or_append_left, get_or_default, take_more}
 use Rattle.std.proofs.lemmas.List.Sums.{sum_by-set}
 use Rattle.std.proofs.lemmas.List.Elements.{Contains-append_left, Contains-push, Contains-push_cases, Contains-get_or}
 use Rattle.nmgc_object.specs.declared.words.Address.{Address}

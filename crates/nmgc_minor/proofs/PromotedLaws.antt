@@ -7,7 +7,7 @@ use Rattle.nmgc_graph.specs.declared.value.Value.{Value}
 use Rattle.nmgc_graph.specs.declared.value.Value.TheVariants as value
 use Rattle.nmgc_graph.specs.declared.node.Parts.{Parts}
 use Rattle.nmgc_graph.specs.declared.node.Node.{Node}
-use Rattle.nmgc_graph.specs.declared.node.Node.TheVariants.{Con, Var, Arr, Thunk, Weak, Stack}
+use Rattle.nmgc_graph.specs.declared.node.Node.TheVariants.{Weak}
 use Rattle.nmgc_graph.specs.World.{World, node_of, state_of, IsKnown, IsNodeOf, IsShared, IsWorld}
 use Rattle.nmgc_graph.specs.Step.{shared_name}
 use Rattle.nmgc_graph.specs.Reach.{IsReached, RefersTo, IsRoot, IsAlive}

@@ -1,6 +1,7 @@
 -- Which young objects are promoted: a least set, told of the words alone.
 --
--- Young objects lie from the word `base` on. `laws` ties this set to the world that the words represent.
+-- Young objects lie from the word `base` on. That these are the promoted objects of the world that the words
+-- represent is what `promote` promises at a stop.
 use Rattle.std.specs.Prelude.{ℕ, ◌≡◌, ◌≢◌, ◌+◌, ◌*◌, ◌<◌, ◌≤◌, List, slice_index, Contains}
 use Rattle.nmgc_graph.specs.declared.value.TheConstants.{SHARED_SLOTS}
 use Rattle.nmgc_object.specs.declared.layout.TheConstants.{SHARED_PLACE}

@@ -1,4 +1,4 @@
--- What the search reads beside the words, and what that has to say of the world.
+-- What the search reads beside the words, and what must hold of it in the world.
 use Rattle.std.specs.Prelude.{ℕ, ◌*◌, List, Contains}
 use Rattle.nmgc_graph.specs.declared.value.Name.{Name}
 use Rattle.nmgc_graph.specs.declared.value.Value.{Value}

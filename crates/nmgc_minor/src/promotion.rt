@@ -76,14 +76,15 @@ impl Promotion {
     /// Moves the promoted objects from the nurseries into segments, each once, in order of names, into the
     /// block that the placing rule gives for its maker and its class. Every pointer to one is changed, in
     /// the roots, the slots of g, the recorded fields and the moved objects, so the words stand for the
-    /// same world. The nurseries are empty afterwards. Takes no memory. Its time is that of what it and the
-    /// last promotion move, with its fields, of the roots, the two lists and the used words of the nurseries,
-    /// up to whose tops the table is read; and of the search for the next segment where one was filled. It
-    /// grows neither with the heap nor with what is left of the nurseries.
+    /// same world. The nurseries are empty afterwards. Takes no memory.
+    ///
+    /// Its time goes with what it and the last promotion move, with the fields of that, with the roots, the two
+    /// lists and the used words of the nurseries, for which the table is read. Where a segment was filled, the
+    /// search for the next one comes to that. It grows neither with the heap nor with the unused words.
     ///
     /// `recorded` are the places of the fields of older objects that the round wrote, `young_weaks` the
-    /// weak pointers that it made. So many segments are free as the layout's reserve, or no nursery has
-    /// an object.
+    /// weak pointers that it made. At least as many segments are free as the layout's reserve, or no
+    /// nursery has an object.
     pub fn promote<W: HeapWords>(
         &mut self,
         words: &mut W,

@@ -1,6 +1,6 @@
-use Rattle.std.proofs.Common.{◌≡◌, ◌≤◌, ◌<◌, ◌+◌, ℕ, List, set, slice_index, subst, sym, ap, ◌∙◌, length, arith}
+use Rattle.std.proofs.Common.{◌+◌, ℕ, List, set, ap, ◌∙◌, length, arith}
 use Rattle.nmgc_object.specs.declared.size.TheConstants.{HEADER_WORDS}
-use Rattle.nmgc_minor.specs.Forwarding.{CopiesFields, forward_word}
+use Rattle.nmgc_minor.specs.Forwarding.{forward_word}
 use Rattle.nmgc_minor.proofs.ForwardLaws.{none_copied, fields_copied}
 use Rattle.nmgc_minor.proofs.forwarding.copy_fields.Goals as goal
 

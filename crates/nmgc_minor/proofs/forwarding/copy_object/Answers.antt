@@ -1,4 +1,4 @@
-use Rattle.std.proofs.Common.{◌≡◌, ◌+◌, ℕ, List, slice_index, length, sym, ap, ◌∙◌, arith, subst}
+use Rattle.std.proofs.Common.{◌+◌, ℕ, List, length, ap, arith, subst}
 use Rattle.std.proofs.Math.ListN.{length-set}
 use Rattle.nmgc_object.specs.declared.size.TheConstants.{HEADER_WORDS}
 use Rattle.nmgc_minor.specs.Forwarding.{CopiesFields, forward_word}

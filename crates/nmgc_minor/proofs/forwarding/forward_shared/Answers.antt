@@ -1,5 +1,5 @@
-use Rattle.std.proofs.Common.{◌≡◌, ◌≤◌, ◌<◌, ◌+◌, ℕ, List, subst, arith}
-use Rattle.nmgc_minor.specs.Forwarding.{ForwardsAt, forward_word}
+use Rattle.std.proofs.Common.{arith}
+use Rattle.nmgc_minor.specs.Forwarding.{forward_word}
 use Rattle.nmgc_minor.proofs.ForwardLaws.{none_forwarded, range_forwarded}
 use Rattle.nmgc_minor.proofs.forwarding.forward_shared.Goals as goal
 

@@ -1,11 +1,7 @@
-use Rattle.std.proofs.Common.{◌≡◌, ◌+◌, ◌++◌, ℕ, List, length, refl, sym, ap, subst, ◌∙◌, arith}
-use Rattle.nmgc_alloc.specs.Segments.{Segments}
-use Rattle.nmgc_object.specs.declared.words.Address.{Address}
+use Rattle.std.proofs.Common.{◌+◌, ◌++◌, ℕ, List, length, refl, sym, ap, subst, ◌∙◌, arith}
 use Rattle.nmgc_minor.specs.declared.placing.Move.{Move}
-use Rattle.nmgc_minor.specs.declared.young.Young.{Young}
-use Rattle.nmgc_minor.specs.Inputs.{Inputs}
 use Rattle.nmgc_minor.specs.Start.{inputs_of}
-use Rattle.nmgc_minor.specs.Placing.{CanPlaceEach, IsSharedSlot, PlacesRange}
+use Rattle.nmgc_minor.specs.Placing.{IsSharedSlot, PlacesRange}
 use Rattle.nmgc_minor.specs.Forwarding.{CanCopyAll, CopiesAll, ForwardsAt, forward_word}
 use Rattle.nmgc_minor.specs.Promotes.{Promotes}
 use Rattle.nmgc_minor.proofs.WriteLaws.{address_in, parts_of, leaves, lent_back, ready, ready_small, ready_copy, ready_promotes}

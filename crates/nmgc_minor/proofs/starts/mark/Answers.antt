@@ -1,4 +1,4 @@
-use Rattle.std.proofs.Common.{ℕ, List, ◌≡◌, ◌+◌, ◌<◌, slice_index, length, refl, sym, ap, subst, ◌∙◌, arith}
+use Rattle.std.proofs.Common.{ℕ, List, ◌+◌, slice_index, refl, subst, ◌∙◌}
 use Rattle.std.specs.Prelude.{Contains}
 use Rattle.nmgc_minor.specs.Young.{Notes, Follows}
 use Rattle.nmgc_minor.specs.Start.{inputs_of}

@@ -2,7 +2,7 @@ use Rattle.std.proofs.Common.{ℕ, ◌≡◌, ◌<◌, ◌≤◌, List, ap, subs
 use Rattle.std.proofs.lemmas.List.{get_or_default}
 use Rattle.nmgc_object.specs.declared.words.Address.{Address}
 use Rattle.nmgc_blocks.specs.Strong.{HasStrong}
-use Rattle.nmgc_minor.specs.Young.{CanFollow, Notes}
+use Rattle.nmgc_minor.specs.Young.{Notes}
 use Rattle.nmgc_minor.proofs.NoteLaws.{following_none, can_still, following_more, following_all}
 use Rattle.nmgc_minor.proofs.young.Young.follow.Goals as goal
 

@@ -1,4 +1,4 @@
-use Rattle.std.proofs.Common.{ℕ, List, ap, subst, ◌∙◌, length, arith}
+use Rattle.std.proofs.Common.{ℕ, List, ap, subst, length, arith}
 use Rattle.nmgc_blocks.specs.Strong.{HasStrong}
 use Rattle.nmgc_minor.specs.Young.{Notes, IsAmong}
 use Rattle.nmgc_minor.proofs.NoteLaws.{notes_as, strong_read, strong_has}

@@ -1,4 +1,3 @@
-use Rattle.std.proofs.Common.{ℕ, ◌≡◌, ◌<◌, ◌≤◌, ◌+◌, ◌≢◌, slice_index, subst, sym, arith}
 use Rattle.nmgc_minor.proofs.CheckedLaws.{made_more, next_more, made_skip, next_skip}
 use Rattle.nmgc_minor.proofs.promotion.tests.walk.check_objects.Goals.{then-sizes-k-ne0, else-sizes-k-ne0}
 use Rattle.nmgc_minor.proofs.promotion.tests.walk.check_objects.Goals as goal

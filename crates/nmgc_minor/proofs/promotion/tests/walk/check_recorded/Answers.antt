@@ -1,4 +1,4 @@
-use Rattle.std.proofs.Common.{ℕ, ◌≡◌, ◌<◌, subst, sym, ◌∙◌, arith}
+use Rattle.std.proofs.Common.{ℕ, ◌<◌, subst, sym, arith}
 use Rattle.nmgc_object.specs.declared.words.Address.{Address}
 use Rattle.nmgc_minor.proofs.WriteLaws.{map_from}
 use Rattle.nmgc_minor.proofs.promotion.tests.walk.check_recorded.Goals as goal
