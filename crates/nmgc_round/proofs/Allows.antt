@@ -9,8 +9,8 @@ use Rattle.nmgc_core.specs.declared.event.Entry.{Entry}
 use Rattle.nmgc_round.specs.Marking.{marks_after}
 use Rattle.nmgc_round.specs.Rule.{Keeps}
 use Rattle.nmgc_round.specs.Ready.{CanScan, scanned_by, first_of, Mutates, CanLoad, CanSwap, CanStore, CanBear}
-use Rattle.nmgc_round.specs.Told.{CanFix, CanTake, taken, Tells, TellsField, TellsEntry, TellsScan, IsSafe}
-use Rattle.nmgc_round.proofs.Fixes.{fix_keeps, fix_room, take_keeps, take_safe, load_safe, swap_safe}
+use Rattle.nmgc_round.specs.Told.{CanFix, CanTake, taken, Tells, TellsField, TellsQueue, TellsEntry, TellsScan, IsSafe}
+use Rattle.nmgc_round.proofs.Fixes.{fix_keeps, fix_room, take_keeps, take_safe, queue_safe, load_safe, swap_safe}
 use Rattle.nmgc_round.proofs.Scans.{scan_keeps, scan_tells}
 use Rattle.nmgc_round.proofs.Moves.{load_keeps, swap_keeps, store_keeps, birth_keeps}
 use Rattle.nmgc_round.proofs.Keeping.{acts}
@@ -24,7 +24,7 @@ module _ (o : Opening) where
   abbrev holds : State (Unit {0}) Seen → Type 0
   holds s = Keeps o s.words s.views
 
-  unchanged : (words : List ℕ) (views : List Seen) (i : ℕ) → Keeps o words views → Keeps o (set words i (slice_index words i)) views
+  pub unchanged : (words : List ℕ) (views : List Seen) (i : ℕ) → Keeps o words views → Keeps o (set words i (slice_index words i)) views
   unchanged words views i h = subst (λ (ws : List ℕ). Keeps o ws views) (sym (set_again words i)) h
 
   module _ (slots id : ℕ) (me : Me (Unit {0}) Seen) (bare : me.1 ≡ []) where
@@ -73,7 +73,7 @@ module _ (o : Opening) where
           ((refl, subst (λ (y : Opening). Tells y at offset n) (sym is) (fix_room o s.words s.views h id me.0 here can.0 can.1 at offset can')), bare),
         )
 
-    pub take_allows : (at offset : ℕ) (c : Command) → Mutates (λ o p. CanTake o p at offset c) me.0 → Steps (at + offset) (λ n. n) (λ n w. (w ≡ taken me.0 at offset c n) × TellsField me.0.opening offset n)
+    pub take_allows : (at offset : ℕ) (c : Command) → Mutates (λ o p. CanTake o p at offset c) me.0 → Steps (at + offset) (λ n. n) (λ n w. (w ≡ taken me.0 at offset c n) × TellsField me.0.opening offset n × Mutates TellsQueue me.0)
     take_allows at offset c can s h len here small =
         let n : ℕ = slice_index s.words (at + offset) in
         let is = (h.agrees id me.0 here).opening (acts me.0 can.0 can.1) in
@@ -82,7 +82,7 @@ module _ (o : Opening) where
           keeps,
           tt,
           unchanged s.words (set s.views id (taken me.0 at offset c n)) (at + offset) (take_keeps o s.words s.views h id me.0 here can.0 can.1 at offset c can').1,
-          ((refl, subst (λ (y : Opening). TellsField y offset n) (sym is) (take_safe o s.words s.views h id me.0 here can.0 can.1 at offset c can')), bare),
+          ((refl, subst (λ (y : Opening). TellsField y offset n) (sym is) (take_safe o s.words s.views h id me.0 here can.0 can.1 at offset c can'), (can.0, can.1, subst (λ (y : Opening). TellsQueue y can.0) (sym is) (queue_safe o s.words s.views h id me.0 here can.0 can.1))), bare),
         )
 
     pub scan_allows : (at offset : ℕ) → CanScan me.0 at offset → Steps (at + offset) (λ n. n) (λ n w. (w ≡ scanned_by me.0 n) × TellsScan me.0 n)

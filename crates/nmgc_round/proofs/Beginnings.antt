@@ -1,5 +1,5 @@
 -- The empty heap represents the new world, and opens the first round.
-use Rattle.std.proofs.Common.{◌≡◌, ℕ, zero, suc, ◌+◌, ◌*◌, ◌<◌, ◌≤◌, true, false, List, [], ◌∷◌, length, replicate, get_or, refl, sym, ap, subst, ◌∙◌, arith, slice_index, Some, inl}
+use Rattle.std.proofs.Common.{◌≡◌, ℕ, zero, suc, ◌+◌, ◌*◌, ◌<◌, ◌≤◌, Bool, true, false, cond, eqb, List, [], ◌∷◌, ◌++◌, length, replicate, get_or, refl, sym, ap, subst, ◌∙◌, arith, slice_index, Some, inl}
 use Rattle.std.specs.Prelude.{Contains}
 use Rattle.std.proofs.lemmas.List.{length-replicate}
 use Rattle.std.proofs.lemmas.List.Elements.{All-get_or, All-replicate}
@@ -23,7 +23,8 @@ use Rattle.nmgc_heap.specs.Shape.{slots_of}
 use Rattle.nmgc_heap.specs.Places.{Place, Means, HasSlots, AllMean, ListMeans}
 use Rattle.nmgc_heap.specs.Represents.{IsNamed, IsObject, IsPlaced, Represents, NoNode}
 use Rattle.nmgc_heap.specs.laws.Kinds.{all_item, values_fill}
-use Rattle.nmgc_round.specs.View.{Hand, Opening, no_hand, hand_of}
+use Rattle.nmgc_round.specs.View.{Slots, Hand, Opening, no_hand, hand_of}
+use Rattle.nmgc_round.specs.Own.{old_stacks}
 use Rattle.nmgc_round.specs.Rule.{IsOpening}
 use Rattle.nmgc_round.specs.Starting.{HandStands, CanOpen}
 use Rattle.nmgc_round.specs.Empty.{empty_array, shared_place, IsEmptyHeap, new_hand, first_opening}
@@ -98,6 +99,14 @@ module _ (layout : Layout) (words : List ℕ) (is : IsLayout layout) (h : IsEmpt
     born = λ p node c in_ e. absurd (let same : SHARED_PLACE ≡ p.at = ap (λ (q : Place). q.at) (one_is shared_place p c) in let from = in_.from in omega arith);
   }
 
+  -- g is no stack
+  no_stacks : (m : ℕ) → old_stacks (shared_place ∷ []) W m ≡ []
+  no_stacks m = none (eqb (shared_place.name.maker) m)
+    where
+      none : (b : Bool) → cond {A = List Slots} b [] [] ++ [] ≡ []
+      none true = refl
+      none false = refl
+
   first_hand : (m : ℕ) → m < layout.mutators → HandStands o m (hand_of o.hands m)
   first_hand m lt =
       let mine : hand_of o.hands m ≡ new_hand = all_equal layout.mutators m new_hand no_hand lt in
@@ -106,7 +115,7 @@ module _ (layout : Layout) (words : List ℕ) (is : IsLayout layout) (h : IsEmpt
         registers = subst (λ (k : Hand × MutatorState). ListMeans P k.0.registers k.1.registers) (λ i. (sym mine i, sym state i)) (replicate_means P REGISTERS NIL_WORD value.Nil refl);
         queue = subst (λ (k : Hand × MutatorState). ListMeans P k.0.queue k.1.queue) (λ i. (sym mine i, sym state i)) tt;
         serial = ap (λ (k : Hand). k.serial) mine ∙ sym (ap (λ (s : MutatorState). length s.nodes) state);
-        stacks = ap (λ (k : Hand). k.stacks) mine;
+        stacks = ap (λ (k : Hand). k.stacks) mine ∙ sym (no_stacks m);
       }
 
   pub first_opens : CanOpen o words

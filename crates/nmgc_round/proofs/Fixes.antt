@@ -6,6 +6,7 @@ use Rattle.nmgc_graph.specs.declared.value.Value.{Value}
 use Rattle.nmgc_graph.specs.declared.node.Kind.{Kind}
 use Rattle.nmgc_graph.specs.declared.node.Kind.TheVariants as kind
 use Rattle.nmgc_graph.specs.declared.command.Command.{Command}
+use Rattle.nmgc_graph.specs.World.{state_of}
 use Rattle.nmgc_graph.specs.Step.{shared_name, value_for}
 use Rattle.nmgc_object.specs.Words.{header_word}
 use Rattle.nmgc_object.specs.declared.words.Header.{Header}
@@ -19,10 +20,10 @@ use Rattle.nmgc_round.specs.Rule.{now, IsFixed, Rests, Keeps}
 use Rattle.nmgc_round.specs.Added.{Stays, AddsCommand}
 use Rattle.nmgc_round.specs.Events.{Happening}
 use Rattle.nmgc_round.specs.Ready.{IsMutator, IsReadable, IsWritable, CanLoad, CanSwap, Names}
-use Rattle.nmgc_round.specs.Told.{TellsHeader, TellsName, CanFix, CanTake, taken, told, told_by, Tells, TellsField, IsSafe}
+use Rattle.nmgc_round.specs.Told.{TellsHeader, TellsName, CanFix, CanTake, taken, told, told_by, Tells, TellsField, TellsQueue, IsSafe}
 use Rattle.nmgc_round.proofs.Standing.{placed}
 use Rattle.nmgc_heap.specs.laws.Headers.{same_header}
-use Rattle.nmgc_round.proofs.Lists.{pointer_means}
+use Rattle.nmgc_round.proofs.Lists.{pointer_means, word_means}
 use Rattle.nmgc_round.proofs.Nurseries.{lies_within}
 use Rattle.nmgc_round.proofs.Moves.{operand_is, meant, fixed_keeps, load_keeps}
 use Rattle.nmgc_round.proofs.Commands.{read}
@@ -107,6 +108,13 @@ module _ (o : Opening) (words : List ℕ) (views : List Seen) (h : Keeps o words
       let y : Object = record { at = at; name = q.0; node = q.2.0 } in
       let l = lies_within o.layout (place_of y) (size_of y.node) (omega arith) (h.stands.apart y q.2.1).lies in
       omega arith
+
+  -- and so do the finalisers that wait
+  pub queue_safe : TellsQueue o p
+  queue_safe i w e =
+      let fits = ((h.agrees id v here).parts 0 p (ap (λ l. get_elem? l 0) is.alone)).1 in
+      let m = word_means (IsIn o h.born) (hand_now o p).queue (state_of (now o h.events).world p.number).queue i w fits.hand.queue e in
+      safe_word w m.0 m.1
 
   -- the word that a load of a field finds
   pub load_safe : (at index : ℕ) (c : Command) → CanLoad o p at index c → IsSafe o (slice_index words (at + HEADER_WORDS + index))

@@ -23,10 +23,13 @@ use Rattle.nmgc_core.specs.laws.Listed.{names_same, names_other}
 use Rattle.nmgc_heap.specs.Places.{Place, ListMeans}
 use Rattle.nmgc_round.specs.Events.{Happening, did, scanned, after, IsLegal, done_by, scans_in}
 use Rattle.nmgc_round.specs.View.{Answer, Slots, Hand, FixedWord, UnbornWord, Opening, Part, Scan, Seen, hand_of, hand_now, leaves, doing, scanning}
+use Rattle.nmgc_round.specs.Own.{OwnSlots}
 use Rattle.nmgc_round.specs.Objects.{Object, IsLater, IsObject, IsIn, Stands}
 use Rattle.nmgc_round.proofs.Standing.{later_of}
+use Rattle.nmgc_round.proofs.Owners.{stack_of}
+use Rattle.nmgc_heap.specs.Shape.{header_of}
 use Rattle.nmgc_round.specs.Marking.{Marks, marks_of, after_word, folded}
-use Rattle.nmgc_round.specs.Rule.{now, Answers, AllRead, Owes, IsStack, IsHand, Fits, Rests, IsActive, Agrees, IsNew, AreKnown, IsQueued, IsRead, Keeps}
+use Rattle.nmgc_round.specs.Rule.{now, Answers, AllRead, Owes, IsHand, Fits, Rests, IsActive, Agrees, IsNew, AreKnown, IsQueued, IsRead, Keeps}
 use Rattle.nmgc_round.specs.Added.{Stays, AddsCommand, AddsScan}
 use Rattle.nmgc_round.specs.Ready.{IsMutator}
 use Rattle.nmgc_round.proofs.Lists.{answer_push, read_push, leave_more, answers_more, reads_more, owed_more}
@@ -52,39 +55,12 @@ module _ (o : Opening) (born more : List Object) (grow : (x : Object) → IsObje
   owes_more true ws ns h = owed_more (IsIn o born) (IsIn o more) grown ws ns h
   owes_more false ws ns h = h
 
-  pub stack_more : (w v : World) (m : ℕ) (s : Slots) → ((name : Name) (size : ℕ) (values : List Value) → name.maker ≡ m → node_of w name ≡ Some (Stack size values) → node_of v name ≡ Some (Stack size values)) → IsStack o born w m s → IsStack o more v m s
-  stack_more w v m s stays h = record {
-    object = h.object;
-    here = grow h.object h.here;
-    at = h.at;
-    own = h.own;
-    size = h.size;
-    values = h.values;
-    there = stays h.object.name h.size h.values h.own h.there;
-    means = list_more (IsIn o born) (IsIn o more) grown s.words h.values h.means;
-  }
-
-  -- a part whose mutator did nothing
-  pub fits_same : (s : State) (done : List (Command × Reply)) (q : Part) → Fits o born s done q → Fits o more s done q
-  fits_same s done q f = record {
-    exists = f.exists;
-    owing = f.owing;
-    rows = answers_more (IsIn o born) (IsIn o more) grown q.rows done f.rows;
-    hand = record {
-      registers = list_more (IsIn o born) (IsIn o more) grown _ _ f.hand.registers;
-      queue = list_more (IsIn o born) (IsIn o more) grown _ _ f.hand.queue;
-      serial = f.hand.serial;
-      stacks = λ t h. stack_more s.world s.world q.number t (λ name size values e there. there) (f.hand.stacks t h);
-    };
-    found = owes_more true q.found _ f.found;
-    owed = owes_more o.marking q.owed _ f.owed;
-  }
-
   -- a part that is another mutator's
   pub fits_other : (s : State) (done : List (Command × Reply)) (m : ℕ) (c : Command) (q : Part) → m < length s.world.mutators → q.number ≢ m
       → ((name : Name) (size : ℕ) (values : List Value) → name.maker ≢ m → node_of s.world name ≡ Some (Stack size values) → node_of (step s.world m c).0 name ≡ Some (Stack size values))
+      → OwnSlots o more (step s.world m c).0 q.number (hand_now o q)
       → Fits o born s done q → Fits o more (after_command s m c) done q
-  fits_other s done m c q lt ne stacks f =
+  fits_other s done m c q lt ne stacks own f =
       let same = step_other m q.number ne s.world c lt in
       let count = (step_grows s.world m c lt).mutators in record {
         exists = subst (λ n. q.number < n) (sym count) f.exists;
@@ -94,10 +70,10 @@ module _ (o : Opening) (born more : List Object) (grow : (x : Object) → IsObje
           registers = subst (λ l. ListMeans (IsIn o more) (hand_now o q).registers l) (sym same.registers) (list_more (IsIn o born) (IsIn o more) grown _ _ f.hand.registers);
           queue = subst (λ l. ListMeans (IsIn o more) (hand_now o q).queue l) (sym same.queue) (list_more (IsIn o born) (IsIn o more) grown _ _ f.hand.queue);
           serial = f.hand.serial ∙ sym same.serial;
-          stacks = λ t h. stack_more s.world (step s.world m c).0 q.number t (λ name size values e there. stacks name size values (λ k. ne (sym e ∙ k)) there) (f.hand.stacks t h);
         };
         found = subst (λ ns. Owes true (IsIn o more) q.found ns) (sym (names_other s.owed m q.number (names_of s.owed m ++ owed_by s.world m c) ne)) (owes_more true q.found _ f.found);
         owed = subst (λ ns. Owes o.marking (IsIn o more) q.owed ns) (sym (names_other s.owed m q.number (names_of s.owed m ++ owed_by s.world m c) ne)) (owes_more o.marking q.owed _ f.owed);
+        own = own;
       }
 
   -- the part of the mutator that did the command
@@ -105,8 +81,9 @@ module _ (o : Opening) (born more : List Object) (grow : (x : Object) → IsObje
       → Answers (IsIn o more) a r → IsHand o more (step s.world p.number c).0 p.number (leaves (hand_now o p) c a)
       → Owes o.marking (IsIn o more) (p.owed ++ owed) (names_of s.owed p.number ++ owed_by s.world p.number c)
       → Owes true (IsIn o more) found (names_of s.owed p.number ++ owed_by s.world p.number c)
+      → OwnSlots o more (step s.world p.number c).0 p.number (leaves (hand_now o p) c a)
       → Fits o born s done p → Fits o more (after_command s p.number c) (done ++ (c, r) ∷ []) (doing (record p { used = used; unborn = unborn; fixed = fixed; found = found }) c a owed)
-  fits_mine s done p used unborn fixed found c r a owed says hand owes finds f =
+  fits_mine s done p used unborn fixed found c r a owed says hand owes finds own f =
       let count = (step_grows s.world p.number c f.exists).mutators in record {
         exists = subst (λ n. p.number < n) (sym count) f.exists;
         owing = subst (λ n. p.number < n) (sym (length-set s.owed p.number (names_of s.owed p.number ++ owed_by s.world p.number c))) f.owing;
@@ -114,6 +91,7 @@ module _ (o : Opening) (born more : List Object) (grow : (x : Object) → IsObje
         hand = subst (λ (h : Hand). IsHand o more (step s.world p.number c).0 p.number h) (sym (leave_more (hand_of o.hands p.number) p.rows (record { command = c; answer = a }))) hand;
         found = subst (λ ns. Owes true (IsIn o more) found ns) (sym (names_same s.owed p.number (names_of s.owed p.number ++ owed_by s.world p.number c) f.owing)) finds;
         owed = subst (λ ns. Owes o.marking (IsIn o more) (p.owed ++ owed) ns) (sym (names_same s.owed p.number (names_of s.owed p.number ++ owed_by s.world p.number c) f.owing)) owes;
+        own = subst (λ (h : Hand). OwnSlots o more (step s.world p.number c).0 p.number h) (sym (leave_more (hand_of o.hands p.number) p.rows (record { command = c; answer = a }))) own;
       }
 
 folded_more : (o : Opening) (m : Marks) (ss : List Scan) (s : Scan) → folded o m (ss ++ s ∷ []) ≡ after_word o (folded o m ss) s
@@ -168,12 +146,34 @@ module _ (o : Opening) (words : List ℕ) (views : List Seen) (h : Keeps o words
 
   -- what the seats of others know of a command
   module _ (m : ℕ) (c : Command) (r : Reply) (lt : m < length (now o h.events).world.mutators) (more : List Object) (grow : (x : Object) → IsObject o h.born x → IsObject o more x)
-      (stacks : (name : Name) (size : ℕ) (values : List Value) → name.maker ≢ m → node_of (now o h.events).world name ≡ Some (Stack size values) → node_of (step (now o h.events).world m c).0 name ≡ Some (Stack size values)) where
+      (stacks : (name : Name) (size : ℕ) (values : List Value) → name.maker ≢ m → node_of (now o h.events).world name ≡ Some (Stack size values) → node_of (step (now o h.events).world m c).0 name ≡ Some (Stack size values))
+      (only : (x : Object) → Contains more x → Contains h.born x ⊎ (x.name.maker ≡ m)) (new : List ℕ) (st : Stands o more (step (now o h.events).world m c).0 new) where
+    -- an object that isn't this mutator's was there before
+    there_before : (x : Object) → x.name.maker ≢ m → IsObject o more x → IsObject o h.born x
+    there_before x ne (inl old) = inl old
+    there_before x ne (inr b) = elim (only x b) [ inl c ↦ inr c | inr mine ↦ absurd (ne mine) ]
+
+    -- the own stacks of another are as they were
+    other_own : (q : Part) → q.number ≢ m → OwnSlots o h.born (now o h.events).world q.number (hand_now o q) → OwnSlots o more (step (now o h.events).world m c).0 q.number (hand_now o q)
+    other_own q ne own x size values hx mine e =
+        let apart : x.name.maker ≢ m = λ same. ne (sym mine ∙ same) in
+        let hx' = there_before x apart hx in
+        let before = h.stands.objects x hx' in
+        let after_ = st.objects x hx in
+        let is : Some after_.node ≡ Some (Stack size values) = sym after_.there ∙ e in
+        let is_stack : after_.node ≡ Stack size values = cc in
+        let t = stack_of before.node size values (before.later.header ∙ sym after_.later.header ∙ ap header_of is_stack) in
+        let was : node_of (now o h.events).world x.name ≡ Some (Stack size t.0) = before.there ∙ ap (λ (n : Node). Some n) t.1 in
+        let still : Some (Stack size t.0) ≡ Some (Stack size values) = sym (stacks x.name size t.0 apart was) ∙ e in
+        let same : t.0 ≡ values = cc in
+        let r = own x size t.0 hx' mine was in
+        (r.0, r.1, list_more (IsIn o h.born) (IsIn o more) (grown o h.born more grow) r.0 values (subst (λ l. ListMeans (IsIn o h.born) r.0 l) same r.2))
+
     other_fits : (q : Part) → q.number ≢ m → Fits o h.born (now o h.events) (done_by q.number h.events) q → Fits o more (now o (h.events ++ did m c r ∷ [])) (done_by q.number (h.events ++ did m c r ∷ [])) q
     other_fits q ne f =
         subst (λ (s : State). Fits o more s (done_by q.number (h.events ++ did m c r ∷ [])) q) (sym (now_more (did m c r)))
         (subst (λ d. Fits o more (after_command (now o h.events) m c) d q) (sym (done_other q.number m h.events c r (λ e. ne (sym e))))
-        (fits_other o h.born more grow (now o h.events) (done_by q.number h.events) m c q lt ne stacks f))
+        (fits_other o h.born more grow (now o h.events) (done_by q.number h.events) m c q lt ne stacks (other_own q ne f.own) f))
 
   -- a command more: every step with a place in the order is an instance
   pub command_law : (new : List ℕ) (more : List Object) (p : Part) (used : ℕ) (unborn : List UnbornWord) (fixed : List FixedWord) (found : List ℕ) (c : Command) (r : Reply) (a : Answer) (owed : List ℕ)
@@ -188,15 +188,17 @@ module _ (o : Opening) (words : List ℕ) (views : List Seen) (h : Keeps o words
       → Stands o more (step (now o h.events).world p.number c).0 new
       → Rests o more new (doing (record p { used = used; unborn = unborn; fixed = fixed; found = found }) c a owed)
       → ((q : Part) → q.number ≢ p.number → Rests o h.born words q → Rests o more new q)
+      → ((x : Object) → Contains more x → Contains h.born x ⊎ (x.name.maker ≡ p.number))
+      → OwnSlots o more (step (now o h.events).world p.number c).0 p.number (leaves (hand_now o p) c a)
       → AddsCommand o words views h p.number c new (set views id (record v { parts = doing (record p { used = used; unborn = unborn; fixed = fixed; found = found }) c a owed ∷ [] }))
-  command_law new more p used unborn fixed found c r a owed is grow news can says hand owes finds stacks names st rests rest =
+  command_law new more p used unborn fixed found c r a owed is grow news can says hand owes finds stacks names st rests rest only own =
       let m : ℕ = p.number in
       let e : Happening = did m c r in
       let s : State = now o h.events in
       let g = h.agrees id v here in
       let mine = g.parts 0 p (ap (λ l. get_elem? l 0) is.alone) in
       let p' : Part = doing (record p { used = used; unborn = unborn; fixed = fixed; found = found }) c a owed in
-      let fits : Fits o more (now o (h.events ++ e ∷ [])) (done_by m (h.events ++ e ∷ [])) p' = subst (λ (t : State). Fits o more t (done_by m (h.events ++ e ∷ [])) p') (sym (now_more e)) (subst (λ d. Fits o more (after_command s m c) d p') (sym (done_more m h.events c r)) (fits_mine o h.born more grow s (done_by m h.events) p used unborn fixed found c r a owed says hand owes finds mine.1)) in
+      let fits : Fits o more (now o (h.events ++ e ∷ [])) (done_by m (h.events ++ e ∷ [])) p' = subst (λ (t : State). Fits o more t (done_by m (h.events ++ e ∷ [])) p') (sym (now_more e)) (subst (λ d. Fits o more (after_command s m c) d p') (sym (done_more m h.events c r)) (fits_mine o h.born more grow s (done_by m h.events) p used unborn fixed found c r a owed says hand owes finds own mine.1)) in
       let n = change new (h.events ++ e ∷ []) more (record v { parts = p' ∷ [] }) grow news (legal_more o.core h.events e h.legal (can, tt))
       (subst (λ (t : State). Stands o more t.world new) (sym (now_more e)) st)
       (subst (λ (t : State). AreKnown o more t.world) (sym (now_more e)) (known_more more grow (step s.world m c).0 names))
@@ -213,7 +215,7 @@ module _ (o : Opening) (words : List ℕ) (views : List Seen) (h : Keeps o words
         parts = λ k q at'.
             let t = f.parts k q at' in
             let apart : q.number ≢ m = λ same. ne (sym t.0 ∙ ap h.owner same ∙ mine.0) in
-            (t.0, other_fits m c r mine.1.exists more grow stacks q apart t.1, rest q apart t.2);
+            (t.0, other_fits m c r mine.1.exists more grow stacks only new st q apart t.1, rest q apart t.2);
         scans = λ yes. let t = f.scans yes in (t.0, subst (λ l. AllRead (IsIn o more) u.scans l) (sym (scans_same h.events m c r)) (reads_more (IsIn o h.born) (IsIn o more) (grown o h.born more grow) u.scans (scans_in h.events) t.1), ap (λ (s : State). marks_of s) (now_more e) ∙ t.2);
       }) in
       (r, n.0, n.1)
@@ -227,7 +229,7 @@ module _ (o : Opening) (words : List ℕ) (views : List Seen) (h : Keeps o words
       let mine = g.parts 0 p (ap (λ l. get_elem? l 0) is.alone) in
       let p' : Part = record p { used = used; unborn = unborn; fixed = fixed } in
       let f = mine.1 in
-      let fits : Fits o h.born (now o h.events) (done_by p.number h.events) p' = record { exists = f.exists; owing = f.owing; rows = f.rows; hand = f.hand; found = f.found; owed = f.owed } in
+      let fits : Fits o h.born (now o h.events) (done_by p.number h.events) p' = record { exists = f.exists; owing = f.owing; rows = f.rows; hand = f.hand; found = f.found; owed = f.owed; own = f.own } in
       change new h.events h.born (record v { parts = p' ∷ [] }) (λ x y. y) h.new h.legal st h.known h.queued
       (record {
         shares = g.shares;
@@ -257,6 +259,7 @@ module _ (o : Opening) (words : List ℕ) (views : List Seen) (h : Keeps o words
     hand = subst (λ (w : World). IsHand o h.born w q.number (hand_now o q)) (sym world) f.hand;
     found = subst (λ (l : List (List Name)). Owes true (IsIn o h.born) q.found (names_of l q.number)) (sym owed) f.found;
     owed = subst (λ (l : List (List Name)). Owes o.marking (IsIn o h.born) q.owed (names_of l q.number)) (sym owed) f.owed;
+    own = subst (λ (w : World). OwnSlots o h.born w q.number (hand_now o q)) (sym world) f.own;
   }
 
   -- a scan more

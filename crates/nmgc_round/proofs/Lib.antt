@@ -3,6 +3,7 @@ pub mod Beginnings
 pub mod Births
 pub mod Commands
 pub mod Cuts
+pub mod Exchanges
 pub mod Fields
 pub mod Filling
 pub mod Finishings
@@ -11,6 +12,7 @@ pub mod Frames
 pub mod Gathering
 pub mod Histories
 pub mod Keeping
+pub mod Lifts
 pub mod Lists
 pub mod Logs
 pub mod Makers
@@ -18,10 +20,18 @@ pub mod Modes
 pub mod Moves
 pub mod Namings
 pub mod Nurseries
+pub mod Olds
 pub mod Openings
+pub mod Owings
+pub mod Owners
 pub mod Parts
+pub mod Pushes
 pub mod Refusals
 pub mod Runs
 pub mod Samples
 pub mod Scans
+pub mod Slotting
 pub mod Standing
+pub mod Thunks
+pub mod Weakens
+pub mod Writes

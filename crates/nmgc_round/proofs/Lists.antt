@@ -1,5 +1,6 @@
 -- Lists of words and what they mean, one more at the end or one that changes.
 use Rattle.std.proofs.Common.{◌≡◌, ℕ, zero, suc, ◌*◌, ◌≤◌, List, [], ◌∷◌, ◌++◌, get_or, set, refl, ap, subst, ◌∙◌, arith, Option, Some, None}
+use Rattle.std.specs.Prelude.{slice_get}
 use Rattle.nmgc_graph.specs.declared.value.Name.{Name}
 use Rattle.nmgc_graph.specs.declared.value.Value.{Value}
 use Rattle.nmgc_graph.specs.declared.value.Value.TheVariants as value
@@ -25,6 +26,13 @@ module _ (P : Place → Type 0) where
   means_at (w ∷ ws) [] r h = absurd h
   means_at (w ∷ ws) (v ∷ vs) zero h = h.0
   means_at (w ∷ ws) (v ∷ vs) (suc r) h = means_at ws vs r h.1
+
+  -- each of the words stands for some value
+  pub word_means : (ws : List ℕ) (vs : List Value) (i w : ℕ) → ListMeans P ws vs → slice_get ws i ≡ Some w → (v : Value) × Means P w v
+  word_means [] vs i w h e = absurd cc
+  word_means (x ∷ ws) [] i w h e = absurd h
+  word_means (x ∷ ws) (v ∷ vs) zero w h e = let same : x ≡ w = cc in (v, subst (λ k. Means P k v) same h.0)
+  word_means (x ∷ ws) (v ∷ vs) (suc i) w h e = word_means ws vs i w h.1 e
 
   -- an operand's word means the operand's value
   pub operand_means : (ws : List ℕ) (vs : List Value) (operand : Operand) → P (record { at = SHARED_PLACE; name = shared_name }) → ListMeans P ws vs → Means P (word_of ws operand) (value_of vs operand)

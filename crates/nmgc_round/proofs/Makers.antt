@@ -1,5 +1,5 @@
 -- A command that makes an object, in the world and in words.
-use Rattle.std.proofs.Common.{◌≡◌, ◌⊎◌, inl, inr, ℕ, zero, suc, ◌+◌, ◌*◌, ◌/◌, ◌≤◌, List, [], ◌∷◌, map, replicate, set, refl, sym, ap, subst, ◌∙◌, arith, slice_index, Some, None}
+use Rattle.std.proofs.Common.{◌≡◌, ◌≢◌, Bool, cond, eq-eqb, ne_eqb, ◌⊎◌, inl, inr, ℕ, zero, suc, ◌+◌, ◌*◌, ◌/◌, ◌≤◌, List, [], ◌∷◌, map, replicate, set, refl, sym, ap, subst, ◌∙◌, arith, slice_index, Some, None}
 use Rattle.std.specs.Prelude.{slice_get, Contains}
 use Rattle.std.proofs.lemmas.List.{length-map, length-replicate}
 use Rattle.nmgc_graph.specs.declared.value.Value.{Value}
@@ -19,6 +19,7 @@ use Rattle.nmgc_reach.specs.Owed.{owed_by}
 use Rattle.nmgc_heap.specs.Shape.{header_of, size_of, slots_of}
 use Rattle.nmgc_heap.specs.Places.{Place, Means, HasSlots, AllMean, ListMeans}
 use Rattle.nmgc_heap.specs.laws.Kinds.{item_all, values_fill, slots_of_fields}
+use Rattle.nmgc_round.specs.Own.{slots_at}
 use Rattle.nmgc_round.specs.View.{word, Slots, Hand, word_of, leaves}
 use Rattle.nmgc_round.specs.Making.{header_made, fields_made}
 use Rattle.nmgc_round.proofs.Lists.{operand_means}
@@ -59,7 +60,8 @@ pub record IsBearing (h next : Hand) (dest at : ℕ) (made : Node) : Type 0 wher
   pub registers : next.registers ≡ set h.registers dest (2 * at)
   pub queue : next.queue ≡ h.queue
   pub serial : next.serial ≡ h.serial + 1
-  pub stacks : (s : Slots) → Contains next.stacks s → Contains h.stacks s ⊎ ((s.at ≡ at) × (s.words ≡ []) × ((size : ℕ) × (made ≡ node.Stack size [])))
+  pub others : (y : ℕ) → y ≢ at → slots_at next.stacks y ≡ slots_at h.stacks y
+  pub first : (size : ℕ) (values : List Value) → made ≡ node.Stack size values → (values ≡ []) × (slots_at next.stacks at ≡ Some [])
 
 -- the node that a command makes
 pub record IsMaker (P : Place → Type 0) (regs : List ℕ) (w : World) (m : ℕ) (c : Command) : Type 0 where
@@ -91,8 +93,8 @@ pub replicate_means : (P : Place → Type 0) (n w : ℕ) (v : Value) → Means P
 replicate_means P zero w v m = tt
 replicate_means P (suc n) w v m = (m, replicate_means P n w v m)
 
-bearing_plain : (h : Hand) (dest at : ℕ) (made : Node) → IsBearing h (record h { serial = h.serial + 1; registers = set h.registers dest (2 * at) }) dest at made
-bearing_plain h dest at made = record { registers = refl; queue = refl; serial = refl; stacks = λ s c. inl c }
+bearing_plain : (h : Hand) (dest at : ℕ) (made : Node) → ((size : ℕ) (values : List Value) → made ≡ node.Stack size values → ⊥) → IsBearing h (record h { serial = h.serial + 1; registers = set h.registers dest (2 * at) }) dest at made
+bearing_plain h dest at made none = record { registers = refl; queue = refl; serial = refl; others = λ y ne. refl; first = λ size values e. absurd (none size values e) }
 
 module _ (P : Place → Type 0) (ws : List ℕ) (w : World) (m : ℕ) (g : P (record { at = SHARED_PLACE; name = shared_name })) (k : ListMeans P ws (state_of w m).registers) where
   abbrev vs : List Value
@@ -114,7 +116,7 @@ module _ (P : Place → Type 0) (ws : List ℕ) (w : World) (m : ℕ) (g : P (re
     sized = tt;
     owes = refl;
     fields = λ words from s. values_fill P words from (map (value_of vs) fields) (all_from P words from (map (word_of ws) fields) (map (value_of vs) fields) (operands_mean P ws vs fields g k) s);
-    hand = λ h at. bearing_plain h dest at _;
+    hand = λ h at. bearing_plain h dest at _ (λ n values e. cc);
   }
   maker (Var dest v) is = record {
     dest = dest;
@@ -125,7 +127,7 @@ module _ (P : Place → Type 0) (ws : List ℕ) (w : World) (m : ℕ) (g : P (re
     sized = tt;
     owes = refl;
     fields = λ words from s. slots_of_fields P words from (node.Var (value_of vs v)) (subst (λ n. Means P n (value_of vs v)) (sym (at_first words from [] (word_of ws v) s)) (operand_means P ws vs v g k));
-    hand = λ h at. bearing_plain h dest at _;
+    hand = λ h at. bearing_plain h dest at _ (λ n values e. cc);
   }
   maker (Arr dest count v) is = record {
     dest = dest;
@@ -136,7 +138,7 @@ module _ (P : Place → Type 0) (ws : List ℕ) (w : World) (m : ℕ) (g : P (re
     sized = tt;
     owes = refl;
     fields = λ words from s. values_fill P words from (replicate count (value_of vs v)) (all_from P words from (replicate count (word_of ws v)) (replicate count (value_of vs v)) (replicate_means P count (word_of ws v) (value_of vs v) (operand_means P ws vs v g k)) s);
-    hand = λ h at. bearing_plain h dest at _;
+    hand = λ h at. bearing_plain h dest at _ (λ n values e. cc);
   }
   maker (Thunk dest free) is = record {
     dest = dest;
@@ -147,7 +149,7 @@ module _ (P : Place → Type 0) (ws : List ℕ) (w : World) (m : ℕ) (g : P (re
     sized = tt;
     owes = refl;
     fields = λ words from s. slots_of_fields P words from (node.Thunk (map (value_of vs) free) None) (at_first words from (map (word_of ws) free) 0 s, all_from P words (from + 1) (map (word_of ws) free) (map (value_of vs) free) (operands_mean P ws vs free g k) (later words from (map (word_of ws) free) 0 s));
-    hand = λ h at. bearing_plain h dest at _;
+    hand = λ h at. bearing_plain h dest at _ (λ n values e. cc);
   }
   maker (Weak dest key v finaliser) is = record {
     dest = dest;
@@ -162,7 +164,7 @@ module _ (P : Place → Type 0) (ws : List ℕ) (w : World) (m : ℕ) (g : P (re
       subst (λ n. Means P n (value_of vs v)) (sym (s 1 (word_of ws v) refl)) (operand_means P ws vs v g k),
       subst (λ n. Means P n (value_of vs finaliser)) (sym (s 2 (word_of ws finaliser) refl)) (operand_means P ws vs finaliser g k),
     );
-    hand = λ h at. bearing_plain h dest at _;
+    hand = λ h at. bearing_plain h dest at _ (λ n values e. cc);
   }
   maker (Stack dest size) is = record {
     dest = dest;
@@ -177,10 +179,8 @@ module _ (P : Place → Type 0) (ws : List ℕ) (w : World) (m : ℕ) (g : P (re
       registers = refl;
       queue = refl;
       serial = refl;
-      stacks = λ t c. elim (contains_cases (record { at = 2 * at / 2; words = [] }) h.stacks t c) [
-        | inl e ↦ let half : 2 * at / 2 ≡ at = omega arith in inr (sym (ap (λ (x : Slots). x.at) e) ∙ half, sym (ap (λ (x : Slots). x.words) e), (size, refl))
-        | inr d ↦ inl d
-      ];
+      others = λ y ne. let half : 2 * at / 2 ≡ at = omega arith in ap (λ (b : Bool). cond b (Some []) (slots_at h.stacks y)) (ne_eqb (2 * at / 2) y (λ e. ne (sym e ∙ half)));
+      first = λ n values e. let half : 2 * at / 2 ≡ at = omega arith in ((let none : [] ≡ values = cc in sym none), ap (λ (b : Bool). cond b (Some []) (slots_at h.stacks at)) (eq-eqb (2 * at / 2) at half));
     };
   }
   maker (Num dest number) is = absurd is

@@ -12,7 +12,7 @@ use Rattle.nmgc_round.specs.Rule.{IsActive, IsIdle, Keeps, Stopped, Holding}
 use Rattle.nmgc_round.specs.Starting.{CanOpen}
 use Rattle.nmgc_round.specs.Finishing.{HasAll, Ended}
 use Rattle.nmgc_round.specs.Ready.{CanScan, scanned_by, Mutates, CanLoad, CanSwap, CanStore, CanBear}
-use Rattle.nmgc_round.specs.Told.{CanFix, CanTake, taken, Tells, TellsField, TellsScan, IsSafe}
+use Rattle.nmgc_round.specs.Told.{CanFix, CanTake, taken, Tells, TellsField, TellsQueue, TellsScan, IsSafe}
 use Rattle.nmgc_round.proofs.Allows as allows
 use Rattle.nmgc_round.proofs.Allows.{set_again}
 use Rattle.nmgc_round.proofs.Keeping.{acts}
@@ -75,7 +75,7 @@ module _ (slots id : ℕ) (me : Me (Unit {0}) Seen) (bare : me.1 ≡ []) where
   InRound o i f then = Allows (λ s. Keeps o s.words s.views) slots id me i f (λ n m. then n m.0 × (m.1 ≡ []))
 
   -- a step of a round, whatever its opening is
-  within : (i : ℕ) (f : ℕ → ℕ) (then : ℕ → Seen → Type 0) → IsActive me.0 → ((o : Opening) → InRound o i f then) → Steps i f then
+  pub within : (i : ℕ) (f : ℕ → ℕ) (then : ℕ → Seen → Type 0) → IsActive me.0 → ((o : Opening) → InRound o i f then) → Steps i f then
   within i f then a step s h len here small =
       let r = in_round s.words s.views h id me.0 here a in
       let t = step r.0 s r.1 len here small in
@@ -96,8 +96,8 @@ module _ (slots id : ℕ) (me : Me (Unit {0}) Seen) (bare : me.1 ≡ []) where
   pub fix_allows : (at offset : ℕ) → Mutates (λ o p. CanFix o p at offset) me.0 → Steps (at + offset) (λ n. n) (λ n w. (w ≡ loaded me.0 at offset n) × Tells me.0.opening at offset n)
   fix_allows at offset can = within (at + offset) (λ n. n) (λ n w. (w ≡ loaded me.0 at offset n) × Tells me.0.opening at offset n) (acts me.0 can.0 can.1) (λ o. allows.fix_allows o slots id me bare at offset can)
 
-  pub take_allows : (at offset : ℕ) (c : Command) → Mutates (λ o p. CanTake o p at offset c) me.0 → Steps (at + offset) (λ n. n) (λ n w. (w ≡ taken me.0 at offset c n) × TellsField me.0.opening offset n)
-  take_allows at offset c can = within (at + offset) (λ n. n) (λ n w. (w ≡ taken me.0 at offset c n) × TellsField me.0.opening offset n) (acts me.0 can.0 can.1) (λ o. allows.take_allows o slots id me bare at offset c can)
+  pub take_allows : (at offset : ℕ) (c : Command) → Mutates (λ o p. CanTake o p at offset c) me.0 → Steps (at + offset) (λ n. n) (λ n w. (w ≡ taken me.0 at offset c n) × TellsField me.0.opening offset n × Mutates TellsQueue me.0)
+  take_allows at offset c can = within (at + offset) (λ n. n) (λ n w. (w ≡ taken me.0 at offset c n) × TellsField me.0.opening offset n × Mutates TellsQueue me.0) (acts me.0 can.0 can.1) (λ o. allows.take_allows o slots id me bare at offset c can)
 
   pub scan_allows : (at offset : ℕ) → CanScan me.0 at offset → Steps (at + offset) (λ n. n) (λ n w. (w ≡ scanned_by me.0 n) × TellsScan me.0 n)
   scan_allows at offset can = within (at + offset) (λ n. n) (λ n w. (w ≡ scanned_by me.0 n) × TellsScan me.0 n) (inr can.collects) (λ o. allows.scan_allows o slots id me bare at offset can)

@@ -35,6 +35,7 @@ use Rattle.nmgc_round.specs.Events.{done_by}
 use Rattle.nmgc_graph.specs.declared.mutator_state.MutatorState.{MutatorState}
 use Rattle.nmgc_graph.specs.laws.Orders.{contains_cases}
 use Rattle.nmgc_round.specs.View.{FixedWord, loaded, holding, bearing_object, gave_birth, next_of, Answer, plain, word, Hand, Opening, Part, Seen, hand_now, leaves, doing, finding, knowing, storing, first_changed, owed_word, answered, swapped, stored}
+use Rattle.nmgc_round.specs.Own.{OwnSlots}
 use Rattle.nmgc_round.specs.Objects.{Object, place_of, end_of, IsLater, IsObject, IsIn, Stands, IsFree}
 use Rattle.nmgc_round.specs.Rule.{now, Answers, Owes, IsHand, IsFixed, Fits, Rests, IsNew, Keeps, limit_of}
 use Rattle.nmgc_round.specs.Added.{Stays, AddsCommand}
@@ -42,17 +43,18 @@ use Rattle.nmgc_round.specs.Ready.{IsMutator, CanGive, operand_word, Names, IsWr
 use Rattle.nmgc_round.proofs.Fields.{list_more}
 use Rattle.nmgc_round.proofs.Lists.{operand_means, pointer_means, list_set, owed_append}
 use Rattle.nmgc_round.proofs.Standing.{same_node, stands_field, stands_nodes}
+use Rattle.nmgc_round.proofs.Owners.{stack_of, own_kept, own_born}
 use Rattle.nmgc_round.proofs.Births.{stands_free, stands_born, more_objects}
 use Rattle.nmgc_round.proofs.Nurseries.{lies_within, rest_free, rests_field, rests_store, rests_stored, rests_born, rests_birth}
 use Rattle.nmgc_round.proofs.Frames.{IsSameState, node_frame}
 use Rattle.nmgc_heap.specs.laws.Headers.{same_header}
-use Rattle.nmgc_round.proofs.Keeping.{acts, grown, owes_more, stack_more, command_law, store_law}
+use Rattle.nmgc_round.proofs.Keeping.{acts, grown, owes_more, command_law, store_law}
 use Rattle.nmgc_round.proofs.Runs.{still_open, serials_grow}
 use Rattle.nmgc_round.proofs.Makers.{made_header, maker}
 use Rattle.nmgc_round.proofs.Commands.{step_set, owes_set, step_get, written, read}
 
 -- fields that are written may change
-may_change : (k : Kind) (i : ℕ) → IsWritable k → MayChange k i
+pub may_change : (k : Kind) (i : ℕ) → IsWritable k → MayChange k i
 may_change kind.Con i w = absurd w
 may_change kind.Var i w = tt
 may_change kind.Arr i w = tt
@@ -74,7 +76,7 @@ module _ (o : Opening) (words : List ℕ) (views : List Seen) (h : Keeps o words
   abbrev P : Place → Type 0
   P = IsIn o h.born
 
-  same_opening : v.opening ≡ o
+  pub same_opening : v.opening ≡ o
   same_opening = (h.agrees id v here).opening (acts v p is)
 
   fits : Fits o h.born S (done_by p.number h.events) p
@@ -110,30 +112,29 @@ module _ (o : Opening) (words : List ℕ) (views : List Seen) (h : Keeps o words
         head = same_header (header_of q.2.0) header (h.stands.apart x q.2.1).valid names.valid (sym st.header ∙ ap (λ j. slice_index words j) (sym z) ∙ f.1);
       }
 
-  possible : (c : Command) (r : Reply) → CanGive o p c → (step W p.number c).1 ≡ r → IsPossible S (event.Command p.number c r)
+  pub possible : (c : Command) (r : Reply) → CanGive o p c → (step W p.number c).1 ≡ r → IsPossible S (event.Command p.number c r)
   possible c r gives says = (still_open o.core h.events h.is.not_closed, record { mutator = fits.exists; registers = gives.fits.registers; serial = subst (λ n. n < 2 ^ 32 - 1) fits.hand.serial gives.serial }, says)
 
   -- the words of an object are within the words
-  inside : (x : Object) → IsObject o h.born x → end_of x ≤ length words
+  pub inside : (x : Object) → IsObject o h.born x → end_of x ≤ length words
   inside x hx = let t = h.stands.total in let l = lies_within o.layout (place_of x) (size_of x.node) (omega arith) (h.stands.apart x hx).lies in omega arith
 
-  owes_nothing : (b : Bool) (ws : List ℕ) (ns : List Name) → Owes b P ws ns → Owes b P (ws ++ []) (ns ++ [])
+  pub owes_nothing : (b : Bool) (ws : List ℕ) (ns : List Name) → Owes b P ws ns → Owes b P (ws ++ []) (ns ++ [])
   owes_nothing b ws ns k = rw (append-nil ws, append-nil ns) k
 
-  finds_same : (ws : List ℕ) (ns : List Name) → Owes true P ws ns → Owes true P ws (ns ++ [])
+  pub finds_same : (ws : List ℕ) (ns : List Name) → Owes true P ws ns → Owes true P ws (ns ++ [])
   finds_same ws ns k = rw (append-nil ns) k
 
-  owes_old : (b : Bool) (ws : List ℕ) (ns : List Name) (w : ℕ) (x : Value) → Owes b P ws ns → Means P w x → Owes b P (ws ++ owed_word b w) (ns ++ names_among (x ∷ []))
+  pub owes_old : (b : Bool) (ws : List ℕ) (ns : List Name) (w : ℕ) (x : Value) → Owes b P ws ns → Means P w x → Owes b P (ws ++ owed_word b w) (ns ++ names_among (x ∷ []))
   owes_old true ws ns w x k m = owed_append P ws (w ∷ []) ns (x ∷ []) k (m, tt)
   owes_old false ws ns w x k m = append-nil ws ∙ k
 
   -- the node of an object changes, and what the mutator has stays
-  pub hand_kept : (u : World) (hand : Hand) → IsSameState (state_of u p.number) (state_of W p.number) → ((name : Name) (size : ℕ) (values : List Value) → node_of W name ≡ Some (Stack size values) → node_of u name ≡ Some (Stack size values)) → IsHand o h.born W p.number hand → IsHand o h.born u p.number hand
-  hand_kept u hand same stacks k = record {
+  pub hand_kept : (u : World) (hand : Hand) → IsSameState (state_of u p.number) (state_of W p.number) → IsHand o h.born W p.number hand → IsHand o h.born u p.number hand
+  hand_kept u hand same k = record {
     registers = subst (λ l. ListMeans P hand.registers l) (sym same.registers) k.registers;
     queue = subst (λ l. ListMeans P hand.queue l) (sym same.queue) k.queue;
     serial = k.serial ∙ sym same.serial;
-    stacks = λ s c. let t = k.stacks s c in record { object = t.object; here = t.here; at = t.at; own = t.own; size = t.size; values = t.values; there = stacks t.object.name t.size t.values t.there; means = t.means };
   }
 
   -- `set` with its swap
@@ -164,6 +165,10 @@ module _ (o : Opening) (words : List ℕ) (views : List Seen) (h : Keeps o words
         | inl s ↦ absurd (t.no_stack size values (let same : Some st.node ≡ Some (Stack size values) = sym st.there ∙ ap (λ k. node_of W k) (sym s.0) ∙ e in cc))
         | inr s ↦ s.1 ∙ e
       ] in
+      let before : (n : Name) (size : ℕ) (values : List Value) → node_of u n ≡ Some (Stack size values) → node_of W n ≡ Some (Stack size values) = λ n size values e. elim (cases n) [
+        | inl s ↦ absurd (let both : Some t.made ≡ Some (Stack size values) = sym s.1 ∙ e in let is : t.made ≡ Stack size values = cc in let was = stack_of st.node size values (sym t.later.header ∙ ap header_of is) in t.no_stack size was.0 was.1)
+        | inr s ↦ sym s.1 ∙ e
+      ] in
       let mine : node_of u name ≡ Some t.made = elim (cases name) [ inl s ↦ s.1 | inr s ↦ absurd (s.0 refl) ] in
       let others : (n : Name) → (n ≡ name → ⊥) → node_of u n ≡ node_of W n = λ n ne. elim (cases n) [ inl s ↦ absurd (ne s.0) | inr s ↦ s.1 ] in
       let stands : Stands o h.born u new = subst (λ a. Stands o h.born u (set words (a + HEADER_WORDS + index) w)) m.is_at
@@ -177,7 +182,7 @@ module _ (o : Opening) (words : List ℕ) (views : List Seen) (h : Keeps o words
       (command_law o words views h id v here new h.born p p.used p.unborn p.fixed (p.found ++ old ∷ []) (Set can.object index can.value) Fine (plain Fine) (owed_word o.marking old) is (λ y hy. hy) h.new
       (possible (Set can.object index can.value) Fine (subst (λ (d : Command). CanGive o p d) can.command can.gives) (ap (λ (r : World × Reply). r.1) does))
       refl
-      (subst (λ (r : World × Reply). IsHand o h.born r.0 p.number (hand_now o p)) (sym does) (hand_kept u (hand_now o p) (node_frame W name st.node t.made st.there p.number) stacks fits.hand))
+      (subst (λ (r : World × Reply). IsHand o h.born r.0 p.number (hand_now o p)) (sym does) (hand_kept u (hand_now o p) (node_frame W name st.node t.made st.there p.number) fits.hand))
       (subst (λ ns. Owes o.marking P (p.owed ++ owed_word o.marking old) (names_of S.owed p.number ++ ns)) (sym owes) (owes_old o.marking p.owed (names_of S.owed p.number) old t.old fits.owed t.was))
       (subst (λ ns. Owes true P (p.found ++ old ∷ []) (names_of S.owed p.number ++ ns)) (sym owes) (owes_old true p.found (names_of S.owed p.number) old t.old fits.found t.was))
       (λ n size values ne e. subst (λ (r : World × Reply). node_of r.0 n ≡ Some (Stack size values)) (sym does) (stacks n size values e))
@@ -187,7 +192,9 @@ module _ (o : Opening) (words : List ℕ) (views : List Seen) (h : Keeps o words
       ])
       (subst (λ (r : World × Reply). Stands o h.born r.0 new) (sym does) stands)
       (record { exists = mine_rests.exists; room = mine_rests.room; below = mine_rests.below; unborn = mine_rests.unborn; fixed = mine_rests.fixed })
-      (λ q ne r. rest q r))))
+      (λ q ne r. rest q r)
+      (λ y c. inl c)
+      (subst (λ (r : World × Reply). OwnSlots o h.born r.0 p.number (hand_now o p)) (sym does) (own_kept o h.born W u p.number (hand_now o p) (hand_now o p) refl before fits.own)))))
 
   -- a register takes a value, and the hand its word
   pub register_hand : (dest w : ℕ) (val : Value) → Means P w val → IsHand o h.born (with_register W p.number dest val) p.number (holding (hand_now o p) dest w)
@@ -198,13 +205,12 @@ module _ (o : Opening) (words : List ℕ) (views : List Seen) (h : Keeps o words
         registers = subst (λ (s : MutatorState). ListMeans P (set (hand_now o p).registers dest w) s.registers) (sym same) (list_set P (hand_now o p).registers (state_of W p.number).registers dest w val k.registers m);
         queue = subst (λ (s : MutatorState). ListMeans P (hand_now o p).queue s.queue) (sym same) k.queue;
         serial = k.serial ∙ ap (λ (s : MutatorState). length s.nodes) (sym same);
-        stacks = λ s c. let t = k.stacks s c in record { object = t.object; here = t.here; at = t.at; own = t.own; size = t.size; values = t.values; there = nodes_kept W p.number q fits.exists refl t.object.name ∙ t.there; means = t.means };
       }
 
   -- a command that changes no node, and no word changes
   pub still_law : (c : Command) (r : Reply) (a : Answer) (u : World) → CanGive o p c → step W p.number c ≡ (u, r) → ((n : Name) → node_of u n ≡ node_of W n) → owed_by W p.number c ≡ []
-      → Answers P a r → IsHand o h.born u p.number (leaves (hand_now o p) c a) → AddsCommand o words views h p.number c words (set views id (answered v c a))
-  still_law c r a u gives does same owes says hand =
+      → Answers P a r → IsHand o h.born u p.number (leaves (hand_now o p) c a) → (leaves (hand_now o p) c a).stacks ≡ (hand_now o p).stacks → AddsCommand o words views h p.number c words (set views id (answered v c a))
+  still_law c r a u gives does same owes says hand left =
       subst (λ l. AddsCommand o words views h p.number c words (set views id (record v { parts = first_changed (λ q. doing q c a []) l }))) (sym is.alone)
       (command_law o words views h id v here words h.born p p.used p.unborn p.fixed p.found c r a [] is (λ y hy. hy) h.new
       (possible c r gives (ap (λ (x : World × Reply). x.1) does))
@@ -216,7 +222,9 @@ module _ (o : Opening) (words : List ℕ) (views : List Seen) (h : Keeps o words
       (λ n node e. inl (node, sym (same n) ∙ subst (λ (x : World × Reply). node_of x.0 n ≡ Some node) does e, same_node node))
       (subst (λ (x : World × Reply). Stands o h.born x.0 words) (sym does) (stands_nodes o h.born W u words same h.stands))
       (record { exists = rests.exists; room = rests.room; below = rests.below; unborn = rests.unborn; fixed = rests.fixed })
-      (λ q ne r. r))
+      (λ q ne r. r)
+      (λ y c. inl c)
+      (subst (λ (x : World × Reply). OwnSlots o h.born x.0 p.number (leaves (hand_now o p) c a)) (sym does) (own_kept o h.born W u p.number (hand_now o p) (leaves (hand_now o p) c a) left (λ n size values e. sym (same n) ∙ e) fits.own)))
 
   -- `get` of a field with its load
   pub load_keeps : (at index : ℕ) (c : Command) → CanLoad o p at index c → AddsCommand o words views h p.number c words (set views id (answered v c (word (slice_index words (at + HEADER_WORDS + index)))))
@@ -237,7 +245,8 @@ module _ (o : Opening) (words : List ℕ) (views : List Seen) (h : Keeps o words
       (nodes_kept W p.number q fits.exists refl)
       refl
       (t.value, refl, t.means)
-      (register_hand can.dest w t.value t.means))
+      (register_hand can.dest w t.value t.means)
+      refl)
 
   -- a load of a word that never changes
   pub fixed_keeps : (at offset : ℕ) → IsFixed o h.born at offset → Stays o words views h words (set views id (loaded v at offset (slice_index words (at + offset))))
@@ -321,10 +330,6 @@ module _ (o : Opening) (words : List ℕ) (views : List Seen) (h : Keeps o words
             (list_set Q (hand_now o p).registers (state_of W m).registers t.dest (2 * at) (value.Ref name) (list_more P Q (grown o h.born more grow) (hand_now o p).registers (state_of W m).registers k.registers) (at, refl, there)));
         queue = subst (λ l. ListMeans Q l (state_of u m).queue) (sym b.queue) (subst (λ (s : MutatorState). ListMeans Q (hand_now o p).queue s.queue) (sym same) (list_more P Q (grown o h.born more grow) (hand_now o p).queue (state_of W m).queue k.queue));
         serial = b.serial ∙ ap (λ n. n + 1) k.serial ∙ sym (ap (λ (s : MutatorState). length s.nodes) same ∙ length-append (state_of W m).nodes (t.made ∷ []));
-        stacks = λ s c. elim (b.stacks s c) [
-          | inl old ↦ stack_more o h.born more grow W u m s (λ n size values e. stays n size values) (k.stacks s old)
-          | inr n ↦ record { object = x; here = inr (Contains-push h.born x); at = sym n.0; own = refl; size = n.2.0; values = []; there = mine ∙ ap (λ (y : Node). Some y) n.2.1; means = subst (λ l. ListMeans Q l []) (sym n.1) tt }
-        ];
       } in
       let fresh : IsNew o x = record { unknown = no_world; no_snapshot = no_snapshot; maker = rests.exists; from = omega arith; to = omega arith } in
       let born : Rests o more (set words at header) (bearing_object p at (size_of t.made) header (slice_index words (at + 1))) = rests_born o h.is h.born W words h.stands h.new p rests x refl from (omega arith) header (omega arith) in
@@ -343,4 +348,11 @@ module _ (o : Opening) (words : List ℕ) (views : List Seen) (h : Keeps o words
       (λ n node e. let e' : node_of u n ≡ Some node = subst (λ (z : World × Reply). node_of z.0 n ≡ Some node) t.does e in elim (cases n) [ inl k ↦ inr (x, Contains-push h.born x, sym k.0) | inr k ↦ inl (node, sym k ∙ e', same_node node) ])
       (subst (λ (z : World × Reply). Stands o more z.0 (set words at header)) (sym t.does) (subst (λ n. Stands o more u (set words at n)) (sym head) st))
       (record { exists = r.exists; room = r.room; below = r.below; unborn = r.unborn; fixed = r.fixed })
-      (λ q ne s. rests_birth o h.is h.born W words h.stands h.new p rests x refl from (omega arith) header q ne s)))
+      (λ q ne s. rests_birth o h.is h.born W words h.stands h.new p rests x refl from (omega arith) header q ne s)
+      (λ y hy. elim (Contains-push_cases h.born x y hy) [ inl d ↦ inl d | inr e ↦ inr (sym (ap (λ (z : Object). z.name.maker) e)) ])
+      (subst (λ (z : World × Reply). OwnSlots o more z.0 m (leaves (hand_now o p) c (word (2 * at)))) (sym t.does)
+      (own_born o h.born more W u (set words at (header_word (header_of t.made))) st m (hand_now o p) (leaves (hand_now o p) c (word (2 * at))) x (inr (Contains-push h.born x)) grow
+      (λ y hy ne. elim hy [ inl d ↦ inl d | inr d ↦ elim (Contains-push_cases h.born x y d) [ inl i ↦ inr i | inr e ↦ absurd (ne (sym (ap (λ (z : Object). z.at) e))) ] ])
+      b.others
+      (λ n values e. let both : Some t.made ≡ Some (Stack n values) = sym mine ∙ e in let is : t.made ≡ Stack n values = cc in b.first n values is)
+      others fits.own))))

@@ -30,6 +30,7 @@ use Rattle.nmgc_round.specs.View.{Hand, Part, Seen, Opening, hand_of, blank, bla
 use Rattle.nmgc_round.specs.Objects.{KeepsOf, Object, place_of, IsOld, IsIn, IsPlace, IsLater, IsStanding, Stands, earlier}
 use Rattle.nmgc_round.specs.Starting.{CanOpen}
 use Rattle.nmgc_round.proofs.Parts.{idle_agrees}
+use Rattle.nmgc_round.proofs.Olds.{own_old}
 use Rattle.nmgc_round.proofs.Standing.{same_node}
 use Rattle.nmgc_round.proofs.Fields.{fixed_of_slots}
 
@@ -158,7 +159,6 @@ module _ (o : Opening) (words : List ℕ) (h : CanOpen o words) where
         registers = list_among (Contains o.places) (IsIn o []) T among (hand_of o.hands m).registers (state_of W m).registers (λ v c. held v (Contains-append_left (state_of W m).registers (state_of W m).queue v c)) k.registers;
         queue = list_among (Contains o.places) (IsIn o []) T among (hand_of o.hands m).queue (state_of W m).queue (λ v c. held v (Contains-append_right (state_of W m).registers (state_of W m).queue v c)) k.queue;
         serial = k.serial;
-        stacks = λ s c. let none : Contains [] s = subst (λ l. Contains l s) k.stacks c in absurd (let lt = none.1 in omega arith);
       }
 
   owes_none : (b : Bool) (m : ℕ) → Owes b (IsIn o []) [] (names_of o.core.owed m)
@@ -166,7 +166,7 @@ module _ (o : Opening) (words : List ℕ) (h : CanOpen o words) where
   owes_none false m = refl
 
   blank_fits : (m : ℕ) → m < length o.hands → Fits o [] o.core [] (blank m)
-  blank_fits m lt = let a = h.count in let b = h.is.mutators in let c = h.is.owed in record { exists = omega arith; owing = omega arith; rows = tt; hand = hand_stands m lt; found = owes_none true m; owed = owes_none o.marking m }
+  blank_fits m lt = let a = h.count in let b = h.is.mutators in let c = h.is.owed in record { exists = omega arith; owing = omega arith; rows = tt; hand = hand_stands m lt; found = owes_none true m; owed = owes_none o.marking m; own = own_old o words h m (omega arith) }
 
   blank_rests : (m : ℕ) → m < length o.hands → Rests o [] words (blank m)
   blank_rests m lt = record {

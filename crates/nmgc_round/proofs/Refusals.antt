@@ -1,6 +1,6 @@
 -- Commands that take their place at a fixed load of word 1 keep the rule.
-use Rattle.std.proofs.Common.{◌≡◌, ◌⊎◌, inl, inr, ℕ, ◌+◌, ◌*◌, ◌/◌, ◌%◌, ◌≤◌, Bool, true, false, cond, eqb, leb, List, [], ◌∷◌, length, set, refl, sym, ap, subst, ◌∙◌, arith, slice_index, None, ne_eqb, eq-eqb, eqb-true, le-ltb}
-use Rattle.std.specs.Prelude.{Contains, option_to_list, ◌&&◌}
+use Rattle.std.proofs.Common.{◌≡◌, ◌⊎◌, drop, inl, inr, ℕ, ◌+◌, ◌*◌, ◌/◌, ◌%◌, ◌≤◌, Bool, true, false, cond, eqb, leb, List, [], ◌∷◌, length, set, refl, sym, ap, subst, ◌∙◌, arith, slice_index, None, Some, ne_eqb, eq-eqb, eqb-true, le-ltb}
+use Rattle.std.specs.Prelude.{Contains, slice_get, option_to_list, ◌&&◌}
 use Rattle.std.proofs.lemmas.Option.{slice_get_past}
 use Rattle.std.proofs.lemmas.Bool.{and_parts}
 use mathlib.Core.Option.{some}
@@ -16,22 +16,25 @@ use Rattle.nmgc_graph.specs.declared.command.Operand.{Operand}
 use Rattle.nmgc_graph.specs.declared.command.Command.{Command}
 use Rattle.nmgc_graph.specs.declared.command.Command.TheVariants.{Num, Nil, Mov, Con, Var, Arr, Thunk, Weak, Stack, Get, Set, Cas, Update, Force, Push, Pop, Deref, Finalise, NextFin, Show, Same, Yield, Collect, Full}
 use Rattle.nmgc_graph.specs.declared.command.Reply.{Reply}
-use Rattle.nmgc_graph.specs.declared.command.Reply.TheVariants.{Fine, Yes, No, Given, NoPointer, NoField, WrongKind, Fixed}
-use Rattle.nmgc_graph.specs.World.{World, node_of}
-use Rattle.nmgc_graph.specs.Change.{given_or, field_read, field_set, is_same}
-use Rattle.nmgc_graph.specs.Step.{value_for, object_of, read_object, read_into, keeping, change_object, change_node, with_register, with_node, step}
-use Rattle.nmgc_object.specs.Words.{header_word}
+use Rattle.nmgc_graph.specs.declared.command.Reply.TheVariants.{Fine, Yes, No, Given, NoPointer, NoField, WrongKind, NotOwner, Fixed, Nothing}
+use Rattle.nmgc_graph.specs.World.{World, state_of, node_of}
+use Rattle.nmgc_graph.specs.Change.{given_or, field_read, field_set, is_same, exchanged_at, field_exchanged, thunk_updated, result_read, value_read, weak_finalised, stack_pushed, stack_popped, changed}
+use Rattle.nmgc_graph.specs.declared.node.Kind.TheVariants as kind
+use Rattle.nmgc_graph.specs.declared.mutator_state.MutatorState.{MutatorState}
+use Rattle.nmgc_graph.specs.Step.{change_into, holding_given, with_state, value_for, object_of, read_object, read_into, keeping, change_object, change_node, with_register, with_node, step}
+use Rattle.nmgc_object.specs.Words.{header_word, name_word, IsName}
 use Rattle.nmgc_object.specs.declared.words.Header.{Header}
 use Rattle.nmgc_heap.specs.Shape.{header_of}
-use Rattle.nmgc_heap.specs.Places.{Place, Means}
+use Rattle.nmgc_heap.specs.Places.{Place, Means, ListMeans}
+use Rattle.nmgc_round.proofs.Lists.{list_set}
 use Rattle.nmgc_round.specs.View.{Hand, holding, leaves, Answer, plain, word, Opening, Part, Seen, FixedWord, hand_now, answered, doing, first_changed}
 use Rattle.nmgc_round.specs.Events.{done_by}
-use Rattle.nmgc_round.specs.Objects.{IsIn}
+use Rattle.nmgc_round.specs.Objects.{Object, place_of, IsObject, IsIn}
 use Rattle.nmgc_round.specs.Rule.{now, Answers, IsHand, Fits, Rests, Keeps}
 use Rattle.nmgc_round.specs.Ready.{IsMutator, CanGive, Names, IsReadable, IsWritable, operand_word}
-use Rattle.nmgc_round.specs.Told.{header_at, get_refusal, set_refusal, refused, told_by, IsRefused, CanTell, told}
-use Rattle.nmgc_reach.specs.Owed.{field_held, owed_of, owed_at, names_among, owed_by}
-use Rattle.nmgc_reach.specs.laws.NodeLaws.{nodes_kept, node_cases}
+use Rattle.nmgc_round.specs.Told.{header_at, get_refusal, set_refusal, owner_refusal, first_told, refused, told_by, IsRefused, IsForeign, CanTell, told}
+use Rattle.nmgc_reach.specs.Owed.{field_held, if_same, free_held, top_held, weak_held, value_held, owed_in, owed_of, owed_at, names_among, owed_by}
+use Rattle.nmgc_reach.specs.laws.NodeLaws.{nodes_kept, node_cases, state_same}
 use Rattle.nmgc_core.specs.laws.Listed.{tested_same, is_same_name-refl}
 use Rattle.nmgc_graph.specs.laws.Orders.{contains_head, contains_tail, contains_cases}
 use Rattle.nmgc_round.specs.Added.{AddsCommand}
@@ -70,7 +73,7 @@ none_owed (node.Weak parts) index bad = refl
 none_owed (node.Stack size values) index bad = refl
 
 -- the header that is named at a place is the word there
-header_there : (fixed : List FixedWord) (at w : ℕ) → ((f : FixedWord) → Contains fixed f → f.at ≡ at → f.offset ≡ 0 → f.word ≡ w) → Contains fixed (record { at = at; offset = 0; word = w }) → header_at fixed at ≡ w
+pub header_there : (fixed : List FixedWord) (at w : ℕ) → ((f : FixedWord) → Contains fixed f → f.at ≡ at → f.offset ≡ 0 → f.word ≡ w) → Contains fixed (record { at = at; offset = 0; word = w }) → header_at fixed at ≡ w
 header_there [] at w stand c = absurd (let lt = c.1 in omega arith)
 header_there (f ∷ fs) at w stand c = by_test (eqb f.at at && eqb f.offset 0) refl (λ d. header_there fs at w (λ g h. stand g (contains_tail f fs g h)) d)
   where
@@ -83,6 +86,83 @@ header_there (f ∷ fs) at w stand c = by_test (eqb f.at at && eqb f.offset 0) r
           absurd cc
       | inr d ↦ rec d
     ]
+
+-- `cas` of a field that isn't there, or isn't to be written
+cas_refused : (n : Node) (index : ℕ) (e v : Value) → (IsWritable (header_of n).kind → (header_of n).fields ≤ index) → field_exchanged n index e v ≡ (n, set_refusal (header_word (header_of n)))
+cas_refused (node.Con tag values) index e v bad = let k : header_word (header_of (node.Con tag values)) % 8 ≡ 1 = omega arith in ap (λ (r : Reply). (node.Con tag values, r)) (sym (ap set_reply k))
+cas_refused (node.Var old) index e v bad = let le : 1 ≤ index = bad tt in ap (λ o. exchanged_at o e (node.Var old) (node.Var v)) (slice_get_past (old ∷ []) index le)
+cas_refused (node.Arr values) index e v bad = let k : header_word (header_of (node.Arr values)) % 8 ≡ 3 = omega arith in ap (λ o. exchanged_at o e (node.Arr values) (node.Arr (set values index v))) (slice_get_past values index (bad tt)) ∙ ap (λ (r : Reply). (node.Arr values, r)) (sym (ap set_reply k))
+cas_refused (node.Thunk free result) index e v bad = let k : header_word (header_of (node.Thunk free result)) % 8 ≡ 4 = omega arith in ap (λ (r : Reply). (node.Thunk free result, r)) (sym (ap set_reply k))
+cas_refused (node.Weak parts) index e v bad = refl
+cas_refused (node.Stack size values) index e v bad = let k : header_word (header_of (node.Stack size values)) % 8 ≡ 6 = omega arith in ap (λ (r : Reply). (node.Stack size values, r)) (sym (ap set_reply k))
+
+-- what is no thunk
+no_thunk : (n : Node) (v : Value) → ((header_of n).kind ≡ kind.Thunk → ⊥) → (thunk_updated n v ≡ (n, WrongKind)) × (free_held n ≡ [])
+no_thunk (node.Con tag values) v bad = (refl, refl)
+no_thunk (node.Var x) v bad = (refl, refl)
+no_thunk (node.Arr values) v bad = (refl, refl)
+no_thunk (node.Thunk free result) v bad = absurd (bad refl)
+no_thunk (node.Weak parts) v bad = (refl, refl)
+no_thunk (node.Stack size values) v bad = (refl, refl)
+
+no_result : (n : Node) → ((header_of n).kind ≡ kind.Thunk → ⊥) → result_read n ≡ WrongKind
+no_result (node.Con tag values) bad = refl
+no_result (node.Var x) bad = refl
+no_result (node.Arr values) bad = refl
+no_result (node.Thunk free result) bad = absurd (bad refl)
+no_result (node.Weak parts) bad = refl
+no_result (node.Stack size values) bad = refl
+
+-- what is no weak pointer
+no_weak : (name : Name) (n : Node) → ((header_of n).kind ≡ kind.Weak → ⊥) → (value_read n ≡ WrongKind) × (value_held (Some n) ≡ []) × (weak_finalised n ≡ (n, WrongKind)) × (weak_held name n ≡ [])
+no_weak name (node.Con tag values) bad = (refl, refl, refl, refl)
+no_weak name (node.Var x) bad = (refl, refl, refl, refl)
+no_weak name (node.Arr values) bad = (refl, refl, refl, refl)
+no_weak name (node.Thunk free result) bad = (refl, refl, refl, refl)
+no_weak name (node.Weak parts) bad = absurd (bad refl)
+no_weak name (node.Stack size values) bad = (refl, refl, refl, refl)
+
+-- what is no stack
+abbrev owner_reply : ℕ → Reply
+owner_reply k = cond (eqb k 6) NotOwner WrongKind
+
+top_none : (own : Bool) (n : Node) → ((header_of n).kind ≡ kind.Stack → ⊥) → top_held own n ≡ []
+top_none false n bad = refl
+top_none true (node.Con tag values) bad = refl
+top_none true (node.Var x) bad = refl
+top_none true (node.Arr values) bad = refl
+top_none true (node.Thunk free result) bad = refl
+top_none true (node.Weak parts) bad = refl
+top_none true (node.Stack size values) bad = absurd (bad refl)
+
+no_stack : (own : Bool) (n : Node) (v : Value) → ((header_of n).kind ≡ kind.Stack → ⊥) → (stack_pushed own n v ≡ (n, owner_refusal (header_word (header_of n)))) × (stack_popped own n ≡ (n, owner_refusal (header_word (header_of n)))) × (top_held own n ≡ [])
+no_stack own (node.Con tag values) v bad = let k : header_word (header_of (node.Con tag values)) % 8 ≡ 1 = omega arith in let r = ap (λ (r : Reply). (node.Con tag values, r)) (sym (ap owner_reply k)) in (r, r, top_none own (node.Con tag values) bad)
+no_stack own (node.Var x) v bad = (refl, refl, top_none own (node.Var x) bad)
+no_stack own (node.Arr values) v bad = let k : header_word (header_of (node.Arr values)) % 8 ≡ 3 = omega arith in let r = ap (λ (r : Reply). (node.Arr values, r)) (sym (ap owner_reply k)) in (r, r, top_none own (node.Arr values) bad)
+no_stack own (node.Thunk free result) v bad = let k : header_word (header_of (node.Thunk free result)) % 8 ≡ 4 = omega arith in let r = ap (λ (r : Reply). (node.Thunk free result, r)) (sym (ap owner_reply k)) in (r, r, top_none own (node.Thunk free result) bad)
+no_stack own (node.Weak parts) v bad = (refl, refl, top_none own (node.Weak parts) bad)
+no_stack own (node.Stack size values) v bad = absurd (bad refl)
+
+-- a stack of another
+foreign_stack : (n : Node) (v : Value) → (header_of n).kind ≡ kind.Stack → (stack_pushed false n v ≡ (n, owner_refusal (header_word (header_of n)))) × (stack_popped false n ≡ (n, owner_refusal (header_word (header_of n))))
+foreign_stack (node.Con tag values) v e = absurd cc
+foreign_stack (node.Var x) v e = absurd cc
+foreign_stack (node.Arr values) v e = absurd cc
+foreign_stack (node.Thunk free result) v e = absurd cc
+foreign_stack (node.Weak parts) v e = absurd cc
+foreign_stack (node.Stack size values) v e = let k : header_word (header_of (node.Stack size values)) % 8 ≡ 6 = omega arith in let r = ap (λ (r : Reply). (node.Stack size values, r)) (sym (ap owner_reply k)) in (r, r)
+
+-- a name's word tells its maker
+pub one_maker : (a b : Name) → IsName a → IsName b → name_word a ≡ name_word b → a.maker ≡ b.maker
+one_maker a b x y e = let l = x.0 in let k = y.0 in omega arith
+
+left_push : (h : Hand) (object x : Operand) (b : Bool) → leaves h (Push object x) (plain (cond b NotOwner WrongKind)) ≡ h
+left_push h object x true = refl
+left_push h object x false = refl
+
+keeping_owner : (w : World) (m dest : ℕ) (b : Bool) → keeping w m dest (cond b NotOwner WrongKind) ≡ w
+keeping_owner w m dest true = refl
+keeping_owner w m dest false = refl
 
 keeping_refused : (w : World) (m dest : ℕ) (b : Bool) → keeping w m dest (cond b NoField WrongKind) ≡ w
 keeping_refused w m dest true = refl
@@ -137,30 +217,30 @@ module _ (o : Opening) (words : List ℕ) (views : List Seen) (h : Keeps o words
       let here' : told_by (hand_now v.opening p) p.fixed c ≡ a = ap (λ (y : Opening). told_by (hand_now y p) p.fixed c) same ∙ e in
       ap (λ (l : List Part). V (first_changed f l)) is.alone ∙ ap (λ (b : Answer). V (doing p c b [] ∷ [])) (sym here') ∙ sym (ap (λ (l : List Part). V (first_changed g l)) is.alone)
 
-  tell : (c : Command) (r : Reply) (a : Answer) (u : World) → told_by (hand_now o p) p.fixed c ≡ a → CanGive o p c → step W p.number c ≡ (u, r) → ((n : Name) → node_of u n ≡ node_of W n) → owed_by W p.number c ≡ []
-      → Answers P a r → IsHand o h.born u p.number (leaves (hand_now o p) c a) → AddsCommand o words views h p.number c words (set views id (told v c))
-  tell c r a u e gives does same owes says hand = subst (λ (w : Seen). AddsCommand o words views h p.number c words (set views id w)) (told_is c a e) (still_law o words views h id v here p is c r a u gives does same owes says hand)
+  pub tell : (c : Command) (r : Reply) (a : Answer) (u : World) → told_by (hand_now o p) p.fixed c ≡ a → CanGive o p c → step W p.number c ≡ (u, r) → ((n : Name) → node_of u n ≡ node_of W n) → owed_by W p.number c ≡ []
+      → Answers P a r → IsHand o h.born u p.number (leaves (hand_now o p) c a) → (leaves (hand_now o p) c a).stacks ≡ (hand_now o p).stacks → AddsCommand o words views h p.number c words (set views id (told v c))
+  tell c r a u e gives does same owes says hand left = subst (λ (w : Seen). AddsCommand o words views h p.number c words (set views id w)) (told_is c a e) (still_law o words views h id v here p is c r a u gives does same owes says hand left)
 
   -- a command that takes its place there and leaves the world
-  tell_same : (c : Command) (r : Reply) (a : Answer) → told_by (hand_now o p) p.fixed c ≡ a → CanGive o p c → step W p.number c ≡ (W, r) → owed_by W p.number c ≡ [] → Answers P a r → leaves (hand_now o p) c a ≡ hand_now o p → AddsCommand o words views h p.number c words (set views id (told v c))
-  tell_same c r a e gives does owes says left = tell c r a W e gives does (λ n. refl) owes says (subst (λ (k : Hand). IsHand o h.born W p.number k) (sym left) fits.hand)
+  pub tell_same : (c : Command) (r : Reply) (a : Answer) → told_by (hand_now o p) p.fixed c ≡ a → CanGive o p c → step W p.number c ≡ (W, r) → owed_by W p.number c ≡ [] → Answers P a r → leaves (hand_now o p) c a ≡ hand_now o p → AddsCommand o words views h p.number c words (set views id (told v c))
+  tell_same c r a e gives does owes says left = tell c r a W e gives does (λ n. refl) owes says (subst (λ (k : Hand). IsHand o h.born W p.number k) (sym left) fits.hand) (ap (λ (k : Hand). k.stacks) left)
 
   -- a command that puts a word into a register
   tell_register : (c : Command) (dest w : ℕ) (x : Value) → told_by (hand_now o p) p.fixed c ≡ plain Fine → CanGive o p c → step W p.number c ≡ (with_register W p.number dest x, Fine) → owed_by W p.number c ≡ [] → leaves (hand_now o p) c (plain Fine) ≡ holding (hand_now o p) dest w → Means P w x → AddsCommand o words views h p.number c words (set views id (told v c))
   tell_register c dest w x e gives does owes left m =
       tell c Fine (plain Fine) (with_register W p.number dest x) e gives does (nodes_kept W p.number _ fits.exists refl) owes refl
-      (subst (λ (k : Hand). IsHand o h.born (with_register W p.number dest x) p.number k) (sym left) (register_hand o words views h id v here p is dest w x m))
+      (subst (λ (k : Hand). IsHand o h.born (with_register W p.number dest x) p.number k) (sym left) (register_hand o words views h id v here p is dest w x m)) (ap (λ (k : Hand). k.stacks) left)
 
   -- an odd word refers to no object
-  no_object : (w : ℕ) (x : Value) → Means P w x → w % 2 ≡ 1 → (x ≡ value.Nil) ⊎ ((n : ℕ) × (x ≡ value.Number n))
+  pub no_object : (w : ℕ) (x : Value) → Means P w x → w % 2 ≡ 1 → (x ≡ value.Nil) ⊎ ((n : ℕ) × (x ≡ value.Number n))
   no_object w value.Nil m e = inl refl
   no_object w (value.Number n) m e = inr (n, refl)
   no_object w (value.Ref name) m e = absurd (let t = m.1 in omega arith)
 
-  refused_none : (w : ℕ) (refusal : ℕ → Reply) → w % 2 ≡ 1 → refused p.fixed w refusal ≡ plain NoPointer
+  pub refused_none : (w : ℕ) (refusal : ℕ → Reply) → w % 2 ≡ 1 → refused p.fixed w refusal ≡ plain NoPointer
   refused_none w refusal e = let b : eqb (w % 2) 0 ≡ false = ne_eqb (w % 2) 0 (λ z. omega arith) in ap (λ (t : Bool). cond t (plain (refusal (header_at p.fixed (w / 2)))) (plain NoPointer)) b
 
-  refused_there : (w at : ℕ) (header : Header) (refusal : ℕ → Reply) → w ≡ 2 * at → Names p at header → refused p.fixed w refusal ≡ plain (refusal (header_word header))
+  pub refused_there : (w at : ℕ) (header : Header) (refusal : ℕ → Reply) → w ≡ 2 * at → Names p at header → refused p.fixed w refusal ≡ plain (refusal (header_word header))
   refused_there w at header refusal e names =
       let b : eqb (w % 2) 0 ≡ true = eq-eqb (w % 2) 0 (omega arith) in
       let half : w / 2 ≡ at = omega arith in
@@ -215,13 +295,13 @@ module _ (o : Opening) (words : List ℕ) (views : List Seen) (h : Keeps o words
       let same : (n : Name) → node_of (with_node W name st.node) n ≡ node_of W n = λ n. elim (cases n) [ inl k ↦ k.1 ∙ sym st.there ∙ ap (λ (y : Name). node_of W y) (sym k.0) | inr k ↦ k.1 ] in
       let owes : owed_by W p.number c ≡ [] = ap (λ y. names_among (owed_of W y d)) m.refers ∙ ap (λ y. names_among (owed_at d name y)) st.there ∙ ap (λ y. names_among (option_to_list y)) (none_owed st.node index bad') in
       tell c r (plain r) (with_node W name st.node) (refused_there (operand_word o p object) at header set_refusal e names) gives changes same owes refl
-      (hand_kept o words views h id v here p is (with_node W name st.node) (hand_now o p) (node_frame W name st.node st.node st.there p.number) (λ n size values k. same n ∙ k) fits.hand)
+      (hand_kept o words views h id v here p is (with_node W name st.node) (hand_now o p) (node_frame W name st.node st.node st.there p.number) fits.hand) refl
 
-  one_place : (a b : Place) → P a → P b → (a.name ≡ b.name) ⊎ (a.at ≡ b.at) → a ≡ b
+  pub one_place : (a b : Place) → P a → P b → (a.name ≡ b.name) ⊎ (a.at ≡ b.at) → a ≡ b
   one_place a b x y e = h.stands.one a b (placed o h.born (record { at = a.at; name = a.name; node = x.0 }) x.1) (placed o h.born (record { at = b.at; name = b.name; node = y.0 }) y.1) e
 
   -- a value has one word
-  one_word : (a b : ℕ) (x : Value) → Means P a x → Means P b x → a ≡ b
+  pub one_word : (a b : ℕ) (x : Value) → Means P a x → Means P b x → a ≡ b
   one_word a b value.Nil m n = m ∙ sym n
   one_word a b (value.Number k) m n = m ∙ sym n
   one_word a b (value.Ref name) m n =
@@ -229,7 +309,7 @@ module _ (o : Opening) (words : List ℕ) (views : List Seen) (h : Keeps o words
       m.1 ∙ ap (λ k. 2 * k) e ∙ sym n.1
 
   -- and a word one value
-  one_value : (a : ℕ) (x y : Value) → Means P a x → Means P a y → x ≡ y
+  pub one_value : (a : ℕ) (x y : Value) → Means P a x → Means P a y → x ≡ y
   one_value a value.Nil value.Nil m n = refl
   one_value a value.Nil (value.Number k) m n = absurd (omega arith)
   one_value a value.Nil (value.Ref name) m n = absurd (let e = n.1 in omega arith)
@@ -244,10 +324,146 @@ module _ (o : Opening) (words : List ℕ) (views : List Seen) (h : Keeps o words
       let at : m.0 ≡ n.0 = omega arith in
       ap (λ (q : Place). value.Ref q.name) (one_place (record { at = m.0; name = name }) (record { at = n.0; name = other }) m.2 n.2 (inr at))
 
-  same_words : (a b : ℕ) (x y : Value) → Means P a x → Means P b y → is_same x y ≡ eqb a b
+  pub same_words : (a b : ℕ) (x y : Value) → Means P a x → Means P b y → is_same x y ≡ eqb a b
   same_words a b x y m n = both (is_same x y) (eqb a b)
       (λ e. eq-eqb a b (one_word a b y (subst (λ z. Means P a z) (told_same x y e) m) n))
       (λ e. let k = eqb-true a b e in subst (λ z. is_same x z ≡ true) (one_value a x y m (subst (λ z. Means P z y) (sym k) n)) (same_self x))
+
+  -- a change that is refused at an object that is none
+  change_none : (c : Command) (object : Operand) (d : Change) (refusal : ℕ → Reply) → ((u : World) → change_object W (value_for W p.number object) d ≡ (u, NoPointer) → step W p.number c ≡ (u, NoPointer)) → owed_by W p.number c ≡ names_among (owed_of W (value_for W p.number object) d) → told_by (hand_now o p) p.fixed c ≡ refused p.fixed (operand_word o p object) refusal
+      → leaves (hand_now o p) c (plain NoPointer) ≡ hand_now o p → CanGive o p c → operand_word o p object % 2 ≡ 1 → AddsCommand o words views h p.number c words (set views id (told v c))
+  change_none c object d refusal does owes tells left gives odd =
+      let none : (change_object W (value_for W p.number object) d ≡ (W, NoPointer)) × (names_among (owed_of W (value_for W p.number object) d) ≡ []) = elim (no_object (operand_word o p object) (value_for W p.number object) (operand_is o words views h id v here p is object) odd) [
+        | inl e ↦ (ap (λ y. change_object W y d) e, ap (λ y. names_among (owed_of W y d)) e)
+        | inr e ↦ (ap (λ y. change_object W y d) e.1, ap (λ y. names_among (owed_of W y d)) e.1)
+      ] in
+      tell_same c NoPointer (plain NoPointer) (tells ∙ refused_none (operand_word o p object) refusal odd) gives (does W none.0) (owes ∙ none.1) refl left
+
+  -- and at one that is there
+  change_at : (c : Command) (object : Operand) (d : Change) (refusal : ℕ → Reply) (at : ℕ) (header : Header) → ((u : World) → change_object W (value_for W p.number object) d ≡ (u, refusal (header_word header)) → step W p.number c ≡ (u, refusal (header_word header))) → owed_by W p.number c ≡ names_among (owed_of W (value_for W p.number object) d) → told_by (hand_now o p) p.fixed c ≡ refused p.fixed (operand_word o p object) refusal
+      → leaves (hand_now o p) c (plain (refusal (header_word header))) ≡ hand_now o p → CanGive o p c → operand_word o p object ≡ 2 * at → Names p at header
+      → ((x : Object) (hx : IsObject o h.born x) → x.at ≡ at → header_of (h.stands.objects x hx).node ≡ header → (changed d x.name.maker (h.stands.objects x hx).node ≡ ((h.stands.objects x hx).node, refusal (header_word header))) × (owed_in d x.name (h.stands.objects x hx).node ≡ []))
+      → AddsCommand o words views h p.number c words (set views id (told v c))
+  change_at c object d refusal at header does owes tells left gives e names refuses =
+      let m = meant o words views h id v here p is at header object e names in
+      let name : Name = m.object.name in
+      let st = h.stands.objects m.object m.there in
+      let r : Reply = refusal (header_word header) in
+      let t = refuses m.object m.there m.is_at (st.later.header ∙ m.head) in
+      let u : World = with_node W name st.node in
+      let changes : change_object W (value_for W p.number object) d ≡ (u, r) = ap (λ y. change_object W y d) m.refers ∙ ap (λ y. change_node W name y d) st.there ∙ ap (λ (y : Node × Reply). (with_node W name y.0, y.1)) t.0 in
+      let cases = node_cases W name st.node st.node st.there in
+      let same : (n : Name) → node_of u n ≡ node_of W n = λ n. elim (cases n) [ inl k ↦ k.1 ∙ sym st.there ∙ ap (λ (y : Name). node_of W y) (sym k.0) | inr k ↦ k.1 ] in
+      let none : names_among (owed_of W (value_for W p.number object) d) ≡ [] = ap (λ y. names_among (owed_of W y d)) m.refers ∙ ap (λ y. names_among (owed_at d name y)) st.there ∙ ap (λ y. names_among y) t.1 in
+      let kept = hand_kept o words views h id v here p is u (hand_now o p) (node_frame W name st.node st.node st.there p.number) fits.hand in
+      tell c r (plain r) u (tells ∙ refused_there (operand_word o p object) at header refusal e names) gives (does u changes) same (owes ∙ none) refl (subst (λ (k : Hand). IsHand o h.born u p.number k) (sym left) kept) (ap (λ (k : Hand). k.stacks) left)
+
+  -- a read that is refused
+  read_none : (c : Command) (dest : ℕ) (object : Operand) (read : Node → Reply) → ((x : Value) → value_for W p.number object ≡ x → step W p.number c ≡ read_into W p.number dest (read_object (object_of W x) read)) → ((x : Value) → value_for W p.number object ≡ x → object_of W x ≡ None → owed_by W p.number c ≡ []) → told_by (hand_now o p) p.fixed c ≡ refused p.fixed (operand_word o p object) (λ n. WrongKind)
+      → leaves (hand_now o p) c (plain NoPointer) ≡ hand_now o p → CanGive o p c → operand_word o p object % 2 ≡ 1 → AddsCommand o words views h p.number c words (set views id (told v c))
+  read_none c dest object read does owes tells left gives odd =
+      let none : (step W p.number c ≡ (W, NoPointer)) × (owed_by W p.number c ≡ []) = elim (no_object (operand_word o p object) (value_for W p.number object) (operand_is o words views h id v here p is object) odd) [
+        | inl e ↦ (does value.Nil e, owes value.Nil e refl)
+        | inr e ↦ (does (value.Number e.0) e.1, owes (value.Number e.0) e.1 refl)
+      ] in
+      tell_same c NoPointer (plain NoPointer) (tells ∙ refused_none (operand_word o p object) (λ n. WrongKind) odd) gives none.0 none.1 refl left
+
+  read_wrong : (c : Command) (dest : ℕ) (object : Operand) (read : Node → Reply) (at : ℕ) (header : Header) → ((x : Value) → value_for W p.number object ≡ x → step W p.number c ≡ read_into W p.number dest (read_object (object_of W x) read)) → told_by (hand_now o p) p.fixed c ≡ refused p.fixed (operand_word o p object) (λ n. WrongKind)
+      → leaves (hand_now o p) c (plain WrongKind) ≡ hand_now o p → CanGive o p c → operand_word o p object ≡ 2 * at → Names p at header
+      → ((name : Name) (n : Node) → value_for W p.number object ≡ value.Ref name → node_of W name ≡ Some n → header_of n ≡ header → (read n ≡ WrongKind) × (owed_by W p.number c ≡ []))
+      → AddsCommand o words views h p.number c words (set views id (told v c))
+  read_wrong c dest object read at header does tells left gives e names refuses =
+      let m = meant o words views h id v here p is at header object e names in
+      let st = h.stands.objects m.object m.there in
+      let t = refuses m.object.name st.node m.refers st.there (st.later.header ∙ m.head) in
+      let says : step W p.number c ≡ (W, WrongKind) = does (value.Ref m.object.name) m.refers ∙ ap (λ y. read_into W p.number dest (read_object y read)) st.there ∙ ap (λ y. read_into W p.number dest y) t.0 in
+      tell_same c WrongKind (plain WrongKind) (tells ∙ refused_there (operand_word o p object) at header (λ n. WrongKind) e names) gives says t.1 refl left
+
+  -- `cas` as `set`
+  cas_told : (object : Operand) (index : ℕ) (expected x : Operand) → CanGive o p (Cas object index expected x) → IsRefused o p object (λ header. IsWritable header.kind → header.fields ≤ index) → AddsCommand o words views h p.number (Cas object index expected x) words (set views id (told v (Cas object index expected x)))
+  cas_told object index expected x gives (inl odd) = change_none (Cas object index expected x) object (change.Exchange index (value_for W p.number expected) (value_for W p.number x)) set_refusal (λ u e. e) refl refl refl gives odd
+  cas_told object index expected x gives (inr (at, header, e, names, bad)) = change_at (Cas object index expected x) object (change.Exchange index (value_for W p.number expected) (value_for W p.number x)) set_refusal at header (λ u e. e) refl refl refl gives e names
+      (λ y hy is_at head. let n : Node = (h.stands.objects y hy).node in let bad' = subst (λ (k : Header). IsWritable k.kind → k.fields ≤ index) (sym head) bad in
+      (cas_refused n index (value_for W p.number expected) (value_for W p.number x) bad' ∙ ap (λ k. (n, set_refusal (header_word k))) head, ap (λ l. if_same (value_for W p.number expected) l) (none_owed n index bad')))
+
+  -- `update` of what is no thunk
+  update_told : (object x : Operand) → CanGive o p (Update object x) → IsRefused o p object (λ header. header.kind ≡ kind.Thunk → ⊥) → AddsCommand o words views h p.number (Update object x) words (set views id (told v (Update object x)))
+  update_told object x gives (inl odd) = change_none (Update object x) object (change.Update (value_for W p.number x)) (λ n. WrongKind) (λ u e. e) refl refl refl gives odd
+  update_told object x gives (inr (at, header, e, names, bad)) = change_at (Update object x) object (change.Update (value_for W p.number x)) (λ n. WrongKind) at header (λ u e. e) refl refl refl gives e names
+      (λ y hy is_at head. no_thunk (h.stands.objects y hy).node (value_for W p.number x) (λ k. bad (sym (ap (λ (t : Header). t.kind) head) ∙ k)))
+
+  -- `force` of what is no thunk, and `deref` of what is no weak pointer
+  force_told : (dest : ℕ) (object : Operand) → CanGive o p (Force dest object) → IsRefused o p object (λ header. header.kind ≡ kind.Thunk → ⊥) → AddsCommand o words views h p.number (Force dest object) words (set views id (told v (Force dest object)))
+  force_told dest object gives (inl odd) = read_none (Force dest object) dest object result_read (λ x e. ap (λ y. read_into W p.number dest (read_object (object_of W y) result_read)) e) (λ x e k. refl) refl refl gives odd
+  force_told dest object gives (inr (at, header, e, names, bad)) = read_wrong (Force dest object) dest object result_read at header (λ x e. ap (λ y. read_into W p.number dest (read_object (object_of W y) result_read)) e) refl refl gives e names
+      (λ name n refers there head. (no_result n (λ k. bad (sym (ap (λ (t : Header). t.kind) head) ∙ k)), refl))
+
+  deref_told : (dest : ℕ) (object : Operand) → CanGive o p (Deref dest object) → IsRefused o p object (λ header. header.kind ≡ kind.Weak → ⊥) → AddsCommand o words views h p.number (Deref dest object) words (set views id (told v (Deref dest object)))
+  deref_told dest object gives (inl odd) = read_none (Deref dest object) dest object value_read (λ x e. ap (λ y. read_into W p.number dest (read_object (object_of W y) value_read)) e) (λ x e k. ap (λ y. names_among (value_held (object_of W y))) e ∙ ap (λ y. names_among (value_held y)) k) refl refl gives odd
+  deref_told dest object gives (inr (at, header, e, names, bad)) = read_wrong (Deref dest object) dest object value_read at header (λ x e. ap (λ y. read_into W p.number dest (read_object (object_of W y) value_read)) e) refl refl gives e names
+      (λ name n refers there head. let t = no_weak name n (λ k. bad (sym (ap (λ (t : Header). t.kind) head) ∙ k)) in (t.0, ap (λ y. names_among (value_held (object_of W y))) refers ∙ ap (λ y. names_among (value_held y)) there ∙ ap (λ y. names_among y) t.1))
+
+  -- `finalise` likewise
+  finalise_told : (dest : ℕ) (object : Operand) → CanGive o p (Finalise dest object) → IsRefused o p object (λ header. header.kind ≡ kind.Weak → ⊥) → AddsCommand o words views h p.number (Finalise dest object) words (set views id (told v (Finalise dest object)))
+  finalise_told dest object gives (inl odd) = change_none (Finalise dest object) object change.Finalise (λ n. WrongKind) (λ u e. ap (λ r. change_into p.number dest r) e) refl refl refl gives odd
+  finalise_told dest object gives (inr (at, header, e, names, bad)) = change_at (Finalise dest object) object change.Finalise (λ n. WrongKind) at header (λ u e. ap (λ r. change_into p.number dest r) e) refl refl refl gives e names
+      (λ y hy is_at head. let t = no_weak y.name (h.stands.objects y hy).node (λ k. bad (sym (ap (λ (t : Header). t.kind) head) ∙ k)) in (t.2, t.3))
+
+  -- what another's name says of its maker
+  foreign_maker : (at : ℕ) (x : Object) (hx : IsObject o h.born x) (name : Name) → x.at ≡ at → IsName name → Contains p.fixed (record { at = at; offset = 1; word = name_word name }) → x.name.maker ≡ name.maker
+  foreign_maker at x hx name is_at valid named =
+      let there = h.stands.named (place_of x) (placed o h.born x hx) in
+      let told_ = rests.fixed (record { at = at; offset = 1; word = name_word name }) named in
+      one_maker x.name name there.valid valid (sym there.name ∙ ap (λ a. slice_index words (a + 1)) is_at ∙ told_.1)
+
+  push_told : (object x : Operand) → CanGive o p (Push object x) → IsRefused o p object (λ header. header.kind ≡ kind.Stack → ⊥) ⊎ IsForeign o p object → AddsCommand o words views h p.number (Push object x) words (set views id (told v (Push object x)))
+  push_told object x gives (inl (inl odd)) = change_none (Push object x) object (change.Push p.number (value_for W p.number x)) owner_refusal (λ u e. e) refl refl refl gives odd
+  push_told object x gives (inl (inr (at, header, e, names, bad))) = change_at (Push object x) object (change.Push p.number (value_for W p.number x)) owner_refusal at header (λ u e. e) refl refl (left_push (hand_now o p) object x (eqb (header_word header % 8) 6)) gives e names
+      (λ y hy is_at head. let n : Node = (h.stands.objects y hy).node in let t = no_stack (eqb y.name.maker p.number) n (value_for W p.number x) (λ k. bad (sym (ap (λ (t : Header). t.kind) head) ∙ k)) in (t.0 ∙ ap (λ k. (n, owner_refusal (header_word k))) head, refl))
+  push_told object x gives (inr f) = change_at (Push object x) object (change.Push p.number (value_for W p.number x)) owner_refusal f.at f.header (λ u e. e) refl refl (left_push (hand_now o p) object x (eqb (header_word f.header % 8) 6)) gives f.object_word f.names
+      (λ y hy is_at head. let n : Node = (h.stands.objects y hy).node in let t = foreign_stack n (value_for W p.number x) (ap (λ (k : Header). k.kind) head ∙ f.is_stack) in let off : eqb y.name.maker p.number ≡ false = ne_eqb y.name.maker p.number (λ k. f.other (sym (foreign_maker f.at y hy f.name is_at f.valid f.named) ∙ k)) in (ap (λ b. stack_pushed b n (value_for W p.number x)) off ∙ t.0 ∙ ap (λ k. (n, owner_refusal (header_word k))) head, refl))
+
+  pop_told : (dest : ℕ) (object : Operand) → CanGive o p (Pop dest object) → IsRefused o p object (λ header. header.kind ≡ kind.Stack → ⊥) ⊎ IsForeign o p object → AddsCommand o words views h p.number (Pop dest object) words (set views id (told v (Pop dest object)))
+  pop_told dest object gives (inl (inl odd)) = change_none (Pop dest object) object (change.Pop p.number) owner_refusal (λ u e. ap (λ r. change_into p.number dest r) e) refl refl refl gives odd
+  pop_told dest object gives (inl (inr (at, header, e, names, bad))) = change_at (Pop dest object) object (change.Pop p.number) owner_refusal at header (λ u e. ap (λ r. change_into p.number dest r) e ∙ ap (λ w. (w, owner_refusal (header_word header))) (keeping_owner u p.number dest (eqb (header_word header % 8) 6))) refl refl refl gives e names
+      (λ y hy is_at head. let n : Node = (h.stands.objects y hy).node in let t = no_stack (eqb y.name.maker p.number) n value.Nil (λ k. bad (sym (ap (λ (t : Header). t.kind) head) ∙ k)) in (t.1 ∙ ap (λ k. (n, owner_refusal (header_word k))) head, t.2))
+  pop_told dest object gives (inr f) = change_at (Pop dest object) object (change.Pop p.number) owner_refusal f.at f.header (λ u e. ap (λ r. change_into p.number dest r) e ∙ ap (λ w. (w, owner_refusal (header_word f.header))) (keeping_owner u p.number dest (eqb (header_word f.header % 8) 6))) refl refl refl gives f.object_word f.names
+      (λ y hy is_at head. let n : Node = (h.stands.objects y hy).node in let t = foreign_stack n value.Nil (ap (λ (k : Header). k.kind) head ∙ f.is_stack) in let off : eqb y.name.maker p.number ≡ false = ne_eqb y.name.maker p.number (λ k. f.other (sym (foreign_maker f.at y hy f.name is_at f.valid f.named) ∙ k)) in (ap (λ b. stack_popped b n) off ∙ t.1 ∙ ap (λ k. (n, owner_refusal (header_word k))) head, ap (λ b. top_held b n) off))
+
+  -- `nextfin`: the first of the queue goes off into a register
+  finaliser_told : (dest : ℕ) → CanGive o p (NextFin dest) → (ws : List ℕ) → (hand_now o p).queue ≡ ws → (vs : List Value) → (state_of W p.number).queue ≡ vs → ListMeans P ws vs → AddsCommand o words views h p.number (NextFin dest) words (set views id (told v (NextFin dest)))
+  finaliser_told dest gives [] e [] f m =
+      let s : MutatorState = state_of W p.number in
+      let F : List Value → MutatorState = λ l. holding_given (record s { queue = drop 1 l }) dest (slice_get l 0) in
+      let q : MutatorState = F s.queue in
+      let u : World = with_state W p.number q in
+      let st : state_of u p.number ≡ F [] = state_same W p.number q fits.exists ∙ ap F f in
+      let nodes : (n : Name) → node_of u n ≡ node_of W n = nodes_kept W p.number q fits.exists (ap (λ l. (F l).nodes) f) in
+      let k = fits.hand in
+      tell (NextFin dest) Nothing (plain Nothing) u (ap (λ l. first_told l) e) gives (ap (λ l. (u, given_or Nothing (slice_get l 0))) f) nodes refl refl
+      (record {
+        registers = subst (λ (t : MutatorState). ListMeans P (hand_now o p).registers t.registers) (sym st) k.registers;
+        queue = subst (λ (l : List ℕ). ListMeans P (drop 1 l) (state_of u p.number).queue) (sym e) (subst (λ (t : MutatorState). ListMeans P [] t.queue) (sym st) tt);
+        serial = k.serial ∙ ap (λ (t : MutatorState). length t.nodes) (sym st);
+      })
+      refl
+  finaliser_told dest gives [] e (x ∷ vs) f m = absurd m
+  finaliser_told dest gives (w ∷ ws) e [] f m = absurd m
+  finaliser_told dest gives (w ∷ ws) e (x ∷ vs) f m =
+      let s : MutatorState = state_of W p.number in
+      let F : List Value → MutatorState = λ l. holding_given (record s { queue = drop 1 l }) dest (slice_get l 0) in
+      let q : MutatorState = F s.queue in
+      let u : World = with_state W p.number q in
+      let st : state_of u p.number ≡ F (x ∷ vs) = state_same W p.number q fits.exists ∙ ap F f in
+      let nodes : (n : Name) → node_of u n ≡ node_of W n = nodes_kept W p.number q fits.exists (ap (λ l. (F l).nodes) f) in
+      let k = fits.hand in
+      tell (NextFin dest) (Given x) (word w) u (ap (λ l. first_told l) e) gives (ap (λ l. (u, given_or Nothing (slice_get l 0))) f) nodes refl (x, refl, m.0)
+      (record {
+        registers = subst (λ (t : MutatorState). ListMeans P (set (hand_now o p).registers dest w) t.registers) (sym st) (list_set P (hand_now o p).registers s.registers dest w x k.registers m.0);
+        queue = subst (λ (l : List ℕ). ListMeans P (drop 1 l) (state_of u p.number).queue) (sym e) (subst (λ (t : MutatorState). ListMeans P ws t.queue) (sym st) m.1);
+        serial = k.serial ∙ ap (λ (t : MutatorState). length t.nodes) (sym st);
+      })
+      refl
 
   -- every command that takes its place there
   pub told_keeps : (c : Command) → CanTell o p c → AddsCommand o words views h p.number c words (set views id (told v c))
@@ -270,11 +486,11 @@ module _ (o : Opening) (words : List ℕ) (views : List Seen) (h : Keeps o words
   told_keeps (Thunk dest free) can = absurd can.told
   told_keeps (Weak dest key x finaliser) can = absurd can.told
   told_keeps (Stack dest size) can = absurd can.told
-  told_keeps (Cas object index expected x) can = absurd can.told
-  told_keeps (Update object x) can = absurd can.told
-  told_keeps (Force dest object) can = absurd can.told
-  told_keeps (Push object x) can = absurd can.told
-  told_keeps (Pop dest object) can = absurd can.told
-  told_keeps (Deref dest object) can = absurd can.told
-  told_keeps (Finalise dest object) can = absurd can.told
-  told_keeps (NextFin dest) can = absurd can.told
+  told_keeps (Cas object index expected x) can = cas_told object index expected x can.gives can.told
+  told_keeps (Update object x) can = update_told object x can.gives can.told
+  told_keeps (Force dest object) can = force_told dest object can.gives can.told
+  told_keeps (Push object x) can = push_told object x can.gives can.told
+  told_keeps (Pop dest object) can = pop_told dest object can.gives can.told
+  told_keeps (Deref dest object) can = deref_told dest object can.gives can.told
+  told_keeps (Finalise dest object) can = finalise_told dest object can.gives can.told
+  told_keeps (NextFin dest) can = finaliser_told dest can.gives (hand_now o p).queue refl (state_of W p.number).queue refl fits.hand.queue

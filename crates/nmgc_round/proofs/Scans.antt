@@ -125,7 +125,7 @@ same_thunk : (b n : Node) → IsLater b n → is_thunk b ≡ is_thunk n
 same_thunk b n l = thunk_header b ∙ ap (λ (h : Header). thunk_kind h.kind) (sym l.header) ∙ sym (thunk_header n)
 
 -- a word that means a value isn't 0
-means_some : (P : Place → Type 0) → ((p : Place) → P p → 1 ≤ p.at) → (w : ℕ) (v : Value) → Means P w v → w ≢ 0
+pub means_some : (P : Place → Type 0) → ((p : Place) → P p → 1 ≤ p.at) → (w : ℕ) (v : Value) → Means P w v → w ≢ 0
 means_some P least w value.Nil m e = omega arith
 means_some P least w (value.Number n) m e = omega arith
 means_some P least w (value.Ref name) m e = let a = m.1 in let l = least (record { at = m.0; name = name }) m.2 in omega arith

@@ -1,4 +1,5 @@
 pub mod Added
+pub mod Compare
 pub mod Empty
 pub mod Events
 pub mod Finishing
@@ -6,11 +7,17 @@ pub mod Making
 pub mod Marking
 pub mod Naming
 pub mod Objects
+pub mod Owing
+pub mod Own
 pub mod Ready
+pub mod Results
 pub mod Rule
 pub mod Seat
 pub mod Seating
+pub mod Stacks
 pub mod Starting
 pub mod Stop
 pub mod Told
 pub mod View
+pub mod Weaks
+pub mod laws

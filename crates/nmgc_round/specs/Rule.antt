@@ -5,7 +5,6 @@ use lib.ListN.{get_elem?}
 use Rattle.nmgc_graph.specs.declared.value.Name.{Name}
 use Rattle.nmgc_graph.specs.declared.value.Value.{Value}
 use Rattle.nmgc_graph.specs.declared.node.Node.{Node}
-use Rattle.nmgc_graph.specs.declared.node.Node.TheVariants.{Stack}
 use Rattle.nmgc_graph.specs.declared.command.Command.{Command}
 use Rattle.nmgc_graph.specs.declared.command.Reply.{Reply}
 use Rattle.nmgc_graph.specs.declared.command.Reply.TheVariants.{Given}
@@ -20,12 +19,13 @@ use Rattle.nmgc_reach.specs.Owed.{names_among}
 use Rattle.nmgc_heap.specs.Shape.{header_of, size_of, MayChange}
 use Rattle.nmgc_heap.specs.Places.{Place, Means, ListMeans}
 use Rattle.nmgc_round.specs.Events.{Happening, replay, IsLegal, done_by, scans_in}
-use Rattle.nmgc_round.specs.View.{Answer, plain, word, Row, Slots, Hand, FixedWord, UnbornWord, Scan, Opening, Part, Seen, exclusive, hand_now}
+use Rattle.nmgc_round.specs.View.{Answer, plain, word, Row, Hand, FixedWord, UnbornWord, Scan, Opening, Part, Seen, exclusive, hand_now}
 use Rattle.nmgc_core.specs.Scan.{fields_of}
 use Rattle.nmgc_reach.specs.Holds.{has_result}
 use Rattle.nmgc_heap.specs.Tracked.{IsTracked}
 use Rattle.nmgc_reach.specs.Wide.{IsWide}
 use Rattle.nmgc_round.specs.Marking.{marks_of, marks_after}
+use Rattle.nmgc_round.specs.Own.{OwnSlots}
 use Rattle.nmgc_round.specs.Objects.{Object, end_of, earlier, IsOld, IsLater, IsObject, IsIn, Stands}
 
 -- the state after events
@@ -65,25 +65,13 @@ abbrev pub Owes : Bool → (Place → Type 0) → List ℕ → List Name → Typ
 Owes true P ws names = AreOwed P ws names
 Owes false P ws names = ws ≡ []
 
--- the values of an own stack
-pub record IsStack (o : Opening) (born : List Object) (w : World) (m : ℕ) (s : Slots) : Type 0 where
-  pub object : Object
-  pub here : IsObject o born object
-  pub at : object.at ≡ s.at
-  pub own : object.name.maker ≡ m
-  pub size : ℕ
-  pub values : List Value
-  pub there : node_of w object.name ≡ Some (Stack size values)
-  pub means : ListMeans (IsIn o born) s.words values
-
 -- what a mutator has in the world is what its rows leave
 pub record IsHand (o : Opening) (born : List Object) (w : World) (m : ℕ) (h : Hand) : Type 0 where
   pub registers : ListMeans (IsIn o born) h.registers (state_of w m).registers
   pub queue : ListMeans (IsIn o born) h.queue (state_of w m).queue
   pub serial : h.serial ≡ serial_of w m
-  pub stacks : (s : Slots) → Contains h.stacks s → IsStack o born w m s
 
--- a part agrees with the state and with what its mutator did; what its swaps found refers to what the core machine lists as taken out of fields
+-- a part agrees with the state and with what its mutator did; what its swaps found refers to what the core machine lists as taken out of fields; it lists all own stacks
 pub record Fits (o : Opening) (born : List Object) (s : State) (done : List (Command × Reply)) (p : Part) : Type 0 where
   pub exists : p.number < length s.world.mutators
   pub owing : p.number < length s.owed
@@ -91,6 +79,7 @@ pub record Fits (o : Opening) (born : List Object) (s : State) (done : List (Com
   pub hand : IsHand o born s.world p.number (hand_now o p)
   pub found : AreOwed (IsIn o born) p.found (names_of s.owed p.number)
   pub owed : Owes o.marking (IsIn o born) p.owed (names_of s.owed p.number)
+  pub own : OwnSlots o born s.world p.number (hand_now o p)
 
 -- a mutator's nursery, and the first word of it that no object has
 abbrev pub base_of : Opening → ℕ → ℕ

@@ -8,14 +8,15 @@ use Rattle.nmgc_heap.specs.Places.{ListMeans}
 use Rattle.nmgc_heap.specs.Represents.{Represents, NoNode}
 use Rattle.nmgc_round.specs.View.{Hand, Opening, hand_of}
 use Rattle.nmgc_round.specs.Objects.{Object, IsLater, IsSnapshot, earlier}
+use Rattle.nmgc_round.specs.Own.{old_stacks}
 use Rattle.nmgc_round.specs.Rule.{IsOpening, IsQueued}
 
--- what a mutator has stands for what it has in the world; that it may have stacks of its own is left out until they are built
+-- what a mutator has stands for what it has in the world, and lists the stacks there that it made
 pub record HandStands (o : Opening) (m : ℕ) (h : Hand) : Type 0 where
   pub registers : ListMeans (Contains o.places) h.registers (state_of o.core.world m).registers
   pub queue : ListMeans (Contains o.places) h.queue (state_of o.core.world m).queue
   pub serial : h.serial ≡ serial_of o.core.world m
-  pub stacks : h.stacks ≡ []
+  pub stacks : h.stacks ≡ old_stacks o.places o.core.world m
 
 -- a round may start with these words; where it isn't marking, the state is that of the world alone
 pub record CanOpen (o : Opening) (words : List ℕ) : Type 0 where

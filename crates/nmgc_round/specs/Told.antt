@@ -1,14 +1,15 @@
--- Commands that take their place at a fixed load of word 1: what they answer, by what the seat knows.
--- They read no word that changes. (`nextfin` joins them with the finaliser queues.) A refusal rests on the header of its object.
-use Rattle.std.specs.Prelude.{◌≡◌, ◌⊎◌, ℕ, zero, suc, ◌+◌, ◌<◌, ◌*◌, ◌/◌, ◌%◌, ◌≤◌, ◌==◌, ◌&&◌, nat_le, List, [], ◌∷◌, Contains, Some, if◌then◌else◌}
+-- Commands that take their place at a fixed load of word 1: what they answer, by what the seat knows (`told_by`,
+-- `IsTold`, `CanTell`). They read no word that changes. A refusal rests on the header of its object, or on the maker in
+-- its name. And what loads tell their caller of the word that they find (`Tells` and what begins so).
+use Rattle.std.specs.Prelude.{◌≡◌, ◌≢◌, ◌⊎◌, ℕ, zero, suc, ◌+◌, ◌<◌, ◌*◌, ◌/◌, ◌%◌, ◌≤◌, ◌==◌, ◌&&◌, nat_le, List, [], ◌∷◌, Contains, Some, slice_get, if◌then◌else◌}
 use Rattle.nmgc_graph.specs.declared.value.Name.{Name}
 use Rattle.nmgc_graph.specs.declared.node.Node.{Node}
 use Rattle.nmgc_graph.specs.declared.node.Kind.TheVariants as kind
 use Rattle.nmgc_graph.specs.declared.command.Operand.{Operand}
 use Rattle.nmgc_graph.specs.declared.command.Command.{Command}
-use Rattle.nmgc_graph.specs.declared.command.Command.TheVariants.{Num, Nil, Mov, Get, Set, Show, Same, Yield, Collect, Full}
+use Rattle.nmgc_graph.specs.declared.command.Command.TheVariants.{Num, Nil, Mov, Get, Set, Cas, Update, Force, Push, Pop, Deref, Finalise, NextFin, Show, Same, Yield, Collect, Full}
 use Rattle.nmgc_graph.specs.declared.command.Reply.{Reply}
-use Rattle.nmgc_graph.specs.declared.command.Reply.TheVariants.{Fine, Yes, No, NoPointer, NoField, WrongKind, Fixed}
+use Rattle.nmgc_graph.specs.declared.command.Reply.TheVariants.{Fine, Yes, No, NoPointer, NoField, WrongKind, NotOwner, Fixed, Nothing}
 use Rattle.nmgc_object.specs.Words.{kind_number, header_word, name_word, IsHeader, IsName}
 use Rattle.nmgc_object.specs.declared.words.Header.{Header}
 use Rattle.nmgc_object.specs.declared.words.TheConstants.{TAG_UNIT}
@@ -34,6 +35,15 @@ get_refusal header = if nat_le (header % TAG_UNIT) (kind_number kind.Arr) then N
 abbrev pub set_refusal : ℕ → Reply
 set_refusal header = if header % TAG_UNIT == kind_number kind.Con then Fixed else get_refusal header
 
+-- why `push` and `pop` are refused there, where the object is no stack of this mutator's
+abbrev pub owner_refusal : ℕ → Reply
+owner_refusal header = if header % TAG_UNIT == kind_number kind.Stack then NotOwner else WrongKind
+
+-- the first of a finaliser queue
+abbrev pub first_told : List ℕ → Answer
+first_told [] = plain Nothing
+first_told (w ∷ ws) = word w
+
 -- a refusal at the object that a word refers to, if it refers to one
 abbrev pub refused : List FixedWord → ℕ → (ℕ → Reply) → Answer
 refused fixed w refusal = if w % 2 == 0 then plain (refusal (header_at fixed (w / 2))) else plain NoPointer
@@ -42,6 +52,14 @@ refused fixed w refusal = if w % 2 == 0 then plain (refusal (header_at fixed (w 
 abbrev pub told_by : Hand → List FixedWord → Command → Answer
 told_by h fixed (Get dest object index) = refused fixed (word_of h.registers object) get_refusal
 told_by h fixed (Set object index v) = refused fixed (word_of h.registers object) set_refusal
+told_by h fixed (Cas object index expected v) = refused fixed (word_of h.registers object) set_refusal
+told_by h fixed (Update object v) = refused fixed (word_of h.registers object) (λ header. WrongKind)
+told_by h fixed (Force dest object) = refused fixed (word_of h.registers object) (λ header. WrongKind)
+told_by h fixed (Push object v) = refused fixed (word_of h.registers object) owner_refusal
+told_by h fixed (Pop dest object) = refused fixed (word_of h.registers object) owner_refusal
+told_by h fixed (Deref dest object) = refused fixed (word_of h.registers object) (λ header. WrongKind)
+told_by h fixed (Finalise dest object) = refused fixed (word_of h.registers object) (λ header. WrongKind)
+told_by h fixed (NextFin dest) = first_told h.queue
 told_by h fixed (Show v) = word (word_of h.registers v)
 told_by h fixed (Same left right) = plain (if word_of h.registers left == word_of h.registers right then Yes else No)
 told_by h fixed _ = plain Fine
@@ -50,6 +68,18 @@ told_by h fixed _ = plain Fine
 abbrev pub IsRefused : Opening → Part → Operand → (Header → Type 0) → Type 0
 IsRefused o p object bad = (operand_word o p object % 2 ≡ 1) ⊎ ((at : ℕ) × (header : Header) × (operand_word o p object ≡ 2 * at) × Names p at header × bad header)
 
+-- the object is a stack that another mutator made: its header and its name are named
+pub record IsForeign (o : Opening) (p : Part) (object : Operand) : Type 0 where
+  pub at : ℕ
+  pub object_word : operand_word o p object ≡ 2 * at
+  pub header : Header
+  pub names : Names p at header
+  pub is_stack : header.kind ≡ kind.Stack
+  pub name : Name
+  pub valid : IsName name
+  pub named : Contains p.fixed (record { at = at; offset = 1; word = name_word name })
+  pub other : name.maker ≢ p.number
+
 -- a command takes its place there
 abbrev pub IsTold : Opening → Part → Command → Type 0
 IsTold o p (Num dest n) = Unit {0}
@@ -57,6 +87,14 @@ IsTold o p (Nil dest) = Unit {0}
 IsTold o p (Mov dest v) = Unit {0}
 IsTold o p (Get dest object index) = IsRefused o p object (λ header. IsReadable header.kind → header.fields ≤ index)
 IsTold o p (Set object index v) = IsRefused o p object (λ header. IsWritable header.kind → header.fields ≤ index)
+IsTold o p (Cas object index expected v) = IsRefused o p object (λ header. IsWritable header.kind → header.fields ≤ index)
+IsTold o p (Update object v) = IsRefused o p object (λ header. header.kind ≡ kind.Thunk → ⊥)
+IsTold o p (Force dest object) = IsRefused o p object (λ header. header.kind ≡ kind.Thunk → ⊥)
+IsTold o p (Push object v) = IsRefused o p object (λ header. header.kind ≡ kind.Stack → ⊥) ⊎ IsForeign o p object
+IsTold o p (Pop dest object) = IsRefused o p object (λ header. header.kind ≡ kind.Stack → ⊥) ⊎ IsForeign o p object
+IsTold o p (Deref dest object) = IsRefused o p object (λ header. header.kind ≡ kind.Weak → ⊥)
+IsTold o p (Finalise dest object) = IsRefused o p object (λ header. header.kind ≡ kind.Weak → ⊥)
+IsTold o p (NextFin dest) = Unit {0}
 IsTold o p (Show v) = Unit {0}
 IsTold o p (Same left right) = Unit {0}
 IsTold o p Yield = Unit {0}
@@ -64,6 +102,7 @@ IsTold o p Collect = Unit {0}
 IsTold o p Full = Unit {0}
 IsTold o p _ = ⊥
 
+-- a mutator may give the command, and it takes its place there
 pub record CanTell (o : Opening) (p : Part) (c : Command) : Type 0 where
   pub gives : CanGive o p c
   pub told : IsTold o p c
@@ -102,12 +141,17 @@ pub record TellsName (w : ℕ) : Type 0 where
   pub valid : IsName name
   pub word_is : w ≡ name_word name
 
+-- what a load of a word that never changes tells of it
 abbrev pub Tells : Opening → ℕ → ℕ → ℕ → Type 0
 Tells o at offset w = (offset ≡ 0 → TellsHeader o at w) × (offset ≡ 1 → TellsName w)
 
 -- where the word is a pointer, a header and a name are there within the words
 abbrev pub IsSafe : Opening → ℕ → Type 0
 IsSafe o w = (at : ℕ) → w ≡ 2 * at → at + HEADER_WORDS ≤ word_total o.layout
+
+-- the finalisers that wait for the mutator lead within the words
+abbrev pub TellsQueue : Opening → Part → Type 0
+TellsQueue o p = (i w : ℕ) → slice_get (hand_now o p).queue i ≡ Some w → IsSafe o w
 
 -- a word that was loaded behind header and name is a field
 pub record TellsField (o : Opening) (offset w : ℕ) : Type 0 where

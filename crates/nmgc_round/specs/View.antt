@@ -117,10 +117,12 @@ stacking h (word w) = record h { stacks = record { at = w / 2; words = [] } ∷ 
 abbrev pub with_slots : List Slots → ℕ → (List ℕ → List ℕ) → List Slots
 with_slots stacks at change = map (λ (s : Slots). if s.at == at then record s { words = change s.words } else s) stacks
 
+-- a value more on an own stack, if it went there
 abbrev pub pushed : Hand → ℕ → ℕ → Answer → Hand
 pushed h object w (plain Fine) = record h { stacks = with_slots h.stacks (object / 2) (λ ws. ws ++ w ∷ []) }
 pushed h object w a = h
 
+-- a value less on it, if one was taken off
 abbrev pub popped : Hand → ℕ → Answer → Hand
 popped h object (plain r) = h
 popped h object (word w) = record h { stacks = with_slots h.stacks (object / 2) (λ ws. take (length ws - 1) ws) }

@@ -6,7 +6,7 @@
 //! (`specs/Added.antt`). Those named for a split, a join or an end of a round say the same: no word changes,
 //! and no event is added. Each step of `steps`, `seats` and `round` is an instance of one of them, and the
 //! rule holds between any two steps of any threads. So nothing that holds here depends on a schedule.
-ghost use Rattle.std.specs.Prelude.{◌≡◌, ◌≢◌, ◌+◌, ◌<◌, ℕ, true, List, [], ◌∷◌, ◌++◌, set, slice_index, length, map};
+ghost use Rattle.std.specs.Prelude.{◌≡◌, ◌≢◌, ◌+◌, ◌<◌, ◌==◌, ℕ, true, List, [], ◌∷◌, ◌++◌, set, slice_index, length, map};
 ghost use mathlib.Core.Option.{some};
 ghost use lib.ListN.{get_elem?};
 ghost use Rattle.nmgc_graph.specs.declared.command.Command.{Command};
@@ -17,11 +17,16 @@ ghost use Rattle.nmgc_object.specs.declared.layout.Layout.{Layout};
 ghost use Rattle.nmgc_object.specs.Places.{IsLayout};
 ghost use Rattle.nmgc_core.specs.State.{State};
 ghost use Rattle.nmgc_core.specs.Machine.{Does};
-ghost use Rattle.nmgc_round.specs.View.{Opening, Part, Seen, word, whole, exclusive, nobody, loaded, answered, swapped, stored, gave_birth};
+ghost use Rattle.nmgc_round.specs.Own.{OwnSlots};
+ghost use Rattle.nmgc_round.specs.View.{hand_of, Opening, Part, Seen, word, whole, exclusive, nobody, loaded, answered, swapped, stored, gave_birth};
 ghost use Rattle.nmgc_round.specs.Rule.{Keeps, Stopped};
 ghost use Rattle.nmgc_round.specs.Added.{Stays, AddsCommand, AddsScan};
 ghost use Rattle.nmgc_round.specs.Seating.{CanSplit, keeps_rest, gives_first, mutates, collecting, together};
 ghost use Rattle.nmgc_round.specs.Ready.{IsMutator, CanLoad, CanSwap, CanStore, CanBear, CanScan, scanned_by};
+ghost use Rattle.nmgc_round.specs.Compare.{CanExchange, exchanged, words_exchanged};
+ghost use Rattle.nmgc_round.specs.Results.{CanForce, CanUpdate, forced, updated};
+ghost use Rattle.nmgc_round.specs.Stacks.{CanPeek, CanSlot, TellsSlot, slot_swapped, IsRefusedSlot, slot_refused};
+ghost use Rattle.nmgc_round.specs.Weaks.{CanDeref, CanFinalise, weak_read, weak_taken};
 ghost use Rattle.nmgc_round.specs.Told.{CanFix, CanTake, taken};
 ghost use Rattle.nmgc_round.specs.Events.{Happening, event_of, after, replay, IsLegal, done_by, rows_in};
 ghost use Rattle.nmgc_round.specs.Naming.{AllReply};
@@ -51,6 +56,55 @@ pub fn field_swap()
     ensures { (o : Opening) (words : List ℕ) (views : List Seen) (id : ℕ) (v : Seen) (p : Part) (at index w : ℕ) (c : Command) (k : Keeps o words views) → get_elem? views id ≡ some v → IsMutator v p → CanSwap o p at index w c → AddsCommand o words views k p.number c (set words (at + HEADER_WORDS + index) w) (set views id (swapped v c (slice_index words (at + HEADER_WORDS + index)))) }
 {}
 
+/// A compare-exchange of a field: where the expected word stands there, that word changes, one command that
+/// changes that field of that node is added, and while marking the view owes the expected word. Else no word
+/// changes, and one command that changes no node is added.
+pub fn field_exchange()
+    ensures { (o : Opening) (words : List ℕ) (views : List Seen) (id : ℕ) (v : Seen) (p : Part) (at index expected w : ℕ) (c : Command) (k : Keeps o words views) → get_elem? views id ≡ some v → IsMutator v p → CanExchange o p at index expected w c → let hit = slice_index words (at + HEADER_WORDS + index) == expected in AddsCommand o words views k p.number c (words_exchanged words (at + HEADER_WORDS + index) w hit) (set views id (exchanged v c expected hit)) }
+{}
+
+/// A load of a thunk's result: no word changes, and one command that changes no node is added.
+pub fn result_load()
+    ensures { (o : Opening) (words : List ℕ) (views : List Seen) (id : ℕ) (v : Seen) (p : Part) (at : ℕ) (c : Command) (k : Keeps o words views) → get_elem? views id ≡ some v → IsMutator v p → CanForce o p at c → AddsCommand o words views k p.number c words (set views id (forced v c (slice_index words (at + HEADER_WORDS)))) }
+{}
+
+/// A compare-exchange of a thunk's result: where there was none its word changes, one command that changes that
+/// node is added, and while marking the view owes the free variables. Else no word changes, and one command that
+/// changes no node is added.
+pub fn result_exchange()
+    ensures { (o : Opening) (words : List ℕ) (views : List Seen) (id : ℕ) (v : Seen) (p : Part) (at w : ℕ) (c : Command) (k : Keeps o words views) → get_elem? views id ≡ some v → IsMutator v p → CanUpdate o p at w c → let hit = slice_index words (at + HEADER_WORDS) == 0 in AddsCommand o words views k p.number c (words_exchanged words (at + HEADER_WORDS) w hit) (set views id (updated v at c hit)) }
+{}
+
+/// A load of a weak pointer's value: no word changes, and one command that changes no node is added. While
+/// marking the view owes the value, if there is one.
+pub fn weak_load()
+    ensures { (o : Opening) (words : List ℕ) (views : List Seen) (id : ℕ) (v : Seen) (p : Part) (at : ℕ) (c : Command) (k : Keeps o words views) → get_elem? views id ≡ some v → IsMutator v p → CanDeref o p at c → AddsCommand o words views k p.number c words (set views id (weak_read v c (slice_index words (at + HEADER_WORDS + 1)))) }
+{}
+
+/// A swap of a weak pointer's value: the word is 0 afterwards, and one command is added that kills that weak
+/// pointer, or changes no node where it was dead. While marking the view owes what an alive one kept.
+pub fn weak_swap()
+    ensures { (o : Opening) (words : List ℕ) (views : List Seen) (id : ℕ) (v : Seen) (p : Part) (at : ℕ) (c : Command) (k : Keeps o words views) → get_elem? views id ≡ some v → IsMutator v p → CanFinalise o p at c → AddsCommand o words views k p.number c (set words (at + HEADER_WORDS + 1) 0) (set views id (weak_taken v at c (slice_index words (at + HEADER_WORDS + 1)))) }
+{}
+
+/// A load of a slot of an own stack: no word changes, no event is added, and no view changes. It finds what the
+/// mutator's rows leave there.
+pub fn slot_load()
+    ensures { (o : Opening) (words : List ℕ) (views : List Seen) (id : ℕ) (v : Seen) (p : Part) (at slot : ℕ) (k : Keeps o words views) → get_elem? views id ≡ some v → IsMutator v p → CanPeek o p at slot → Stays o words views k words (set views id v) × TellsSlot o p at slot (slice_index words (at + HEADER_WORDS + slot)) }
+{}
+
+/// A swap of a slot of an own stack: its word changes, and one command that changes that node is added. While
+/// marking the view owes what is popped.
+pub fn slot_swap()
+    ensures { (o : Opening) (words : List ℕ) (views : List Seen) (id : ℕ) (v : Seen) (p : Part) (at slot w : ℕ) (c : Command) (k : Keeps o words views) → get_elem? views id ≡ some v → IsMutator v p → CanSlot o p at slot w c → AddsCommand o words views k p.number c (set words (at + HEADER_WORDS + slot) w) (set views id (slot_swapped v c (slice_index words (at + HEADER_WORDS + slot)))) }
+{}
+
+/// A `push` onto a full own stack, or a `pop` off an empty one: no word changes, and one command that changes no
+/// node is added.
+pub fn slot_refusal()
+    ensures { (o : Opening) (words : List ℕ) (views : List Seen) (id : ℕ) (v : Seen) (p : Part) (at : ℕ) (c : Command) (k : Keeps o words views) → get_elem? views id ≡ some v → IsMutator v p → IsRefusedSlot o p at c → AddsCommand o words views k p.number c words (set views id (slot_refused v c)) }
+{}
+
 /// A store where no object is yet: that word changes, and no event is added.
 pub fn unborn_store()
     ensures { (o : Opening) (words : List ℕ) (views : List Seen) (id : ℕ) (v : Seen) (p : Part) (at w : ℕ) (k : Keeps o words views) → get_elem? views id ≡ some v → IsMutator v p → CanStore o p at → Stays o words views k (set words at w) (set views id (stored v at w)) }
@@ -69,6 +123,11 @@ pub fn scan()
 /// The words of the heap of which nothing was made open the first round of a run.
 pub fn empty_heap_opens()
     ensures { (layout : Layout) (words : List ℕ) → IsLayout layout → IsEmptyHeap layout words → CanOpen (first_opening layout) words }
+{}
+
+/// The hands of an opening have the words of each stack that its mutator made and that is tracked.
+pub fn old_stacks_are_listed()
+    ensures { (o : Opening) (words : List ℕ) → CanOpen o words → (m : ℕ) → m < o.layout.mutators → OwnSlots o [] o.core.world m (hand_of o.hands m) }
 {}
 
 /// Words that represent a world meet the rule, with a seat that has every part and no events.

@@ -8,8 +8,8 @@ ghost use Rattle.std.specs.Prelude.{◌≡◌, ℕ, [], set, slice_index};
 ghost use Rattle.nmgc_graph.specs.declared.command.Command.{Command};
 ghost use Rattle.nmgc_graph.specs.declared.command.Command.TheVariants.{Yield};
 ghost use Rattle.nmgc_round.specs.View.{Opening, no_opening, word, answered, swapped, stored, loaded, gave_birth, whole, exclusive, nobody};
-ghost use Rattle.nmgc_round.specs.Ready.{scanned_by};
-ghost use Rattle.nmgc_round.specs.Told.{taken, Tells, TellsField, TellsScan, IsSafe};
+ghost use Rattle.nmgc_round.specs.Ready.{Mutates, scanned_by};
+ghost use Rattle.nmgc_round.specs.Told.{taken, Tells, TellsField, TellsQueue, TellsScan, IsSafe};
 ghost use Rattle.nmgc_round.specs.Seating.{keeps_rest, gives_first, mutates, collecting, together};
 ghost use Rattle.nmgc_round.specs.Rule.{Holding};
 ghost use Rattle.nmgc_round.specs.Finishing.{Ended};
@@ -106,7 +106,7 @@ pub struct Takes<A, C> {
 }
 
 impl<A: Located, C: Asked> Play<(), View> for Takes<A, C> {
-    ghost then = { λ s m n w. ((w.0 ≡ taken m.0 A.at A.offset C.command n) × TellsField m.0.opening A.offset n) × (w.1 ≡ []) };
+    ghost then = { λ s m n w. ((w.0 ≡ taken m.0 A.at A.offset C.command n) × TellsField m.0.opening A.offset n × Mutates TellsQueue m.0) × (w.1 ≡ []) };
 }
 
 /// The collector scans a word.

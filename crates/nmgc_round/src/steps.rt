@@ -18,7 +18,7 @@ ghost use Rattle.std.specs.Prelude.{◌≡◌, ◌+◌, ◌<◌, MatchOption, If
 ghost use Rattle.nmgc_object.specs.declared.size.TheConstants.{HEADER_WORDS};
 ghost use Rattle.nmgc_round.specs.View.{word, loaded, answered, swapped, stored, gave_birth};
 ghost use Rattle.nmgc_round.specs.Ready.{Mutates, CanScan, scanned_by, CanLoad, CanSwap, CanStore, CanBear};
-ghost use Rattle.nmgc_round.specs.Told.{CanFix, CanTake, taken, Tells, TellsField, TellsScan, IsSafe};
+ghost use Rattle.nmgc_round.specs.Told.{CanFix, CanTake, taken, Tells, TellsField, TellsQueue, TellsScan, IsSafe};
 ghost use Rattle.nmgc_round.specs.Seat.{IsAt, Knows, seen, word_count};
 
 use crate::plays::{Asked, Births, Fixes, Loads, Located, Scans, Stores, Swaps, Takes};
@@ -55,6 +55,7 @@ impl Round {
         requires within { at.0 + offset < word_count self.now }
         ensures view { Knows self.now seat.old seat.new (taken (seen seat.old) at.0 offset command.now result) }
         ensures safe { TellsField (seen seat.old).opening offset result }
+        ensures queue { Mutates TellsQueue (seen seat.old) }
     {
         let _ = command;
         self.table
@@ -68,7 +69,8 @@ impl Round {
     ///
     /// A command may take its place here: at the header of g one that reads no word which changes, or is
     /// refused; at a constructor's field the `get` that reads it. Its row has its reply, and where the field is
-    /// a pointer, an object is there within the heap's words.
+    /// a pointer, an object is there within the heap's words. So it is of each finaliser that waited for the
+    /// mutator, of which `nextfin` takes the first.
     pub fn load_fixed(
         &self,
         seat: &mut MutatorSeat,
@@ -82,6 +84,7 @@ impl Round {
         ensures view { MatchOption command.entry (Knows self.now seat.old seat.new (loaded (seen seat.old) at.0 offset result)) (λ c. Knows self.now seat.old seat.new (taken (seen seat.old) at.0 offset c.now result)) }
         ensures room { IfNone command.entry (Tells (seen seat.old).opening at.0 offset result) }
         ensures safe { IfSome command.entry (λ c. TellsField (seen seat.old).opening offset result) }
+        ensures queue { IfSome command.entry (λ c. Mutates TellsQueue (seen seat.old)) }
     {
         match command {
             None => self.load_plain::<Brand>(seat, at, offset),

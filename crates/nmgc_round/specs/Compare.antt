@@ -1,0 +1,40 @@
+-- Compare-exchange of a field: when it may be taken, and what its seat knows after it.
+use Rattle.std.specs.Prelude.{◌≡◌, ℕ, ◌*◌, ◌<◌, Bool, true, false, List, set, if◌then◌else◌}
+use Rattle.nmgc_graph.specs.declared.command.Operand.{Operand}
+use Rattle.nmgc_graph.specs.declared.command.Command.{Command}
+use Rattle.nmgc_graph.specs.declared.command.Command.TheVariants.{Cas}
+use Rattle.nmgc_graph.specs.declared.command.Reply.TheVariants as reply
+use Rattle.nmgc_object.specs.declared.words.Header.{Header}
+use Rattle.nmgc_round.specs.declared.compare.Exchanged.{Exchanged}
+use Rattle.nmgc_round.specs.declared.compare.Exchanged.TheVariants as outcome
+use Rattle.nmgc_round.specs.View.{plain, Opening, Part, Seen, changing, doing, finding, owed_word, answered}
+use Rattle.nmgc_round.specs.Ready.{CanGive, Names, IsWritable, operand_word}
+
+-- `cas` of this field, from one word to another
+pub record CanExchange (o : Opening) (p : Part) (at index expected w : ℕ) (c : Command) : Type 0 where
+  pub gives : CanGive o p c
+  pub object : Operand
+  pub before : Operand
+  pub value : Operand
+  pub command : c ≡ Cas object index before value
+  pub object_word : operand_word o p object ≡ 2 * at
+  pub before_word : operand_word o p before ≡ expected
+  pub value_word : operand_word o p value ≡ w
+  pub header : Header
+  pub names : Names p at header
+  pub kind : IsWritable header.kind
+  pub within : index < header.fields
+
+-- the view after it: a swap that found the expected word and answers yes, or a command that answers no
+abbrev pub exchanged : Seen → Command → ℕ → Bool → Seen
+exchanged v c expected true = changing (λ p. doing (finding p expected) c (plain reply.Yes) (owed_word v.opening.marking expected)) v
+exchanged v c expected false = answered v c (plain reply.No)
+
+-- the words after it
+abbrev pub words_exchanged : List ℕ → ℕ → ℕ → Bool → List ℕ
+words_exchanged words i w hit = if hit then set words i w else words
+
+-- whether it wrote
+abbrev pub wrote : Exchanged → Bool
+wrote outcome.Yes = true
+wrote outcome.No = false

@@ -1,0 +1,95 @@
+-- A slot of an own stack: when it may be loaded or swapped, and what the seat knows then.
+use Rattle.std.specs.Prelude.{◌≡◌, ◌≢◌, ◌⊎◌, ℕ, ◌+◌, ◌*◌, ◌<◌, ◌≤◌, List, length, slice_index, Contains, Some}
+use Rattle.nmgc_graph.specs.declared.value.Name.{Name}
+use Rattle.nmgc_graph.specs.declared.node.Kind.TheVariants as kind
+use Rattle.nmgc_graph.specs.declared.command.Operand.{Operand}
+use Rattle.nmgc_graph.specs.declared.command.Command.{Command}
+use Rattle.nmgc_graph.specs.declared.command.Command.TheVariants.{Push, Pop}
+use Rattle.nmgc_graph.specs.declared.command.Reply.{Reply}
+use Rattle.nmgc_graph.specs.declared.command.Reply.TheVariants.{Fine, StackFull, StackEmpty}
+use Rattle.nmgc_object.specs.Words.{name_word, IsName}
+use Rattle.nmgc_object.specs.declared.words.Header.{Header}
+use Rattle.nmgc_round.specs.View.{plain, word, Opening, Part, Seen, hand_now, changing, doing, finding, owed_word, answered}
+use Rattle.nmgc_round.specs.Own.{slots_at}
+use Rattle.nmgc_round.specs.Ready.{CanGive, Names, operand_word}
+
+-- an operand refers to a stack that this mutator made: the seat names its header and its name
+pub record IsOwn (o : Opening) (p : Part) (at : ℕ) : Type 0 where
+  pub object : Operand
+  pub object_word : operand_word o p object ≡ 2 * at
+  pub header : Header
+  pub names : Names p at header
+  pub is_stack : header.kind ≡ kind.Stack
+  pub name : Name
+  pub valid : IsName name
+  pub named : Contains p.fixed (record { at = at; offset = 1; word = name_word name })
+  pub own : name.maker ≡ p.number
+
+-- a load of a slot
+pub record CanPeek (o : Opening) (p : Part) (at slot : ℕ) : Type 0 where
+  pub stack : IsOwn o p at
+  pub within : slot < stack.header.fields
+
+-- the word that a load of a slot finds is the one that the mutator's rows leave there, and 0 exactly past the top; there are no more words than slots
+pub record TellsSlot (o : Opening) (p : Part) (at slot w : ℕ) : Type 0 where
+  pub words : List ℕ
+  pub listed : slots_at (hand_now o p).stacks at ≡ Some words
+  pub is_word : w ≡ slice_index words slot
+  pub set : slot < length words → w ≢ 0
+  pub most : (header : Header) → Names p at header → length words ≤ header.fields
+
+-- `push` of this word into the first slot that has none
+pub record CanPush (o : Opening) (p : Part) (at slot w : ℕ) (c : Command) : Type 0 where
+  pub gives : CanGive o p c
+  pub stack : IsOwn o p at
+  pub value : Operand
+  pub command : c ≡ Push stack.object value
+  pub value_word : operand_word o p value ≡ w
+  pub first : (ws : List ℕ) → slots_at (hand_now o p).stacks at ≡ Some ws → slot ≡ length ws
+  pub within : slot < stack.header.fields
+
+-- `pop` of the last slot that has one
+pub record CanPop (o : Opening) (p : Part) (at slot : ℕ) (c : Command) : Type 0 where
+  pub gives : CanGive o p c
+  pub stack : IsOwn o p at
+  pub dest : ℕ
+  pub command : c ≡ Pop dest stack.object
+  pub last : (ws : List ℕ) → slots_at (hand_now o p).stacks at ≡ Some ws → slot + 1 ≡ length ws
+
+-- one of both: a pop leaves 0
+abbrev pub CanSlot : Opening → Part → ℕ → ℕ → ℕ → Command → Type 0
+CanSlot o p at slot w c = CanPush o p at slot w c ⊎ (CanPop o p at slot c × (w ≡ 0))
+
+-- the view after a swap that found this word: what is popped is owed
+abbrev pub slot_swapped : Seen → Command → ℕ → Seen
+slot_swapped v (Pop dest object) n = changing (λ p. doing (finding p n) (Pop dest object) (word n) (owed_word v.opening.marking n)) v
+slot_swapped v c n = answered v c (plain Fine)
+
+-- `push` onto a stack that is full, and `pop` off one that is empty, as one without slots always is
+pub record IsFull (o : Opening) (p : Part) (at : ℕ) (c : Command) : Type 0 where
+  pub gives : CanGive o p c
+  pub stack : IsOwn o p at
+  pub value : Operand
+  pub command : c ≡ Push stack.object value
+  pub full : (ws : List ℕ) → slots_at (hand_now o p).stacks at ≡ Some ws → stack.header.fields ≤ length ws
+
+-- the operand refers to an own stack that has no value on it
+pub record IsEmpty (o : Opening) (p : Part) (at : ℕ) (c : Command) : Type 0 where
+  pub gives : CanGive o p c
+  pub stack : IsOwn o p at
+  pub dest : ℕ
+  pub command : c ≡ Pop dest stack.object
+  pub empty : (ws : List ℕ) → slots_at (hand_now o p).stacks at ≡ Some ws → 0 < stack.header.fields → length ws ≡ 0
+
+-- one of both
+abbrev pub IsRefusedSlot : Opening → Part → ℕ → Command → Type 0
+IsRefusedSlot o p at c = IsFull o p at c ⊎ IsEmpty o p at c
+
+-- the reply then
+abbrev pub slot_refusal_reply : Command → Reply
+slot_refusal_reply (Push object v) = StackFull
+slot_refusal_reply c = StackEmpty
+
+-- the view after it
+abbrev pub slot_refused : Seen → Command → Seen
+slot_refused v c = answered v c (plain (slot_refusal_reply c))

@@ -1,0 +1,56 @@
+-- The value of a weak pointer: when it may be loaded or taken, and what the seat knows then.
+use Rattle.std.specs.Prelude.{◌≡◌, ℕ, ◌+◌, ◌*◌, ◌==◌, [], ◌∷◌, Contains, if◌then◌else◌}
+use Rattle.nmgc_graph.specs.declared.node.Kind.TheVariants as kind
+use Rattle.nmgc_graph.specs.declared.command.Operand.{Operand}
+use Rattle.nmgc_graph.specs.declared.command.Command.{Command}
+use Rattle.nmgc_graph.specs.declared.command.Command.TheVariants.{Deref, Finalise}
+use Rattle.nmgc_graph.specs.declared.command.Reply.TheVariants.{Dead}
+use Rattle.nmgc_object.specs.declared.words.Header.{Header}
+use Rattle.nmgc_object.specs.declared.size.TheConstants.{HEADER_WORDS}
+use Rattle.nmgc_round.specs.View.{plain, word, Opening, Part, Seen, changing, doing, owed_word, finding}
+use Rattle.nmgc_round.specs.Ready.{CanGive, Names, operand_word}
+use Rattle.nmgc_round.specs.Owing.{fixed_at, owed_words, finding_all}
+
+-- `deref` of the weak pointer at this place
+pub record CanDeref (o : Opening) (p : Part) (at : ℕ) (c : Command) : Type 0 where
+  pub gives : CanGive o p c
+  pub dest : ℕ
+  pub object : Operand
+  pub command : c ≡ Deref dest object
+  pub object_word : operand_word o p object ≡ 2 * at
+  pub header : Header
+  pub names : Names p at header
+  pub kind : header.kind ≡ kind.Weak
+
+-- `finalise` of the weak pointer at this place: the seat has loaded its finaliser
+pub record CanFinalise (o : Opening) (p : Part) (at : ℕ) (c : Command) : Type 0 where
+  pub gives : CanGive o p c
+  pub dest : ℕ
+  pub object : Operand
+  pub command : c ≡ Finalise dest object
+  pub object_word : operand_word o p object ≡ 2 * at
+  pub header : Header
+  pub names : Names p at header
+  pub kind : header.kind ≡ kind.Weak
+  pub finaliser : (n : ℕ) × Contains p.fixed (record { at = at; offset = HEADER_WORDS + 2; word = n })
+
+-- the finaliser of the weak pointer at a place, as its part names it
+abbrev pub finaliser_named : ℕ → Part → ℕ
+finaliser_named at p = fixed_at p.fixed at (HEADER_WORDS + 2)
+
+-- the part after a load that found this word: a value is owed, and an unset one is that of a dead weak pointer
+abbrev pub derefed : Opening → Command → ℕ → Part → Part
+derefed o c w p = if w == 0 then doing p c (plain Dead) [] else doing (finding p w) c (word w) (owed_word o.marking w)
+
+-- the part after a swap that found this word: weak pointer, value and finaliser are owed
+abbrev pub finalised : Opening → ℕ → Command → ℕ → Part → Part
+finalised o at c w p =
+    let ws = 2 * at ∷ w ∷ finaliser_named at p ∷ [] in
+    if w == 0 then doing p c (plain Dead) [] else doing (finding_all p ws) c (word (finaliser_named at p)) (owed_words o.marking ws)
+
+-- the views after them
+abbrev pub weak_read : Seen → Command → ℕ → Seen
+weak_read v c w = changing (derefed v.opening c w) v
+
+abbrev pub weak_taken : Seen → ℕ → Command → ℕ → Seen
+weak_taken v at c w = changing (finalised v.opening at c w) v

@@ -1,0 +1,119 @@
+//! The result of a thunk: the steps at which `force` and `update` take their place.
+//!
+//! A thunk has no result at first, and gets one at most once: the step that stores it is a compare-exchange
+//! from an unset word. From then on nothing is said of its free variables any more, so while marking that very
+//! step owes them all. The seat has loaded them before: they never change, and its view names them.
+ghost use Rattle.std.specs.Prelude.{◌≡◌, ◌≢◌, ◌+◌, ◌<◌, ◌==◌, []};
+ghost use Rattle.nmgc_object.specs.declared.size.TheConstants.{HEADER_WORDS};
+ghost use Rattle.nmgc_round.specs.Ready.{Mutates};
+ghost use Rattle.nmgc_round.specs.Told.{IsSafe};
+ghost use Rattle.nmgc_round.specs.Compare.{wrote};
+ghost use Rattle.nmgc_round.specs.Results.{CanForce, CanUpdate, forced, updated};
+ghost use Rattle.nmgc_round.specs.Seat.{IsAt, Knows, seen, word_count};
+
+use crate::compare::Exchanged;
+use crate::plays::{Asked, Located};
+use crate::table::{MutatorSeat, Round};
+use crate::view::View;
+use atomic_table::Play;
+use nmgc_graph::Command;
+use nmgc_object::{Address, HEADER_WORDS};
+use std::marker::{Brand, PhantomData};
+
+/// A result is loaded by a command.
+pub struct Forces<C> {
+    asked: PhantomData<C>,
+}
+
+impl<C: Asked> Play<(), View> for Forces<C> {
+    ghost then = { λ s m n w. ((w.0 ≡ forced m.0 C.command n) × (n ≢ 0 → IsSafe m.0.opening n)) × (w.1 ≡ []) };
+}
+
+/// A result is stored by a command, where there is none.
+pub struct Updates<A, C> {
+    place: PhantomData<A>,
+    asked: PhantomData<C>,
+}
+
+impl<A: Located, C: Asked> Play<(), View> for Updates<A, C> {
+    ghost then = { λ s m n w. (w.0 ≡ updated m.0 A.at C.command (n == s.first)) × (w.1 ≡ []) };
+}
+
+impl Round {
+    fn force_asked<C: Asked>(&self, seat: &mut MutatorSeat, at: Address, command: &Command) -> u64
+        requires seat { IsAt self.now seat.old }
+        requires asked { C.command ≡ command.now }
+        requires ready { Mutates (λ o p. CanForce o p at.0 command.now) (seen seat.old) }
+        requires within { at.0 + HEADER_WORDS < word_count self.now }
+        ensures view { Knows self.now seat.old seat.new (forced (seen seat.old) command.now result) }
+        ensures safe { result ≢ 0 → IsSafe (seen seat.old).opening result }
+    {
+        let _ = command;
+        self.table
+            .shared
+            .load::<Forces<C>>(seat, at.0 as usize + HEADER_WORDS as usize)
+    }
+
+    /// Loads the result of a thunk; 0 where it has none. The `force` that reads it takes its place here: its
+    /// row has the word as its answer, or that there is none. Where the word is a pointer, an object is there
+    /// within the heap's words.
+    pub fn load_result(&self, seat: &mut MutatorSeat, at: Address, command: &Command) -> u64
+        requires seat { IsAt self.now seat.old }
+        requires ready { Mutates (λ o p. CanForce o p at.0 command.now) (seen seat.old) }
+        requires within { at.0 + HEADER_WORDS < word_count self.now }
+        ensures view { Knows self.now seat.old seat.new (forced (seen seat.old) command.now result) }
+        ensures safe { result ≢ 0 → IsSafe (seen seat.old).opening result }
+    {
+        self.force_asked::<Brand>(seat, at, command)
+    }
+
+    fn update_asked<A: Located, C: Asked>(
+        &self,
+        seat: &mut MutatorSeat,
+        at: Address,
+        word: u64,
+        command: &Command,
+    ) -> Exchanged
+        requires seat { IsAt self.now seat.old }
+        requires place { A.at ≡ at.0 }
+        requires asked { C.command ≡ command.now }
+        requires ready { Mutates (λ o p. CanUpdate o p at.0 word command.now) (seen seat.old) }
+        requires within { at.0 + HEADER_WORDS < word_count self.now }
+        ensures { Knows self.now seat.old seat.new (updated (seen seat.old) at.0 command.now (wrote result)) }
+    {
+        let _ = command;
+        let found = self
+            .table
+            .shared
+            .compare_exchange::<Updates<A, C>>(
+                seat,
+                at.0 as usize + HEADER_WORDS as usize,
+                0,
+                word,
+            );
+        if found == 0 {
+            Exchanged::Yes
+        } else {
+            Exchanged::No
+        }
+    }
+
+    /// Stores the result of a thunk that has none. The `update` that asks for it takes its place here, and its
+    /// row answers that it was updated. The view then has the words of the free variables at the end of those
+    /// that its steps took out, and while marking they are owed from this step on. `No` comes exactly where
+    /// there is a result at this step, by the law `result_exchange`: the row answers so, and nothing else changes.
+    pub fn exchange_result(
+        &self,
+        seat: &mut MutatorSeat,
+        at: Address,
+        word: u64,
+        command: &Command,
+    ) -> Exchanged
+        requires seat { IsAt self.now seat.old }
+        requires ready { Mutates (λ o p. CanUpdate o p at.0 word command.now) (seen seat.old) }
+        requires within { at.0 + HEADER_WORDS < word_count self.now }
+        ensures { Knows self.now seat.old seat.new (updated (seen seat.old) at.0 command.now (wrote result)) }
+    {
+        self.update_asked::<Brand, Brand>(seat, at, word, command)
+    }
+}
