@@ -9,7 +9,7 @@ use Rattle.nmgc_object.specs.declared.words.TheConstants.{NIL_WORD}
 use Rattle.nmgc_round.specs.declared.table.Round.{Round}
 use Rattle.nmgc_round.specs.View.{plain, word, word_of, FixedWord, answered, Answer, Row, Hand, Part, Seen, Opening, hand_of, hand_now, leaves, holding, doing, knowing, changing, first_changed, loaded, rows_leave}
 use Rattle.nmgc_round.specs.Ready.{IsMutator}
-use Rattle.nmgc_round.specs.Told.{IsSafe, IsTold, get_refusal, set_refusal, header_at, refused, taken, told, told_by}
+use Rattle.nmgc_round.specs.Told.{IsSafe, IsTold, get_refusal, set_refusal, owner_refusal, first_told, header_at, refused, taken, told, told_by}
 use Rattle.nmgc_graph.specs.World.{given}
 use Rattle.nmgc_graph.specs.declared.node.Kind.TheVariants as kind
 use Rattle.nmgc_object.specs.Words.{kind_number}
@@ -23,7 +23,7 @@ use Rattle.nmgc_object.specs.FinQueue.{FinQueue}
 use Rattle.nmgc_graph.specs.declared.value.Name.{Name}
 use Rattle.nmgc_graph.specs.declared.value.Value.{Value}
 use Rattle.nmgc_graph.specs.declared.value.Value.TheVariants as value
-use Rattle.nmgc_graph.specs.declared.command.Reply.TheVariants.{Given, Yes, No, NoPointer, NoField, WrongKind, Fixed}
+use Rattle.nmgc_graph.specs.declared.command.Reply.TheVariants.{Given, Yes, No, NoPointer, NoField, WrongKind, NotOwner, Fixed}
 use Rattle.nmgc_graph.specs.declared.command.Command.TheVariants.{Num, Nil, Mov, Con, Var, Arr, Thunk, Weak, Stack, Get, Set, Cas, Update, Force, Push, Pop, Deref, Finalise, NextFin, Show, Same, Yield, Collect, Full}
 use Rattle.nmgc_graph.specs.Command.{IsMaking, words_made}
 use Rattle.nmgc_object.specs.Words.{name_word, IsName}
@@ -232,14 +232,14 @@ told_makes_none o p (Weak dest key v finaliser) t = absurd t
 told_makes_none o p (Stack dest size) t = absurd t
 told_makes_none o p (Get dest object index) t = (λ q. q, refl)
 told_makes_none o p (Set object index v) t = (λ q. q, refl)
-told_makes_none o p (Cas object index expected v) t = absurd t
-told_makes_none o p (Update object v) t = absurd t
-told_makes_none o p (Force dest object) t = absurd t
-told_makes_none o p (Push object v) t = absurd t
-told_makes_none o p (Pop dest object) t = absurd t
-told_makes_none o p (Deref dest object) t = absurd t
-told_makes_none o p (Finalise dest object) t = absurd t
-told_makes_none o p (NextFin dest) t = absurd t
+told_makes_none o p (Cas object index expected v) t = (λ q. q, refl)
+told_makes_none o p (Update object v) t = (λ q. q, refl)
+told_makes_none o p (Force dest object) t = (λ q. q, refl)
+told_makes_none o p (Push object v) t = (λ q. q, refl)
+told_makes_none o p (Pop dest object) t = (λ q. q, refl)
+told_makes_none o p (Deref dest object) t = (λ q. q, refl)
+told_makes_none o p (Finalise dest object) t = (λ q. q, refl)
+told_makes_none o p (NextFin dest) t = (λ q. q, refl)
 told_makes_none o p (Show v) t = (λ q. q, refl)
 told_makes_none o p (Same left right) t = (λ q. q, refl)
 told_makes_none o p Yield t = (λ q. q, refl)
@@ -269,18 +269,33 @@ get_plain header = either (λ (r : Reply). given r ≡ None) (leb (header % TAG_
 set_plain : (header : ℕ) → given (set_refusal header) ≡ None
 set_plain header = either (λ (r : Reply). given r ≡ None) (eqb (header % TAG_UNIT) (kind_number kind.Con)) Fixed (get_refusal header) refl (get_plain header)
 
+owner_plain : (header : ℕ) → given (owner_refusal header) ≡ None
+owner_plain header = either (λ (r : Reply). given r ≡ None) (eqb (header % TAG_UNIT) (kind_number kind.Stack)) NotOwner WrongKind refl refl
+
+first_plain : (ws : List ℕ) → IsPlain (first_told ws)
+first_plain [] = refl
+first_plain (w ∷ ws) = tt
+
 refused_plain : (fixed : List FixedWord) (w : ℕ) (refusal : ℕ → Reply) → ((header : ℕ) → given (refusal header) ≡ None) → IsPlain (refused fixed w refusal)
 refused_plain fixed w refusal h = either IsPlain (eqb (w % 2) 0) (plain (refusal (header_at fixed (w / 2)))) (plain NoPointer) (h (header_at fixed (w / 2))) refl
 
 told_plain : (h : Hand) (fixed : List FixedWord) (c : Command) → IsPlain (told_by h fixed c)
 told_plain h fixed (Get dest object index) = refused_plain fixed (word_of h.registers object) get_refusal get_plain
 told_plain h fixed (Set object index v) = refused_plain fixed (word_of h.registers object) set_refusal set_plain
+told_plain h fixed (Cas object index expected v) = refused_plain fixed (word_of h.registers object) set_refusal set_plain
+told_plain h fixed (Update object v) = refused_plain fixed (word_of h.registers object) (λ n. WrongKind) (λ n. refl)
+told_plain h fixed (Force dest object) = refused_plain fixed (word_of h.registers object) (λ n. WrongKind) (λ n. refl)
+told_plain h fixed (Push object v) = refused_plain fixed (word_of h.registers object) owner_refusal owner_plain
+told_plain h fixed (Pop dest object) = refused_plain fixed (word_of h.registers object) owner_refusal owner_plain
+told_plain h fixed (Deref dest object) = refused_plain fixed (word_of h.registers object) (λ n. WrongKind) (λ n. refl)
+told_plain h fixed (Finalise dest object) = refused_plain fixed (word_of h.registers object) (λ n. WrongKind) (λ n. refl)
+told_plain h fixed (NextFin dest) = first_plain h.queue
 told_plain h fixed (Show v) = tt
 told_plain h fixed (Same left right) = either (λ (r : Reply). given r ≡ None) (eqb (word_of h.registers left) (word_of h.registers right)) Yes No refl refl
 told_plain h fixed _ = refl
 
 -- what is answered at a fixed load gives no value, unless it is a word
-told_plainly : (h : Hand) (fixed : List FixedWord) (c : Command) (r : Reply) → told_by h fixed c ≡ plain r → given r ≡ None
+pub told_plainly : (h : Hand) (fixed : List FixedWord) (c : Command) (r : Reply) → told_by h fixed c ≡ plain r → given r ≡ None
 told_plainly h fixed c r e = subst IsPlain e (told_plain h fixed c)
 
 -- a command that answered plainly and did no more than this to the mutator
@@ -356,7 +371,7 @@ does_read round v new m n c w x r g bare named rest = record {
 }
 
 -- the word that a register was given
-read_set : (ws : List ℕ) (d w x : ℕ) → d < length ws → get_or (set ws d w) d x ≡ w
+pub read_set : (ws : List ℕ) (d w x : ℕ) → d < length ws → get_or (set ws d w) d x ≡ w
 read_set [] d w x lt = absurd (omega (arith, lt))
 read_set (y ∷ ws) zero w x lt = refl
 read_set (y ∷ ws) (suc d) w x lt = read_set ws d w x (omega (arith, lt))

@@ -56,8 +56,8 @@ new_reserved number layout m n new r = record {
   updrem = r.updrem.items ∙ new.updrem;
 }
 
-pub has_room : (number : ℕ) (layout : Layout) (m : Mutator) (slice long : ℕ) → IsNew number layout m → slice ≤ 1048576 → slice ≤ m.replies.spare → slice ≤ m.recorded.spare → 8 * slice ≤ m.updrem.spare → HasRoom m (min slice long)
-has_room number layout m slice long new few a b c =
+pub has_room : (number : ℕ) (layout : Layout) (m : Mutator) (slice long : ℕ) → IsNew number layout m → slice ≤ 1048576 → slice ≤ m.replies.spare → slice ≤ m.recorded.spare → slice ≤ m.young_weaks.spare → 8 * slice ≤ m.updrem.spare → HasRoom m (min slice long)
+has_room number layout m slice long new few a b w c =
     let l = min-le_left slice long in
     let s = new.serial in
-    record { replies = omega arith; recorded = omega arith; updrem = omega arith; serials = omega arith }
+    record { replies = omega arith; recorded = omega arith; updrem = omega arith; young_weaks = omega arith; serials = omega arith }

@@ -16,13 +16,18 @@ use Rattle.nmgc_mutator.specs.declared.mutator.Mutator.{Mutator}
 use Rattle.nmgc_mutator.specs.declared.mutator.Step.TheVariants.{Replied}
 use Rattle.nmgc_mutator.specs.declared.mutator.SliceEnd.{SliceEnd}
 use Rattle.nmgc_mutator.specs.declared.mutator.SliceEnd.TheVariants as ending
-use Rattle.nmgc_mutator.specs.Ready.{IsReady, hand_in, part_of, rows_of}
-use Rattle.nmgc_mutator.specs.Records.{numbers, recorded_by, all_recorded, pushed_at, all_pushed}
-use Rattle.nmgc_mutator.specs.Does.{HasDone, Steps, IsYield}
-use Rattle.nmgc_mutator.specs.Slice.{IsRunning, HasRoom, HasRun, GoesOn, IsEnd, Ended, tried, next_turn, passed, turned}
+use Rattle.nmgc_mutator.specs.Ready.{IsReady, IsBuilt, hand_in, part_of, rows_of}
+use Rattle.nmgc_mutator.specs.Acts.{CanStep, HasStepRoom, StepsTo}
+use Rattle.std.specs.Prelude.{All}
+use Rattle.std.proofs.lemmas.List.Elements.{All-head, All-tail}
+use Rattle.nmgc_graph.specs.declared.command.Command.TheVariants.{Full}
+use Rattle.nmgc_mutator.specs.Records.{numbers, noted_by, all_recorded, weaks_by, all_weaks, pushed_at, all_pushed}
+use Rattle.nmgc_mutator.specs.Does.{HasDone, IsYield}
+use Rattle.nmgc_mutator.specs.Slice.{CanRun, IsRunning, HasRoom, HasRun, GoesOn, IsEnd, Ended, tried, next_turn, passed, turned}
 use Rattle.nmgc_mutator.proofs.Readies.{went_both, hand_along, kept_items}
 use Rattle.nmgc_mutator.proofs.Births.{last_case}
 use Rattle.nmgc_mutator.proofs.Steps.{ready_turned}
+use Rattle.nmgc_mutator.proofs.Acting.{most_noted, acted_done}
 
 is_there : {A : Type 0} → Option A → Type 0
 is_there None = ⊥
@@ -71,9 +76,13 @@ all_more fs (r ∷ rs) (x ∷ xs) ss ys h g = (h.0, all_more fs rs xs ss ys h.1 
 -- what more rows have recorded, and what more words that are owed have pushed
 recorded_more : (layout : Layout) (h : Hand) (rs ss : List Row) → all_recorded layout h (rs ++ ss) ≡ all_recorded layout h rs ++ all_recorded layout (rows_leave h rs) ss
 recorded_more layout h [] ss = refl
-recorded_more layout h (r ∷ rs) ss = ap (λ l. recorded_by layout h.registers r.command r.answer ++ l) (recorded_more layout (leaves h r.command r.answer) rs ss) ∙ sym (append_assoc (recorded_by layout h.registers r.command r.answer) (all_recorded layout (leaves h r.command r.answer) rs) (all_recorded layout (rows_leave (leaves h r.command r.answer) rs) ss))
+recorded_more layout h (r ∷ rs) ss = ap (λ l. noted_by layout h r.command r.answer ++ l) (recorded_more layout (leaves h r.command r.answer) rs ss) ∙ sym (append_assoc (noted_by layout h r.command r.answer) (all_recorded layout (leaves h r.command r.answer) rs) (all_recorded layout (rows_leave (leaves h r.command r.answer) rs) ss))
 
-pushed_more : (layout : Layout) (ws xs : List ℕ) → all_pushed layout (ws ++ xs) ≡ all_pushed layout ws ++ all_pushed layout xs
+weaks_more : (rs ss : List Row) → all_weaks (rs ++ ss) ≡ all_weaks rs ++ all_weaks ss
+weaks_more [] ss = refl
+weaks_more (r ∷ rs) ss = ap (λ l. weaks_by r.command r.answer ++ l) (weaks_more rs ss) ∙ sym (append_assoc (weaks_by r.command r.answer) (all_weaks rs) (all_weaks ss))
+
+pub pushed_more : (layout : Layout) (ws xs : List ℕ) → all_pushed layout (ws ++ xs) ≡ all_pushed layout ws ++ all_pushed layout xs
 pushed_more layout [] xs = refl
 pushed_more layout (w ∷ ws) xs = ap (λ l. pushed_at layout w ++ l) (pushed_more layout ws xs) ∙ sym (append_assoc (pushed_at layout w) (all_pushed layout ws) (all_pushed layout xs))
 
@@ -98,7 +107,8 @@ done_none round seat m r = record {
   replies = kept_items m.replies.items;
   recorded = kept_items (numbers m.recorded.items);
   pushed = kept_items (numbers m.updrem.items);
-  room = record { recorded = omega arith; updrem = omega arith; queue = omega arith; young_weaks = refl };
+  weaks = kept_items (numbers m.young_weaks.items);
+  room = record { recorded = omega arith; updrem = omega arith; queue = omega arith; young_weaks = omega arith };
   spare = omega arith;
   serial = omega arith;
   number = refl;
@@ -133,11 +143,17 @@ done_more round v mid new m x y n xs ys h t s =
           ∙ append_assoc (numbers m.updrem.items) (all_pushed m.layout h.owed) (all_pushed y.layout s.owed)
           ∙ ap (λ (l : Layout). numbers m.updrem.items ++ (all_pushed m.layout h.owed ++ all_pushed l s.owed)) layout
           ∙ ap (λ (l : List ℕ). numbers m.updrem.items ++ l) (sym (pushed_more m.layout h.owed s.owed));
+      weaks =
+          s.weaks
+          ∙ ap (λ (z : Mutator). numbers z.young_weaks.items ++ all_weaks s.rows) t
+          ∙ ap (λ (l : List ℕ). l ++ all_weaks s.rows) h.weaks
+          ∙ append_assoc (numbers m.young_weaks.items) (all_weaks h.rows) (all_weaks s.rows)
+          ∙ ap (λ (l : List ℕ). numbers m.young_weaks.items ++ l) (sym (weaks_more h.rows s.rows));
       room = record {
         recorded = (let a = h.room.recorded in let b = s.room.recorded in let e = ap (λ (z : Mutator). z.recorded.spare) t in omega arith);
         updrem = (let a = h.room.updrem in let b = s.room.updrem in let e = ap (λ (z : Mutator). z.updrem.spare) t in omega arith);
         queue = (let a = h.room.queue in let b = s.room.queue in let e = ap (λ (z : Mutator). z.queue.spare) t in omega arith);
-        young_weaks = s.room.young_weaks ∙ ap (λ (z : Mutator). z.young_weaks) t ∙ h.room.young_weaks;
+        young_weaks = (let a = h.room.young_weaks in let b = s.room.young_weaks in let e = ap (λ (z : Mutator). z.young_weaks.spare) t in omega arith);
       };
       spare = (let a = h.spare in let b = s.spare in let e = ap (λ (z : Mutator). z.replies.spare) t in omega arith);
       serial = (let a = h.serial in let b = s.serial in let e = ap (λ (z : Mutator). z.serial) t in omega arith);
@@ -169,10 +185,10 @@ ended_tried c ending.Full done is = refl
 ended_tried c (ending.Nursery need left) done is = absurd is
 
 -- there is room for one more
-pub room_left : (n : Mutator) (slice long i : ℕ) → HasRoom n (min slice long - i) → i < slice → i < long → (0 < n.replies.spare) × (0 < n.recorded.spare) × (0 < n.updrem.spare) × (n.serial < 2 ^ 32 - 1)
+pub room_left : (n : Mutator) (slice long i : ℕ) → HasRoom n (min slice long - i) → i < slice → i < long → (0 < n.replies.spare) × (0 < n.recorded.spare) × (8 ≤ n.updrem.spare) × (n.serial < 2 ^ 32 - 1) × (1 ≤ n.young_weaks.spare)
 room_left n slice long i h a b =
     let k : i < min slice long = omega arith in
-    ((let x = h.replies in omega arith), (let x = h.recorded in omega arith), (let x = h.updrem in omega arith), (let x = h.serials in omega arith))
+    ((let x = h.replies in omega arith), (let x = h.recorded in omega arith), (let x = h.updrem in omega arith), (let x = h.serials in omega arith), (let x = h.young_weaks in omega arith))
 
 pub passed_more : (turns i : ℕ) → next_turn (passed turns i) ≡ passed turns (i + 1)
 passed_more turns i = let e : suc i ≡ i + 1 = omega arith in ap (λ n. passed turns n) e
@@ -202,33 +218,36 @@ running_none round seat m program slice r room = record {
     replies = (let a = room.replies in omega arith);
     recorded = (let a = room.recorded in omega arith);
     updrem = (let a = room.updrem in omega arith);
+    young_weaks = (let a = room.young_weaks in omega arith);
     serials = (let a = room.serials in omega arith);
   };
   turns = refl;
 }
 
-pub running_more : (round : Round) (v : Seen) (m : Mutator) (program : List Command) (slice i : ℕ) (mid : RoundSeat) (x y : Mutator) (new : RoundSeat) (n : Mutator) (c : Command) (r : Reply) → IsRunning round v m program slice i mid x → i < slice → slice_get program i ≡ Some c → y ≡ turned x (next_turn x.turns) → Steps round mid new y n c (Replied r) → RunsOn round v m program slice (i + 1) new n
+pub running_more : (round : Round) (v : Seen) (m : Mutator) (program : List Command) (slice i : ℕ) (mid : RoundSeat) (x y : Mutator) (new : RoundSeat) (n : Mutator) (c : Command) (r : Reply) → IsRunning round v m program slice i mid x → i < slice → slice_get program i ≡ Some c → y ≡ turned x (next_turn x.turns) → StepsTo round mid new y n c (Replied r) → RunsOn round v m program slice (i + 1) new n
 running_more round v m program slice i mid x y new n c r h lt g e s =
     let t : y ≡ turned x y.turns = e ∙ ap (λ k. turned x k) (sym (ap (λ (z : Mutator). z.turns) e)) in
     let long = slice_get_within program i c g in
     let j : suc i ≡ i + 1 = omega arith in
     let k : i < min slice (length program) = omega arith in
+    let d = acted_done round (seen mid) new y n c r s in
     record {
-      ready = s.0.ready;
+      ready = s.ready;
       run = (
         h.run.0 ++ (c, r) ∷ [],
         map_more (λ d. d.0) h.run.0 ((c, r) ∷ []) ∙ ap (λ (l : List Command). l ++ c ∷ []) h.run.1 ∙ sym (take_more program i c g) ∙ ap (λ z. take z program) j,
-        done_more round v mid new m x y n h.run.0 ((c, r) ∷ []) h.run.2 t s.0,
+        done_more round v mid new m x y n h.run.0 ((c, r) ∷ []) h.run.2 t d,
       );
-      layout = s.0.layout ∙ ap (λ (z : Mutator). z.layout) e ∙ h.layout;
+      layout = s.layout ∙ ap (λ (z : Mutator). z.layout) e ∙ h.layout;
       within = omega arith;
       room = record {
-        replies = (let a = h.room.replies in let b = s.0.spare in let q = ap (λ (z : Mutator). z.replies.spare) e in omega arith);
-        recorded = (let a = h.room.recorded in let b = s.0.room.recorded in let q = ap (λ (z : Mutator). z.recorded.spare) e in omega arith);
-        updrem = (let a = h.room.updrem in let b = s.0.room.updrem in let q = ap (λ (z : Mutator). z.updrem.spare) e in omega arith);
-        serials = (let a = h.room.serials in let b = s.0.serial in let q = ap (λ (z : Mutator). z.serial) e in omega arith);
+        replies = (let a = h.room.replies in let b = s.spare in let q = ap (λ (z : Mutator). z.replies.spare) e in omega arith);
+        recorded = (let a = h.room.recorded in let b = d.room.recorded in let q = ap (λ (z : Mutator). z.recorded.spare) e in omega arith);
+        updrem = (let a = h.room.updrem in let b = d.room.updrem in let q = ap (λ (z : Mutator). z.updrem.spare) e in omega arith);
+        young_weaks = (let a = h.room.young_weaks in let b = d.room.young_weaks in let q = ap (λ (z : Mutator). z.young_weaks.spare) e in omega arith);
+        serials = (let a = h.room.serials in let b = s.serial in let q = ap (λ (z : Mutator). z.serial) e in omega arith);
       };
-      turns = s.1 ∙ ap (λ (z : Mutator). z.turns) e ∙ ap (λ z. next_turn z) h.turns ∙ passed_more m.turns i;
+      turns = s.turns ∙ ap (λ (z : Mutator). z.turns) e ∙ ap (λ z. next_turn z) h.turns ∙ passed_more m.turns i;
     }
 
 -- passing the gate and no more
@@ -247,6 +266,7 @@ still_runs round v m cs mid new x y n h e f s =
         replies = h.2.replies;
         recorded = h.2.recorded;
         pushed = h.2.pushed;
+        weaks = h.2.weaks;
         room = record { recorded = h.2.room.recorded; updrem = h.2.room.updrem; queue = h.2.room.queue; young_weaks = h.2.room.young_weaks };
         spare = h.2.spare;
         serial = h.2.serial;
@@ -254,3 +274,20 @@ still_runs round v m cs mid new x y n h e f s =
         layout = h.2.layout;
       },
     ))
+
+-- what a slice may do so far
+pub built_steps : (c : Command) → IsBuilt c → CanStep c
+built_steps Full b = absurd b
+built_steps _ b = tt
+
+pub built_room : (n : Mutator) (turns : ℕ) (c : Command) (slice long i : ℕ) → HasRoom n (min slice long - i) → i < slice → i < long → HasStepRoom (turned n turns) c
+built_room n turns c slice long i h a b =
+    let r = room_left n slice long i h a b in
+    let most = most_noted c in
+    record { replies = r.0; recorded = r.1; updrem = (let e = most.0 in let some_ = r.2 in omega arith); young_weaks = (let e = most.1 in let one = r.4 in omega arith) }
+
+pub built_at : (words : ℕ) (program : List Command) (i : ℕ) (c : Command) → All (CanRun words) program → slice_get program i ≡ Some c → IsBuilt c
+unfolding is_there first_or
+built_at words [] i c all e = absurd (subst (λ o. is_there o) (sym e) tt)
+built_at words (d ∷ program) zero c all e = subst (λ (b : Command). IsBuilt b) (ap (λ o. first_or c o) e) (All-head (CanRun words) d program all).built
+built_at words (d ∷ program) (suc i) c all e = built_at words program i c (All-tail (CanRun words) d program all) e

@@ -8,10 +8,9 @@ use Rattle.nmgc_round.specs.declared.table.Round.{Round}
 use Rattle.nmgc_round.specs.View.{Opening, Seen, Row, plain, doing, finding, swapped, owed_word, leaves, word_of}
 use Rattle.nmgc_round.specs.Seat.{RoundSeat, seen, Knows, opening_of}
 use Rattle.nmgc_mutator.specs.declared.mutator.Mutator.{Mutator}
-use Rattle.nmgc_mutator.specs.declared.mutator.Step.TheVariants.{Replied}
 use Rattle.nmgc_mutator.specs.Ready.{IsReady, hand_in}
 use Rattle.nmgc_mutator.specs.Records.{numbers, recorded_by, recorded_at, all_pushed}
-use Rattle.nmgc_mutator.specs.Does.{Does, Went, HasReplied, Steps, with_recorded, with_updrem}
+use Rattle.nmgc_mutator.specs.Does.{Does, Went, with_recorded, with_updrem}
 use Rattle.nmgc_mutator.specs.Slice.{turned}
 use Rattle.nmgc_mutator.proofs.Readies.{went_changing, hand_after, ready_same, does_later, kept_items}
 use Rattle.nmgc_graph.specs.declared.command.Operand.{Operand}
@@ -90,32 +89,6 @@ ready_turned round seat m turns r = record {
   safe = r.safe;
   whole = record { layout = r.whole.layout; number = r.whole.number; size = r.whole.size };
 }
-
--- a command, with its reply noted
-pub steps_done : (round : Round) (old new : RoundSeat) (m x n : Mutator) (c : Command) (r : Reply) → IsReady round old m → Does round (seen old) new m x c r → HasReplied x n r → Steps round old new m n c (Replied r)
-steps_done round old new m x n c r is d h = (
-  record {
-    ready = subst (λ (y : Mutator). IsReady round new y) (sym h.rest) (ready_noted round new x n.replies d.ready);
-    rows = record { command = c; answer = d.answer } ∷ [];
-    owed = d.owed;
-    went = d.went;
-    replied = ((refl, d.reply), tt);
-    replies = h.items ∙ ap (λ (l : Room Reply). l.items ++ r ∷ []) d.replies;
-    recorded = ap (λ (y : Mutator). numbers y.recorded.items) h.rest ∙ d.recorded ∙ ap (λ (l : List ℕ). numbers m.recorded.items ++ l) (kept_items (recorded_by m.layout m.registers c d.answer) ∙ ap (λ (l : List ℕ). recorded_by m.layout l c d.answer ++ []) (sym is.holds.registers));
-    pushed = ap (λ (y : Mutator). numbers y.updrem.items) h.rest ∙ d.pushed;
-    room = record {
-      recorded = (let a = d.room.recorded in let e = ap (λ (y : Mutator). y.recorded.spare) h.rest in omega arith);
-      updrem = (let a = d.room.updrem in let e = ap (λ (y : Mutator). y.updrem.spare) h.rest in omega arith);
-      queue = (let a = d.room.queue in let e = ap (λ (y : Mutator). y.queue.spare) h.rest in omega arith);
-      young_weaks = ap (λ (y : Mutator). y.young_weaks) h.rest ∙ d.room.young_weaks;
-    };
-    spare = (let a = h.spare in let b = ap (λ (l : Room Reply). l.spare) d.replies in omega arith);
-    serial = (let a = d.serial in let e = ap (λ (y : Mutator). y.serial) h.rest in omega arith);
-    number = ap (λ (y : Mutator). y.number) h.rest ∙ d.number;
-    layout = ap (λ (y : Mutator). y.layout) h.rest ∙ d.layout;
-  },
-  ap (λ (y : Mutator). y.turns) h.rest ∙ d.turns,
-)
 
 abbrev with_lists : Mutator → Room Address → Room Address → Mutator
 with_lists m recorded updrem = record m { recorded = recorded; updrem = updrem }

@@ -19,10 +19,8 @@ use Rattle.nmgc_round.specs.Told.{header_at}
 use Rattle.nmgc_round.specs.Naming.{Replies, AllReply}
 use Rattle.nmgc_round.specs.Seat.{RoundSeat, IsAt, seen, word_count}
 use Rattle.nmgc_mutator.specs.declared.mutator.Mutator.{Mutator}
-use Rattle.nmgc_mutator.specs.declared.mutator.Step.{Step}
-use Rattle.nmgc_mutator.specs.declared.mutator.Step.TheVariants.{Replied, NurseryFull}
 use Rattle.nmgc_mutator.specs.Ready.{IsReady, part_of, rows_of, hand_in, words_by}
-use Rattle.nmgc_mutator.specs.Records.{numbers, recorded_by, all_recorded, all_pushed}
+use Rattle.nmgc_mutator.specs.Records.{numbers, recorded_by, all_recorded, all_weaks, all_pushed}
 
 -- a view became another by rows of its mutator, which owe these words: none where the round isn't marking
 pub record Went (v w : Seen) (rows : List Row) (owed : List ℕ) : Type 0 where
@@ -42,6 +40,13 @@ pub record HasUsed (old m : Mutator) (count : ℕ) : Type 0 where
   pub updrem : old.updrem.spare ≤ m.updrem.spare + count
   pub queue : old.queue.spare ≤ m.queue.spare
   pub young_weaks : m.young_weaks ≡ old.young_weaks
+
+-- and but for what so many commands of any kind note
+pub record HasSpent (old m : Mutator) (count : ℕ) : Type 0 where
+  pub recorded : old.recorded.spare ≤ m.recorded.spare + count
+  pub updrem : old.updrem.spare ≤ m.updrem.spare + 8 * count
+  pub queue : old.queue.spare ≤ m.queue.spare
+  pub young_weaks : old.young_weaks.spare ≤ m.young_weaks.spare + count
 
 -- the mutator did this command with this answer and reply, and did not note the reply yet
 pub record Does (round : Round) (v : Seen) (new : RoundSeat) (old m : Mutator) (c : Command) (r : Reply) : Type 0 where
@@ -75,16 +80,12 @@ pub record HasDone (round : Round) (v : Seen) (new : RoundSeat) (old m : Mutator
   pub replies : m.replies.items ≡ old.replies.items ++ map (λ d. d.1) done
   pub recorded : numbers m.recorded.items ≡ numbers old.recorded.items ++ all_recorded old.layout (hand_in v) rows
   pub pushed : numbers m.updrem.items ≡ numbers old.updrem.items ++ all_pushed old.layout owed
-  pub room : HasUsed old m (length done)
+  pub weaks : numbers m.young_weaks.items ≡ numbers old.young_weaks.items ++ all_weaks rows
+  pub room : HasSpent old m (length done)
   pub spare : old.replies.spare ≤ m.replies.spare + length done
   pub serial : m.serial ≤ old.serial + length done
   pub number : m.number ≡ old.number
   pub layout : m.layout ≡ old.layout
-
--- what a step came to
-abbrev pub Steps : Round → RoundSeat → RoundSeat → Mutator → Mutator → Command → Step → Type 0
-Steps round old new m n c (Replied r) = HasDone round (seen old) new m n ((c, r) ∷ []) × (n.turns ≡ m.turns)
-Steps round old new m n c (NurseryFull need left) = (n ≡ m) × (new ≡ old) × IsMaking c × (need ≡ words_made c) × (left ≡ m.nursery.end - m.nursery.top) × (left < need)
 
 -- an operand refers to an object, whose header the seat names
 pub record Finds (round : Round) (v : Seen) (m : Mutator) (operand : Operand) (at : ℕ) (header : Header) : Type 0 where

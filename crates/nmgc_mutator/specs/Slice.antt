@@ -1,5 +1,5 @@
 -- A slice of a program.
-use Rattle.std.specs.Prelude.{◌≡◌, ℕ, zero, suc, ◌+◌, ◌-◌, ◌<◌, ◌≤◌, ◌^◌, List, map, take, length, slice_get, Some, min}
+use Rattle.std.specs.Prelude.{◌≡◌, ℕ, zero, suc, ◌+◌, ◌-◌, ◌*◌, ◌<◌, ◌≤◌, ◌^◌, List, map, take, length, slice_get, Some, min}
 use Rattle.nmgc_graph.specs.declared.command.Command.{Command}
 use Rattle.nmgc_graph.specs.declared.command.Command.TheVariants.{Yield, Collect, Full}
 use Rattle.nmgc_graph.specs.declared.command.Reply.{Reply}
@@ -18,11 +18,12 @@ pub record CanRun (words : ℕ) (c : Command) : Type 0 where
   pub fits : Fits words c
   pub built : IsBuilt c
 
--- there is room for so many commands
+-- there is room for so many commands: one pushes eight words at most
 pub record HasRoom (m : Mutator) (count : ℕ) : Type 0 where
   pub replies : count ≤ m.replies.spare
   pub recorded : count ≤ m.recorded.spare
-  pub updrem : count ≤ m.updrem.spare
+  pub updrem : 8 * count ≤ m.updrem.spare
+  pub young_weaks : count ≤ m.young_weaks.spare
   pub serials : m.serial + count < 2 ^ 32
 
 -- these commands were done, one after the other, with some replies

@@ -4,7 +4,8 @@
 //! function of its own. The place of a command in the order is the load of word 1 (`tell`, `keep`, `show`), the
 //! load or the swap of the field, or the birth. What comes before and after loads words that never change.
 //!
-//! Every command ensures the same record, `Does`, so that what holds of all commands is proved once.
+//! The commands here ensure one record, `Does`. Those of `further` and `own` note more, and ensure `Acts`, which says
+//! of any command what it notes; so do `run` and `step`, for all of them.
 ghost use Rattle.std.specs.Prelude.{◌≡◌, ◌++◌, ◌∷◌, ◌+◌, ◌*◌, ◌-◌, ◌^◌, ◌<◌, [], length, ◌%◌, IfSome, IfNone, slice_get, Some, ◌≤◌};
 ghost use Rattle.nmgc_graph.specs.declared.value.TheConstants.{REGISTERS};
 ghost use Rattle.nmgc_graph.specs.declared.command.Command.TheVariants.{Num, Nil, Mov, Same, Show, Get, Set};
@@ -16,9 +17,11 @@ ghost use Rattle.nmgc_round.specs.Told.{told_by, CanTell, IsSafe};
 ghost use Rattle.nmgc_round.specs.Ready.{CanLoad, Names, IsReadable};
 ghost use Rattle.nmgc_round.specs.Seat.{IsAt, seen, word_count};
 ghost use Rattle.nmgc_round.specs.Naming.{IsNamed, Replies};
-ghost use Rattle.nmgc_mutator.specs.Ready.{IsReady, IsWhole, IsBuilt, part_of, hand_in, with_register};
+ghost use Rattle.nmgc_mutator.specs.Ready.{IsReady, IsWhole, part_of, hand_in, with_register};
 ghost use Rattle.nmgc_mutator.specs.Records.{numbers, is_young, is_old, recorded_at, recorded_by, all_pushed};
-ghost use Rattle.nmgc_mutator.specs.Does.{Does, Went, Steps, Finds, HasReplied, IsFilling, IsYield, dest_made, with_recorded, with_updrem};
+ghost use Rattle.nmgc_mutator.specs.Does.{Does, Went, Finds, HasReplied, IsFilling, IsYield, dest_made, with_recorded, with_updrem};
+ghost use Rattle.nmgc_mutator.specs.Acts.{Acts, CanStep, HasStepRoom, IsPlain, StepsTo, weaks_of, with_weaks};
+ghost use Rattle.nmgc_graph.specs.declared.node.Kind.TheVariants.{Weak};
 ghost use Rattle.nmgc_mutator.specs.declared.mutator.Step.TheVariants.{Replied};
 ghost use Rattle.nmgc_round.specs.Making.{header_made, fields_made};
 ghost use Rattle.nmgc_object.specs.declared.size.TheConstants.{HEADER_WORDS};
@@ -34,7 +37,7 @@ use nmgc_round::{MutatorSeat, Round};
 
 impl Mutator {
     // The word of an operand.
-    fn word(&self, operand: Operand) -> u64
+    pub(crate) fn word(&self, operand: Operand) -> u64
         requires size { length self.now.registers ≡ REGISTERS }
         requires operand { IsOperand operand }
         ensures { result ≡ word_of self.now.registers operand }
@@ -46,7 +49,7 @@ impl Mutator {
     }
 
     // Gives a register a word.
-    fn hold(&mut self, dest: u8, word: u64)
+    pub(crate) fn hold(&mut self, dest: u8, word: u64)
         requires size { length self.old.registers ≡ REGISTERS }
         requires dest { IsRegister dest }
         ensures { self.new ≡ with_register self.old dest word }
@@ -56,7 +59,13 @@ impl Mutator {
 
     // Answers a command that reads no word that changes and leaves the registers: it takes its place at
     // the header of g.
-    fn tell(&self, round: &Round, seat: &mut MutatorSeat, command: &Command, reply: Reply) -> Reply
+    pub(crate) fn tell(
+        &self,
+        round: &Round,
+        seat: &mut MutatorSeat,
+        command: &Command,
+        reply: Reply,
+    ) -> Reply
         requires ready { IsReady round.now seat.old self.now }
         requires told { CanTell (seen seat.old).opening (part_of (seen seat.old)) command.now }
         requires reply { told_by (hand_now (seen seat.old).opening (part_of (seen seat.old))) (part_of (seen seat.old)).fixed command.now ≡ plain reply }
@@ -181,7 +190,7 @@ impl Mutator {
     }
 
     // The value of an operand's word. A pointer's name is loaded at its place, and the seat names it.
-    fn value(&self, round: &Round, seat: &mut MutatorSeat, operand: Operand) -> Value
+    pub(crate) fn value(&self, round: &Round, seat: &mut MutatorSeat, operand: Operand) -> Value
         requires ready { IsReady round.now seat.old self.now }
         requires operand { IsOperand operand }
         ensures ready { IsReady round.now seat.new self.now }
@@ -222,7 +231,7 @@ impl Mutator {
     }
 
     // The object that an operand refers to, and its header, which the seat names then.
-    fn object(
+    pub(crate) fn object(
         &self,
         round: &Round,
         seat: &mut MutatorSeat,
@@ -415,7 +424,7 @@ impl Mutator {
     }
 
     // Records a field of an object, where the object lies in a segment and the field was given a young one.
-    fn record(&mut self, at: Address, index: u32, word: u64)
+    pub(crate) fn record(&mut self, at: Address, index: u32, word: u64)
         requires one { IsWhole self.old }
         requires place { at.0 + HEADER_WORDS + index < 2 ^ 32 }
         requires room { 0 < self.old.recorded.spare }
@@ -429,7 +438,7 @@ impl Mutator {
     }
 
     // Pushes a word that is owed, where it refers to an object in a segment.
-    fn push(&mut self, marking: bool, word: u64)
+    pub(crate) fn push(&mut self, marking: bool, word: u64)
         requires one { IsWhole self.old }
         requires room { 0 < self.old.updrem.spare }
         ensures rest { self.new ≡ with_updrem self.old self.new.updrem }
@@ -437,7 +446,7 @@ impl Mutator {
         ensures room { self.old.updrem.spare ≤ self.new.updrem.spare + 1 }
     {
         if marking && self.is_old(word) {
-            self.updrem.add(Address((word / 2) as u32));
+            self.updrem.push(Address((word / 2) as u32));
         }
     }
 
@@ -477,15 +486,15 @@ impl Mutator {
         Reply::Fine
     }
 
-    // Does a command that makes no object.
-    fn run(&mut self, round: &Round, seat: &mut MutatorSeat, command: &Command) -> Reply
+    // Does a command that makes no object and notes no more than a field and a word.
+    fn plain(&mut self, round: &Round, seat: &mut MutatorSeat, command: &Command) -> Reply
         requires ready { IsReady round.now seat.old self.old }
         requires serial { self.old.serial < 2 ^ 32 - 1 }
         requires fits { Fits self.old.layout.words command.now }
-        requires built { IsBuilt command.now }
-        requires other { IsMaking command.now → ⊥ }
+        requires plain { IsPlain command.now }
         requires room { (0 < self.old.recorded.spare) × (0 < self.old.updrem.spare) }
-        ensures { Does round.now (seen seat.old) seat.new self.old self.new command.now result }
+        ensures does { Does round.now (seen seat.old) seat.new self.old self.new command.now result }
+        ensures plain { IsPlain command.now }
     {
         match command {
             Command::Num { dest, number } => self.num(round, seat, *dest, *number, command),
@@ -507,6 +516,52 @@ impl Mutator {
         }
     }
 
+    // Does a command that makes no object.
+    fn run(&mut self, round: &Round, seat: &mut MutatorSeat, command: &Command) -> Reply
+        requires ready { IsReady round.now seat.old self.old }
+        requires serial { self.old.serial < 2 ^ 32 - 1 }
+        requires fits { Fits self.old.layout.words command.now }
+        requires known { CanStep command.now }
+        requires other { IsMaking command.now → ⊥ }
+        requires room { HasStepRoom self.old command.now }
+        ensures { Acts round.now (seen seat.old) seat.new self.old self.new command.now result }
+    {
+        match command {
+            Command::Cas {
+                object,
+                index,
+                expected,
+                value,
+            } => { self.cas(round, seat, *object, *index, *expected, *value, command) }
+            Command::Update { object, value } => {
+                self.update(round, seat, *object, *value, command)
+            }
+            Command::Force { dest, object } => self.force(round, seat, *dest, *object, command),
+            Command::Deref { dest, object } => self.deref(round, seat, *dest, *object, command),
+            Command::Finalise { dest, object } => {
+                self.finalise(round, seat, *dest, *object, command)
+            }
+            Command::Push { object, value } => {
+                self.push_value(round, seat, *object, *value, command)
+            }
+            Command::Pop { dest, object } => self.pop_value(round, seat, *dest, *object, command),
+            Command::NextFin { dest } => self.next_fin(round, seat, *dest, command),
+            _ => self.plain(round, seat, command),
+        }
+    }
+
+    // Notes a weak pointer that was made, if one was.
+    fn note_weak(&mut self, kind: Kind, at: Address)
+        requires room { (kind ≡ Weak) → 0 < self.old.young_weaks.spare }
+        ensures rest { self.new ≡ with_weaks self.old self.new.young_weaks }
+        ensures noted { numbers self.new.young_weaks.items ≡ numbers self.old.young_weaks.items ++ weaks_of kind at.0 }
+        ensures room { self.old.young_weaks.spare ≤ self.new.young_weaks.spare + length (weaks_of kind at.0) }
+    {
+        if let Kind::Weak = kind {
+            self.young_weaks.add(at);
+        }
+    }
+
     // Notes a reply.
     fn note(&mut self, reply: Reply) -> Step
         requires { 0 < self.old.replies.spare }
@@ -522,16 +577,18 @@ impl Mutator {
     /// `Replied` gives its reply, which is also noted: the seat has one row more, of this command with this
     /// reply, and the registers, the serial and the queue are those that the never-collected heap's step leaves
     /// for the seat's rows. An object is born where the nursery's rest begins. The place of a field of an object
-    /// in a segment that was given a young object is recorded, and what the command owes and lies in a segment
-    /// is pushed. `NurseryFull` comes exactly where the object's words are more than the nursery has left, and
-    /// then nothing changed. Takes no memory and waits for nobody.
+    /// in a segment that was given a young object is recorded, what the command owes and lies in a segment is
+    /// pushed, and a weak pointer that it makes is noted. `NurseryFull` comes exactly where the object's words are
+    /// more than the nursery has left, and then nothing changed. Takes no memory and waits for nobody.
+    ///
+    /// The room that it needs is that of what the command notes: `reserve` of one command gives it.
     pub fn step(&mut self, round: &Round, seat: &mut MutatorSeat, command: &Command) -> Step
         requires ready { IsReady round.now seat.old self.old }
         requires serial { self.old.serial < 2 ^ 32 - 1 }
         requires fits { Fits self.old.layout.words command.now }
-        requires built { IsBuilt command.now }
-        requires room { (0 < self.old.replies.spare) × (0 < self.old.recorded.spare) × (0 < self.old.updrem.spare) }
-        ensures { Steps round.now seat.old seat.new self.old self.new command.now result }
+        requires known { CanStep command.now }
+        requires room { HasStepRoom self.old command.now }
+        ensures { StepsTo round.now seat.old seat.new self.old self.new command.now result }
     {
         let Some((dest, header)) = self.making(command) else {
             let reply = self.run(round, seat, command);
@@ -542,7 +599,9 @@ impl Mutator {
         if need > left {
             return Step::NurseryFull { need, left };
         }
+        let at = Address(self.nursery.top);
         let reply = self.make(round, seat, dest, header, command);
+        self.note_weak(header.kind, at);
         self.note(reply)
     }
 }

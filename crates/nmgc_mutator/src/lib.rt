@@ -8,17 +8,19 @@
 //!
 //! `mutator` has the state and what it takes memory for, `commands` a command, `slice` the commands of a
 //! round. What holds at every moment in between is `IsReady` of `specs/Ready.antt`: the mutator has exactly
-//! what its seat's rows leave, and their objects fill the nursery from its base to its top. `specs/Does.antt`
-//! says what a command does, for one and for several in the same words, and `specs/Records.antt` what it notes
-//! for the stop.
+//! what its seat's rows leave, and their objects fill the nursery from its base to its top. `specs/Acts.antt`
+//! says what any command does, `specs/Does.antt` what those of a slice do, for one and for several in the same words,
+//! and `specs/Records.antt` what is noted for the stop. `commands`, `further` and `own` have the commands.
 //!
 //! Easy to get wrong: an object's header is stored last, so its name and fields are stored while they belong
 //! to no object.
 #![tactic(auto)]
 
 pub mod commands;
+mod further;
 pub mod laws;
 pub mod mutator;
+mod own;
 pub mod slice;
 
 pub use mutator::{Mutator, Slice, SliceEnd, Step};

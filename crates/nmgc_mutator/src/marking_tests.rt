@@ -145,6 +145,27 @@ fn overwrite(round: &Round, seat: &mut MutatorSeat, mutator: &mut Mutator) -> bo
     }
 }
 
+// The mutator compares the variable with 5, which it doesn't hold. Whether it answered no.
+fn compare(round: &Round, seat: &mut MutatorSeat, mutator: &mut Mutator) -> bool
+    requires seat { IsAt round.now seat.old × (seen seat.old ≡ alone snapshot_opening 0) }
+    requires mutator { IsSnapshotMutator mutator.old }
+    requires room { (0 < mutator.old.replies.spare) × (0 < mutator.old.recorded.spare) × (0 < mutator.old.updrem.spare) }
+    ensures { IsAt round.now seat.new × HasPart (seen seat.new) 0 }
+{
+    laws::a_round_finds_mutators_ready();
+    laws::a_marking_round_opens();
+    let command = Command::Cas {
+        object: Operand::Register(0),
+        index: 0,
+        expected: Operand::Register(1),
+        value: Operand::Register(2),
+    };
+    match mutator.step(round, seat, &command) {
+        Step::Replied(reply) => reply == Reply::No,
+        Step::NurseryFull { .. } => false,
+    }
+}
+
 // The round ends. The word of the variable.
 fn end(
     round: Round,
@@ -233,6 +254,56 @@ fn written_first(
     })
 }
 
+// The mutator compares the variable with another value after the collector read its header.
+fn compared(
+    words: Words,
+    mutator: &mut Mutator,
+    room: Vec<MutatorSeat>,
+    last: Vec<MutatorSeat>,
+) -> Option<Outcome>
+    requires heap { IsSnapshotHeap words }
+    requires mutator { IsSnapshotMutator mutator.old }
+    requires lists { (0 < mutator.old.replies.spare) × (0 < mutator.old.recorded.spare) × (0 < mutator.old.updrem.spare) }
+    requires room { (room.items ≡ []) × (1 ≤ vec_capacity room) × (last.items ≡ []) }
+{
+    let Begun {
+        round,
+        mut seat,
+        mut collector,
+    } = begin(words, room)?;
+    let header = scan_header(&round, &mut collector);
+    if !compare(&round, &mut seat, mutator) {
+        return None;
+    }
+    let field = scan_field(&round, &mut collector, header);
+    let left = end(round, seat, collector, last)?;
+    Some(Outcome {
+        header,
+        field,
+        left,
+    })
+}
+
+// A compare-exchange that answers no writes nothing, and owes nothing.
+#[test]
+fn a_comparison_that_fails_changes_nothing(rt: HostRuntime) -> Result<(), Fail> {
+    let alloc = rt.alloc();
+    let words = snapshot_heap(alloc)?;
+    let room = Vec::with_capacity(alloc, 1)?;
+    let mut mutator = mutator_at(alloc)?;
+    let outcome = compared(words, &mut mutator, room, Vec::new(alloc));
+    assert_eq!(rt;
+        outcome,
+        Some(Outcome {
+            header: 2050,
+            field: 64,
+            left: 64
+        })
+    );
+    assert_eq!(rt; mutator.updrem.entries(), [].as_slice());
+    Ok(())
+}
+
 // What the reference was that the variable held is pushed, whether the collector read it or not.
 #[test]
 fn an_overwritten_reference_is_pushed(rt: HostRuntime) -> Result<(), Fail> {
@@ -249,7 +320,7 @@ fn an_overwritten_reference_is_pushed(rt: HostRuntime) -> Result<(), Fail> {
             left: 13
         })
     );
-    assert_eq!(rt; mutator.updrem.items(), [Address(32)].as_slice());
+    assert_eq!(rt; mutator.updrem.entries(), [Address(32)].as_slice());
     let words = snapshot_heap(alloc)?;
     let room = Vec::with_capacity(alloc, 1)?;
     let mut mutator = mutator_at(alloc)?;
@@ -262,6 +333,6 @@ fn an_overwritten_reference_is_pushed(rt: HostRuntime) -> Result<(), Fail> {
             left: 13
         })
     );
-    assert_eq!(rt; mutator.updrem.items(), [Address(32)].as_slice());
+    assert_eq!(rt; mutator.updrem.entries(), [Address(32)].as_slice());
     Ok(())
 }

@@ -10,6 +10,7 @@ ghost use Rattle.nmgc_mutator.specs.Ready.{IsNew, HasNoRoom, Reserves};
 use nmgc_graph::{List, NoMemory, REGISTERS, Reply, Room};
 use nmgc_object::words::NIL_WORD;
 use nmgc_object::{Address, FinQueue, Layout, Nursery};
+use nmgc_updrem::UpdRem;
 use std::alloc::Global;
 
 /// What a thread of the program has outside the heap.
@@ -35,9 +36,8 @@ pub struct Mutator {
     pub recorded: Room<Address>,
     /// The weak pointers made in this round.
     pub young_weaks: Room<Address>,
-    /// The places of objects in segments to which fields referred that this mutator overwrote in this round
-    /// while it was marking.
-    pub updrem: Room<Address>,
+    /// The places of objects in segments that its commands of this round owe, of a round in which a cycle marks.
+    pub updrem: UpdRem,
 }
 
 impl Mutator {
@@ -66,13 +66,13 @@ impl Mutator {
             replies: Room::new(alloc),
             recorded: Room::new(alloc),
             young_weaks: Room::new(alloc),
-            updrem: Room::new(alloc),
+            updrem: UpdRem::new(alloc),
         })
     }
 
     /// Makes room for at least so many replies, recorded fields and weak pointers, and for eight times as many
-    /// places that are owed: a command owes at most eight words. No list changes, and no room is lost, also
-    /// after `NoMemory`.
+    /// places that are owed: a command owes at most eight words. So 2^29 commands or more always answer `NoMemory`.
+    /// No list changes, and no room is lost, also after `NoMemory`.
     pub fn reserve(&mut self, commands: u32) -> Result<(), NoMemory>
         ensures kept { Reserves self.old self.new }
         ensures room { OnOk result ((commands ≤ self.new.replies.spare) × (commands ≤ self.new.recorded.spare) × (commands ≤ self.new.young_weaks.spare) × (8 * commands ≤ self.new.updrem.spare)) }

@@ -66,11 +66,18 @@ fn has_limits(command: &Command) -> bool
 {
     match command {
         Command::Nil { .. } | Command::Mov { .. } | Command::Var { .. } => true,
-        Command::Show { .. } | Command::Same { .. } | Command::Yield => true,
+        Command::Show { .. } | Command::Same { .. } => true,
+        Command::Yield | Command::Collect => true,
         Command::Num { number, .. } => *number < 1_000_000,
         Command::Con { tag, fields, .. } => *tag < 100 && fields.items().len() <= 14,
         Command::Arr { count, .. } => *count <= 14,
+        Command::Thunk { free, .. } => free.items().len() <= 8,
+        Command::Stack { size, .. } => *size <= 14,
+        Command::Update { .. } | Command::Force { .. } => true,
         Command::Get { index, .. } | Command::Set { index, .. } => *index < 65_536,
+        Command::Cas { index, .. } => *index < 65_536,
+        Command::Push { .. } | Command::Pop { .. } => true,
+        Command::Deref { .. } | Command::Finalise { .. } | Command::NextFin { .. } => true,
         _ => false,
     }
 }
@@ -185,7 +192,126 @@ fn given(number: u64) -> Reply {
     Reply::Given(Value::Number(number))
 }
 
-// Every command that is built, with each of its replies and refusals. r1 has 5, r2 a constructor, r3 a variable
+fn cas(object: Operand, index: u32, expected: u8, value: u8) -> Command {
+    Command::Cas {
+        object,
+        index,
+        expected: Operand::Register(expected),
+        value: Operand::Register(value),
+    }
+}
+
+fn update(object: Operand, value: u8) -> Command {
+    Command::Update {
+        object,
+        value: Operand::Register(value),
+    }
+}
+
+fn force(object: Operand) -> Command {
+    Command::Force { dest: 5, object }
+}
+
+fn push(object: Operand, value: u8) -> Command {
+    Command::Push {
+        object,
+        value: Operand::Register(value),
+    }
+}
+
+fn pop(object: Operand) -> Command {
+    Command::Pop { dest: 5, object }
+}
+
+fn deref(object: Operand) -> Command {
+    Command::Deref { dest: 5, object }
+}
+
+fn finalise(object: Operand) -> Command {
+    Command::Finalise { dest: 5, object }
+}
+
+// Whether these commands, done one after the other, reply so.
+fn reply_so(alloc: Global, rows: Vec<(Command, Reply)>) -> Result<bool, NoMemory> {
+    let mut program = Vec::new(alloc);
+    let mut replies = Vec::new(alloc);
+    for (command, reply) in rows {
+        program.push(command)?;
+        replies.push(reply)?;
+    }
+    let Some((slice, mutator)) = slice_of(alloc, 64, program.as_slice(), 1024)? else {
+        return Ok(false);
+    };
+    Ok(slice.end == SliceEnd::Program && mutator.replies.items() == replies.as_slice())
+}
+
+// Thunks, stacks and comparisons, with each reply and refusal. r1 has 5, r2 a thunk, r3 a variable, r4 a constructor
+// and r6 a stack.
+#[test]
+fn thunks_and_stacks_reply_by_their_table(rt: HostRuntime) -> Result<(), Fail> {
+    let r = Operand::Register;
+    let mut free = Vec::new(rt.alloc());
+    free.push(r(1))?;
+    let rows = vec![in rt.alloc();
+        (num(1, 5), Reply::Fine),
+        (
+            Command::Thunk {
+                dest: 2,
+                free: List::from_vec(free)
+            },
+            made(0)
+        ),
+        (force(r(2)), Reply::Nothing),
+        (get(5, r(2), 0), Reply::WrongKind),
+        (update(r(2), 1), Reply::Updated),
+        (update(r(2), 2), Reply::Already),
+        (force(r(2)), given(5)),
+        (update(r(1), 1), Reply::NoPointer),
+        (update(Operand::Shared, 1), Reply::WrongKind),
+        (force(r(1)), Reply::NoPointer),
+        (force(Operand::Shared), Reply::WrongKind),
+        (
+            Command::Var {
+                dest: 3,
+                value: r(1)
+            },
+            made(1)
+        ),
+        (cas(r(3), 0, 2, 2), Reply::No),
+        (cas(r(3), 0, 1, 2), Reply::Yes),
+        (get(5, r(3), 0), made(0)),
+        (cas(r(3), 1, 1, 2), Reply::NoField),
+        (cas(r(1), 0, 1, 2), Reply::NoPointer),
+        (cas(r(2), 0, 1, 2), Reply::WrongKind),
+        (con(rt.alloc(), 4, 1, 0)?, made(2)),
+        (cas(r(4), 0, 1, 2), Reply::Fixed),
+        (Command::Stack { dest: 6, size: 2 }, made(3)),
+        (get(5, r(6), 0), Reply::WrongKind),
+        (update(r(6), 1), Reply::WrongKind),
+        (pop(r(6)), Reply::StackEmpty),
+        (push(r(6), 1), Reply::Fine),
+        (push(r(6), 4), Reply::Fine),
+        (push(r(6), 1), Reply::StackFull),
+        (pop(r(6)), made(2)),
+        (push(r(6), 0), Reply::Fine),
+        (pop(r(6)), Reply::Given(Value::Nil)),
+        (pop(r(6)), given(5)),
+        (pop(r(6)), Reply::StackEmpty),
+        (push(r(1), 1), Reply::NoPointer),
+        (pop(r(1)), Reply::NoPointer),
+        (push(Operand::Shared, 1), Reply::WrongKind),
+        (pop(Operand::Shared), Reply::WrongKind),
+        (deref(r(1)), Reply::NoPointer),
+        (deref(r(4)), Reply::WrongKind),
+        (finalise(r(1)), Reply::NoPointer),
+        (finalise(r(4)), Reply::WrongKind),
+        (Command::NextFin { dest: 5 }, Reply::Nothing),
+    ]?;
+    assert!(rt; reply_so(rt.alloc(), rows)?);
+    Ok(())
+}
+
+// The first commands, with each of their replies and refusals. r1 has 5, r2 a constructor, r3 a variable
 // and r4 an array; a variable has one field, and g has 16.
 #[test]
 fn each_command_replies_by_its_table(rt: HostRuntime) -> Result<(), Fail> {
@@ -312,6 +438,9 @@ fn a_slice_ends_by_the_first_reason(rt: HostRuntime) -> Result<(), Fail> {
     assert!(rt; ends(rt.alloc(), nil.as_slice(), 2, 2, SliceEnd::Slice)?);
     assert!(rt; ends(rt.alloc(), nil.as_slice(), 3, 3, SliceEnd::Yield)?);
     assert!(rt; ends(rt.alloc(), nil.as_slice(), 4, 3, SliceEnd::Yield)?);
+    let asks = [num(0, 1), Command::Collect, num(0, 3)];
+    assert!(rt; ends(rt.alloc(), asks.as_slice(), 1, 1, SliceEnd::Slice)?);
+    assert!(rt; ends(rt.alloc(), asks.as_slice(), 3, 2, SliceEnd::Collect)?);
     let two = [num(0, 1), num(0, 2)];
     assert!(rt; ends(rt.alloc(), two.as_slice(), 1, 1, SliceEnd::Slice)?);
     assert!(rt; ends(rt.alloc(), two.as_slice(), 2, 2, SliceEnd::Program)?);
