@@ -1,5 +1,5 @@
 -- A heap at rest beside a cycle opens a round.
-use Rattle.std.proofs.Common.{◌≡◌, ℕ, ◌<◌, List, [], ◌∷◌, length, get_or, map, refl, sym, subst, ◌∙◌, arith, inl, inr}
+use Rattle.std.proofs.Common.{◌≡◌, ℕ, ◌<◌, List, [], ◌∷◌, length, get_or, map, refl, sym, ap, subst, ◌∙◌, arith, inl, inr}
 use Rattle.std.specs.Prelude.{IsSome, Contains}
 use Rattle.std.proofs.lemmas.List.{length-map}
 use Rattle.std.proofs.lemmas.Option.{get_or_from_slice_get}
@@ -17,6 +17,7 @@ use Rattle.nmgc_heap.specs.Roots.{RepresentsRoots}
 use Rattle.nmgc_heap.specs.laws.Kinds.{item_map}
 use Rattle.nmgc_round.specs.View.{Hand, Opening, no_hand}
 use Rattle.nmgc_round.specs.Rule.{IsOpening, IsQueued}
+use Rattle.nmgc_round.specs.Own.{old_stacks}
 use Rattle.nmgc_round.specs.Starting.{HandStands, CanOpen}
 use Rattle.nmgc_mutator.specs.declared.mutator.Mutator.{Mutator}
 use Rattle.nmgc_turn.specs.Rest.{hand_of}
@@ -86,13 +87,13 @@ module _ (c : Cycle) (core : State) (s : Segments) (places : List Place) (w : Wo
   hand_at m lt =
       let many = h.count in
       let n = item mutators m (omega arith) in
-      let is : get_or o.hands m no_hand ≡ hand_of n.0 = get_or_from_slice_get o.hands m (hand_of n.0) no_hand (item_map hand_of mutators m n.0 n.1) in
+      let is : get_or o.hands m no_hand ≡ hand_of core.world places n.0 = get_or_from_slice_get o.hands m (hand_of core.world places n.0) no_hand (item_map (hand_of core.world places) mutators m n.0 n.1) in
       let exists : m < length core.world.mutators = subst (λ (k : ℕ). m < k) (sym as_many) lt in
       subst (λ (x : Hand). HandStands o m x) (sym is) (record {
         registers = own_mean (Contains places) mutators all_whole m n.0 n.1 (state_of core.world m).registers (world.registers m exists) (roots.held m exists);
         queue = roots.queued m n.0.queue.words (item_map (λ (x : Mutator). x.queue.words) mutators m n.0 n.1);
         serial = roots.next m n.0.serial (item_map (λ (x : Mutator). x.serial) mutators m n.0 n.1);
-        stacks = refl;
+        stacks = ap (λ (k : ℕ). old_stacks places core.world k) (h.mutators_are m n.0 n.1).number_is;
       })
 
   -- what waits has its object, and a node in the snapshot
@@ -121,7 +122,7 @@ module _ (c : Cycle) (core : State) (s : Segments) (places : List Place) (w : Wo
     world = world;
     unmarked_is = λ off. absurd cc;
     represents = represents;
-    count = length-map mutators hand_of ∙ h.count;
+    count = length-map mutators (hand_of core.world places) ∙ h.count;
     hands = hand_at;
     older = λ x before was now. node_later c.snapshot c.rows core reached x.name before x.node was.there now;
     owed = each_empty core.owed h.machine.machine.nothing_owed;

@@ -50,7 +50,7 @@ pub record IsAtRest (c : Cycle) (core : Core) (s : Segments) (places : List Plac
 
 -- the opening of a round that begins there
 abbrev pub opening_beside : Layout → Core → List Place → List Mutator → Opening
-opening_beside layout core places mutators = record { layout = layout; marking = true; core = core; places = places; hands = map hand_of mutators }
+opening_beside layout core places mutators = record { layout = layout; marking = true; core = core; places = places; hands = map (hand_of core.world places) mutators }
 
 -- a heap at rest opens a round, and the collector may speak of the snapshot there
 abbrev pub RestOpens : Type 0

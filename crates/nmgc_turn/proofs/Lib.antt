@@ -1,5 +1,6 @@
 mod Along
 mod Born
+mod Depths
 mod Histories
 mod Names
 mod Noted

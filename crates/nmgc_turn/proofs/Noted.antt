@@ -1,14 +1,12 @@
--- A `set` that put a reference to a young object into an older one is recorded.
-use Rattle.std.proofs.Common.{◌≡◌, ◌+◌, ◌*◌, ◌/◌, ◌%◌, ◌<◌, ◌≤◌, ◌&&◌, ℕ, Bool, true, cond, eqb, leb, List, [], ◌∷◌, ◌++◌, sym, ap, subst, ◌∙◌, arith, inl, inr, eq-eqb, le-leb}
+-- A command that put a reference to a young object into an older one is recorded.
+use Rattle.std.proofs.Common.{◌≡◌, ◌+◌, ◌*◌, ◌/◌, ◌%◌, ◌<◌, ◌≤◌, ◌&&◌, ℕ, Bool, true, cond, eqb, leb, List, [], ◌∷◌, ◌++◌, sym, ap, subst, ◌∙◌, arith, inl, inr, eq-eqb, le-leb, None}
 use Rattle.std.specs.Prelude.{Contains}
 use Rattle.std.proofs.lemmas.List.Elements.{Contains-append_left, Contains-append_right}
 use Rattle.std.proofs.lemmas.Bool.{and_from}
 use Rattle.nmgc_graph.specs.declared.value.Value.TheVariants as value
 use Rattle.nmgc_graph.specs.declared.command.Command.{Command}
-use Rattle.nmgc_graph.specs.declared.command.Command.TheVariants.{Set}
 use Rattle.nmgc_graph.specs.declared.command.Reply.{Reply}
-use Rattle.nmgc_graph.specs.declared.command.Reply.TheVariants.{Fine}
-use Rattle.nmgc_graph.specs.World.{World, state_of}
+use Rattle.nmgc_graph.specs.World.{World, state_of, given}
 use Rattle.nmgc_graph.specs.Step.{shared_name, value_for, step}
 use Rattle.nmgc_graph.specs.History.{Row, replayed, IsLegal}
 use Rattle.nmgc_object.specs.declared.size.TheConstants.{HEADER_WORDS}
@@ -20,14 +18,16 @@ use Rattle.nmgc_heap.specs.Places.{Place, Means}
 use Rattle.nmgc_round.specs.View.{Answer, plain, word, Hand, word_of, leaves}
 use Rattle.nmgc_round.specs.View.{Row as OwnRow}
 use Rattle.nmgc_round.specs.Rule.{Answers}
-use Rattle.nmgc_mutator.specs.Records.{is_old, is_young, recorded_at, recorded_by, all_recorded}
+use Rattle.nmgc_mutator.specs.Records.{is_old, is_young, recorded_at, noted_by, all_recorded, depth_of}
+use Rattle.nmgc_round.specs.Own.{slots_at}
 use Rattle.nmgc_turn.proofs.RowRegisters.{operand_means}
 use Rattle.nmgc_turn.proofs.Along.{IsOwn, Along}
-use Rattle.nmgc_turn.proofs.Puts.{Puts}
+use Rattle.nmgc_turn.proofs.Puts.{TellsDepth, Puts}
 
-fine_answer : (P : Place → Type 0) (a : Answer) → Answers P a Fine → a ≡ plain Fine
-fine_answer P (plain r) h = ap (λ (x : Reply). plain x) h
-fine_answer P (word w) h = absurd (let bad = h.1 in cc)
+-- a reply that gives no value is a plain answer
+plain_answer : (P : Place → Type 0) (a : Answer) (reply : Reply) → given reply ≡ None → Answers P a reply → a ≡ plain reply
+plain_answer P (plain r) reply none h = ap (λ (x : Reply). plain x) h
+plain_answer P (word w) reply none h = let bad = ap given h.1 ∙ none in absurd cc
 
 -- a word of an object in a segment, and one of an object in a nursery
 old_word : (layout : Layout) (at : ℕ) → FIRST_PLACE ≤ at → at < nursery_place layout 0 → is_old layout (2 * at) ≡ true
@@ -55,18 +55,24 @@ pub record AreApart (P : Place → Type 0) (layout : Layout) (p q : Place) : Typ
   pub one_young : (at : ℕ) → P (record { at = at; name = q.name }) → at ≡ q.at
 
 module _ (P : Place → Type 0) (layout : Layout) (p q : Place) (apart : AreApart P layout p q) (m : ℕ) (shared : P (record { at = SHARED_PLACE; name = shared_name })) (i : ℕ) where
-  recorded_put : (w : World) (row : Row) (h : Hand) (r : OwnRow) → (step w row.mutator row.command).1 ≡ row.reply → IsOwn P m w h r row → Puts w row.mutator row.command p.name i (value.Ref q.name) → Contains (recorded_by layout h.registers r.command r.answer) (p.at + HEADER_WORDS + i)
+  recorded_put : (w : World) (row : Row) (h : Hand) (r : OwnRow) → (step w row.mutator row.command).1 ≡ row.reply → IsOwn P m w h r row → Puts w row.mutator row.command p.name i (value.Ref q.name) → Contains (noted_by layout h r.command r.answer) (p.at + HEADER_WORDS + i)
   recorded_put w row h r gives own puts =
-      let fine : r.answer ≡ plain Fine = fine_answer P r.answer (subst (λ (y : Reply). Answers P r.answer y) (sym gives ∙ puts.fine) own.answers) in
+      let done : r.answer ≡ plain puts.reply = plain_answer P r.answer puts.reply puts.plainly (subst (λ (y : Reply). Answers P r.answer y) (sym gives ∙ puts.gives) own.answers) in
       let refers : value_for w m puts.object ≡ value.Ref p.name = ap (λ j. value_for w j puts.object) (sym own.number) ∙ puts.refers in
       let value : value_for w m puts.v ≡ value.Ref q.name = ap (λ j. value_for w j puts.v) (sym own.number) ∙ puts.value in
       let object = subst (Means P (word_of h.registers puts.object)) refers (operand_means P shared h.registers (state_of w m).registers puts.object own.registers) in
       let target = subst (Means P (word_of h.registers puts.v)) value (operand_means P shared h.registers (state_of w m).registers puts.v own.registers) in
       let object_is : word_of h.registers puts.object ≡ 2 * p.at = object.1 ∙ ap (λ a. 2 * a) (apart.one_old object.0 object.2) in
       let target_is : word_of h.registers puts.v ≡ 2 * q.at = target.1 ∙ ap (λ a. 2 * a) (apart.one_young target.0 target.2) in
-      subst (λ (c : Command). Contains (recorded_by layout h.registers c r.answer) (p.at + HEADER_WORDS + i)) (sym (own.command ∙ puts.is))
-      (subst (λ (a : Answer). Contains (recorded_by layout h.registers (Set puts.object i puts.v) a) (p.at + HEADER_WORDS + i)) (sym fine)
-      (rw (object_is, target_is) (recorded_old layout p.at i q.at apart.above apart.low apart.high)))
+      let deep : TellsDepth w row.mutator p.name h puts.object = λ size values there mine.
+      let here : P p = subst (λ a. P (record { at = a; name = p.name })) (apart.one_old object.0 object.2) object.2 in
+      let t = own.depths p size values here (mine ∙ own.number) there in
+      let half : word_of h.registers puts.object / 2 ≡ p.at = omega arith in
+      ap (λ y. depth_of (slots_at h.stacks y)) half ∙ ap depth_of t.1 ∙ t.2 in
+      subst (λ (c : Command). Contains (noted_by layout h c r.answer) (p.at + HEADER_WORDS + i)) (sym own.command)
+      (subst (λ (a : Answer). Contains (noted_by layout h row.command a) (p.at + HEADER_WORDS + i)) (sym done)
+      (subst (λ (l : List ℕ). Contains l (p.at + HEADER_WORDS + i)) (sym (puts.notes layout h deep))
+      (rw (object_is, target_is) (recorded_old layout p.at i q.at apart.above apart.low apart.high))))
 
   -- the place is recorded among the rows of the mutator that did it
   pub recorded_then : (w : World) (before : List Row) (row : Row) (after : List Row) (h : Hand) (own : List OwnRow) → row.mutator ≡ m → IsLegal w (before ++ row ∷ after) → Along P m w h own (before ++ row ∷ after) → Puts (replayed w before) row.mutator row.command p.name i (value.Ref q.name) → Contains (all_recorded layout h own) (p.at + HEADER_WORDS + i)
@@ -74,10 +80,10 @@ module _ (P : Place → Type 0) (layout : Layout) (p q : Place) (apart : AreApar
   recorded_then w [] row after h own is legal (inr mine) puts =
       let r : OwnRow = mine.0 in
       subst (λ (l : List OwnRow). Contains (all_recorded layout h l) (p.at + HEADER_WORDS + i)) (sym mine.2)
-      (Contains-append_left (recorded_by layout h.registers r.command r.answer) (all_recorded layout (leaves h r.command r.answer) mine.1) (p.at + HEADER_WORDS + i) (recorded_put w row h r legal.0 mine.3 puts))
+      (Contains-append_left (noted_by layout h r.command r.answer) (all_recorded layout (leaves h r.command r.answer) mine.1) (p.at + HEADER_WORDS + i) (recorded_put w row h r legal.0 mine.3 puts))
   recorded_then w (first ∷ before) row after h own is legal (inl other) puts = recorded_then (step w first.mutator first.command).0 before row after h own is legal.1 other.1 puts
   recorded_then w (first ∷ before) row after h own is legal (inr mine) puts =
       let r : OwnRow = mine.0 in
       subst (λ (l : List OwnRow). Contains (all_recorded layout h l) (p.at + HEADER_WORDS + i)) (sym mine.2)
-      (Contains-append_right (recorded_by layout h.registers r.command r.answer) (all_recorded layout (leaves h r.command r.answer) mine.1) (p.at + HEADER_WORDS + i)
+      (Contains-append_right (noted_by layout h r.command r.answer) (all_recorded layout (leaves h r.command r.answer) mine.1) (p.at + HEADER_WORDS + i)
       (recorded_then (step w first.mutator first.command).0 before row after (leaves h r.command r.answer) mine.1 is legal.1 mine.4 puts))

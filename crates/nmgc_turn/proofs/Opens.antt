@@ -1,5 +1,5 @@
 -- A heap at rest opens a round: what its mutators have stands for what they have in the world.
-use Rattle.std.proofs.Common.{◌≡◌, ℕ, zero, suc, ◌<◌, List, [], length, get_or, replicate, refl, sym, subst, ◌∙◌, arith, inl}
+use Rattle.std.proofs.Common.{◌≡◌, ℕ, zero, suc, ◌<◌, List, [], length, get_or, replicate, refl, sym, ap, subst, ◌∙◌, arith, inl}
 use Rattle.std.specs.Prelude.{Contains}
 use Rattle.std.proofs.lemmas.Bool.{false≢true}
 use Rattle.std.proofs.lemmas.List.{length-map, length-replicate}
@@ -12,6 +12,7 @@ use Rattle.nmgc_heap.specs.Places.{Place}
 use Rattle.nmgc_heap.specs.laws.Kinds.{item_map}
 use Rattle.nmgc_round.specs.View.{Hand, Opening, no_hand}
 use Rattle.nmgc_round.specs.Rule.{IsOpening}
+use Rattle.nmgc_round.specs.Own.{old_stacks}
 use Rattle.nmgc_round.specs.Starting.{HandStands, CanOpen}
 use Rattle.nmgc_mutator.specs.declared.mutator.Mutator.{Mutator}
 use Rattle.nmgc_turn.specs.Rest.{IsAtRest, hand_of, opening_at}
@@ -55,13 +56,13 @@ module _ (s : Segments) (places : List Place) (w : World) (words : List ℕ) (mu
   hand_at m lt =
       let many = h.count in
       let n = item mutators m (omega arith) in
-      let is : get_or o.hands m no_hand ≡ hand_of n.0 = get_or_from_slice_get o.hands m (hand_of n.0) no_hand (item_map hand_of mutators m n.0 n.1) in
+      let is : get_or o.hands m no_hand ≡ hand_of w places n.0 = get_or_from_slice_get o.hands m (hand_of w places n.0) no_hand (item_map (hand_of w places) mutators m n.0 n.1) in
       let exists : m < length w.mutators = subst (λ (k : ℕ). m < k) (sym as_many) lt in
       subst (λ (x : Hand). HandStands o m x) (sym is) (record {
         registers = own_mean (Contains places) mutators all_whole m n.0 n.1 (state_of w m).registers (h.world.registers m exists) (h.roots.held m exists);
         queue = h.roots.queued m n.0.queue.words (item_map (λ (x : Mutator). x.queue.words) mutators m n.0 n.1);
         serial = h.roots.next m n.0.serial (item_map (λ (x : Mutator). x.serial) mutators m n.0 n.1);
-        stacks = refl;
+        stacks = ap (λ (k : ℕ). old_stacks places w k) (h.mutators_are m n.0 n.1).number_is;
       })
 
   opens : CanOpen o words
@@ -70,7 +71,7 @@ module _ (s : Segments) (places : List Place) (w : World) (words : List ℕ) (mu
     world = h.world;
     unmarked_is = λ off. refl;
     represents = h.represents;
-    count = length-map mutators hand_of ∙ h.count;
+    count = length-map mutators (hand_of w places) ∙ h.count;
     hands = hand_at;
     older = λ x before was now. absurd (false≢true was.marking);
     owed = none_owed (length w.mutators);

@@ -1,5 +1,5 @@
 -- What the mutators recorded in a round is what a promotion asks.
-use Rattle.std.proofs.Common.{◌≡◌, ◌≢◌, ◌+◌, ◌<◌, ◌≤◌, ℕ, List, [], ◌∷◌, ◌++◌, length, map, refl, sym, ap, subst, ◌∙◌, arith, Option, Some, None, inl, inr, All}
+use Rattle.std.proofs.Common.{◌≡◌, ◌≢◌, ◌⊎◌, ◌+◌, ◌<◌, ◌≤◌, ℕ, List, [], ◌∷◌, ◌++◌, length, map, refl, sym, ap, subst, ◌∙◌, arith, Option, Some, None, inl, inr, All}
 use Rattle.std.specs.Prelude.{slice_get, IsSome, IfSome, Contains}
 use Rattle.std.proofs.lemmas.Option.{same_Some, slice_get_within}
 use Rattle.std.proofs.lemmas.List.Elements.{All-contains, Contains-append_left}
@@ -8,7 +8,7 @@ use Rattle.nmgc_graph.specs.declared.value.Name.{Name}
 use Rattle.nmgc_graph.specs.declared.value.Value.{Value}
 use Rattle.nmgc_graph.specs.declared.value.Value.TheVariants.{Ref}
 use Rattle.nmgc_graph.specs.declared.node.Node.{Node}
-use Rattle.nmgc_graph.specs.declared.node.Node.TheVariants.{Weak}
+use Rattle.nmgc_graph.specs.declared.node.Node.TheVariants.{Stack, Weak}
 use Rattle.nmgc_graph.specs.declared.node.Parts.{Parts}
 use Rattle.nmgc_graph.specs.World.{World, state_of, node_of, held_by, IsKnown, IsNodeOf}
 use Rattle.nmgc_graph.specs.Step.{step}
@@ -49,6 +49,9 @@ use Rattle.nmgc_turn.specs.laws.Replays.{EventsAreHistory, can_replay}
 use Rattle.nmgc_turn.specs.laws.Placed.{place_cases, is_place}
 use Rattle.nmgc_turn.specs.laws.Workers.{Worker, worker_at}
 use Rattle.nmgc_turn.specs.laws.Openings.{opened_below}
+use Rattle.nmgc_round.specs.Own.{OwnSlots}
+use Rattle.nmgc_turn.specs.laws.Registers.{list_long}
+use Rattle.nmgc_turn.proofs.Depths.{Depths}
 use Rattle.nmgc_turn.proofs.Along.{Along, all_told, along, all_built}
 use Rattle.nmgc_turn.proofs.Recorded.{IsFieldOf, since_itself, recorded_is}
 use Rattle.nmgc_turn.proofs.Puts.{IsOldWeak, IsPut, rows_put, old_weaks}
@@ -83,7 +86,11 @@ weak_before w name = by_node (node_of w name) refl
     by_node None e = tt
     by_node (Some node) e = λ k. some_of (node_of w name) node e
 
-module _ (history : EventsAreHistory) (o : Opening) (before words : List ℕ) (v : Seen) (mutators : List Mutator) (done : List (List Done)) (can : CanOpen o before) (h : IsFinished o words v) (work : HaveWorked o v.parts mutators done) where
+-- what `nmgc_round` says of the stacks that an opening lists
+abbrev pub StacksAreListed : Type 0
+StacksAreListed = (o : Opening) (words : List ℕ) → CanOpen o words → (m : ℕ) → m < o.layout.mutators → OwnSlots o [] o.core.world m (hand_of o.hands m)
+
+module _ (history : EventsAreHistory) (listed : StacksAreListed) (o : Opening) (before words : List ℕ) (v : Seen) (mutators : List Mutator) (done : List (List Done)) (can : CanOpen o before) (h : IsFinished o words v) (work : HaveWorked o v.parts mutators done) where
   abbrev B : World
   B = o.core.world
 
@@ -127,10 +134,23 @@ module _ (history : EventsAreHistory) (o : Opening) (before words : List ℕ) (v
       (node.0, inl (record { there = here; tracked = tracked; node = node.1 })))
       (can.hands k lt).registers
 
+  -- and how deep its stacks were
+  first_depths : (k : ℕ) → k < o.layout.mutators → Depths P k B (hand_of o.hands k)
+  first_depths k lt p size values (node, inl old) maker there =
+      let t = listed o before can k lt (record { at = p.at; name = p.name; node = node }) size values (inl old) maker there in
+      (t.0, t.1, list_long (IsIn o []) t.0 values t.2)
+  first_depths k lt p size values (node, inr new) maker there = absurd (let none : Some (Stack size values) ≡ None = sym there ∙ (h.new (record { at = p.at; name = p.name; node = node }) new).unknown in cc)
+
+  one : (p q : Place) → P p → P q → (p.name ≡ q.name) ⊎ (p.at ≡ q.at) → p ≡ q
+  one p q hp hq e = h.stands.one p q (is_place o h.born p hp) (is_place o h.born q hq) e
+
+  not_g : (k : ℕ) → k < o.layout.mutators → k ≢ SHARED_MAKER
+  not_g k lt = let few = can.is.layout.mutators.1 in λ e. omega arith
+
   follows : (k : ℕ) (lt : k < o.layout.mutators) (t : IsThere k) → Along P k B (hand_of o.hands k) t.part.rows rows
   follows k lt t =
       let says : AllAnswer P t.part.rows (done_by k h.events) = subst (λ j. AllAnswer P t.part.rows (done_by j h.events)) t.number (h.parts k t.part t.part_there).0.rows in
-      along P k h.shared o.core h.events can.world h.legal (hand_of o.hands k) t.part.rows says (all_told t.part.fixed t.part.rows t.own t.worked.replied t.worked.built) (first_means k lt)
+      along P k one (not_g k lt) h.shared o.core h.events can.world h.legal (hand_of o.hands k) t.part.rows says (all_told t.part.fixed t.part.rows t.own t.worked.replied t.worked.built) (first_means k lt) (first_depths k lt)
 
   built : All (λ (row : Row). IsBuilt row.command) rows
   built = all_built P B rows takes (λ k lt. let l : k < o.layout.mutators = (let e = can.is.mutators in omega arith) in let t = there k l in (hand_of o.hands k, t.part.rows, follows k l t))
@@ -257,5 +277,5 @@ module _ (history : EventsAreHistory) (o : Opening) (before words : List ℕ) (v
     all_weaks = λ p parts c high alive. absurd (no_young_weak p parts c high alive);
   }
 
-pub round_is_remembered : EventsAreHistory → RoundIsRemembered
-round_is_remembered history o before words v mutators done can h work = remembers history o before words v mutators done can h work
+pub round_is_remembered : EventsAreHistory → StacksAreListed → RoundIsRemembered
+round_is_remembered history listed o before words v mutators done can h work = remembers history listed o before words v mutators done can h work

@@ -1,5 +1,5 @@
 -- What mutators have after a round stands for the roots of its world.
-use Rattle.std.proofs.Common.{◌≡◌, ℕ, ◌*◌, ◌<◌, List, length, sym, ap, subst, ◌∙◌, arith, Some}
+use Rattle.std.proofs.Common.{◌≡◌, ℕ, ◌*◌, ◌<◌, List, [], length, sym, ap, subst, ◌∙◌, arith, Some}
 use Rattle.std.specs.Prelude.{slice_get, Contains}
 use Rattle.std.proofs.lemmas.List.{length-map}
 use Rattle.std.proofs.lemmas.Option.{slice_get_within}
@@ -9,19 +9,22 @@ use Rattle.nmgc_heap.specs.Places.{AllMean, ListMeans}
 use Rattle.nmgc_heap.specs.Roots.{RepresentsRoots}
 use Rattle.nmgc_heap.specs.laws.Kinds.{map_item}
 use Rattle.nmgc_heap.specs.laws.Slots.{list_more}
-use Rattle.nmgc_round.specs.View.{Opening, Seen, hand_now}
+use Rattle.nmgc_round.specs.View.{Hand, Opening, Seen, hand_now}
 use Rattle.nmgc_round.specs.Objects.{IsIn}
 use Rattle.nmgc_round.specs.Rule.{now, IsHand}
 use Rattle.nmgc_round.specs.Finishing.{IsFinished, places_then}
 use Rattle.nmgc_mutator.specs.declared.mutator.Mutator.{Mutator}
 use Rattle.nmgc_turn.specs.Worked.{Done, HaveWorked, registers_of, queues_of, serials_of}
-use Rattle.nmgc_turn.specs.Rest.{hand_of}
 use Rattle.nmgc_turn.specs.Turn.{RootsAreLeft}
 use Rattle.nmgc_turn.specs.laws.Replays.{same_count}
 use Rattle.nmgc_turn.specs.laws.Placed.{in_place}
 use Rattle.nmgc_turn.specs.laws.Reading.{item}
 use Rattle.nmgc_turn.specs.laws.Workers.{worker_at}
 use Rattle.nmgc_turn.specs.laws.Registers.{HaveAll, registers_count, all_mean}
+
+-- its roots as a hand
+abbrev roots_in : Mutator → Hand
+roots_in m = record { registers = m.registers; queue = m.queue.words; serial = m.serial; stacks = [] }
 
 module _ (o : Opening) (words : List ℕ) (v : Seen) (mutators : List Mutator) (done : List (List Done)) (h : IsFinished o words v) (all : HaveWorked o v.parts mutators done) where
   abbrev W : World
@@ -33,7 +36,7 @@ module _ (o : Opening) (words : List ℕ) (v : Seen) (mutators : List Mutator) (
   -- what a mutator has is what its rows left it
   record IsOwn (k : ℕ) (m : Mutator) : Type 0 where
     size : length m.registers ≡ REGISTERS
-    hand : IsHand o h.born W k (hand_of m)
+    hand : IsHand o h.born W k (roots_in m)
 
   own_at : (k : ℕ) (m : Mutator) → slice_get mutators k ≡ Some m → IsOwn k m
   own_at k m e =
@@ -49,7 +52,6 @@ module _ (o : Opening) (words : List ℕ) (v : Seen) (mutators : List Mutator) (
           registers = subst (λ (l : List ℕ). ListMeans (IsIn o h.born) l (state_of W k).registers) holds.registers left.registers;
           queue = subst (λ (l : List ℕ). ListMeans (IsIn o h.born) l (state_of W k).queue) holds.queue left.queue;
           serial = sym holds.serial ∙ left.serial;
-          stacks = λ s c. absurd (let none = c.1 in omega arith);
         };
       })
 

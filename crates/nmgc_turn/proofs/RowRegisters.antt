@@ -14,17 +14,20 @@ use Rattle.nmgc_graph.specs.declared.change.Change.TheVariants as change
 use Rattle.nmgc_graph.specs.declared.command.Operand.{Operand}
 use Rattle.nmgc_graph.specs.declared.command.Operand.TheVariants.{Register, Shared}
 use Rattle.nmgc_graph.specs.declared.command.Command.{Command}
-use Rattle.nmgc_graph.specs.declared.command.Command.TheVariants.{Num, Nil, Mov, Con, Var, Arr, Get, Set, Show, Same, Yield}
+use Rattle.nmgc_graph.specs.declared.command.Command.TheVariants.{Num, Nil, Mov, Con, Var, Arr, Thunk, Weak, Stack, Get, Set, Cas, Update, Force, Push, Pop, Deref, Finalise, NextFin, Show, Same, Yield, Collect, Full}
 use Rattle.nmgc_graph.specs.declared.command.Reply.{Reply}
-use Rattle.nmgc_graph.specs.declared.command.Reply.TheVariants.{Given}
+use Rattle.nmgc_graph.specs.declared.command.Reply.TheVariants.{Given, Fine, Nothing}
 use Rattle.nmgc_graph.specs.World.{World, state_of, node_of, given}
+use Rattle.std.specs.Prelude.{slice_get, drop}
+use Rattle.std.proofs.lemmas.Option.{same_Some}
+use Rattle.nmgc_graph.specs.Change.{given_or}
 use Rattle.nmgc_graph.specs.Change.{changed}
-use Rattle.nmgc_graph.specs.Step.{shared_name, value_of, value_for, with_state, with_register, with_nth, with_node, keeping, next_name, born, change_node, change_object, step}
+use Rattle.nmgc_graph.specs.Step.{shared_name, value_of, value_for, with_state, with_register, with_nth, with_node, keeping, with_finaliser, holding_given, next_name, born, change_node, change_object, change_into, step}
 use Rattle.nmgc_object.specs.declared.layout.TheConstants.{SHARED_PLACE}
 use Rattle.nmgc_object.specs.declared.words.TheConstants.{NIL_WORD, ZERO_WORD}
-use Rattle.nmgc_reach.specs.laws.NodeLaws.{state_same, state_other}
+use Rattle.nmgc_reach.specs.laws.NodeLaws.{state_same, state_other, as_many}
 use Rattle.nmgc_heap.specs.Places.{Place, Means, ListMeans}
-use Rattle.nmgc_round.specs.View.{Answer, plain, word, Hand, word_of, taking, bearing, leaves}
+use Rattle.nmgc_round.specs.View.{Answer, plain, word, Hand, word_of, taking, bearing, stacking, pushed, popped, leaves}
 use Rattle.nmgc_round.specs.Rule.{Answers}
 use Rattle.nmgc_mutator.specs.Ready.{IsBuilt}
 
@@ -32,6 +35,16 @@ use Rattle.nmgc_mutator.specs.Ready.{IsBuilt}
 abbrev pub IsPlain : Answer → Type 0
 IsPlain (plain r) = given r ≡ None
 IsPlain (word w) = Unit {0}
+
+-- a stack more changes no register
+stacking_registers : (h : Hand) (a : Answer) → h.registers ≡ (stacking h a).registers
+stacking_registers h (plain r) = refl
+stacking_registers h (word w) = refl
+
+pushed_registers : (h : Hand) (object w : ℕ) (a : Answer) → h.registers ≡ (pushed h object w a).registers
+pushed_registers h object w (word n) = refl
+pushed_registers h object w (plain Fine) = refl
+pushed_registers h object w (plain _) = refl
 
 -- a write into a node leaves all registers
 registers_kept : (w : World) (name : Name) (made : Node) (k : ℕ) → (state_of (with_node w name made) k).registers ≡ (state_of w k).registers
@@ -61,8 +74,22 @@ registers_changed w (value.Ref name) c k = by_node (node_of w name)
     by_node None = refl
     by_node (Some found) = registers_kept w name (changed c name.maker found).0 k
 
+-- nor how many mutators there are
+count_changed : (w : World) (v : Value) (c : Change) → length (change_object w v c).0.mutators ≡ length w.mutators
+count_changed w value.Nil c = refl
+count_changed w (value.Number n) c = refl
+count_changed w (value.Ref name) c = by_node (node_of w name) refl
+  where
+    by_node : (o : Option Node) → node_of w name ≡ o → length (change_node w name o c).0.mutators ≡ length w.mutators
+    by_node None e = refl
+    by_node (Some found) e = as_many w name found (changed c name.maker found).0 e
+
+popped_registers : (h : Hand) (dest object : ℕ) (a : Answer) → (taking h dest a).registers ≡ (taking (popped h object a) dest a).registers
+popped_registers h dest object (plain r) = refl
+popped_registers h dest object (word w) = refl
+
 -- a reply that gives no value leaves the world
-kept_none : (w : World) (m dest : ℕ) (r : Reply) → given r ≡ None → keeping w m dest r ≡ w
+pub kept_none : (w : World) (m dest : ℕ) (r : Reply) → given r ≡ None → keeping w m dest r ≡ w
 kept_none w m dest (Given v) e = absurd cc
 kept_none w m dest _ e = refl
 
@@ -103,17 +130,49 @@ module _ (P : Place → Type 0) where
         let is : v ≡ value.Ref (next_name (state_of w m) m) = cc in
         subst (λ (s : MutatorState). ListMeans P (set h.registers dest wd) s.registers) (sym (state_same w m _ lt)) (list_set h.registers (state_of w m).registers dest wd (value.Ref (next_name (state_of w m) m)) means (subst (Means P wd) is k))
 
+  module _ (w : World) (m : ℕ) (lt : m < length w.mutators) (h : Hand) (means : ListMeans P h.registers (state_of w m).registers) where
+    -- a change gives a register what it answers
+    changed_registers : (dest : ℕ) (object : Operand) (c : Change) (a : Answer) → Answers P a (change_object w (value_for w m object) c).1 → IsPlain a → ListMeans P (taking h dest a).registers (state_of (change_into m dest (change_object w (value_for w m object) c)).0 m).registers
+    changed_registers dest object c a e p =
+        let r : World × Reply = change_object w (value_for w m object) c in
+        let exists : m < length r.0.mutators = subst (λ j. m < j) (sym (count_changed w (value_for w m object) c)) lt in
+        taken r.0 m exists h (subst (λ (l : List Value). ListMeans P h.registers l) (sym (registers_changed w (value_for w m object) c m)) means) dest a r.1 e p
+
+    -- the first of the queue goes into a register
+    queued_registers : (dest : ℕ) (o : Option Value) (a : Answer) → Answers P a (given_or Nothing o) → IsPlain a → ListMeans P (taking (record h { queue = drop 1 h.queue }) dest a).registers (holding_given (record (state_of w m) { queue = drop 1 (state_of w m).queue }) dest o).registers
+    queued_registers dest None (plain x) e p = means
+    queued_registers dest None (word wd) (v, e, k) p = absurd (let bad : Some v ≡ None = ap given e in cc)
+    queued_registers dest (Some x) (plain r) e p = absurd (let bad : Some x ≡ None = sym (ap given e) ∙ p in cc)
+    queued_registers dest (Some x) (word wd) (v, e, k) p =
+        let is : Some v ≡ Some x = ap given e in
+        list_set h.registers (state_of w m).registers dest wd x means (subst (Means P wd) (same_Some v x is) k)
+
     -- every built command
     pub registers_left : P (record { at = SHARED_PLACE; name = shared_name }) → (c : Command) (a : Answer) → IsBuilt c → Answers P a (step w m c).1 → IsPlain a → ListMeans P (leaves h c a).registers (state_of (step w m c).0 m).registers
-    registers_left g (Num dest n) a b e p = held dest (2 * n + ZERO_WORD) (value.Number n) refl
-    registers_left g (Nil dest) a b e p = held dest NIL_WORD value.Nil refl
-    registers_left g (Mov dest v) a b e p = held dest (word_of h.registers v) (value_for w m v) (operand_means g h.registers (state_of w m).registers v means)
-    registers_left g (Con dest tag fields) a b e p = birth dest _ a e p
-    registers_left g (Var dest v) a b e p = birth dest _ a e p
-    registers_left g (Arr dest count v) a b e p = birth dest _ a e p
-    registers_left g (Get dest object index) a b e p = taken dest a _ e p
+    registers_left g (Num dest n) a b e p = held w m lt h means dest (2 * n + ZERO_WORD) (value.Number n) refl
+    registers_left g (Nil dest) a b e p = held w m lt h means dest NIL_WORD value.Nil refl
+    registers_left g (Mov dest v) a b e p = held w m lt h means dest (word_of h.registers v) (value_for w m v) (operand_means g h.registers (state_of w m).registers v means)
+    registers_left g (Con dest tag fields) a b e p = birth w m lt h means dest _ a e p
+    registers_left g (Var dest v) a b e p = birth w m lt h means dest _ a e p
+    registers_left g (Arr dest count v) a b e p = birth w m lt h means dest _ a e p
+    registers_left g (Thunk dest free) a b e p = birth w m lt h means dest _ a e p
+    registers_left g (Weak dest key v finaliser) a b e p = birth w m lt h means dest _ a e p
+    registers_left g (Stack dest size) a b e p = subst (λ (l : List ℕ). ListMeans P l (state_of (step w m (Stack dest size)).0 m).registers) (stacking_registers (bearing h dest a) a) (birth w m lt h means dest _ a e p)
+    registers_left g (Get dest object index) a b e p = taken w m lt h means dest a _ e p
     registers_left g (Set object index v) a b e p = subst (λ (l : List Value). ListMeans P h.registers l) (sym (registers_changed w (value_for w m object) (change.Set index (value_for w m v)) m)) means
+    registers_left g (Cas object index expected v) a b e p = subst (λ (l : List Value). ListMeans P h.registers l) (sym (registers_changed w (value_for w m object) (change.Exchange index (value_for w m expected) (value_for w m v)) m)) means
+    registers_left g (Update object v) a b e p = subst (λ (l : List Value). ListMeans P h.registers l) (sym (registers_changed w (value_for w m object) (change.Update (value_for w m v)) m)) means
+    registers_left g (Force dest object) a b e p = taken w m lt h means dest a _ e p
+    registers_left g (Push object v) a b e p = subst (λ (l : List ℕ). ListMeans P l (state_of (step w m (Push object v)).0 m).registers) (pushed_registers h (word_of h.registers object) (word_of h.registers v) a)
+        (subst (λ (l : List Value). ListMeans P h.registers l) (sym (registers_changed w (value_for w m object) (change.Push m (value_for w m v)) m)) means)
+    registers_left g (Pop dest object) a b e p = subst (λ (l : List ℕ). ListMeans P l (state_of (step w m (Pop dest object)).0 m).registers) (popped_registers h dest (word_of h.registers object) a) (changed_registers dest object (change.Pop m) a e p)
+    registers_left g (Deref dest object) a b e p = taken w m lt h means dest a _ e p
+    registers_left g (Finalise dest object) a b e p = changed_registers dest object change.Finalise a e p
+    registers_left g (NextFin dest) a b e p =
+        let first : Option Value = slice_get (state_of w m).queue 0 in
+        subst (λ (s : MutatorState). ListMeans P (leaves h (NextFin dest) a).registers s.registers) (sym (state_same w m (with_finaliser (state_of w m) dest) lt)) (queued_registers dest first a e p)
     registers_left g (Show v) a b e p = means
     registers_left g (Same left right) a b e p = means
     registers_left g Yield a b e p = means
-    registers_left g _ a b e p = absurd b
+    registers_left g Collect a b e p = means
+    registers_left g Full a b e p = means

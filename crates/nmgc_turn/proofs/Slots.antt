@@ -1,7 +1,9 @@
 -- What is said of a field, by its place.
-use Rattle.std.proofs.Common.{◌≡◌, ◌≢◌, ◌⊎◌, ℕ, zero, suc, ◌-◌, List, [], ◌∷◌, ◌++◌, get_or, length, map, replicate, refl, sym, ap, ◌∙◌, arith, Some, None, inl, inr}
+use Rattle.std.proofs.Common.{◌≡◌, ◌≢◌, ◌⊎◌, ℕ, zero, suc, ◌+◌, ◌-◌, ◌<◌, List, [], ◌∷◌, ◌++◌, get_or, length, map, replicate, refl, sym, ap, subst, ◌∙◌, arith, Some, None, inl, inr}
 use Rattle.std.specs.Prelude.{slice_get, Contains}
 use Rattle.std.proofs.lemmas.Option.{slice_get-get_or}
+use Rattle.std.proofs.lemmas.Bool.{cases_lt}
+use Rattle.std.proofs.lemmas.List.{length-map}
 use Rattle.nmgc_graph.specs.declared.value.Value.{Value}
 use Rattle.nmgc_graph.specs.declared.value.Value.TheVariants as value
 use Rattle.nmgc_graph.specs.declared.node.Node.{Node}
@@ -11,18 +13,34 @@ use Rattle.nmgc_graph.specs.World.{held_by}
 use Rattle.nmgc_reach.specs.Holds.{strong_at}
 use Rattle.nmgc_reach.specs.laws.ItemLaws.{contains_at}
 use Rattle.nmgc_heap.specs.Shape.{Slot, holds, unset, untold, slots_of}
-use Rattle.nmgc_heap.specs.laws.Kinds.{item_map, map_item}
+use Rattle.nmgc_heap.specs.laws.Kinds.{item_map, map_item, item_left, item_right, item_all}
 use Rattle.nmgc_turn.proofs.Recorded.{IsField}
 
--- a field that `set` writes is told
+-- each slot of a stack is told
+stack_slot : (values : List Value) (size index : ℕ) → index < size → (slot : Slot) × (slice_get (map holds values ++ replicate (size - length values) unset) index ≡ Some slot) × (slot ≢ untold)
+stack_slot values size index lt =
+    let n : ℕ = size - length values in
+    let front : List Slot = map holds values in
+    let long = length-map values holds in
+    elim (cases_lt index (length values)) [
+      | inl l ↦ let v : Value = get_or values index value.Nil in (holds v, item_left front (replicate n unset) index (holds v) (item_map holds values index v (slice_get-get_or values index value.Nil l)), λ e. cc)
+      | inr le ↦
+          let j : ℕ = index - length values in
+          let place : length front + j ≡ index = omega arith in
+          (unset, subst (λ k. slice_get (front ++ replicate n unset) k ≡ Some unset) place (item_right front (replicate n unset) j unset (item_all n j unset (omega arith))), λ e. cc)
+    ]
+
+-- a field that a command writes is told
 pub told_slot : (node : Node) (index : ℕ) → IsField node index → (slot : Slot) × (slice_get (slots_of node) index ≡ Some slot) × (slot ≢ untold)
-told_slot (Con tag values) index f = absurd f.kind
+told_slot (Con tag values) index f = absurd f.written
 told_slot (Var old) zero f = (holds old, refl, λ e. cc)
 told_slot (Var old) (suc index) f = absurd (let lt = f.within in omega arith)
 told_slot (Arr values) index f = let v : Value = get_or values index value.Nil in (holds v, item_map holds values index v (slice_get-get_or values index value.Nil f.within), λ e. cc)
-told_slot (Thunk free result) index f = absurd f.kind
-told_slot (Weak parts) index f = absurd f.kind
-told_slot (Stack size values) index f = absurd f.kind
+told_slot (Thunk free None) zero f = (unset, refl, λ e. cc)
+told_slot (Thunk free (Some result)) zero f = (holds result, refl, λ e. cc)
+told_slot (Thunk free result) (suc index) f = absurd (let z = f.written in omega arith)
+told_slot (Weak parts) index f = absurd f.written
+told_slot (Stack size values) index f = stack_slot values size index f.within
 
 held_item : (values : List Value) (i : ℕ) (v : Value) → slice_get (map holds values) i ≡ Some (holds v) → slice_get values i ≡ Some v
 held_item values i v h = let t = map_item holds values i (holds v) h in let same : v ≡ t.0 = let e = t.2 in cc in t.1 ∙ ap (λ x. Some x) (sym same)

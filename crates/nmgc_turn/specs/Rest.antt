@@ -10,15 +10,16 @@ use Rattle.nmgc_heap.specs.Roots.{RepresentsRoots}
 use Rattle.nmgc_blocks.specs.Occupied.{AreBlocks}
 use Rattle.nmgc_blocks.specs.Stopped.{young_base}
 use Rattle.nmgc_round.specs.View.{Hand, Opening}
+use Rattle.nmgc_round.specs.Own.{old_stacks}
 use Rattle.nmgc_mutator.specs.declared.mutator.Mutator.{Mutator}
 use Rattle.nmgc_mutator.specs.Ready.{IsWhole, IsUnused}
 use Rattle.nmgc_turn.specs.Worked.{registers_of, queues_of, serials_of}
 
--- what a mutator has outside the heap, as a round sees it
-abbrev pub hand_of : Mutator → Hand
-hand_of m = record { registers = m.registers; queue = m.queue.words; serial = m.serial; stacks = [] }
+-- what a mutator has outside the heap, as a round of this world with objects at these places sees it
+abbrev pub hand_of : World → List Place → Mutator → Hand
+hand_of w places m = record { registers = m.registers; queue = m.queue.words; serial = m.serial; stacks = old_stacks places w m.number }
 
--- a mutator at a stop: all its registers, an unused nursery, and nothing left for the stop
+-- a mutator at a stop: all its registers, an unused nursery, and no recorded field and no young weak pointer left for the stop
 pub record IsResting (layout : Layout) (number : ℕ) (m : Mutator) : Type 0 where
   pub number_is : m.number ≡ number
   pub layout_is : m.layout ≡ layout
@@ -40,4 +41,4 @@ pub record IsAtRest (s : Segments) (places : List Place) (w : World) (words : Li
 
 -- the opening of a round that begins there
 abbrev pub opening_at : Layout → World → List Place → List Mutator → Opening
-opening_at layout w places mutators = record { layout = layout; marking = false; core = unmarked w; places = places; hands = map hand_of mutators }
+opening_at layout w places mutators = record { layout = layout; marking = false; core = unmarked w; places = places; hands = map (hand_of w places) mutators }

@@ -3,7 +3,9 @@
 //! Each function's contract is the law. A body does nothing but call the laws that its proof rests on.
 ghost use Rattle.nmgc_turn.specs.Turn.{RestOpens, SlicesAreGathered, RoundIsHistory, RootsAreLeft, BirthsAreInOrder, RoundIsRemembered, RoundIsStopped, SettledIsAtRest};
 
-use nmgc_round::laws::{events_are_a_history, histories_have_the_rows, replies_are_named};
+use nmgc_round::laws::{
+    events_are_a_history, histories_have_the_rows, old_stacks_are_listed, replies_are_named,
+};
 
 /// Words, blocks and mutators that stand for a world while no cycle marks open a round with that world.
 pub fn a_rest_opens_a_round()
@@ -42,6 +44,7 @@ pub fn a_round_is_remembered()
     ensures { RoundIsRemembered }
 {
     events_are_a_history();
+    old_stacks_are_listed();
 }
 
 /// What a round leaves is what a promotion asks.
