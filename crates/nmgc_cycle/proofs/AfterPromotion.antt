@@ -1,6 +1,6 @@
 -- What a collector has once the promotion of its stop is done.
-use Rattle.std.proofs.Common.{ℕ, ◌≡◌, ◌≢◌, ◌+◌, ◌*◌, ◌<◌, List, [], length, map, arith, refl, sym, ap, subst, ◌∙◌, inl, inr, slice_index_or, Some}
-use Rattle.std.specs.Prelude.{All, Contains, slice_get, slice_index}
+use Rattle.std.proofs.Common.{ℕ, ◌≡◌, ◌↔◌, ◌+◌, ◌*◌, ◌<◌, List, [], length, map, arith, refl, sym, ap, subst, ◌∙◌, inl, inr, slice_index_or, Some}
+use Rattle.std.specs.Prelude.{All, Contains, slice_get}
 use Rattle.std.proofs.Math.ListN.{get_or-map}
 use Rattle.std.proofs.lemmas.List.{length-map}
 use Rattle.std.proofs.lemmas.Option.{slice_get-get_or}
@@ -10,9 +10,6 @@ use Rattle.nmgc_reach.specs.laws.ItemLaws.{nothing_in}
 use Rattle.nmgc_object.specs.declared.layout.Layout.{Layout}
 use Rattle.nmgc_object.specs.declared.layout.Nursery.{Nursery}
 use Rattle.nmgc_object.specs.FinQueue.{FinQueue}
-use Rattle.nmgc_segment.specs.declared.state.State.TheVariants as stands
-use Rattle.nmgc_alloc.specs.Search.{nth}
-use Rattle.nmgc_alloc.specs.Segments.{HasNumber}
 use Rattle.nmgc_alloc.specs.AllocState.{AllocState, StandsFor}
 use Rattle.nmgc_heap.specs.Moves.{Moved, settled}
 use Rattle.nmgc_heap.specs.Places.{Place}
@@ -26,25 +23,26 @@ use Rattle.nmgc_blocks.specs.Stopped.{Stopped, IsSettled, young_base}
 use Rattle.nmgc_minor.specs.Placing.{moved_of}
 use Rattle.nmgc_minor.specs.Promotes.{emptied}
 use Rattle.nmgc_minor.specs.Start.{words_of}
+use Rattle.nmgc_mutator.specs.Records.{numbers}
 use Rattle.nmgc_mutator.specs.declared.mutator.Mutator.{Mutator}
 use Rattle.nmgc_script.specs.declared.script.Script.{Script}
-use Rattle.nmgc_run.specs.Collector.{AreNurseries, AreAtRest, IsAtRest}
-use Rattle.nmgc_run.specs.Heap.{HoldsAtStop, snapshots, registers_of, queues_of, serials_of}
-use Rattle.nmgc_run.specs.Marks.{AreSettled, IsSettledByte}
+use Rattle.nmgc_run.specs.Collector.{AreNurseries}
+use Rattle.nmgc_run.specs.Heap.{HoldsAtStop, FitBlocks, IsPlaceAtStop, snapshots, registers_of, queues_of, serials_of}
 use Rattle.nmgc_run.specs.Places.{BlocksArePlaces}
 use Rattle.nmgc_run.specs.Promotion.{Promotes}
 use Rattle.nmgc_run.specs.Seen.{MutatorSeen, ends_of, nurseries_of}
-use Rattle.nmgc_run.specs.State.{Plan, State, Progress, plan_of, layout_of}
+use Rattle.nmgc_run.specs.State.{Plan, State, plan_of, layout_of}
 use Rattle.nmgc_cycle.specs.declared.collector.Collector.{Collector}
 use Rattle.nmgc_cycle.specs.Keeps.{CanStop, IsKept, IsOwn}
 use Rattle.nmgc_cycle.specs.Roots.{HasRegisters, own_registers, no_queue, given_back}
 use Rattle.nmgc_cycle.specs.Shown.{seen, seen_mutator, words_in}
+use Rattle.nmgc_cycle.specs.Steps.{HasPromotedAll}
 use Rattle.nmgc_cycle.specs.Stopping.{HasPromoted, moves_of, moved_names}
 use Rattle.nmgc_cycle.proofs.Begins.{Begins}
 use Rattle.nmgc_cycle.proofs.GivenBack.{HaveGiven, have_given, one_given, own_count}
 use Rattle.nmgc_cycle.proofs.MutatorLists.{registers_count}
 use Rattle.nmgc_cycle.proofs.NewStops.{stopped_in}
-use Rattle.nmgc_cycle.proofs.SweepingStays.{sweeping_stays}
+use Rattle.nmgc_cycle.proofs.RootLists.{seen_at}
 use Rattle.nmgc_cycle.proofs.Views.{registers_seen, queues_seen, serials_seen, nurseries_seen, whole_seen}
 
 -- the mutators of a collector have all their registers
@@ -61,7 +59,7 @@ module _ (script : Script) (old new : Collector) (kept : IsKept script old) (b :
   plan = plan_of script
 
   abbrev pub at_stop : Stopped
-  at_stop = stopped_in b.began b.state.world b.places (seen old)
+  at_stop = stopped_in b.began b.state b.places (seen old)
 
   abbrev pub w : World
   w = b.state.world
@@ -82,7 +80,7 @@ module _ (script : Script) (old new : Collector) (kept : IsKept script old) (b :
   count = length new.promotion.moves
 
   -- where they are
-  abbrev places : List Place
+  abbrev pub places : List Place
   places = settled (young_base new.segments) (moves_of new) b.places
 
   low : (q : Place) → Contains places q → q.at < young_base new.segments
@@ -127,28 +125,35 @@ module _ (script : Script) (old new : Collector) (kept : IsKept script old) (b :
   pub lists : HaveGiven p.registers p.queues old.mutators.items new.mutators.items
   lists = have_given p.registers p.queues old.mutators.items new.mutators.items p.given registers_many queues_many
 
-  -- each mutator is whole, with nothing left of the round
-  pub own : (k : ℕ) (m : Mutator) → slice_get new.mutators.items k ≡ Some m → IsOwn new k m × IsAtRest (seen_mutator m)
+  -- each mutator is whole, and nothing is left but what it remembers
+  pub own : (k : ℕ) (m : Mutator) → slice_get new.mutators.items k ≡ Some m → IsOwn new k m × HasPromotedAll (seen_mutator m)
   own k m e =
       let was = one_given p.registers p.queues old.mutators.items new.mutators.items p.given k m e in
       let before = kept.own k was.0 was.2 in
       let back : Mutator = given_back (own_registers p.registers k) (slice_index_or p.queues k no_queue) was.0 in
       let size : length (own_registers p.registers k) ≡ REGISTERS = own_count p.registers (length old.mutators.items) k registers_many was.1 in
-      subst (λ (x : Mutator). IsOwn new k x × IsAtRest (seen_mutator x)) (sym was.3) (
+      subst (λ (x : Mutator). IsOwn new k x × HasPromotedAll (seen_mutator x)) (sym was.3) (
         record {
           number = before.number;
           layout = before.layout ∙ sym p.layout;
           whole = record { layout = before.whole.layout; number = before.whole.number; size = size };
           no_replies = before.no_replies;
         },
-        record { recorded = refl; young_weaks = refl; entries = refl },
+        record { recorded = refl; young_weaks = refl },
       )
 
-  -- the heap: words, segments and roots, and what the mutators have at rest
+  -- the heap: words, segments and roots, and what the mutators have in hand
 
   -- each mutator as contracts see it
-  at_rest : (k : ℕ) (m : MutatorSeen) → slice_get (seen new).mutators k ≡ Some m → IsAtRest m
-  at_rest k m e = let x = map_item seen_mutator new.mutators.items k m e in subst IsAtRest (sym x.2) (own k x.0 x.1).1
+  pub rest : (k : ℕ) (m : MutatorSeen) → slice_get (seen new).mutators k ≡ Some m → HasPromotedAll m
+  rest k m e = let x = map_item seen_mutator new.mutators.items k m e in subst HasPromotedAll (sym x.2) (own k x.0 x.1).1
+
+  -- what it remembers is what it remembered
+  pub remembers : (k : ℕ) (m : MutatorSeen) → slice_get (seen new).mutators k ≡ Some m → (before : MutatorSeen) × (slice_get (seen old).mutators k ≡ Some before) × (m.entries ≡ before.entries)
+  remembers k m e =
+      let x = map_item seen_mutator new.mutators.items k m e in
+      let was = one_given p.registers p.queues old.mutators.items new.mutators.items p.given k x.0 x.1 in
+      (seen_mutator was.0, seen_at old.mutators.items k was.0 was.2, ap (λ (y : MutatorSeen). y.entries) x.2 ∙ ap (λ (y : Mutator). numbers y.updrem.items) was.3)
 
   emptied_are : nurseries_of (seen new) ≡ map emptied (nurseries_of (seen old))
   emptied_are = nurseries_seen new ∙ lists.nurseries_are ∙ ap (λ (ns : List Nursery). map emptied ns) (sym (nurseries_seen old))
@@ -156,14 +161,14 @@ module _ (script : Script) (old new : Collector) (kept : IsKept script old) (b :
   emptied_at : (maker : ℕ) → nursery_at (nurseries_of (seen new)) maker ≡ emptied (nursery_at (nurseries_of (seen old)) maker)
   emptied_at maker = ap (λ (ns : List Nursery). nursery_at ns maker) emptied_are ∙ get_or-map emptied (nurseries_of (seen old)) maker (record { base = 0; top = 0; end = 0 })
 
-  are_empty : AreEmpty (nurseries_of (seen new))
+  pub are_empty : AreEmpty (nurseries_of (seen new))
   are_empty maker = ap (λ (n : Nursery). n.top) (emptied_at maker) ∙ ap (λ (n : Nursery). n.base) (sym (emptied_at maker))
 
   base_at : (maker : ℕ) → (nursery_at (nurseries_of (seen new)) maker).base ≡ (nursery_at (nurseries_of (seen old)) maker).base
   base_at maker = ap (λ (n : Nursery). n.base) (emptied_at maker)
 
-  are_nurseries : AreNurseries new.segments.layout places w (nurseries_of (seen new))
-  are_nurseries =
+  own_nurseries : AreNurseries new.segments.layout places w (nurseries_of (seen new))
+  own_nurseries =
       let before : AreNurseries new.segments.layout b.places w (nurseries_of (seen old)) = subst (λ (l : Layout). AreNurseries l b.places w (nurseries_of (seen old))) (sym layout_is) b.nurseries in
       record {
         used = record {
@@ -177,8 +182,11 @@ module _ (script : Script) (old new : Collector) (kept : IsKept script old) (b :
             end ∙ before.ends maker lt ∙ ap (λ (n : ℕ). n + new.segments.layout.nursery) (sym (base_at maker));
       }
 
+  pub are_nurseries : AreNurseries (layout_of plan) places w (nurseries_of (seen new))
+  are_nurseries = subst (λ (l : Layout). AreNurseries l places w (nurseries_of (seen new))) layout_is own_nurseries
+
   -- the roots, as a report would tell them
-  roots : RepresentsRoots places w (registers_of (ends_of (seen new))) (queues_of (ends_of (seen new))) (serials_of (ends_of (seen new)))
+  pub roots : RepresentsRoots places w (registers_of (ends_of (seen new))) (queues_of (ends_of (seen new))) (serials_of (ends_of (seen new)))
   roots =
       let registers : p.registers ≡ registers_of (ends_of (seen new)) = sym (registers_seen new ∙ lists.registers_are) in
       let queues : words_of p.queues ≡ queues_of (ends_of (seen new)) = sym (queues_seen new ∙ lists.queues_are) in
@@ -188,53 +196,29 @@ module _ (script : Script) (old new : Collector) (kept : IsKept script old) (b :
       (subst (λ (y : List ℕ). RepresentsRoots places w y (words_of p.queues) (serials_of (ends_of (seen old)))) registers settled_heap.roots))
 
   -- no weak pointer is listed, since none is alive
-  listed : ListsWeaks new.segments.layout places w []
+  pub listed : ListsWeaks new.segments.layout places w []
   listed = record {
     ordered = tt;
     sound = λ q c. absurd (nothing_in q c);
-    complete = λ q h. absurd (b.weakless q.name h.1.0 h.1.1);
+    complete = λ q h. absurd (b.weakless.world q.name h.1.0 h.1.1);
   }
 
-  -- the heap at the stop, and that nothing is left for the next, for one layout
-  abbrev pub RestsIn : Layout → Type 0
-  RestsIn l = (h : HoldsAtStop l promoted (words_in new.words) new.segments (ends_of (seen new)) []) × AreAtRest l h.places w (seen new)
+  -- the heap at the stop
+  module _ (back : BlocksArePlaces) where
+    pub told : FitBlocks w placed.0 × ((q : Place) → Contains places q ↔ IsPlaceAtStop new.segments.layout placed.0 q)
+    told = back new.segments.layout (snapshots b.state.progress) places w placed.0 (words_in new.words) new.segments settled_heap.represents p.sound refl placed.2 low settled_heap.blocks
 
-  rests_in : BlocksArePlaces → RestsIn new.segments.layout
-  rests_in back =
-      let told = back new.segments.layout [] places w placed.0 (words_in new.words) new.segments settled_heap.represents p.sound refl placed.2 low settled_heap.blocks in (
-        record {
-          places = places;
-          all = told.1;
-          holds = record {
-            fit = told.0;
-            represents = subst (λ (q : Progress). Represents new.segments.layout (snapshots q) NoNode places w (words_in new.words)) (sym b.quiet) settled_heap.represents;
-            registers = whole_seen new (λ k d lt. (own k (slice_index_or new.mutators.items k d) (slice_get-get_or new.mutators.items k d lt)).0.whole.size);
-            roots = roots;
-            layout_is = refl;
-            stands = placed.2;
-          };
-          listed = listed;
-        },
-        record { nurseries = are_nurseries; empty = are_empty; nothing = at_rest },
-      )
-
-  pub rests : BlocksArePlaces → RestsIn (layout_of plan)
-  rests back = subst RestsIn layout_is (rests_in back)
-
-  -- marks
-
-  -- what doesn't wait to be swept didn't wait before
-  not_waiting : (number : ℕ) → HasNumber old.segments number → HasNumber new.segments number → (nth new.segments.segments number).state ≢ stands.Sweeping → (nth old.segments.segments number).state ≢ stands.Sweeping
-  not_waiting number was is now e =
-      let before = (b.stands.shows number was).state in
-      let after = (placed.2.shows number is).state in
-      let waits = sweeping_stays old.segments.layout w b.state.allocation placed.0 (moved_names new) number placed.1 (before ∙ e) in
-      now (sym after ∙ waits)
-
-  pub still_settled : AreSettled 0 new.segments
-  still_settled number block is now =
-      let before = b.stopped.segments.count in
-      let after = p.sound.count in
-      let same = ap (λ (l : Layout). l.segments) p.layout in
-      let was : HasNumber old.segments number = omega (arith, before, after, same, is) in
-      subst (λ (marks : List ℕ). IsSettledByte 0 (slice_index marks block)) (sym (p.marks.marks number)) (b.settled number block was (not_waiting number was is now))
+    abbrev pub heap : HoldsAtStop (layout_of plan) promoted (words_in new.words) new.segments (ends_of (seen new)) []
+    heap = record {
+      places = places;
+      all = subst (λ (l : Layout). (q : Place) → Contains places q ↔ IsPlaceAtStop l placed.0 q) layout_is told.1;
+      holds = record {
+        fit = told.0;
+        represents = subst (λ (l : Layout). Represents l (snapshots b.state.progress) NoNode places w (words_in new.words)) layout_is settled_heap.represents;
+        registers = whole_seen new (λ k d lt. (own k (slice_index_or new.mutators.items k d) (slice_get-get_or new.mutators.items k d lt)).0.whole.size);
+        roots = roots;
+        layout_is = layout_is;
+        stands = placed.2;
+      };
+      listed = subst (λ (l : Layout). ListsWeaks l places w []) layout_is listed;
+    }

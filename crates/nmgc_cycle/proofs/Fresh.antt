@@ -1,5 +1,5 @@
 -- A new collector is what a run begins with.
-use Rattle.std.proofs.Common.{ℕ, ◌≡◌, ◌≤◌, ◌<◌, List, [], ◌∷◌, length, map, replicate, arith, refl, sym, ap, subst, ◌∙◌, Some, vec_capacity}
+use Rattle.std.proofs.Common.{false, ℕ, ◌≡◌, ◌≤◌, ◌<◌, List, [], ◌∷◌, length, map, replicate, arith, refl, sym, ap, subst, ◌∙◌, Some, vec_capacity, None}
 use Rattle.std.specs.Prelude.{All, IsSome, slice_get, slice_index}
 use Rattle.std.proofs.Math.ListN.{length-replicate}
 use Rattle.std.proofs.lemmas.List.{get_or-replicate}
@@ -26,7 +26,8 @@ use Rattle.nmgc_journal.specs.declared.report.RoundRows.{RoundRows}
 use Rattle.nmgc_heap.specs.Roots.{RepresentsRoots}
 use Rattle.nmgc_cycle.specs.declared.collector.Collector.{Collector}
 use Rattle.nmgc_cycle.specs.Keeps.{IsOwn, IsKept, IsFresh}
-use Rattle.nmgc_cycle.specs.Shown.{seen, seen_mutator}
+use Rattle.nmgc_cycle.specs.declared.progress.Progress.TheVariants as progress
+use Rattle.nmgc_cycle.specs.Shown.{seen, seen_mutator, phase_in}
 use Rattle.nmgc_cycle.proofs.Empty.{fit_blocks, place_of_g, g_has_place, lists_no_weaks, no_marks}
 use Rattle.nmgc_cycle.proofs.News.{AreNew, new_end, ends_are, have_registers, new_roots}
 use Rattle.nmgc_cycle.proofs.Unused.{are_empty, are_nurseries, nothing_left}
@@ -34,7 +35,9 @@ use Rattle.nmgc_cycle.proofs.Unused.{are_empty, are_nurseries, nothing_left}
 -- what a new collector is made of
 pub record IsMade (layout : Layout) (script : Script) (c : Collector) : Type 0 where
   pub lawful : IsLayout layout
-  pub nothing : (c.rounds ≡ []) × (c.stops ≡ [])
+  pub nothing : (c.rounds ≡ []) × (c.stops ≡ []) × (c.cycles ≡ [])
+  pub idle : (c.progress ≡ progress.Idle) × (c.begun ≡ 0) × (c.collect ≡ false)
+  pub goes_on : c.answered ≡ None
   pub has_words : IsSome c.words
   pub list : c.list.items ≡ (seen c).words
   pub total : length (seen c).words ≡ word_total layout
@@ -106,8 +109,8 @@ module _ (script : Script) (c : Collector) (made : IsMade (layout_of (plan_of sc
 
   is_new : IsNew (plan_of script) (seen c)
   is_new = record {
-    nothing = (made.nothing.0, made.nothing.1, refl);
-    matches = record { phase = refl; begun = refl; collect = refl; full = refl };
+    nothing = made.nothing;
+    matches = record { phase = ap phase_in made.idle.0; begun = made.idle.1; collect = made.idle.2; full = refl };
     heap = record {
       places = shared_place ∷ [];
       all = λ p. (place_of_g sizes script.config.segments p, g_has_place sizes script.config.segments p);
@@ -123,7 +126,7 @@ module _ (script : Script) (c : Collector) (made : IsMade (layout_of (plan_of sc
   }
 
   fresh : IsFresh script c
-  fresh = record { kept = kept; new = is_new }
+  fresh = record { kept = kept; goes_on = made.goes_on; new = is_new }
 
 pub is_fresh : (layout : Layout) (script : Script) (c : Collector) → layout ≡ layout_of (plan_of script) → IsMade layout script c → IsFresh script c
 is_fresh layout script c same made = fresh script c (subst (λ (l : Layout). IsMade l script c) same made)

@@ -1,4 +1,4 @@
--- What the slices of all mutators leave: the seats have every part of the round between them.
+-- What the slices of all mutators leave, by their numbers.
 use Rattle.std.proofs.Common.{ℕ, ◌≡◌, List, length, map, slice_index_or, sym, ap, subst, ◌∙◌, arith, Some}
 use Rattle.std.specs.Prelude.{All, slice_get, option_map}
 use Rattle.std.proofs.lemmas.List.{length-map, get_or-map}
@@ -7,27 +7,26 @@ use Rattle.std.proofs.lemmas.Option.{slice_get-map, slice_get_within, get_or_fro
 use Rattle.nmgc_graph.specs.declared.command.Command.{Command}
 use Rattle.nmgc_object.specs.declared.layout.Layout.{Layout}
 use Rattle.nmgc_round.specs.declared.table.Round.{Round}
-use Rattle.nmgc_round.specs.View.{Opening, whole}
-use Rattle.nmgc_round.specs.Seat.{RoundSeat, IsAt, seen}
-use Rattle.nmgc_round.specs.Seating.{alone, all_together, collecting}
-use Rattle.nmgc_round.specs.Starting.{CanOpen}
-use Rattle.nmgc_round.specs.Finishing.{HasAll}
+use Rattle.nmgc_round.specs.View.{Opening}
+use Rattle.nmgc_round.specs.Seat.{RoundSeat}
+use Rattle.nmgc_round.specs.Seating.{alone}
 use Rattle.nmgc_mutator.specs.declared.mutator.Mutator.{Mutator}
 use Rattle.nmgc_mutator.specs.Ready.{IsBuilt}
 use Rattle.nmgc_mutator.specs.Does.{HasDone}
 use Rattle.nmgc_mutator.specs.Slice.{CanRun}
-use Rattle.nmgc_turn.specs.Rest.{opening_at, IsResting}
-use Rattle.nmgc_turn.specs.Turn.{SlicesAreGathered}
-use Rattle.nmgc_turn.specs.Worked.{Done, HaveWorked}
+use Rattle.nmgc_turn.specs.Rest.{IsResting}
+use Rattle.nmgc_turn.specs.Turn.{SlicesAreDone}
+use Rattle.nmgc_turn.specs.Worked.{Done}
 use Rattle.nmgc_script.specs.declared.script.Script.{Script}
-use Rattle.nmgc_run.specs.Run.{Run, last_state}
+use Rattle.nmgc_run.specs.Run.{Run}
 use Rattle.nmgc_cycle.specs.declared.collector.Collector.{Collector}
 use Rattle.nmgc_cycle.specs.declared.worker.Worker.{Worker}
 use Rattle.nmgc_cycle.specs.Keeps.{IsStill}
 use Rattle.nmgc_cycle.specs.Stage.{IsStaged}
 use Rattle.nmgc_cycle.specs.Working.{left_at, HaveAllWorked, HasWorkedOn, worker_of, workers_of, mutator_of, seat_of}
 use Rattle.nmgc_cycle.proofs.Items.{item, chosen}
-use Rattle.nmgc_cycle.proofs.Readiness.{HasSeats, hands_at, left_runs, seats_counted, seat_alone, workers_at, workers_count}
+use Rattle.nmgc_cycle.proofs.Opened.{IsOpened}
+use Rattle.nmgc_cycle.proofs.Readiness.{HasSeats, left_runs, seats_counted, seat_alone, workers_at, workers_count}
 use Rattle.nmgc_cycle.proofs.Resting.{resting, mutators_counted}
 use Rattle.nmgc_cycle.proofs.Slicing.{commands_of, IsSlice, slice_done}
 
@@ -43,12 +42,6 @@ pub record AllDid (script : Script) (c : Collector) (round : Round) (o : Opening
   pub count : length done ≡ length new
   pub each : (k : ℕ) (x : Worker) (d : List Done) → slice_get new k ≡ Some x → slice_get done k ≡ Some d → OneDid script c round o k x d
 
--- the seats, once they are gathered
-pub record IsGathered (o : Opening) (round : Round) (new : List Worker) (done : List (List Done)) : Type 0 where
-  pub all : HasAll (all_together (collecting (whole o)) (map seen (map seat_of new)))
-  pub at : All (IsAt round) (map seat_of new)
-  pub worked : HaveWorked o (all_together (collecting (whole o)) (map seen (map seat_of new))).parts (map mutator_of new) done
-
 -- commands that are all built
 all_built : (words : ℕ) (done : List Done) → All (CanRun words) (commands_of done) → All (λ (x : Done). IsBuilt x.0) done
 all_built words done h k d lt = subst IsBuilt (get_or-map (λ (x : Done). x.0) done k d d.0 lt) (h k d.0 (let count = length-map done (λ (x : Done). x.0) in omega (arith, count, lt))).built
@@ -60,41 +53,39 @@ mapped f xs k y e =
     let there : slice_get (map f xs) k ≡ Some (f x.0) = slice_get-map f xs k ∙ ap (option_map f) x.1 in
     (x.0, x.1, cc (e, there))
 
-module _ (gather : SlicesAreGathered) (script : Script) (c : Collector) (run : Run) (staged : IsStaged script) (still : IsStill script c run) (o : Opening) (is : o ≡ opening_at c.segments.layout (last_state run).world still.at_stop.heap.places c.mutators.items) (words : List ℕ) (can : CanOpen o words) (round : Round) (seats : List RoundSeat) (has : HasSeats o round seats) (new : List Worker) (worked : HaveAllWorked round script c.positions.items (workers_of c.mutators.items seats) new) where
+module _ (script : Script) (c : Collector) (run : Run) (staged : IsStaged script) (still : IsStill script c run) (o : Opening) (op : IsOpened script c run still o) (round : Round) (seats : List RoundSeat) (has : HasSeats o round seats) (new : List Worker) (worked : HaveAllWorked round script c.positions.items (workers_of c.mutators.items seats) new) where
   old_count : length (workers_of c.mutators.items seats) ≡ length c.mutators.items
-  old_count = workers_count c.mutators.items seats (seats_counted c.mutators.items o (hands_at c run still.at_stop.heap.places o is) round seats has)
+  old_count = workers_count c.mutators.items seats (seats_counted c.mutators.items o op.hands_are round seats has)
 
   one_did : (k : ℕ) (x : Worker) → slice_get new k ≡ Some x → (done : List Done) × OneDid script c round o k x done
   one_did k x e =
       let within = slice_get_within new k x e in
       let count = worked.count in
       let m = item c.mutators.items k (omega (arith, within, count, old_count)) in
-      let seat = item seats k (let n = seats_counted c.mutators.items o (hands_at c run still.at_stop.heap.places o is) round seats has in omega (arith, within, count, old_count, n)) in
+      let seat = item seats k (let n = seats_counted c.mutators.items o op.hands_are round seats has in omega (arith, within, count, old_count, n)) in
       let was : slice_index_or (workers_of c.mutators.items seats) k x ≡ worker_of (m.0, seat.0) = get_or_from_slice_get (workers_of c.mutators.items seats) k (worker_of (m.0, seat.0)) x (workers_at c.mutators.items seats k m.0 seat.0 m.1 seat.1) in
       let now : slice_index_or new k x ≡ x = get_or_from_slice_get new k x x e in
       let left : List Command = left_at script c.positions.items k in
       let did : HasWorkedOn round script.config.slice left (worker_of (m.0, seat.0)) x = subst (HasWorkedOn round script.config.slice left (worker_of (m.0, seat.0))) now (subst (λ (w : Worker). HasWorkedOn round script.config.slice left w (slice_index_or new k x)) was (worked.each k x (omega (arith, within, count)))) in
       let nursery : m.0.layout.nursery ≡ script.config.nursery = ap (λ (l : Layout). l.nursery) ((resting script c run staged still k m.0 m.1).layout_is ∙ still.kept.layout) in
-      let h = slice_done script.config round o k left m.0 seat.0 x (seat_alone c.mutators.items o (hands_at c run still.at_stop.heap.places o is) round seats has k seat.0 seat.1) nursery did in
+      let h = slice_done script.config round o k left m.0 seat.0 x (seat_alone c.mutators.items o op.hands_are round seats has k seat.0 seat.1) nursery did in
       (h.0, record { old = m.0; old_is = m.1; slice = h.1 })
 
   pub all_did : AllDid script c round o new
   all_did = let h = chosen (λ k x d. OneDid script c round o k x d) new one_did in record { done = h.0; count = h.1; each = h.2 }
 
-  pub gathered : (did : AllDid script c round o new) → IsGathered o round new did.done
-  gathered did =
-      let h = gather o words round c.mutators.items (map mutator_of new) (map seat_of new) did.done can (record {
-        mutators_are = (count, length-map new mutator_of ∙ new_count ∙ count);
-        seats_are = length-map new seat_of ∙ new_count ∙ count;
-        done_are = did.count ∙ new_count ∙ count;
-        resting = λ k m e. subst (λ (l : Layout). IsResting l k m) (sym layout) (resting script c run staged still k m e);
-        built = built;
-        each = each;
-      }) in
-      record { all = h.0; at = h.1; worked = h.2 }
+  pub slices_done : (did : AllDid script c round o new) → SlicesAreDone o round c.mutators.items (map mutator_of new) (map seat_of new) did.done
+  slices_done did = record {
+    mutators_are = (count, length-map new mutator_of ∙ new_count ∙ count);
+    seats_are = length-map new seat_of ∙ new_count ∙ count;
+    done_are = did.count ∙ new_count ∙ count;
+    resting = λ k m e. subst (λ (l : Layout). IsResting l k m) (sym layout) (resting script c run staged still k m e);
+    built = built;
+    each = each;
+  }
     where
       layout : o.layout ≡ c.segments.layout
-      layout = ap (λ (x : Opening). x.layout) is
+      layout = op.layout_is
 
       count : length c.mutators.items ≡ o.layout.mutators
       count = mutators_counted script c run staged still ∙ sym (ap (λ (l : Layout). l.mutators) layout)

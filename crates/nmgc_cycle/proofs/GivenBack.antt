@@ -20,12 +20,12 @@ pub record HaveGiven (registers : List ℕ) (queues : List FinQueue) (old new : 
   pub nurseries_are : nurseries_of new ≡ map emptied (nurseries_of old)
 
 -- the first mutator, and the others
-first_given : (registers : List ℕ) (queue : FinQueue) (queues : List FinQueue) (m n : Mutator) (old new : List Mutator) → AreGivenBack registers (queue ∷ queues) (m ∷ old) (n ∷ new) → n ≡ given_back (take REGISTERS registers) queue m
+pub first_given : (registers : List ℕ) (queue : FinQueue) (queues : List FinQueue) (m n : Mutator) (old new : List Mutator) → AreGivenBack registers (queue ∷ queues) (m ∷ old) (n ∷ new) → n ≡ given_back (take REGISTERS registers) queue m
 first_given registers queue queues m n old new h =
     let e : slice_get (n ∷ new) 0 ≡ Some (given_back (take REGISTERS registers) queue m) = h.each 0 m refl in
     cc
 
-rest_given : (registers : List ℕ) (queue : FinQueue) (queues : List FinQueue) (m n : Mutator) (old new : List Mutator) → AreGivenBack registers (queue ∷ queues) (m ∷ old) (n ∷ new) → AreGivenBack (drop REGISTERS registers) queues old new
+pub rest_given : (registers : List ℕ) (queue : FinQueue) (queues : List FinQueue) (m n : Mutator) (old new : List Mutator) → AreGivenBack registers (queue ∷ queues) (m ∷ old) (n ∷ new) → AreGivenBack (drop REGISTERS registers) queues old new
 rest_given registers queue queues m n old new h = record {
   count = let all : length (n ∷ new) ≡ length (m ∷ old) = h.count in omega (arith, all);
   each = λ k x e.

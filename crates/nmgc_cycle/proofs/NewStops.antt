@@ -24,16 +24,16 @@ use Rattle.nmgc_blocks.specs.Occupied.{AreBlocks}
 use Rattle.nmgc_blocks.specs.Remembers.{Remembers}
 use Rattle.nmgc_blocks.specs.Stopped.{Stopped, IsStopped, IsRoundOf}
 use Rattle.nmgc_run.specs.Collector.{AreAtRest}
-use Rattle.nmgc_run.specs.Heap.{HoldsAtStop, registers_of, queues_of, serials_of}
+use Rattle.nmgc_run.specs.Heap.{HoldsAtStop, registers_of, queues_of, serials_of, snapshots}
 use Rattle.nmgc_run.specs.Seen.{Seen, MutatorSeen, ends_of, nurseries_of, recorded_in}
-use Rattle.nmgc_run.specs.State.{Plan, start, layout_of}
+use Rattle.nmgc_run.specs.State.{Plan, State, start, layout_of}
 use Rattle.nmgc_run.specs.laws.Places.{blocks_at_stop}
 use Rattle.nmgc_cycle.specs.Keeps.{HasNoWeak}
 use Rattle.nmgc_cycle.proofs.StopPlaces.{places_low}
 
--- the heap at a stop that follows this world, while no cycle is in progress
-abbrev pub stopped_in : World → World → List Place → Seen → Stopped
-stopped_in began w places seen = record { world = w; began = began; later = []; places = places; serials = serials_of (ends_of seen) }
+-- the heap of a state, at a stop that follows this world
+abbrev pub stopped_in : World → State → List Place → Seen → Stopped
+stopped_in began s places seen = record { world = s.world; began = began; later = snapshots s.progress; places = places; serials = serials_of (ends_of seen) }
 
 -- g alone is there
 pub new_weakless : (count : ℕ) → HasNoWeak (new_world count)
@@ -51,7 +51,7 @@ module _ (plan : Plan) (seen : Seen)
   base = nursery_place (layout_of plan) 0
 
   abbrev at_stop : Stopped
-  at_stop = stopped_in w w h.places seen
+  at_stop = stopped_in w (start plan) h.places seen
 
   low : (p : Place) → Contains h.places p → base ≤ p.at → ⊥
   low p c high = let l = places_low (layout_of plan) (start plan) seen.words seen.segments (ends_of seen) seen.weaks segments h p c in absurd (omega (arith, l, high))

@@ -1,56 +1,48 @@
 -- A round that is over: what it began with, what it did, and the state of the run after it.
-use Rattle.std.proofs.Common.{ℕ, ◌≡◌, ◌+◌, List, [], ◌∷◌, ◌++◌, map, Some, None}
+use Rattle.std.proofs.Common.{ℕ, ◌≡◌, ◌+◌, List, [], ◌∷◌, ◌++◌, length, map, sym, ap, ◌∙◌, arith, Some, None}
 use Rattle.std.specs.Prelude.{slice_get, ◌||◌}
+use Rattle.std.proofs.lemmas.Option.{slice_get_within}
 use Rattle.nmgc_graph.specs.World.{World}
 use Rattle.nmgc_graph.specs.History.{Row}
 use Rattle.nmgc_graph.specs.declared.command.Reply.{Reply}
+use Rattle.nmgc_object.specs.declared.layout.Layout.{Layout}
+use Rattle.nmgc_alloc.specs.AllocState.{AllocState}
 use Rattle.nmgc_heap.specs.Places.{Place}
-use Rattle.nmgc_blocks.specs.Stopped.{IsStopped}
 use Rattle.nmgc_round.specs.Events.{rows_in}
-use Rattle.nmgc_round.specs.View.{Opening, Seen}
+use Rattle.nmgc_round.specs.Finishing.{IsFinished, places_then}
 use Rattle.nmgc_round.specs.Rule.{now}
 use Rattle.nmgc_round.specs.Starting.{CanOpen}
-use Rattle.nmgc_round.specs.Finishing.{Leaves, places_then}
+use Rattle.nmgc_round.specs.View.{Opening, Seen}
 use Rattle.nmgc_mutator.specs.declared.mutator.Mutator.{Mutator}
-use Rattle.nmgc_turn.specs.Rest.{opening_at}
-use Rattle.nmgc_turn.specs.Turn.{RoundIsHistory, stop_after}
-use Rattle.nmgc_turn.specs.Worked.{Done, HaveWorked, registers_of, queues_of, nurseries_of, recorded_of}
+use Rattle.nmgc_turn.specs.Worked.{Done, HaveWorked}
 use Rattle.nmgc_script.specs.declared.script.Script.{Script}
+use Rattle.nmgc_beside.specs.Owed.{gathered}
 use Rattle.nmgc_run.specs.Round.{noted}
 use Rattle.nmgc_run.specs.Run.{Run, last_state}
 use Rattle.nmgc_run.specs.Seen as run
-use Rattle.nmgc_run.specs.Slice.{slice_of, slices, rest_of, some_asks, is_collect, is_full}
+use Rattle.nmgc_run.specs.Slice.{slices, rest_of, some_asks, is_collect, is_full}
 use Rattle.nmgc_run.specs.State.{State, Plan, plan_of}
 use Rattle.nmgc_cycle.specs.declared.collector.Collector.{Collector}
 use Rattle.nmgc_cycle.specs.Keeps.{IsStill}
-use Rattle.nmgc_cycle.specs.Shown.{seen, seen_mutator}
+use Rattle.nmgc_cycle.specs.Shown.{seen}
 use Rattle.nmgc_cycle.specs.Stage.{IsStaged}
-use Rattle.nmgc_cycle.specs.Working.{left_at, replies_of}
+use Rattle.nmgc_cycle.specs.Working.{OpensIn, DidSlice, DidSlices, replies_of}
+use Rattle.nmgc_cycle.proofs.Items.{item}
+use Rattle.nmgc_cycle.proofs.Opened.{IsOpened}
 
--- the opening of the round after a stop
-abbrev pub opening : (script : Script) (c : Collector) (run : Run) → IsStill script c run → Opening
-opening script c run still = opening_at c.segments.layout (last_state run).world still.at_stop.heap.places c.mutators.items
-
--- a round after this stop is over: with the words that it left, each mutator did its slice, and a promotion may follow
-pub record IsOver (script : Script) (c : Collector) : Type 0 where
+-- a round after this stop is over, and may be followed by a stop
+pub record IsOver (script : Script) (c new : Collector) (o : Opening) : Type 0 where
   pub staged : IsStaged script
   pub run : Run
   pub still : IsStill script c run
   pub goes_on : c.answered ≡ None
+  pub opens : OpensIn (last_state run).progress (last_state run) c still.at_stop.heap.places o
+  pub op : IsOpened script c run still o
   pub before : List ℕ
-  pub can : CanOpen (opening script c run still) before
-  pub words : List ℕ
-  pub knows : Seen
-  pub leaves : Leaves (opening script c run still) words knows
-  pub mutators : List Mutator
-  pub done : List (List Done)
-  pub worked : HaveWorked (opening script c run still) knows.parts mutators done
-  pub commands : (k : ℕ) (d : List Done) → slice_get done k ≡ Some d → map (λ (x : Done). x.0) d ≡ slice_of script.config (left_at script c.positions.items k)
-  pub replies : (k : ℕ) (n : Mutator) (d : List Done) → slice_get mutators k ≡ Some n → slice_get done k ≡ Some d → n.replies.items ≡ map (λ (x : Done). x.1) d
-  pub history : RoundIsHistory
-  pub stopped : IsStopped (stop_after (opening script c run still) words knows leaves.0 mutators) c.segments words (nurseries_of mutators) (registers_of mutators) (queues_of mutators) (recorded_of mutators) []
+  pub before_are : c.words ≡ Some before
+  pub did : DidSlices script o c new
 
-module _ (script : Script) (c : Collector) (x : IsOver script c) where
+module _ (script : Script) (c new : Collector) (o : Opening) (x : IsOver script c new o) where
   abbrev pub plan : Plan
   plan = plan_of script
 
@@ -58,40 +50,84 @@ module _ (script : Script) (c : Collector) (x : IsOver script c) where
   abbrev pub s : State
   s = last_state x.run
 
-  abbrev pub o : Opening
-  o = opening script c x.run x.still
+  -- what all seats know
+  abbrev pub view : Seen
+  view = gathered o x.did.scans x.did.seats
+
+  abbrev pub finished : IsFinished o x.did.words (gathered o x.did.scans x.did.seats)
+  finished = x.did.leaves.0
+
+  pub can : CanOpen o x.before
+  can = x.op.can x.before x.before_are
 
   -- the order of all commands, the world after them, and where its objects lie
   abbrev pub rows : List Row
-  rows = rows_in x.leaves.0.events
+  rows = rows_in x.did.leaves.0.events
 
   abbrev pub w : World
-  w = (now o x.leaves.0.events).world
+  w = (now o x.did.leaves.0.events).world
 
   abbrev pub places : List Place
-  places = places_then o x.leaves.0.born
+  places = places_then o x.did.leaves.0.born
 
-  -- the state after the round, whose world is this one
-  abbrev pub with_world : World → State
-  with_world world = record s {
+  -- the state after the round, whose world is this one, with these blocks
+  abbrev pub with_world : World → AllocState → State
+  with_world world allocation = record s {
     number = s.number + 1;
     world = world;
+    allocation = allocation;
     progress = noted s.progress rows;
     collect = s.collect || some_asks is_collect (slices script.config s.left);
     full = s.full || some_asks is_full (slices script.config s.left);
     left = map (rest_of script.config) s.left;
   }
 
-  abbrev pub t : State
-  t = with_world w
+  abbrev pub t : AllocState → State
+  t allocation = with_world w allocation
 
-  -- what contracts see of the collector then
+  -- the collector once the replies are told, and what contracts see of it
   abbrev pub told : List (List Reply)
-  told = replies_of x.mutators
+  told = replies_of new.mutators.items
+
+  abbrev pub last : Collector
+  last = record c {
+    words = Some x.did.words;
+    segments = new.segments;
+    progress = new.progress;
+    collect = new.collect;
+    mutators = new.mutators;
+    positions = new.positions;
+    rounds = c.rounds ++ record { replies = told } ∷ [];
+  }
 
   abbrev pub shown : run.Seen
-  shown = record (seen c) {
-    rounds = c.rounds ++ record { replies = told } ∷ [];
-    words = x.words;
-    mutators = map seen_mutator x.mutators;
-  }
+  shown = seen last
+
+  pub worked : HaveWorked o (gathered o x.did.scans x.did.seats).parts new.mutators.items x.did.done
+  worked = x.did.gathers.worked
+
+  -- there is a mutator and a list of what it did for each program
+  pub layout_planned : o.layout ≡ c.segments.layout
+  layout_planned = x.op.layout_is
+
+  pub done_count : length x.did.done ≡ length script.threads
+  done_count = worked.done_are ∙ ap (λ (l : Layout). l.mutators) (x.op.layout_is ∙ x.still.kept.layout)
+
+  pub mutators_count : length new.mutators.items ≡ length script.threads
+  mutators_count = worked.mutators_are ∙ ap (λ (l : Layout). l.mutators) (x.op.layout_is ∙ x.still.kept.layout)
+
+  -- what one mutator did
+  pub one : (k : ℕ) (d : List Done) → slice_get x.did.done k ≡ Some d → (m : Mutator) × (n : Mutator) × (slice_get c.mutators.items k ≡ Some m) × (slice_get new.mutators.items k ≡ Some n) × DidSlice script c new k m n d
+  one k d e =
+      let within = slice_get_within x.did.done k d e in
+      let m = item c.mutators.items k (let count = x.still.kept.count in omega (arith, within, done_count, count)) in
+      let n = item new.mutators.items k (omega (arith, within, done_count, mutators_count)) in
+      (m.0, n.0, m.1, n.1, x.did.each k m.0 n.0 d m.1 n.1 e)
+
+  -- all its replies are of this round
+  pub replied : (k : ℕ) (n : Mutator) (d : List Done) → slice_get new.mutators.items k ≡ Some n → slice_get x.did.done k ≡ Some d → n.replies.items ≡ map (λ (y : Done). y.1) d
+  replied k n d e f =
+      let h = one k d f in
+      let there = h.3 in
+      let same : h.1 ≡ n = cc (there, e) in
+      ap (λ (m : Mutator). m.replies.items) (sym same) ∙ h.4.replies ∙ ap (λ (l : List Reply). l ++ map (λ (y : Done). y.1) d) (x.still.kept.own k h.0 h.2).no_replies

@@ -1,4 +1,4 @@
--- A round's order has each mutator's commands with their replies, and none that begins a cycle.
+-- A round's order has each mutator's commands with their replies, and none that asks for a full cycle.
 use Rattle.std.proofs.Common.{ℕ, suc, ◌≡◌, List, [], ◌∷◌, length, map, refl, sym, ap, ◌∙◌, inl, inr, Bool, false}
 use Rattle.std.specs.Prelude.{All, slice_get, ◌||◌, Some}
 use Rattle.std.specs.List.{list_any}
@@ -6,11 +6,11 @@ use Rattle.std.proofs.lemmas.Bool.{cases_eq, eq-eqb, ne_eqb}
 use Rattle.std.proofs.lemmas.List.Elements.{All-head, All-tail}
 use Rattle.nmgc_graph.specs.History.{Row, rows_of}
 use Rattle.nmgc_graph.specs.declared.command.Command.{Command}
-use Rattle.nmgc_graph.specs.declared.command.Command.TheVariants.{Collect, Full}
+use Rattle.nmgc_graph.specs.declared.command.Command.TheVariants.{Full}
 use Rattle.nmgc_graph.specs.declared.command.Reply.{Reply}
 use Rattle.nmgc_mutator.specs.Ready.{IsBuilt}
 use Rattle.nmgc_run.specs.Round.{answered}
-use Rattle.nmgc_run.specs.Slice.{some_asks, is_collect, is_full}
+use Rattle.nmgc_run.specs.Slice.{some_asks, is_full}
 use Rattle.nmgc_turn.specs.Worked.{Done}
 use Rattle.nmgc_cycle.proofs.Slicing.{commands_of}
 
@@ -41,12 +41,7 @@ same_lengths (d ∷ done) = ap (λ (n : ℕ). n ∷ map length (map replies_in d
     same [] = refl
     same (x ∷ d) = ap suc (same d)
 
--- no command that is built begins a cycle
-
-pub no_collect : (c : Command) → IsBuilt c → is_collect c ≡ false
-no_collect Collect h = absurd h
-no_collect c h = refl
-
+-- no command that is built asks for a full cycle
 pub no_full : (c : Command) → IsBuilt c → is_full c ≡ false
 no_full Full h = absurd h
 no_full c h = refl

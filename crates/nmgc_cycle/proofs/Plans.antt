@@ -54,6 +54,3 @@ idle_phase (sweeping c closed) e = absurd (differ e)
   where
     differ : Idle ≡ phase_of (sweeping c closed) → ⊥
     differ e = cc
-
-pub still_idle : (script : Script) (c : Collector) (run : Run) → IsStill script c run → (last_state run).progress ≡ idle
-still_idle script c run still = idle_phase (last_state run).progress still.at_stop.matches.phase

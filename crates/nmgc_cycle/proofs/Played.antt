@@ -1,23 +1,30 @@
--- The workers of a round, in the lists that the round fills.
-use Rattle.std.proofs.Common.{ℕ, ◌≡◌, ◌+◌, ◌<◌, ◌^◌, List, ◌++◌, length, map, take, drop, slice_index, sym, ap, subst, ◌∙◌, Some}
-use Rattle.std.specs.Prelude.{All}
+-- The workers of a round, in the lists that the round fills; and what they and the collector leave.
+use Rattle.std.proofs.Common.{ℕ, ◌≡◌, ◌+◌, ◌<◌, ◌^◌, ◌↔◌, List, [], ◌++◌, length, map, take, drop, slice_index, refl, sym, ap, subst, ◌∙◌, Bool, IsTrue, Some}
+use Rattle.std.specs.Prelude.{All, ◌||◌}
 use Rattle.std.specs.declared.vec.Vec.{Vec}
 use Rattle.std.proofs.Common.{Global}
+use Rattle.nmgc_alloc.specs.Segments.{Segments, IsSegments}
+use Rattle.nmgc_beside.specs.Owed as owed
 use Rattle.nmgc_round.specs.declared.table.Round.{Round}
-use Rattle.nmgc_round.specs.View.{Opening, Seen, whole}
+use Rattle.nmgc_round.specs.View.{Opening, Scan, Seen, whole}
 use Rattle.nmgc_round.specs.Seat.{RoundSeat, IsAt, seen, opening_of}
 use Rattle.nmgc_round.specs.Seating.{alones, all_together, collecting}
 use Rattle.nmgc_round.specs.Finishing.{HasAll, Leaves}
 use Rattle.nmgc_mutator.specs.declared.mutator.Mutator.{Mutator}
-use Rattle.nmgc_turn.specs.Turn.{RestOpens, SlicesAreGathered}
+use Rattle.nmgc_turn.specs.Turn.{SlicesAreGathered}
 use Rattle.nmgc_script.specs.declared.script.Script.{Script}
 use Rattle.nmgc_cycle.specs.declared.collector.Collector.{Collector}
+use Rattle.nmgc_cycle.specs.declared.progress.Progress as held
+use Rattle.nmgc_cycle.specs.declared.progress.Progress.TheVariants as doing
 use Rattle.nmgc_cycle.specs.declared.worker.Worker.{Worker}
-use Rattle.nmgc_cycle.specs.Stage.{IsStaged}
-use Rattle.nmgc_cycle.specs.Working.{OpensAt, HaveSliceRoom, CanAllWork, HaveAllWorked, workers_of}
-use Rattle.nmgc_cycle.proofs.Ran.{HasBegun, HasRun, may_work, workers_are, has_run}
+use Rattle.nmgc_cycle.specs.Cycles.{HasHelped}
+use Rattle.nmgc_cycle.specs.Working.{SomeAsks, DidSlices, HaveSliceRoom, CanAllWork, HaveAllWorked, workers_of, mutator_of, seat_of, done_by}
+use Rattle.nmgc_cycle.proofs.Ran.{MayBegin, HasBegun, HasRun, can_open, may_work, workers_are, has_run}
 use Rattle.nmgc_cycle.proofs.Readiness.{BeginReady}
-use Rattle.nmgc_cycle.proofs.Sliced.{overwritten}
+use Rattle.nmgc_cycle.proofs.Resting.{none_noted}
+use Rattle.nmgc_cycle.proofs.RootLists.{seen_at}
+use Rattle.nmgc_cycle.specs.Shown.{seen_mutator}
+use Rattle.nmgc_cycle.proofs.Sliced.{overwritten, asks_told, each_did}
 
 -- positions that can move on by so many commands
 abbrev pub CanMove : List ℕ → List ℕ → Type 0
@@ -27,12 +34,9 @@ CanMove positions done = (k : ℕ) → k < length positions → slice_index posi
 abbrev pub HaveMoved : List ℕ → List ℕ → List ℕ → Type 0
 HaveMoved old done new = (k : ℕ) → k < length old → slice_index new k ≡ slice_index old k + slice_index done k
 
-pub begun : (script : Script) (c : Collector) (o : Opening) (words : List ℕ) (round : Round) (seats : List RoundSeat) → IsStaged script → OpensAt script c o → c.words ≡ Some words → opening_of round ≡ o → map seen seats ≡ alones o 0 o.hands → All (IsAt round) seats → HasBegun script c o round seats
-begun script c o words round seats staged opens_at words_are opened seen_are at = record {
-  staged = staged;
-  opens_at = opens_at;
-  words = words;
-  words_are = words_are;
+abbrev pub begun : (script : Script) (c : Collector) (o : Opening) (round : Round) (seats : List RoundSeat) → MayBegin script c o → opening_of round ≡ o → map seen seats ≡ alones o 0 o.hands → All (IsAt round) seats → HasBegun script c o round seats
+begun script c o round seats may opened seen_are at = record {
+  may = may;
   has = record { opened = opened; seen_are = seen_are; at = at };
 }
 
@@ -45,14 +49,14 @@ module _ (script : Script) (c : Collector) (o : Opening) (round : Round) (seats 
   counted = workers.ok.0 ∙ ap (λ (l : List Worker). length l) seated_own ∙ workers_are script c o round seats b
 
   module _ (was : List Worker) (was_is : was ≡ workers.items) (positions : List ℕ) (positions_are : positions ≡ c.positions.items) where
-    pub can_play : RestOpens → BeginReady → HaveSliceRoom script c → CanAllWork round script positions was
-    can_play law begin room =
+    pub can_play : BeginReady → HaveSliceRoom script c → CanAllWork round script positions was
+    can_play begin room =
         subst (λ (l : List ℕ). CanAllWork round script l was) (sym positions_are)
-        (subst (λ (l : List Worker). CanAllWork round script c.positions.items l) (sym (was_is ∙ seated_own)) (may_work law begin script c o round seats b room))
+        (subst (λ (l : List Worker). CanAllWork round script c.positions.items l) (sym (was_is ∙ seated_own)) (may_work begin script c o round seats b room))
 
-    pub played : RestOpens → SlicesAreGathered → (new : List Worker) → HaveAllWorked round script positions was new → HasRun script c o round new
-    played law gather new worked =
-        has_run law gather script c o round seats new b
+    pub played : SlicesAreGathered → (new : List Worker) → HaveAllWorked round script positions was new → HasRun script c o round new
+    played gather new worked =
+        has_run gather script c o round seats new b
         (subst (λ (l : List Worker). HaveAllWorked round script c.positions.items l new) (was_is ∙ seated_own)
         (subst (λ (l : List ℕ). HaveAllWorked round script l was new) positions_are worked))
 
@@ -60,12 +64,56 @@ module _ (script : Script) (c : Collector) (o : Opening) (round : Round) (seats 
     pub left_in : (new : List Worker) → HaveAllWorked round script positions was new → take workers.len (new ++ drop (length new) workers.items) ≡ new
     left_in new worked = overwritten workers.len workers.items new (worked.count ∙ ap (λ (l : List Worker). length l) was_is) workers.ok.0
 
--- with the collector's seat, they have every part of the round
-pub has_all : (o : Opening) (collector : Seen) (seats own : List RoundSeat) → collector ≡ collecting (whole o) → seats ≡ own → HasAll (all_together (collecting (whole o)) (map seen own)) → HasAll (all_together collector (map seen seats))
-has_all o collector seats own is same h = subst (λ (v : Seen). HasAll (all_together v (map seen seats))) (sym is) (subst (λ (l : List RoundSeat). HasAll (all_together (collecting (whole o)) (map seen l))) (sym same) h)
+-- what the collector's seat knows once it did its part: its scans
+pub record HasScanned (o : Opening) (round : Round) (seat : RoundSeat) : Type 0 where
+  pub at : IsAt round seat
+  pub scans : List Scan
+  pub knows : seen seat ≡ record (collecting (whole o)) { scans = scans }
 
-pub leaves : (o opened : Opening) (words : List ℕ) (collector : Seen) (seats own : List RoundSeat) → opened ≡ o → collector ≡ collecting (whole o) → seats ≡ own → Leaves opened words (all_together collector (map seen seats)) → Leaves o words (all_together (collecting (whole o)) (map seen own))
-leaves o opened words collector seats own begins is same h =
-    subst (λ (x : Opening). Leaves x words (all_together (collecting (whole o)) (map seen own))) begins
-    (subst (λ (v : Seen). Leaves opened words (all_together v (map seen own))) is
-    (subst (λ (l : List RoundSeat). Leaves opened words (all_together collector (map seen l))) same h))
+pub scanned : (o : Opening) (round : Round) (quota : ℕ) (from seat : RoundSeat) (old new : Segments) (q after : held.Progress) → IsAt round from → seen from ≡ collecting (whole o) → HasHelped round quota from seat old new q after → HasScanned o round seat
+scanned o round quota from seat old new doing.Idle after at knows h = record { at = subst (IsAt round) (sym h.0) at; scans = []; knows = ap seen h.0 ∙ knows }
+scanned o round quota from seat old new (doing.Marking m) after at knows h =
+    let worked = h.2.worked in
+    record {
+      at = worked.collector.0;
+      scans = (seen from).scans ++ worked.later.scans;
+      knows = worked.later.knows ∙ ap (λ (v : Seen). record v { scans = (seen from).scans ++ worked.later.scans }) knows;
+    }
+scanned o round quota from seat old new (doing.Sweeping w) after at knows h = record { at = subst (IsAt round) (sym h.2) at; scans = []; knows = ap seen h.2 ∙ knows }
+
+-- what a round leaves, once the words are back
+module _ (script : Script) (c : Collector) (o : Opening) (may : MayBegin script c o) (round : Round) (new : List Worker) (ran : HasRun script c o round new) (seat : RoundSeat) (has : HasScanned o round seat) where
+  nothing : owed.RememberNothing c.mutators.items
+  nothing k m e = none_noted m.updrem.items ((may.still.at_stop.at_rest.nothing k (seen_mutator m) (seen_at c.mutators.items k m e)).entries)
+
+  gathers : owed.SlicesAreGathered → owed.IsGathered o has.scans (map seat_of new) (map mutator_of new) ran.did.done
+  gathers law = law o may.words round c.mutators.items (map mutator_of new) (map seat_of new) ran.did.done has.scans (can_open script c o may) ran.slices
+
+  -- the seats have every part of the round between them
+  pub has_all : owed.SlicesAreGathered → (seats : List RoundSeat) → seats ≡ map seat_of new → HasAll (all_together (seen seat) (map seen seats))
+  has_all law seats same = subst (λ (v : Seen). HasAll (all_together v (map seen seats))) (sym has.knows) (subst (λ (l : List RoundSeat). HasAll (owed.gathered o has.scans l)) (sym same) (gathers law).all)
+
+  pub seats_at : (seats : List RoundSeat) → seats ≡ map seat_of new → All (IsAt round) seats
+  seats_at seats same = subst (λ (l : List RoundSeat). All (IsAt round) l) (sym same) ran.at
+
+  module _ (own : owed.SlicesAreGathered) (owes : owed.SlicesAreOwed) (from : RoundSeat) (began : seen from ≡ collecting (whole o)) (opened : opening_of round ≡ o) (segments : Segments) (sound : IsSegments segments) (progress : held.Progress) (helped : HasHelped round script.config.quota from seat c.segments segments c.progress progress) (asks : Bool) (asks_are : IsTrue asks ↔ SomeAsks new) where
+    pub did_slices : (seats : List RoundSeat) → seats ≡ map seat_of new → (words : List ℕ) → Leaves (opening_of round) words (all_together (seen seat) (map seen seats)) → (collect : Bool) → collect ≡ (c.collect || asks) → (mutators : Vec Mutator Global) (positions : Vec ℕ Global) → mutators.items ≡ map mutator_of new → length positions.items ≡ length c.positions.items → HaveMoved c.positions.items (map done_by new) positions.items → DidSlices script o c (record c { words = Some words; segments = segments; progress = progress; collect = collect; mutators = mutators; positions = positions })
+    did_slices seats seats_are words leaves collect collects mutators positions same size moved = record {
+      rest = refl;
+      words = words;
+      words_are = refl;
+      scans = has.scans;
+      seats = map seat_of new;
+      leaves =
+          subst (λ (x : Opening). Leaves x words (owed.gathered o has.scans (map seat_of new))) opened
+          (subst (λ (v : Seen). Leaves (opening_of round) words (all_together v (map seen (map seat_of new)))) has.knows
+          (subst (λ (l : List RoundSeat). Leaves (opening_of round) words (all_together (seen seat) (map seen l))) seats_are leaves));
+      done = ran.did.done;
+      gathers = subst (λ (l : List Mutator). owed.IsGathered o has.scans (map seat_of new) l ran.did.done) (sym same) (gathers own);
+      owed = subst (λ (l : List Mutator). owed.HaveOwed o (owed.gathered o has.scans (map seat_of new)).parts l) (sym same) (owes o may.words round c.mutators.items (map mutator_of new) (map seat_of new) ran.did.done has.scans (can_open script c o may) ran.slices nothing);
+      helped = record { round = round; from = from; seat = seat; began = began; knows = has.knows; helped = helped };
+      sound = sound;
+      collect = collects ∙ ap (λ (b : Bool). c.collect || b) (asks_told script c may.run may.staged may.still o round new ran.count ran.did asks asks_are);
+      positions_are = size;
+      each = each_did script c may.run may.staged may.still o round new ran.count ran.did (Some words) segments progress collect mutators positions same moved;
+    }

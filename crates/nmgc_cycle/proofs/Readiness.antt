@@ -5,7 +5,6 @@ use Rattle.std.proofs.lemmas.List.{length-map}
 use Rattle.std.proofs.lemmas.List.Elements.{All-drop}
 use Rattle.std.proofs.lemmas.Option.{slice_get-map, slice_get_within, get_or_from_slice_get}
 use Rattle.nmgc_object.specs.declared.layout.Layout.{Layout}
-use Rattle.nmgc_heap.specs.Places.{Place}
 use Rattle.nmgc_round.specs.declared.table.Round.{Round}
 use Rattle.nmgc_round.specs.View.{Hand, Opening, Seen, no_hand, hand_of}
 use Rattle.nmgc_round.specs.Seat.{RoundSeat, IsAt, seen, opening_of}
@@ -14,10 +13,9 @@ use Rattle.nmgc_round.specs.Starting.{CanOpen}
 use Rattle.nmgc_mutator.specs.declared.mutator.Mutator.{Mutator}
 use Rattle.nmgc_mutator.specs.Ready.{IsReady, IsWhole, IsUnused, IsBuilt, Holds}
 use Rattle.nmgc_mutator.specs.Slice.{CanRun}
-use Rattle.nmgc_turn.specs.Rest.{opening_at}
 use Rattle.nmgc_turn.specs.Rest as rest
 use Rattle.nmgc_script.specs.declared.script.Script.{Script}
-use Rattle.nmgc_run.specs.Run.{Run, last_state}
+use Rattle.nmgc_run.specs.Run.{Run}
 use Rattle.nmgc_run.specs.Slice.{program_of}
 use Rattle.nmgc_cycle.specs.declared.collector.Collector.{Collector}
 use Rattle.nmgc_cycle.specs.declared.worker.Worker.{Worker}
@@ -25,6 +23,7 @@ use Rattle.nmgc_cycle.specs.Keeps.{IsStill}
 use Rattle.nmgc_cycle.specs.Stage.{IsStaged}
 use Rattle.nmgc_cycle.specs.Working.{left_at, CanWork, CanAllWork, worker_of, workers_of, HaveSliceRoom}
 use Rattle.nmgc_cycle.proofs.Items.{item, of_item, of_list}
+use Rattle.nmgc_cycle.proofs.Opened.{IsOpened}
 use Rattle.nmgc_cycle.proofs.Plans.{good_plan}
 use Rattle.nmgc_cycle.proofs.Positions.{position_within}
 use Rattle.nmgc_cycle.proofs.Resting.{resting}
@@ -67,9 +66,9 @@ pub record HasSeats (o : Opening) (round : Round) (seats : List RoundSeat) : Typ
   pub seen_are : map seen seats ≡ alones o 0 o.hands
   pub at : All (IsAt round) seats
 
-module _ (ms : List Mutator) (o : Opening) (hands_are : o.hands ≡ map rest.hand_of ms) (round : Round) (seats : List RoundSeat) (has : HasSeats o round seats) where
+module _ (ms : List Mutator) (o : Opening) (hands_are : o.hands ≡ map (rest.hand_of o.core.world o.places) ms) (round : Round) (seats : List RoundSeat) (has : HasSeats o round seats) where
   hands_counted : length o.hands ≡ length ms
-  hands_counted = ap length hands_are ∙ length-map ms rest.hand_of
+  hands_counted = ap length hands_are ∙ length-map ms (rest.hand_of o.core.world o.places)
 
   pub seats_counted : length seats ≡ length ms
   seats_counted = sym (length-map seats seen) ∙ ap length has.seen_are ∙ alones_count o 0 o.hands ∙ hands_counted
@@ -83,13 +82,13 @@ module _ (ms : List Mutator) (o : Opening) (hands_are : o.hands ≡ map rest.han
       let same : seen seat ≡ alone o (0 + k) = cc (here, there) in
       same ∙ ap (alone o) zero_first
 
--- the hands of the opening after a stop
-pub hands_at : (c : Collector) (run : Run) (places : List Place) (o : Opening) → o ≡ opening_at c.segments.layout (last_state run).world places c.mutators.items → o.hands ≡ map rest.hand_of c.mutators.items
-hands_at c run places o is = ap (λ (x : Opening). x.hands) is
+module _ (begin : BeginReady) (script : Script) (c : Collector) (run : Run) (staged : IsStaged script) (still : IsStill script c run) (o : Opening) (op : IsOpened script c run still o) (words : List ℕ) (can : CanOpen o words) (round : Round) (seats : List RoundSeat) (has : HasSeats o round seats) where
+  -- what a mutator has as the round begins
+  abbrev own_hand : Mutator → Hand
+  own_hand = rest.hand_of o.core.world o.places
 
-module _ (begin : BeginReady) (script : Script) (c : Collector) (run : Run) (staged : IsStaged script) (still : IsStill script c run) (o : Opening) (is : o ≡ opening_at c.segments.layout (last_state run).world still.at_stop.heap.places c.mutators.items) (words : List ℕ) (can : CanOpen o words) (round : Round) (seats : List RoundSeat) (has : HasSeats o round seats) where
-  hands : o.hands ≡ map rest.hand_of c.mutators.items
-  hands = hands_at c run still.at_stop.heap.places o is
+  hands : o.hands ≡ map own_hand c.mutators.items
+  hands = op.hands_are
 
   count_is : length seats ≡ length c.mutators.items
   count_is = seats_counted c.mutators.items o hands round seats has
@@ -97,9 +96,9 @@ module _ (begin : BeginReady) (script : Script) (c : Collector) (run : Run) (sta
   pub is_ready : (k : ℕ) (m : Mutator) (seat : RoundSeat) → slice_get c.mutators.items k ≡ Some m → slice_get seats k ≡ Some seat → IsReady round seat m
   is_ready k m seat e f =
       let r = resting script c run staged still k m e in
-      let hand : hand_of o.hands m.number ≡ rest.hand_of m = ap (λ (hs : List Hand). hand_of hs m.number) hands ∙ ap (hand_of (map rest.hand_of c.mutators.items)) r.number_is ∙ get_or_from_slice_get (map rest.hand_of c.mutators.items) k (rest.hand_of m) no_hand (slice_get-map rest.hand_of c.mutators.items k ∙ ap (option_map rest.hand_of) e) in
+      let hand : hand_of o.hands m.number ≡ own_hand m = ap (λ (hs : List Hand). hand_of hs m.number) hands ∙ ap (hand_of (map own_hand c.mutators.items)) r.number_is ∙ get_or_from_slice_get (map own_hand c.mutators.items) k (own_hand m) no_hand (slice_get-map own_hand c.mutators.items k ∙ ap (option_map own_hand) e) in
       let place : IsAt round seat = of_item (IsAt round) seats k seat has.at f in
-      begin o words round seat m can has.opened place (seat_alone c.mutators.items o hands round seats has k seat f ∙ ap (alone o) (sym r.number_is)) (ap (λ (x : Opening). x.layout) is ∙ sym r.layout_is) r.whole r.unused (subst (λ (h : Hand). Holds h m) (sym hand) (record { registers = refl; queue = refl; serial = refl }))
+      begin o words round seat m can has.opened place (seat_alone c.mutators.items o hands round seats has k seat f ∙ ap (alone o) (sym r.number_is)) (op.layout_is ∙ sym r.layout_is) r.whole r.unused (subst (λ (h : Hand). Holds h m) (sym hand) (record { registers = refl; queue = refl; serial = refl }))
 
   pub can_all_work : HaveSliceRoom script c → CanAllWork round script c.positions.items (workers_of c.mutators.items seats)
   can_all_work room = record {

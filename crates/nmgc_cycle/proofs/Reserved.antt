@@ -12,11 +12,12 @@ use Rattle.nmgc_mutator.specs.Ready.{Reserves}
 use Rattle.nmgc_mutator.specs.Records.{numbers}
 use Rattle.nmgc_script.specs.declared.script.Script.{Script}
 use Rattle.nmgc_run.specs.Collector.{IsAtStop}
-use Rattle.nmgc_run.specs.Run.{Run}
+use Rattle.nmgc_run.specs.Run.{Run, last_state}
 use Rattle.nmgc_run.specs.Seen.{MutatorSeen}
-use Rattle.nmgc_run.specs.State.{plan_of}
+use Rattle.nmgc_run.specs.State.{State, Progress, idle, marking, sweeping, plan_of}
 use Rattle.nmgc_cycle.specs.declared.collector.Collector.{Collector}
-use Rattle.nmgc_cycle.specs.Keeps.{IsKept, IsOwn, IsStill, HasStopped}
+use Rattle.nmgc_cycle.specs.Bound.{MayFollow, commands, one_cycle, no_cycle, AreFewAtStop}
+use Rattle.nmgc_cycle.specs.Keeps.{IsKept, IsOwn, IsStill, HasStopped, Sweeps}
 use Rattle.nmgc_cycle.specs.Shown.{seen, seen_mutator}
 use Rattle.nmgc_cycle.specs.Working.{AreReserved}
 use Rattle.nmgc_cycle.proofs.Items.{item}
@@ -61,6 +62,25 @@ reserved_seen old new r = same_maps seen_mutator seen_mutator new old r.count (�
     let same : h.0 ≡ m = cc (there, f) in
     same_seen h.0 n h.2 ∙ ap seen_mutator same)
 
+-- the mutators are no part of what sweeps
+pub sweeps_on : (p : Progress) (s : State) (c : Collector) (mutators : Vec Mutator Global) → Sweeps p s c → Sweeps p s (record c { mutators = mutators })
+sweeps_on idle s c mutators h = h
+sweeps_on (marking k) s c mutators h = (record { notes = h.0.notes; left = h.0.left }, h.1, h.2)
+sweeps_on (sweeping k closed) s c mutators h = (record { notes = h.0.notes; left = h.0.left }, h.1)
+
+-- nor of how many stops may follow
+follow_on : (Nothing : Type 0) (script : Script) (c : Collector) (mutators : Vec Mutator Global) (count : ℕ) → MayFollow Nothing script c count → MayFollow Nothing script (record c { mutators = mutators }) count
+follow_on Nothing script c mutators count (commands h) = commands h
+follow_on Nothing script c mutators count (one_cycle none h) = one_cycle none h
+follow_on Nothing script c mutators count (no_cycle none same undue h) = no_cycle none same (record { not_asked = undue.not_asked; not_filled = undue.not_filled }) h
+
+few_on : (script : Script) (c : Collector) (mutators : Vec Mutator Global) → AreFewAtStop script c → AreFewAtStop script (record c { mutators = mutators })
+few_on script c mutators h = record {
+  few = record { follow = follow_on (Unit {0}) script c mutators (length c.stops) h.few.follow; phase = h.few.phase };
+  begun = h.begun;
+  more = h.more;
+}
+
 module _ (script : Script) (c : Collector) (run : Run) (still : IsStill script c run) (mutators : Vec Mutator Global) (reserved : AreReserved c.mutators.items mutators.items) where
   abbrev roomy : Collector
   roomy = record c { mutators = mutators }
@@ -104,6 +124,8 @@ module _ (script : Script) (c : Collector) (run : Run) (still : IsStill script c
     kept = kept;
     at_stop = subst (λ (l : List MutatorSeen). IsAtStop (plan_of script) run (record (seen c) { mutators = l })) (sym (reserved_seen c.mutators.items mutators.items reserved)) still.at_stop;
     weakless = still.weakless;
+    sweeper = sweeps_on (last_state run).progress (last_state run) c mutators still.sweeper;
+    few = few_on script c mutators still.few;
   }
 
 -- and so is the other way round
@@ -114,6 +136,8 @@ still_before script old new run kept rest reserved still =
       kept = kept;
       at_stop = subst (IsAtStop (plan_of script) run) same still.at_stop;
       weakless = still.weakless;
+      sweeper = sweeps_on (last_state run).progress (last_state run) (record old { mutators = new.mutators }) old.mutators (subst (Sweeps (last_state run).progress (last_state run)) rest still.sweeper);
+      few = few_on script (record old { mutators = new.mutators }) old.mutators (subst (AreFewAtStop script) rest still.few);
     }
 
 pub reserved_stopped : (script : Script) (old new : Collector) → HasStopped script old → new ≡ record old { mutators = new.mutators } → AreReserved old.mutators.items new.mutators.items → HasStopped script new

@@ -1,4 +1,4 @@
--- After a stop, while no cycle is in progress, the heap is at rest.
+-- After a stop the mutators are at rest, and so is the heap while no cycle marks.
 use Rattle.std.proofs.Common.{ℕ, ◌≡◌, ◌+◌, ◌<◌, List, [], ◌∷◌, length, map, refl, sym, ap, subst, ◌∙◌, inl, inr, arith, Some}
 use Rattle.std.specs.Prelude.{Contains, slice_get, option_map}
 use Rattle.std.proofs.lemmas.Option.{slice_get_within, get_or_from_slice_get, slice_get-map}
@@ -33,11 +33,11 @@ use Rattle.nmgc_cycle.specs.declared.collector.Collector.{Collector}
 use Rattle.nmgc_cycle.specs.Keeps.{IsStill}
 use Rattle.nmgc_cycle.specs.Shown.{seen, words_in, seen_mutator}
 use Rattle.nmgc_cycle.specs.Stage.{IsStaged}
-use Rattle.nmgc_cycle.proofs.Plans.{sound_state, still_idle}
+use Rattle.nmgc_cycle.proofs.Plans.{sound_state}
 use Rattle.nmgc_cycle.proofs.RootLists.{same_registers, same_queues, same_serials, seen_at}
 
 -- no places are told
-none_noted : (l : List Address) → numbers l ≡ [] → l ≡ []
+pub none_noted : (l : List Address) → numbers l ≡ [] → l ≡ []
 none_noted [] e = refl
 none_noted (a ∷ l) e = absurd (let count : length (numbers (a ∷ l)) ≡ 0 = ap length e in omega arith)
 
@@ -98,19 +98,21 @@ module _ (script : Script) (c : Collector) (run : Run) (staged : IsStaged script
         no_weaks = none_noted m.young_weaks.items nothing.young_weaks;
       }
 
-  pub still_rests : (words : List ℕ) → c.words ≡ Some words → IsAtRest c.segments still.at_stop.heap.places (last_state run).world words c.mutators.items
-  still_rests words is =
+  pub blocks_there : AreBlocks c.segments (young_base c.segments) still.at_stop.heap.places (last_state run).world
+  blocks_there = subst (λ (l : Layout). AreBlocks c.segments (nursery_place l 0) still.at_stop.heap.places (last_state run).world) (sym still.kept.layout) (blocks_at_stop (layout_of (plan_of script)) (last_state run) (seen c).words c.segments (ends_of (seen c)) [] still.at_stop.heap)
+
+  pub still_rests : snapshots (last_state run).progress ≡ [] → (words : List ℕ) → c.words ≡ Some words → IsAtRest c.segments still.at_stop.heap.places (last_state run).world words c.mutators.items
+  still_rests none words is =
       let heap = still.at_stop.heap in
       let holds = heap.holds in
       let w = (last_state run).world in
-      let none : snapshots (last_state run).progress ≡ [] = ap snapshots (still_idle script c run still) in
       let same : layout_of (plan_of script) ≡ c.segments.layout = sym still.kept.layout in
       record {
         world = (sound_state script c run staged still).world;
         sound = still.kept.sound;
         represents = restated heap.places w same none (ap words_in is) holds.represents;
         roots = same_roots heap.places w c.mutators.items holds.roots;
-        blocks = subst (λ (l : Layout). AreBlocks c.segments (nursery_place l 0) heap.places w) same (blocks_at_stop (layout_of (plan_of script)) (last_state run) (seen c).words c.segments (ends_of (seen c)) [] heap);
+        blocks = blocks_there;
         low = rest_low;
         count = mutators_counted;
         mutators_are = resting;

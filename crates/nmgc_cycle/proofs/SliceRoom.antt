@@ -43,5 +43,6 @@ reserved_room script c d run staged still same reserved lists k m e =
       replies = room.replies;
       recorded = room.recorded;
       updrem = room.updrem;
+      young_weaks = room.young_weaks;
       serials = omega (arith, serial, fits, few);
     })

@@ -1,29 +1,31 @@
--- The collector once the round is over: the words are those that it left, and each mutator did its slice.
-use Rattle.std.proofs.Common.{ℕ, zero, suc, ◌≡◌, ◌+◌, ◌-◌, ◌<◌, ◌^◌, List, [], ◌∷◌, ◌++◌, length, map, take, drop, slice_index, refl, sym, ap, subst, ◌∙◌, arith, Some}
+-- What the slices of a round leave of positions and replies, and whether one asked for a cycle.
+use Rattle.std.proofs.Common.{ℕ, zero, suc, ◌≡◌, ◌+◌, ◌-◌, ◌<◌, ◌^◌, ◌↔◌, Bool, IsTrue, List, [], ◌∷◌, ◌++◌, length, map, take, drop, slice_index, refl, sym, ap, ◌∙◌, arith, Option, Some}
 use Rattle.std.specs.Prelude.{slice_get, option_map}
+use Rattle.std.specs.List.{list_any}
 use Rattle.std.specs.declared.vec.Vec.{Vec}
 use Rattle.std.proofs.Common.{Global}
 use Rattle.std.proofs.lemmas.List.{length-map, length-drop}
 use Rattle.std.proofs.lemmas.Option.{slice_get-map, slice_get_within, get_or_from_slice_get}
 use Rattle.nmgc_round.specs.declared.table.Round.{Round}
-use Rattle.nmgc_round.specs.View.{Opening, whole}
-use Rattle.nmgc_round.specs.Seat.{seen}
-use Rattle.nmgc_round.specs.Seating.{all_together, collecting}
-use Rattle.nmgc_round.specs.Finishing.{Leaves}
+use Rattle.nmgc_alloc.specs.Segments.{Segments}
+use Rattle.nmgc_round.specs.View.{Opening}
 use Rattle.nmgc_mutator.specs.declared.mutator.Mutator.{Mutator}
-use Rattle.nmgc_turn.specs.Worked.{Done, HaveWorked}
+use Rattle.nmgc_turn.specs.Worked.{Done}
 use Rattle.nmgc_script.specs.declared.script.Script.{Script}
 use Rattle.nmgc_run.specs.Run.{Run}
-use Rattle.nmgc_run.specs.Slice.{program_of}
+use Rattle.nmgc_run.specs.Slice.{program_of, some_asks, is_collect}
 use Rattle.nmgc_cycle.specs.declared.collector.Collector.{Collector}
+use Rattle.nmgc_cycle.specs.declared.progress.Progress as held
 use Rattle.nmgc_cycle.specs.declared.worker.Worker.{Worker}
 use Rattle.nmgc_cycle.specs.Keeps.{IsStill}
 use Rattle.nmgc_cycle.specs.Stage.{IsStaged}
-use Rattle.nmgc_cycle.specs.Working.{left_at, mutator_of, seat_of, done_by, DidSlice, DidSlices}
-use Rattle.nmgc_cycle.proofs.Gathering.{AllDid, OneDid, IsGathered, mapped}
+use Rattle.nmgc_cycle.specs.Working.{SomeAsks, left_at, commands_in, mutator_of, done_by, DidSlice}
+use Rattle.nmgc_cycle.proofs.Asking.{asks_of, some_ask, same_any, any_mapped}
+use Rattle.nmgc_cycle.proofs.Gathering.{AllDid, OneDid, mapped}
 use Rattle.nmgc_cycle.proofs.Items.{item}
 use Rattle.nmgc_cycle.proofs.Plans.{program_few}
 use Rattle.nmgc_cycle.proofs.Positions.{position_within}
+use Rattle.nmgc_cycle.proofs.Slicing.{commands_of}
 
 -- a whole list is overwritten
 pub overwritten : {A : Type 0} (n : ℕ) (xs ys : List A) → length ys ≡ length xs → n ≡ length xs → take n (ys ++ drop (length ys) xs) ≡ ys
@@ -61,32 +63,26 @@ module _ (script : Script) (c : Collector) (run : Run) (staged : IsStaged script
       let few = program_few script staged k in
       omega (arith, is, most, left, within, few)
 
-  pub did_slices : (gathered : IsGathered o round new did.done) (words : List ℕ) (leaves : Leaves o words (all_together (collecting (whole o)) (map seen (map seat_of new)))) (mutators : Vec Mutator Global) (positions : Vec ℕ Global) → mutators.items ≡ map mutator_of new → length positions.items ≡ length c.positions.items → ((k : ℕ) → k < length c.positions.items → slice_index positions.items k ≡ slice_index c.positions.items k + slice_index (map done_by new) k) → DidSlices script o c (record c { words = Some words; mutators = mutators; positions = positions })
-  did_slices gathered words leaves mutators positions same size moved = record {
-    rest = refl;
-    words = words;
-    words_are = refl;
-    knows = all_together (collecting (whole o)) (map seen (map seat_of new));
-    leaves = leaves;
-    all = gathered.all;
-    done = did.done;
-    worked = subst (λ (l : List Mutator). HaveWorked o (all_together (collecting (whole o)) (map seen (map seat_of new))).parts l did.done) (sym same) gathered.worked;
-    positions_are = size;
-    each = each;
-  }
-    where
-      each : (k : ℕ) (m n : Mutator) (d : List Done) → slice_get c.mutators.items k ≡ Some m → slice_get mutators.items k ≡ Some n → slice_get did.done k ≡ Some d → DidSlice script c (record c { words = Some words; mutators = mutators; positions = positions }) k m n d
-      each k m n d e f g =
-          let x = mapped mutator_of new k n (ap (λ (l : List Mutator). slice_get l k) (sym same) ∙ f) in
-          let h = did.each k x.0 d x.1 g in
-          let old_is = h.old_is in
-          let old : h.old ≡ m = cc (old_is, e) in
-          let within = slice_get_within new k x.0 x.1 in
-          let is = done_at k x.0 x.1 in
-          let many = h.slice.count in
-          let now = moved k (omega (arith, within, positions_counted)) in
-          record {
-            commands = h.slice.commands;
-            replies = ap (λ (u : Mutator). u.replies.items) x.2 ∙ h.slice.did.replies ∙ ap (λ (u : Mutator). u.replies.items ++ map (λ (p : Done). p.1) d) old;
-            position = omega (arith, is, many, now);
-          }
+  -- a cycle is asked for where one of them asks
+  pub asks_told : (asks : Bool) → IsTrue asks ↔ SomeAsks new → asks ≡ some_asks is_collect (commands_in did.done)
+  asks_told asks h =
+      some_ask new asks h
+      ∙ same_any asks_of (λ (d : List Done). list_any is_collect (commands_of d)) new did.done (sym did.count) (λ k x d e f. (did.each k x d e f).slice.asks)
+      ∙ sym (any_mapped (list_any is_collect) commands_of did.done)
+
+  -- each did its slice
+  pub each_did : (words : Option (List ℕ)) (segments : Segments) (progress : held.Progress) (collect : Bool) (mutators : Vec Mutator Global) (positions : Vec ℕ Global) → mutators.items ≡ map mutator_of new → ((k : ℕ) → k < length c.positions.items → slice_index positions.items k ≡ slice_index c.positions.items k + slice_index (map done_by new) k) → (k : ℕ) (m n : Mutator) (d : List Done) → slice_get c.mutators.items k ≡ Some m → slice_get mutators.items k ≡ Some n → slice_get did.done k ≡ Some d → DidSlice script c (record c { words = words; segments = segments; progress = progress; collect = collect; mutators = mutators; positions = positions }) k m n d
+  each_did words segments progress collect mutators positions same moved k m n d e f g =
+      let x = mapped mutator_of new k n (ap (λ (l : List Mutator). slice_get l k) (sym same) ∙ f) in
+      let h = did.each k x.0 d x.1 g in
+      let old_is = h.old_is in
+      let old : h.old ≡ m = cc (old_is, e) in
+      let within = slice_get_within new k x.0 x.1 in
+      let is = done_at k x.0 x.1 in
+      let many = h.slice.count in
+      let now = moved k (omega (arith, within, positions_counted)) in
+      record {
+        commands = h.slice.commands;
+        replies = ap (λ (u : Mutator). u.replies.items) x.2 ∙ h.slice.did.replies ∙ ap (λ (u : Mutator). u.replies.items ++ map (λ (p : Done). p.1) d) old;
+        position = omega (arith, is, many, now);
+      }

@@ -1,5 +1,6 @@
 -- What the slices of a round leave: each mutator did the slice of the rule, and the seats have every part.
 use Rattle.std.proofs.Common.{ℕ, ◌≡◌, ◌+◌, ◌-◌, ◌≤◌, List, [], ◌∷◌, length, map, take, refl, sym, ap, subst, ◌∙◌, arith}
+use Rattle.std.specs.List.{list_any}
 use Rattle.std.proofs.lemmas.List.{length-map, length-take-le}
 use Rattle.std.proofs.lemmas.Option.{slice_get_within}
 use Rattle.nmgc_graph.specs.declared.command.Command.{Command}
@@ -18,9 +19,10 @@ use Rattle.nmgc_mutator.specs.Does.{HasDone}
 use Rattle.nmgc_mutator.specs.Slice.{Ended}
 use Rattle.nmgc_turn.specs.Worked.{Done}
 use Rattle.nmgc_script.specs.declared.script.Config.{Config}
-use Rattle.nmgc_run.specs.Slice.{slice_of}
+use Rattle.nmgc_run.specs.Slice.{slice_of, is_collect}
 use Rattle.nmgc_cycle.specs.declared.worker.Worker.{Worker}
 use Rattle.nmgc_cycle.specs.Working.{HasWorkedOn, worker_of}
+use Rattle.nmgc_cycle.proofs.Asking.{asks_by_end}
 use Rattle.nmgc_cycle.proofs.SliceRule.{all_made, slice_rule}
 
 -- the commands that were done
@@ -53,6 +55,7 @@ pub record IsSlice (config : Config) (round : Round) (o : Opening) (k : ℕ) (le
   pub count : length done ≡ new.done
   pub within : new.done ≤ length left
   pub did : HasDone round (alone o k) new.seat m new.mutator done
+  pub asks : new.asks ≡ list_any is_collect (commands_of done)
 
 pub slice_done : (config : Config) (round : Round) (o : Opening) (k : ℕ) (left : List Command) (m : Mutator) (seat : RoundSeat) (new : Worker) → seen seat ≡ alone o k → m.layout.nursery ≡ config.nursery → HasWorkedOn round config.slice left (worker_of (m, seat)) new → (done : List Done) × IsSlice config round o k left m new done
 slice_done config round o k left m seat new is nursery h =
@@ -75,5 +78,6 @@ slice_done config round o k left m seat new is nursery h =
         count = sym (length-map done (λ (d : Done). d.0)) ∙ ap length first ∙ length-take-le new.done left within;
         within = within;
         did = did;
+        asks = asks_by_end left config.slice new.done new.mutator h.end new.asks h.ended h.asks ∙ sym (ap (λ (cs : List Command). list_any is_collect cs) first);
       },
     )

@@ -1,150 +1,183 @@
 -- What a collector has once a stop has answered.
 use Rattle.std.proofs.Common.{ℕ, ◌≡◌, ◌<◌, ◌≤◌, List, [], ◌∷◌, ◌++◌, sym, ap, subst, ◌∙◌, true, false, Option, Some, None}
-use Rattle.nmgc_object.specs.declared.layout.Layout.{Layout}
-use Rattle.nmgc_object.specs.Places.{word_total}
-use Rattle.nmgc_minor.specs.Promotion.{IsFor}
+use Rattle.nmgc_journal.specs.declared.report.CycleRow.{CycleRow}
 use Rattle.nmgc_journal.specs.declared.report.End.{End}
 use Rattle.nmgc_journal.specs.declared.report.End.TheVariants as end
+use Rattle.nmgc_journal.specs.declared.report.RoundRows.{RoundRows}
 use Rattle.nmgc_journal.specs.declared.report.StopRow.{StopRow}
+use Rattle.nmgc_heap.specs.Places.{Place}
 use Rattle.nmgc_script.specs.declared.script.Script.{Script}
-use Rattle.nmgc_run.specs.Collector.{Matches, AreAtRest, HoldsInCycle, IsPacedAtStop}
-use Rattle.nmgc_run.specs.Heap.{HoldsAtStop}
-use Rattle.nmgc_run.specs.Marks.{AreSettled}
-use Rattle.nmgc_run.specs.Places.{BlocksArePlaces}
+use Rattle.nmgc_run.specs.Collector.{HoldsInCycle, IsPacedAtStop}
 use Rattle.nmgc_run.specs.Run.{Tells, last_state}
-use Rattle.nmgc_run.specs.Seen.{ends_of}
 use Rattle.nmgc_run.specs.Slice.{has_left}
-use Rattle.nmgc_run.specs.State.{Plan, State, Cycle, Progress, phase_of, plan_of, layout_of, free_count, reserve_of}
-use Rattle.nmgc_run.specs.Stop.{stop_row, is_short, answer_of}
+use Rattle.nmgc_run.specs.State.{Plan, State, Cycle, Progress, idle, marking, sweeping, is_idle, plan_of, free_count, reserve_of}
+use Rattle.nmgc_run.specs.Stop.{IsStop, stop_row, is_short, answer_of}
 use Rattle.nmgc_cycle.specs.declared.collector.Collector.{Collector}
+use Rattle.nmgc_cycle.specs.declared.stop.StopEnd.{StopEnd}
 use Rattle.nmgc_cycle.specs.declared.stop.StopEnd.TheVariants as answer
-use Rattle.nmgc_cycle.specs.Keeps.{IsKept, IsStill, HasStopped, HasAnswered, HasNoWeak}
+use Rattle.nmgc_cycle.specs.Bound.{AreFewAtStop}
+use Rattle.nmgc_cycle.specs.Keeps.{IsKept, IsStill, HasAnswered, Sweeps}
 use Rattle.nmgc_cycle.specs.Shown.{seen}
-use Rattle.nmgc_cycle.specs.Stage.{IsStaged}
-use Rattle.nmgc_cycle.specs.Stopping.{HasPromoted}
-use Rattle.nmgc_cycle.proofs.AfterPromotion as after
+use Rattle.nmgc_cycle.specs.Stage.{IsShortAfter}
+use Rattle.nmgc_cycle.specs.Steps.{StandsAt}
 use Rattle.nmgc_cycle.proofs.Begins.{Begins, IsToldBut}
-use Rattle.nmgc_cycle.proofs.Stopped.{is_stop, not_short, is_short_by, is_enough_by, answers_done, answers_none}
+use Rattle.nmgc_cycle.proofs.StopFew.{few_at_stop}
+use Rattle.nmgc_cycle.proofs.StopSteps.{IsLed}
+use Rattle.nmgc_cycle.proofs.Stopped.{not_short, is_short_by, is_enough_by, answers_done, answers_on, answers_none}
+use Rattle.nmgc_cycle.proofs.WholeStop.{whole_stop, short_stop}
 
--- what a stop left, of a state that it came to
-abbrev Shows : Plan → Collector → State → Type 0
-Shows plan c s =
-    Matches (seen c) s
-    × (c.answered ≡ answer_of plan s)
-    × HasNoWeak s.world
-    × ((h : HoldsAtStop (layout_of plan) s (seen c).words c.segments (ends_of (seen c)) []) × AreAtRest (layout_of plan) h.places s.world (seen c) × HoldsInCycle (λ (k : Cycle). IsPacedAtStop plan.config.quota k s (seen c)) s.progress s (seen c) h.places)
+-- its row and its answer change nothing of what a collector stands for
+module _ (script : Script) (c : Collector) (stops : List StopRow) (answered : Option End) (s : State) where
+  abbrev told : Collector
+  told = record c { stops = stops; answered = answered }
 
--- with a run that came to that state, the collector is still
-still : (script : Script) (c : Collector) (row : StopRow) (t : State) (stops : List StopRow) → IsKept script c → c.stops ≡ stops ++ row ∷ [] → (told : IsToldBut (plan_of script) c.rounds stops row t) → Shows (plan_of script) c t → IsStill script c told.run
-still script c row t stops kept stops_are told shows =
-    let plan : Plan = plan_of script in
-    let at : Shows plan c (last_state told.run) = subst (λ (s : State). Shows plan c s) (sym told.last) shows in
+  told_cycle : (q : Progress) (places : List Place) → HoldsInCycle (λ (k : Cycle). IsPacedAtStop script.config.quota k s (seen c)) q s (seen c) places → HoldsInCycle (λ (k : Cycle). IsPacedAtStop script.config.quota k s (seen told)) q s (seen told) places
+  told_cycle idle places h = h
+  told_cycle (marking k) places h = (
     record {
-      kept = kept;
+      core = h.0.core;
+      machine = h.0.machine;
+      tied = h.0.tied;
+      remembered = h.0.remembered;
+      low = h.0.low;
+      room = h.0.room;
+      queue_room = h.0.queue_room;
+      from_is = h.0.from_is;
+      noted = h.0.noted;
+    },
+    record { scanned = h.1.scanned; not_done = h.1.not_done },
+  )
+  told_cycle (sweeping k closed) places h = h
+
+  told_sweeper : (q : Progress) → Sweeps q s c → Sweeps q s told
+  told_sweeper idle h = tt
+  told_sweeper (marking k) h = (record { notes = h.0.notes; left = h.0.left }, h.1, h.2)
+  told_sweeper (sweeping k closed) h = (record { notes = h.0.notes; left = h.0.left }, h.1)
+
+  told_kept : IsKept script c → IsKept script told
+  told_kept k = record {
+    layout = k.layout;
+    sound = k.sound;
+    lists = k.lists;
+    has_words = k.has_words;
+    list = k.list;
+    count = k.count;
+    own = λ n m e. let o = k.own n m e in record { number = o.number; layout = o.layout; whole = o.whole; no_replies = o.no_replies };
+    positions_are = k.positions_are;
+    positions = k.positions;
+    no_ends = k.no_ends;
+    room = k.room;
+  }
+
+  pub told_stands : StandsAt script c s → StandsAt script told s
+  told_stands h = record {
+    kept = told_kept h.kept;
+    sound = h.sound;
+    course = h.course;
+    matches = record { phase = h.matches.phase; begun = h.matches.begun; collect = h.matches.collect; full = h.matches.full };
+    heap = h.heap;
+    nurseries = h.nurseries;
+    empty = h.empty;
+    rest = h.rest;
+    cycle = told_cycle s.progress h.heap.places h.cycle;
+    weakless = h.weakless;
+    sweeper = told_sweeper s.progress h.sweeper;
+  }
+
+-- with a run that came to a state for which it stands, a collector is still
+still : (script : Script) (c : Collector) (rounds : List RoundRows) (stops : List StopRow) (cycles : List CycleRow) (row : StopRow) (t : State) → c.rounds ≡ rounds → c.stops ≡ stops ++ row ∷ [] → c.cycles ≡ cycles → (told : IsToldBut (plan_of script) rounds stops cycles row t) → StandsAt script c t → AreFewAtStop script c → c.answered ≡ answer_of (plan_of script) t → IsStill script c told.run
+still script c rounds stops cycles row t rounds_are stops_are cycles_are told stands few answers =
+    let at : StandsAt script c (last_state told.run) = subst (λ (s : State). StandsAt script c s) (sym told.last) stands in
+    record {
+      kept = at.kept;
       at_stop = record {
         is_run = told.is_run;
-        tells = subst (λ (rows : List StopRow). Tells told.run c.rounds rows []) (sym stops_are) told.tells;
-        matches = at.0;
-        answered = at.1;
-        heap = at.3.0;
-        at_rest = at.3.1;
-        cycle = at.3.2;
+        tells =
+            subst (λ (r : List RoundRows). Tells told.run r c.stops c.cycles) (sym rounds_are)
+            (subst (λ (r : List StopRow). Tells told.run rounds r c.cycles) (sym stops_are)
+            (subst (λ (r : List CycleRow). Tells told.run rounds (stops ++ row ∷ []) r) (sym cycles_are) told.tells));
+        matches = at.matches;
+        answered = answers ∙ ap (λ (s : State). answer_of (plan_of script) s) (sym told.last);
+        heap = at.heap;
+        at_rest = record { nurseries = at.nurseries; empty = at.empty; nothing = at.rest };
+        cycle = at.cycle;
       };
-      weakless = at.2;
+      weakless = at.weakless;
+      sweeper = at.sweeper;
+      few = few;
     }
 
-module _ (script : Script) (old new : Collector) (staged : IsStaged script) (kept : IsKept script old) (b : Begins script old) (p : HasPromoted old new) (back : BlocksArePlaces)
+module _ (script : Script) (old new : Collector) (b : Begins script old) (many : ℕ) (led : IsLed script b.began b.state many old new)
+    (rounds_are : new.rounds ≡ old.rounds)
     (stops : List StopRow) (answered : Option End) (row : StopRow)
     (stops_are : stops ≡ old.stops ++ row ∷ [])
-    (row_is : row ≡ stop_row (after.promoted script old new kept b p) (after.count script old new kept b p)) where
+    (row_is : row ≡ stop_row led.state many) where
   abbrev plan : Plan
   plan = plan_of script
 
-  -- the state that the promotion left
+  -- the state that the stop came to
   abbrev t : State
-  t = after.promoted script old new kept b p
+  t = led.state
 
-  -- the collector, with the parts that changed
-  abbrev pub left : Collector
-  left = record old { words = new.words; segments = new.segments; promotion = new.promotion; mutators = new.mutators; stops = stops; answered = answered }
+  -- the collector, once its row was told
+  abbrev pub last : Collector
+  last = record new { stops = stops; answered = answered }
 
-  still_kept : IsKept script left
-  still_kept = record {
-    layout = after.layout_is script old new kept b p;
-    sound = p.sound;
-    lists = subst (λ (l : Layout). IsFor l new.promotion) (sym p.layout) p.lists;
-    has_words = p.has_words;
-    list =
-        let before = b.stopped.represents.total in
-        let now = (after.settled_heap script old new kept b p).represents.total in
-        let same : word_total new.segments.layout ≡ word_total old.segments.layout = ap word_total p.layout in
-        kept.list ∙ before ∙ sym (now ∙ same);
-    count = p.given.count ∙ kept.count;
-    own = λ k m e. let own = (after.own script old new kept b p k m e).0 in record { number = own.number; layout = own.layout; whole = own.whole; no_replies = own.no_replies };
-    positions_are = kept.positions_are;
-    positions = kept.positions;
-    no_ends = kept.no_ends;
-    room = kept.room;
-  }
+  stands : StandsAt script last t
+  stands = told_stands script new stops answered t led.stands
 
-  shows : answered ≡ answer_of plan t → Shows plan left t
-  shows answers =
-      let r = after.rests script old new kept b p back in (
-        record {
-          phase = sym (ap phase_of b.quiet);
-          begun = sym b.nothing_asked.0;
-          collect = sym b.nothing_asked.1;
-          full = sym b.nothing_asked.2;
-        },
-        answers,
-        b.weakless,
-        (
-          r.0,
-          record { nurseries = r.1.nurseries; empty = r.1.empty; nothing = r.1.nothing },
-          subst (λ (q : Progress). HoldsInCycle (λ (k : Cycle). IsPacedAtStop plan.config.quota k t (seen left)) q t (seen left) r.0.places) (sym b.quiet)
-              (subst (λ (n : ℕ). AreSettled n new.segments) (sym b.nothing_asked.0) (after.still_settled script old new kept b p)),
-        ),
-      )
+  few : AreFewAtStop script last
+  few = subst (λ (rows : List StopRow). AreFewAtStop script (record new { stops = rows; answered = answered })) (sym stops_are) (few_at_stop script new old.stops row answered led.few led.begun led.more)
 
-  -- a stop that isn't short of segments
-  stopped : is_short plan t ≡ false → answered ≡ answer_of plan t → HasStopped script left
-  stopped enough answers =
-      let stop = is_stop plan b.began b.state t (after.count script old new kept b p) (after.promotes script old new kept b p) b.quiet b.nothing_asked.1 b.nothing_asked.2 staged.no_trigger row enough row_is in
-      let told = b.goes_on t row stop in
-      (told.run, still script left row t old.stops still_kept stops_are told (shows answers))
+  -- a stop that isn't short of segments is one of the run
+  abbrev Goes : Type 0
+  Goes = (rows : List CycleRow) × (stop : IsStop plan b.began b.state t row rows) × IsStill script last (b.goes_on t row rows stop).run
+
+  goes : is_short plan t ≡ false → answered ≡ answer_of plan t → Goes
+  goes enough answers =
+      let stop : IsStop plan b.began b.state t row led.rows = whole_stop plan b.began b.state led.promoted led.closed led.ended t many led.rows row led.promotes led.closes led.ends led.begins row_is led.full enough in
+      let told = b.goes_on t row led.rows stop in
+      (led.rows, stop, still script last old.rounds old.stops (old.cycles ++ led.rows) row t rounds_are stops_are led.cycles told stands few answers)
+
+  -- what it answers, and the run for which the collector stands then
+  abbrev pub Outcome : StopEnd → Type 0
+  Outcome (answer.HeapFull free reserve) = HasAnswered script last (answer.HeapFull free reserve)
+  Outcome answer.GoOn = Goes × (answered ≡ None)
+  Outcome answer.Done = Goes × (answered ≡ Some end.Done)
 
   -- the end of the run
-  pub done : has_left t.left ≡ false → answered ≡ Some end.Done → HasAnswered script left answer.Done
-  done none is = (
-    stopped
-        (not_short plan b.began b.state t _ (after.promotes script old new kept b p) b.quiet b.nothing_asked.1 b.nothing_asked.2 staged.no_trigger none)
-        (is ∙ answers_done plan b.began b.state t _ (after.promotes script old new kept b p) b.quiet b.nothing_asked.1 b.nothing_asked.2 staged.no_trigger none),
-    is,
-  )
+  pub done : has_left t.left ≡ false → is_idle t.progress ≡ true → answered ≡ Some end.Done → Outcome answer.Done
+  done none quiet is = (goes (not_short plan t none) (is ∙ answers_done plan t none quiet), is)
+
+  -- a round follows, since a cycle is in progress
+  pub on : has_left t.left ≡ false → is_idle t.progress ≡ false → answered ≡ None → Outcome answer.GoOn
+  on none busy is = (goes (not_short plan t none) (is ∙ answers_on plan t none busy), is)
 
   module _ (free reserve : ℕ) (some : has_left t.left ≡ true) (free_is : free ≡ free_count t) (reserve_is : reserve ≡ reserve_of plan) where
-    -- a round follows
-    pub goes_on : reserve ≤ free → answered ≡ None → HasAnswered script left answer.GoOn
+    -- a round follows, since commands are left
+    pub goes_on : reserve ≤ free → answered ≡ None → Outcome answer.GoOn
     goes_on more is =
-        let enough = is_enough_by plan b.began b.state t _ (after.promotes script old new kept b p) b.quiet b.nothing_asked.1 b.nothing_asked.2 staged.no_trigger free reserve some free_is reserve_is more in (
-          stopped enough (is ∙ answers_none plan b.began b.state t _ (after.promotes script old new kept b p) b.quiet b.nothing_asked.1 b.nothing_asked.2 staged.no_trigger some enough),
-          is,
-        )
+        let enough = is_enough_by plan t free reserve some free_is reserve_is more in
+        (goes enough (is ∙ answers_none plan t some enough), is)
 
     -- short of segments
-    pub full : free < reserve → answered ≡ Some (end.HeapFull free reserve) → HasAnswered script left (answer.HeapFull free reserve)
+    pub full : free < reserve → answered ≡ Some (end.HeapFull free reserve) → Outcome (answer.HeapFull free reserve)
     full less is =
-        let short = is_short_by plan b.began b.state t _ (after.promotes script old new kept b p) b.quiet b.nothing_asked.1 b.nothing_asked.2 staged.no_trigger free reserve some free_is reserve_is less in (
+        let short = is_short_by plan t free reserve some free_is reserve_is less in
+        let stop = short_stop plan b.began b.state led.promoted led.closed led.ended t many led.rows row led.promotes led.closes led.ends led.begins row_is short in
+        let before : IsShortAfter plan t row old.rounds old.stops (old.cycles ++ led.rows) = b.short t row led.rows stop in (
           record {
-            kept = still_kept;
+            kept = stands.kept;
             state = t;
             row = row;
             stops = old.stops;
-            before = b.short t row (record { count = after.count script old new kept b p; promotes = after.promotes script old new kept b p; short = short; shown = row_is });
+            before =
+                subst (λ (r : List RoundRows). IsShortAfter plan t row r old.stops new.cycles) (sym rounds_are)
+                (subst (λ (r : List CycleRow). IsShortAfter plan t row old.rounds old.stops r) (sym led.cycles) before);
             stops_are = stops_are;
             free_is = free_is;
             reserve_is = reserve_is;
-            heap = (after.rests script old new kept b p back).0;
+            heap = stands.heap;
           },
           is,
         )

@@ -21,34 +21,31 @@ kept_of script c (HeapFull free reserve) h = h.0.kept
 -- it tells the run, to the end that the last stop answered
 pub told : (script : Script) (c : Collector) (end : End) → HasEnded script c end → IsTold script (report_of c end)
 told script c Done h =
-    let at_stop = h.0.1.at_stop in (
-      record {
-        run = h.0.0;
-        is_run = at_stop.is_run;
-        tells = at_stop.tells;
-        end_is = sym at_stop.answered ∙ h.1;
-        weaks = [];
-        weaks_are = refl;
-        heap = at_stop.heap;
-      },
-      refl,
-    )
+    let at_stop = h.0.1.at_stop in
+    record {
+      run = h.0.0;
+      is_run = at_stop.is_run;
+      tells = at_stop.tells;
+      end_is = sym at_stop.answered ∙ h.1;
+      weaks = [];
+      weaks_are = refl;
+      heap = at_stop.heap;
+    }
 told script c (HeapFull free reserve) h = record {
   state = h.0.state;
   row = h.0.row;
   stops = h.0.stops;
   before = h.0.before;
   stops_are = h.0.stops_are;
-  no_cycles = refl;
   end_is = ap (λ (n : ℕ). HeapFull n reserve) h.0.free_is ∙ ap (λ (n : ℕ). HeapFull (free_count h.0.state) n) h.0.reserve_is;
   no_weaks = refl;
   heap = h.0.heap;
 }
 
 -- a report with these parts is the collector's
-pub same_parts : (c : Collector) (end : End) (cycles : List CycleRow) (words : List ℕ) (mutators : List MutatorEnd) (weaks : List Name) → cycles ≡ [] → words ≡ (seen c).words → mutators ≡ ends_of (seen c) → weaks ≡ [] → record (report_of c end) { cycles = cycles; words = words; mutators = mutators; weaks = weaks } ≡ report_of c end
-same_parts c end cycles words mutators weaks no_cycles words_are mutators_are no_weaks = sym (
-    ap (λ (rows : List CycleRow). record (report_of c end) { cycles = rows }) (sym no_cycles)
+pub same_parts : (c : Collector) (end : End) (cycles : List CycleRow) (words : List ℕ) (mutators : List MutatorEnd) (weaks : List Name) → cycles ≡ c.cycles → words ≡ (seen c).words → mutators ≡ ends_of (seen c) → weaks ≡ [] → record (report_of c end) { cycles = cycles; words = words; mutators = mutators; weaks = weaks } ≡ report_of c end
+same_parts c end cycles words mutators weaks cycles_are words_are mutators_are no_weaks = sym (
+    ap (λ (rows : List CycleRow). record (report_of c end) { cycles = rows }) (sym cycles_are)
     ∙ ap (λ (ws : List ℕ). record (report_of c end) { cycles = cycles; words = ws }) (sym words_are)
     ∙ ap (λ (ends : List MutatorEnd). record (report_of c end) { cycles = cycles; words = words; mutators = ends }) (sym mutators_are)
     ∙ ap (λ (names : List Name). record (report_of c end) { cycles = cycles; words = words; mutators = mutators; weaks = names }) (sym no_weaks)

@@ -1,34 +1,47 @@
--- What a collector keeps from call to call, while no cycle is built.
-use Rattle.std.specs.Prelude.{ℕ, ◌≡◌, ◌<◌, ◌≤◌, ◌⊎◌, List, [], ◌∷◌, ◌++◌, length, slice_get, slice_index, Some, None, IsSome, vec_capacity}
+-- What a collector keeps from call to call.
+use Rattle.std.specs.Prelude.{ℕ, ◌≡◌, ◌<◌, ◌≤◌, ◌⊎◌, List, [], ◌∷◌, ◌++◌, length, slice_get, slice_index, Some, None, IsSome, Contains, vec_capacity}
 use Rattle.nmgc_graph.specs.World.{World}
-use Rattle.nmgc_graph.specs.declared.value.Name.{Name}
-use Rattle.nmgc_graph.specs.declared.node.Parts.{Parts}
 use Rattle.nmgc_graph.specs.declared.command.Reply.{Reply}
 use Rattle.nmgc_graph.specs.History.{Row}
 use Rattle.nmgc_journal.specs.declared.report.StopRow.{StopRow}
-use Rattle.nmgc_graph.specs.Reach.{IsAlive}
 use Rattle.nmgc_alloc.specs.Segments.{IsSegments}
+pub use Rattle.nmgc_beside.specs.Closes.{HasNoWeak}
 use Rattle.nmgc_minor.specs.Promotion.{IsFor}
 use Rattle.nmgc_mutator.specs.declared.mutator.Mutator.{Mutator}
 use Rattle.nmgc_mutator.specs.Ready.{IsWhole}
 use Rattle.nmgc_script.specs.declared.script.Script.{Script}
 use Rattle.nmgc_journal.specs.declared.report.End.{End}
 use Rattle.nmgc_journal.specs.declared.report.End.TheVariants.{Done, HeapFull}
-use Rattle.nmgc_run.specs.State.{State, plan_of, layout_of, reserve_of, free_count}
+use Rattle.nmgc_run.specs.State.{State, Cycle, Progress, idle, marking, sweeping, plan_of, layout_of, reserve_of, free_count}
 use Rattle.nmgc_run.specs.Statements.{answered_count}
-use Rattle.nmgc_run.specs.Run.{Run, last_state}
-use Rattle.nmgc_run.specs.Heap.{HoldsAtStop}
+use Rattle.nmgc_run.specs.Run.{Run, Turn, last_state, with_turn}
+use Rattle.nmgc_run.specs.Heap.{HoldsAtStop, snapshots}
 use Rattle.nmgc_run.specs.Seen.{ends_of}
 use Rattle.nmgc_run.specs.Collector.{IsNew, IsAtStop, IsAfterRound}
 use Rattle.nmgc_cycle.specs.declared.collector.Collector.{Collector}
 use Rattle.nmgc_cycle.specs.declared.stop.StopEnd.{StopEnd}
 use Rattle.nmgc_cycle.specs.declared.stop.StopEnd.TheVariants as answer
-use Rattle.nmgc_cycle.specs.Shown.{seen}
+use Rattle.nmgc_sweep.specs.Sweeper.{HasNotes, AreLeft, numbers_of}
+use Rattle.nmgc_sweep.specs.Work.{IsAtWork}
+use Rattle.nmgc_cycle.specs.Bound.{AreFewAtStop, AreFewBeforeStop}
+use Rattle.nmgc_cycle.specs.Shown.{seen, sweeper_in, cycle_in}
 use Rattle.nmgc_cycle.specs.Stage.{IsShortAfter}
 
--- the world has no weak pointer that is alive
-abbrev pub HasNoWeak : World → Type 0
-HasNoWeak w = (weak : Name) (parts : Parts) → IsAlive w weak parts → ⊥
+-- no weak pointer is alive in the world, nor in the snapshot of a cycle that is marking: none is made so far
+pub record AreWeakless (s : State) : Type 0 where
+  pub world : HasNoWeak s.world
+  pub snapshot : (e : World) → Contains (snapshots s.progress) e → HasNoWeak e
+
+-- the sweeper of a cycle in progress: it noted what lay in the segments that are to be swept, and has notes left of all segments that wait
+pub record HasSweeper (k : Cycle) (c : Collector) : Type 0 where
+  pub notes : HasNotes k (sweeper_in c.progress)
+  pub left : AreLeft c.segments (sweeper_in c.progress).left
+
+-- while a cycle marks, its sweeper has swept nothing; once it was closed, the sweeper is at work
+abbrev pub Sweeps : Progress → State → Collector → Type 0
+Sweeps idle s c = Unit {0}
+Sweeps (marking k) s c = HasSweeper k c × ((sweeper_in c.progress).seen.swept ≡ numbers_of (sweeper_in c.progress).left) × ((sweeper_in c.progress).seen.freed ≡ [])
+Sweeps (sweeping k closed) s c = HasSweeper k c × IsAtWork k closed (seen c).words s.allocation c.segments (cycle_in c.progress) (sweeper_in c.progress)
 
 -- a mutator between two calls: it has its number and the layout of the heap, and its replies were told
 pub record IsOwn (c : Collector) (k : ℕ) (m : Mutator) : Type 0 where
@@ -54,13 +67,16 @@ pub record IsKept (script : Script) (c : Collector) : Type 0 where
 -- a new collector
 pub record IsFresh (script : Script) (c : Collector) : Type 0 where
   pub kept : IsKept script c
+  pub goes_on : c.answered ≡ None
   pub new : IsNew (plan_of script) (seen c)
 
 -- after a stop of this run
 pub record IsStill (script : Script) (c : Collector) (run : Run) : Type 0 where
   pub kept : IsKept script c
   pub at_stop : IsAtStop (plan_of script) run (seen c)
-  pub weakless : HasNoWeak (last_state run).world
+  pub weakless : AreWeakless (last_state run)
+  pub sweeper : Sweeps (last_state run).progress (last_state run) c
+  pub few : AreFewAtStop script c
 
 -- after a stop, and the run goes on or is done
 abbrev pub HasStopped : Script → Collector → Type 0
@@ -69,14 +85,17 @@ HasStopped script c = (run : Run) × IsStill script c run
 -- after a round
 pub record HasWorked (script : Script) (c : Collector) : Type 0 where
   pub kept : IsKept script c
+  pub goes_on : c.answered ≡ None
   pub run : Run
   pub replies : List (List Reply)
   pub history : List Row
   pub worked : State
   pub after : IsAfterRound (plan_of script) run replies history worked (seen c)
-  pub weakless : HasNoWeak worked.world
+  pub weakless : AreWeakless worked
+  pub sweeper : Sweeps worked.progress worked c
+  pub few : AreFewBeforeStop script c (last_state run).world worked.world
 
--- a round was done from there: it follows the last stop of a run for which the collector before stands
+-- the collector after did a round, and the one before stood after the last stop of the same run
 abbrev pub DidRound : Script → Collector → Collector → Type 0
 DidRound script old new = (worked : HasWorked script new) × IsStill script old worked.run
 
@@ -90,7 +109,7 @@ pub record IsShort (script : Script) (c : Collector) (free reserve : ℕ) : Type
   pub state : State
   pub row : StopRow
   pub stops : List StopRow
-  pub before : IsShortAfter (plan_of script) state row c.rounds stops
+  pub before : IsShortAfter (plan_of script) state row c.rounds stops c.cycles
   pub stops_are : c.stops ≡ stops ++ row ∷ []
   pub free_is : free ≡ free_count state
   pub reserve_is : reserve ≡ reserve_of (plan_of script)
@@ -101,6 +120,11 @@ abbrev pub HasAnswered : Script → Collector → StopEnd → Type 0
 HasAnswered script c answer.GoOn = HasStopped script c × (c.answered ≡ None)
 HasAnswered script c answer.Done = HasStopped script c × (c.answered ≡ Some Done)
 HasAnswered script c (answer.HeapFull free reserve) = IsShort script c free reserve × (c.answered ≡ Some (HeapFull free reserve))
+
+-- a stop after a round: where it isn't short of segments, the run before the round, with the round and this stop as one turn more, is the run for which the collector stands
+abbrev pub StopsAfter : Script → Collector → Collector → StopEnd → Type 0
+StopsAfter script old new (answer.HeapFull free reserve) = Unit {0}
+StopsAfter script old new _ = (w : HasWorked script old) → (turn : Turn) × (turn.worked ≡ w.worked) × (turn.history ≡ w.history) × IsStill script new (with_turn w.run turn)
 
 -- the run has ended so
 abbrev pub HasEnded : Script → Collector → End → Type 0

@@ -1,6 +1,10 @@
+pub mod Bound
+pub mod Cycles
 pub mod Keeps
 pub mod Roots
 pub mod Shown
 pub mod Stage
+pub mod Steps
 pub mod Stopping
 pub mod Working
+pub mod StopLaws

@@ -32,7 +32,7 @@ HasRegisters m = length m.registers ≡ REGISTERS
 abbrev pub cleared : {T : Type 0} → Room T → Room T
 cleared room = record { items = []; spare = room.spare + length room.items }
 
--- the mutator with these registers and this queue, an empty nursery, and nothing left of the round
+-- the mutator with these registers and this queue, an empty nursery, and nothing left of the round but what it remembers
 abbrev pub given_back : List ℕ → FinQueue → Mutator → Mutator
 given_back registers queue m = record m {
   registers = registers;
@@ -40,7 +40,6 @@ given_back registers queue m = record m {
   nursery = emptied m.nursery;
   recorded = cleared m.recorded;
   young_weaks = cleared m.young_weaks;
-  updrem = cleared m.updrem;
 }
 
 -- of the registers of all mutators, those of one

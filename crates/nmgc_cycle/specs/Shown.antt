@@ -1,12 +1,16 @@
 -- What contracts see of a collector.
-use Rattle.std.specs.Prelude.{ℕ, List, [], map, false, Option, Some, None}
+use Rattle.std.specs.Prelude.{ℕ, List, [], map, Bool, true, false, Option, Some, None}
 use Rattle.nmgc_mutator.specs.declared.mutator.Mutator.{Mutator}
 use Rattle.nmgc_mutator.specs.Records.{numbers}
-use Rattle.nmgc_journal.specs.declared.report.Phase.TheVariants.{Idle}
+use Rattle.nmgc_journal.specs.declared.report.Phase.{Phase}
+use Rattle.nmgc_journal.specs.declared.report.Phase.TheVariants as phase
 use Rattle.nmgc_journal.specs.declared.report.Report.{Report}
 use Rattle.nmgc_journal.specs.declared.report.End.{End}
-use Rattle.nmgc_run.specs.Seen.{Seen, MutatorSeen, MarkerSeen, WorkSeen, SweeperSeen, CycleSeen, ends_of}
+use Rattle.nmgc_run.specs.Seen.{Seen, MutatorSeen, MarkerSeen, WorkSeen, CycleSeen, ends_of}
+use Rattle.nmgc_sweep.specs.Sweeper.{Sweeper}
 use Rattle.nmgc_cycle.specs.declared.collector.Collector.{Collector}
+use Rattle.nmgc_cycle.specs.declared.progress.Progress.{Progress}
+use Rattle.nmgc_cycle.specs.declared.progress.Progress.TheVariants as progress
 
 -- a mutator, with what its round left for the stop
 abbrev pub seen_mutator : Mutator → MutatorSeen
@@ -25,38 +29,58 @@ abbrev pub words_in : Option (List ℕ) → List ℕ
 words_in None = []
 words_in (Some words) = words
 
--- no cycle was begun, so there is no marker, no sweeper and no work of theirs
-abbrev pub no_work : WorkSeen
-no_work = record { scanned = 0; empty = false }
+-- the phase that a stop's row tells
+abbrev pub phase_in : Progress → Phase
+phase_in progress.Idle = phase.Idle
+phase_in (progress.Marking m) = phase.Marking
+phase_in (progress.Sweeping w) = phase.Sweeping
 
-abbrev pub no_marker : MarkerSeen
-no_marker = record { epoch = 0; queue = []; spare = 0; marked = 0 }
+-- whether a cycle is marking
+abbrev pub is_marking_in : Progress → Bool
+is_marking_in (progress.Marking m) = true
+is_marking_in _ = false
 
-abbrev pub no_sweeper : SweeperSeen
-no_sweeper = record { epoch = 0; swept = []; had = []; freed = [] }
+-- what there is of marker, work, sweeper and cycle, and what stands in its place where there is none
+abbrev pub marker_in : Progress → MarkerSeen
+marker_in (progress.Marking m) = m.marker
+marker_in _ = record { epoch = 0; queue = []; spare = 0; marked = 0 }
 
-abbrev pub no_cycle : CycleSeen
-no_cycle = record { from = 0; closed = 0; dead = []; kept = 0 }
+abbrev pub work_in : Progress → WorkSeen
+work_in (progress.Marking m) = record { scanned = m.last.scanned; empty = m.last.empty }
+work_in _ = record { scanned = 0; empty = false }
+
+abbrev pub no_sweeper : Sweeper
+no_sweeper = record { seen = record { epoch = 0; swept = []; had = []; freed = [] }; left = [] }
+
+abbrev pub sweeper_in : Progress → Sweeper
+sweeper_in progress.Idle = no_sweeper
+sweeper_in (progress.Marking m) = m.sweeper
+sweeper_in (progress.Sweeping w) = w.sweeper
+
+abbrev pub cycle_in : Progress → CycleSeen
+cycle_in progress.Idle = record { from = 0; closed = 0; dead = []; kept = 0 }
+cycle_in (progress.Marking m) = record { from = m.from; closed = 0; dead = []; kept = 0 }
+cycle_in (progress.Sweeping w) = record { from = w.from; closed = w.closed; dead = []; kept = w.kept }
 
 -- the collector, as `IsAtStop` and `IsAfterRound` speak of it
 abbrev pub seen : Collector → Seen
 seen c = record {
   rounds = c.rounds;
   stops = c.stops;
-  cycles = [];
+  cycles = c.cycles;
   words = words_in c.words;
   segments = c.segments;
   mutators = map seen_mutator c.mutators.items;
   weaks = [];
-  phase = Idle;
-  begun = 0;
-  collect = false;
+  phase = phase_in c.progress;
+  begun = c.begun;
+  collect = c.collect;
   full = false;
   answered = c.answered;
-  work = no_work;
-  marker = no_marker;
-  sweeper = no_sweeper;
-  cycle = no_cycle;
+  work = work_in c.progress;
+  marker = marker_in c.progress;
+  sweeper = (sweeper_in c.progress).seen;
+  cycle = cycle_in c.progress;
 }
 
 -- the report that tells what a collector has, with this end
@@ -64,7 +88,7 @@ abbrev pub report_of : Collector → End → Report
 report_of c end = record {
   rounds = c.rounds;
   stops = c.stops;
-  cycles = [];
+  cycles = c.cycles;
   words = (seen c).words;
   segments = c.segments;
   mutators = ends_of (seen c);

@@ -3,6 +3,7 @@ use Rattle.std.specs.Prelude.{ℕ, ◌≡◌, ◌<◌, List, [], map, length, sl
 use Rattle.nmgc_graph.specs.declared.value.Name.{Name}
 use Rattle.nmgc_graph.specs.declared.command.Command.{Command}
 use Rattle.nmgc_alloc.specs.AllocState.{AllocState, StandsFor}
+use Rattle.nmgc_alloc.specs.Reserve.{free_count}
 use Rattle.nmgc_alloc.specs.Segments.{IsSegments}
 use Rattle.nmgc_heap.specs.Moves.{Moved}
 use Rattle.nmgc_blocks.specs.Occupied.{KeepsMarks}
@@ -13,8 +14,11 @@ use Rattle.nmgc_journal.specs.declared.report.End.TheVariants as end
 use Rattle.nmgc_minor.specs.Placing.{moved_of}
 use Rattle.nmgc_minor.specs.Promotion.{IsFor}
 use Rattle.nmgc_object.specs.FinQueue.{FinQueue}
+use Rattle.nmgc_object.specs.Places.{reserve_count}
+use Rattle.nmgc_script.specs.declared.script.Script.{Script}
 use Rattle.nmgc_turn.specs.Worked.{registers_of, queues_of, nurseries_of, recorded_of}
 use Rattle.nmgc_cycle.specs.declared.collector.Collector.{Collector}
+use Rattle.nmgc_cycle.specs.declared.progress.Progress.TheVariants as doing
 use Rattle.nmgc_cycle.specs.declared.stop.StopEnd.{StopEnd}
 use Rattle.nmgc_cycle.specs.declared.stop.StopEnd.TheVariants as answer
 use Rattle.nmgc_cycle.specs.Roots.{AreGivenBack}
@@ -53,6 +57,17 @@ KeepsWorld old new = (t : Stopped) → StandsStopped t old → IsSettled t new.s
 -- some program is longer than what was done of it
 abbrev pub SomeIsLeft : List (List Command) → List ℕ → Type 0
 SomeIsLeft programs positions = (k : ℕ) × (k < length programs) × (slice_index positions k < length (slice_index_or programs k []))
+
+-- no command is left, and no cycle is in progress
+abbrev pub IsDone : Script → Collector → Type 0
+IsDone script c = (SomeIsLeft script.threads c.positions.items → ⊥) × (c.progress ≡ doing.Idle)
+
+-- commands are left, and so many segments are free, fewer than the reserve
+pub record IsFull (script : Script) (c : Collector) (free reserve : ℕ) : Type 0 where
+  pub left : SomeIsLeft script.threads c.positions.items
+  pub free_is : free ≡ free_count c.segments.segments
+  pub reserve_is : reserve ≡ reserve_count c.segments.layout
+  pub less : free < reserve
 
 -- the end of the run that a stop's answer is, if it is one
 abbrev pub ended_by : StopEnd → Option End

@@ -1,25 +1,35 @@
 -- The slices of a round: what a mutator with its seat does of its program, and what all of them leave.
-use Rattle.std.specs.Prelude.{ℕ, ◌≡◌, ◌+◌, ◌<◌, ◌≤◌, List, [], ◌++◌, length, map, drop, take, min, All, slice_get, slice_index, slice_index_or, Some, vec_capacity}
+use Rattle.std.specs.Prelude.{ℕ, ◌≡◌, ◌↔◌, ◌||◌, IsTrue, true, false, ◌+◌, ◌*◌, ◌<◌, ◌≤◌, List, [], ◌++◌, length, map, drop, take, min, All, slice_get, slice_index, slice_index_or, Some, vec_capacity}
 use Rattle.std.specs.List.{zip}
 use Rattle.nmgc_graph.specs.declared.command.Command.{Command}
 use Rattle.nmgc_graph.specs.declared.command.Reply.{Reply}
+use Rattle.nmgc_alloc.specs.Segments.{IsSegments}
+use Rattle.nmgc_beside.specs.Owed.{IsGathered, HaveOwed, gathered}
+use Rattle.nmgc_beside.specs.Rest.{opening_beside}
+use Rattle.nmgc_heap.specs.Places.{Place}
 use Rattle.nmgc_round.specs.declared.table.Round.{Round}
-use Rattle.nmgc_round.specs.View.{Opening, Seen}
+use Rattle.nmgc_round.specs.View.{Opening, Scan, whole}
 use Rattle.nmgc_round.specs.Seat.{RoundSeat, seen}
-use Rattle.nmgc_round.specs.Finishing.{HasAll, Leaves}
+use Rattle.nmgc_round.specs.Seating.{collecting}
+use Rattle.nmgc_round.specs.Finishing.{Leaves}
 use Rattle.nmgc_mutator.specs.declared.mutator.Mutator.{Mutator}
 use Rattle.nmgc_mutator.specs.declared.mutator.SliceEnd.{SliceEnd}
+use Rattle.nmgc_mutator.specs.declared.mutator.SliceEnd.TheVariants as ending
 use Rattle.nmgc_mutator.specs.Ready.{IsReady, Reserves}
 use Rattle.nmgc_mutator.specs.Slice.{CanRun, HasRoom, HasRun, Ended}
 use Rattle.nmgc_turn.specs.Rest.{opening_at}
-use Rattle.nmgc_turn.specs.Worked.{Done, HaveWorked}
+use Rattle.nmgc_turn.specs.Worked.{Done}
 use Rattle.nmgc_script.specs.declared.script.Script.{Script}
+use Rattle.nmgc_run.specs.Collector.{IsMarking}
 use Rattle.nmgc_run.specs.Run.{Run, last_state}
-use Rattle.nmgc_run.specs.Slice.{program_of, slice_of}
+use Rattle.nmgc_run.specs.Slice.{program_of, slice_of, some_asks, is_collect}
+use Rattle.nmgc_run.specs.State.{State, Progress, marking}
 use Rattle.nmgc_cycle.specs.declared.collector.Collector.{Collector}
 use Rattle.nmgc_cycle.specs.declared.round.Lists.{Lists}
 use Rattle.nmgc_cycle.specs.declared.worker.Worker.{Worker}
+use Rattle.nmgc_cycle.specs.Cycles.{HasHelped}
 use Rattle.nmgc_cycle.specs.Keeps.{IsStill}
+use Rattle.nmgc_cycle.specs.Shown.{seen as collector_seen}
 
 -- what a mutator has left of its program
 abbrev pub left_at : Script → List ℕ → ℕ → List Command
@@ -36,6 +46,7 @@ pub record HasWorkedOn (round : Round) (slice : ℕ) (program : List Command) (o
   pub run : HasRun round (seen old.seat) new.seat old.mutator new.mutator (take new.done program)
   pub end : SliceEnd
   pub ended : Ended program slice new.done new.mutator end
+  pub asks : IsTrue new.asks ↔ (end ≡ ending.Collect)
   pub most : new.done ≤ slice
 
 -- each of the workers may do its slice of what is left
@@ -50,9 +61,13 @@ pub record HaveAllWorked (round : Round) (script : Script) (positions : List ℕ
   pub count : length new ≡ length old
   pub each : (k : ℕ) (d : Worker) → k < length old → HasWorkedOn round script.config.slice (left_at script positions k) (slice_index_or old k d) (slice_index_or new k d)
 
+-- the slice of one of them asks for a cycle
+abbrev pub SomeAsks : List Worker → Type 0
+SomeAsks workers = (k : ℕ) × ((worker : Worker) × (slice_get workers k ≡ Some worker) × (worker.asks ≡ true))
+
 -- a mutator with its seat, that did nothing yet
 abbrev pub worker_of : Mutator × RoundSeat → Worker
-worker_of (m, seat) = record { mutator = m; seat = seat; done = 0 }
+worker_of (m, seat) = record { mutator = m; seat = seat; done = 0; asks = false }
 
 -- the mutators with their seats, by their numbers
 abbrev pub workers_of : List Mutator → List RoundSeat → List Worker
@@ -76,11 +91,12 @@ pub record HaveRoom (count : ℕ) (lists : Lists) : Type 0 where
   pub seats : (lists.seats.items ≡ []) × (count ≤ vec_capacity lists.seats)
   pub done : (lists.done.items ≡ []) × (count ≤ vec_capacity lists.done)
 
--- its lists have room for so many commands
+-- its lists have room for what so many commands note: one pushes eight words at most
 pub record HasLists (count : ℕ) (m : Mutator) : Type 0 where
   pub replies : count ≤ m.replies.spare
   pub recorded : count ≤ m.recorded.spare
-  pub updrem : count ≤ m.updrem.spare
+  pub updrem : 8 * count ≤ m.updrem.spare
+  pub young_weaks : count ≤ m.young_weaks.spare
 
 -- each mutator has room for its next slice
 abbrev pub HaveSliceRoom : Script → Collector → Type 0
@@ -91,9 +107,14 @@ pub record AreReserved (old new : List Mutator) : Type 0 where
   pub count : length new ≡ length old
   pub each : (k : ℕ) (d : Mutator) → k < length old → Reserves (slice_index_or old k d) (slice_index_or new k d)
 
+-- how a round opens after a stop: while a cycle marks with its machine, and else with the world alone
+abbrev pub OpensIn : Progress → State → Collector → List Place → Opening → Type 0
+OpensIn (marking k) s c places o = (h : IsMarking k s (collector_seen c) places) × (o ≡ opening_beside c.segments.layout h.core places c.mutators.items)
+OpensIn _ s c places o = o ≡ opening_at c.segments.layout s.world places c.mutators.items
+
 -- the round that begins after a stop opens with the state of that stop
 abbrev pub OpensAt : Script → Collector → Opening → Type 0
-OpensAt script c o = (run : Run) × (h : IsStill script c run) × (o ≡ opening_at c.segments.layout (last_state run).world h.at_stop.heap.places c.mutators.items)
+OpensAt script c o = (run : Run) × (h : IsStill script c run) × OpensIn (last_state run).progress (last_state run) c h.at_stop.heap.places o
 
 -- what mutator k did in a round: its slice of what was left, with these replies
 pub record DidSlice (script : Script) (old new : Collector) (k : ℕ) (m n : Mutator) (done : List Done) : Type 0 where
@@ -101,16 +122,33 @@ pub record DidSlice (script : Script) (old new : Collector) (k : ℕ) (m n : Mut
   pub replies : n.replies.items ≡ m.replies.items ++ map (λ (d : Done). d.1) done
   pub position : slice_index new.positions.items k ≡ slice_index old.positions.items k + length done
 
--- a round is over, and its replies aren't told yet: the words are those that it left, and each mutator did its slice
+-- beside the slices the collector did its part, with these scans
+pub record HasHelpedBeside (quota : ℕ) (o : Opening) (scans : List Scan) (old new : Collector) : Type 0 where
+  pub round : Round
+  pub from : RoundSeat
+  pub seat : RoundSeat
+  pub began : seen from ≡ collecting (whole o)
+  pub knows : seen seat ≡ record (collecting (whole o)) { scans = scans }
+  pub helped : HasHelped round quota from seat old.segments new.segments old.progress new.progress
+
+-- what was done, without the replies
+abbrev pub commands_in : List (List Done) → List (List Command)
+commands_in done = map (λ (d : List Done). map (λ (x : Done). x.0) d) done
+
+-- a round is over, and its replies aren't told yet: the words are those that it left, each mutator did its slice and remembers what it owes, and the collector did its part; a cycle is asked for where it was, or where a slice asked for one
 pub record DidSlices (script : Script) (o : Opening) (old new : Collector) : Type 0 where
-  pub rest : new ≡ record old { words = new.words; mutators = new.mutators; positions = new.positions }
+  pub rest : new ≡ record old { words = new.words; segments = new.segments; progress = new.progress; collect = new.collect; mutators = new.mutators; positions = new.positions }
   pub words : List ℕ
   pub words_are : new.words ≡ Some words
-  pub knows : Seen
-  pub leaves : Leaves o words knows
-  pub all : HasAll knows
+  pub scans : List Scan
+  pub seats : List RoundSeat
+  pub leaves : Leaves o words (gathered o scans seats)
   pub done : List (List Done)
-  pub worked : HaveWorked o knows.parts new.mutators.items done
+  pub gathers : IsGathered o scans seats new.mutators.items done
+  pub owed : HaveOwed o (gathered o scans seats).parts new.mutators.items
+  pub helped : HasHelpedBeside script.config.quota o scans old new
+  pub sound : IsSegments new.segments
+  pub collect : new.collect ≡ (old.collect || some_asks is_collect (commands_in done))
   pub positions_are : length new.positions.items ≡ length old.positions.items
   pub each : (k : ℕ) (m n : Mutator) (d : List Done) → slice_get old.mutators.items k ≡ Some m → slice_get new.mutators.items k ≡ Some n → slice_get done k ≡ Some d → DidSlice script old new k m n d
 

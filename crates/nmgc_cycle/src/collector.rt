@@ -1,14 +1,16 @@
 //! A collector: how a run begins, how it goes on, and what it tells in the end.
 //!
-//! Here is all the memory that grows with the heap, and it is taken at the beginning: the words in their table,
-//! a list as long as the words, the segments, and the lists of promotion. So a run holds the words twice.
+//! Here is the memory that grows with the heap, and most of it is taken at the beginning: the words in their table,
+//! a list as long as the words, the segments, and the lists of promotion. So a run holds the words twice. The marker's
+//! queue and the sweeper's notes are taken as each cycle begins.
 //!
 //! The report is made where nothing can fail any more. So its words go into the list that the run began with,
-//! and what the mutators have in hand into a list whose room was made then; these two lists stay as they were in
-//! between (`IsKept` of `specs/Keeps.antt`).
+//! and what the mutators have in hand into a list whose room was made then; in between the first keeps its length
+//! and the second stays empty (`IsKept` of `specs/Keeps.antt`).
 //!
-//! A run ends since each round answers at least one command: a stop goes on only where commands are left, a slice
-//! has room for one command at least, and a nursery for the largest object.
+//! A run ends: a round answers a command where any is left, since a slice has room for one command at least and a
+//! nursery for the largest object; and where none is left it leads the cycle in progress on, after which at most one
+//! more begins. How many rounds may follow is counted in `specs/Bound.antt`, so a stop's number has 32 bits.
 //!
 //! Easy to get wrong: what is left of a program is what no round answered, and a command that waits for room in
 //! the nursery was not answered.
@@ -28,10 +30,11 @@ ghost use Rattle.nmgc_cycle.specs.Shown.{seen_mutator, report_of};
 ghost use Rattle.nmgc_cycle.specs.Stage.{IsStaged, IsTold};
 ghost use Rattle.nmgc_cycle.specs.Keeps.{IsFresh, HasEnded};
 
+use crate::progress::Progress;
 use crate::stop::StopEnd;
 use nmgc_alloc::Segments;
 use nmgc_graph::{Kind, List, Name, NoMemory, SHARED_MAKER, SHARED_SLOTS};
-use nmgc_journal::{End, MutatorEnd, Report, RoundRows, StopRow};
+use nmgc_journal::{CycleRow, End, MutatorEnd, Report, RoundRows, StopRow};
 use nmgc_minor::Promotion;
 use nmgc_mutator::Mutator;
 use nmgc_object::layout::SHARED_PLACE;
@@ -60,6 +63,15 @@ pub struct Collector {
     pub(crate) positions: Vec<u32>,
     pub(crate) rounds: List<RoundRows>,
     pub(crate) stops: List<StopRow>,
+    // Of the cycles that ended.
+    pub(crate) cycles: List<CycleRow>,
+    pub(crate) progress: Progress,
+    // How many cycles were begun.
+    pub(crate) begun: u32,
+    // Whether a cycle was asked for since the last one began.
+    pub(crate) collect: bool,
+    // While no cycle is in progress: how often the collector passed the gate.
+    pub(crate) turns: u64,
     // The end that the last stop answered, if it was one.
     pub(crate) answered: Option<End>,
     // Empty, with room for what each mutator has in hand in the end.
@@ -121,9 +133,9 @@ impl Collector {
     /// The collector of a script's run, before its first stop: no command was answered, the registers and g are
     /// full of nil, and every segment is free.
     ///
-    /// Asks that the script is within the limits, that no cycle begins in it by itself, and that its
-    /// commands are built. Takes all memory that grows with the heap: the words twice, the segments with their
-    /// marks, and what the promotion of full nurseries needs.
+    /// Asks that the script is within the limits, and that its commands are built. Takes memory for the words, twice,
+    /// for the segments with their marks, and for what the promotion of full nurseries needs; what a cycle needs is
+    /// taken as it begins.
     pub fn new(alloc: Global, script: &Script) -> Result<Collector, NoMemory>
         requires { IsStaged script.now }
         ensures { IfOk result (λ collector. IsFresh script.now collector) }
@@ -148,6 +160,11 @@ impl Collector {
             positions,
             rounds: List::new(alloc),
             stops: List::new(alloc),
+            cycles: List::new(alloc),
+            progress: Progress::Idle,
+            begun: 0,
+            collect: false,
+            turns: 0,
             answered: None,
             ends,
         })
@@ -155,8 +172,9 @@ impl Collector {
 
     /// A whole run of a script: a stop, and then rounds, each with a stop after it, until a stop answers an end.
     ///
-    /// In a round each mutator works in a thread of its own, and passes `gate` before each command that it tries;
-    /// where a thread can't be started, its work is done by this one. The report is lawful, or tells a run that
+    /// In a round each mutator works in a thread of its own, and passes `gate` before each command that it tries, and
+    /// so does the collector before each object that it scans and each segment that it sweeps; where a thread can't be
+    /// started, its work is done by this one. The report is lawful, or tells a run that
     /// was short of segments. Asks what `new` asks. After `NoMemory` nothing of the run is left.
     pub fn run<R: Threads + Sync, G: Gate>(
         alloc: Global,
@@ -198,6 +216,11 @@ impl Collector {
             positions: _,
             rounds,
             stops,
+            cycles,
+            progress: _,
+            begun: _,
+            collect: _,
+            turns: _,
             answered: _,
             ends,
         } = self;
@@ -206,7 +229,7 @@ impl Collector {
         Report {
             rounds,
             stops,
-            cycles: List::new(alloc),
+            cycles,
             words: List::from_vec(words),
             segments,
             mutators: List::from_vec(ends),

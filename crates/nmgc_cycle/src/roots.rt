@@ -11,7 +11,7 @@ use nmgc_object::{Address, FinQueue, Nursery};
 use std::alloc::Global;
 use std::mem;
 
-/// The registers of all mutators, one after another, and their queues, which they are without then.
+/// Copies the registers of all mutators, one after another, and takes their queues off them.
 pub fn taken(alloc: Global, mutators: &mut [Mutator]) -> Result<Roots, NoMemory>
     requires { length mutators.old ≤ MAKERS }
     ensures registers { IfOk result (λ roots. roots.registers ≡ registers_of mutators.old) }
@@ -63,7 +63,6 @@ fn give_one_back(mutator: &mut Mutator, registers: &[u64], queue: &mut FinQueue)
     mutator.nursery.top = mutator.nursery.base;
     mutator.recorded.clear();
     mutator.young_weaks.clear();
-    mutator.updrem.clear();
 }
 
 /// Each mutator gets its registers and its queue back; the nurseries are empty, and nothing of the round is

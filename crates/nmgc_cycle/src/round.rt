@@ -1,12 +1,19 @@
-//! A round: each mutator does a slice of what is left of its program, in a thread of its own.
+//! A round: each mutator does a slice of what is left of its program, in a thread of its own, and beside them the
+//! collector marks or sweeps, where a cycle is in progress, in one too.
 //!
 //! What can fail comes first: room for the replies and for what the mutators note, and the lists that the round
 //! fills. Then the words go into the round and come back from it, and nothing in between can fail. Only then are the
 //! replies taken off the mutators, for the report.
 //!
 //! The opening of the round, which world the words stand for, is known in proofs alone (`Chosen`): it is the last
-//! state of the run that the collector's rows tell.
+//! state of the run that the collector's rows tell, and while a cycle marks it has the machine to which the marker is
+//! tied (`OpensAt`). The round is told `marking` by the same phase, since mutators owe what they overwrite exactly then.
+//!
+//! Whatever the collector does, commands, replies and worlds of the round are those of the mutators alone: what it
+//! writes are marks and segments that wait. What it leaves of its cycle is told phase by phase (`DidSlices`,
+//! `HasHelped`): the marker's marks are those of its scans, and of a segment that was swept only freed names are gone.
 ghost use Rattle.std.specs.Prelude.{ℕ, ◌≡◌, ◌<◌, ◌≤◌, ◌+◌, ◌^◌, [], ◌∷◌, ◌++◌, None, IfOk, OnOk, length, map, min, slice_index, slice_index_or};
+ghost use Rattle.nmgc_alloc.specs.Segments.{IsSegments};
 ghost use Rattle.nmgc_mutator.specs.declared.mutator.Mutator.{Mutator as MutatorSeen};
 ghost use Rattle.nmgc_run.specs.Slice.{program_of};
 ghost use Rattle.nmgc_cycle.specs.Stage.{IsStaged};
@@ -14,7 +21,13 @@ ghost use Rattle.nmgc_cycle.specs.Keeps.{HasStopped, DidRound};
 ghost use Rattle.nmgc_cycle.specs.Working.{left_at, HaveRoom, HasLists, HaveSliceRoom, AreReserved, OpensAt, DidSlices, cleared, replies_of};
 
 use crate::Collector;
-use crate::worker::{Worker, seated, unseated, work_all};
+use crate::worker::{Worker, seated, some_asks, unseated, work_beside};
+use nmgc_alloc::Segments;
+use nmgc_beside::laws::{
+    a_closed_cycle_sweeps, a_heap_ties_by_blocks, a_rest_opens_a_round as opens_beside,
+    freed_places_go, slices_are_owed, the_heap_goes_on, the_machine_goes_on,
+    the_marker_leads_a_cycle, the_pace_is_kept,
+};
 use nmgc_graph::{List, NoMemory, Reply};
 use nmgc_journal::RoundRows;
 use nmgc_mutator::Mutator;
@@ -22,6 +35,7 @@ use nmgc_mutator::laws::a_round_finds_mutators_ready;
 use nmgc_round::chosen::Wanted;
 use nmgc_round::{Chosen, Finished, Gate, MutatorSeat, Opened, Round, Started};
 use nmgc_script::Script;
+use nmgc_sweep::laws::segments_are_left;
 use nmgc_turn::laws::{
     a_rest_opens_a_round, a_round_is_a_history, a_round_is_stopped, slices_are_gathered,
 };
@@ -72,7 +86,10 @@ fn opening_of(script: &Script, collector: &Collector) -> Chosen<Opened>
 
 impl Collector {
     /// One round: each mutator with commands left does a slice, in a thread of its own, and passes `gate` before each
-    /// command that it tries. The replies of the round are told after those of the rounds before.
+    /// command that it tries. Beside them the collector scans as many objects as the quota says while a cycle marks, or
+    /// sweeps as many segments of a closed one, or fewer where no more are left; it passes `gate` before each. Where a
+    /// slice asks for a cycle, one is due at the next stop that finds none in progress. The replies of the round are
+    /// told after those of the rounds before.
     ///
     /// Asks that the last stop answered `GoOn`, and that no round was done since. After `NoMemory` nothing
     /// is known of the collector.
@@ -89,8 +106,17 @@ impl Collector {
         ensures stops { OnOk result (self.new.stops ≡ self.old.stops) }
     {
         a_rest_opens_a_round();
+        opens_beside();
+        the_heap_goes_on();
+        a_heap_ties_by_blocks();
         a_round_is_a_history();
         a_round_is_stopped();
+        the_machine_goes_on();
+        the_marker_leads_a_cycle();
+        the_pace_is_kept();
+        freed_places_go();
+        a_closed_cycle_sweeps();
+        segments_are_left();
         self.make_room(script)?;
         let lists = Lists::new(self.alloc, self.mutators.len())?;
         let opening = opening_of(script, self);
@@ -114,7 +140,7 @@ impl Collector {
         )
     }
 
-    // The slices of all mutators. Nothing here can fail.
+    // The slices of all mutators, and the collector's part beside them. Nothing here can fail.
     fn do_slices<R: Threads + Sync, G: Gate>(
         &mut self,
         rt: &R,
@@ -130,8 +156,12 @@ impl Collector {
         ensures { DidSlices script.now opening.now.value self.old self.new }
     {
         a_round_finds_mutators_ready();
-        a_rest_opens_a_round();
         slices_are_gathered();
+        slices_are_owed();
+        a_rest_opens_a_round();
+        opens_beside();
+        the_heap_goes_on();
+        a_heap_ties_by_blocks();
         let Lists {
             room,
             mut workers,
@@ -143,24 +173,43 @@ impl Collector {
         let Started {
             round,
             mutators: given,
-            collector,
-        } = Round::start(words, self.segments.layout(), false, opening, room);
+            mut collector,
+        } = Round::start(
+            words,
+            self.segments.layout(),
+            self.progress.is_marking(),
+            opening,
+            room,
+        );
         let own = mem::replace(&mut self.mutators, Vec::new(self.alloc));
         seated(own, given, &mut workers);
-        work_all(
+        work_beside(
             rt,
             &round,
+            &mut self.progress,
+            &mut collector,
+            &mut self.segments,
             workers.as_mut_slice(),
             script,
             self.positions.as_slice(),
             gate,
         );
+        sound(&self.segments);
+        let asks = some_asks(workers.as_slice());
+        self.collect = self.collect || asks;
         unseated(workers, &mut mutators, &mut seats, &mut done);
         let Finished { words } = round.finish(List::from_vec(seats), collector);
         self.words = Some(words);
         self.mutators = mutators;
         advance(self.positions.as_mut_slice(), done.as_slice());
     }
+}
+
+// What is true of all segments is true of these, also once marker or sweeper worked on them.
+fn sound(segments: &Segments)
+    ensures { IsSegments segments.now }
+{
+    let _ = segments.layout();
 }
 
 // Each mutator gets room for its slice of what is left of its program.

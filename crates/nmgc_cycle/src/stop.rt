@@ -1,61 +1,79 @@
-//! A stop: what the round made is promoted, and the stop tells its row.
+//! A stop: what the round made is promoted, a cycle is led on, and the stop tells its row.
 //!
 //! The mutators stand still, so the words are read and written plainly. Roots and recorded fields are taken off the
-//! mutators (`roots`), promoted, and given back; then the nurseries are empty and nothing of the round is left. So
-//! a stop leads from what a round left, or from a new collector, to words, segments and mutators that stand for the
-//! state of the same run after that stop.
+//! mutators (`roots`), promoted, and given back; then the nurseries are empty, and of the round only what the mutators
+//! remember is left. That goes to the marker; then a cycle may be closed, one may end, and one may begin (`cycle`).
+//! After each of these steps the collector stands for a state of the run at this stop (`specs/Steps.antt`), and
+//! together they are the run's stop. So a stop leads from what a round left, or from a new collector, to words,
+//! segments, mutators, marker and sweeper that stand for the state of the same run after that stop.
 //!
-//! The row is taken after the promotion: its numbers are those of the heap that the next round begins with.
+//! The row is taken last: its numbers are those of the heap that the next round begins with.
 //!
 //! Easy to get wrong: fewer free segments than the reserve end a run only while commands are left, so what is
-//! asked first is whether any are.
-ghost use Rattle.std.specs.Prelude.{◌≡◌, ◌↔◌, ◌<◌, [], ◌∷◌, ◌++◌, All, IfOk, OnOk, IsSome, IsTrue, length};
+//! asked first is whether any are. And where none are, the run goes on as long as a cycle is in progress, since its row
+//! is still to be told.
+ghost use Rattle.std.specs.Prelude.{ℕ, ◌≡◌, ◌↔◌, ◌<◌, [], ◌∷◌, ◌++◌, All, IfOk, OnOk, IsSome, IsTrue, length};
 ghost use Rattle.nmgc_blocks.specs.Stopped.{Stopped};
 ghost use Rattle.nmgc_minor.specs.Promotion.{IsFor};
 ghost use Rattle.nmgc_cycle.specs.Stage.{IsStaged};
 ghost use Rattle.nmgc_cycle.specs.Roots.{HasRegisters};
-ghost use Rattle.nmgc_cycle.specs.Keeps.{CanStop, HasAnswered};
-ghost use Rattle.nmgc_cycle.specs.Stopping.{StandsStopped, HasPromoted, KeepsWorld, SomeIsLeft, ended_by};
+ghost use Rattle.nmgc_cycle.specs.declared.stop.StopEnd.TheVariants as answer;
+ghost use Rattle.nmgc_cycle.specs.Keeps.{CanStop, HasAnswered, StopsAfter};
+ghost use Rattle.nmgc_cycle.specs.Stopping.{StandsStopped, HasPromoted, KeepsWorld, SomeIsLeft, IsDone, IsFull, ended_by};
 
+use crate::leading::a_stop_leads;
 use crate::{Collector, roots};
 use nmgc_graph::NoMemory;
 use nmgc_journal::{End, Phase, StopRow};
-use nmgc_run::laws::places_are_blocks;
 use nmgc_script::Script;
 
 /// What a stop answers.
 #[derive(Clone, Copy, Debug, PartialEq, Eq)]
 pub enum StopEnd {
-    /// Commands are left, and at least as many segments are free as the reserve: a round follows.
+    /// A round follows: commands are left, and at least as many segments are free as the reserve; or none are left, and
+    /// a cycle is in progress.
     GoOn,
-    /// Every command was answered.
+    /// Every command was answered, and no cycle is in progress.
     Done,
     /// Commands are left, and only `free` segments are free, fewer than the reserve.
     HeapFull { free: u32, reserve: u32 },
 }
 
 impl Collector {
-    /// A stop: what the round made is promoted, the nurseries are empty afterwards, and the stop's row is told. No
-    /// command is answered.
+    /// A stop: what the round made is promoted, and the nurseries are empty afterwards; what the mutators remember
+    /// goes to the marker; a cycle is closed, ends or begins where the rules of a run say so; and the stop's row is
+    /// told. No command is answered.
     ///
     /// Asks that no stop was done yet, or a round since the last one. Whatever world words, segments and mutators
-    /// stood for before, they stand for it afterwards, and exactly what the promotion rule says has moved. Takes memory for the roots and the
-    /// recorded fields, and time for what is promoted, the roots, the recorded fields and the number of segments.
-    /// After `NoMemory` nothing is known of the collector.
+    /// stood for before, they stand for it afterwards, and exactly what the promotion rule says has moved.
+    ///
+    /// Takes memory for the roots and the recorded fields, for the row of a cycle that ends, and where one begins for
+    /// its marker's queue and its sweeper's notes. Takes time for what is promoted, the roots, the recorded and the
+    /// remembered fields and the number of segments; at a closing for what is left to scan; where a cycle begins for
+    /// the blocks of the segments that it will sweep, and where one ends for the names of its row. After `NoMemory`
+    /// nothing is known of the collector.
     pub fn stop(&mut self, script: &Script) -> Result<StopEnd, NoMemory>
         requires staged { IsStaged script.now }
         requires can { CanStop script.now self.old }
         ensures answered { IfOk result (λ end. HasAnswered script.now self.new end) }
+        ensures after { IfOk result (λ end. StopsAfter script.now self.old self.new end) }
+        ensures done { IfOk result (λ end. (end ≡ answer.Done) ↔ IsDone script.now self.new) }
+        ensures full { IfOk result (λ end. (free reserve : ℕ) → (end ≡ answer.HeapFull free reserve) ↔ IsFull script.now self.new free reserve) }
         ensures world { OnOk result (KeepsWorld self.old self.new) }
         ensures rounds { OnOk result (self.new.rounds ≡ self.old.rounds) }
         ensures stops { OnOk result ((row : StopRow) × (self.new.stops ≡ self.old.stops ++ row ∷ [])) }
     {
-        places_are_blocks();
+        a_stop_leads();
+        let number = self.stops.items().len() as u32;
         let promoted = self.promote()?;
+        self.add_remembered();
+        self.close(number);
+        self.end(number)?;
+        self.begin(script.config.trigger, number)?;
         let free = self.segments.free_count();
         let row = StopRow {
-            number: self.stops.items().len() as u32,
-            phase: Phase::Idle,
+            number,
+            phase: self.progress.phase(),
             free,
             filled: self.segments.filled_count(),
             sweep: self.segments.sweep_count(),
@@ -63,10 +81,11 @@ impl Collector {
         };
         self.stops.push(row)?;
         let reserve = self.segments.layout().reserve();
-        let end = if !self.has_left(script) {
-            StopEnd::Done
-        } else if free < reserve {
+        let left = self.has_left(script);
+        let end = if left && free < reserve {
             StopEnd::HeapFull { free, reserve }
+        } else if !left && self.progress.phase() == Phase::Idle {
+            StopEnd::Done
         } else {
             StopEnd::GoOn
         };

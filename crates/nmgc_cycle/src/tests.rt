@@ -85,6 +85,84 @@ const RUNS: [(&str, &str); 12] = [
     ),
 ];
 
+// Scripts whose cycles mark beside the mutators and sweep beside them, each with the text of its report.
+const CYCLES: [(&str, &str); 6] = [
+    // The sixteenth block fills a segment, and the second cycle has it to sweep.
+    (
+        "nmgc 1\nheap 32 64 64 100 1000 0\nthread 0\ncon r0 0 r0 r1\ncon r0 0 r0 r1\ncon r0 0 r0 r1\ncon r0 0 r0 r1\ncon r0 0 r0 r1\ncon r0 0 r0 r1\ncon r0 0 r0 r1\ncon r0 0 r0 r1\ncon r0 0 r0 r1\ncon r0 0 r0 r1\ncon r0 0 r0 r1\ncon r0 0 r0 r1\ncon r0 0 r0 r1\ncon r0 0 r0 r1\ncon r0 0 r0 r1\ncollect\ncon r0 0 r0 r1\ncollect\n",
+        "report 1\nstop 0 idle free 32 filled 0 sweep 0 promoted 0\nround 1\n0 0.0\n0 0.1\n0 0.2\n0 0.3\n0 0.4\n0 0.5\n0 0.6\n0 0.7\n0 0.8\n0 0.9\n0 0.10\n0 0.11\n0 0.12\n0 0.13\n0 0.14\n0 ok\nstop 1 marking free 31 filled 0 sweep 0 promoted 15\nround 2\n0 0.15\n0 ok\nstop 2 marking free 31 filled 0 sweep 1 promoted 1\ncycle 1 from 1 closed 2 swept 0 had 0 freed 0 kept 15 dead 0\nround 3\nstop 3 sweeping free 31 filled 0 sweep 1 promoted 0\nround 4\nstop 4 idle free 31 filled 1 sweep 0 promoted 0\ncycle 2 from 2 closed 3 swept 1 had 16 freed 0 kept 16 dead 0\nend done\n",
+    ),
+    // One segment is free after the sweep, one active and one filled.
+    (
+        "nmgc 1\nheap 32 64 256 100 1000 0\nthread 0\ncon r0 0 r0 r1\ncon r0 0 r0 r1\ncon r0 0 r0 r1\ncon r0 0 r0 r1\ncon r0 0 r0 r1\ncon r0 0 r0 r1\ncon r0 0 r0 r1\ncon r0 0 r0 r1\ncon r0 0 r0 r1\ncon r0 0 r0 r1\ncon r0 0 r0 r1\ncon r0 0 r0 r1\ncon r0 0 r0 r1\ncon r0 0 r0 r1\ncon r0 0 r0 r1\ncon r0 0 r0 r1\ncon r2 0 r2 r1\ncon r2 0 r2 r1\ncon r2 0 r2 r1\ncon r2 0 r2 r1\ncon r2 0 r2 r1\ncon r2 0 r2 r1\ncon r2 0 r2 r1\ncon r2 0 r2 r1\ncon r2 0 r2 r1\ncon r2 0 r2 r1\ncon r2 0 r2 r1\ncon r2 0 r2 r1\ncon r2 0 r2 r1\ncon r2 0 r2 r1\ncon r2 0 r2 r1\ncon r2 0 r2 r1\ncon r3 0 r3 r1\ncon r3 0 r3 r1\ncon r3 0 r3 r1\ncon r3 0 r3 r1\ncon r3 0 r3 r1\ncon r3 0 r3 r1\ncon r3 0 r3 r1\ncon r3 0 r3 r1\ncon r3 0 r3 r1\ncon r3 0 r3 r1\ncon r3 0 r3 r1\ncon r3 0 r3 r1\ncon r3 0 r3 r1\ncon r3 0 r3 r1\ncon r3 0 r3 r1\ncon r3 0 r3 r1\nyield\nnil r0\nget r2 r2 0\ncollect\n",
+        "report 1\nstop 0 idle free 32 filled 0 sweep 0 promoted 0\nround 1\n0 0.0\n0 0.1\n0 0.2\n0 0.3\n0 0.4\n0 0.5\n0 0.6\n0 0.7\n0 0.8\n0 0.9\n0 0.10\n0 0.11\n0 0.12\n0 0.13\n0 0.14\n0 0.15\n0 0.16\n0 0.17\n0 0.18\n0 0.19\n0 0.20\n0 0.21\n0 0.22\n0 0.23\n0 0.24\n0 0.25\n0 0.26\n0 0.27\n0 0.28\n0 0.29\n0 0.30\n0 0.31\n0 0.32\n0 0.33\n0 0.34\n0 0.35\n0 0.36\n0 0.37\n0 0.38\n0 0.39\n0 0.40\n0 0.41\n0 0.42\n0 0.43\n0 0.44\n0 0.45\n0 0.46\n0 0.47\n0 ok\nstop 1 idle free 29 filled 3 sweep 0 promoted 48\nround 2\n0 ok\n0 0.30\n0 ok\nstop 2 marking free 29 filled 0 sweep 3 promoted 0\nround 3\nstop 3 sweeping free 29 filled 0 sweep 3 promoted 0\nround 4\nstop 4 idle free 30 filled 1 sweep 0 promoted 0\ncycle 1 from 2 closed 3 swept 3 had 48 freed 17 kept 31 dead 0\nfreed 0.0\nfreed 0.1\nfreed 0.2\nfreed 0.3\nfreed 0.4\nfreed 0.5\nfreed 0.6\nfreed 0.7\nfreed 0.8\nfreed 0.9\nfreed 0.10\nfreed 0.11\nfreed 0.12\nfreed 0.13\nfreed 0.14\nfreed 0.15\nfreed 0.31\nend done\n",
+    ),
+    // A field is overwritten twice while the cycle marks.
+    (
+        "nmgc 1\nheap 32 64 64 100 1000 0\nthread 0\nnum r1 5\ncon r2 0 r1\nvar r0 r2\nnil r2\ncon r3 0 r3 r1\ncon r3 0 r3 r1\ncon r3 0 r3 r1\ncon r3 0 r3 r1\ncon r3 0 r3 r1\ncon r3 0 r3 r1\ncon r3 0 r3 r1\ncon r3 0 r3 r1\ncon r3 0 r3 r1\ncon r3 0 r3 r1\ncon r3 0 r3 r1\ncon r3 0 r3 r1\ncon r3 0 r3 r1\ncon r3 0 r3 r1\ncollect\ncon r4 0 r1\nset r0 0 r4\nnil r4\nset r0 0 r1\ncollect\n",
+        "report 1\nstop 0 idle free 32 filled 0 sweep 0 promoted 0\nround 1\n0 ok\n0 0.0\n0 0.1\n0 ok\n0 0.2\n0 0.3\n0 0.4\n0 0.5\n0 0.6\n0 0.7\n0 0.8\n0 0.9\n0 0.10\n0 0.11\n0 0.12\n0 0.13\n0 0.14\n0 0.15\n0 ok\nstop 1 marking free 31 filled 0 sweep 1 promoted 16\nround 2\n0 0.16\n0 ok\n0 ok\n0 ok\n0 ok\nstop 2 sweeping free 31 filled 0 sweep 1 promoted 0\nround 3\nstop 3 marking free 31 filled 0 sweep 1 promoted 0\ncycle 1 from 1 closed 2 swept 1 had 16 freed 0 kept 16 dead 0\nround 4\nstop 4 sweeping free 31 filled 0 sweep 1 promoted 0\nround 5\nstop 5 idle free 31 filled 0 sweep 0 promoted 0\ncycle 2 from 3 closed 4 swept 1 had 16 freed 1 kept 15 dead 0\nfreed 0.0\nend done\n",
+    ),
+    // A reference is moved to another object and erased where it was.
+    (
+        "nmgc 1\nheap 32 64 64 100 1000 0\nthread 0\nnum r1 5\ncon r4 0 r1\narr r0 2 r4\narr r2 2 r1\nnil r4\ncon r3 0 r3 r1\ncon r3 0 r3 r1\ncon r3 0 r3 r1\ncon r3 0 r3 r1\ncon r3 0 r3 r1\ncon r3 0 r3 r1\ncon r3 0 r3 r1\ncon r3 0 r3 r1\ncon r3 0 r3 r1\ncon r3 0 r3 r1\ncon r3 0 r3 r1\ncon r3 0 r3 r1\ncon r3 0 r3 r1\ncollect\nget r4 r0 0\nset r2 1 r4\nset r0 0 r1\nset r0 1 r1\nnil r4\nnil r0\ncollect\n",
+        "report 1\nstop 0 idle free 32 filled 0 sweep 0 promoted 0\nround 1\n0 ok\n0 0.0\n0 0.1\n0 0.2\n0 ok\n0 0.3\n0 0.4\n0 0.5\n0 0.6\n0 0.7\n0 0.8\n0 0.9\n0 0.10\n0 0.11\n0 0.12\n0 0.13\n0 0.14\n0 0.15\n0 ok\nstop 1 marking free 31 filled 0 sweep 1 promoted 16\nround 2\n0 0.0\n0 ok\n0 ok\n0 ok\n0 ok\n0 ok\n0 ok\nstop 2 sweeping free 31 filled 0 sweep 1 promoted 0\nround 3\nstop 3 marking free 31 filled 0 sweep 1 promoted 0\ncycle 1 from 1 closed 2 swept 1 had 16 freed 0 kept 16 dead 0\nround 4\nstop 4 sweeping free 31 filled 0 sweep 1 promoted 0\nround 5\nstop 5 idle free 31 filled 0 sweep 0 promoted 0\ncycle 2 from 3 closed 4 swept 1 had 16 freed 1 kept 15 dead 0\nfreed 0.1\nend done\n",
+    ),
+    // Marks are carried over three cycles, and a block is used again.
+    (
+        "nmgc 1\nheap 32 64 64 100 1000 0\nthread 0\ncon r2 0 r1 r1\ncon r3 0 r1 r1\ncon r0 0 r0 r1\ncon r0 0 r0 r1\ncon r0 0 r0 r1\ncon r0 0 r0 r1\ncon r0 0 r0 r1\ncon r0 0 r0 r1\ncon r0 0 r0 r1\ncon r0 0 r0 r1\ncon r0 0 r0 r1\ncon r0 0 r0 r1\ncon r0 0 r0 r1\ncon r0 0 r0 r1\ncon r0 0 r0 r1\ncon r0 0 r0 r1\nyield\nnil r2\ncollect\nyield\nyield\nnil r3\ncollect\nyield\ncon r4 0 r1 r1\ncollect\n",
+        "report 1\nstop 0 idle free 32 filled 0 sweep 0 promoted 0\nround 1\n0 0.0\n0 0.1\n0 0.2\n0 0.3\n0 0.4\n0 0.5\n0 0.6\n0 0.7\n0 0.8\n0 0.9\n0 0.10\n0 0.11\n0 0.12\n0 0.13\n0 0.14\n0 0.15\n0 ok\nstop 1 idle free 31 filled 1 sweep 0 promoted 16\nround 2\n0 ok\n0 ok\nstop 2 marking free 31 filled 0 sweep 1 promoted 0\nround 3\n0 ok\nstop 3 sweeping free 31 filled 0 sweep 1 promoted 0\nround 4\n0 ok\nstop 4 idle free 31 filled 0 sweep 0 promoted 0\ncycle 1 from 2 closed 3 swept 1 had 16 freed 1 kept 15 dead 0\nfreed 0.0\nround 5\n0 ok\n0 ok\nstop 5 marking free 31 filled 0 sweep 0 promoted 0\nround 6\n0 ok\nstop 6 idle free 31 filled 0 sweep 0 promoted 0\ncycle 2 from 5 closed 6 swept 0 had 0 freed 0 kept 14 dead 0\nround 7\n0 0.16\n0 ok\nstop 7 marking free 31 filled 0 sweep 1 promoted 1\nround 8\nstop 8 sweeping free 31 filled 0 sweep 1 promoted 0\nround 9\nstop 9 idle free 31 filled 0 sweep 0 promoted 0\ncycle 3 from 7 closed 8 swept 1 had 16 freed 1 kept 15 dead 0\nfreed 0.1\nend done\n",
+    ),
+    // Two objects are scanned in a round, and two segments swept.
+    (
+        "nmgc 1\nheap 32 64 256 100 2 0\nthread 0\ncon r0 0 r0 r1\ncon r0 0 r0 r1\ncon r0 0 r0 r1\ncon r0 0 r0 r1\ncon r0 0 r0 r1\ncon r0 0 r0 r1\ncon r0 0 r0 r1\ncon r0 0 r0 r1\ncon r0 0 r0 r1\ncon r0 0 r0 r1\ncon r0 0 r0 r1\ncon r0 0 r0 r1\ncon r0 0 r0 r1\ncon r0 0 r0 r1\ncon r0 0 r0 r1\ncon r0 0 r0 r1\ncon r2 0 r2 r1\ncon r2 0 r2 r1\ncon r2 0 r2 r1\ncon r2 0 r2 r1\ncon r2 0 r2 r1\ncon r2 0 r2 r1\ncon r2 0 r2 r1\ncon r2 0 r2 r1\ncon r2 0 r2 r1\ncon r2 0 r2 r1\ncon r2 0 r2 r1\ncon r2 0 r2 r1\ncon r2 0 r2 r1\ncon r2 0 r2 r1\ncon r2 0 r2 r1\ncon r2 0 r2 r1\ncon r3 0 r3 r1\ncon r3 0 r3 r1\ncon r3 0 r3 r1\ncon r3 0 r3 r1\ncon r3 0 r3 r1\ncon r3 0 r3 r1\ncon r3 0 r3 r1\ncon r3 0 r3 r1\ncon r3 0 r3 r1\ncon r3 0 r3 r1\ncon r3 0 r3 r1\ncon r3 0 r3 r1\ncon r3 0 r3 r1\ncon r3 0 r3 r1\ncon r3 0 r3 r1\ncon r3 0 r3 r1\nyield\nnil r0\nget r2 r2 0\ncollect\n",
+        "report 1\nstop 0 idle free 32 filled 0 sweep 0 promoted 0\nround 1\n0 0.0\n0 0.1\n0 0.2\n0 0.3\n0 0.4\n0 0.5\n0 0.6\n0 0.7\n0 0.8\n0 0.9\n0 0.10\n0 0.11\n0 0.12\n0 0.13\n0 0.14\n0 0.15\n0 0.16\n0 0.17\n0 0.18\n0 0.19\n0 0.20\n0 0.21\n0 0.22\n0 0.23\n0 0.24\n0 0.25\n0 0.26\n0 0.27\n0 0.28\n0 0.29\n0 0.30\n0 0.31\n0 0.32\n0 0.33\n0 0.34\n0 0.35\n0 0.36\n0 0.37\n0 0.38\n0 0.39\n0 0.40\n0 0.41\n0 0.42\n0 0.43\n0 0.44\n0 0.45\n0 0.46\n0 0.47\n0 ok\nstop 1 idle free 29 filled 3 sweep 0 promoted 48\nround 2\n0 ok\n0 0.30\n0 ok\nstop 2 marking free 29 filled 0 sweep 3 promoted 0\nround 3\nstop 3 marking free 29 filled 0 sweep 3 promoted 0\nround 4\nstop 4 marking free 29 filled 0 sweep 3 promoted 0\nround 5\nstop 5 marking free 29 filled 0 sweep 3 promoted 0\nround 6\nstop 6 marking free 29 filled 0 sweep 3 promoted 0\nround 7\nstop 7 marking free 29 filled 0 sweep 3 promoted 0\nround 8\nstop 8 marking free 29 filled 0 sweep 3 promoted 0\nround 9\nstop 9 marking free 29 filled 0 sweep 3 promoted 0\nround 10\nstop 10 marking free 29 filled 0 sweep 3 promoted 0\nround 11\nstop 11 marking free 29 filled 0 sweep 3 promoted 0\nround 12\nstop 12 marking free 29 filled 0 sweep 3 promoted 0\nround 13\nstop 13 marking free 29 filled 0 sweep 3 promoted 0\nround 14\nstop 14 marking free 29 filled 0 sweep 3 promoted 0\nround 15\nstop 15 marking free 29 filled 0 sweep 3 promoted 0\nround 16\nstop 16 marking free 29 filled 0 sweep 3 promoted 0\nround 17\nstop 17 marking free 29 filled 0 sweep 3 promoted 0\nround 18\nstop 18 sweeping free 29 filled 0 sweep 3 promoted 0\nround 19\nstop 19 sweeping free 30 filled 0 sweep 1 promoted 0\nround 20\nstop 20 idle free 30 filled 1 sweep 0 promoted 0\ncycle 1 from 2 closed 18 swept 3 had 48 freed 17 kept 31 dead 0\nfreed 0.0\nfreed 0.1\nfreed 0.2\nfreed 0.3\nfreed 0.4\nfreed 0.5\nfreed 0.6\nfreed 0.7\nfreed 0.8\nfreed 0.9\nfreed 0.10\nfreed 0.11\nfreed 0.12\nfreed 0.13\nfreed 0.14\nfreed 0.15\nfreed 0.31\nend done\n",
+    ),
+];
+
+// Scripts with thunks, stacks and compare-exchange, each with the text of its report.
+const OBJECTS: [(&str, &str); 5] = [
+    (
+        "nmgc 1\nheap 32 64 64 100 1000 0\nthread 0\nnum r1 5\nstack r0 2\npush r0 r1\npush r0 r1\npush r0 r1\npop r2 r0\npop r2 r0\npop r2 r0\nget r2 r0 0\n",
+        "report 1\nstop 0 idle free 32 filled 0 sweep 0 promoted 0\nround 1\n0 ok\n0 0.0\n0 ok\n0 ok\n0 stackfull\n0 5\n0 5\n0 stackempty\n0 wrongkind\nstop 1 idle free 31 filled 0 sweep 0 promoted 1\nend done\n",
+    ),
+    // A stack of the other mutator.
+    (
+        "nmgc 1\nheap 32 64 64 100 1000 0\nthread 0\nstack r0 2\nset g 0 r0\nyield\nthread 1\nyield\nget r0 g 0\npush r0 r0\n",
+        "report 1\nstop 0 idle free 32 filled 0 sweep 0 promoted 0\nround 1\n0 0.0\n0 ok\n0 ok\n1 ok\nstop 1 idle free 31 filled 0 sweep 0 promoted 1\nround 2\n1 0.0\n1 notowner\nstop 2 idle free 31 filled 0 sweep 0 promoted 0\nend done\n",
+    ),
+    (
+        "nmgc 1\nheap 32 64 64 100 1000 0\nthread 0\nvar r0 r1\nnum r2 4\ncas r0 0 r1 r2\ncas r0 0 r1 r2\ncas r0 1 r1 r2\nsame r2 r0\nget r3 r0 0\nsame r2 r3\n",
+        "report 1\nstop 0 idle free 32 filled 0 sweep 0 promoted 0\nround 1\n0 0.0\n0 ok\n0 yes\n0 no\n0 nofield\n0 no\n0 4\n0 yes\nstop 1 idle free 31 filled 0 sweep 0 promoted 1\nend done\n",
+    ),
+    // A thunk gets its result while a cycle marks, which keeps what was free in it; the next one frees that.
+    (
+        "nmgc 1\nheap 32 64 64 100 1000 0\nthread 0\nnum r1 5\ncon r4 0 r1\nthunk r0 r4\nnil r4\ncon r3 0 r3 r1\ncon r3 0 r3 r1\ncon r3 0 r3 r1\ncon r3 0 r3 r1\ncon r3 0 r3 r1\ncon r3 0 r3 r1\ncon r3 0 r3 r1\ncon r3 0 r3 r1\ncon r3 0 r3 r1\ncon r3 0 r3 r1\ncon r3 0 r3 r1\ncon r3 0 r3 r1\ncon r3 0 r3 r1\ncon r3 0 r3 r1\ncollect\nupdate r0 r1\ncollect\n",
+        "report 1\nstop 0 idle free 32 filled 0 sweep 0 promoted 0\nround 1\n0 ok\n0 0.0\n0 0.1\n0 ok\n0 0.2\n0 0.3\n0 0.4\n0 0.5\n0 0.6\n0 0.7\n0 0.8\n0 0.9\n0 0.10\n0 0.11\n0 0.12\n0 0.13\n0 0.14\n0 0.15\n0 ok\nstop 1 marking free 31 filled 0 sweep 1 promoted 16\nround 2\n0 updated\n0 ok\nstop 2 sweeping free 31 filled 0 sweep 1 promoted 0\nround 3\nstop 3 marking free 31 filled 0 sweep 1 promoted 0\ncycle 1 from 1 closed 2 swept 1 had 16 freed 0 kept 16 dead 0\nround 4\nstop 4 sweeping free 31 filled 0 sweep 1 promoted 0\nround 5\nstop 5 idle free 31 filled 0 sweep 0 promoted 0\ncycle 2 from 3 closed 4 swept 1 had 16 freed 1 kept 15 dead 0\nfreed 0.0\nend done\n",
+    ),
+    // The same with a value that is taken off a stack.
+    (
+        "nmgc 1\nheap 32 64 64 100 1000 0\nthread 0\nnum r1 5\ncon r4 0 r1\nstack r0 2\npush r0 r4\nnil r4\ncon r3 0 r3 r1\ncon r3 0 r3 r1\ncon r3 0 r3 r1\ncon r3 0 r3 r1\ncon r3 0 r3 r1\ncon r3 0 r3 r1\ncon r3 0 r3 r1\ncon r3 0 r3 r1\ncon r3 0 r3 r1\ncon r3 0 r3 r1\ncon r3 0 r3 r1\ncon r3 0 r3 r1\ncon r3 0 r3 r1\ncon r3 0 r3 r1\ncollect\npop r4 r0\nnil r4\ncollect\n",
+        "report 1\nstop 0 idle free 32 filled 0 sweep 0 promoted 0\nround 1\n0 ok\n0 0.0\n0 0.1\n0 ok\n0 ok\n0 0.2\n0 0.3\n0 0.4\n0 0.5\n0 0.6\n0 0.7\n0 0.8\n0 0.9\n0 0.10\n0 0.11\n0 0.12\n0 0.13\n0 0.14\n0 0.15\n0 ok\nstop 1 marking free 31 filled 0 sweep 1 promoted 16\nround 2\n0 0.0\n0 ok\n0 ok\nstop 2 sweeping free 31 filled 0 sweep 1 promoted 0\nround 3\nstop 3 marking free 31 filled 0 sweep 1 promoted 0\ncycle 1 from 1 closed 2 swept 1 had 16 freed 0 kept 16 dead 0\nround 4\nstop 4 sweeping free 31 filled 0 sweep 1 promoted 0\nround 5\nstop 5 idle free 31 filled 0 sweep 0 promoted 0\ncycle 2 from 3 closed 4 swept 1 had 16 freed 1 kept 15 dead 0\nfreed 0.0\nend done\n",
+    ),
+];
+
+// Two mutators that update one thunk, each with a number of its own. One comes first, and both then read its number.
+const THUNK: &str =
+    "nmgc 1\nheap 32 64 64 100 1000 0\nthread 0\nnum r1 5\nthunk r0 r1\nset g 0 r0\nyield\nupdate r0 r1\nforce r2 r0\nthread 1\nyield\nget r0 g 0\nnum r1 6\nupdate r0 r1\nforce r2 r0\n";
+
+const FIRST_UPDATED_REPORT: &str =
+    "report 1\nstop 0 idle free 32 filled 0 sweep 0 promoted 0\nround 1\n0 ok\n0 0.0\n0 ok\n0 ok\n1 ok\nstop 1 idle free 31 filled 0 sweep 0 promoted 1\nround 2\n0 updated\n0 5\n1 0.0\n1 ok\n1 already\n1 5\nstop 2 idle free 31 filled 0 sweep 0 promoted 0\nend done\n";
+
+const SECOND_UPDATED_REPORT: &str =
+    "report 1\nstop 0 idle free 32 filled 0 sweep 0 promoted 0\nround 1\n0 ok\n0 0.0\n0 ok\n0 ok\n1 ok\nstop 1 idle free 31 filled 0 sweep 0 promoted 1\nround 2\n0 already\n0 6\n1 0.0\n1 ok\n1 updated\n1 6\nstop 2 idle free 31 filled 0 sweep 0 promoted 0\nend done\n";
+
+// The only reference to an object is overwritten while the cycle marks: the cycle keeps it, and the next one frees it.
+const OVERWRITTEN: &str =
+    "nmgc 1\nheap 32 64 64 100 1000 0\nthread 0\nnum r1 5\ncon r2 0 r1\nvar r0 r2\nnil r2\ncon r3 0 r3 r1\ncon r3 0 r3 r1\ncon r3 0 r3 r1\ncon r3 0 r3 r1\ncon r3 0 r3 r1\ncon r3 0 r3 r1\ncon r3 0 r3 r1\ncon r3 0 r3 r1\ncon r3 0 r3 r1\ncon r3 0 r3 r1\ncon r3 0 r3 r1\ncon r3 0 r3 r1\ncon r3 0 r3 r1\ncon r3 0 r3 r1\ncollect\nset r0 0 r1\ncollect\n";
+
+const OVERWRITTEN_REPORT: &str =
+    "report 1\nstop 0 idle free 32 filled 0 sweep 0 promoted 0\nround 1\n0 ok\n0 0.0\n0 0.1\n0 ok\n0 0.2\n0 0.3\n0 0.4\n0 0.5\n0 0.6\n0 0.7\n0 0.8\n0 0.9\n0 0.10\n0 0.11\n0 0.12\n0 0.13\n0 0.14\n0 0.15\n0 ok\nstop 1 marking free 31 filled 0 sweep 1 promoted 16\nround 2\n0 ok\n0 ok\nstop 2 sweeping free 31 filled 0 sweep 1 promoted 0\nround 3\nstop 3 marking free 31 filled 0 sweep 1 promoted 0\ncycle 1 from 1 closed 2 swept 1 had 16 freed 0 kept 16 dead 0\nround 4\nstop 4 sweeping free 31 filled 0 sweep 1 promoted 0\nround 5\nstop 5 idle free 31 filled 0 sweep 0 promoted 0\ncycle 2 from 3 closed 4 swept 1 had 16 freed 1 kept 15 dead 0\nfreed 0.0\nend done\n";
+
 // Whether a command is built.
 fn is_built(command: &Command) -> bool
     ensures { IsTrue result → IsBuilt command.now }
@@ -92,8 +170,12 @@ fn is_built(command: &Command) -> bool
     match command {
         Command::Num { .. } | Command::Nil { .. } | Command::Mov { .. } => true,
         Command::Con { .. } | Command::Var { .. } | Command::Arr { .. } => true,
-        Command::Get { .. } | Command::Set { .. } => true,
-        Command::Show { .. } | Command::Same { .. } | Command::Yield => true,
+        Command::Thunk { .. } | Command::Stack { .. } => true,
+        Command::Get { .. } | Command::Set { .. } | Command::Cas { .. } => true,
+        Command::Update { .. } | Command::Force { .. } => true,
+        Command::Push { .. } | Command::Pop { .. } => true,
+        Command::Show { .. } | Command::Same { .. } => true,
+        Command::Yield | Command::Collect => true,
         _ => false,
     }
 }
@@ -114,10 +196,22 @@ fn staged(alloc: Global, text: &str) -> Result<Script, Fail>
     }
     let script = parse(alloc, text.as_bytes())?;
     let threads = script.threads.items();
-    if script.config.trigger != 0 || !threads.iter().all(|program| are_built(program.items())) {
+    if !threads.iter().all(|program| are_built(program.items())) {
         return Err("not of this stage".into());
     }
     Ok(script)
+}
+
+// The text of the script's report.
+fn told<R: Threads + Sync, G: Gate>(
+    alloc: Global,
+    rt: &R,
+    script: &str,
+    gate: &G,
+) -> Result<Vec<u8>, Fail> {
+    let script = staged(alloc, script)?;
+    let report = Collector::run(alloc, rt, &script, gate)?;
+    Ok(text(alloc, &report)?)
 }
 
 // Whether the script's report has this text.
@@ -128,9 +222,7 @@ fn tells<R: Threads + Sync, G: Gate>(
     report: &str,
     gate: &G,
 ) -> Result<bool, Fail> {
-    let script = staged(alloc, script)?;
-    let told = Collector::run(alloc, rt, &script, gate)?;
-    let bytes = text(alloc, &told)?;
+    let bytes = told(alloc, rt, script, gate)?;
     Ok(bytes.as_slice() == report.as_bytes())
 }
 
@@ -141,6 +233,39 @@ fn runs_have_these_reports(rt: HostRuntime) -> Result<(), Fail> {
             tells(rt.alloc(), &rt, script, report, &OpenGate)?,
             "{script}"
         );
+    }
+    Ok(())
+}
+
+#[test]
+fn cycles_have_these_reports(rt: HostRuntime) -> Result<(), Fail> {
+    for (script, report) in &CYCLES {
+        assert!(rt;
+            tells(rt.alloc(), &rt, script, report, &OpenGate)?,
+            "{script}"
+        );
+    }
+    Ok(())
+}
+
+#[test]
+fn thunks_stacks_and_exchanges_have_these_reports(rt: HostRuntime) -> Result<(), Fail> {
+    for (script, report) in &OBJECTS {
+        assert!(rt;
+            tells(rt.alloc(), &rt, script, report, &OpenGate)?,
+            "{script}"
+        );
+    }
+    Ok(())
+}
+
+#[test]
+fn a_thunk_gets_one_result(rt: HostRuntime) -> Result<(), Fail> {
+    for _ in 0..1000u32 {
+        let bytes = told(rt.alloc(), &rt, THUNK, &OpenGate)?;
+        let first = bytes.as_slice() == FIRST_UPDATED_REPORT.as_bytes();
+        let second = bytes.as_slice() == SECOND_UPDATED_REPORT.as_bytes();
+        assert!(rt; first || second);
     }
     Ok(())
 }
@@ -177,10 +302,11 @@ fn two_mutators_read_by_one_order(rt: HostRuntime) -> Result<(), Fail> {
     Ok(())
 }
 
-// A gate at which each of two mutators waits, with some turn of its own, until the other has reached some turn.
+// A gate at which each of two waits, with some turn of its own, until the other has reached some turn. One is mutator 0,
+// the other mutator 1 or the collector.
 #[derive(Drop)]
 struct Meet {
-    // Of mutator 0 and of mutator 1: the turn that waits, and the turn of the other that it waits for.
+    // Of mutator 0 and of the other: the turn that waits, and the turn of the other that it waits for.
     waits: [(u64, u64); 2],
     reached: [AtomicU64; 2],
     given_up: AtomicU64,
@@ -202,7 +328,7 @@ impl Meet {
 
 impl Gate for Meet {
     fn pass(&self, who: u8, turn: u64) {
-        let own = (who % 2) as usize;
+        let own = if who == 0 { 0 } else { 1 };
         self.reached[own].store(turn, Ordering::SeqCst);
         let (waits, until) = self.waits[own];
         if turn != waits {
@@ -236,5 +362,16 @@ fn the_gate_is_passed_before_each_command(rt: HostRuntime) -> Result<(), Fail> {
         assert_eq!(rt; read, (number, number));
         assert!(rt; meet.has_met());
     }
+    Ok(())
+}
+
+// The collector's first scan waits for the mutator's `set`, and the `set` for that scan. So the mutator overwrites
+// the reference while the collector marks.
+#[test]
+fn the_collector_marks_beside_a_mutator(rt: HostRuntime) -> Result<(), Fail> {
+    let meet = Meet::new([(20, 1), (1, 20)]);
+    assert!(rt; tells(rt.alloc(), &rt, OVERWRITTEN, OVERWRITTEN_REPORT, &OpenGate)?);
+    assert!(rt; tells(rt.alloc(), &rt, OVERWRITTEN, OVERWRITTEN_REPORT, &meet)?);
+    assert!(rt; meet.has_met());
     Ok(())
 }

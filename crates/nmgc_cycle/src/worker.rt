@@ -2,13 +2,17 @@
 //!
 //! A worker is a mutator with its seat. It reads its program from where it stands, and no other's, and notes how many
 //! commands it did; so the workers share the round alone, and what each did is told by its own contract.
-ghost use Rattle.std.specs.Prelude.{◌≡◌, ◌<◌, ◌≤◌, [], length, map, slice_index, vec_len, vec_capacity};
+ghost use Rattle.std.specs.Prelude.{◌≡◌, ◌<◌, ◌≤◌, ◌↔◌, [], IsTrue, length, map, slice_index, vec_len, vec_capacity};
 ghost use Rattle.nmgc_run.specs.Slice.{program_of};
-ghost use Rattle.nmgc_cycle.specs.Working.{left_at, CanWork, HasWorkedOn, CanAllWork, HaveAllWorked, workers_of, mutator_of, seat_of, done_by};
+ghost use Rattle.std.specs.Thread.{IsSync};
+ghost use Rattle.nmgc_cycle.specs.Cycles.{CanHelp, HasHelped};
+ghost use Rattle.nmgc_cycle.specs.Working.{SomeAsks, left_at, CanWork, HasWorkedOn, CanAllWork, HaveAllWorked, workers_of, mutator_of, seat_of, done_by};
 
+use crate::progress::Progress;
+use nmgc_alloc::Segments;
 use nmgc_graph::{Command, List, MAKERS};
-use nmgc_mutator::Mutator;
-use nmgc_round::{Gate, MutatorSeat, Round};
+use nmgc_mutator::{Mutator, SliceEnd};
+use nmgc_round::{CollectorSeat, Gate, MutatorSeat, Round};
 use nmgc_script::Script;
 use std::thread;
 use std::thread::Threads;
@@ -19,6 +23,8 @@ pub struct Worker {
     pub mutator: Mutator,
     pub seat: MutatorSeat,
     pub done: u32,
+    /// Whether its slice asks for a cycle.
+    pub asks: bool,
 }
 
 impl Worker {
@@ -31,6 +37,7 @@ impl Worker {
             .mutator
             .run_slice(round, &mut self.seat, program, slice, gate);
         self.done = ended.done;
+        self.asks = ended.end == SliceEnd::Collect;
     }
 }
 
@@ -61,6 +68,48 @@ pub fn work_all<R: Threads + Sync, G: Gate>(
     );
 }
 
+/// The same, and the collector does its part beside them, in a thread of its own too. One that is idle has none,
+/// and starts no thread.
+pub fn work_beside<R: Threads + Sync, G: Gate>(
+    rt: &R,
+    round: &Round,
+    progress: &mut Progress,
+    seat: &mut CollectorSeat,
+    segments: &mut Segments,
+    workers: &mut [Worker],
+    script: &Script,
+    positions: &[u32],
+    gate: &G,
+)
+    requires collector { CanHelp round.now seat.old segments.old progress.old }
+    requires mutators { CanAllWork round.now script.now positions.now workers.old }
+    ensures collector { HasHelped round.now script.now.config.quota seat.old seat.new segments.old segments.new progress.old progress.new }
+    ensures mutators { HaveAllWorked round.now script.now positions.now workers.old workers.new }
+{
+    if let Progress::Idle = progress {
+        work_all(rt, round, workers, script, positions, gate);
+        return;
+    }
+    thread::join_mut(
+        rt,
+        &mut ||
+            requires { CanHelp round.now seat.now segments.now progress.now }
+            ensures { HasHelped round.entry.now script.entry.now.config.quota seat.entry.now seat.exit.now segments.entry.now segments.exit.now progress.entry.now progress.exit.now }
+        { progress.work(round, seat, segments, script.config.quota, gate) },
+        &mut ||
+            requires { IsSync R.row × CanAllWork round.now script.now positions.now workers.now }
+            ensures { HaveAllWorked round.entry.now script.entry.now positions.entry.now workers.entry.now workers.exit.now }
+        { work_all(rt, round, workers, script, positions, gate) },
+    );
+}
+
+/// Whether one of them asks for a cycle.
+pub fn some_asks(workers: &[Worker]) -> bool
+    ensures { IsTrue result ↔ SomeAsks workers.now }
+{
+    workers.iter().any(|worker| worker.asks)
+}
+
 /// Each mutator gets its seat. The list has room for them.
 pub fn seated(mutators: Vec<Mutator>, seats: List<MutatorSeat>, workers: &mut Vec<Worker>)
     requires count { vec_len mutators ≡ length seats }
@@ -72,6 +121,7 @@ pub fn seated(mutators: Vec<Mutator>, seats: List<MutatorSeat>, workers: &mut Ve
             mutator,
             seat,
             done: 0,
+            asks: false,
         });
     }
 }
@@ -95,6 +145,7 @@ pub fn unseated(
             mutator,
             seat,
             done: count,
+            asks: _,
         } = worker;
         mutators.push_reserved(mutator);
         seats.push_reserved(seat);

@@ -1,4 +1,4 @@
-use Rattle.std.proofs.Common.{◌∙◌, sym, subst}
+use Rattle.std.proofs.Common.{◌∙◌, refl, sym, subst}
 use Rattle.nmgc_cycle.specs.Stage.{IsTold}
 use Rattle.nmgc_cycle.proofs.Told.{kept_of, told, same_parts, as_long, words_copied}
 use Rattle.nmgc_cycle.proofs.collector.Collector.into_report.Goals as goal
@@ -9,15 +9,15 @@ copied-words-requires c = as_long c.args.self.words c.args.self.list.items (kept
 pub returns-clause-parts : goal.returns-clause-parts
 returns-clause-parts c =
     same_parts c.args.self c.args.end _ _ _ _
-    c.new.ensures
+    refl
     (c.from_vec.ensures ∙ words_copied c.args.self.words c.copied-words.result.items (kept_of c.requires.0 c.args.self c.args.end c.requires.1).has_words c.copied-words.ensures)
     (c.from_vec-2.ensures ∙ c.all_ends-ends.ensures)
-    c.new-2.ensures
+    c.new.ensures
 
 pub returns-clause-told : goal.returns-clause-told
 returns-clause-told c = λ script ended.
     subst (IsTold script) (sym (same_parts c.args.self c.args.end _ _ _ _
-    c.new.ensures
+    refl
     (c.from_vec.ensures ∙ words_copied c.args.self.words c.copied-words.result.items (kept_of c.requires.0 c.args.self c.args.end c.requires.1).has_words c.copied-words.ensures)
     (c.from_vec-2.ensures ∙ c.all_ends-ends.ensures)
-    c.new-2.ensures)) (told script c.args.self c.args.end ended)
+    c.new.ensures)) (told script c.args.self c.args.end ended)

@@ -8,7 +8,7 @@ use Rattle.nmgc_cycle.specs.Keeps.{DidRound}
 use Rattle.nmgc_cycle.specs.Working.{cleared, replies_of}
 use Rattle.nmgc_cycle.proofs.MutatorLists.{vec_back}
 use Rattle.nmgc_cycle.proofs.Reserved.{reserved_stopped, still_before}
-use Rattle.nmgc_cycle.proofs.RoundOver.{HasLaws}
+use Rattle.nmgc_cycle.proofs.GoneOn.{HasLaws}
 use Rattle.nmgc_cycle.proofs.RoundWorked.{on_ok, worked_after}
 use Rattle.nmgc_cycle.proofs.collector.Collector.round.Goals as goal
 
@@ -17,7 +17,21 @@ opening_of-opening-requires g c = reserved_stopped c.args.script.now c.args.self
 
 pub returns-clause-worked : goal.returns-clause-worked
 returns-clause-worked g c =
-    let laws : HasLaws = record { opens = c.a_rest_opens_a_round.ensures; history = c.a_round_is_a_history.ensures; stopped = c.a_round_is_stopped.ensures } in
+    let laws : HasLaws = record {
+      opens = record { quiet = c.a_rest_opens_a_round.ensures; marks = c.a_rest_opens_a_round-2.ensures; rests = c.the_heap_goes_on.ensures.rests; snapshot = c.a_heap_ties_by_blocks.ensures.snapshot };
+      history = c.a_round_is_a_history.ensures;
+      stopped = c.a_round_is_stopped.ensures;
+      holds = c.the_heap_goes_on.ensures.round;
+      goes_on = c.the_machine_goes_on.ensures;
+      is_marking = c.the_marker_leads_a_cycle.ensures.round;
+      pace = c.the_pace_is_kept.ensures.round;
+      swept_holds = c.freed_places_go.ensures.whole_round;
+      drops = c.freed_places_go.ensures.remembered;
+      grows = c.freed_places_go.ensures.free;
+      waits = c.a_closed_cycle_sweeps.ensures.marked;
+      left = c.segments_are_left.ensures.stays;
+      counted = c.segments_are_left.ensures.counted;
+    } in
     let script = c.args.script.now in
     let roomy : Collector = c.make_room.new.self in
     let did : Collector = c.do_slices.new.self in

@@ -1,9 +1,11 @@
+use Rattle.std.proofs.Common.{◌-◌, length}
+use Rattle.nmgc_cycle.specs.Bound.{most_stops}
 use Rattle.nmgc_cycle.specs.Keeps.{CanStop}
-use Rattle.nmgc_cycle.proofs.Measures.{commands_left}
 use Rattle.nmgc_cycle.proofs.collector.Collector.run.Given as goal
 
 abbrev pub invariant-stops : goal.invariant-stops
 invariant-stops g l = CanStop l.script l.collector
 
+-- each stop is one more of those that there can be
 abbrev pub decreases-stops : goal.decreases-stops
-decreases-stops g l = commands_left l.script.threads l.collector.rounds
+decreases-stops g l = most_stops l.script - length l.collector.stops

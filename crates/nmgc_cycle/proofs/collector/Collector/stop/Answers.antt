@@ -1,28 +1,31 @@
-use Rattle.std.proofs.Common.{ℕ, ◌≡◌, List, [], ◌∷◌, ◌++◌, length, arith, sym, ap, subst, ◌∙◌, Option, ◌↔◌, IsTrue, true, false}
-use Rattle.nmgc_alloc.specs.laws.Keeping.{counts_stand}
+use Rattle.std.proofs.Common.{◌≡◌, List, [], ◌∷◌, ◌++◌, length, arith, refl, sym, ap, subst, ◌∙◌, inl, inr, true, false}
+use denote.Enum.Bare.{same_true, same_false}
 use Rattle.nmgc_object.specs.Places.{reserve_count}
-use Rattle.nmgc_segment.specs.declared.state.State.TheVariants as stands
-use Rattle.nmgc_journal.specs.declared.report.End.{End}
+use Rattle.nmgc_journal.specs.contracts.report.Phase.{the_type}
 use Rattle.nmgc_journal.specs.declared.report.Phase.TheVariants.{Idle}
 use Rattle.nmgc_journal.specs.declared.report.StopRow.{StopRow}
-use Rattle.nmgc_run.specs.Slice.{has_left}
-use Rattle.nmgc_run.specs.State.{State}
-use Rattle.nmgc_run.specs.Stop.{stop_row}
-use Rattle.nmgc_cycle.specs.declared.collector.Collector.{Collector}
 use Rattle.nmgc_cycle.specs.declared.stop.StopEnd.{StopEnd}
-use Rattle.nmgc_cycle.specs.Keeps.{HasAnswered}
-use Rattle.nmgc_cycle.specs.Shown.{seen, words_in}
-use Rattle.nmgc_blocks.specs.Stopped.{IsSettled}
-use Rattle.nmgc_turn.specs.Worked.{queues_of}
-use Rattle.nmgc_cycle.specs.Stopping.{HasPromoted, SomeIsLeft, ended_by, moves_of}
+use Rattle.nmgc_cycle.specs.declared.stop.StopEnd.TheVariants as answer
+use Rattle.nmgc_cycle.specs.Shown.{seen}
+use Rattle.nmgc_cycle.proofs.AddingLeads.{can_add}
 use Rattle.nmgc_cycle.proofs.AfterPromotion as after
-use Rattle.nmgc_cycle.proofs.Begins.{Begins, begins}
+use Rattle.nmgc_cycle.proofs.Begins.{begins}
+use Rattle.nmgc_cycle.proofs.Few.{stop_fits}
 use Rattle.nmgc_cycle.proofs.NewStops.{stopped_in}
-use Rattle.nmgc_cycle.proofs.StopAnswers.{left, done, goes_on, full}
-use Rattle.nmgc_cycle.proofs.Stopped.{row_is}
-use Rattle.nmgc_cycle.proofs.WhatIsLeft.{left_is}
+use Rattle.nmgc_cycle.proofs.StopEnds.{IsStepped, IsRead, Why, has_answered, stops_after, done_where, full_where}
+use Rattle.nmgc_cycle.proofs.StopSteps as steps
+use Rattle.nmgc_cycle.proofs.StopSteps.{IsLed, words_inside}
 use Rattle.nmgc_cycle.proofs.collector.Collector.stop.Goals as goal
-use Rattle.nmgc_cycle.proofs.collector.Collector.stop.Goals.{then-not-has_left, else-not-has_left+then-free-reserve, else-not-has_left+else-free-reserve}
+use Rattle.nmgc_cycle.proofs.collector.Collector.stop.Goals.{then-left+then-free-reserve, else-left+then-not-left+then-eq, else-left-via-then-left+else-free-reserve, else-left-via-else-left, else-left+else-not-left, else-not-left-via-then-not-left+else-eq, else-not-left-via-else-not-left}
+
+true_isnt : true ≡ false → ⊥
+true_isnt e = cc
+
+pub overflow_cast-number : goal.overflow_cast-number
+overflow_cast-number c =
+    let few = (stop_fits c.args.script.now c.args.self.now c.requires.staged c.requires.can).number in
+    let same = ap (λ (rows : List StopRow). length rows) c.items.ensures in
+    omega (arith, few, same)
 
 pub promote-requires-clause-whole : goal.promote-requires-clause-whole
 promote-requires-clause-whole c = after.all_whole c.args.script.now c.args.self.now (after.kept_of c.args.script.now c.args.self.now c.requires.can)
@@ -30,61 +33,120 @@ promote-requires-clause-whole c = after.all_whole c.args.script.now c.args.self.
 pub promote-requires-clause-stopped : goal.promote-requires-clause-stopped
 promote-requires-clause-stopped c =
     let b = begins c.args.script.now c.args.self.now c.requires.staged c.requires.can in
-    (stopped_in b.began b.state.world b.places (seen c.args.self.now), b.stopped)
+    (stopped_in b.began b.state b.places (seen c.args.self.now), b.stopped)
 
-pub overflow_cast-row : goal.overflow_cast-row
-overflow_cast-row c =
-    let b = begins c.args.script.now c.args.self.now c.requires.staged c.requires.can in
-    let few = b.few in
-    let stops = ap (λ (stops : List StopRow). length stops) (c.items.ensures ∙ ap (λ (x : Collector). x.stops) c.in_ok-promoted.ensures.promoted.rest) in
-    omega (arith, few, stops)
+pub add_remembered-requires : goal.add_remembered-requires
+add_remembered-requires c =
+    can_add c.args.script.now c.promote.new.self _ (steps.stands_first c.a_stop_leads.ensures c.args.script.now c.args.self.now c.promote.new.self c.requires.staged c.requires.can c.in_ok-promoted.ensures.promoted)
+
+pub close-requires-clause-can : goal.close-requires-clause-can
+close-requires-clause-can c =
+    c.a_stop_leads.ensures.close_ready c.args.script.now c.add_remembered.new.self _ c.requires.staged (steps.stands_within c.a_stop_leads.ensures c.args.script.now c.args.self.now c.promote.new.self c.requires.staged c.requires.can c.in_ok-promoted.ensures.promoted c.add_remembered.new.self c.add_remembered.ensures)
+
+pub begin-requires-clause-inside : goal.begin-requires-clause-inside
+begin-requires-clause-inside c =
+    words_inside c.args.script.now c.end.new.self _ (steps.stands_ended c.a_stop_leads.ensures c.args.script.now c.args.self.now c.promote.new.self c.requires.staged c.requires.can c.in_ok-promoted.ensures.promoted c.add_remembered.new.self c.add_remembered.ensures (length c.items.result.now) (ap (λ (rows : List StopRow). length rows) c.items.ensures) c.close.new.self c.close.ensures c.end.new.self c.in_ok-end.ensures)
+
+pub begin-requires-clause-whole : goal.begin-requires-clause-whole
+begin-requires-clause-whole c =
+    after.all_whole c.args.script.now c.end.new.self (steps.stands_ended c.a_stop_leads.ensures c.args.script.now c.args.self.now c.promote.new.self c.requires.staged c.requires.can c.in_ok-promoted.ensures.promoted c.add_remembered.new.self c.add_remembered.ensures (length c.items.result.now) (ap (λ (rows : List StopRow). length rows) c.items.ensures) c.close.new.self c.close.ensures c.end.new.self c.in_ok-end.ensures).kept
+
+pub begin-requires-clause-number : goal.begin-requires-clause-number
+begin-requires-clause-number c =
+    let few = (stop_fits c.args.script.now c.args.self.now c.requires.staged c.requires.can).begun in
+    let same = steps.begun_is c.a_stop_leads.ensures c.args.script.now c.args.self.now c.promote.new.self c.requires.staged c.requires.can c.in_ok-promoted.ensures.promoted c.add_remembered.new.self c.add_remembered.ensures (length c.items.result.now) (ap (λ (rows : List StopRow). length rows) c.items.ensures) c.close.new.self c.close.ensures c.end.new.self c.in_ok-end.ensures in
+    omega (arith, few, same)
+
+pub begin-requires-clause-can : goal.begin-requires-clause-can
+begin-requires-clause-can c =
+    c.a_stop_leads.ensures.begin_ready c.args.script.now c.end.new.self _ c.requires.staged (steps.stands_ended c.a_stop_leads.ensures c.args.script.now c.args.self.now c.promote.new.self c.requires.staged c.requires.can c.in_ok-promoted.ensures.promoted c.add_remembered.new.self c.add_remembered.ensures (length c.items.result.now) (ap (λ (rows : List StopRow). length rows) c.items.ensures) c.close.new.self c.close.ensures c.end.new.self c.in_ok-end.ensures)
+
+pub has_left-left-requires : goal.has_left-left-requires
+has_left-left-requires c =
+    (steps.led c.a_stop_leads.ensures c.args.script.now c.args.self.now c.promote.new.self c.requires.staged c.requires.can c.in_ok-promoted.ensures.promoted c.add_remembered.new.self c.add_remembered.ensures (length c.items.result.now) (ap (λ (rows : List StopRow). length rows) c.items.ensures) c.close.new.self c.close.ensures c.end.new.self c.in_ok-end.ensures c.begin.new.self c.in_ok-begin.ensures).stands.kept.positions_are
+
+-- what the stop did, what it read in the end, and why it answers as it does
+
+stepped : (c : goal.After-self-1) → IsStepped c.args.script.now c.args.self.now c.begin.new.self
+stepped c = record {
+  number = length c.items.result.now;
+  number_is = ap (λ (rows : List StopRow). length rows) c.items.ensures;
+  promoted = c.promote.new.self;
+  promotes = c.in_ok-promoted.ensures.promoted;
+  added = c.add_remembered.new.self;
+  adds = c.add_remembered.ensures;
+  closed = c.close.new.self;
+  closes = c.close.ensures;
+  ended = c.end.new.self;
+  ends = c.in_ok-end.ensures;
+  begins = c.in_ok-begin.ensures;
+}
+
+read : (c : goal.After-self-1) → IsRead c.args.script.now c.begin.new.self
+read c = record {
+  left = c.has_left-left.result;
+  left_is = c.has_left-left.ensures;
+  phase = c.phase.result;
+  phase_is = c.phase.ensures;
+  free = c.free_count-free.result;
+  free_is = c.free_count-free.ensures;
+  filled = c.filled_count.result;
+  filled_is = c.filled_count.ensures;
+  sweep = c.sweep_count.result;
+  sweep_is = c.sweep_count.ensures;
+  reserve = c.reserve-reserve.result;
+  reserve_is = c.reserve-reserve.ensures ∙ ap reserve_count c.layout.ensures.layout;
+}
+
+why : (c : goal.After-self-1) → Why c.args.script.now c.begin.new.self (read c) c.if-left.end
+unfolding read
+why c =
+    let because : StopEnd → Type 0 = λ (e : StopEnd). Why c.args.script.now c.begin.new.self (read c) e in
+    elim c.if-left.branch [
+      | then-left+then-free-reserve w ↦ subst because (sym w.end-is) (refl, refl, w.if-left.true, w.if-free-reserve.true)
+      | else-left+then-not-left+then-eq w ↦
+          let quiet = same_true the_type tt w.phase-then-not-left.result Idle (sym w.eq.ensures ∙ w.if-eq.true) in
+          subst because (sym w.end-is) (w.if-not-left.true, sym w.phase-then-not-left.ensures ∙ quiet)
+      | else-left+else-not-left w ↦
+          let goes_on : because answer.GoOn = elim w.else-left.branch [
+            | else-left-via-then-left+else-free-reserve v ↦ inl (v.if-left.true, v.if-free-reserve.false)
+            | else-left-via-else-left v ↦
+                let none : c.has_left-left.result ≡ false = v.if-left.false in
+                let busy : because answer.GoOn = elim w.else-not-left.branch [
+                  | else-not-left-via-then-not-left+else-eq u ↦ inr (none, λ e. same_false the_type u.phase-then-not-left.result Idle (sym u.eq.ensures ∙ u.if-eq.false) (u.phase-then-not-left.ensures ∙ e))
+                  | else-not-left-via-else-not-left u ↦
+                      let some : c.has_left-left.result ≡ true = u.if-not-left.false in
+                      absurd (true_isnt (sym some ∙ none))
+                ] in
+                busy
+          ] in
+          subst because (sym w.end-is) goes_on
+    ]
 
 pub returns-clause-answered : goal.returns-clause-answered
-returns-clause-answered c =
-    let script = c.args.script.now in
-    let old : Collector = c.args.self.now in
-    let mid : Collector = c.promote.new.self in
-    let p : HasPromoted old mid = c.in_ok-promoted.ensures.promoted in
-    let kept = after.kept_of script old c.requires.can in
-    let b : Begins script old = begins script old c.requires.staged c.requires.can in
-    let t : State = after.promoted script old mid kept b p in
-    let row : StopRow = record { number = length c.items.result.now; phase = Idle; free = c.free_count-free.result; filled = c.filled_count.result; sweep = c.sweep_count.result; promoted = c.in_ok-promoted.promoted } in
-    let stops_kept : mid.stops ≡ old.stops = ap (λ (x : Collector). x.stops) p.rest in
-    let stops_are : c.push.new.self ≡ old.stops ++ row ∷ [] = c.in_ok-push.ensures.ok ∙ ap (λ (stops : List StopRow). stops ++ row ∷ []) stops_kept in
-    let number : t.number ≡ length c.items.result.now = b.number ∙ sym (ap (λ (stops : List StopRow). length stops) (c.items.ensures ∙ stops_kept)) in
-    let shown : row ≡ stop_row t (after.count script old mid kept b p) = row_is t (after.count script old mid kept b p) (length c.items.result.now) c.free_count-free.result c.filled_count.result c.sweep_count.result c.in_ok-promoted.promoted mid.segments (words_in mid.words) (after.placed script old mid kept b p).2 b.quiet number c.free_count-free.ensures c.filled_count.ensures c.sweep_count.ensures c.in_ok-promoted.ensures.many in
-    let free_is = c.free_count-free.ensures ∙ counts_stand mid.segments (words_in mid.words) t.allocation stands.Free (after.placed script old mid kept b p).2 in
-    let reserve_is = c.reserve-reserve.ensures ∙ ap reserve_count (c.layout.ensures.layout ∙ after.layout_is script old mid kept b p) in
-    let told = subst (λ (x : Collector). IsTrue c.has_left.result ↔ SomeIsLeft script.threads x.positions.items) p.rest c.has_left.ensures in
-    let has : has_left t.left ≡ c.has_left.result = left_is script old.rounds b.state.left old.positions.items b.left kept.positions c.has_left.result told in
-    let stops : List StopRow = c.push.new.self in
-    let answered : Option End = c.ended-self.result in
-    let e : StopEnd = c.if-not-has_left.end in
-    let answered_is : answered ≡ ended_by e = c.ended-self.ensures in
-    let last : Collector = left script old mid c.requires.staged kept b p c.places_are_blocks.ensures.back stops answered row stops_are shown in
-    let free : ℕ = c.free_count-free.result in
-    let reserve : ℕ = c.reserve-reserve.result in
-    let answers : StopEnd → Type 0 = λ (x : StopEnd). HasAnswered script last x in
-    let is : HasAnswered script last e =
-    elim c.if-not-has_left.branch [
-      | then-not-has_left w ↦
-          let none : c.has_left.result ≡ false = w.if-not-has_left.true in
-          subst answers (sym w.end-is) (done script old mid c.requires.staged kept b p c.places_are_blocks.ensures.back stops answered row stops_are shown (has ∙ none) (answered_is ∙ ap ended_by w.end-is))
-      | else-not-has_left+then-free-reserve w ↦
-          let some : c.has_left.result ≡ true = w.if-not-has_left.false in
-          subst answers (sym w.end-is) (full script old mid c.requires.staged kept b p c.places_are_blocks.ensures.back stops answered row stops_are shown free reserve (has ∙ some) free_is reserve_is w.if-free-reserve.true (answered_is ∙ ap ended_by w.end-is))
-      | else-not-has_left+else-free-reserve w ↦
-          let some : c.has_left.result ≡ true = w.if-not-has_left.false in
-          subst answers (sym w.end-is) (goes_on script old mid c.requires.staged kept b p c.places_are_blocks.ensures.back stops answered row stops_are shown free reserve (has ∙ some) free_is reserve_is w.if-free-reserve.false (answered_is ∙ ap ended_by w.end-is))
-    ] in
-    subst (λ (x : Collector). HasAnswered script (record x { stops = stops; answered = answered }) e) (sym p.rest) is
+unfolding stepped read
+returns-clause-answered c = has_answered c.a_stop_leads.ensures c.args.script.now c.args.self.now c.begin.new.self c.requires.staged (stepped c) (read c) c.in_ok-promoted.promoted c.in_ok-promoted.ensures.many c.push.new.self c.ended-self.result c.in_ok-push.ensures.ok c.requires.can c.if-left.end (why c) c.ended-self.ensures
+
+pub returns-clause-after : goal.returns-clause-after
+unfolding stepped read
+returns-clause-after c = stops_after c.a_stop_leads.ensures c.args.script.now c.args.self.now c.begin.new.self c.requires.staged (stepped c) (read c) c.in_ok-promoted.promoted c.in_ok-promoted.ensures.many c.push.new.self c.ended-self.result c.in_ok-push.ensures.ok c.if-left.end (why c) c.ended-self.ensures
+
+pub returns-clause-done : goal.returns-clause-done
+returns-clause-done c =
+    let h = done_where c.args.script.now c.begin.new.self (read c) c.if-left.end (why c) in
+    (λ e. let d = h.0 e in (d.0, d.1), λ d. h.1 (d.0, d.1))
+
+pub returns-clause-full : goal.returns-clause-full
+returns-clause-full c = λ free reserve.
+    let h = full_where c.args.script.now c.begin.new.self (read c) c.if-left.end (why c) free reserve in
+    (λ e. let f = h.0 e in record { left = f.left; free_is = f.free_is; reserve_is = f.reserve_is; less = f.less }, λ f. h.1 (record { left = f.left; free_is = f.free_is; reserve_is = f.reserve_is; less = f.less }))
 
 pub returns-clause-world : goal.returns-clause-world
 returns-clause-world c =
-    let script = c.args.script.now in
-    let old : Collector = c.args.self.now in
-    let mid : Collector = c.promote.new.self in
-    let p : HasPromoted old mid = c.in_ok-promoted.ensures.promoted in
-    let lists = after.lists script old mid (after.kept_of script old c.requires.can) (begins script old c.requires.staged c.requires.can) p in λ t h.
-    subst (λ (registers : List ℕ). IsSettled t mid.segments (words_in mid.words) registers (queues_of mid.mutators.items) (moves_of mid)) (sym lists.registers_are)
-    (subst (λ (queues : List (List ℕ)). IsSettled t mid.segments (words_in mid.words) p.registers queues (moves_of mid)) (sym lists.queues_are) (p.settled t h))
+    steps.world_kept c.a_stop_leads.ensures c.args.script.now c.args.self.now c.promote.new.self c.requires.staged c.requires.can c.in_ok-promoted.ensures.promoted c.add_remembered.new.self c.add_remembered.ensures (length c.items.result.now) (ap (λ (rows : List StopRow). length rows) c.items.ensures) c.close.new.self c.close.ensures c.end.new.self c.in_ok-end.ensures c.begin.new.self c.in_ok-begin.ensures
+
+pub returns-clause-stops : goal.returns-clause-stops
+returns-clause-stops c =
+    let row : StopRow = record { number = length c.items.result.now; phase = c.phase.result; free = c.free_count-free.result; filled = c.filled_count.result; sweep = c.sweep_count.result; promoted = c.in_ok-promoted.promoted } in
+    let before = steps.stops_are c.a_stop_leads.ensures c.args.script.now c.args.self.now c.promote.new.self c.requires.staged c.requires.can c.in_ok-promoted.ensures.promoted c.add_remembered.new.self c.add_remembered.ensures (length c.items.result.now) (ap (λ (rows : List StopRow). length rows) c.items.ensures) c.close.new.self c.close.ensures c.end.new.self c.in_ok-end.ensures c.begin.new.self c.in_ok-begin.ensures in
+    (row, c.in_ok-push.ensures.ok ∙ ap (λ (rows : List StopRow). rows ++ row ∷ []) before)

@@ -1,0 +1,244 @@
+-- Once what was remembered was added, the collector stands for the same state, and nothing is remembered.
+use Rattle.std.proofs.Common.{ℕ, ◌≡◌, List, [], ◌∷◌, ◌++◌, length, map, refl, sym, ap, subst, ◌∙◌, arith, Some, Global}
+use Rattle.std.specs.Prelude.{All, slice_get}
+use Rattle.std.specs.declared.vec.Vec.{Vec}
+use Rattle.std.proofs.lemmas.List.{length-map}
+use Rattle.nmgc_object.specs.declared.layout.Layout.{Layout}
+use Rattle.nmgc_object.specs.declared.layout.Nursery.{Nursery}
+use Rattle.nmgc_alloc.specs.AllocState.{StandsFor}
+use Rattle.nmgc_alloc.specs.Segments.{Segments, IsSegments}
+use Rattle.nmgc_heap.specs.Roots.{RepresentsRoots}
+use Rattle.nmgc_heap.specs.laws.Kinds.{map_item}
+use Rattle.nmgc_blocks.specs.Nurseries.{AreEmpty}
+use Rattle.nmgc_journal.specs.declared.report.MutatorEnd.{MutatorEnd}
+use Rattle.nmgc_journal.specs.declared.report.Phase.TheVariants as phase
+use Rattle.nmgc_mark.specs.Tie.{IsTied, with_places}
+use Rattle.nmgc_minor.specs.Promotion.{IsFor}
+use Rattle.nmgc_mutator.specs.Records.{numbers}
+use Rattle.nmgc_mutator.specs.declared.mutator.Mutator.{Mutator}
+use Rattle.nmgc_round.specs.Marking.{Marks}
+use Rattle.nmgc_round.specs.View.{Opening}
+use Rattle.nmgc_script.specs.declared.script.Script.{Script}
+use Rattle.nmgc_run.specs.Collector.{AreNurseries, HoldsInCycle, IsAtRest, IsMarking}
+use Rattle.nmgc_run.specs.Heap.{HoldsAtStop, HasAllRegisters, registers_of, queues_of, serials_of}
+use Rattle.nmgc_run.specs.Marker.{HasRoomToMark}
+use Rattle.nmgc_run.specs.Seen.{MarkerSeen, MutatorSeen, end_of, ends_of, nurseries_of}
+use Rattle.nmgc_run.specs.State.{State, Cycle, Progress, idle, marking, sweeping, phase_of, plan_of, layout_of}
+use Rattle.nmgc_beside.specs.Calls.{all_entries, AddIsMarking}
+use Rattle.nmgc_beside.specs.Closes.{ClosingIsSoon, ClosingIsPaced}
+use Rattle.nmgc_beside.specs.Keeps.{HasLeft, PaceAtStop}
+use Rattle.nmgc_beside.specs.Sweeps.{MarkedWait}
+use Rattle.nmgc_sweep.specs.Statements.{LeftStays}
+use Rattle.nmgc_cycle.specs.declared.collector.Collector.{Collector}
+use Rattle.nmgc_cycle.specs.declared.progress.Marking.{Marking}
+use Rattle.nmgc_cycle.specs.declared.progress.Progress.{Progress as Doing}
+use Rattle.nmgc_cycle.specs.declared.progress.Progress.TheVariants as doing
+use Rattle.nmgc_cycle.specs.Cycles.{AddsTo, CanAdd, HasAdded, HasTaken, forgetting, remembered_by}
+use Rattle.nmgc_cycle.specs.Keeps.{IsKept, IsOwn, Sweeps}
+use Rattle.nmgc_cycle.specs.Shown.{seen, seen_mutator, marker_in, phase_in}
+use Rattle.nmgc_cycle.specs.Steps.{StandsPromoted, StandsWithin, IsPacedPromoted, IsPacedWithin, AddingLeads}
+use Rattle.nmgc_cycle.proofs.Pacing.{paced_within}
+use Rattle.nmgc_cycle.proofs.RootLists.{seen_at}
+
+-- the laws on which adding rests
+pub record HasAddingLaws : Type 0 where
+  pub marking : AddIsMarking
+  pub soon : ClosingIsSoon
+  pub paced : ClosingIsPaced
+  pub pace : PaceAtStop
+  pub waits : MarkedWait
+  pub left : LeftStays
+
+-- of mutators that forgot, contracts see the same but for what they remembered
+forgot_ends : (ms : List Mutator) → map end_of (map seen_mutator (map forgetting ms)) ≡ map end_of (map seen_mutator ms)
+forgot_ends [] = refl
+forgot_ends (m ∷ ms) = ap (λ (l : List MutatorEnd). end_of (seen_mutator m) ∷ l) (forgot_ends ms)
+
+forgot_nurseries : (ms : List Mutator) → map (λ (m : MutatorSeen). m.nursery) (map seen_mutator (map forgetting ms)) ≡ map (λ (m : MutatorSeen). m.nursery) (map seen_mutator ms)
+forgot_nurseries [] = refl
+forgot_nurseries (m ∷ ms) = ap (λ (l : List Nursery). m.nursery ∷ l) (forgot_nurseries ms)
+
+entries_are : (ms : List Mutator) → remembered_by ms ≡ all_entries (map seen_mutator ms)
+entries_are [] = refl
+entries_are (m ∷ ms) = ap (λ (l : List ℕ). numbers m.updrem.items ++ l) (entries_are ms)
+
+-- whatever was added, but for the cycle
+module _ (script : Script) (old : Collector) (s : State) (h : StandsPromoted script old s) (segments : Segments) (p : Doing) (mutators : Vec Mutator Global)
+    (forgot : mutators.items ≡ map forgetting old.mutators.items)
+    (phases : phase_in p ≡ phase_in old.progress)
+    (layout : segments.layout ≡ old.segments.layout)
+    (sound : IsSegments segments)
+    (stands : StandsFor segments (seen old).words s.allocation) where
+  abbrev then : Collector
+  then = record old { segments = segments; progress = p; mutators = mutators }
+
+  ends_are : ends_of (seen then) ≡ ends_of (seen old)
+  ends_are = ap (λ (l : List Mutator). map end_of (map seen_mutator l)) forgot ∙ forgot_ends old.mutators.items
+
+  nurseries_are : nurseries_of (seen then) ≡ nurseries_of (seen old)
+  nurseries_are = ap (λ (l : List Mutator). map (λ (m : MutatorSeen). m.nursery) (map seen_mutator l)) forgot ∙ forgot_nurseries old.mutators.items
+
+  -- a mutator is one that forgot
+  one_forgot : (k : ℕ) (m : Mutator) → slice_get mutators.items k ≡ Some m → (was : Mutator) × (slice_get old.mutators.items k ≡ Some was) × (m ≡ forgetting was)
+  one_forgot k m e = map_item forgetting old.mutators.items k m (ap (λ (l : List Mutator). slice_get l k) (sym forgot) ∙ e)
+
+  pub at_rest : (k : ℕ) (m : MutatorSeen) → slice_get (seen then).mutators k ≡ Some m → IsAtRest m
+  at_rest k m e =
+      let x = map_item seen_mutator mutators.items k m e in
+      let was = one_forgot k x.0 x.1 in
+      let left = h.rest k (seen_mutator was.0) (seen_at old.mutators.items k was.0 was.1) in
+      subst IsAtRest (sym (x.2 ∙ ap seen_mutator was.2)) (record { recorded = left.recorded; young_weaks = left.young_weaks; entries = refl })
+
+  own : (k : ℕ) (m : Mutator) → slice_get mutators.items k ≡ Some m → IsOwn then k m
+  own k m e =
+      let was = one_forgot k m e in
+      let o = h.kept.own k was.0 was.1 in
+      subst (λ (x : Mutator). IsOwn then k x) (sym was.2) (record {
+        number = o.number;
+        layout = o.layout ∙ sym layout;
+        whole = record { layout = o.whole.layout; number = o.whole.number; size = o.whole.size };
+        no_replies = o.no_replies;
+      })
+
+  kept : IsKept script then
+  kept = record {
+    layout = layout ∙ h.kept.layout;
+    sound = sound;
+    lists = subst (λ (l : Layout). IsFor l old.promotion) (sym layout) h.kept.lists;
+    has_words = h.kept.has_words;
+    list = h.kept.list;
+    count = ap (λ (l : List Mutator). length l) forgot ∙ length-map old.mutators.items forgetting ∙ h.kept.count;
+    own = own;
+    positions_are = h.kept.positions_are;
+    positions = h.kept.positions;
+    no_ends = h.kept.no_ends;
+    room = h.kept.room;
+  }
+
+  abbrev heap : HoldsAtStop (layout_of (plan_of script)) s (seen then).words segments (ends_of (seen then)) []
+  heap = record {
+    places = h.heap.places;
+    all = h.heap.all;
+    holds = record {
+      fit = h.heap.holds.fit;
+      represents = h.heap.holds.represents;
+      registers = subst (λ (es : List MutatorEnd). All HasAllRegisters es) (sym ends_are) h.heap.holds.registers;
+      roots = subst (λ (es : List MutatorEnd). RepresentsRoots h.heap.places s.world (registers_of es) (queues_of es) (serials_of es)) (sym ends_are) h.heap.holds.roots;
+      layout_is = layout ∙ h.heap.holds.layout_is;
+      stands = stands;
+    };
+    listed = h.heap.listed;
+  }
+
+  pub stands_within : HoldsInCycle (λ (k : Cycle). IsPacedWithin script.config.quota k s (seen then)) s.progress s (seen then) h.heap.places → Sweeps s.progress s then → StandsWithin script then s
+  stands_within cycle sweeper = record {
+    kept = kept;
+    sound = h.sound;
+    course = h.course;
+    matches = record { phase = phases ∙ h.matches.phase; begun = h.matches.begun; collect = h.matches.collect; full = h.matches.full };
+    heap = heap;
+    nurseries = subst (λ (ns : List Nursery). AreNurseries (layout_of (plan_of script)) h.heap.places s.world ns) (sym nurseries_are) h.nurseries;
+    empty = subst AreEmpty (sym nurseries_are) h.empty;
+    rest = at_rest;
+    cycle = cycle;
+    weakless = h.weakless;
+    sweeper = sweeper;
+  }
+
+-- where no cycle marks
+
+unmarked_cycle : (script : Script) (old : Collector) (s : State) (mutators : Vec Mutator Global) (q : Progress) → ((k : Cycle) → q ≡ marking k → ⊥) → (places : _) → HoldsInCycle (λ (k : Cycle). IsPacedPromoted script.config.quota k s (seen old)) q s (seen old) places → HoldsInCycle (λ (k : Cycle). IsPacedWithin script.config.quota k s (seen (record old { mutators = mutators }))) q s (seen (record old { mutators = mutators })) places
+unmarked_cycle script old s mutators idle never places h = h
+unmarked_cycle script old s mutators (marking k) never places h = absurd (never k refl)
+unmarked_cycle script old s mutators (sweeping k closed) never places h = h
+
+unmarked_sweeper : (old : Collector) (s : State) (mutators : Vec Mutator Global) (q : Progress) → ((k : Cycle) → q ≡ marking k → ⊥) → Sweeps q s old → Sweeps q s (record old { mutators = mutators })
+unmarked_sweeper old s mutators idle never h = tt
+unmarked_sweeper old s mutators (marking k) never h = absurd (never k refl)
+unmarked_sweeper old s mutators (sweeping k closed) never h = (record { notes = h.0.notes; left = h.0.left }, h.1)
+
+module _ (script : Script) (old new : Collector) (s : State) (h : StandsPromoted script old s) (taken : HasTaken old new) where
+  unmarked : ((k : Cycle) → s.progress ≡ marking k → ⊥) → new.progress ≡ old.progress → new.segments ≡ old.segments → StandsWithin script new s
+  unmarked never progress segments =
+      let is : new ≡ record old { mutators = new.mutators } =
+      taken.rest
+      ∙ ap (λ (g : Segments). record old { segments = g; progress = new.progress; mutators = new.mutators }) segments
+      ∙ ap (λ (d : Doing). record old { progress = d; mutators = new.mutators }) progress in
+      subst (λ (c : Collector). StandsWithin script c s) (sym is)
+      (stands_within script old s h old.segments old.progress new.mutators taken.mutators refl refl h.kept.sound h.heap.holds.stands
+      (unmarked_cycle script old s new.mutators s.progress never h.heap.places h.cycle)
+      (unmarked_sweeper old s new.mutators s.progress never h.sweeper))
+
+-- where one does
+
+module _ (laws : HasAddingLaws) (script : Script) (was : Collector) (r : State) (m : Marking) (k : Cycle)
+    (h : StandsPromoted script (record was { progress = doing.Marking m }) (record r { progress = marking k }))
+    (segments : Segments) (marker : MarkerSeen) (mutators : Vec Mutator Global)
+    (forgot : mutators.items ≡ map forgetting was.mutators.items)
+    (added : HasAdded (remembered_by was.mutators.items) was.segments segments m.marker marker)
+    (sound : IsSegments segments) where
+  abbrev old : Collector
+  old = record was { progress = doing.Marking m }
+
+  abbrev s : State
+  s = record r { progress = marking k }
+
+  abbrev c : Collector
+  c = record was { segments = segments; progress = doing.Marking (record m { marker = marker }); mutators = mutators }
+
+  stands : StandsFor segments (seen old).words s.allocation
+  stands = added.marked.stands (seen old).words s.allocation h.heap.holds.stands
+
+  marks : IsMarking k s (seen c) h.heap.places
+  marks =
+      let left : HasLeft k (seen old) (seen c) = record { cycle = refl; sweeper = refl; queue_room = λ n mutator e. omega arith } in
+      let count : length (seen old).mutators ≡ length s.world.mutators = length-map was.mutators.items seen_mutator ∙ h.kept.count ∙ sym h.sound.able.mutators in
+      let tied : (o : Opening) (l : Marks) → IsTied o l was.segments m.marker → IsTied o (with_places o l (all_entries (seen old).mutators)) segments marker = λ o l x. subst (λ (entries : List ℕ). IsTied o (with_places o l entries) segments marker) (entries_are was.mutators.items) (added.tied o l x) in
+      laws.marking (layout_of (plan_of script)) k s (seen old) (seen c) (seen old).words (ends_of (seen old)) [] h.heap h.kept.sound sound h.sound.cycle.0 count h.cycle.0 added.marked tied left (λ n mutator e. (at_rest script old s h segments (doing.Marking (record m { marker = marker })) mutators forgot refl added.marked.layout sound stands n mutator e).entries)
+
+  paced : IsPacedWithin script.config.quota k s (seen c)
+  paced = paced_within laws.soon laws.paced laws.pace script.config.quota k s (seen old) (seen c) s.allocation h.heap.places h.cycle.0.core h.sound.cycle.0 h.cycle.0.machine h.cycle.0.tied h.cycle.1.later h.cycle.1.paced added.marked.scanned.pace added.marked.scanned.grows refl
+
+  marked : StandsWithin script c s
+  marked =
+      let waits = laws.waits was.segments segments (seen old).words (seen old).words s.allocation h.heap.holds.stands stands in
+      stands_within script old s h segments (doing.Marking (record m { marker = marker })) mutators forgot refl added.marked.layout sound stands
+      (marks, paced)
+      (record { notes = h.sweeper.0.notes; left = laws.left was.segments segments m.sweeper.left waits h.sweeper.0.left }, h.sweeper.1, h.sweeper.2)
+
+module _ (laws : HasAddingLaws) (script : Script) (old new : Collector) (s : State) (h : StandsPromoted script old s) (taken : HasTaken old new) where
+  by_case : (p : Doing) (q : Progress) → old.progress ≡ p → s.progress ≡ q → phase_in p ≡ phase_of q → AddsTo (remembered_by old.mutators.items) old.segments new.segments p new.progress → StandsWithin script new s
+  by_case doing.Idle idle at is e step = unmarked script old new s h taken (λ k marks. let bad : idle ≡ marking k = sym is ∙ marks in cc) (step.0 ∙ sym at) step.1
+  by_case doing.Idle (marking k) at is e step = absurd (let bad : phase.Idle ≡ phase.Marking = e in cc)
+  by_case doing.Idle (sweeping k closed) at is e step = absurd (let bad : phase.Idle ≡ phase.Sweeping = e in cc)
+  by_case (doing.Marking m) idle at is e step = absurd (let bad : phase.Marking ≡ phase.Idle = e in cc)
+  by_case (doing.Marking m) (marking k) at is e step =
+      let own : StandsPromoted script (record old { progress = doing.Marking m }) (record s { progress = marking k }) =
+      subst (λ (d : Doing). StandsPromoted script (record old { progress = d }) (record s { progress = marking k })) at
+      (subst (λ (q : Progress). StandsPromoted script old (record s { progress = q })) is h) in
+      let then = marked laws script old s m k own new.segments step.0 new.mutators taken.mutators step.2 step.3 in
+      let same : new ≡ record old { segments = new.segments; progress = doing.Marking (record m { marker = step.0 }); mutators = new.mutators } = taken.rest ∙ ap (λ (d : Doing). record old { segments = new.segments; progress = d; mutators = new.mutators }) step.1 in
+      subst (λ (c : Collector). StandsWithin script c s) (sym same)
+      (subst (λ (q : Progress). StandsWithin script (record old { segments = new.segments; progress = doing.Marking (record m { marker = step.0 }); mutators = new.mutators }) (record s { progress = q })) (sym is) then)
+  by_case (doing.Marking m) (sweeping k closed) at is e step = absurd (let bad : phase.Marking ≡ phase.Sweeping = e in cc)
+  by_case (doing.Sweeping w) idle at is e step = absurd (let bad : phase.Sweeping ≡ phase.Idle = e in cc)
+  by_case (doing.Sweeping w) (marking k) at is e step = absurd (let bad : phase.Sweeping ≡ phase.Marking = e in cc)
+  by_case (doing.Sweeping w) (sweeping k closed) at is e step = unmarked script old new s h taken (λ r marks. let bad : sweeping k closed ≡ marking r = sym is ∙ marks in cc) (step.0 ∙ sym at) step.1
+
+pub adding_leads : HasAddingLaws → AddingLeads
+adding_leads laws script old new s staged h taken =
+    let phases : phase_in old.progress ≡ phase_of s.progress = h.matches.phase in
+    by_case laws script old new s h taken old.progress s.progress refl refl phases taken.adds
+
+-- after the promotion a marker has room for what is to be added
+pub can_add : (script : Script) (c : Collector) (s : State) → StandsPromoted script c s → CanAdd c.segments c.progress
+can_add script c s h = by c.progress s.progress refl refl h.matches.phase
+  where
+    by : (p : Doing) (q : Progress) → c.progress ≡ p → s.progress ≡ q → phase_in p ≡ phase_of q → CanAdd c.segments p
+    by doing.Idle q at is e = tt
+    by (doing.Marking m) idle at is e = absurd (let bad : phase.Marking ≡ phase.Idle = e in cc)
+    by (doing.Marking m) (marking k) at is e =
+        let cycle = subst (λ (q : Progress). HoldsInCycle (λ (r : Cycle). IsPacedPromoted script.config.quota r s (seen c)) q s (seen c) h.heap.places) is h.cycle in
+        subst (λ (d : Doing). HasRoomToMark c.segments (marker_in d)) at cycle.0.room
+    by (doing.Marking m) (sweeping k closed) at is e = absurd (let bad : phase.Marking ≡ phase.Sweeping = e in cc)
+    by (doing.Sweeping w) q at is e = tt

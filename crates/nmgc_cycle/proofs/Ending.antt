@@ -1,0 +1,182 @@
+-- The end of a cycle at a stop: its row tells its census, and the collector stands for the state in which none is in progress.
+use Rattle.std.proofs.Common.{ℕ, ◌≡◌, List, [], ◌∷◌, ◌++◌, refl, sym, ap, subst, ◌∙◌, arith, inl, inr, append-nil}
+use Rattle.nmgc_graph.specs.World.{World}
+use Rattle.nmgc_alloc.specs.AllocState.{AllocState, StandsFor, NoneIs, IsIn}
+use Rattle.nmgc_alloc.specs.Segments.{Segments, HasNone}
+use Rattle.nmgc_alloc.specs.declared.search.Wanted.TheVariants as wanted
+use Rattle.nmgc_alloc.specs.laws.Sweeping.{none_to_sweep}
+use Rattle.nmgc_segment.specs.declared.state.State.TheVariants as stands
+use Rattle.nmgc_heap.specs.Represents.{Represents, NoNode}
+use Rattle.nmgc_heap.specs.Tracked.{IsTracked}
+use Rattle.nmgc_journal.specs.declared.report.CycleRow.{CycleRow}
+use Rattle.nmgc_journal.specs.declared.report.Phase.TheVariants as phase
+use Rattle.nmgc_run.specs.Census.{IsCensus}
+use Rattle.nmgc_run.specs.Collector.{HoldsInCycle, IsPacedAtStop}
+use Rattle.nmgc_run.specs.Course.{IsInCourse}
+use Rattle.nmgc_run.specs.Heap.{HoldsAtStop, snapshots}
+use Rattle.nmgc_run.specs.Seen.{ends_of}
+use Rattle.nmgc_run.specs.Sound.{IsSoundState}
+use Rattle.nmgc_run.specs.State.{State, Cycle, Plan, Progress, idle, marking, sweeping, phase_of, plan_of, layout_of}
+use Rattle.nmgc_run.specs.Stop.{EndsOrWaits, IsSwept}
+use Rattle.nmgc_script.specs.declared.script.Script.{Script}
+use Rattle.nmgc_sweep.specs.Statements.{EndTellsCensus, TellsCensus}
+use Rattle.nmgc_sweep.specs.Sweeper.{AreLeft}
+use Rattle.nmgc_sweep.specs.Work.{IsAtWork}
+use Rattle.nmgc_cycle.specs.declared.collector.Collector.{Collector}
+use Rattle.nmgc_cycle.specs.declared.progress.Progress.{Progress as Doing}
+use Rattle.nmgc_cycle.specs.declared.progress.Progress.TheVariants as doing
+use Rattle.nmgc_cycle.specs.declared.progress.Sweeping.{Sweeping}
+use Rattle.nmgc_cycle.specs.Cycles.{row_of, Ends}
+use Rattle.nmgc_cycle.specs.Keeps.{IsKept, Sweeps}
+use Rattle.nmgc_cycle.specs.Shown.{seen, sweeper_in, cycle_in, phase_in}
+use Rattle.nmgc_cycle.specs.Steps.{StandsAt, EndLeads}
+use Rattle.nmgc_reach.specs.laws.ItemLaws.{nothing_in}
+
+-- the collector once the cycle has ended, and its state
+abbrev pub ended : Collector → ℕ → CycleRow → Collector
+ended c turns row = record c { progress = doing.Idle; turns = turns; cycles = c.cycles ++ row ∷ [] }
+
+abbrev pub idled : State → State
+idled s = record s { progress = idle }
+
+still_kept : (script : Script) (c : Collector) (turns : ℕ) (row : CycleRow) → IsKept script c → IsKept script (ended c turns row)
+still_kept script c turns row k = record {
+  layout = k.layout;
+  sound = k.sound;
+  lists = k.lists;
+  has_words = k.has_words;
+  list = k.list;
+  count = k.count;
+  own = λ n m e. let o = k.own n m e in record { number = o.number; layout = o.layout; whole = o.whole; no_replies = o.no_replies };
+  positions_are = k.positions_are;
+  positions = k.positions;
+  no_ends = k.no_ends;
+  room = k.room;
+}
+
+module _ (script : Script) (c : Collector) (s : State) (h : StandsAt script c s) (w : Sweeping) (at : c.progress ≡ doing.Sweeping w) (k : Cycle) (closed : ℕ) (is : s.progress ≡ sweeping k closed) where
+  abbrev plan : Plan
+  plan = plan_of script
+
+  none : snapshots s.progress ≡ []
+  none = ap snapshots is
+
+  sound : IsSoundState plan (idled s)
+  sound = record {
+    world = h.sound.world;
+    able = record { programs = h.sound.able.programs; mutators = h.sound.able.mutators; registers = h.sound.able.registers; serials = h.sound.able.serials };
+    filed = h.sound.filed;
+    known = h.sound.known;
+    cycle = tt;
+    earlier = λ e there. absurd (nothing_in e there);
+    blocks = λ name tracked other. h.sound.blocks name (subst (λ (l : List World). IsTracked s.world l name) (sym none) tracked) other;
+  }
+
+  heap : HoldsAtStop (layout_of plan) (idled s) (seen c).words c.segments (ends_of (seen c)) []
+  heap = record {
+    places = h.heap.places;
+    all = h.heap.all;
+    holds = record {
+      fit = h.heap.holds.fit;
+      represents = subst (λ (l : List World). Represents (layout_of plan) l NoNode h.heap.places s.world (seen c).words) none h.heap.holds.represents;
+      registers = h.heap.holds.registers;
+      roots = h.heap.holds.roots;
+      layout_is = h.heap.holds.layout_is;
+      stands = h.heap.holds.stands;
+    };
+    listed = h.heap.listed;
+  }
+
+  swept_by : Sweeps (sweeping k closed) s c
+  swept_by = subst (λ (q : Progress). Sweeps q s c) is h.sweeper
+
+  left : AreLeft c.segments w.sweeper.left
+  left = subst (λ (p : Doing). AreLeft c.segments (sweeper_in p).left) at swept_by.0.left
+
+  work : IsAtWork k closed (seen c).words s.allocation c.segments (cycle_in (doing.Sweeping w)) w.sweeper
+  work = subst (λ (p : Doing). IsAtWork k closed (seen c).words s.allocation c.segments (cycle_in p) (sweeper_in p)) at swept_by.1
+
+  course : IsInCourse (sweeping k closed) s.number s.begun s.allocation
+  course = subst (λ (q : Progress). IsInCourse q s.number s.begun s.allocation) is h.course
+
+  abbrev pub row : CycleRow
+  row = row_of c.begun s.number w
+
+  census : EndTellsCensus → IsSwept s → IsCensus k closed s.number row
+  census law swept =
+      let told : TellsCensus k w.sweeper = law k closed (seen c).words s.allocation c.segments (cycle_in (doing.Sweeping w)) w.sweeper work left swept in
+      record {
+        number = h.matches.begun ∙ sym course.0.number_is;
+        from = work.sweeping.from_is;
+        closed_at = work.sweeping.closed_is;
+        ended_at = refl;
+        swept = told.swept;
+        had = told.had;
+        freed = told.freed;
+        dead = work.sweeping.dead;
+        kept = work.sweeping.kept;
+      }
+
+  stands_then : (turns : ℕ) → IsSwept s → StandsAt script (ended c turns row) (idled s)
+  unfolding heap
+  stands_then turns swept = record {
+    kept = still_kept script c turns row h.kept;
+    sound = sound;
+    course = swept;
+    matches = record { phase = refl; begun = h.matches.begun; collect = h.matches.collect; full = h.matches.full };
+    heap = heap;
+    nurseries = h.nurseries;
+    empty = h.empty;
+    rest = h.rest;
+    cycle = (subst (λ (q : Progress). HoldsInCycle (λ (r : Cycle). IsPacedAtStop script.config.quota r s (seen c)) q s (seen c) h.heap.places) is h.cycle).1;
+    weakless = record { world = h.weakless.world; snapshot = λ e there. absurd (nothing_in e there) };
+    sweeper = tt;
+  }
+
+  -- the cycle ended
+  pub ends_now : EndTellsCensus → (new : Collector) → HasNone wanted.Sweeping c.segments → new ≡ ended c new.turns row → (t : State) × (rows : List CycleRow) × EndsOrWaits s.progress s t rows × (new.cycles ≡ c.cycles ++ rows) × StandsAt script new t
+  ends_now law new waits new_is =
+      let swept : IsSwept s = none_to_sweep c.segments (seen c).words s.allocation h.heap.holds.stands waits in (
+        idled s,
+        row ∷ [],
+        subst (λ (q : Progress). EndsOrWaits q s (idled s) (row ∷ [])) (sym is) (inl (swept, record { row = row; census = census law swept; told = refl; rest = refl })),
+        ap (λ (x : Collector). x.cycles) new_is,
+        subst (λ (x : Collector). StandsAt script x (idled s)) (sym new_is) (stands_then new.turns swept),
+      )
+
+-- where no segment waits by the allocation state, none does
+none_back : (segments : Segments) (words : List ℕ) (a : AllocState) → StandsFor segments words a → NoneIs (IsIn stands.Sweeping) a → HasNone wanted.Sweeping segments
+none_back segments words a st none i lt waits = none i (let count = st.count in omega (arith, count, lt)) ((st.shows i lt).state ∙ waits)
+
+module _ (law : EndTellsCensus) (script : Script) (old new : Collector) (s : State) (h : StandsAt script old s) where
+  abbrev Leads : Type 0
+  Leads = (t : State) × (rows : List CycleRow) × EndsOrWaits s.progress s t rows × (new.cycles ≡ old.cycles ++ rows) × StandsAt script new t
+
+  stays : (q : Progress) → s.progress ≡ q → EndsOrWaits q s s [] → new ≡ old → Leads
+  stays q is waits same = (
+    s,
+    [],
+    subst (λ (p : Progress). EndsOrWaits p s s []) (sym is) waits,
+    ap (λ (x : Collector). x.cycles) same ∙ sym (append-nil old.cycles),
+    subst (λ (x : Collector). StandsAt script x s) (sym same) h,
+  )
+
+  by_case : (p : Doing) (q : Progress) → old.progress ≡ p → s.progress ≡ q → phase_in p ≡ phase_of q → Ends s.number p old new → Leads
+  by_case doing.Idle idle at is e step = stays idle is (refl, refl) step
+  by_case doing.Idle (marking k) at is e step = absurd (let bad : phase.Idle ≡ phase.Marking = e in cc)
+  by_case doing.Idle (sweeping k closed) at is e step = absurd (let bad : phase.Idle ≡ phase.Sweeping = e in cc)
+  by_case (doing.Marking m) idle at is e step = absurd (let bad : phase.Marking ≡ phase.Idle = e in cc)
+  by_case (doing.Marking m) (marking k) at is e step = stays (marking k) is (refl, refl) step
+  by_case (doing.Marking m) (sweeping k closed) at is e step = absurd (let bad : phase.Marking ≡ phase.Sweeping = e in cc)
+  by_case (doing.Sweeping w) idle at is e step = absurd (let bad : phase.Sweeping ≡ phase.Idle = e in cc)
+  by_case (doing.Sweeping w) (marking k) at is e step = absurd (let bad : phase.Sweeping ≡ phase.Marking = e in cc)
+  by_case (doing.Sweeping w) (sweeping k closed) at is e step = elim step [
+    | inl x ↦ ends_now script old s h w at k closed is law new x.0 x.1
+    | inr x ↦ stays (sweeping k closed) is (inr ((λ swept. x.0 (none_back old.segments (seen old).words s.allocation h.heap.holds.stands swept)), refl, refl)) x.1
+  ]
+
+-- so it is at every stop
+pub end_leads : EndTellsCensus → EndLeads
+end_leads law script old new s staged h step =
+    let phases : phase_in old.progress ≡ phase_of s.progress = h.matches.phase in
+    by_case law script old new s h old.progress s.progress refl refl phases step

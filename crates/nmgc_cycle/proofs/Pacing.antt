@@ -1,0 +1,24 @@
+-- The pace of marking within a stop.
+use Rattle.std.proofs.Common.{ℕ, ◌≡◌, ◌+◌, ◌≤◌, List, sym, ap, ◌∙◌, arith}
+use Rattle.nmgc_alloc.specs.AllocState.{AllocState}
+use Rattle.nmgc_beside.specs.Closes.{ClosingIsSoon, ClosingIsPaced}
+use Rattle.nmgc_beside.specs.Keeps.{PaceAtStop, Scans}
+use Rattle.nmgc_core.specs.State.{State as Core}
+use Rattle.nmgc_reach.specs.Reachable.{IsSound}
+use Rattle.nmgc_heap.specs.Places.{Place}
+use Rattle.nmgc_run.specs.Census.{interval_of}
+use Rattle.nmgc_run.specs.Collector.{IsPacedAfterRound}
+use Rattle.nmgc_run.specs.Marker.{IsCoreOf, IsTied}
+use Rattle.nmgc_run.specs.Seen.{Seen, WorkSeen}
+use Rattle.nmgc_run.specs.State.{State, Cycle}
+use Rattle.nmgc_cycle.specs.Steps.{IsPacedWithin}
+
+-- what the round left is in pace, and what was added since only waits behind it
+pub paced_within : ClosingIsSoon → ClosingIsPaced → PaceAtStop → (quota : ℕ) (c : Cycle) (t : State) (old new : Seen) (allocation : AllocState) (places : List Place) (core : Core) → IsSound (interval_of c) → IsCoreOf c t.world core → IsTied c allocation old.segments places old.marker core → c.from + 1 ≤ t.number → IsPacedAfterRound quota c t old → Scans old.marker new.marker 0 → old.marker.marked ≤ new.marker.marked → new.work ≡ old.work → IsPacedWithin quota c t new
+paced_within soon paced at_stop quota c t old new allocation places core sound is_core tied after pace scans grows same = record {
+  goes_on = λ left. at_stop quota c t old new pace (omega (arith, after)) (sym (ap (λ (w : WorkSeen). w.empty) same) ∙ left) scans grows;
+  closes = λ none kept le counts. (
+    soon quota c t old kept pace (omega (arith, grows, le)) counts,
+    paced quota c t old allocation places core sound is_core tied after pace (sym (ap (λ (w : WorkSeen). w.empty) same) ∙ none),
+  );
+}

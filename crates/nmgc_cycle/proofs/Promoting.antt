@@ -1,0 +1,213 @@
+-- After its promotion the collector stands for the state that the promotion left: the heap, and the cycle in progress.
+use Rattle.std.proofs.Common.{ℕ, ◌≡◌, ◌≢◌, ◌≤◌, ◌+◌, List, [], ◌∷◌, arith, refl, sym, ap, subst, ◌∙◌, inl, inr, None}
+use Rattle.std.specs.Prelude.{slice_index, IsSome}
+use Rattle.nmgc_graph.specs.declared.value.Name.{Name}
+use Rattle.nmgc_graph.specs.Step.{shared_name}
+use Rattle.nmgc_graph.specs.World.{World, node_of}
+use Rattle.nmgc_graph.specs.laws.Worlds.{is_some_of}
+use Rattle.nmgc_reach.specs.laws.HeldSteps.{absent}
+use Rattle.nmgc_object.specs.Places.{word_total}
+use Rattle.nmgc_object.specs.declared.layout.Layout.{Layout}
+use Rattle.nmgc_alloc.specs.AllocState.{AllocState, Cells, LiesNowhere, HasBlock, cells, name_in}
+use Rattle.nmgc_alloc.specs.Segments.{block_place}
+use Rattle.nmgc_heap.specs.Places.{Place}
+use Rattle.nmgc_heap.specs.Tracked.{IsTracked}
+use Rattle.nmgc_minor.specs.Promotion.{IsFor}
+use Rattle.nmgc_minor.specs.Start.{words_of}
+use Rattle.nmgc_script.specs.declared.script.Script.{Script}
+use Rattle.nmgc_run.specs.Collector.{HoldsInCycle, IsPacedAfterRound}
+use Rattle.nmgc_run.specs.Heap.{HoldsAtStop, snapshots}
+use Rattle.nmgc_run.specs.Seen.{ends_of}
+use Rattle.nmgc_run.specs.Sound.{IsInCycle, IsSoundState, LieKnown, WaitKnown}
+use Rattle.nmgc_run.specs.State.{Plan, State, Cycle, Progress, idle, marking, sweeping, plan_of, layout_of}
+use Rattle.nmgc_run.specs.laws.Course.{SameWait, all_placing_waits, promotions_stay}
+use Rattle.nmgc_run.specs.laws.Filing.{places_filed}
+use Rattle.nmgc_run.specs.laws.States.{known_then}
+use Rattle.nmgc_run.specs.laws.Tracks.{tracked_known}
+use Rattle.nmgc_beside.specs.Keeps.{HasLeft}
+use Rattle.nmgc_beside.specs.Stays as beside
+use Rattle.nmgc_beside.specs.Sweeps.{HasPlaced}
+use Rattle.nmgc_sweep.specs.Statements.{KeepsWaiting}
+use Rattle.nmgc_cycle.specs.declared.collector.Collector.{Collector}
+use Rattle.nmgc_cycle.specs.Keeps.{IsKept, Sweeps}
+use Rattle.nmgc_cycle.specs.Shown.{seen, words_in, sweeper_in, cycle_in}
+use Rattle.nmgc_cycle.specs.Steps.{StandsPromoted, IsPacedPromoted}
+use Rattle.nmgc_cycle.specs.StopLaws.{HasPromotionLaws}
+use Rattle.nmgc_cycle.specs.Stopping.{HasPromoted, moves_of, moved_names}
+use Rattle.nmgc_cycle.proofs.AfterPromotion as after
+use Rattle.nmgc_cycle.proofs.Begins.{Begins}
+
+-- a young name lies nowhere, and isn't g
+young_fresh : (began : World) (a : AllocState) → LieKnown began a → (n : Name) → node_of began n ≡ None → LiesNowhere a n × (n ≢ shared_name)
+young_fresh began a known n none = (λ number block lies. absent (node_of began n) none (known number block n lies), λ e. there (sym (ap (λ (k : Name). node_of began k) e) ∙ none))
+  where
+    there : node_of began shared_name ≡ None → ⊥
+    there e = cc
+
+-- what waits knows the names that it knew, since names are placed in no segment that waits
+still_known : (c : Cycle) (a b : AllocState) → SameWait a b → WaitKnown c a → WaitKnown c b
+still_known c a b same known number block name is lies =
+    let e = same.back number is in
+    known number block name (ap (λ (x : Cells). x.state) (sym e) ∙ is) (ap (λ (x : Cells). name_in x block) (sym e) ∙ lies)
+
+cycle_then : (q : Progress) (w : World) (a b : AllocState) → SameWait a b → IsInCycle q w a → IsInCycle q w b
+cycle_then idle w a b same h = tt
+cycle_then (marking c) w a b same h = (h.0, h.1, still_known c a b same h.2)
+cycle_then (sweeping c closed) w a b same h = (h.0, still_known c a b same h.1)
+
+module _ (laws : HasPromotionLaws) (script : Script) (old new : Collector) (kept : IsKept script old) (b : Begins script old) (p : HasPromoted old new) where
+  abbrev plan : Plan
+  plan = plan_of script
+
+  abbrev s : State
+  s = b.state
+
+  -- the state after the promotion
+  abbrev pub t : State
+  t = after.promoted script old new kept b p
+
+  -- the collector, by what the promotion changed
+  abbrev mid : Collector
+  mid = record old { words = new.words; segments = new.segments; promotion = new.promotion; mutators = new.mutators }
+
+  abbrev heap : HoldsAtStop (layout_of plan) t (words_in new.words) new.segments (ends_of (seen new)) []
+  heap = after.heap script old new kept b p laws.back
+
+  same_waits : SameWait s.allocation t.allocation
+  same_waits = all_placing_waits old.segments.layout s.world s.allocation t.allocation (moved_names new) (after.placed script old new kept b p).1
+
+  placed : HasPlaced old.segments new.segments (seen old).words (words_in new.words) s.allocation t.allocation
+  placed = record {
+    layout = old.segments.layout;
+    world = s.world;
+    names = moved_names new;
+    stood = b.stands;
+    stands = (after.placed script old new kept b p).2;
+    places_each = (after.placed script old new kept b p).1;
+    marks = p.marks;
+  }
+
+  keeps : KeepsWaiting old.segments new.segments s.allocation t.allocation
+  keeps = record {
+    waits = laws.waits old.segments new.segments (seen old).words (words_in new.words) s.allocation t.allocation placed;
+    marks = λ number block. ap (λ (marks : List ℕ). slice_index marks block) (p.marks.marks number);
+    names = λ number is. ap (λ (x : Cells). x.names) (same_waits.same number is);
+    count =
+        let before = kept.sound.count in
+        let now = p.sound.count in
+        let same = ap (λ (l : Layout). l.segments) p.layout in
+        omega (arith, before, now, same);
+  }
+
+  -- the state is sound
+
+  lies_known : LieKnown s.world t.allocation
+  lies_known number block name lies =
+      let place : Place = record { at = block_place (layout_of plan) number (cells t.allocation number).class block; name = name } in
+      (heap.holds.represents.named place ((heap.all place).1 (inr (record { number = number; block = block; lies = lies; at = refl })))).known
+
+  has_block : (name : Name) → IsTracked s.world (snapshots s.progress) name → name ≢ shared_name → HasBlock t.allocation name
+  has_block name tracked other =
+      let there : IsSome (node_of s.world name) = tracked_known s.world (snapshots s.progress) b.sound.world (known_then s.world s.allocation s.progress b.sound.cycle) name tracked in
+      let node = is_some_of (node_of s.world name) there in
+      let at = heap.holds.represents.tracked name node.0 tracked node.1 in
+      let place : Place = record { at = at.at; name = name } in
+      elim ((heap.all place).0 at.there) [
+        | inl g ↦ absurd (other (ap (λ (q : Place). q.name) g))
+        | inr x ↦ (x.number, x.block, x.lies)
+      ]
+
+  sound : IsSoundState plan t
+  sound =
+      let promotes = after.promotes script old new kept b p in
+      record {
+        world = b.sound.world;
+        able = record { programs = b.sound.able.programs; mutators = b.sound.able.mutators; registers = b.sound.able.registers; serials = b.sound.able.serials };
+        filed = places_filed (layout_of plan) s.world s.allocation t.allocation promotes.names b.sound.world promotes.places promotes.lists.ordered (λ n c. young_fresh b.began s.allocation b.sound.known n (promotes.lists.sound n c).0.0) b.sound.filed;
+        known = lies_known;
+        cycle = cycle_then s.progress s.world s.allocation t.allocation same_waits b.sound.cycle;
+        earlier = b.sound.earlier;
+        blocks = has_block;
+      }
+
+  -- the cycle in progress
+
+  was_promoted : (c : Cycle) → snapshots s.progress ≡ c.snapshot ∷ [] → beside.HasPromoted c (after.at_stop script old new kept b p) old.segments new.segments (seen old).words (words_in new.words) p.registers (words_of p.queues) (moves_of new) s.allocation t.allocation
+  was_promoted c later = record {
+    later_is = later;
+    round = b.stopped.round;
+    known = b.sound.known;
+    sound = kept.sound;
+    sound_after = p.sound;
+    layout_is = p.layout;
+    stood = b.stands;
+    stands = (after.placed script old new kept b p).2;
+    places_each = (after.placed script old new kept b p).1;
+    marks = p.marks;
+    is_settled = after.settled_heap script old new kept b p;
+  }
+
+  cycle : (q : Progress) → snapshots s.progress ≡ snapshots q → IsInCycle q s.world s.allocation → ((k : Cycle) → q ≡ marking k → k.from + 1 ≤ s.number) → HoldsInCycle (λ (k : Cycle). IsPacedAfterRound script.config.quota k s (seen old)) q s (seen old) b.places → HoldsInCycle (λ (k : Cycle). IsPacedPromoted script.config.quota k t (seen mid)) q t (seen mid) heap.places
+  cycle idle spoken is later h = laws.settled s.begun old.segments new.segments (seen old).words (words_in new.words) s.allocation t.allocation placed h
+  cycle (marking c) spoken is later h =
+      let left : HasLeft c (seen old) (seen mid) = record { cycle = refl; sweeper = refl; queue_room = λ m mutator e. omega arith } in (
+        laws.marking c s (seen old) (seen mid) (after.at_stop script old new kept b p) (seen old).words (words_in new.words) p.registers (words_of p.queues) (moves_of new) t.allocation is.0 refl h.0 (was_promoted c spoken) refl left (after.remembers script old new kept b p),
+        record {
+          paced = record { scanned = h.1.scanned; most = h.1.most; some = h.1.some; quota_or_done = h.1.quota_or_done; empty = h.1.empty };
+          later = later c refl;
+        },
+      )
+  cycle (sweeping c closed) spoken is later h = (
+    laws.sweeping c closed old.segments new.segments (seen old).words (words_in new.words) s.allocation t.allocation (seen old).cycle (seen old).sweeper placed h.0,
+    laws.settled s.begun old.segments new.segments (seen old).words (words_in new.words) s.allocation t.allocation placed h.1,
+  )
+
+  sweeper : (q : Progress) → Sweeps q s old → Sweeps q t mid
+  sweeper idle h = tt
+  sweeper (marking k) h = (
+    record { notes = h.0.notes; left = laws.left old.segments new.segments (sweeper_in old.progress).left keeps.waits h.0.left },
+    h.1,
+    h.2,
+  )
+  sweeper (sweeping k closed) h =
+      let work = laws.work k closed (seen old).words (words_in new.words) s.allocation t.allocation old.segments new.segments (cycle_in old.progress) (sweeper_in old.progress) h.1 h.0.left (after.placed script old new kept b p).2 keeps in
+      (record { notes = h.0.notes; left = work.1 }, work.0)
+
+  -- what is kept
+
+  still_kept : IsKept script mid
+  still_kept = record {
+    layout = after.layout_is script old new kept b p;
+    sound = p.sound;
+    lists = subst (λ (l : Layout). IsFor l new.promotion) (sym p.layout) p.lists;
+    has_words = p.has_words;
+    list =
+        let before = b.stopped.represents.total in
+        let now = (after.settled_heap script old new kept b p).represents.total in
+        let same : word_total new.segments.layout ≡ word_total old.segments.layout = ap word_total p.layout in
+        kept.list ∙ before ∙ sym (now ∙ same);
+    count = p.given.count ∙ kept.count;
+    own = λ k m e. let own = (after.own script old new kept b p k m e).0 in record { number = own.number; layout = own.layout; whole = own.whole; no_replies = own.no_replies };
+    positions_are = kept.positions_are;
+    positions = kept.positions;
+    no_ends = kept.no_ends;
+    room = kept.room;
+  }
+
+  stands_mid : StandsPromoted script mid t
+  stands_mid = record {
+    kept = still_kept;
+    sound = sound;
+    course = promotions_stay (layout_of plan) b.began s t (after.count script old new kept b p) (after.promotes script old new kept b p) b.course;
+    matches = record { phase = b.matches.phase; begun = b.matches.begun; collect = b.matches.collect; full = b.matches.full };
+    heap = heap;
+    nurseries = after.are_nurseries script old new kept b p;
+    empty = after.are_empty script old new kept b p;
+    rest = after.rest script old new kept b p;
+    cycle = cycle s.progress refl b.sound.cycle b.later b.cycle;
+    weakless = record { world = b.weakless.world; snapshot = b.weakless.snapshot };
+    sweeper = sweeper s.progress b.sweeper;
+  }
+
+  pub promoted_stands : StandsPromoted script new t
+  promoted_stands = subst (λ (x : Collector). StandsPromoted script x t) (sym p.rest) stands_mid

@@ -1,0 +1,198 @@
+-- What a stop answers and why, by what it did and what it read in the end.
+use Rattle.std.proofs.Common.{ℕ, ◌≡◌, ◌<◌, ◌≤◌, ◌⊎◌, ◌↔◌, List, [], ◌∷◌, ◌++◌, length, refl, sym, ap, subst, ◌∙◌, arith, inl, inr, Bool, true, false, Option, Some, None, IsTrue}
+use Rattle.std.specs.Prelude.{count_by, slice_index}
+use Rattle.nmgc_segment.specs.Segment.{Segment}
+use Rattle.nmgc_segment.specs.declared.state.State.TheVariants as stands
+use Rattle.nmgc_object.specs.Places.{reserve_count}
+use Rattle.nmgc_alloc.specs.Search.{is}
+use Rattle.nmgc_alloc.specs.laws.Keeping.{counts_stand}
+use Rattle.nmgc_journal.specs.declared.report.CycleRow.{CycleRow}
+use Rattle.nmgc_journal.specs.declared.report.End.{End}
+use Rattle.nmgc_journal.specs.declared.report.Phase.{Phase}
+use Rattle.nmgc_journal.specs.declared.report.Phase.TheVariants as phase
+use Rattle.nmgc_journal.specs.declared.report.RoundRows.{RoundRows}
+use Rattle.nmgc_journal.specs.declared.report.StopRow.{StopRow}
+use Rattle.nmgc_script.specs.declared.script.Script.{Script}
+use Rattle.nmgc_run.specs.Run.{Run, Turn, with_turn}
+use Rattle.nmgc_run.specs.Slice.{has_left}
+use Rattle.nmgc_run.specs.State.{State, is_idle, free_count as run_free, reserve_of, plan_of}
+use Rattle.nmgc_run.specs.Statements.{answered_count}
+use Rattle.nmgc_run.specs.Stop.{stop_row}
+use Rattle.nmgc_cycle.specs.declared.collector.Collector.{Collector}
+use Rattle.nmgc_cycle.specs.declared.progress.Progress.{Progress as Doing}
+use Rattle.nmgc_cycle.specs.declared.progress.Progress.TheVariants as doing
+use Rattle.nmgc_cycle.specs.declared.stop.StopEnd.{StopEnd}
+use Rattle.nmgc_cycle.specs.declared.stop.StopEnd.TheVariants as answer
+use Rattle.nmgc_cycle.specs.Cycles.{HasTaken, HasClosed, Ends, Begins as BeginsThen}
+use Rattle.nmgc_cycle.specs.Keeps.{CanStop, IsStill, HasAnswered, HasWorked, StopsAfter}
+use Rattle.nmgc_cycle.specs.Shown.{phase_in, words_in}
+use Rattle.nmgc_cycle.specs.Stage.{IsStaged}
+use Rattle.nmgc_cycle.specs.StopLaws.{HasStopLaws}
+use Rattle.nmgc_cycle.specs.Stopping.{HasPromoted, SomeIsLeft, IsDone, IsFull, ended_by}
+use Rattle.nmgc_cycle.proofs.Begins.{Begins, begins, one_turn}
+use Rattle.nmgc_cycle.proofs.StopAnswers.{last, Outcome, done, on, goes_on, full}
+use Rattle.nmgc_cycle.proofs.StopSteps as steps
+use Rattle.nmgc_cycle.proofs.StopSteps.{IsLed}
+use Rattle.nmgc_cycle.proofs.Stopped.{row_is, quiet_then, busy_then}
+use Rattle.nmgc_cycle.proofs.WhatIsLeft.{left_is}
+
+-- what the calls of a stop did, one after another
+pub record IsStepped (script : Script) (old new : Collector) : Type 0 where
+  pub number : ℕ
+  pub number_is : number ≡ length old.stops
+  pub promoted : Collector
+  pub promotes : HasPromoted old promoted
+  pub added : Collector
+  pub adds : HasTaken promoted added
+  pub closed : Collector
+  pub closes : HasClosed number added closed
+  pub ended : Collector
+  pub ends : Ends number closed.progress closed ended
+  pub begins : BeginsThen script.config.trigger number ended new
+
+-- what was read of the collector then: whether commands are left, its phase, and how many segments are in each state
+pub record IsRead (script : Script) (c : Collector) : Type 0 where
+  pub left : Bool
+  pub left_is : IsTrue left ↔ SomeIsLeft script.threads c.positions.items
+  pub phase : Phase
+  pub phase_is : phase ≡ phase_in c.progress
+  pub free : ℕ
+  pub free_is : free ≡ count_by (λ (segment : Segment). is segment.state stands.Free) c.segments.segments
+  pub filled : ℕ
+  pub filled_is : filled ≡ count_by (λ (segment : Segment). is segment.state stands.Filled) c.segments.segments
+  pub sweep : ℕ
+  pub sweep_is : sweep ≡ count_by (λ (segment : Segment). is segment.state stands.Sweeping) c.segments.segments
+  pub reserve : ℕ
+  pub reserve_is : reserve ≡ reserve_count c.segments.layout
+
+-- why it answers so
+abbrev pub Why : (script : Script) (c : Collector) → IsRead script c → StopEnd → Type 0
+Why script c r (answer.HeapFull free reserve) = (free ≡ r.free) × (reserve ≡ r.reserve) × (r.left ≡ true) × (r.free < r.reserve)
+Why script c r answer.Done = (r.left ≡ false) × (phase_in c.progress ≡ phase.Idle)
+Why script c r answer.GoOn = ((r.left ≡ true) × (r.reserve ≤ r.free)) ⊎ ((r.left ≡ false) × (phase_in c.progress ≡ phase.Idle → ⊥))
+
+-- the answer and its causes
+
+idle_in : (p : Doing) → phase_in p ≡ phase.Idle → p ≡ doing.Idle
+idle_in doing.Idle e = refl
+idle_in (doing.Marking m) e = absurd (let bad : phase.Marking ≡ phase.Idle = e in cc)
+idle_in (doing.Sweeping w) e = absurd (let bad : phase.Sweeping ≡ phase.Idle = e in cc)
+
+module _ (script : Script) (c : Collector) (r : IsRead script c) where
+  -- commands are left exactly where that was read
+  none_left : r.left ≡ false → SomeIsLeft script.threads c.positions.items → ⊥
+  none_left none some = let bad : false ≡ true = sym none ∙ r.left_is.1 some in cc
+
+  some_left : r.left ≡ true → (SomeIsLeft script.threads c.positions.items → ⊥) → ⊥
+  some_left some none = none (r.left_is.0 some)
+
+  -- it isn't full unless that was read
+  not_full : (free reserve : ℕ) → r.reserve ≤ r.free → IsFull script c free reserve → ⊥
+  not_full free reserve more h =
+      let free_is = h.free_is in
+      let reserve_is = h.reserve_is in
+      let less = h.less in
+      let own = r.free_is in
+      let kept = r.reserve_is in
+      omega (arith, free_is, reserve_is, less, own, kept, more)
+
+  pub done_where : (e : StopEnd) → Why script c r e → (e ≡ answer.Done) ↔ IsDone script c
+  done_where answer.Done why = ((λ e. (none_left why.0, idle_in c.progress why.1)), λ d. refl)
+  done_where (answer.HeapFull free reserve) why = ((λ e. absurd (let bad : answer.HeapFull free reserve ≡ answer.Done = e in cc)), λ d. absurd (some_left why.2 d.0))
+  done_where answer.GoOn (inl why) = ((λ e. absurd (let bad : answer.GoOn ≡ answer.Done = e in cc)), λ d. absurd (some_left why.0 d.0))
+  done_where answer.GoOn (inr why) = ((λ e. absurd (let bad : answer.GoOn ≡ answer.Done = e in cc)), λ d. absurd (why.1 (ap phase_in d.1)))
+
+  pub full_where : (e : StopEnd) → Why script c r e → (free reserve : ℕ) → (e ≡ answer.HeapFull free reserve) ↔ IsFull script c free reserve
+  full_where answer.Done why free reserve = ((λ e. absurd (let bad : answer.Done ≡ answer.HeapFull free reserve = e in cc)), λ h. absurd (none_left why.0 h.left))
+  full_where (answer.HeapFull f g) why free reserve = (to, back)
+    where
+      to : answer.HeapFull f g ≡ answer.HeapFull free reserve → IsFull script c free reserve
+      to e =
+          let free_is : f ≡ free = cc in
+          let reserve_is : g ≡ reserve = cc in
+          let less = why.3 in
+          let own = why.0 in
+          let kept = why.1 in
+          record {
+            left = r.left_is.0 why.2;
+            free_is = sym free_is ∙ own ∙ r.free_is;
+            reserve_is = sym reserve_is ∙ kept ∙ r.reserve_is;
+            less = omega (arith, free_is, reserve_is, less, own, kept);
+          }
+
+      back : IsFull script c free reserve → answer.HeapFull f g ≡ answer.HeapFull free reserve
+      back h = ap (λ (n : ℕ). answer.HeapFull n g) (why.0 ∙ r.free_is ∙ sym h.free_is) ∙ ap (λ (n : ℕ). answer.HeapFull free n) (why.1 ∙ r.reserve_is ∙ sym h.reserve_is)
+  full_where answer.GoOn (inl why) free reserve = ((λ e. absurd (let bad : answer.GoOn ≡ answer.HeapFull free reserve = e in cc)), λ h. absurd (not_full free reserve why.1 h))
+  full_where answer.GoOn (inr why) free reserve = ((λ e. absurd (let bad : answer.GoOn ≡ answer.HeapFull free reserve = e in cc)), λ h. absurd (none_left why.0 h.left))
+
+-- the run
+
+module _ (laws : HasStopLaws) (script : Script) (old new : Collector) (staged : IsStaged script) (x : IsStepped script old new) (r : IsRead script new) (many : ℕ) (many_is : many ≡ length x.promoted.promotion.moves) where
+  abbrev pub row : StopRow
+  row = record { number = x.number; phase = r.phase; free = r.free; filled = r.filled; sweep = r.sweep; promoted = many }
+
+  module _ (stops : List StopRow) (answered : Option End) (pushed : stops ≡ new.stops ++ row ∷ []) where
+    abbrev pub after : Collector
+    after = record new { stops = stops; answered = answered }
+
+    module _ (can : CanStop script old) where
+      abbrev b : Begins script old
+      b = begins script old staged can
+
+      led : IsLed script b.began b.state (length x.promoted.promotion.moves) old new
+      led = steps.led laws script old x.promoted staged can x.promotes x.added x.adds x.number x.number_is x.closed x.closes x.ended x.ends new x.begins
+
+      rounds_are : new.rounds ≡ old.rounds
+      rounds_are = steps.rounds_are laws script old x.promoted staged can x.promotes x.added x.adds x.number x.number_is x.closed x.closes x.ended x.ends new x.begins
+
+      stops_are : stops ≡ old.stops ++ row ∷ []
+      stops_are = pushed ∙ ap (λ (rows : List StopRow). rows ++ row ∷ []) (steps.stops_are laws script old x.promoted staged can x.promotes x.added x.adds x.number x.number_is x.closed x.closes x.ended x.ends new x.begins)
+
+      told : row ≡ stop_row led.state (length x.promoted.promotion.moves)
+      told = row_is led.state (length x.promoted.promotion.moves) x.number r.free r.filled r.sweep many r.phase new.segments (words_in new.words) led.stands.heap.holds.stands (r.phase_is ∙ led.stands.matches.phase) (led.number ∙ b.number ∙ sym x.number_is) r.free_is r.filled_is r.sweep_is many_is
+
+      left : has_left led.state.left ≡ r.left
+      left =
+          let positions : (k : ℕ) → k < length script.threads → slice_index new.positions.items k ≡ answered_count old.rounds k = λ k lt. led.stands.kept.positions k lt ∙ ap (λ (rounds : List RoundRows). answered_count rounds k) rounds_are in
+          ap has_left led.left ∙ left_is script old.rounds b.state.left new.positions.items b.left positions r.left r.left_is
+
+      free_is : r.free ≡ run_free led.state
+      free_is = r.free_is ∙ counts_stand new.segments (words_in new.words) led.state.allocation stands.Free led.stands.heap.holds.stands
+
+      reserve_is : r.reserve ≡ reserve_of (plan_of script)
+      reserve_is = r.reserve_is ∙ ap reserve_count led.stands.kept.layout
+
+      Result : StopEnd → Type 0
+      Result = Outcome script old new b (length x.promoted.promotion.moves) led rounds_are stops answered row stops_are told
+
+      result : (e : StopEnd) → Why script new r e → answered ≡ ended_by e → Result e
+      unfolding Result
+      result answer.Done why is = done script old new b (length x.promoted.promotion.moves) led rounds_are stops answered row stops_are told (left ∙ why.0) (quiet_then led.state.progress (sym led.stands.matches.phase ∙ why.1)) is
+      result answer.GoOn (inl why) is = goes_on script old new b (length x.promoted.promotion.moves) led rounds_are stops answered row stops_are told r.free r.reserve (left ∙ why.0) free_is reserve_is why.1 is
+      result answer.GoOn (inr why) is = on script old new b (length x.promoted.promotion.moves) led rounds_are stops answered row stops_are told (left ∙ why.0) (busy_then led.state.progress (λ e. why.1 (led.stands.matches.phase ∙ e))) is
+      result (answer.HeapFull free reserve) why is =
+          let same : answered ≡ ended_by (answer.HeapFull r.free r.reserve) = is ∙ ap (λ (n : ℕ). ended_by (answer.HeapFull n reserve)) why.0 ∙ ap (λ (n : ℕ). ended_by (answer.HeapFull r.free n)) why.1 in
+          let own = full script old new b (length x.promoted.promotion.moves) led rounds_are stops answered row stops_are told r.free r.reserve (left ∙ why.2) free_is reserve_is why.3 same in
+          subst (λ (n : ℕ). HasAnswered script after (answer.HeapFull n reserve)) (sym why.0) (subst (λ (n : ℕ). HasAnswered script after (answer.HeapFull r.free n)) (sym why.1) own)
+
+      answers : (e : StopEnd) → Result e → HasAnswered script after e
+      unfolding Result
+      answers (answer.HeapFull free reserve) h = h
+      answers answer.GoOn h = (((b.goes_on led.state row h.0.0 h.0.1).run, h.0.2), h.1)
+      answers answer.Done h = (((b.goes_on led.state row h.0.0 h.0.1).run, h.0.2), h.1)
+
+      pub has_answered : (e : StopEnd) → Why script new r e → answered ≡ ended_by e → HasAnswered script after e
+      has_answered e why is = answers e (result e why is)
+
+    -- after a round, the run is that of before with one turn more
+
+    one_more : (w : HasWorked script old) (rows : List CycleRow) (stop : _) → IsStill script after ((begins script old staged (inr w)).goes_on (led (inr w)).state row rows stop).run → (turn : Turn) × (turn.worked ≡ w.worked) × (turn.history ≡ w.history) × IsStill script after (with_turn w.run turn)
+    one_more w rows stop still =
+        let turn = one_turn script old staged w (led (inr w)).state row rows stop in
+        (turn.0, turn.1, turn.2, subst (λ (run : Run). IsStill script after run) turn.3 still)
+
+    pub stops_after : (e : StopEnd) → Why script new r e → answered ≡ ended_by e → StopsAfter script old after e
+    unfolding Result
+    stops_after (answer.HeapFull free reserve) why is = tt
+    stops_after answer.GoOn why is = λ w. let h = result (inr w) answer.GoOn why is in one_more w h.0.0 h.0.1 h.0.2
+    stops_after answer.Done why is = λ w. let h = result (inr w) answer.Done why is in one_more w h.0.0 h.0.1 h.0.2

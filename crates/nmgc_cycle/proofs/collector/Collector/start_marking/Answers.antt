@@ -1,0 +1,67 @@
+use Rattle.std.proofs.Common.{◌≡◌, ℕ, ◌*◌, List, length, map, false, refl, sym, ap, subst, ◌∙◌}
+use Rattle.std.specs.Prelude.{All}
+use Rattle.std.specs.Vec.{with_items}
+use Rattle.std.proofs.lemmas.List.{length-map}
+use Rattle.nmgc_alloc.specs.Segments.{Segments}
+use Rattle.nmgc_beside.specs.Begins.{all_prepared}
+use Rattle.nmgc_graph.specs.declared.value.TheConstants.{REGISTERS}
+use Rattle.nmgc_mark.specs.Beginning.{IsBeginning, most_blocks}
+use Rattle.nmgc_mark.specs.Marker.{HasMarked, blank}
+use Rattle.nmgc_object.specs.FinQueue.{FinQueue}
+use Rattle.nmgc_run.specs.Seen.{MarkerSeen}
+use Rattle.nmgc_sweep.specs.Sweeper.{Sweeper}
+use Rattle.nmgc_sweep.specs.Work.{HasBegun}
+use Rattle.nmgc_mutator.specs.declared.mutator.Mutator.{Mutator}
+use Rattle.nmgc_turn.specs.Worked.{registers_of}
+use Rattle.nmgc_cycle.specs.declared.collector.Collector.{Collector}
+use Rattle.nmgc_cycle.specs.Cycles.{StartsMarking, next_epoch}
+use Rattle.nmgc_cycle.specs.Roots.{HasRegisters, queues_in, without_queue, AreGivenBack}
+use Rattle.nmgc_cycle.specs.Shown.{words_in}
+use Rattle.nmgc_cycle.proofs.MutatorLists.{registers_without, registers_count, vec_back, given_items}
+use Rattle.nmgc_cycle.proofs.collector.Collector.start_marking.Goals as goal
+
+-- the same marking, by what is seen of its marker and its sweeper
+by_view : (stop : ℕ) (old new : Collector) (marker m : MarkerSeen) (sweeper s : Sweeper) → marker ≡ m → sweeper ≡ s → StartsMarking stop old new (record { from = stop; marker = m; last = record { scanned = 0; empty = false }; sweeper = s }) → StartsMarking stop old new (record { from = stop; marker = marker; last = record { scanned = 0; empty = false }; sweeper = sweeper })
+by_view stop old new marker m sweeper s first second h = subst (λ (y : MarkerSeen × Sweeper). StartsMarking stop old new (record { from = stop; marker = y.0; last = record { scanned = 0; empty = false }; sweeper = y.1 })) (λ i. (sym first i, sym second i)) h
+
+pub give_back-requires-clause-whole : goal.give_back-requires-clause-whole
+give_back-requires-clause-whole c =
+    let v = c.args.self.now.mutators in
+    let read : c.as_mut_slice-2.result.now ≡ map without_queue v.items = given_items v c.as_mut_slice.result.now c.taken.new.mutators c.as_mut_slice-2.result.now c.as_mut_slice.ensures.value c.in_ok-roots.ensures.left c.as_mut_slice-2.ensures.value in
+    subst (λ (ms : List Mutator). All HasRegisters ms) (sym read) (registers_without v.items c.requires.whole)
+
+pub give_back-requires-clause-registers : goal.give_back-requires-clause-registers
+give_back-requires-clause-registers c =
+    let v = c.args.self.now.mutators in
+    let read : c.as_mut_slice-2.result.now ≡ map without_queue v.items = given_items v c.as_mut_slice.result.now c.taken.new.mutators c.as_mut_slice-2.result.now c.as_mut_slice.ensures.value c.in_ok-roots.ensures.left c.as_mut_slice-2.ensures.value in
+    let count : length c.as_mut_slice-2.result.now ≡ length v.items = ap (λ (ms : List Mutator). length ms) read ∙ length-map v.items without_queue in
+    ap (λ (l : List ℕ). length l) (c.in_ok-roots.ensures.registers ∙ ap registers_of c.as_mut_slice.ensures.value)
+    ∙ registers_count v.items c.requires.whole
+    ∙ ap (λ (n : ℕ). REGISTERS * n) (sym count)
+
+pub returns : goal.returns
+returns c =
+    let old : Collector = c.args.self.now in
+    let v = old.mutators in
+    let was = c.as_mut_slice.ensures.value in
+    let held : c.in-Some.words ≡ words_in old.words = sym (ap words_in c.in-Some.is) in
+    let started : c.start.new.words ≡ words_in old.words = c.start.ensures.words ∙ held in
+    let prepared_is : c.prepare.new.self ≡ all_prepared old.segments = c.prepare.ensures.value in
+    let epoch_is : c.epoch_of-epoch.result ≡ next_epoch old = c.epoch_of-epoch.ensures.value in
+    let registers : c.in_ok-roots.roots.registers ≡ registers_of v.items = c.in_ok-roots.ensures.registers ∙ ap registers_of was in
+    let queues : c.in_ok-roots.roots.queues ≡ queues_in v.items = c.in_ok-roots.ensures.queues ∙ ap queues_in was in
+    let read : c.as_mut_slice-2.result.now ≡ map without_queue v.items = given_items v c.as_mut_slice.result.now c.taken.new.mutators c.as_mut_slice-2.result.now was c.in_ok-roots.ensures.left c.as_mut_slice-2.ensures.value in
+    let new : List Mutator = c.give_back.new.mutators in
+    let count : length new ≡ length (with_items v c.taken.new.mutators).items = c.give_back.ensures.count ∙ ap (λ (ms : List Mutator). length ms) c.as_mut_slice-2.ensures.value in
+    let given : AreGivenBack (registers_of v.items) (queues_in v.items) (map without_queue v.items) new = subst (λ (y : List ℕ × List FinQueue × List Mutator). AreGivenBack y.0 y.1 y.2 new) (λ i. (registers i, queues i, read i)) c.give_back.ensures in
+    by_view c.args.stop old _ _ c.in_ok-marker.marker _ c.in_ok-sweeper.sweeper c.marker.view_is c.sweeper.view_is (record {
+      rest = refl;
+      from_is = refl;
+      last = refl;
+      words = (c.snapshot.ensures.words ∙ started, refl);
+      sound = c.layout.ensures.sound;
+      given = subst (λ (ms : List Mutator). AreGivenBack (registers_of v.items) (queues_in v.items) (map without_queue v.items) ms) (sym (vec_back (with_items v c.taken.new.mutators) new count)) given;
+      sweeper = subst (λ (y : Segments × List ℕ × ℕ). HasBegun y.0 y.1 y.2 c.in_ok-sweeper.sweeper) (λ i. (prepared_is i, held i, epoch_is i)) c.in_ok-sweeper.ensures.begun;
+      marked = subst (λ (y : Segments × ℕ). HasMarked y.0 c.snapshot.new.segments (blank y.1 (most_blocks y.0.layout)) c.in_ok-marker.marker 0) (λ i. (prepared_is i, epoch_is i)) c.in_ok-marker.ensures.marked;
+      tied = λ o begins. c.in_ok-marker.ensures.tied o (subst (λ (y : Segments × ℕ × List ℕ × List ℕ × List FinQueue). IsBeginning o y.0 y.1 y.2 y.3 y.4) (λ i. (sym prepared_is i, sym epoch_is i, sym started i, sym (c.items.ensures ∙ registers) i, sym (c.items-2.ensures ∙ queues) i)) begins);
+    })

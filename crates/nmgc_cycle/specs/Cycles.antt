@@ -1,0 +1,181 @@
+-- The collector beside the mutators, and the steps of a stop that lead a cycle on.
+use Rattle.std.specs.Prelude.{ℕ, ◌≡◌, ◌⊎◌, ◌↔◌, ◌+◌, ◌≤◌, ◌<◌, ◌++◌, ◌∷◌, List, [], map, true, false, IsSome}
+use Rattle.std.specs.List.{flat_map}
+use Rattle.nmgc_alloc.specs.declared.search.Wanted.TheVariants as wanted
+use Rattle.nmgc_alloc.specs.Segments.{Segments, HasNone, IsSegments}
+use Rattle.nmgc_alloc.specs.Turns.{carried_over}
+pub use Rattle.nmgc_beside.specs.Begins.{all_prepared}
+use Rattle.nmgc_journal.specs.declared.report.CycleRow.{CycleRow}
+use Rattle.nmgc_mark.specs.Beginning.{IsBeginning, most_blocks}
+use Rattle.nmgc_mark.specs.Marker.{HasMarked, blank}
+use Rattle.nmgc_mark.specs.Stopped.{IsReady, HasFinished}
+use Rattle.nmgc_mark.specs.Tie.{IsTied, with_places}
+use Rattle.nmgc_mark.specs.Work.{IsCollector, HasWorked, marks_seen}
+use Rattle.nmgc_mutator.specs.declared.mutator.Mutator.{Mutator}
+use Rattle.nmgc_mutator.specs.Records.{numbers}
+use Rattle.nmgc_round.specs.declared.table.Round.{Round}
+use Rattle.nmgc_round.specs.Marking.{Marks, marks_of}
+use Rattle.nmgc_round.specs.Seat.{RoundSeat, seen as seat_seen}
+use Rattle.nmgc_round.specs.View.{Opening}
+use Rattle.nmgc_run.specs.Marker.{HasRoomToMark}
+use Rattle.nmgc_run.specs.Marks.{epoch_of}
+use Rattle.nmgc_run.specs.Seen.{MarkerSeen}
+use Rattle.nmgc_sweep.specs.Sweeper.{AreLeft, HasStood}
+use Rattle.nmgc_sweep.specs.Work.{HasBegun, HasSwept}
+use Rattle.nmgc_cycle.specs.declared.collector.Collector.{Collector}
+use Rattle.nmgc_cycle.specs.declared.progress.Marking.{Marking}
+use Rattle.nmgc_cycle.specs.declared.progress.Progress.{Progress}
+use Rattle.nmgc_cycle.specs.declared.progress.Progress.TheVariants as progress
+use Rattle.nmgc_cycle.specs.declared.progress.Sweeping.{Sweeping}
+use Rattle.nmgc_core.specs.State.{opening}
+use Rattle.nmgc_turn.specs.Worked.{registers_of}
+use Rattle.nmgc_cycle.specs.Roots.{cleared, queues_in, without_queue, AreGivenBack}
+use Rattle.nmgc_cycle.specs.Shown.{words_in}
+
+-- In a round
+
+-- the collector may do its part of a round: a marker has room for what it marks, and the marks and the queue of its seat's view; a sweeper has notes of all segments that wait
+abbrev pub CanHelp : Round → RoundSeat → Segments → Progress → Type 0
+CanHelp round seat segments progress.Idle = IsCollector round seat
+CanHelp round seat segments (progress.Marking m) = IsCollector round seat × HasRoomToMark segments m.marker × IsTied (seat_seen seat).opening (marks_seen (seat_seen seat)) segments m.marker
+CanHelp round seat segments (progress.Sweeping w) = IsCollector round seat × AreLeft segments w.sweeper.left
+
+-- it scanned as much as its last work tells, of at most so many objects
+pub record HasScanned (round : Round) (quota : ℕ) (from seat : RoundSeat) (old new : Segments) (m n : Marking) : Type 0 where
+  pub rest : n ≡ record m { marker = n.marker; last = n.last }
+  pub worked : HasWorked round from seat old new m.marker n.marker n.last.scanned
+  pub most : n.last.scanned ≤ quota
+  pub least : n.last.scanned < quota → n.marker.queue ≡ []
+  pub empty : (n.last.empty ≡ true) ↔ (n.marker.queue ≡ [])
+
+-- it swept the lesser of so many segments and those that were left
+pub record HasSweptSome (quota : ℕ) (old new : Segments) (w v : Sweeping) : Type 0 where
+  pub rest : v ≡ record w { sweeper = v.sweeper }
+  pub count : ℕ
+  pub swept : HasSwept old new w.sweeper v.sweeper count
+  pub most : count ≤ quota
+  pub least : count < quota → v.sweeper.left ≡ []
+
+-- it did its part
+abbrev pub HasHelped : Round → ℕ → RoundSeat → RoundSeat → Segments → Segments → Progress → Progress → Type 0
+HasHelped round quota from seat old new progress.Idle after = (seat ≡ from) × (new ≡ old) × (after ≡ progress.Idle)
+HasHelped round quota from seat old new (progress.Marking m) after = (n : Marking) × (after ≡ progress.Marking n) × HasScanned round quota from seat old new m n
+HasHelped round quota from seat old new (progress.Sweeping w) after = (v : Sweeping) × (after ≡ progress.Sweeping v) × (seat ≡ from) × HasSweptSome quota old new w v
+
+-- At a stop
+
+-- the places that mutators remember, one mutator after the other
+abbrev pub remembered_by : List Mutator → List ℕ
+remembered_by mutators = flat_map (λ (m : Mutator). numbers m.updrem.items) mutators
+
+-- the mutator remembers nothing
+abbrev pub forgetting : Mutator → Mutator
+forgetting m = record m { updrem = cleared m.updrem }
+
+-- a marker may be given more
+abbrev pub CanAdd : Segments → Progress → Type 0
+CanAdd segments (progress.Marking m) = HasRoomToMark segments m.marker
+CanAdd segments _ = Unit {0}
+
+-- these places were added to the marker: the blocks of the snapshot there are marked and wait
+pub record HasAdded (entries : List ℕ) (old new : Segments) (before after : MarkerSeen) : Type 0 where
+  pub marked : HasMarked old new before after 0
+  pub tied : (o : Opening) (m : Marks) → IsTied o m old before → IsTied o (with_places o m entries) new after
+
+-- where a marker marks they were, and the segments are sound still
+abbrev pub AddsTo : List ℕ → Segments → Segments → Progress → Progress → Type 0
+AddsTo entries old new (progress.Marking m) after = (marker : MarkerSeen) × (after ≡ progress.Marking (record m { marker = marker })) × HasAdded entries old new m.marker marker × IsSegments new
+AddsTo entries old new p after = (after ≡ p) × (new ≡ old)
+
+-- what the mutators remember was added to the marker, and they remember nothing
+pub record HasTaken (old new : Collector) : Type 0 where
+  pub rest : new ≡ record old { segments = new.segments; progress = new.progress; mutators = new.mutators }
+  pub mutators : new.mutators.items ≡ map forgetting old.mutators.items
+  pub adds : AddsTo (remembered_by old.mutators.items) old.segments new.segments old.progress new.progress
+
+-- a marker may finish: it has room, and its marks and its queue are those of a state that opens a round on these words
+abbrev pub IsReadyToClose : List ℕ → Segments → MarkerSeen → Type 0
+IsReadyToClose words segments marker = HasRoomToMark segments marker × ((o : Opening) × IsReady o words segments marker)
+
+-- so may one whose last work left nothing
+abbrev pub CanClose : List ℕ → Segments → Progress → Type 0
+CanClose words segments (progress.Marking m) = m.last.empty ≡ true → IsReadyToClose words segments m.marker
+CanClose words segments _ = Unit {0}
+
+-- the marker finished, the marks of segments that don't wait were carried, and the cycle sweeps from this stop on
+pub record IsClosed (stop : ℕ) (words : List ℕ) (old new : Segments) (m : Marking) (after : Sweeping) : Type 0 where
+  pub marker : MarkerSeen
+  pub marked : Segments
+  pub scanned : ℕ
+  pub marks : HasMarked old marked m.marker marker scanned
+  pub done : marker.queue ≡ []
+  pub finished : (o : Opening) → IsReady o words old m.marker → HasFinished o marked marker
+  pub carried : new ≡ record marked { segments = map (carried_over marker.epoch) marked.segments }
+  pub sound : IsSegments marked × IsSegments new
+  pub is : after ≡ record { from = m.from; closed = stop; kept = marker.marked; sweeper = m.sweeper }
+
+-- a cycle is closed where the marker's last work left nothing
+abbrev pub Closes : ℕ → List ℕ → Segments → Segments → Progress → Progress → Type 0
+Closes stop words old new (progress.Marking m) after = ((m.last.empty ≡ true) × ((w : Sweeping) × (after ≡ progress.Sweeping w) × IsClosed stop words old new m w)) ⊎ ((m.last.empty ≡ false) × (after ≡ progress.Marking m) × (new ≡ old))
+Closes stop words old new p after = (after ≡ p) × (new ≡ old)
+
+pub record HasClosed (stop : ℕ) (old new : Collector) : Type 0 where
+  pub rest : new ≡ record old { words = new.words; segments = new.segments; progress = new.progress }
+  pub words : (words_in new.words ≡ words_in old.words) × IsSome new.words
+  pub closes : Closes stop (words_in old.words) old.segments new.segments old.progress new.progress
+
+-- the row of a cycle that ends at this stop
+abbrev pub row_of : ℕ → ℕ → Sweeping → CycleRow
+row_of number stop w = record {
+  number = number;
+  from = w.from;
+  closed = w.closed;
+  ended = stop;
+  swept = w.sweeper.seen.swept;
+  had = w.sweeper.seen.had;
+  freed = w.sweeper.seen.freed;
+  dead = [];
+  kept = w.kept;
+}
+
+-- a cycle that sweeps ends where no segment waits
+abbrev pub Ends : ℕ → Progress → Collector → Collector → Type 0
+Ends stop (progress.Sweeping w) old new = (HasNone wanted.Sweeping old.segments × (new ≡ record old { progress = progress.Idle; turns = new.turns; cycles = old.cycles ++ row_of old.begun stop w ∷ [] })) ⊎ ((HasNone wanted.Sweeping old.segments → ⊥) × (new ≡ old))
+Ends stop _ old new = new ≡ old
+
+-- a cycle is due: none is in progress, and one was asked for, or enough segments were filled since the last one began
+abbrev pub IsDue : ℕ → Collector → Type 0
+IsDue trigger c = (c.progress ≡ progress.Idle) × ((c.collect ≡ true) ⊎ ((1 ≤ trigger) × (trigger ≤ c.segments.fresh)))
+
+-- the next cycle's epoch
+abbrev pub next_epoch : Collector → ℕ
+next_epoch c = epoch_of (c.begun + 1)
+
+-- where a cycle is due, no segment waits any more, words and segments stand for an allocation state, and marking begins with the roots that the mutators have
+pub record CanBegin (c : Collector) : Type 0 where
+  pub none_waits : HasNone wanted.Sweeping c.segments
+  pub stood : HasStood (all_prepared c.segments) (words_in c.words)
+  pub begins : (o : Opening) × IsBeginning o (all_prepared c.segments) (next_epoch c) (words_in c.words) (registers_of c.mutators.items) (queues_in c.mutators.items)
+
+-- a marking cycle was started at this stop: the segments were prepared, the sweeper noted what waits, and the marker marked what the roots refer to; the mutators have their roots again
+pub record StartsMarking (stop : ℕ) (old new : Collector) (marking : Marking) : Type 0 where
+  pub rest : new ≡ record old { words = new.words; segments = new.segments; mutators = new.mutators }
+  pub from_is : marking.from ≡ stop
+  pub last : marking.last ≡ record { scanned = 0; empty = false }
+  pub words : (words_in new.words ≡ words_in old.words) × IsSome new.words
+  pub sound : IsSegments new.segments
+  pub given : AreGivenBack (registers_of old.mutators.items) (queues_in old.mutators.items) (map without_queue old.mutators.items) new.mutators.items
+  pub sweeper : HasBegun (all_prepared old.segments) (words_in old.words) (next_epoch old) marking.sweeper
+  pub marked : HasMarked (all_prepared old.segments) new.segments (blank (next_epoch old) (most_blocks old.segments.layout)) marking.marker 0
+  pub tied : (o : Opening) → IsBeginning o (all_prepared old.segments) (next_epoch old) (words_in old.words) (registers_of old.mutators.items) (queues_in old.mutators.items) → IsTied o (marks_of (opening o.core.snapshot)) new.segments marking.marker
+
+-- so a cycle began
+pub record HasStarted (stop : ℕ) (old new : Collector) : Type 0 where
+  pub marking : Marking
+  pub before : Collector
+  pub starts : StartsMarking stop old before marking
+  pub is : new ≡ record before { progress = progress.Marking marking; begun = old.begun + 1; collect = false }
+
+-- a cycle begins where one is due
+abbrev pub Begins : ℕ → ℕ → Collector → Collector → Type 0
+Begins trigger stop old new = (IsDue trigger old × HasStarted stop old new) ⊎ ((IsDue trigger old → ⊥) × (new ≡ old))

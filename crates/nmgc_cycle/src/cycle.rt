@@ -1,0 +1,233 @@
+//! The steps of a stop that lead a cycle on: it is closed, it ends, the next one begins.
+//!
+//! They come after the promotion, in this order, so at one stop a cycle may be closed and end, and another begin. All
+//! that takes memory here may fail, since the words are back from the round.
+//!
+//! Easy to get wrong: the marker gets what the mutators remember at each stop while it marks, also where the cycle
+//! goes on, and before it is asked whether the cycle is to be closed. The closing itself goes by what the last work
+//! answered: what was just added is scanned by the closing.
+ghost use Rattle.std.specs.Prelude.{◌≡◌, ◌↔◌, ◌+◌, ◌*◌, ◌<◌, ◌≤◌, ◌^◌, All, IfOk, OnOk, IsSome, IsTrue, length, map};
+ghost use Rattle.nmgc_graph.specs.declared.value.TheConstants.{MAKERS};
+ghost use Rattle.nmgc_object.specs.declared.layout.TheConstants.{FIRST_PLACE};
+ghost use Rattle.nmgc_alloc.specs.Segments.{IsSegments};
+ghost use Rattle.nmgc_run.specs.Marker.{HasRoomToMark};
+ghost use Rattle.nmgc_run.specs.Marks.{epoch_of as epoch_by};
+ghost use Rattle.nmgc_segment.specs.Marks.{IsEpoch};
+ghost use Rattle.nmgc_cycle.specs.Roots.{HasRegisters};
+ghost use Rattle.nmgc_cycle.specs.Shown.{words_in};
+ghost use Rattle.nmgc_cycle.specs.Cycles.{remembered_by, forgetting, CanAdd, HasAdded, HasTaken, CanClose, HasClosed, IsClosed, IsReadyToClose, row_of as row_shown, Ends, IsDue, CanBegin, StartsMarking, Begins};
+
+use crate::progress::{Marking, Progress, Sweeping};
+use crate::{Collector, roots};
+use nmgc_alloc::Segments;
+use nmgc_graph::{List, NoMemory};
+use nmgc_journal::CycleRow;
+use nmgc_mark::{Marker, Work};
+use nmgc_mutator::Mutator;
+use nmgc_sweep::Sweeper;
+use std::alloc::Global;
+use std::mem;
+
+// The epoch of a cycle by its number: 1 and 2 in turn.
+fn epoch_of(number: u32) -> u8
+    ensures value { result ≡ epoch_by number }
+    ensures sound { IsEpoch result }
+{
+    if number % 2 == 0 { 2 } else { 1 }
+}
+
+// What the mutators remember goes to the marker, one mutator after the other.
+fn add_all(marker: &mut Marker, segments: &mut Segments, mutators: &[Mutator])
+    requires { HasRoomToMark segments.old marker.old }
+    ensures added { HasAdded (remembered_by mutators.now) segments.old segments.new marker.old marker.new }
+    ensures sound { IsSegments segments.new }
+{
+    for mutator in mutators {
+        marker.add(segments, mutator.updrem.entries());
+    }
+    // What is true of all segments is true of these.
+    let _ = segments.layout();
+}
+
+// The mutator remembers nothing.
+fn forget(mutator: &mut Mutator)
+    ensures { mutator.new ≡ forgetting mutator.old }
+{
+    mutator.updrem.clear();
+}
+
+// The mutators remember nothing.
+fn forget_all(mutators: &mut [Mutator])
+    ensures { mutators.new ≡ map forgetting mutators.old }
+{
+    for mutator in mutators {
+        forget(mutator);
+    }
+}
+
+impl Collector {
+    // What the mutators remember goes to the marker, if one marks, and is cleared.
+    pub(crate) fn add_remembered(&mut self)
+        requires { CanAdd self.old.segments self.old.progress }
+        ensures { HasTaken self.old self.new }
+    {
+        if let Progress::Marking(marking) = &mut self.progress {
+            add_all(
+                &mut marking.marker,
+                &mut self.segments,
+                self.mutators.as_slice(),
+            );
+        }
+        forget_all(self.mutators.as_mut_slice());
+    }
+
+    // The cycle is closed where the marker's last work left nothing.
+    pub(crate) fn close(&mut self, stop: u32)
+        requires words { IsSome self.old.words }
+        requires can { CanClose (words_in self.old.words) self.old.segments self.old.progress }
+        ensures { HasClosed stop self.old self.new }
+    {
+        self.progress = match mem::replace(&mut self.progress, Progress::Idle) {
+            Progress::Marking(marking) => {
+                if marking.last.empty {
+                    Progress::Sweeping(self.closed(marking, stop))
+                } else {
+                    Progress::Marking(marking)
+                }
+            }
+            progress => progress,
+        };
+    }
+
+    // Marking is finished, and the marks of segments that aren't to be swept are carried.
+    fn closed(&mut self, marking: Marking, stop: u32) -> Sweeping
+        requires words { IsSome self.old.words }
+        requires ready { IsReadyToClose (words_in self.old.words) self.old.segments marking.marker }
+        ensures rest { self.new ≡ record self.old { words = self.new.words; segments = self.new.segments } }
+        ensures words { (words_in self.new.words ≡ words_in self.old.words) × IsSome self.new.words }
+        ensures closed { IsClosed stop (words_in self.old.words) self.old.segments self.new.segments marking result }
+    {
+        let Marking {
+            from,
+            mut marker,
+            last: _,
+            mut sweeper,
+        } = marking;
+        let Some(words) = &mut self.words else {
+            unreachable!()
+        };
+        marker.finish(words, &mut self.segments);
+        let _ = self.segments.layout();
+        self.segments.carry(marker.epoch());
+        sweeper.turns = marker.turns;
+        Sweeping {
+            from,
+            closed: stop,
+            kept: marker.marked(),
+            sweeper,
+        }
+    }
+
+    // A cycle that is sweeping ends where no segment waits: its row is told, and the collector is idle.
+    pub(crate) fn end(&mut self, stop: u32) -> Result<(), NoMemory>
+        ensures { OnOk result (Ends stop self.old.progress self.old self.new) }
+    {
+        if let Progress::Sweeping(sweeping) = &self.progress {
+            if self.segments.sweep_count() == 0 {
+                let row = row_of(self.alloc, self.begun, sweeping, stop)?;
+                self.turns = sweeping.sweeper.turns;
+                self.cycles.push(row)?;
+                self.progress = Progress::Idle;
+            }
+        }
+        Ok(())
+    }
+
+    // Whether a cycle is due: none is in progress, and one was asked for, or enough segments were filled since the
+    // last one began.
+    fn is_due(&self, trigger: u32) -> bool
+        ensures { IsTrue result ↔ IsDue trigger self.now }
+    {
+        match self.progress {
+            Progress::Idle => self.collect || (trigger != 0 && self.segments.fresh() >= trigger),
+            Progress::Marking(_) | Progress::Sweeping(_) => false,
+        }
+    }
+
+    // A cycle begins where one is due.
+    pub(crate) fn begin(&mut self, trigger: u32, stop: u32) -> Result<(), NoMemory>
+        requires words { IsSome self.old.words }
+        requires inside { FIRST_PLACE ≤ length (words_in self.old.words) }
+        requires few { length self.old.mutators.items ≤ MAKERS }
+        requires whole { All HasRegisters self.old.mutators.items }
+        requires number { self.old.begun + 1 < 2 ^ 32 }
+        requires can { IsDue trigger self.old → CanBegin self.old }
+        ensures { OnOk result (Begins trigger stop self.old self.new) }
+    {
+        if self.is_due(trigger) {
+            let marking = self.start_marking(stop)?;
+            self.begun += 1;
+            self.collect = false;
+            self.progress = Progress::Marking(marking);
+        }
+        Ok(())
+    }
+
+    // What is to be swept is noted, and what the roots refer to is marked.
+    fn start_marking(&mut self, stop: u32) -> Result<Marking, NoMemory>
+        requires words { IsSome self.old.words }
+        requires inside { FIRST_PLACE ≤ length (words_in self.old.words) }
+        requires few { length self.old.mutators.items ≤ MAKERS }
+        requires whole { All HasRegisters self.old.mutators.items }
+        requires number { self.old.begun + 1 < 2 ^ 32 }
+        requires can { CanBegin self.old }
+        ensures { IfOk result (λ marking. StartsMarking stop self.old self.new marking) }
+    {
+        let epoch = epoch_of(self.begun + 1);
+        self.segments.prepare();
+        let roots = roots::taken(self.alloc, self.mutators.as_mut_slice())?;
+        let Some(words) = &mut self.words else {
+            unreachable!()
+        };
+        let mut sweeper = Sweeper::start(self.alloc, words, &self.segments, epoch)?;
+        let mut marker = Marker::snapshot(
+            self.alloc,
+            words,
+            &mut self.segments,
+            roots.registers.items(),
+            roots.queues.items(),
+            epoch,
+        )?;
+        let _ = self.segments.layout();
+        roots::give_back(self.mutators.as_mut_slice(), roots);
+        marker.turns = self.turns;
+        sweeper.turns = self.turns;
+        Ok(Marking {
+            from: stop,
+            marker,
+            last: Work {
+                scanned: 0,
+                empty: false,
+            },
+            sweeper,
+        })
+    }
+}
+
+// The row of a cycle that ends at a stop.
+fn row_of(alloc: Global, number: u32, sweeping: &Sweeping, stop: u32) -> Result<CycleRow, NoMemory>
+    ensures { IfOk result (λ row. row ≡ row_shown number stop sweeping.now) }
+{
+    let sweeper = &sweeping.sweeper;
+    Ok(CycleRow {
+        number,
+        from: sweeping.from,
+        closed: sweeping.closed,
+        ended: stop,
+        swept: List::from_vec(Vec::from_slice(alloc, sweeper.swept())?),
+        had: List::from_vec(Vec::from_slice(alloc, sweeper.had())?),
+        freed: List::from_vec(Vec::from_slice(alloc, sweeper.freed())?),
+        dead: List::new(alloc),
+        kept: sweeping.kept,
+    })
+}

@@ -1,0 +1,80 @@
+//! What the steps of a stop that lead a cycle on lead to.
+//!
+//! A function here does nothing; its contract is the law, and its body calls the laws on which the proof rests. `stop`
+//! calls them, and so knows of each step that it is the run's.
+ghost use Rattle.nmgc_cycle.specs.Steps.{AddingLeads, ClosingLeads, EndLeads, BeginningLeads, CloseReady, BeginReady};
+ghost use Rattle.nmgc_cycle.specs.StopLaws.{HasStopLaws};
+
+use nmgc_beside::laws::{
+    a_closed_cycle_sweeps, a_closing_is_in_bounds, a_stop_is_prepared, marking_goes_on,
+    the_heap_goes_on, the_marker_leads_a_cycle, the_pace_is_kept,
+};
+use nmgc_mark::laws::prepared_heaps_begin;
+use nmgc_run::laws::{cycles_are_in_course, places_are_blocks};
+use nmgc_sweep::laws::{
+    closing_begins_work, end_tells_census, segments_are_left, start_is_noted, work_goes_on,
+};
+
+// Once what the mutators remember was added to a marker, the collector stands for the same state, and nothing is
+// remembered.
+pub(crate) fn an_adding_leads()
+    ensures { AddingLeads }
+{
+    the_marker_leads_a_cycle();
+    a_closing_is_in_bounds();
+    the_pace_is_kept();
+    a_closed_cycle_sweeps();
+    segments_are_left();
+}
+
+// A marker whose last work left nothing may finish. Where it does, the cycle is closed within the bounds of the run, and
+// else it goes on.
+pub(crate) fn a_closing_leads()
+    ensures leads { ClosingLeads }
+    ensures ready { CloseReady }
+{
+    the_heap_goes_on();
+    the_marker_leads_a_cycle();
+    a_stop_is_prepared();
+    a_closed_cycle_sweeps();
+    segments_are_left();
+    closing_begins_work();
+}
+
+// The row of a cycle that ends tells its census, and then none is in progress.
+pub(crate) fn an_end_leads()
+    ensures { EndLeads }
+{
+    end_tells_census();
+}
+
+// Where a cycle is due, it may begin, and what is started is the run's next cycle.
+pub(crate) fn a_beginning_leads()
+    ensures leads { BeginningLeads }
+    ensures ready { BeginReady }
+{
+    a_stop_is_prepared();
+    prepared_heaps_begin();
+    the_heap_goes_on();
+    the_marker_leads_a_cycle();
+    start_is_noted();
+    segments_are_left();
+    a_closed_cycle_sweeps();
+    the_pace_is_kept();
+    cycles_are_in_course();
+}
+
+// All that a stop rests on: what its promotion leaves, and to what each step after it leads.
+pub(crate) fn a_stop_leads()
+    ensures { HasStopLaws }
+{
+    places_are_blocks();
+    marking_goes_on();
+    a_closed_cycle_sweeps();
+    segments_are_left();
+    work_goes_on();
+    an_adding_leads();
+    a_closing_leads();
+    an_end_leads();
+    a_beginning_leads();
+}

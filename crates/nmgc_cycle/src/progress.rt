@@ -1,0 +1,96 @@
+//! What the collector does beside the mutators: nothing, or it marks, or it sweeps.
+//!
+//! In a round it works on a thread of its own, and what it writes then are marks and segments that wait to be
+//! swept; the mutators look at neither. It passes the gate before each object that it scans and before each segment
+//! that it sweeps, and counts these turns through the whole run: marker and sweeper hand the count on.
+//!
+//! The sweeper starts as its cycle begins, since it notes what lay in segments then; it works once the cycle was
+//! closed.
+ghost use Rattle.std.specs.Prelude.{◌≡◌};
+ghost use Rattle.nmgc_cycle.specs.Shown.{phase_in, is_marking_in};
+ghost use Rattle.nmgc_cycle.specs.Cycles.{CanHelp, HasHelped};
+
+use nmgc_alloc::Segments;
+use nmgc_journal::Phase;
+use nmgc_mark::{Marker, Work};
+use nmgc_round::{CollectorSeat, Gate, Round};
+use nmgc_sweep::Sweeper;
+
+/// A cycle that is marking.
+#[derive(Drop)]
+pub struct Marking {
+    /// The stop of its snapshot.
+    pub from: u32,
+    pub marker: Marker,
+    /// What the marker's last work answered.
+    pub last: Work,
+    /// It noted, as the cycle began, what is to be swept.
+    pub sweeper: Sweeper,
+}
+
+/// A cycle that was closed, and is sweeping.
+#[derive(Drop)]
+pub struct Sweeping {
+    /// The stop of its snapshot.
+    pub from: u32,
+    /// The stop of its closing.
+    pub closed: u32,
+    /// How many objects it keeps.
+    pub kept: u32,
+    pub sweeper: Sweeper,
+}
+
+/// What the collector does.
+#[derive(Drop)]
+pub enum Progress {
+    Idle,
+    Marking(Marking),
+    Sweeping(Sweeping),
+}
+
+impl Progress {
+    /// The phase that a stop tells.
+    pub fn phase(&self) -> Phase
+        ensures { result ≡ phase_in self.now }
+    {
+        match self {
+            Progress::Idle => Phase::Idle,
+            Progress::Marking(_) => Phase::Marking,
+            Progress::Sweeping(_) => Phase::Sweeping,
+        }
+    }
+
+    /// Whether a cycle is marking.
+    pub fn is_marking(&self) -> bool
+        ensures { result ≡ is_marking_in self.now }
+    {
+        match self {
+            Progress::Marking(_) => true,
+            Progress::Idle | Progress::Sweeping(_) => false,
+        }
+    }
+
+    /// The collector's part of a round: scans at most `quota` objects, or sweeps at most `quota` segments. What the
+    /// marker answers is kept for the stop. Takes no memory, and waits for nobody but the gate.
+    pub fn work<G: Gate>(
+        &mut self,
+        round: &Round,
+        seat: &mut CollectorSeat,
+        segments: &mut Segments,
+        quota: u32,
+        gate: &G,
+    )
+        requires { CanHelp round.now seat.old segments.old self.old }
+        ensures { HasHelped round.now quota seat.old seat.new segments.old segments.new self.old self.new }
+    {
+        match self {
+            Progress::Idle => {}
+            Progress::Marking(marking) => {
+                marking.last = marking.marker.work(round, seat, segments, quota, gate);
+            }
+            Progress::Sweeping(sweeping) => {
+                let _ = sweeping.sweeper.work(segments, quota, gate);
+            }
+        }
+    }
+}
