@@ -1,5 +1,5 @@
 //! Which scripts are built so far. Every other script is told to be unbuilt, and nothing of it is run.
-ghost use Rattle.std.specs.Prelude.{◌≡◌, ◌↔◌, IsTrue, All};
+ghost use Rattle.std.specs.Prelude.{◌↔◌, IsTrue, All};
 ghost use Rattle.nmgc_cli.specs.Built.{IsBuilt, IsBuiltCommand};
 
 use nmgc_graph::{Command, List};
@@ -9,7 +9,7 @@ use nmgc_script::Script;
 pub fn is_built(script: &Script) -> bool
     ensures { IsTrue result ↔ IsBuilt script.now }
 {
-    script.config.trigger == 0 && are_all_built(script.threads.items())
+    are_all_built(script.threads.items())
 }
 
 // Whether each command of each thread is built.
@@ -37,11 +37,22 @@ fn is_built_command(command: &Command) -> bool
         | Command::Con { .. }
         | Command::Var { .. }
         | Command::Arr { .. }
+        | Command::Thunk { .. }
+        | Command::Stack { .. }
         | Command::Get { .. }
         | Command::Set { .. }
+        | Command::Cas { .. }
+        | Command::Update { .. }
+        | Command::Force { .. }
+        | Command::Push { .. }
+        | Command::Pop { .. }
+        | Command::Deref { .. }
+        | Command::Finalise { .. }
+        | Command::NextFin { .. }
         | Command::Show { .. }
         | Command::Same { .. }
-        | Command::Yield => true,
+        | Command::Yield
+        | Command::Collect => true,
         _ => false,
     }
 }

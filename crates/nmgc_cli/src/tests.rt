@@ -125,7 +125,7 @@ end done
 ",
     ),
     ("full\n", Status::Unbuilt, "unbuilt\n"),
-    ("stack r0 2\n", Status::Unbuilt, "unbuilt\n"),
+    ("weak r0 g r1 r2\n", Status::Unbuilt, "unbuilt\n"),
     ("sho", Status::BadScript, "bad line 4 command\n"),
     ("show\n", Status::BadScript, "bad line 4 arity\n"),
     ("show r16\n", Status::BadScript, "bad line 4 operand\n"),
@@ -322,7 +322,7 @@ end done
 ];
 
 // Whole scripts, and what is written.
-const SCRIPTS: [(&str, Status, &str); 13] = [
+const SCRIPTS: [(&str, Status, &str); 15] = [
     ("", Status::BadScript, "bad line 1 version\n"),
     (
         "nmgc 1\nheap 32 64 64 100 1000 0\n",
@@ -371,8 +371,55 @@ end done
     ),
     (
         "nmgc 1\nheap 32 64 64 100 1000 1\nthread 0\n",
-        Status::Unbuilt,
-        "unbuilt\n",
+        Status::Done,
+        EMPTY_REPORT,
+    ),
+    // A segment is filled, and so a cycle begins by itself; the next one waits for another.
+    (
+        "nmgc 1\nheap 32 64 64 100 1000 1\nthread 0\ncon r0 0 r0 r1\ncon r0 0 r0 r1\ncon r0 0 r0 r1\ncon r0 0 r0 r1\ncon r0 0 r0 r1\ncon r0 0 r0 r1\ncon r0 0 r0 r1\ncon r0 0 r0 r1\ncon r0 0 r0 r1\ncon r0 0 r0 r1\ncon r0 0 r0 r1\ncon r0 0 r0 r1\ncon r0 0 r0 r1\ncon r0 0 r0 r1\ncon r0 0 r0 r1\ncon r0 0 r0 r1\n",
+        Status::Done,
+        "report 1
+stop 0 idle free 32 filled 0 sweep 0 promoted 0
+round 1
+0 0.0
+0 0.1
+0 0.2
+0 0.3
+0 0.4
+0 0.5
+0 0.6
+0 0.7
+0 0.8
+0 0.9
+0 0.10
+0 0.11
+0 0.12
+0 0.13
+0 0.14
+0 0.15
+stop 1 marking free 31 filled 0 sweep 1 promoted 16
+round 2
+stop 2 sweeping free 31 filled 0 sweep 1 promoted 0
+round 3
+stop 3 idle free 31 filled 1 sweep 0 promoted 0
+cycle 1 from 1 closed 2 swept 1 had 16 freed 0 kept 16 dead 0
+end done
+",
+    ),
+    // A cycle is asked for, and has nothing to keep.
+    (
+        "nmgc 1\nheap 32 64 64 100 1000 0\nthread 0\ncollect\n",
+        Status::Done,
+        "report 1
+stop 0 idle free 32 filled 0 sweep 0 promoted 0
+round 1
+0 ok
+stop 1 marking free 32 filled 0 sweep 0 promoted 0
+round 2
+stop 2 idle free 32 filled 0 sweep 0 promoted 0
+cycle 1 from 1 closed 2 swept 0 had 0 freed 0 kept 0 dead 0
+end done
+",
     ),
     (
         "nmgc 1\nheap 32 64 64 100 1000 0\nthread 0\nthread 1\n",
@@ -383,7 +430,7 @@ end done
     (EIGHT_THREADS, Status::Done, EIGHT_THREADS_REPORT),
     // What isn't built stands in the second section.
     (
-        "nmgc 1\nheap 32 64 64 100 1000 0\nthread 0\nthread 1\ncollect\n",
+        "nmgc 1\nheap 32 64 64 100 1000 0\nthread 0\nthread 1\nfull\n",
         Status::Unbuilt,
         "unbuilt\n",
     ),
