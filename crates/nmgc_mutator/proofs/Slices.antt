@@ -2,7 +2,7 @@
 use Rattle.std.proofs.Common.{◌≡◌, ◌+◌, ◌-◌, ◌<◌, ◌≤◌, ◌^◌, ℕ, zero, suc, sym, subst, ap, refl, ◌∙◌, arith, List, [], ◌∷◌, ◌++◌, map, take, Some, slice_get, Option, None, inl, inr, length}
 use Rattle.std.specs.Prelude.{Contains, min}
 use Rattle.std.proofs.lemmas.List.{append_assoc}
-use Rattle.std.proofs.lemmas.Option.{slice_get_within}
+use Rattle.std.proofs.lemmas.Option.{get_or_from_slice_get, slice_get_within}
 use Rattle.nmgc_graph.specs.declared.command.Command.{Command}
 use Rattle.nmgc_graph.specs.declared.command.Reply.{Reply}
 use Rattle.nmgc_graph.specs.declared.value.Value.{Value}
@@ -16,14 +16,14 @@ use Rattle.nmgc_mutator.specs.declared.mutator.Mutator.{Mutator}
 use Rattle.nmgc_mutator.specs.declared.mutator.Step.TheVariants.{Replied}
 use Rattle.nmgc_mutator.specs.declared.mutator.SliceEnd.{SliceEnd}
 use Rattle.nmgc_mutator.specs.declared.mutator.SliceEnd.TheVariants as ending
-use Rattle.nmgc_mutator.specs.Ready.{IsReady, IsBuilt, hand_in, part_of, rows_of}
-use Rattle.nmgc_mutator.specs.Acts.{CanStep, HasStepRoom, StepsTo}
+use Rattle.nmgc_mutator.specs.Ready.{IsReady, hand_in, part_of, rows_of}
+use Rattle.nmgc_mutator.specs.Acts.{HasStepRoom, StepsTo}
 use Rattle.std.specs.Prelude.{All}
-use Rattle.std.proofs.lemmas.List.Elements.{All-head, All-tail}
-use Rattle.nmgc_graph.specs.declared.command.Command.TheVariants.{Full}
+use Rattle.std.proofs.lemmas.List.Elements.{All-get_or}
+use Rattle.nmgc_graph.specs.Command.{Fits}
 use Rattle.nmgc_mutator.specs.Records.{numbers, noted_by, all_recorded, weaks_by, all_weaks, pushed_at, all_pushed}
 use Rattle.nmgc_mutator.specs.Does.{HasDone, IsYield}
-use Rattle.nmgc_mutator.specs.Slice.{CanRun, IsRunning, HasRoom, HasRun, GoesOn, IsEnd, Ended, tried, next_turn, passed, turned}
+use Rattle.nmgc_mutator.specs.Slice.{IsRunning, HasRoom, HasRun, GoesOn, IsEnd, Ended, tried, next_turn, passed, turned}
 use Rattle.nmgc_mutator.proofs.Readies.{went_both, hand_along, kept_items}
 use Rattle.nmgc_mutator.proofs.Births.{last_case}
 use Rattle.nmgc_mutator.proofs.Steps.{ready_turned}
@@ -275,19 +275,13 @@ still_runs round v m cs mid new x y n h e f s =
       },
     ))
 
--- what a slice may do so far
-pub built_steps : (c : Command) → IsBuilt c → CanStep c
-built_steps Full b = absurd b
-built_steps _ b = tt
-
-pub built_room : (n : Mutator) (turns : ℕ) (c : Command) (slice long i : ℕ) → HasRoom n (min slice long - i) → i < slice → i < long → HasStepRoom (turned n turns) c
-built_room n turns c slice long i h a b =
+-- there is room for a step
+pub step_room : (n : Mutator) (turns : ℕ) (c : Command) (slice long i : ℕ) → HasRoom n (min slice long - i) → i < slice → i < long → HasStepRoom (turned n turns) c
+step_room n turns c slice long i h a b =
     let r = room_left n slice long i h a b in
     let most = most_noted c in
     record { replies = r.0; recorded = r.1; updrem = (let e = most.0 in let some_ = r.2 in omega arith); young_weaks = (let e = most.1 in let one = r.4 in omega arith) }
 
-pub built_at : (words : ℕ) (program : List Command) (i : ℕ) (c : Command) → All (CanRun words) program → slice_get program i ≡ Some c → IsBuilt c
-unfolding is_there first_or
-built_at words [] i c all e = absurd (subst (λ o. is_there o) (sym e) tt)
-built_at words (d ∷ program) zero c all e = subst (λ (b : Command). IsBuilt b) (ap (λ o. first_or c o) e) (All-head (CanRun words) d program all).built
-built_at words (d ∷ program) (suc i) c all e = built_at words program i c (All-tail (CanRun words) d program all) e
+-- a command of the program is within the limits
+pub fits_at : (words : ℕ) (program : List Command) (i : ℕ) (c : Command) → All (Fits words) program → slice_get program i ≡ Some c → Fits words c
+fits_at words program i c all e = subst (Fits words) (get_or_from_slice_get program i c c e) (All-get_or (Fits words) program i c (slice_get_within program i c e) all)

@@ -1,7 +1,7 @@
--- What any command does to its mutator.
+-- What a command does to its mutator, with all that it notes.
 --
--- `Does` says it for those that note one recorded field of a `set` and one pushed word at most, and no weak pointer
--- yet. Here the notes are told for every command.
+-- `Does` of the module `Does` is the same for commands that note one recorded field of a `set` and one pushed word at
+-- most, and no weak pointer.
 use Rattle.std.specs.Prelude.{◌≡◌, ℕ, ◌+◌, ◌-◌, ◌<◌, ◌≤◌, List, [], ◌∷◌, ◌++◌}
 use Rattle.nmgc_graph.specs.declared.node.Kind.{Kind}
 use Rattle.nmgc_graph.specs.declared.node.Kind.TheVariants as kind
@@ -21,11 +21,6 @@ use Rattle.nmgc_mutator.specs.declared.mutator.Step.TheVariants.{Replied, Nurser
 use Rattle.nmgc_mutator.specs.Ready.{IsReady, part_of, hand_in}
 use Rattle.nmgc_mutator.specs.Records.{numbers, noted_by, weaks_by, all_pushed}
 use Rattle.nmgc_mutator.specs.Does.{Went}
-
--- the commands that a mutator can do: `full` joins them once a full cycle is built
-abbrev pub CanStep : Command → Type 0
-CanStep Full = ⊥
-CanStep c = Unit {0}
 
 -- a command that makes no object and whose notes `Does` tells
 abbrev pub IsPlain : Command → Type 0

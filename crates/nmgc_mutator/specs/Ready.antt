@@ -4,8 +4,6 @@ use Rattle.nmgc_graph.specs.Room.{Room}
 use Rattle.nmgc_object.specs.declared.words.TheConstants.{NIL_WORD}
 use Rattle.nmgc_graph.specs.declared.value.TheConstants.{REGISTERS}
 use Rattle.nmgc_graph.specs.declared.command.Operand.{Operand}
-use Rattle.nmgc_graph.specs.declared.command.Command.{Command}
-use Rattle.nmgc_graph.specs.declared.command.Command.TheVariants.{Num, Nil, Mov, Con, Var, Arr, Thunk, Stack, Get, Set, Cas, Update, Force, Push, Pop, Deref, Finalise, NextFin, Show, Same, Yield, Collect}
 use Rattle.nmgc_graph.specs.Command.{IsMaking, words_made}
 use Rattle.nmgc_object.specs.declared.layout.Layout.{Layout}
 use Rattle.nmgc_object.specs.declared.layout.Nursery.{Nursery}
@@ -16,32 +14,6 @@ use Rattle.nmgc_round.specs.Ready.{IsMutator}
 use Rattle.nmgc_round.specs.Told.{IsSafe}
 use Rattle.nmgc_round.specs.Seat.{RoundSeat, IsAt, seen}
 use Rattle.nmgc_mutator.specs.declared.mutator.Mutator.{Mutator}
-
--- the commands that are built so far: each later command joins them here
-abbrev pub IsBuilt : Command → Type 0
-IsBuilt (Num dest n) = Unit {0}
-IsBuilt (Nil dest) = Unit {0}
-IsBuilt (Mov dest v) = Unit {0}
-IsBuilt (Con dest tag fields) = Unit {0}
-IsBuilt (Var dest v) = Unit {0}
-IsBuilt (Arr dest count v) = Unit {0}
-IsBuilt (Thunk dest free) = Unit {0}
-IsBuilt (Stack dest size) = Unit {0}
-IsBuilt (Get dest object index) = Unit {0}
-IsBuilt (Set object index v) = Unit {0}
-IsBuilt (Cas object index expected v) = Unit {0}
-IsBuilt (Update object v) = Unit {0}
-IsBuilt (Force dest object) = Unit {0}
-IsBuilt (Push object v) = Unit {0}
-IsBuilt (Pop dest object) = Unit {0}
-IsBuilt (Deref dest object) = Unit {0}
-IsBuilt (Finalise dest object) = Unit {0}
-IsBuilt (NextFin dest) = Unit {0}
-IsBuilt (Show v) = Unit {0}
-IsBuilt (Same left right) = Unit {0}
-IsBuilt Yield = Unit {0}
-IsBuilt Collect = Unit {0}
-IsBuilt _ = ⊥
 
 -- a mutator's part of what its seat knows
 abbrev pub first_part : List Part → Part

@@ -3,20 +3,15 @@ use Rattle.std.specs.Prelude.{◌≡◌, ℕ, zero, suc, ◌+◌, ◌-◌, ◌*�
 use Rattle.nmgc_graph.specs.declared.command.Command.{Command}
 use Rattle.nmgc_graph.specs.declared.command.Command.TheVariants.{Yield, Collect, Full}
 use Rattle.nmgc_graph.specs.declared.command.Reply.{Reply}
-use Rattle.nmgc_graph.specs.Command.{Fits, IsMaking, words_made}
+use Rattle.nmgc_graph.specs.Command.{IsMaking, words_made}
 use Rattle.nmgc_round.specs.declared.table.Round.{Round}
 use Rattle.nmgc_round.specs.Seat.{RoundSeat}
 use Rattle.nmgc_round.specs.View.{Seen}
 use Rattle.nmgc_mutator.specs.declared.mutator.Mutator.{Mutator}
 use Rattle.nmgc_mutator.specs.declared.mutator.SliceEnd.{SliceEnd}
 use Rattle.nmgc_mutator.specs.declared.mutator.SliceEnd.TheVariants as ending
-use Rattle.nmgc_mutator.specs.Ready.{IsReady, IsBuilt}
+use Rattle.nmgc_mutator.specs.Ready.{IsReady}
 use Rattle.nmgc_mutator.specs.Does.{HasDone, IsYield}
-
--- a command may be given
-pub record CanRun (words : ℕ) (c : Command) : Type 0 where
-  pub fits : Fits words c
-  pub built : IsBuilt c
 
 -- there is room for so many commands: one pushes eight words at most
 pub record HasRoom (m : Mutator) (count : ℕ) : Type 0 where

@@ -10,17 +10,17 @@ ghost use Rattle.std.specs.Prelude.{◌≡◌, ◌++◌, ◌∷◌, ◌+◌, ◌
 ghost use Rattle.nmgc_graph.specs.declared.value.TheConstants.{REGISTERS};
 ghost use Rattle.nmgc_graph.specs.declared.command.Command.TheVariants.{Num, Nil, Mov, Same, Show, Get, Set};
 ghost use Rattle.nmgc_graph.specs.declared.command.Reply.TheVariants.{Fine};
-ghost use Rattle.nmgc_object.specs.declared.words.TheConstants.{NIL_WORD, ZERO_WORD};
+ghost use Rattle.nmgc_object.specs.declared.words.TheConstants.{NIL_WORD};
 ghost use Rattle.nmgc_graph.specs.Command.{IsOperand, IsRegister, HasRegisters, IsMaking, Fits};
 ghost use Rattle.nmgc_round.specs.View.{plain, word, owed_word, word_of, hand_now, leaves, holding};
 ghost use Rattle.nmgc_round.specs.Told.{told_by, CanTell, IsSafe};
 ghost use Rattle.nmgc_round.specs.Ready.{CanLoad, Names, IsReadable};
 ghost use Rattle.nmgc_round.specs.Seat.{IsAt, seen, word_count};
-ghost use Rattle.nmgc_round.specs.Naming.{IsNamed, Replies};
-ghost use Rattle.nmgc_mutator.specs.Ready.{IsReady, IsWhole, part_of, hand_in, with_register};
+ghost use Rattle.nmgc_round.specs.Naming.{IsNamed};
+ghost use Rattle.nmgc_mutator.specs.Ready.{IsReady, IsWhole, part_of, with_register};
 ghost use Rattle.nmgc_mutator.specs.Records.{numbers, is_young, is_old, recorded_at, recorded_by, all_pushed};
 ghost use Rattle.nmgc_mutator.specs.Does.{Does, Went, Finds, HasReplied, IsFilling, IsYield, dest_made, with_recorded, with_updrem};
-ghost use Rattle.nmgc_mutator.specs.Acts.{Acts, CanStep, HasStepRoom, IsPlain, StepsTo, weaks_of, with_weaks};
+ghost use Rattle.nmgc_mutator.specs.Acts.{Acts, HasStepRoom, IsPlain, StepsTo, weaks_of, with_weaks};
 ghost use Rattle.nmgc_graph.specs.declared.node.Kind.TheVariants.{Weak};
 ghost use Rattle.nmgc_mutator.specs.declared.mutator.Step.TheVariants.{Replied};
 ghost use Rattle.nmgc_round.specs.Making.{header_made, fields_made};
@@ -521,7 +521,6 @@ impl Mutator {
         requires ready { IsReady round.now seat.old self.old }
         requires serial { self.old.serial < 2 ^ 32 - 1 }
         requires fits { Fits self.old.layout.words command.now }
-        requires known { CanStep command.now }
         requires other { IsMaking command.now → ⊥ }
         requires room { HasStepRoom self.old command.now }
         ensures { Acts round.now (seen seat.old) seat.new self.old self.new command.now result }
@@ -586,7 +585,6 @@ impl Mutator {
         requires ready { IsReady round.now seat.old self.old }
         requires serial { self.old.serial < 2 ^ 32 - 1 }
         requires fits { Fits self.old.layout.words command.now }
-        requires known { CanStep command.now }
         requires room { HasStepRoom self.old command.now }
         ensures { StepsTo round.now seat.old seat.new self.old self.new command.now result }
     {

@@ -3,10 +3,11 @@
 //! A slice ends by the first of its reasons. A command that waits for room is the first of the next slice, so it
 //! passes the gate once more then.
 ghost use Rattle.std.specs.Prelude.{◌≡◌, ◌≤◌, take, length, min, All, IfSome, IfNone};
+ghost use Rattle.nmgc_graph.specs.Command.{Fits};
 ghost use Rattle.nmgc_round.specs.Seat.{seen};
 ghost use Rattle.nmgc_mutator.specs.Ready.{IsReady};
 ghost use Rattle.nmgc_mutator.specs.Does.{IsYield};
-ghost use Rattle.nmgc_mutator.specs.Slice.{CanRun, HasRoom, HasRun, IsEnd, Ended, next_turn, passed, tried, turned};
+ghost use Rattle.nmgc_mutator.specs.Slice.{HasRoom, HasRun, IsEnd, Ended, next_turn, passed, tried, turned};
 
 use crate::mutator::{Mutator, Slice, SliceEnd, Step};
 use nmgc_graph::Command;
@@ -51,7 +52,7 @@ impl Mutator {
         gate: &G,
     ) -> Slice
         requires ready { IsReady round.now seat.old self.old }
-        requires program { All (CanRun self.old.layout.words) program.now }
+        requires program { All (Fits self.old.layout.words) program.now }
         requires room { HasRoom self.old (min slice (length program.now)) }
         ensures run { HasRun round.now (seen seat.old) seat.new self.old self.new (take result.done program.now) }
         ensures end { Ended program.now slice result.done self.new result.end }

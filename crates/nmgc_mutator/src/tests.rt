@@ -1,14 +1,14 @@
 //! Programs on the heap of which nothing was made: of one mutator by the tables of what each command does, and
 //! of two in threads of their own.
 ghost use Rattle.std.specs.Prelude.{ℕ, List, ◌≡◌, ◌<◌, ◌≤◌, [], All, IfOk, IsTrue, length, min, slice_index_or, vec_capacity};
-ghost use Rattle.nmgc_graph.specs.Command.{HasNumbers, words_made};
+ghost use Rattle.nmgc_graph.specs.Command.{Fits, HasNumbers, words_made};
 ghost use Rattle.nmgc_object.specs.Places.{IsLayout};
 ghost use Rattle.nmgc_round.specs.Empty.{IsEmptyHeap, first_opening};
 ghost use Rattle.nmgc_round.specs.Starting.{CanOpen};
 ghost use Rattle.nmgc_round.specs.Seat.{RoundSeat, IsAt, seen};
 ghost use Rattle.nmgc_round.specs.Seating.{alone};
-ghost use Rattle.nmgc_mutator.specs.Ready.{IsBuilt, IsNew};
-ghost use Rattle.nmgc_mutator.specs.Slice.{CanRun, HasRoom};
+ghost use Rattle.nmgc_mutator.specs.Ready.{IsNew};
+ghost use Rattle.nmgc_mutator.specs.Slice.{HasRoom};
 
 use crate::{Mutator, Slice, SliceEnd};
 use nmgc_graph::{Command, List, Name, NoMemory, Operand, Reply, Value};
@@ -60,14 +60,14 @@ fn empty_heap(alloc: Global, layout: &Layout) -> Result<Words, NoMemory>
     Words::new(alloc, words.as_slice())
 }
 
-// Whether the command is built, its numbers are within their limits, and it makes at most 16 words.
+// Whether the command's numbers are within their limits, and it makes at most 16 words.
 fn has_limits(command: &Command) -> bool
-    ensures { IsTrue result → HasNumbers command.now × (words_made command.now ≤ 16) × IsBuilt command.now }
+    ensures { IsTrue result → HasNumbers command.now × (words_made command.now ≤ 16) }
 {
     match command {
         Command::Nil { .. } | Command::Mov { .. } | Command::Var { .. } => true,
         Command::Show { .. } | Command::Same { .. } => true,
-        Command::Yield | Command::Collect => true,
+        Command::Yield | Command::Collect | Command::Full => true,
         Command::Num { number, .. } => *number < 1_000_000,
         Command::Con { tag, fields, .. } => *tag < 100 && fields.items().len() <= 14,
         Command::Arr { count, .. } => *count <= 14,
@@ -77,14 +77,16 @@ fn has_limits(command: &Command) -> bool
         Command::Get { index, .. } | Command::Set { index, .. } => *index < 65_536,
         Command::Cas { index, .. } => *index < 65_536,
         Command::Push { .. } | Command::Pop { .. } => true,
-        Command::Deref { .. } | Command::Finalise { .. } | Command::NextFin { .. } => true,
-        _ => false,
+        Command::Weak { .. }
+        | Command::Deref { .. }
+        | Command::Finalise { .. }
+        | Command::NextFin { .. } => true,
     }
 }
 
-// Whether a script for segments of 16 words may have the command, and it is built.
+// Whether a script for segments of 16 words may have the command.
 fn can_run(command: &Command) -> bool
-    ensures { IsTrue result → CanRun 16 command.now }
+    ensures { IsTrue result → Fits 16 command.now }
 {
     if command.has_registers() && has_limits(command) {
         return true;
@@ -94,7 +96,7 @@ fn can_run(command: &Command) -> bool
 
 // Whether all of them are so.
 fn can_run_all(program: &[Command]) -> bool
-    ensures { IsTrue result → All (CanRun 16) program.now }
+    ensures { IsTrue result → All (Fits 16) program.now }
 {
     program.iter().all(|command| can_run(command))
 }
@@ -111,7 +113,7 @@ fn slice_on(
     requires layout { IsLayout layout × (layout.mutators ≡ 1) }
     requires heap { IsEmptyHeap layout words }
     requires mutator { IsNew 0 layout mutator }
-    requires program { All (CanRun layout.words) program.now }
+    requires program { All (Fits layout.words) program.now }
     requires room { (room.items ≡ []) × (1 ≤ vec_capacity room) }
     requires lists { HasRoom mutator (min slice (length program.now)) }
 {
@@ -245,10 +247,10 @@ fn reply_so(alloc: Global, rows: Vec<(Command, Reply)>) -> Result<bool, NoMemory
     Ok(slice.end == SliceEnd::Program && mutator.replies.items() == replies.as_slice())
 }
 
-// Thunks, stacks and comparisons, with each reply and refusal. r1 has 5, r2 a thunk, r3 a variable, r4 a constructor
-// and r6 a stack.
+// Thunks, stacks, weak pointers and comparisons, with each reply and refusal. r1 has 5, r2 a thunk, r3 a variable,
+// r4 a constructor, r6 a stack and r7 a weak pointer.
 #[test]
-fn thunks_and_stacks_reply_by_their_table(rt: HostRuntime) -> Result<(), Fail> {
+fn other_objects_reply_by_their_table(rt: HostRuntime) -> Result<(), Fail> {
     let r = Operand::Register;
     let mut free = Vec::new(rt.alloc());
     free.push(r(1))?;
@@ -305,6 +307,20 @@ fn thunks_and_stacks_reply_by_their_table(rt: HostRuntime) -> Result<(), Fail> {
         (deref(r(4)), Reply::WrongKind),
         (finalise(r(1)), Reply::NoPointer),
         (finalise(r(4)), Reply::WrongKind),
+        (
+            Command::Weak {
+                dest: 7,
+                key: r(3),
+                value: r(1),
+                finaliser: r(4)
+            },
+            made(4)
+        ),
+        (get(5, r(7), 0), Reply::WrongKind),
+        (deref(r(7)), given(5)),
+        (finalise(r(7)), made(2)),
+        (deref(r(7)), Reply::Dead),
+        (finalise(r(7)), Reply::Dead),
         (Command::NextFin { dest: 5 }, Reply::Nothing),
     ]?;
     assert!(rt; reply_so(rt.alloc(), rows)?);
@@ -441,6 +457,8 @@ fn a_slice_ends_by_the_first_reason(rt: HostRuntime) -> Result<(), Fail> {
     let asks = [num(0, 1), Command::Collect, num(0, 3)];
     assert!(rt; ends(rt.alloc(), asks.as_slice(), 1, 1, SliceEnd::Slice)?);
     assert!(rt; ends(rt.alloc(), asks.as_slice(), 3, 2, SliceEnd::Collect)?);
+    let whole = [num(0, 1), Command::Full, num(0, 3)];
+    assert!(rt; ends(rt.alloc(), whole.as_slice(), 3, 2, SliceEnd::Full)?);
     let two = [num(0, 1), num(0, 2)];
     assert!(rt; ends(rt.alloc(), two.as_slice(), 1, 1, SliceEnd::Slice)?);
     assert!(rt; ends(rt.alloc(), two.as_slice(), 2, 2, SliceEnd::Program)?);

@@ -8,9 +8,7 @@ use Rattle.nmgc_graph.specs.declared.command.Reply.{Reply}
 use Rattle.nmgc_graph.specs.World.{World, IsWorld, state_of}
 use Rattle.nmgc_graph.specs.Step.{CanApply, shared_name, step}
 use Rattle.nmgc_graph.specs.History.{Row}
-use Rattle.nmgc_graph.specs.laws.Growth.{step_grows}
 use Rattle.nmgc_object.specs.declared.layout.TheConstants.{SHARED_PLACE}
-use Rattle.nmgc_reach.specs.Reachable.{CanReplay}
 use Rattle.nmgc_reach.specs.laws.WorldSteps.{step_keeps_world}
 use Rattle.nmgc_reach.specs.laws.Keeps.{step_leaves_others}
 use Rattle.nmgc_core.specs.State.{State}
@@ -21,7 +19,6 @@ use Rattle.nmgc_round.specs.View.{Answer, plain, word, FixedWord, Hand, leaves}
 use Rattle.nmgc_round.specs.View.{Row as OwnRow}
 use Rattle.nmgc_round.specs.Naming.{AllReply, Replies}
 use Rattle.nmgc_round.specs.Rule.{Answers, AllAnswer}
-use Rattle.nmgc_mutator.specs.Ready.{IsBuilt}
 use Rattle.nmgc_turn.specs.Worked.{Done}
 use Rattle.nmgc_graph.specs.declared.value.TheConstants.{SHARED_MAKER}
 use Rattle.nmgc_graph.specs.laws.Worlds.{not_shared}
@@ -29,30 +26,25 @@ use Rattle.nmgc_turn.proofs.RowRegisters.{IsPlain, registers_left}
 use Rattle.nmgc_turn.proofs.Depths.{Depths, depths_other, depths_left}
 use Rattle.nmgc_turn.specs.laws.Replays.{world_scanned}
 
--- a row of a built command, whose plain answer gives no value
-pub record IsTold (r : OwnRow) : Type 0 where
-  pub built : IsBuilt r.command
-  pub plain : IsPlain r.answer
-
 plain_reply : (fixed : List FixedWord) (a : Answer) (r : Reply) → Replies fixed a r → IsPlain a
 plain_reply fixed (plain x) r h = h.1
 plain_reply fixed (word w) r h = tt
 
--- the rows of a mutator that did built commands
-pub all_told : (fixed : List FixedWord) (own : List OwnRow) (done : List Done) → AllReply fixed own done → All (λ (d : Done). IsBuilt d.0) done → All IsTold own
-all_told fixed [] done h built = All-nil IsTold
-all_told fixed (r ∷ own) [] h built = absurd h
-all_told fixed (r ∷ own) (d ∷ done) h built =
-    All-cons IsTold r own
-    (record { built = subst IsBuilt (sym h.0.0) (All-head (λ (d : Done). IsBuilt d.0) d done built); plain = plain_reply fixed r.answer d.1 h.0.1 })
-    (all_told fixed own done h.1 (All-tail (λ (d : Done). IsBuilt d.0) d done built))
+-- no plain answer of a mutator's rows gives a value
+abbrev pub ArePlain : List OwnRow → Type 0
+ArePlain own = All (λ (r : OwnRow). IsPlain r.answer) own
+
+pub all_plain : (fixed : List FixedWord) (own : List OwnRow) (done : List Done) → AllReply fixed own done → ArePlain own
+all_plain fixed [] done h = All-nil (λ (r : OwnRow). IsPlain r.answer)
+all_plain fixed (r ∷ own) [] h = absurd h
+all_plain fixed (r ∷ own) (d ∷ done) h = All-cons (λ (r : OwnRow). IsPlain r.answer) r own (plain_reply fixed r.answer d.1 h.0.1) (all_plain fixed own done h.1)
 
 module _ (P : Place → Type 0) (m : ℕ) where
   -- a row of the mutator's own at its place in the history
   pub record IsOwn (w : World) (h : Hand) (r : OwnRow) (row : Row) : Type 0 where
     pub number : row.mutator ≡ m
     pub command : r.command ≡ row.command
-    pub built : IsBuilt r.command
+    pub plain : IsPlain r.answer
     pub answers : Answers P r.answer row.reply
     pub registers : ListMeans P h.registers (state_of w m).registers
     pub depths : Depths P m w h
@@ -66,7 +58,7 @@ module _ (P : Place → Type 0) (m : ℕ) where
 
   -- whatever hand means its registers there and lists the depths of its stacks, and whatever rows say what it did from there on
   abbrev Goes : World → List Done → List Row → Type 0
-  Goes w done rows = (h : Hand) (own : List OwnRow) → AllAnswer P own done → All IsTold own → ListMeans P h.registers (state_of w m).registers → Depths P m w h → Along w h own rows
+  Goes w done rows = (h : Hand) (own : List OwnRow) → AllAnswer P own done → ArePlain own → ListMeans P h.registers (state_of w m).registers → Depths P m w h → Along w h own rows
 
   module _ (one : (p q : Place) → P p → P q → (p.name ≡ q.name) ⊎ (p.at ≡ q.at) → p ≡ q) (mine : m ≢ SHARED_MAKER) (shared : P (record { at = SHARED_PLACE; name = shared_name })) (w : World) (k : ℕ) (c : Command) (r : Reply) (is : IsWorld w) (can : CanApply w k c) (done : List Done) (rows : List Row) (go : Goes (step w k c).0 done rows) where
     -- over a command of another
@@ -77,18 +69,18 @@ module _ (P : Place → Type 0) (m : ℕ) where
     goes_on : k ≡ m → (step w k c).1 ≡ r → Goes w ((c, r) ∷ done) (record { mutator = k; command = c; reply = r } ∷ rows)
     goes_on e gives h [] says told means d = absurd says
     goes_on e gives h (x ∷ rest) says told means d =
-        let t : IsTold x = All-head IsTold x rest told in
+        let plainly : IsPlain x.answer = All-head (λ (r : OwnRow). IsPlain r.answer) x rest told in
         let reply : r ≡ (step w m x.command).1 = sym gives ∙ ap (λ j. (step w j c).1) e ∙ ap (λ d. (step w m d).1) (sym says.0.0) in
         let exists : m < length w.mutators = subst (λ j. j < length w.mutators) e can.mutator in
         let answers : Answers P x.answer (step w m x.command).1 = subst (λ (y : Reply). Answers P x.answer y) reply says.0.1 in
-        let left = registers_left P w m exists h means shared x.command x.answer t.built answers t.plain in
-        let deep = depths_left P one m w mine h d exists shared means x.command x.answer answers t.plain in
+        let left = registers_left P w m exists h means shared x.command x.answer answers plainly in
+        let deep = depths_left P one m w mine h d exists shared means x.command x.answer answers plainly in
         inr (
           x,
           rest,
           refl,
-          record { number = e; command = says.0.0; built = t.built; answers = says.0.1; registers = means; depths = d },
-          go (leaves h x.command x.answer) rest says.1 (All-tail IsTold x rest told)
+          record { number = e; command = says.0.0; plain = plainly; answers = says.0.1; registers = means; depths = d },
+          go (leaves h x.command x.answer) rest says.1 (All-tail (λ (r : OwnRow). IsPlain r.answer) x rest told)
               (subst (λ d. ListMeans P (leaves h x.command x.answer).registers (state_of (step w k d).0 m).registers) says.0.0
               (subst (λ j. ListMeans P (leaves h x.command x.answer).registers (state_of (step w j x.command).0 m).registers) (sym e) left))
               (subst (λ c. Depths P m (step w k c).0 (leaves h x.command x.answer)) says.0.0 (subst (λ j. Depths P m (step w j x.command).0 (leaves h x.command x.answer)) (sym e) deep)),
@@ -109,24 +101,3 @@ module _ (P : Place → Type 0) (m : ℕ) where
         | inl t ↦ goes_on one mine g s.world k c r is can (done_by m hs) (rows_in hs) go t.1 legal.0.0.2 h own (subst (λ (b : Bool). AllAnswer P own (cond b ((c, r) ∷ done_by m hs) (done_by m hs))) t.0 says) told means d
         | inr t ↦ goes_by one mine g s.world k c r is can (done_by m hs) (rows_in hs) go t.1 h own (subst (λ (b : Bool). AllAnswer P own (cond b ((c, r) ∷ done_by m hs) (done_by m hs))) t.0 says) told means d
       ]
-
--- each mutator's rows go along the history
-abbrev Follows : (Place → Type 0) → World → List Row → ℕ → Type 0
-Follows P w rows m = (h : Hand) × (own : List OwnRow) × Along P m w h own rows
-
-module _ (P : Place → Type 0) where
-  first_built : (w : World) (row : Row) (rows : List Row) → Follows P w (row ∷ rows) row.mutator → IsBuilt row.command
-  first_built w row rows (h, own, inl other) = absurd (other.0 refl)
-  first_built w row rows (h, own, inr mine) = subst IsBuilt mine.3.command mine.3.built
-
-  rest_follows : (w : World) (row : Row) (rows : List Row) (m : ℕ) → Follows P w (row ∷ rows) m → Follows P (step w row.mutator row.command).0 rows m
-  rest_follows w row rows m (h, own, inl other) = (h, own, other.1)
-  rest_follows w row rows m (h, own, inr mine) = (leaves h mine.0.command mine.0.answer, mine.1, mine.4)
-
-  -- so every command of the history is built
-  pub all_built : (w : World) (rows : List Row) → CanReplay w rows → ((m : ℕ) → m < length w.mutators → Follows P w rows m) → All (λ (row : Row). IsBuilt row.command) rows
-  all_built w [] can each = All-nil (λ (row : Row). IsBuilt row.command)
-  all_built w (row ∷ rows) can each =
-      let count = (step_grows w row.mutator row.command can.0.mutator).mutators in
-      All-cons (λ (row : Row). IsBuilt row.command) row rows (first_built w row rows (each row.mutator can.0.mutator))
-      (all_built (step w row.mutator row.command).0 rows can.1 (λ m lt. rest_follows w row rows m (each m (subst (λ n. m < n) count lt))))

@@ -382,7 +382,7 @@ module _ (P : Place → Type 0) (one : (p q : Place) → P p → P q → (p.name
       | inr f ↦ absurd (let bad = ap given e ∙ f.0 in let some_ : Some v ≡ None = bad in cc)
     ]
 
-    -- every built command
+    -- after every command the depths are those of the world
     pub depths_left : (c : Command) (a : Answer) → Answers P a (step w m c).1 → IsPlain a → Depths P m (step w m c).0 (leaves h c a)
     depths_left (command.Stack dest n) a e p = stack_left dest n a e p
     depths_left (command.Push object v) a e p = push_left object v a e

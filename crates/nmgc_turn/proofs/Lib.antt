@@ -12,3 +12,4 @@ mod RootsLeft
 mod RowRegisters
 mod Slots
 mod Stops
+mod Weaks

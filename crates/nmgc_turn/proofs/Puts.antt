@@ -1,14 +1,12 @@
--- What stands in a field of an object that was there as the round began stood there then, or a command put it there. No weak pointer was made.
-use Rattle.std.proofs.Common.{◌≡◌, ◌⊎◌, ◌/◌, ℕ, Bool, true, false, cond, eqb, ltb, List, [], ◌∷◌, ◌++◌, length, set, refl, sym, ap, subst, ◌∙◌, Option, Some, None, inl, inr, All}
-use Rattle.std.specs.Prelude.{IsSome, IfSome, slice_get}
-use Rattle.std.proofs.lemmas.List.Elements.{All-head, All-tail}
+-- What stands in a field of an object that was there as the round began stood there then, or a command put it there.
+use Rattle.std.proofs.Common.{◌≡◌, ◌⊎◌, ◌/◌, ℕ, Bool, true, false, cond, eqb, ltb, List, [], ◌∷◌, ◌++◌, length, set, refl, sym, ap, subst, ◌∙◌, Option, Some, None, inl, inr}
+use Rattle.std.specs.Prelude.{IsSome, slice_get}
 use Rattle.std.proofs.lemmas.Option.{none-some, same_Some, some_pair_parts}
 use Rattle.nmgc_graph.specs.declared.value.Name.{Name}
 use Rattle.nmgc_graph.specs.declared.value.Value.{Value}
 use Rattle.nmgc_graph.specs.declared.value.Value.TheVariants as value
 use Rattle.nmgc_graph.specs.declared.node.Node.{Node}
 use Rattle.nmgc_graph.specs.declared.node.Node.TheVariants.{Con, Var, Arr, Thunk, Weak, Stack}
-use Rattle.nmgc_graph.specs.declared.node.Kind.TheVariants as kind
 use Rattle.nmgc_graph.specs.declared.change.Change.{Change}
 use Rattle.nmgc_graph.specs.declared.change.Change.TheVariants as change
 use Rattle.nmgc_graph.specs.declared.command.Operand.{Operand}
@@ -23,20 +21,16 @@ use Rattle.nmgc_graph.specs.History.{Row, replayed}
 use Rattle.nmgc_graph.specs.laws.Growth.{step_grows}
 use Rattle.nmgc_graph.specs.laws.Worlds.{not_shared}
 use Rattle.nmgc_reach.specs.Holds.{Stands}
-use Rattle.nmgc_reach.specs.Shape.{kind_of, made_by}
 use Rattle.nmgc_reach.specs.Stored.{value_written, place_written, Stores}
 use Rattle.nmgc_reach.specs.Reachable.{CanReplay}
 use Rattle.nmgc_reach.specs.laws.NodeLaws.{next_is_new, node_cases}
-use Rattle.nmgc_reach.specs.laws.NodeShapes.{changed_shape}
 use Rattle.nmgc_reach.specs.laws.HeldSteps.{absent}
-use Rattle.nmgc_reach.specs.laws.Keeps.{Any, stepped, stepped_nodes}
 use Rattle.nmgc_reach.specs.laws.StoredLaws.{step_stores}
 use Rattle.nmgc_reach.specs.laws.WorldSteps.{step_keeps_world}
 use Rattle.nmgc_object.specs.declared.layout.Layout.{Layout}
 use Rattle.nmgc_round.specs.View.{plain, Hand, word_of}
 use Rattle.nmgc_round.specs.Own.{slots_at}
 use Rattle.nmgc_turn.proofs.Depths.{push_cases}
-use Rattle.nmgc_mutator.specs.Ready.{IsBuilt}
 use Rattle.nmgc_mutator.specs.Records.{recorded_at, noted_by, depth_of}
 
 -- a test that chooses between a node that is written and one that is kept
@@ -120,9 +114,9 @@ pub record Puts (w : World) (m : ℕ) (c : Command) (name : Name) (i : ℕ) (x :
 same_field : (layout : Layout) (h : Hand) (object v : Operand) (i j : ℕ) → i ≡ j → recorded_at layout (word_of h.registers object) i (word_of h.registers v) ≡ recorded_at layout (word_of h.registers object) j (word_of h.registers v)
 same_field layout h object v i j e = ap (λ k. recorded_at layout (word_of h.registers object) k (word_of h.registers v)) e
 
--- of the built commands a `set`, a `cas` and an `update` store a value
-stored_put : (w : World) (m : ℕ) (c : Command) (name : Name) (i : ℕ) (x : Value) → IsBuilt c → Stands (step w m c).0 name i x → Stores w m c name i x → Stands w name i x ⊎ Puts w m c name i x
-stored_put w m (command.Set object index v) name i x built s st =
+-- a command that stores a value puts it there, or left what stood there
+stored_put : (w : World) (m : ℕ) (c : Command) (name : Name) (i : ℕ) (x : Value) → Stands (step w m c).0 name i x → Stores w m c name i x → Stands w name i x ⊎ Puts w m c name i x
+stored_put w m (command.Set object index v) name i x s st =
     let c : Change = change.Set index (value_for w m v) in
     let t = some_pair_parts (value_for w m object) (value.Ref name) c st.changes st.asks in
     let place : Some index ≡ Some i = ap (λ (c : Change). place_written c st.node) t.1 ∙ st.place in
@@ -132,7 +126,7 @@ stored_put w m (command.Set object index v) name i x built s st =
       | inl fine ↦ inr (record { object = object; v = v; reply = Fine; refers = t.0; value = cc; gives = fine; plainly = refl; notes = λ layout h deep. same_field layout h object v index i at })
       | inr same ↦ inl (record { node = s.node; node_is = sym (same name) ∙ s.node_is; field = s.field })
     ]
-stored_put w m (command.Cas object index expected v) name i x built s st =
+stored_put w m (command.Cas object index expected v) name i x s st =
     let c : Change = change.Exchange index (value_for w m expected) (value_for w m v) in
     let t = some_pair_parts (value_for w m object) (value.Ref name) c st.changes st.asks in
     let place : Some index ≡ Some i = ap (λ (c : Change). place_written c st.node) t.1 ∙ st.place in
@@ -142,7 +136,7 @@ stored_put w m (command.Cas object index expected v) name i x built s st =
       | inl hit ↦ inr (record { object = object; v = v; reply = Yes; refers = t.0; value = cc; gives = hit; plainly = refl; notes = λ layout h deep. same_field layout h object v index i at })
       | inr same ↦ inl (record { node = s.node; node_is = sym (same name) ∙ s.node_is; field = s.field })
     ]
-stored_put w m (command.Update object v) name i x built s st =
+stored_put w m (command.Update object v) name i x s st =
     let c : Change = change.Update (value_for w m v) in
     let t = some_pair_parts (value_for w m object) (value.Ref name) c st.changes st.asks in
     let place : Some 0 ≡ Some i = ap (λ (c : Change). place_written c st.node) t.1 ∙ st.place in
@@ -152,7 +146,7 @@ stored_put w m (command.Update object v) name i x built s st =
       | inl done ↦ inr (record { object = object; v = v; reply = Updated; refers = t.0; value = cc; gives = done; plainly = refl; notes = λ layout h deep. same_field layout h object v 0 i at })
       | inr same ↦ inl (record { node = s.node; node_is = sym (same name) ∙ s.node_is; field = s.field })
     ]
-stored_put w m (command.Push object v) name i x built s st =
+stored_put w m (command.Push object v) name i x s st =
     let t = some_pair_parts (value_for w m object) (value.Ref name) (change.Push m (value_for w m v)) st.changes st.asks in
     let writes : Some (value_for w m v) ≡ Some x = ap (λ (c : Change). value_written c) t.1 ∙ st.writes in
     elim (push_cases w m (value_for w m object) (value_for w m v)) [
@@ -173,15 +167,15 @@ stored_put w m (command.Push object v) name i x built s st =
           })
       | inr f ↦ inl (record { node = s.node; node_is = sym (f.1 name) ∙ s.node_is; field = s.field })
     ]
-stored_put w m (command.Pop dest object) name i x built s st =
+stored_put w m (command.Pop dest object) name i x s st =
     let t = some_pair_parts (value_for w m object) (value.Ref name) (change.Pop m) st.changes st.asks in
     let none : None ≡ Some x = ap (λ (c : Change). value_written c) t.1 ∙ st.writes in
     absurd (none-some x none)
-stored_put w m (command.Finalise dest object) name i x built s st =
+stored_put w m (command.Finalise dest object) name i x s st =
     let t = some_pair_parts (value_for w m object) (value.Ref name) change.Finalise st.changes st.asks in
     let none : None ≡ Some x = ap (λ (c : Change). value_written c) t.1 ∙ st.writes in
     absurd (none-some x none)
-stored_put w m _ name i x built s st = absurd (none-some _ st.asks)
+stored_put w m _ name i x s st = absurd (none-some _ st.asks)
 
 -- one of the rows put the value there
 pub record IsPut (w : World) (rows : List Row) (name : Name) (i : ℕ) (x : Value) : Type 0 where
@@ -191,24 +185,20 @@ pub record IsPut (w : World) (rows : List Row) (name : Name) (i : ℕ) (x : Valu
   pub rows_are : rows ≡ before ++ row ∷ after
   pub puts : Puts (replayed w before) row.mutator row.command name i x
 
-abbrev AreBuilt : List Row → Type 0
-AreBuilt rows = All (λ (row : Row). IsBuilt row.command) rows
-
 -- a field of an object that was there holds what it held, or what a row put there
-pub rows_put : (w : World) (rows : List Row) → IsWorld w → CanReplay w rows → AreBuilt rows → (name : Name) (i : ℕ) (x : Value) → IsSome (node_of w name) → Stands (replayed w rows) name i x → Stands w name i x ⊎ IsPut w rows name i x
-rows_put w [] is can built name i x there s = inl s
-rows_put w (row ∷ rows) is can built name i x there s =
+pub rows_put : (w : World) (rows : List Row) → IsWorld w → CanReplay w rows → (name : Name) (i : ℕ) (x : Value) → IsSome (node_of w name) → Stands (replayed w rows) name i x → Stands w name i x ⊎ IsPut w rows name i x
+rows_put w [] is can name i x there s = inl s
+rows_put w (row ∷ rows) is can name i x there s =
     let m : ℕ = row.mutator in
     let v : World = (step w m row.command).0 in
     let next : Name = next_name (state_of w m) m in
     let new : name ≡ next → ⊥ = λ e. absent (node_of w next) (next_is_new w m (not_shared w m is can.0.mutator)) (subst (λ (n : Name). IsSome (node_of w n)) e there) in
-    let first : IsBuilt row.command = All-head (λ (row : Row). IsBuilt row.command) row rows built in
-    elim (rows_put v rows (step_keeps_world w m row.command is can.0) can.1 (All-tail (λ (row : Row). IsBuilt row.command) row rows built) name i x ((step_grows w m row.command can.0.mutator).names name there) s) [
+    elim (rows_put v rows (step_keeps_world w m row.command is can.0) can.1 name i x ((step_grows w m row.command can.0.mutator).names name there) s) [
       | inl then ↦ elim (step_stores w m row.command is can.0 name i x then) [
         | inl was ↦ inl was
         | inr more ↦ elim more [
           | inl e ↦ absurd (new e)
-          | inr stores ↦ elim (stored_put w m row.command name i x first then stores) [
+          | inr stores ↦ elim (stored_put w m row.command name i x then stores) [
             | inl was ↦ inl was
             | inr puts ↦ inr (record { before = []; row = row; after = rows; rows_are = refl; puts = puts })
           ]
@@ -216,30 +206,3 @@ rows_put w (row ∷ rows) is can built name i x there s =
       ]
       | inr put ↦ inr (record { before = row ∷ put.before; row = put.row; after = put.after; rows_are = ap (λ (xs : List Row). row ∷ xs) put.rows_are; puts = put.puts })
     ]
-
--- a name of a weak pointer was there as the round began
-abbrev pub IsOldWeak : World → Name → Node → Type 0
-IsOldWeak began name node = kind_of node ≡ kind.Weak → IsSome (node_of began name)
-
--- no built command makes a weak pointer
-made_no_weak : (w : World) (m : ℕ) (c : Command) (made : Node) → IsBuilt c → made_by w m c ≡ Some made → kind_of made ≡ kind.Weak → ⊥
-made_no_weak w m (command.Con dest tag fields) made built e k = let is : kind.Con ≡ kind.Weak = ap kind_of (same_Some _ made e) ∙ k in cc
-made_no_weak w m (command.Var dest v) made built e k = let is : kind.Var ≡ kind.Weak = ap kind_of (same_Some _ made e) ∙ k in cc
-made_no_weak w m (command.Arr dest count v) made built e k = let is : kind.Arr ≡ kind.Weak = ap kind_of (same_Some _ made e) ∙ k in cc
-made_no_weak w m (command.Thunk dest free) made built e k = let is : kind.Thunk ≡ kind.Weak = ap kind_of (same_Some _ made e) ∙ k in cc
-made_no_weak w m (command.Weak dest key v finaliser) made built e k = built
-made_no_weak w m (command.Stack dest size) made built e k = let is : kind.Stack ≡ kind.Weak = ap kind_of (same_Some _ made e) ∙ k in cc
-made_no_weak w m _ made built e k = none-some made e
-
--- so weak pointers are those that were there
-pub old_weaks : (began w : World) (rows : List Row) → IsWorld w → CanReplay w rows → AreBuilt rows → ((name : Name) → IfSome (node_of w name) (IsOldWeak began name)) → (name : Name) → IfSome (node_of (replayed w rows) name) (IsOldWeak began name)
-old_weaks began w [] is can built h = h
-old_weaks began w (row ∷ rows) is can built h =
-    let m : ℕ = row.mutator in
-    let c : Command = row.command in
-    let first : IsBuilt c = All-head (λ (row : Row). IsBuilt row.command) row rows built in
-    old_weaks began (step w m c).0 rows (step_keeps_world w m c is can.0) can.1 (All-tail (λ (row : Row). IsBuilt row.command) row rows built)
-    (stepped_nodes Any (IsOldWeak began) w m c can.0.mutator (not_shared w m is can.0.mutator)
-    (λ made e k. absurd (made_no_weak w m c made first e k))
-    (λ name found ch there q old k. old (sym (changed_shape ch name.maker found).kind ∙ k))
-    (step w m c).0 (stepped w m c) h)

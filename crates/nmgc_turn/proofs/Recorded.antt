@@ -49,7 +49,6 @@ use Rattle.nmgc_round.specs.Rule.{Answers}
 use Rattle.nmgc_mutator.specs.Records.{is_old, is_young, recorded_at, noted_by, all_recorded, depth_of}
 use Rattle.nmgc_round.specs.Own.{slots_at}
 use Rattle.nmgc_turn.proofs.Depths.{push_cases}
-use Rattle.nmgc_mutator.specs.Ready.{IsBuilt}
 use Rattle.nmgc_turn.proofs.RowRegisters.{operand_means}
 use Rattle.nmgc_turn.proofs.Along.{IsOwn, Along}
 use Rattle.nmgc_turn.proofs.Puts.{TellsDepth}
@@ -183,29 +182,29 @@ recording_at layout h object v index at c =
     let t = one_if (old && young) (word_of h.registers object / 2 + HEADER_WORDS + index) at c in
     ((and_parts old young t.0).0, t.1)
 
-recording : (layout : Layout) (h : Hand) (c : Command) (a : Answer) (at : ℕ) → IsBuilt c → Contains (noted_by layout h c a) at → IsRecording layout h c a at
-recording layout h (Set object index v) (plain Fine) at b c =
+recording : (layout : Layout) (h : Hand) (c : Command) (a : Answer) (at : ℕ) → Contains (noted_by layout h c a) at → IsRecording layout h c a at
+recording layout h (Set object index v) (plain Fine) at c =
     let t = recording_at layout h object v index at c in
     record { object = object; index = index; reply = Fine; done = refl; old = t.0; at_is = t.1; writes = λ w m name is e deep. done_field w (value_for w m object) index (change.Set index (value_for w m v)) Fine (λ x. cc) (λ maker found. fine_in found index (value_for w m v)) name is e }
-recording layout h (Set object index v) (plain _) at b c = absurd (nothing_in at c)
-recording layout h (Set object index v) (word w) at b c = absurd (nothing_in at c)
-recording layout h (Cas object index expected v) (plain Yes) at b c =
+recording layout h (Set object index v) (plain _) at c = absurd (nothing_in at c)
+recording layout h (Set object index v) (word w) at c = absurd (nothing_in at c)
+recording layout h (Cas object index expected v) (plain Yes) at c =
     let t = recording_at layout h object v index at c in
     record { object = object; index = index; reply = Yes; done = refl; old = t.0; at_is = t.1; writes = λ w m name is e deep. done_field w (value_for w m object) index (change.Exchange index (value_for w m expected) (value_for w m v)) Yes (λ x. cc) (λ maker found. exchanged_in found index (value_for w m expected) (value_for w m v)) name is e }
-recording layout h (Cas object index expected v) (plain _) at b c = absurd (nothing_in at c)
-recording layout h (Cas object index expected v) (word w) at b c = absurd (nothing_in at c)
-recording layout h (Update object v) (plain Updated) at b c =
+recording layout h (Cas object index expected v) (plain _) at c = absurd (nothing_in at c)
+recording layout h (Cas object index expected v) (word w) at c = absurd (nothing_in at c)
+recording layout h (Update object v) (plain Updated) at c =
     let t = recording_at layout h object v 0 at c in
     record { object = object; index = 0; reply = Updated; done = refl; old = t.0; at_is = t.1; writes = λ w m name is e deep. done_field w (value_for w m object) 0 (change.Update (value_for w m v)) Updated (λ x. cc) (λ maker found. updated_in found (value_for w m v)) name is e }
-recording layout h (Update object v) (plain _) at b c = absurd (nothing_in at c)
-recording layout h (Update object v) (word w) at b c = absurd (nothing_in at c)
-recording layout h (Push object v) (plain Fine) at b c =
+recording layout h (Update object v) (plain _) at c = absurd (nothing_in at c)
+recording layout h (Update object v) (word w) at c = absurd (nothing_in at c)
+recording layout h (Push object v) (plain Fine) at c =
     let deep_at : ℕ = depth_of (slots_at h.stacks (word_of h.registers object / 2)) in
     let t = recording_at layout h object v deep_at at c in
     record { object = object; index = deep_at; reply = Fine; done = refl; old = t.0; at_is = t.1; writes = λ w m name is e deep. push_field w m (value_for w m object) (value_for w m v) name deep_at is e deep }
-recording layout h (Push object v) (plain _) at b c = absurd (nothing_in at c)
-recording layout h (Push object v) (word w) at b c = absurd (nothing_in at c)
-recording layout h _ a at b c = absurd (nothing_in at c)
+recording layout h (Push object v) (plain _) at c = absurd (nothing_in at c)
+recording layout h (Push object v) (word w) at c = absurd (nothing_in at c)
+recording layout h _ a at c = absurd (nothing_in at c)
 
 -- a later world: it has the names of the beginning, and reaches none of them that wasn't reached
 pub record IsSince (began w : World) : Type 0 where
@@ -247,7 +246,7 @@ module _ (P : Place → Type 0) (layout : Layout) (began : World) where
 
     recorded_here : (w : World) (row : Row) (rows : List Row) (h : Hand) (r : OwnRow) → IsSince began w → IsWorld w → CanReplay w (row ∷ rows) → (step w row.mutator row.command).1 ≡ row.reply → IsOwn P m w h r row → (at : ℕ) → Contains (noted_by layout h r.command r.answer) at → IsFieldOf (replayed w (row ∷ rows)) at
     recorded_here w row rows h r since is can gives own at c =
-        let k : IsRecording layout h r.command r.answer at = recording layout h r.command r.answer at own.built c in
+        let k : IsRecording layout h r.command r.answer at = recording layout h r.command r.answer at c in
         let p : IsPointer P layout (word_of h.registers k.object) (value_for w m k.object) = pointer_old P layout (word_of h.registers k.object) (value_for w m k.object) k.old (operand_means P shared h.registers (state_of w m).registers k.object own.registers) in
         let deep : TellsDepth w m p.place.name h k.object = λ size values there mine.
         let t = own.depths p.place size values p.there mine there in

@@ -1,6 +1,6 @@
 -- What the mutators recorded in a round is what a promotion asks.
-use Rattle.std.proofs.Common.{◌≡◌, ◌≢◌, ◌⊎◌, ◌+◌, ◌<◌, ◌≤◌, ℕ, List, [], ◌∷◌, ◌++◌, length, map, refl, sym, ap, subst, ◌∙◌, arith, Option, Some, None, inl, inr, All}
-use Rattle.std.specs.Prelude.{slice_get, IsSome, IfSome, Contains}
+use Rattle.std.proofs.Common.{◌≡◌, ◌≢◌, ◌⊎◌, ◌+◌, ◌<◌, ◌≤◌, ℕ, List, [], ◌∷◌, ◌++◌, length, map, refl, sym, ap, subst, ◌∙◌, arith, Option, Some, None, inl, inr}
+use Rattle.std.specs.Prelude.{slice_get, IsSome, Contains}
 use Rattle.std.proofs.lemmas.Option.{same_Some, slice_get_within}
 use Rattle.std.proofs.lemmas.List.Elements.{All-contains, Contains-append_left}
 use Rattle.nmgc_graph.specs.declared.value.TheConstants.{SHARED_MAKER}
@@ -25,7 +25,7 @@ use Rattle.nmgc_reach.specs.Holds.{Stands}
 use Rattle.nmgc_reach.specs.Reachable.{CanReplay}
 use Rattle.nmgc_reach.specs.laws.Barrier.{field_at_place}
 use Rattle.nmgc_reach.specs.laws.HeldSteps.{absent, some_of}
-use Rattle.nmgc_reach.specs.laws.ItemLaws.{contains_at, place_of as index_of, nothing_in, contains_flat, flat_contains}
+use Rattle.nmgc_reach.specs.laws.ItemLaws.{contains_at, place_of as index_of, contains_flat, flat_contains}
 use Rattle.nmgc_reach.specs.laws.Reached.{world_holds}
 use Rattle.nmgc_reach.specs.laws.StoredLaws.{old_weaks_stay}
 use Rattle.nmgc_heap.specs.Shape.{Slot, holds, untold, slots_of}
@@ -41,22 +41,23 @@ use Rattle.nmgc_round.specs.Rule.{now, AllAnswer}
 use Rattle.nmgc_round.specs.Starting.{CanOpen}
 use Rattle.nmgc_round.specs.Finishing.{IsFinished, places_then}
 use Rattle.nmgc_mutator.specs.declared.mutator.Mutator.{Mutator}
-use Rattle.nmgc_mutator.specs.Ready.{IsBuilt}
-use Rattle.nmgc_mutator.specs.Records.{numbers, all_recorded}
-use Rattle.nmgc_turn.specs.Worked.{Done, HaveWorked, recorded_of}
+use Rattle.nmgc_mutator.specs.Records.{numbers, all_recorded, all_weaks}
+use Rattle.nmgc_turn.specs.Worked.{Done, HaveWorked, recorded_of, weaks_of}
 use Rattle.nmgc_turn.specs.Turn.{RoundIsRemembered}
 use Rattle.nmgc_turn.specs.laws.Replays.{EventsAreHistory, can_replay}
-use Rattle.nmgc_turn.specs.laws.Placed.{place_cases, is_place}
+use Rattle.nmgc_turn.specs.laws.Placed.{place_cases, is_place, in_place}
 use Rattle.nmgc_turn.specs.laws.Workers.{Worker, worker_at}
 use Rattle.nmgc_turn.specs.laws.Openings.{opened_below}
 use Rattle.nmgc_round.specs.Own.{OwnSlots}
 use Rattle.nmgc_turn.specs.laws.Registers.{list_long}
 use Rattle.nmgc_turn.proofs.Depths.{Depths}
-use Rattle.nmgc_turn.proofs.Along.{Along, all_told, along, all_built}
+use Rattle.nmgc_turn.proofs.Along.{Along, all_plain, along}
 use Rattle.nmgc_turn.proofs.Recorded.{IsFieldOf, since_itself, recorded_is}
-use Rattle.nmgc_turn.proofs.Puts.{IsOldWeak, IsPut, rows_put, old_weaks}
+use Rattle.nmgc_turn.proofs.Puts.{IsPut, rows_put}
 use Rattle.nmgc_turn.proofs.Noted.{AreApart, recorded_then}
 use Rattle.nmgc_turn.proofs.Slots.{told_slot, held_at}
+use Rattle.nmgc_turn.proofs.Weaks.{IsMade, IsNewWeak, rows_made, weak_then, weak_is}
+use Rattle.std.proofs.lemmas.Bool.{cases_lt}
 
 -- a list stands for the same values by more places
 list_in : (P Q : Place → Type 0) (ws : List ℕ) (vs : List Value) → ((n : Name) (at : ℕ) → Contains vs (Ref n) → P (record { at = at; name = n }) → Q (record { at = at; name = n })) → ListMeans P ws vs → ListMeans Q ws vs
@@ -78,13 +79,6 @@ above_shared : (layout : Layout) (p : Place) (size : ℕ) → p.name.maker ≢ S
 above_shared layout p size own more (inl g) = absurd (own g.0)
 above_shared layout p size own more (inr (_, inl s)) = let h = (s.1 p.at (omega arith) (omega arith)).from in omega arith
 above_shared layout p size own more (inr (_, inr n)) = let h = (n.1 p.at (omega arith) (omega arith)).from in omega arith
-
-weak_before : (w : World) (name : Name) → IfSome (node_of w name) (IsOldWeak w name)
-weak_before w name = by_node (node_of w name) refl
-  where
-    by_node : (o : Option Node) → node_of w name ≡ o → IfSome o (IsOldWeak w name)
-    by_node None e = tt
-    by_node (Some node) e = λ k. some_of (node_of w name) node e
 
 -- what `nmgc_round` says of the stacks that an opening lists
 abbrev pub StacksAreListed : Type 0
@@ -150,10 +144,7 @@ module _ (history : EventsAreHistory) (listed : StacksAreListed) (o : Opening) (
   follows : (k : ℕ) (lt : k < o.layout.mutators) (t : IsThere k) → Along P k B (hand_of o.hands k) t.part.rows rows
   follows k lt t =
       let says : AllAnswer P t.part.rows (done_by k h.events) = subst (λ j. AllAnswer P t.part.rows (done_by j h.events)) t.number (h.parts k t.part t.part_there).0.rows in
-      along P k one (not_g k lt) h.shared o.core h.events can.world h.legal (hand_of o.hands k) t.part.rows says (all_told t.part.fixed t.part.rows t.own t.worked.replied t.worked.built) (first_means k lt) (first_depths k lt)
-
-  built : All (λ (row : Row). IsBuilt row.command) rows
-  built = all_built P B rows takes (λ k lt. let l : k < o.layout.mutators = (let e = can.is.mutators in omega arith) in let t = there k l in (hand_of o.hands k, t.part.rows, follows k l t))
+      along P k one (not_g k lt) h.shared o.core h.events can.world h.legal (hand_of o.hands k) t.part.rows says (all_plain t.part.fixed t.part.rows t.own t.worked.replied) (first_means k lt) (first_depths k lt)
 
   -- what it recorded
   recorded_are : (k : ℕ) (t : IsThere k) → numbers t.mutator.recorded.items ≡ all_recorded o.layout (hand_of o.hands k) t.part.rows
@@ -254,7 +245,7 @@ module _ (history : EventsAreHistory) (listed : StacksAreListed) (o : Opening) (
       let new : IsSome (node_of B q.name) → ⊥ = absent (node_of B q.name) (young_name q d high) in
       let after : node_of (replayed B rows) p.name ≡ Some node = ap (λ (w : World). node_of w p.name) (sym then) ∙ is in
       elim (held_at node i (Ref q.name) slot) [
-        | inl strong ↦ elim (rows_put B rows can.world takes built p.name i (Ref q.name) old (record { node = node; node_is = after; field = strong })) [
+        | inl strong ↦ elim (rows_put B rows can.world takes p.name i (Ref q.name) old (record { node = node; node_is = after; field = strong })) [
           | inl was ↦ absurd (new (strong_known p i q.name was))
           | inr put ↦ put_recorded p q i (apart p q c low own d high) put
         ]
@@ -263,18 +254,52 @@ module _ (history : EventsAreHistory) (listed : StacksAreListed) (o : Opening) (
             absurd (new (part_known p.name q.name weak.0 (old_weaks_stay B rows can.world takes p.name weak.0 old alive) weak.2))
       ]
 
-  -- no young object is an alive weak pointer
-  no_young_weak : (p : Place) (parts : Parts) → Contains places p → base ≤ p.at → IsAlive W p.name parts → ⊥
-  no_young_weak p parts c high alive =
-      let after : IsAlive (replayed B rows) p.name parts = ap (λ (w : World). node_of w p.name) (sym then) ∙ alive in
-      absent (node_of B p.name) (young_name p c high) (at_some (node_of (replayed B rows) p.name) (Weak (Some parts)) (IsOldWeak B p.name) after (old_weaks B B rows can.world takes built (weak_before B) p.name) refl)
+  -- the weak pointers that it noted
+  weaks_are : (k : ℕ) (t : IsThere k) → numbers t.mutator.young_weaks.items ≡ all_weaks t.part.rows
+  weaks_are k t = t.worked.weaks
 
-  remembers : Remembers base (B ∷ earlier o) places W (recorded_of mutators) []
+  maker_noted : (at : ℕ) → Contains (weaks_of mutators) at → (k : ℕ) × (lt : k < o.layout.mutators) × Contains (all_weaks (there k lt).part.rows) at
+  maker_noted at c =
+      let found = flat_contains (λ (m : Mutator). numbers m.young_weaks.items) mutators at c in
+      let index = index_of mutators found.0 found.1 in
+      let lt : index.0 < o.layout.mutators = (let a = slice_get_within mutators index.0 found.0 index.1 in let b = work.mutators_are in omega arith) in
+      (index.0, lt, of (there index.0 lt) found.0 index.1 found.2)
+    where
+      of : {k : ℕ} (t : IsThere k) (m : Mutator) → slice_get mutators k ≡ Some m → Contains (numbers m.young_weaks.items) at → Contains (all_weaks t.part.rows) at
+      of {k} t m e c =
+          let same : numbers m.young_weaks.items ≡ numbers t.mutator.young_weaks.items = ap (λ (x : Mutator). numbers x.young_weaks.items) (same_Some m t.mutator (sym e ∙ t.mutator_there)) in
+          subst (λ (l : List ℕ). Contains l at) (same ∙ weaks_are k t) c
+
+  -- noted places are of young weak pointers
+  weak_told : (at : ℕ) → Contains (weaks_of mutators) at → (name : Name) × (parts : Option Parts) × Contains places (record { at = at; name = name }) × (base ≤ at) × (node_of W name ≡ Some (Weak parts))
+  weak_told at c =
+      let (k, lt, its) = maker_noted at c in
+      let t : IsNewWeak P B (replayed B rows) at = weak_is P B k B rows (hand_of o.hands k) (there k lt).part.rows (since_itself B) can.world takes legal (follows k lt (there k lt)) at its in
+      let high : base ≤ at = elim (cases_lt at base) [
+        | inl low ↦ absurd (absent (node_of B t.name) t.new (in_old (record { at = at; name = t.name }) t.there low).1)
+        | inr le ↦ le
+      ] in
+      (t.name, t.parts, in_place o h.born (record { at = at; name = t.name }) t.there, high, ap (λ (w : World). node_of w t.name) then ∙ t.node_is)
+
+  -- and each young one that is alive is noted
+  young_noted : (p : Place) (parts : Parts) → Contains places p → base ≤ p.at → IsAlive W p.name parts → Contains (weaks_of mutators) p.at
+  young_noted p parts c high alive =
+      let after : node_of (replayed B rows) p.name ≡ Some (Weak (Some parts)) = ap (λ (w : World). node_of w p.name) (sym then) ∙ alive in
+      let made : IsMade B rows p.name = rows_made B rows can.world takes p.name (Weak (Some parts)) (young_name p c high) after refl in
+      let k : ℕ = made.row.mutator in
+      let lt : k < o.layout.mutators = (let e = can.is.mutators in let l = maker_there B made.before made.row made.after (subst (CanReplay B) made.rows_are takes) in omega arith) in
+      let t : IsThere k = there k lt in
+      contains_flat (λ (m : Mutator). numbers m.young_weaks.items) mutators t.mutator p.at (contains_at mutators k t.mutator t.mutator_there)
+      (subst (λ (l : List ℕ). Contains l p.at) (sym (weaks_are k t))
+      (weak_then P p (one_place p c) k B made.before made.row made.after (hand_of o.hands k) t.part.rows refl (subst (IsLegalHistory B) made.rows_are legal)
+      (subst (λ (l : List Row). Along P k B (hand_of o.hands k) t.part.rows l) made.rows_are (follows k lt t)) made.made))
+
+  remembers : Remembers base (B ∷ earlier o) places W (recorded_of mutators) (weaks_of mutators)
   remembers = record {
     fields = recorded_told;
     all_fields = λ p q node i c low own tracked is slot d high. young_recorded p q node i c low own is slot d high;
-    weak_places = λ at c. absurd (nothing_in at c);
-    all_weaks = λ p parts c high alive. absurd (no_young_weak p parts c high alive);
+    weak_places = weak_told;
+    all_weaks = young_noted;
   }
 
 pub round_is_remembered : EventsAreHistory → StacksAreListed → RoundIsRemembered

@@ -29,7 +29,6 @@ use Rattle.nmgc_reach.specs.laws.NodeLaws.{state_same, state_other, as_many}
 use Rattle.nmgc_heap.specs.Places.{Place, Means, ListMeans}
 use Rattle.nmgc_round.specs.View.{Answer, plain, word, Hand, word_of, taking, bearing, stacking, pushed, popped, leaves}
 use Rattle.nmgc_round.specs.Rule.{Answers}
-use Rattle.nmgc_mutator.specs.Ready.{IsBuilt}
 
 -- a plain answer gives no value
 abbrev pub IsPlain : Answer → Type 0
@@ -147,32 +146,32 @@ module _ (P : Place → Type 0) where
         let is : Some v ≡ Some x = ap given e in
         list_set h.registers (state_of w m).registers dest wd x means (subst (Means P wd) (same_Some v x is) k)
 
-    -- every built command
-    pub registers_left : P (record { at = SHARED_PLACE; name = shared_name }) → (c : Command) (a : Answer) → IsBuilt c → Answers P a (step w m c).1 → IsPlain a → ListMeans P (leaves h c a).registers (state_of (step w m c).0 m).registers
-    registers_left g (Num dest n) a b e p = held w m lt h means dest (2 * n + ZERO_WORD) (value.Number n) refl
-    registers_left g (Nil dest) a b e p = held w m lt h means dest NIL_WORD value.Nil refl
-    registers_left g (Mov dest v) a b e p = held w m lt h means dest (word_of h.registers v) (value_for w m v) (operand_means g h.registers (state_of w m).registers v means)
-    registers_left g (Con dest tag fields) a b e p = birth w m lt h means dest _ a e p
-    registers_left g (Var dest v) a b e p = birth w m lt h means dest _ a e p
-    registers_left g (Arr dest count v) a b e p = birth w m lt h means dest _ a e p
-    registers_left g (Thunk dest free) a b e p = birth w m lt h means dest _ a e p
-    registers_left g (Weak dest key v finaliser) a b e p = birth w m lt h means dest _ a e p
-    registers_left g (Stack dest size) a b e p = subst (λ (l : List ℕ). ListMeans P l (state_of (step w m (Stack dest size)).0 m).registers) (stacking_registers (bearing h dest a) a) (birth w m lt h means dest _ a e p)
-    registers_left g (Get dest object index) a b e p = taken w m lt h means dest a _ e p
-    registers_left g (Set object index v) a b e p = subst (λ (l : List Value). ListMeans P h.registers l) (sym (registers_changed w (value_for w m object) (change.Set index (value_for w m v)) m)) means
-    registers_left g (Cas object index expected v) a b e p = subst (λ (l : List Value). ListMeans P h.registers l) (sym (registers_changed w (value_for w m object) (change.Exchange index (value_for w m expected) (value_for w m v)) m)) means
-    registers_left g (Update object v) a b e p = subst (λ (l : List Value). ListMeans P h.registers l) (sym (registers_changed w (value_for w m object) (change.Update (value_for w m v)) m)) means
-    registers_left g (Force dest object) a b e p = taken w m lt h means dest a _ e p
-    registers_left g (Push object v) a b e p = subst (λ (l : List ℕ). ListMeans P l (state_of (step w m (Push object v)).0 m).registers) (pushed_registers h (word_of h.registers object) (word_of h.registers v) a)
+    -- after every command the registers mean those of the world
+    pub registers_left : P (record { at = SHARED_PLACE; name = shared_name }) → (c : Command) (a : Answer) → Answers P a (step w m c).1 → IsPlain a → ListMeans P (leaves h c a).registers (state_of (step w m c).0 m).registers
+    registers_left g (Num dest n) a e p = held w m lt h means dest (2 * n + ZERO_WORD) (value.Number n) refl
+    registers_left g (Nil dest) a e p = held w m lt h means dest NIL_WORD value.Nil refl
+    registers_left g (Mov dest v) a e p = held w m lt h means dest (word_of h.registers v) (value_for w m v) (operand_means g h.registers (state_of w m).registers v means)
+    registers_left g (Con dest tag fields) a e p = birth w m lt h means dest _ a e p
+    registers_left g (Var dest v) a e p = birth w m lt h means dest _ a e p
+    registers_left g (Arr dest count v) a e p = birth w m lt h means dest _ a e p
+    registers_left g (Thunk dest free) a e p = birth w m lt h means dest _ a e p
+    registers_left g (Weak dest key v finaliser) a e p = birth w m lt h means dest _ a e p
+    registers_left g (Stack dest size) a e p = subst (λ (l : List ℕ). ListMeans P l (state_of (step w m (Stack dest size)).0 m).registers) (stacking_registers (bearing h dest a) a) (birth w m lt h means dest _ a e p)
+    registers_left g (Get dest object index) a e p = taken w m lt h means dest a _ e p
+    registers_left g (Set object index v) a e p = subst (λ (l : List Value). ListMeans P h.registers l) (sym (registers_changed w (value_for w m object) (change.Set index (value_for w m v)) m)) means
+    registers_left g (Cas object index expected v) a e p = subst (λ (l : List Value). ListMeans P h.registers l) (sym (registers_changed w (value_for w m object) (change.Exchange index (value_for w m expected) (value_for w m v)) m)) means
+    registers_left g (Update object v) a e p = subst (λ (l : List Value). ListMeans P h.registers l) (sym (registers_changed w (value_for w m object) (change.Update (value_for w m v)) m)) means
+    registers_left g (Force dest object) a e p = taken w m lt h means dest a _ e p
+    registers_left g (Push object v) a e p = subst (λ (l : List ℕ). ListMeans P l (state_of (step w m (Push object v)).0 m).registers) (pushed_registers h (word_of h.registers object) (word_of h.registers v) a)
         (subst (λ (l : List Value). ListMeans P h.registers l) (sym (registers_changed w (value_for w m object) (change.Push m (value_for w m v)) m)) means)
-    registers_left g (Pop dest object) a b e p = subst (λ (l : List ℕ). ListMeans P l (state_of (step w m (Pop dest object)).0 m).registers) (popped_registers h dest (word_of h.registers object) a) (changed_registers dest object (change.Pop m) a e p)
-    registers_left g (Deref dest object) a b e p = taken w m lt h means dest a _ e p
-    registers_left g (Finalise dest object) a b e p = changed_registers dest object change.Finalise a e p
-    registers_left g (NextFin dest) a b e p =
+    registers_left g (Pop dest object) a e p = subst (λ (l : List ℕ). ListMeans P l (state_of (step w m (Pop dest object)).0 m).registers) (popped_registers h dest (word_of h.registers object) a) (changed_registers dest object (change.Pop m) a e p)
+    registers_left g (Deref dest object) a e p = taken w m lt h means dest a _ e p
+    registers_left g (Finalise dest object) a e p = changed_registers dest object change.Finalise a e p
+    registers_left g (NextFin dest) a e p =
         let first : Option Value = slice_get (state_of w m).queue 0 in
         subst (λ (s : MutatorState). ListMeans P (leaves h (NextFin dest) a).registers s.registers) (sym (state_same w m (with_finaliser (state_of w m) dest) lt)) (queued_registers dest first a e p)
-    registers_left g (Show v) a b e p = means
-    registers_left g (Same left right) a b e p = means
-    registers_left g Yield a b e p = means
-    registers_left g Collect a b e p = means
-    registers_left g Full a b e p = means
+    registers_left g (Show v) a e p = means
+    registers_left g (Same left right) a e p = means
+    registers_left g Yield a e p = means
+    registers_left g Collect a e p = means
+    registers_left g Full a e p = means

@@ -37,7 +37,7 @@ use Rattle.nmgc_round.specs.Rule.{now}
 use Rattle.nmgc_round.specs.Starting.{CanOpen}
 use Rattle.nmgc_round.specs.Finishing.{IsFinished, places_then, IsKeptThen}
 use Rattle.nmgc_mutator.specs.declared.mutator.Mutator.{Mutator}
-use Rattle.nmgc_turn.specs.Worked.{nurseries_of, recorded_of}
+use Rattle.nmgc_turn.specs.Worked.{nurseries_of, recorded_of, weaks_of}
 use Rattle.nmgc_turn.specs.Turn.{RootsAreLeft, BirthsAreInOrder, RoundIsRemembered, RoundIsStopped, stop_after}
 use Rattle.nmgc_turn.specs.laws.Replays.{EventsAreHistory, can_replay, still_world, still_earlier}
 use Rattle.nmgc_turn.specs.laws.Openings.{opened_below}
@@ -144,6 +144,6 @@ stopped history roots births remembers o before words v mutators done s can past
       blocks = subst (λ n. AreBlocks s n (places_then o h.born) w) (sym base) (blocks_then history o before words v mutators can past h s (subst (λ n. AreBlocks s n o.places o.core.world) base blocks));
       used = subst (λ (l : Layout). AreUsed l (nursery_place l 0) (places_then o h.born) w (nurseries_of mutators)) (sym same) in_order.1;
       order = subst (λ n. LieInOrder n (places_then o h.born)) (sym base) in_order.0;
-      left = subst (λ n. Remembers n (o.core.world ∷ earlier o) (places_then o h.born) w (recorded_of mutators) []) (sym base) (remembers o before words v mutators done can h worked);
+      left = subst (λ n. Remembers n (o.core.world ∷ earlier o) (places_then o h.born) w (recorded_of mutators) (weaks_of mutators)) (sym base) (remembers o before words v mutators done can h worked);
       reserve = reserve;
     }

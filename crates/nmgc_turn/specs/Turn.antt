@@ -23,9 +23,8 @@ use Rattle.nmgc_round.specs.Seating.{alone, collecting, all_together}
 use Rattle.nmgc_round.specs.Starting.{CanOpen}
 use Rattle.nmgc_round.specs.Finishing.{IsFinished, HasAll, Leaves, places_then}
 use Rattle.nmgc_mutator.specs.declared.mutator.Mutator.{Mutator}
-use Rattle.nmgc_mutator.specs.Ready.{IsBuilt}
 use Rattle.nmgc_mutator.specs.Does.{HasDone}
-use Rattle.nmgc_turn.specs.Worked.{Done, HaveWorked, registers_of, queues_of, serials_of, nurseries_of, recorded_of}
+use Rattle.nmgc_turn.specs.Worked.{Done, HaveWorked, registers_of, queues_of, serials_of, nurseries_of, recorded_of, weaks_of}
 use Rattle.nmgc_turn.specs.Rest.{IsAtRest, IsResting, opening_at}
 
 -- a heap at rest opens a round
@@ -38,7 +37,6 @@ pub record SlicesAreDone (o : Opening) (round : Round) (old mutators : List Muta
   pub seats_are : length seats ≡ o.layout.mutators
   pub done_are : length done ≡ o.layout.mutators
   pub resting : (k : ℕ) (m : Mutator) → slice_get old k ≡ Some m → IsResting o.layout k m
-  pub built : (k : ℕ) (d : List Done) → slice_get done k ≡ Some d → All (λ (x : Done). IsBuilt x.0) d
   pub each : (k : ℕ) (m n : Mutator) (seat : RoundSeat) (d : List Done) → slice_get old k ≡ Some m → slice_get mutators k ≡ Some n → slice_get seats k ≡ Some seat → slice_get done k ≡ Some d → HasDone round (alone o k) seat m n d
 
 -- so the seats together have every part, and the mutators have worked as their parts say
@@ -71,16 +69,16 @@ abbrev pub BirthsAreInOrder : Type 0
 BirthsAreInOrder = (o : Opening) (before words : List ℕ) (v : Seen) (mutators : List Mutator) (done : List (List Done)) → CanOpen o before → (h : IsFinished o words v) → HaveWorked o v.parts mutators done →
     LieInOrder (nursery_place o.layout 0) (places_then o h.born) × AreUsed o.layout (nursery_place o.layout 0) (places_then o h.born) (now o h.events).world (nurseries_of mutators)
 
--- the fields that the mutators recorded are told fields of tracked objects in segments, and all of these that refer to a young object; no weak pointer was made
+-- the fields that the mutators recorded are told fields of tracked objects in segments, and all of these that refer to a young object; the weak pointers are those that the round made
 abbrev pub RoundIsRemembered : Type 0
 RoundIsRemembered = (o : Opening) (before words : List ℕ) (v : Seen) (mutators : List Mutator) (done : List (List Done)) → CanOpen o before → (h : IsFinished o words v) → HaveWorked o v.parts mutators done →
-    Remembers (nursery_place o.layout 0) (o.core.world ∷ earlier o) (places_then o h.born) (now o h.events).world (recorded_of mutators) []
+    Remembers (nursery_place o.layout 0) (o.core.world ∷ earlier o) (places_then o h.born) (now o h.events).world (recorded_of mutators) (weaks_of mutators)
 
 -- what a round leaves is what a promotion asks
 abbrev pub RoundIsStopped : Type 0
 RoundIsStopped = (o : Opening) (before words : List ℕ) (v : Seen) (mutators : List Mutator) (done : List (List Done)) (s : Segments) → CanOpen o before → AreEarlier (earlier o) o.core.world → s.layout ≡ o.layout → IsSegments s → AreBlocks s (young_base s) o.places o.core.world
     → (left : Leaves o words v) → HaveWorked o v.parts mutators done → (reserve_count s.layout ≤ free_count s.segments) ⊎ AreEmpty (nurseries_of mutators)
-    → IsStopped (stop_after o words v left.0 mutators) s words (nurseries_of mutators) (registers_of mutators) (queues_of mutators) (recorded_of mutators) []
+    → IsStopped (stop_after o words v left.0 mutators) s words (nurseries_of mutators) (registers_of mutators) (queues_of mutators) (recorded_of mutators) (weaks_of mutators)
 
 -- once the promotion is done, what the mutators have is forwarded, their nurseries are empty, and nothing is left
 pub record AreForwarded (s : Segments) (registers : List ℕ) (queues : List (List ℕ)) (serials : List ℕ) (mutators : List Mutator) : Type 0 where

@@ -1,9 +1,9 @@
 -- What the mutators of a round did, as their parts of a view and they themselves tell it.
 --
 -- A part knows rows with answers as words. The mutator has what these rows leave, the replies by name, and the
--- places of the fields that they gave a young object. All laws of a round's end speak of these facts, which
+-- places of the fields that they gave a young object and of the weak pointers that they made. All laws of a round's end speak of these facts, which
 -- `nmgc_mutator` promises of a slice.
-use Rattle.std.specs.Prelude.{ℕ, ◌≡◌, List, [], length, map, slice_get, Some, All}
+use Rattle.std.specs.Prelude.{ℕ, ◌≡◌, List, length, map, slice_get, Some}
 use Rattle.std.specs.List.{flat_map}
 use Rattle.nmgc_graph.specs.declared.value.TheConstants.{REGISTERS}
 use Rattle.nmgc_graph.specs.declared.command.Command.{Command}
@@ -12,8 +12,8 @@ use Rattle.nmgc_object.specs.declared.layout.Nursery.{Nursery}
 use Rattle.nmgc_round.specs.View.{Opening, Part, hand_of, hand_now}
 use Rattle.nmgc_round.specs.Naming.{AllReply}
 use Rattle.nmgc_mutator.specs.declared.mutator.Mutator.{Mutator}
-use Rattle.nmgc_mutator.specs.Ready.{IsBuilt, IsNursery, Holds, words_by}
-use Rattle.nmgc_mutator.specs.Records.{numbers, all_recorded}
+use Rattle.nmgc_mutator.specs.Ready.{IsNursery, Holds, words_by}
+use Rattle.nmgc_mutator.specs.Records.{numbers, all_recorded, all_weaks}
 
 -- a command, and the reply to it
 abbrev pub Done : Type 0
@@ -28,9 +28,8 @@ pub record HasWorked (o : Opening) (p : Part) (m : Mutator) (done : List Done) :
   pub nursery : IsNursery m.layout m.number p.rows m.nursery
   pub used : p.used ≡ words_by p.rows
   pub replied : AllReply p.fixed p.rows done
-  pub built : All (λ (d : Done). IsBuilt d.0) done
   pub recorded : numbers m.recorded.items ≡ all_recorded m.layout (hand_of o.hands p.number) p.rows
-  pub no_weaks : m.young_weaks.items ≡ []
+  pub weaks : numbers m.young_weaks.items ≡ all_weaks p.rows
 
 -- all mutators, by their numbers: each with its part of the view, and with what it did
 pub record HaveWorked (o : Opening) (parts : List Part) (mutators : List Mutator) (done : List (List Done)) : Type 0 where
@@ -56,3 +55,7 @@ nurseries_of mutators = map (λ (m : Mutator). m.nursery) mutators
 -- the places of all fields that they recorded
 abbrev pub recorded_of : List Mutator → List ℕ
 recorded_of mutators = flat_map (λ (m : Mutator). numbers m.recorded.items) mutators
+
+-- the places of all weak pointers that they made
+abbrev pub weaks_of : List Mutator → List ℕ
+weaks_of mutators = flat_map (λ (m : Mutator). numbers m.young_weaks.items) mutators

@@ -39,7 +39,8 @@ pub fn births_are_in_order()
 {}
 
 /// The fields that the mutators recorded are all that a promotion has to look at beside the roots: each reference
-/// from an older object to a young one stands in one of them.
+/// from an older object to a young one stands in one of them. The weak pointers that they noted are new ones, and
+/// every new one that is alive is among them.
 pub fn a_round_is_remembered()
     ensures { RoundIsRemembered }
 {

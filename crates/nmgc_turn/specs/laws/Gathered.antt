@@ -2,22 +2,18 @@
 use Rattle.std.proofs.Common.{◌≡◌, ℕ, suc, true, ◌||◌, List, [], ◌∷◌, ◌++◌, get_or, map, refl, sym, ap, subst, ◌∙◌, arith, append_assoc, append-nil, Some}
 use Rattle.std.specs.Prelude.{slice_get, All}
 use Rattle.std.proofs.lemmas.List.{length-map}
-use Rattle.std.proofs.lemmas.List.Elements.{All-head, All-tail}
-use Rattle.nmgc_graph.specs.declared.command.Command.{Command}
-use Rattle.nmgc_graph.specs.declared.command.Command.TheVariants.{Weak}
-use Rattle.nmgc_object.specs.declared.words.Address.{Address}
 use Rattle.std.proofs.lemmas.Option.{slice_get-get_or, slice_get_within}
 use Rattle.nmgc_heap.specs.laws.Kinds.{item_map, map_item}
 use Rattle.nmgc_round.specs.declared.table.Round.{Round}
-use Rattle.nmgc_round.specs.View.{Answer, FixedWord, Row, Opening, Part, Seen, whole, hand_of, hand_now}
+use Rattle.nmgc_round.specs.View.{Row, Opening, Part, Seen, whole, hand_of, hand_now}
 use Rattle.nmgc_round.specs.Naming.{AllReply}
 use Rattle.nmgc_round.specs.Seat.{RoundSeat, IsAt, seen}
 use Rattle.nmgc_round.specs.Seating.{alone, collecting, together, all_together}
 use Rattle.nmgc_round.specs.Starting.{CanOpen}
 use Rattle.nmgc_round.specs.Finishing.{HasAll, HasEach}
 use Rattle.nmgc_mutator.specs.declared.mutator.Mutator.{Mutator}
-use Rattle.nmgc_mutator.specs.Ready.{IsBuilt, part_of, Holds}
-use Rattle.nmgc_mutator.specs.Records.{numbers, all_recorded, weaks_by, all_weaks}
+use Rattle.nmgc_mutator.specs.Ready.{part_of, Holds}
+use Rattle.nmgc_mutator.specs.Records.{numbers, all_recorded, all_weaks}
 use Rattle.nmgc_mutator.specs.Does.{HasDone}
 use Rattle.nmgc_turn.specs.Worked.{Done, HasWorked, HaveWorked}
 use Rattle.nmgc_turn.specs.Rest.{IsResting}
@@ -44,22 +40,6 @@ parts_together v (s ∷ ss) one =
     parts_together (together v (seen s)) ss (λ k seat e. one (suc k) seat e)
     ∙ ap (λ (ps : List Part). (v.parts ++ ps) ++ map own_part ss) (one 0 s refl)
     ∙ append_assoc v.parts (own_part s ∷ []) (map own_part ss)
-
--- no built command makes a weak pointer
-no_weak_by : (c : Command) (a : Answer) → IsBuilt c → weaks_by c a ≡ []
-no_weak_by (Weak dest key v finaliser) a b = absurd b
-no_weak_by _ a b = refl
-
-no_weaks_in : (fixed : List FixedWord) (rows : List Row) (done : List Done) → AllReply fixed rows done → All (λ (d : Done). IsBuilt d.0) done → all_weaks rows ≡ []
-no_weaks_in fixed [] done says built = refl
-no_weaks_in fixed (r ∷ rows) [] says built = absurd says
-no_weaks_in fixed (r ∷ rows) (d ∷ done) says built =
-    ap (λ (l : List ℕ). l ++ all_weaks rows) (no_weak_by r.command r.answer (subst IsBuilt (sym says.0.0) (All-head (λ (x : Done). IsBuilt x.0) d done built)))
-    ∙ no_weaks_in fixed rows done says.1 (All-tail (λ (x : Done). IsBuilt x.0) d done built)
-
-none_numbered : (l : List Address) → numbers l ≡ [] → l ≡ []
-none_numbered [] e = refl
-none_numbered (a ∷ l) e = absurd cc
 
 module _ (o : Opening) (before : List ℕ) (round : Round) (old mutators : List Mutator) (seats : List RoundSeat) (done : List (List Done)) (opens : CanOpen o before) (h : SlicesAreDone o round old mutators seats done) where
   -- what was done from the seat of this number
@@ -95,9 +75,8 @@ module _ (o : Opening) (before : List ℕ) (round : Round) (old mutators : List 
         nursery = ready.nursery;
         used = ready.used;
         replied = subst (λ (rows : List Row). AllReply (own_part seat).fixed rows s.d) (sym w.added) s.did.replied;
-        built = h.built k s.d s.own;
         recorded = s.did.recorded ∙ ap (λ l. numbers l ++ all_recorded s.m.layout (hand_of o.hands k) s.did.rows) s.resting.no_recorded ∙ (λ i. all_recorded (sym s.did.layout i) (hand_of o.hands (sym w.number i)) (sym w.added i));
-        no_weaks = none_numbered s.n.young_weaks.items (s.did.weaks ∙ ap (λ l. numbers l ++ all_weaks s.did.rows) s.resting.no_weaks ∙ no_weaks_in (own_part seat).fixed s.did.rows s.d s.did.replied (h.built k s.d s.own));
+        weaks = s.did.weaks ∙ ap (λ l. numbers l ++ all_weaks s.did.rows) s.resting.no_weaks ∙ (λ i. all_weaks (sym w.added i));
       }
 
   -- what the seat knows that takes all of them in

@@ -1,5 +1,7 @@
 use Rattle.std.proofs.Common.{◌≡◌, ◌∙◌, ◌+◌, ◌-◌, ap, sym, subst, arith, take, refl, length}
 use Rattle.std.proofs.lemmas.Option.{slice_get_read}
+use Rattle.nmgc_graph.specs.Command.{Fits}
+use Rattle.nmgc_object.specs.declared.layout.Layout.{Layout}
 use Rattle.nmgc_round.specs.Seat.{seen}
 use Rattle.nmgc_mutator.specs.declared.mutator.Mutator.{Mutator}
 use Rattle.nmgc_mutator.specs.Ready.{IsReady}
@@ -7,20 +9,23 @@ use Rattle.nmgc_mutator.specs.Slice.{HasRun, next_turn, passed}
 use Rattle.nmgc_mutator.proofs.Steps.{ready_turned}
 use Rattle.std.proofs.lemmas.Option.{slice_get_within}
 use Rattle.nmgc_mutator.specs.Acts.{HasStepRoom}
-use Rattle.nmgc_mutator.proofs.Slices.{built_at, built_steps, built_room, running_more, running_on, running_none, ended_by, ended_tried, passed_more, still_runs}
+use Rattle.nmgc_mutator.proofs.Slices.{fits_at, step_room, running_more, running_on, running_none, ended_by, ended_tried, passed_more, still_runs}
 use Rattle.nmgc_mutator.proofs.mutator.Mutator.run_slice.Goals as goal
 
 pub step-requires-clause-ready : goal.step-requires-clause-ready
 step-requires-clause-ready g c = subst (λ (x : Mutator). IsReady c.args.round.now c.loop-done.seat x) (sym c.pass.ensures) (ready_turned c.args.round.now c.loop-done.seat c.loop-done.self (next_turn c.loop-done.self.turns) c.loop-done.invariant.ready)
 
-pub step-requires-clause-known : goal.step-requires-clause-known
-step-requires-clause-known g c = built_steps c.in-Some.command.now (built_at c.args.self.now.layout.words c.args.program.now c.loop-done.done c.in-Some.command.now c.requires.program (slice_get_read c.args.program.now (length c.args.program.now) c.loop-done.done c.in-Some.command.now refl c.in-Some.ensures.lookup.3.0 c.in-Some.ensures.lookup.1))
+pub step-requires-clause-fits : goal.step-requires-clause-fits
+step-requires-clause-fits g c =
+    let look = (slice_get_read c.args.program.now (length c.args.program.now) c.loop-done.done c.in-Some.command.now refl c.in-Some.ensures.lookup.3.0 c.in-Some.ensures.lookup.1) in
+    let layout : c.pass.new.self.layout ≡ c.args.self.now.layout = ap (λ (z : Mutator). z.layout) c.pass.ensures ∙ c.loop-done.invariant.layout in
+    subst (λ (l : Layout). Fits l.words c.in-Some.command.now) (sym layout) (fits_at c.args.self.now.layout.words c.args.program.now c.loop-done.done c.in-Some.command.now c.requires.program look)
 
 pub step-requires-clause-room : goal.step-requires-clause-room
 step-requires-clause-room g c =
     let look = (slice_get_read c.args.program.now (length c.args.program.now) c.loop-done.done c.in-Some.command.now refl c.in-Some.ensures.lookup.3.0 c.in-Some.ensures.lookup.1) in
     subst (λ (x : Mutator). HasStepRoom x c.in-Some.command.now) (sym c.pass.ensures)
-    (built_room c.loop-done.self (next_turn c.loop-done.self.turns) c.in-Some.command.now c.args.slice (length c.args.program.now) c.loop-done.done c.loop-done.invariant.room c.loop-done-test.true (slice_get_within c.args.program.now c.loop-done.done c.in-Some.command.now look))
+    (step_room c.loop-done.self (next_turn c.loop-done.self.turns) c.in-Some.command.now c.args.slice (length c.args.program.now) c.loop-done.done c.loop-done.invariant.room c.loop-done-test.true (slice_get_within c.args.program.now c.loop-done.done c.in-Some.command.now look))
 
 pub returns-in-NurseryFull-clause-run : goal.returns-in-NurseryFull-clause-run
 returns-in-NurseryFull-clause-run g c =
