@@ -1,0 +1,104 @@
+-- Where no weak pointer is left that keeps something new, what is marked is what is live; and once the finalisers of those
+-- that die are marked, what is kept: so the machine has closed.
+use Rattle.std.proofs.Common.{◌≡◌, ◌↔◌, ℕ, Bool, true, false, List, [], refl, sym, subst, inl, inr}
+use Rattle.std.specs.Prelude.{Contains}
+use Rattle.nmgc_graph.specs.declared.value.Name.{Name}
+use Rattle.nmgc_graph.specs.declared.value.Value.{Value}
+use Rattle.nmgc_graph.specs.declared.value.Value.TheVariants as value
+use Rattle.nmgc_graph.specs.declared.node.Parts.{Parts}
+use Rattle.nmgc_graph.specs.Reach.{IsAlive, IsPlain, IsKeptBy, IsDead, IsKept, Lists, RefersTo, closed}
+use Rattle.nmgc_graph.specs.Reach as reach
+use Rattle.nmgc_core.specs.Closing.{IsWaiting, IsDying, IsClosing}
+use Rattle.nmgc_core.specs.Facts.{IsLiveIn, IsSafe, IsAhead, Facts}
+use Rattle.nmgc_core.specs.Facts as facts
+use Rattle.nmgc_core.specs.Machine.{AreEmpty}
+use Rattle.nmgc_core.specs.State.{State, names_of, is_listed}
+use Rattle.nmgc_core.specs.laws.Ending.{live_first, first_live, last_kept, kept_last, dying_lists}
+use Rattle.nmgc_core.specs.laws.Listed.{contains_listed, not_listed}
+use Rattle.nmgc_core.specs.laws.Lives.{stands}
+use Rattle.nmgc_reach.specs.laws.ItemLaws.{nothing_in}
+use Rattle.std.proofs.lemmas.List.{get_or_past}
+use Rattle.std.proofs.lemmas.Bool.{cases_lt}
+use Rattle.std.proofs.Common.{length}
+use Rattle.nmgc_weak.specs.Steps.{IsShown, IsLost}
+
+none_of : (lists : List (List Name)) → AreEmpty lists → (m : ℕ) → names_of lists m ≡ []
+none_of lists h m = elim (cases_lt m (length lists)) [ inl lt ↦ h m [] lt | inr le ↦ get_or_past lists m [] le ]
+
+-- where nothing waits, is owed or is pushed, what is safe is marked, and a marked name has its fields marked
+module _ (s : State) (f : Facts s) (queue : s.queue ≡ []) (owed : AreEmpty s.owed) (pushed : AreEmpty s.pushed) where
+  pub safe_marked : (name : Name) → IsSafe s name → Contains s.marked name
+  safe_marked name (facts.marked c) = c
+  safe_marked name (facts.owed m c) = absurd (nothing_in name (rw (none_of s.owed owed m) at c))
+  safe_marked name (facts.pushed m c) = absurd (nothing_in name (rw (none_of s.pushed pushed m) at c))
+
+  none_ahead : (name : Name) (i : ℕ) → Contains s.marked name → IsAhead s name i → ⊥
+  none_ahead name i h (facts.unmarked c) = c h
+  none_ahead name i h (facts.queued entry c e le) = nothing_in entry (rw queue at c)
+
+  pub field_marked : (name target : Name) → Contains s.marked name → RefersTo s.snapshot name target → Contains s.marked target
+  field_marked name target c r =
+      let i = stands s.snapshot name target r in
+      elim (f.kept name i.0 target i.1) [
+        | inl safe ↦ safe_marked target safe
+        | inr ahead ↦ absurd (none_ahead name i.0 c ahead.1)
+      ]
+
+  -- every waiting weak pointer whose key is shown has marked its parts: then what is live is marked
+  module _ (full : (weak target : Name) (parts : Parts) → IsWaiting s weak parts → IsShown s.marked parts.key → IsKeptBy weak parts target → Contains s.marked target) where
+    by_weak : (weak target : Name) (parts : Parts) → IsAlive s.snapshot weak parts → IsShown s.marked parts.key → IsKeptBy weak parts target → Contains s.marked target
+    by_weak weak target parts alive shown kept = by_test (is_listed weak s.finalised) refl
+      where
+        by_test : (b : Bool) → is_listed weak s.finalised ≡ b → Contains s.marked target
+        by_test true e = safe_marked target (f.finalised weak target parts (contains_listed weak s.finalised e) alive kept)
+        by_test false e = full weak target parts (record { alive = alive; not_finalised = not_listed weak s.finalised e }) shown kept
+
+    plain_shown : (v : Value) → IsPlain v → IsShown s.marked v
+    plain_shown value.Nil p = tt
+    plain_shown (value.Number n) p = tt
+    plain_shown (value.Ref name) p = absurd p
+
+    pub live_marked : (name : Name) → IsLiveIn s name → Contains s.marked name
+    live_marked name (reach.root n r) = f.roots n r
+    live_marked name (reach.further n c there) = safe_marked n (f.opened n c there)
+    live_marked name (reach.field n target l r) = field_marked n target (live_marked n l) r
+    live_marked name (reach.plain_key weak target parts alive plain kept) = by_weak weak target parts alive (plain_shown parts.key plain) kept
+    live_marked name (reach.live_key weak target key parts alive is l kept) = by_weak weak target parts alive (subst (IsShown s.marked) (sym is) (live_marked key l)) kept
+
+    -- a lost weak pointer is one that dies
+    pub lost_dead : (weak : Name) → IsLost s weak → IsDead s.snapshot s.opened s.finalised weak
+    lost_dead weak l = by_key l.parts.key refl
+      where
+        by_key : (v : Value) → l.parts.key ≡ v → IsDead s.snapshot s.opened s.finalised weak
+        by_key value.Nil e = absurd (l.lost (subst (IsShown s.marked) (sym e) tt))
+        by_key (value.Number n) e = absurd (l.lost (subst (IsShown s.marked) (sym e) tt))
+        by_key (value.Ref key) e = record { parts = l.parts; alive = l.waiting.alive; not_finalised = l.waiting.not_finalised; key = key; key_is = e; lost = λ live. l.lost (subst (IsShown s.marked) (sym e) (live_marked key live)) }
+
+    pub dead_lost : (weak : Name) → IsDead s.snapshot s.opened s.finalised weak → IsLost s weak
+    dead_lost weak d = record { parts = d.parts; waiting = record { alive = d.alive; not_finalised = d.not_finalised }; lost = λ shown. d.lost (f.base.live d.key (let c : IsShown s.marked (value.Ref d.key) = subst (IsShown s.marked) d.key_is shown in c)) }
+
+-- a state that may close, whose end is told by live and kept names alone
+module _ (s : State) (f : Facts s) (queue : s.queue ≡ []) (owed : AreEmpty s.owed) (pushed : AreEmpty s.pushed) where
+  dead_dying : (weak : Name) → IsDead s.snapshot s.opened s.finalised weak → IsDying s weak
+  dead_dying weak d = record { parts = d.parts; waiting = record { alive = d.alive; not_finalised = d.not_finalised }; key = d.key; key_is = d.key_is; lost = λ c. d.lost (first_live s f queue owed pushed d.key c) }
+
+  dying_dead : (weak : Name) → IsDying s weak → IsDead s.snapshot s.opened s.finalised weak
+  dying_dead weak d = record { parts = d.parts; alive = d.waiting.alive; not_finalised = d.waiting.not_finalised; key = d.key; key_is = d.key_is; lost = λ l. d.lost (live_first s f queue owed pushed d.key l) }
+
+  pub closes : (dead marked : List Name) → Lists (IsDead s.snapshot s.opened s.finalised) dead → ((name : Name) → Contains marked name ↔ IsKept s.snapshot s.opened s.finalised name) → (c : IsClosing s (record s { world = closed s.world dead; marked = marked; is_closed = true })) × (c.dead ≡ dead)
+  closes dead marked lists kept = (
+    record {
+      dead = dead;
+      lists = record { ordered = lists.ordered; sound = λ name c. dead_dying name (lists.sound name c); complete = λ name d. lists.complete name (dying_dead name d) };
+      marked = λ name. (λ c. kept_last s f queue owed pushed name ((kept name).0 c), λ l. (kept name).1 (last_kept s f queue owed pushed name l));
+      rest = refl;
+    },
+    refl,
+  )
+
+  -- and what a closing says of them
+  pub closed_dead : (next : State) (c : IsClosing s next) → Lists (IsDead s.snapshot s.opened s.finalised) c.dead
+  closed_dead next c = dying_lists s f queue owed pushed c.dead c.lists
+
+  pub closed_kept : (next : State) → IsClosing s next → (name : Name) → Contains next.marked name ↔ IsKept s.snapshot s.opened s.finalised name
+  closed_kept next c name = (λ m. last_kept s f queue owed pushed name ((c.marked name).0 m), λ k. (c.marked name).1 (kept_last s f queue owed pushed name k))

@@ -1,0 +1,166 @@
+-- A pass over the list, and that one which marks nothing leaves nothing to be kept.
+use Rattle.std.proofs.Common.{◌≡◌, ◌+◌, ◌<◌, ℕ, zero, suc, List, [], ◌∷◌, ◌++◌, length, take, get_or, refl, sym, ap, subst, ◌∙◌, append-nil, append_assoc, length-append, arith, inl, inr, ◌⊎◌}
+use Rattle.std.specs.Prelude.{Contains, IsSome, slice_index}
+use Rattle.std.proofs.lemmas.List.Elements.{Contains-append_left, Contains-push_cases}
+use Rattle.nmgc_graph.specs.declared.value.Name.{Name}
+use Rattle.nmgc_graph.specs.declared.value.Value.{Value}
+use Rattle.nmgc_graph.specs.declared.value.Value.TheVariants as value
+use Rattle.nmgc_graph.specs.declared.node.Parts.{Parts}
+use Rattle.nmgc_graph.specs.World.{node_of}
+use Rattle.nmgc_graph.specs.Reach.{IsAlive, IsKeptBy}
+use Rattle.nmgc_graph.specs.laws.Orders.{contains_head}
+use Rattle.nmgc_core.specs.Closing.{IsWaiting}
+use Rattle.nmgc_reach.specs.laws.ItemLaws.{one_is}
+use Rattle.nmgc_segment.specs.Marks.{IsEpoch}
+use Rattle.nmgc_alloc.specs.Segments.{Segments}
+use Rattle.nmgc_alloc.specs.Blocks.{IsSnapshotAt}
+use Rattle.nmgc_heap.specs.Places.{Place}
+use Rattle.nmgc_round.specs.View.{Opening}
+use Rattle.nmgc_run.specs.Seen.{MarkerSeen}
+use Rattle.nmgc_weak.specs.declared.weaks.OldWeak.{OldWeak}
+use Rattle.nmgc_weak.specs.Resolve.{CanResolve}
+use Rattle.nmgc_weak.specs.Steps.{IsShown, IsShownWord, IsLostAt, IsLost, MarksOn, GoesTo, CanKeep, HasKept, HasPassed, HasRevived}
+use Rattle.nmgc_weak.specs.Weaks.{place_of, places_of, names_of, key_place}
+use Rattle.nmgc_weak.proofs.Showing.{snapshot_is, snapshot_back, lost_is, shown_is}
+use Rattle.nmgc_weak.proofs.Keeping.{one_parts}
+use Rattle.nmgc_weak.proofs.Saving.{listed_place, place_has_name}
+
+-- the same opening with more marks
+abbrev marking : Opening → List Name → Opening
+marking o marked = record o { core = record o.core { marked = marked } }
+
+same_marks : (o : Opening) → MarksOn o o
+same_marks o = record { more = []; marked = sym (append-nil o.core.marked); rest = refl }
+
+pub then_marks : (o p q : Opening) → MarksOn o p → MarksOn p q → MarksOn o q
+then_marks o p q a b = record {
+  more = a.more ++ b.more;
+  marked = b.marked ∙ ap (λ (l : List Name). l ++ b.more) a.marked ∙ append_assoc o.core.marked a.more b.more;
+  rest = b.rest ∙ ap (λ (x : Opening). let y : Opening = record x { core = record x.core { marked = q.core.marked } } in y) a.rest;
+}
+
+pub still_marked : (o p : Opening) → MarksOn o p → (name : Name) → Contains o.core.marked name → Contains p.core.marked name
+still_marked o p m name c = subst (λ (l : List Name). Contains l name) (sym m.marked) (Contains-append_left o.core.marked m.more name c)
+
+still_shown : (o p : Opening) → MarksOn o p → (v : Value) → IsShown o.core.marked v → IsShown p.core.marked v
+still_shown o p m value.Nil h = tt
+still_shown o p m (value.Number n) h = tt
+still_shown o p m (value.Ref name) h = still_marked o p m name h
+
+-- what waits and what is alive is the same there
+pub waiting_on : (o p : Opening) → MarksOn o p → (weak : Name) (parts : Parts) → IsWaiting o.core weak parts → IsWaiting p.core weak parts
+waiting_on o p m weak parts h =
+    let back : o.core.snapshot ≡ p.core.snapshot = sym (ap (λ (x : Opening). x.core.snapshot) m.rest) in
+    let fin : o.core.finalised ≡ p.core.finalised = sym (ap (λ (x : Opening). x.core.finalised) m.rest) in
+    record { alive = subst (λ w. IsAlive w weak parts) back h.alive; not_finalised = λ c. h.not_finalised (subst (λ (l : List Name). Contains l weak) (sym fin) c) }
+
+pub waiting_back : (o p : Opening) → MarksOn o p → (weak : Name) (parts : Parts) → IsWaiting p.core weak parts → IsWaiting o.core weak parts
+waiting_back o p m weak parts h =
+    let back : p.core.snapshot ≡ o.core.snapshot = ap (λ (x : Opening). x.core.snapshot) m.rest in
+    let fin : p.core.finalised ≡ o.core.finalised = ap (λ (x : Opening). x.core.finalised) m.rest in
+    record { alive = subst (λ w. IsAlive w weak parts) back h.alive; not_finalised = λ c. h.not_finalised (subst (λ (l : List Name). Contains l weak) (sym fin) c) }
+
+alive_on : (o p : Opening) → MarksOn o p → (weak : Name) (parts : Parts) → IsAlive o.core.world weak parts → IsAlive p.core.world weak parts
+alive_on o p m weak parts h = subst (λ w. IsAlive w weak parts) (sym (ap (λ (x : Opening). x.core.world) m.rest)) h
+
+pub then_goes : (o p q : Opening) (words : List ℕ) (s t : Segments) (k l : MarkerSeen) (weaks : List Place) → GoesTo o p words s k weaks → GoesTo p q words t l weaks → GoesTo o q words t l weaks
+then_goes o p q words s t k l weaks a b = record { later = then_marks o p q a.later b.later; can = b.can }
+
+pub stays : (o : Opening) (words : List ℕ) (s : Segments) (k : MarkerSeen) (weaks : List Place) → CanResolve o words s k weaks → GoesTo o o words s k weaks
+stays o words s k weaks h = record { later = same_marks o; can = h }
+
+-- one weak pointer of the snapshot whose word is shown
+pub can_keep : (o : Opening) (words : List ℕ) (s : Segments) (k : MarkerSeen) (weaks : List Place) (weak : OldWeak) → CanResolve o words s k weaks → Contains weaks (place_of weak) → IsEpoch k.epoch → IsSnapshotAt s weak.at.0 → IsShownWord s k.epoch (slice_index words (key_place weak.at.0)) → CanKeep o words s k weaks weak.at.0 weak.weak
+can_keep o words s k weaks weak h c epoch snap shown = record {
+  can = h;
+  listed = c;
+  known = (snapshot_is o words s k weaks h epoch weak.at.0 weak.weak c).0 snap;
+  shown = λ parts alive. shown_is o words s k weaks h epoch weak.at.0 weak.weak c snap shown parts alive;
+}
+
+-- it has kept its parts
+pub one_kept : (o : Opening) (words : List ℕ) (t : Segments) (l : MarkerSeen) (weaks : List Place) (weak : Name) (s : Segments) (k : MarkerSeen) → CanResolve o words s k weaks → HasKept o words t l weaks weak → HasPassed o words t l weaks (weak ∷ [])
+one_kept o words t l weaks weak s k can h = record {
+  next = h.next;
+  goes = h.goes;
+  kept = λ name target parts c waiting shown kept.
+      let same : weak ≡ name = one_is weak name c in
+      let w : IsWaiting o.core weak parts = subst (λ (n : Name). IsWaiting o.core n parts) (sym same) waiting in
+      h.kept target parts (can.facts.base.alive weak parts w.alive w.not_finalised) (subst (λ (n : Name). IsKeptBy n parts target) (sym same) kept);
+}
+
+-- one that isn't of the snapshot, or is lost, keeps nothing
+pub none_kept : (o : Opening) (words : List ℕ) (s : Segments) (k : MarkerSeen) (weaks : List Place) (weak : OldWeak) → CanResolve o words s k weaks → Contains weaks (place_of weak) → (IsEpoch k.epoch × IsLostAt s k.epoch weak.at.0 (slice_index words (key_place weak.at.0))) ⊎ (IsSnapshotAt s weak.at.0 → ⊥) → HasPassed o words s k weaks (weak.weak ∷ [])
+none_kept o words s k weaks weak h c why = record {
+  next = o;
+  goes = stays o words s k weaks h;
+  kept = λ name target parts d waiting shown kept.
+      let same : weak.weak ≡ name = one_is weak.weak name d in
+      let w : IsWaiting o.core weak.weak parts = subst (λ (n : Name). IsWaiting o.core n parts) (sym same) waiting in
+      absurd (none parts w shown);
+}
+  where
+    there : (parts : Parts) → IsWaiting o.core weak.weak parts → IsSome (node_of o.core.snapshot weak.weak)
+    there parts w = subst (λ x. IsSome x) (sym w.alive) refl
+
+    snap_of : (parts : Parts) → IsWaiting o.core weak.weak parts → IsSnapshotAt s weak.at.0
+    snap_of parts w = snapshot_back o words s k weaks h weak.at.0 weak.weak c (there parts w)
+
+    none : (parts : Parts) → IsWaiting o.core weak.weak parts → IsShown o.core.marked parts.key → ⊥
+    none parts w shown = elim why [
+      | inl lost ↦
+          let l : IsLost o.core weak.weak = (lost_is o words s k weaks h lost.0 weak.at.0 weak.weak c).0 lost.1 in
+          let a : IsAlive o.core.snapshot weak.weak l.parts = l.waiting.alive in
+          let same : l.parts ≡ parts = one_parts o.core.snapshot weak.weak l.parts parts a w.alive in
+          l.lost (subst (λ (p : Parts). IsShown o.core.marked p.key) (sym same) shown)
+      | inr out ↦ out (snap_of parts w)
+    ]
+
+-- one after another
+pub pass_more : (o : Opening) (words : List ℕ) (s t : Segments) (k l : MarkerSeen) (weaks : List Place) (passed : List Name) (weak : Name) → (p : HasPassed o words s k weaks passed) → HasPassed p.next words t l weaks (weak ∷ []) → HasPassed o words t l weaks (passed ++ weak ∷ [])
+pass_more o words s t k l weaks passed weak p q = record {
+  next = q.next;
+  goes = then_goes o p.next q.next words s t k l weaks p.goes q.goes;
+  kept = λ name target parts c waiting shown kept. elim (Contains-push_cases passed weak name c) [
+    | inl old ↦ still_marked p.next q.next q.goes.later target (p.kept name target parts old waiting shown kept)
+    | inr same ↦ q.kept name target parts (subst (λ (n : Name). Contains (weak ∷ []) n) same (contains_head weak [])) (waiting_on o p.next p.goes.later name parts waiting) (still_shown o p.next p.goes.later parts.key shown) kept
+  ];
+}
+
+pub pass_none : (o : Opening) (words : List ℕ) (s : Segments) (k : MarkerSeen) (weaks : List Place) → CanResolve o words s k weaks → HasPassed o words s k weaks []
+pass_none o words s k weaks h = record { next = o; goes = stays o words s k weaks h; kept = λ name target parts c waiting shown kept. absurd (omega (arith, c.1)) }
+
+-- the names of one more
+pub names_more : (list : List OldWeak) (i : ℕ) (d : OldWeak) → i < length list → names_of (take (i + 1) list) ≡ names_of (take i list) ++ (get_or list i d).weak ∷ []
+names_more [] i d lt = absurd (omega arith)
+names_more (x ∷ xs) zero d lt = refl
+names_more (x ∷ xs) (suc i) d lt =
+    let z : suc i + 1 ≡ suc (i + 1) = omega arith in
+    ap (λ n. names_of (take n (x ∷ xs))) z ∙ ap (λ (l : List Name). x.weak ∷ l) (names_more xs i d (omega arith))
+
+-- a pass that marked nothing
+no_more : {A : Type 0} (xs ys : List A) → length (xs ++ ys) ≡ length xs → ys ≡ []
+no_more xs [] e = refl
+no_more xs (y ∷ ys) e = let l = length-append xs (y ∷ ys) in absurd (omega arith)
+
+pub saturated : (o : Opening) (words : List ℕ) (s t : Segments) (k l : MarkerSeen) (list : List OldWeak) → CanResolve o words s k (places_of list) → l.marked ≡ k.marked → HasPassed o words t l (places_of list) (names_of list) → HasRevived o words t l (places_of list)
+saturated o words s t k l list h count p =
+    let n : Opening = p.next in
+    let a = h.ready.tied.count in
+    let b = p.goes.can.ready.tied.count in
+    let same_length : length n.core.marked ≡ length o.core.marked = omega arith in
+    let nothing : p.goes.later.more ≡ [] = no_more o.core.marked p.goes.later.more (sym (ap length p.goes.later.marked) ∙ same_length) in
+    let same : n.core.marked ≡ o.core.marked = p.goes.later.marked ∙ ap (λ (m : List Name). o.core.marked ++ m) nothing ∙ append-nil o.core.marked in
+    record {
+      next = n;
+      goes = p.goes;
+      saturated = λ weak target parts waiting shown kept.
+          let before : IsWaiting o.core weak parts = waiting_back o n p.goes.later weak parts waiting in
+          let place = listed_place o words s k (places_of list) h weak parts before in
+          let c : Contains (names_of list) weak = subst (λ (x : Name). Contains (names_of list) x) place.2 (place_has_name list place.0 place.1) in
+          p.kept weak target parts c before (subst (λ (m : List Name). IsShown m parts.key) same shown) kept;
+    }
+
+-- from one round of passes to the next
+pub revived_then : (o p : Opening) (words : List ℕ) (s t : Segments) (k l : MarkerSeen) (weaks : List Place) → GoesTo o p words s k weaks → HasRevived p words t l weaks → HasRevived o words t l weaks
+revived_then o p words s t k l weaks a b = record { next = b.next; goes = then_goes o p b.next words s t k l weaks a b.goes; saturated = b.saturated }

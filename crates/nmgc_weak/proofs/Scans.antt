@@ -1,0 +1,86 @@
+-- Scans alone change marks and queue, mark more, and keep the facts.
+use Rattle.std.proofs.Common.{◌≡◌, List, [], ◌∷◌, ◌++◌, refl, sym, ap, subst, ◌∙◌, append-nil, append_assoc, Option, Some, None, inl, inr}
+use Rattle.std.specs.Prelude.{Contains, is_some, not}
+use Rattle.std.proofs.lemmas.Bool.{and_parts, not-true}
+use Rattle.nmgc_graph.specs.laws.Orders.{contains_head, contains_tail}
+use Rattle.nmgc_reach.specs.laws.ItemLaws.{nothing_in, one_is}
+use Rattle.nmgc_core.specs.laws.Listed.{not_listed}
+use Rattle.nmgc_weak.specs.Resolve.{AreOnce}
+use Rattle.std.proofs.lemmas.List.Elements.{Contains-append_cases}
+use Rattle.nmgc_graph.specs.declared.value.Name.{Name}
+use Rattle.nmgc_graph.specs.declared.value.Value.{Value}
+use Rattle.nmgc_graph.specs.declared.value.Value.TheVariants as value
+use Rattle.nmgc_graph.specs.World.{IsWorld, node_of}
+use Rattle.nmgc_core.specs.declared.event.Entry.{Entry}
+use Rattle.nmgc_core.specs.Facts.{Facts}
+use Rattle.nmgc_core.specs.Machine.{after_scan, advanced}
+use Rattle.nmgc_core.specs.Scan.{read_at}
+use Rattle.nmgc_core.specs.State.{State, mark_name, mark_value, mark_read, is_listed}
+use Rattle.nmgc_core.specs.laws.Marking.{mark_cases}
+use Rattle.nmgc_core.specs.laws.Scans.{scan_facts}
+use Rattle.nmgc_round.specs.Events.{Happening, did, scanned, replay}
+use Rattle.nmgc_mark.specs.Stopped.{AreScans}
+
+-- a name more
+pub once_push : (xs : List Name) (x : Name) → AreOnce xs → (Contains xs x → ⊥) → AreOnce (xs ++ x ∷ [])
+once_push [] x once not_ = (λ c. nothing_in x c, tt)
+once_push (y ∷ xs) x once not_ = (
+  λ c. elim (Contains-append_cases xs (x ∷ []) y c) [
+    | inl d ↦ once.0 d
+    | inr d ↦ not_ (subst (λ (n : Name). Contains (y ∷ xs) n) (sym (one_is x y d)) (contains_head y xs))
+  ],
+  once_push xs x once.1 (λ c. not_ (contains_tail y xs x c)),
+)
+
+-- marks and queue alone are others, and more is marked
+pub record MarksMore (s t : State) : Type 0 where
+  pub more : List Name
+  pub marked : t.marked ≡ s.marked ++ more
+  pub rest : t ≡ record s { marked = t.marked; queue = t.queue }
+  pub once : AreOnce s.marked → AreOnce t.marked
+
+same_marks : (s : State) → MarksMore s s
+same_marks s = record { more = []; marked = sym (append-nil s.marked); rest = refl; once = λ o. o }
+
+then_marks : (s t u : State) → MarksMore s t → MarksMore t u → MarksMore s u
+then_marks s t u a b = record {
+  more = a.more ++ b.more;
+  marked = b.marked ∙ ap (λ (l : List Name). l ++ b.more) a.marked ∙ append_assoc s.marked a.more b.more;
+  rest = b.rest ∙ ap (λ (x : State). let y : State = record x { marked = u.marked; queue = u.queue } in y) a.rest;
+  once = λ o. b.once (a.once o);
+}
+
+pub name_marks : (s : State) (name : Name) → MarksMore s (mark_name s name)
+name_marks s name = mark_cases (MarksMore s) s name (λ e. record { more = name ∷ []; marked = refl; rest = refl; once = λ o. once_push s.marked name o (not_listed name s.marked (not-true (is_listed name s.marked) (and_parts (is_some (node_of s.snapshot name)) (not (is_listed name s.marked)) e).1)) }) (λ e. same_marks s)
+
+value_marks : (s : State) (v : Value) → MarksMore s (mark_value s v)
+value_marks s value.Nil = same_marks s
+value_marks s (value.Number n) = same_marks s
+value_marks s (value.Ref name) = name_marks s name
+
+read_marks : (s : State) (x : Option Value) → MarksMore s (mark_read s x)
+read_marks s None = same_marks s
+read_marks s (Some v) = value_marks s v
+
+advanced_marks : (s : State) (queue : List Entry) → MarksMore s (advanced s queue)
+advanced_marks s [] = same_marks s
+advanced_marks s (entry ∷ rest) = record { more = []; marked = sym (append-nil s.marked); rest = refl; once = λ o. o }
+
+scan_marks : (s : State) (queue : List Entry) → MarksMore s (after_scan s queue)
+scan_marks s [] = same_marks s
+scan_marks s (entry ∷ rest) =
+    let t : State = mark_read s (read_at (node_of s.world entry.name) entry.position) in
+    then_marks s t (advanced t t.queue) (read_marks s (read_at (node_of s.world entry.name) entry.position)) (advanced_marks t t.queue)
+
+pub scans_mark : (s : State) (es : List Happening) → AreScans es → MarksMore s (replay s es)
+scans_mark s [] h = same_marks s
+scans_mark s (did m c r ∷ es) h = absurd h
+scans_mark s (scanned entry v ∷ es) h = then_marks s (after_scan s s.queue) (replay (after_scan s s.queue) es) (scan_marks s s.queue) (scans_mark (after_scan s s.queue) es h)
+
+same_world : (s t : State) → MarksMore s t → IsWorld s.world → IsWorld t.world
+same_world s t m w = subst IsWorld (sym (ap (λ (x : State). x.world) m.rest)) w
+
+pub scans_facts : (s : State) (es : List Happening) → AreScans es → Facts s → IsWorld s.world → Facts (replay s es)
+scans_facts s [] h f w = f
+scans_facts s (did m c r ∷ es) h f w = absurd h
+scans_facts s (scanned entry v ∷ es) h f w = scans_facts (after_scan s s.queue) es h (scan_facts s f w s.queue refl) (same_world s (after_scan s s.queue) (scan_marks s s.queue) w)

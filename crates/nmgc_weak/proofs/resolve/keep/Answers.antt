@@ -1,0 +1,67 @@
+use Rattle.std.proofs.Common.{◌≡◌, ◌+◌, ℕ, List, sym, ap, subst, ◌∙◌, arith}
+use Rattle.std.specs.Prelude.{slice_index}
+use Rattle.nmgc_round.specs.Marking.{Marks, name_meant, with_name}
+use Rattle.nmgc_round.specs.View.{Opening}
+use Rattle.nmgc_mark.specs.Stopped.{IsReady}
+use Rattle.nmgc_mark.specs.Tie.{IsTied}
+use Rattle.nmgc_weak.specs.Weaks.{value_place, finaliser_place}
+use Rattle.nmgc_weak.proofs.Counting.{marked_sum}
+use Rattle.nmgc_weak.proofs.Keeping.{third, three, kept}
+use Rattle.nmgc_weak.proofs.Stages.{with_marks, stage_ready}
+use Rattle.nmgc_weak.proofs.resolve.keep.Goals as goal
+
+-- the words that were loaded
+value_is : (words : List ℕ) (at w : ℕ) → w ≡ slice_index words (at + 3) → w ≡ slice_index words (value_place at)
+value_is words at w e = e ∙ ap (λ i. slice_index words i) (let z : at + 3 ≡ value_place at = omega arith in z)
+
+finaliser_is : (words now : List ℕ) (at w : ℕ) → now ≡ words → w ≡ slice_index now (at + 4) → w ≡ slice_index words (finaliser_place at)
+finaliser_is words now at w same e = e ∙ ap (λ (l : List ℕ). slice_index l (at + 4)) same ∙ ap (λ i. slice_index words i) (let z : at + 4 ≡ finaliser_place at = omega arith in z)
+
+pub mark_word-requires-clause-small : goal.mark_word-requires-clause-small
+mark_word-requires-clause-small g c = λ to e.
+    let ws = g.W.HeapWords.words c.args.words.now in
+    let at : ℕ = c.args.at.0 in
+    let place : value_place at ≡ at + 2 + 1 = omega arith in
+    c.requires.within.small 1 to (omega arith) (ap (λ (i : ℕ). slice_index ws i) (sym place) ∙ sym (value_is ws at c.load-value.result c.load-value.ensures.word) ∙ e)
+
+pub mark_word-requires-2-clause-small : goal.mark_word-requires-2-clause-small
+mark_word-requires-2-clause-small g c = λ to e.
+    let ws = g.W.HeapWords.words c.args.words.now in
+    let at : ℕ = c.args.at.0 in
+    let place : finaliser_place at ≡ at + 2 + 2 = omega arith in
+    c.requires.within.small 2 to (omega arith) (ap (λ (i : ℕ). slice_index ws i) (sym place) ∙ sym (finaliser_is ws (g.W.HeapWords.words c.load-value.new.self) at c.load-finaliser.result c.load-value.ensures.same c.load-finaliser.ensures.word) ∙ e)
+
+pub finish-requires-clause-ready : goal.finish-requires-clause-ready
+finish-requires-clause-ready g c =
+    let ws = g.W.HeapWords.words c.args.words.now in
+    let at : ℕ = c.args.at.0 in
+    let r = c.requires.can in
+    let o : Opening = r.0 in
+    let v = value_is ws at c.load-value.result c.load-value.ensures.word in
+    let f = finaliser_is ws (g.W.HeapWords.words c.load-value.new.self) at c.load-finaliser.result c.load-value.ensures.same c.load-finaliser.ensures.word in
+    let st = three o ws c.args.segments.now c.args.marker.now r.1 at r.2 r.3 c.add.new.segments c.mark_word.new.segments c.mark_word-2.new.segments c.add.new.self c.mark_word.new.marker c.mark_word-2.new.marker
+    (λ m h. c.add.ensures.tied o m h)
+    (λ m h. subst (λ (x : ℕ). IsTied o (with_name o.core.snapshot m (name_meant o.places x)) c.mark_word.new.segments c.mark_word.new.marker) v (c.mark_word.ensures.tied o m h))
+    (λ m h. subst (λ (x : ℕ). IsTied o (with_name o.core.snapshot m (name_meant o.places x)) c.mark_word-2.new.segments c.mark_word-2.new.marker) f (c.mark_word-2.ensures.tied o m h)) in
+    let m : Marks = third o ws c.args.segments.now c.args.marker.now r.1 at r.2 r.3 in
+    let ready = stage_ready o o.core.opened m ws c.mark_word-2.new.segments c.mark_word-2.new.marker r.3.can.marking r.3.can.ready.opens st in
+    (with_marks o m, subst (λ (l : List ℕ). IsReady (with_marks o m) l c.mark_word-2.new.segments c.mark_word-2.new.marker) (sym (c.load-finaliser.ensures.same ∙ c.load-value.ensures.same)) ready)
+
+pub returns-clause-marked : goal.returns-clause-marked
+returns-clause-marked g c =
+    let one = marked_sum c.args.segments.now c.add.new.segments c.mark_word.new.segments c.args.marker.now c.add.new.self c.mark_word.new.marker (0, c.add.ensures.marked) (0, c.mark_word.ensures.marked) in
+    let two = marked_sum c.args.segments.now c.mark_word.new.segments c.mark_word-2.new.segments c.args.marker.now c.mark_word.new.marker c.mark_word-2.new.marker one (0, c.mark_word-2.ensures.marked) in
+    marked_sum c.args.segments.now c.mark_word-2.new.segments c.finish.new.segments c.args.marker.now c.mark_word-2.new.marker c.finish.new.self two c.finish.ensures.marked
+
+pub returns-clause-kept : goal.returns-clause-kept
+returns-clause-kept g c = λ o weaks weak h.
+    let ws = g.W.HeapWords.words c.args.words.now in
+    let at : ℕ = c.args.at.0 in
+    let v = value_is ws at c.load-value.result c.load-value.ensures.word in
+    let f = finaliser_is ws (g.W.HeapWords.words c.load-value.new.self) at c.load-finaliser.result c.load-value.ensures.same c.load-finaliser.ensures.word in
+    let st = three o ws c.args.segments.now c.args.marker.now weaks at weak h c.add.new.segments c.mark_word.new.segments c.mark_word-2.new.segments c.add.new.self c.mark_word.new.marker c.mark_word-2.new.marker
+    (λ m k. c.add.ensures.tied o m k)
+    (λ m k. subst (λ (x : ℕ). IsTied o (with_name o.core.snapshot m (name_meant o.places x)) c.mark_word.new.segments c.mark_word.new.marker) v (c.mark_word.ensures.tied o m k))
+    (λ m k. subst (λ (x : ℕ). IsTied o (with_name o.core.snapshot m (name_meant o.places x)) c.mark_word-2.new.segments c.mark_word-2.new.marker) f (c.mark_word-2.ensures.tied o m k)) in
+    kept o ws c.args.segments.now c.args.marker.now weaks at weak h c.mark_word-2.new.segments c.finish.new.segments c.mark_word-2.new.marker c.finish.new.self st
+    (λ p ready. c.finish.ensures.finished p (subst (λ (l : List ℕ). IsReady p l c.mark_word-2.new.segments c.mark_word-2.new.marker) (sym (c.load-finaliser.ensures.same ∙ c.load-value.ensures.same)) ready))

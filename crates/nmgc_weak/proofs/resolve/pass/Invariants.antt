@@ -1,0 +1,14 @@
+use Rattle.std.proofs.Common.{ℕ, ◌≡◌, take}
+use Rattle.nmgc_round.specs.View.{Opening}
+use Rattle.nmgc_mark.specs.Marker.{HasMarked}
+use Rattle.nmgc_weak.specs.Resolve.{CanResolve}
+use Rattle.nmgc_weak.specs.Steps.{HasPassed}
+use Rattle.nmgc_weak.specs.Weaks.{places_of, names_of}
+use Rattle.nmgc_weak.proofs.resolve.pass.Given as goal
+
+abbrev pub invariant-loop-weak : goal.invariant-loop-weak
+invariant-loop-weak g l = record {
+  words : g.W.HeapWords.words l.words ≡ g.W.HeapWords.words l.fn.words;
+  marked : (count : ℕ) × HasMarked l.fn.segments l.segments l.fn.marker l.marker count;
+  each : (o : Opening) → CanResolve o (g.W.HeapWords.words l.fn.words) l.fn.segments l.fn.marker (places_of l.list) → HasPassed o (g.W.HeapWords.words l.fn.words) l.segments l.marker (places_of l.list) (names_of (take l.weak-index l.list));
+}

@@ -1,0 +1,17 @@
+use Rattle.std.proofs.Common.{ℕ, ◌≡◌}
+use Rattle.nmgc_round.specs.View.{Opening}
+use Rattle.nmgc_mark.specs.Marker.{HasMarked}
+use Rattle.nmgc_weak.specs.Resolve.{CanResolve}
+use Rattle.nmgc_weak.specs.Steps.{GoesTo}
+use Rattle.nmgc_weak.specs.Weaks.{places_of}
+use Rattle.nmgc_weak.proofs.resolve.revive.Given as goal
+
+abbrev pub invariant-loop-before : goal.invariant-loop-before
+invariant-loop-before g l = record {
+  words : g.W.HeapWords.words l.words ≡ g.W.HeapWords.words l.fn.words;
+  marked : (count : ℕ) × HasMarked l.fn.segments l.segments l.fn.marker l.marker count;
+  each : (o : Opening) → CanResolve o (g.W.HeapWords.words l.fn.words) l.fn.segments l.fn.marker (places_of l.list) → (next : Opening) × GoesTo o next (g.W.HeapWords.words l.fn.words) l.segments l.marker (places_of l.list);
+}
+
+abbrev pub decreases-loop-before : goal.decreases-loop-before
+decreases-loop-before g l = l.marker.spare

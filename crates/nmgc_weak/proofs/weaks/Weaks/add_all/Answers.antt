@@ -1,0 +1,17 @@
+use Rattle.std.proofs.Common.{◌≡◌, ◌⊎◌, ◌↔◌, List, sym, ap, subst, ◌∙◌}
+use Rattle.std.specs.Prelude.{Contains}
+use Rattle.nmgc_weak.specs.declared.weaks.OldWeak.{OldWeak}
+use Rattle.nmgc_weak.specs.Weaks.{Weaks}
+use Rattle.nmgc_weak.proofs.weaks.Weaks.add_all.Goals as goal
+
+pub merge-requires-clause-new : goal.merge-requires-clause-new
+merge-requires-clause-new c = λ one other a b.
+    let list : c.self.inside.list.items ≡ c.args.self.now.list = ap (λ (a : Weaks). a.list) c.self.view_is in
+    c.requires.new one other a (subst (λ (l : List OldWeak). Contains l other) (c.as_slice.ensures.value ∙ list) b)
+
+pub returns-clause-list : goal.returns-clause-list
+returns-clause-list c = λ other.
+    let list : c.as_slice.result.now ≡ c.args.self.now.list = c.as_slice.ensures.value ∙ ap (λ (a : Weaks). a.list) c.self.view_is in
+    let items : c.swap.new.x.items ≡ c.merge.new.all.items = ap (λ v. v.items) c.swap.ensures.x_after in
+    subst (λ (l : List OldWeak). Contains l other ↔ (Contains c.args.self.now.list other ⊎ Contains c.args.fresh.now other)) (sym items)
+    (subst (λ (l : List OldWeak). Contains c.merge.new.all.items other ↔ (Contains l other ⊎ Contains c.args.fresh.now other)) list (c.merge.ensures.both other))

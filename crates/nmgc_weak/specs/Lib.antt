@@ -1,0 +1,5 @@
+pub mod Closes
+pub mod Queues
+pub mod Resolve
+pub mod Steps
+pub mod Weaks

@@ -1,0 +1,27 @@
+-- Finalisers that join their makers' queues.
+use Rattle.std.specs.Prelude.{ℕ, ◌≡◌, ◌+◌, ◌<◌, ◌≤◌, ◌==◌, ◌&&◌, not, Bool, List, ◌++◌, length, filter, map, slice_get, Some, Contains}
+use Rattle.nmgc_object.specs.FinQueue.{FinQueue}
+use Rattle.nmgc_object.specs.declared.words.TheConstants.{NIL_WORD}
+use Rattle.nmgc_weak.specs.declared.weaks.Death.{Death}
+
+-- whether the finaliser of a death joins the queue of this maker
+abbrev pub joins : ℕ → Death → Bool
+joins maker death = (death.weak.maker == maker) && not (death.finaliser == NIL_WORD)
+
+-- the words that join it, in order
+abbrev pub joined : ℕ → List Death → List ℕ
+joined maker deaths = map (λ (death : Death). death.finaliser) (filter (joins maker) deaths)
+
+-- each maker among the deaths has a queue, and each queue has room
+pub record HaveRoom (deaths : List Death) (queues : List FinQueue) : Type 0 where
+  pub makers : (death : Death) → Contains deaths death → death.weak.maker < length queues
+  pub room : (maker : ℕ) (queue : FinQueue) → slice_get queues maker ≡ Some queue → length (joined maker deaths) ≤ queue.spare
+
+-- the queue of a maker afterwards: the words are added, and each took one room
+pub record Joins (old new : FinQueue) (words : List ℕ) : Type 0 where
+  pub words_are : new.words ≡ old.words ++ words
+  pub spare : new.spare + length words ≡ old.spare
+
+-- every queue
+abbrev pub AllJoin : List Death → List FinQueue → List FinQueue → Type 0
+AllJoin deaths old new = (length new ≡ length old) × ((maker : ℕ) (before : FinQueue) → slice_get old maker ≡ Some before → (after : FinQueue) × (slice_get new maker ≡ Some after) × Joins before after (joined maker deaths))

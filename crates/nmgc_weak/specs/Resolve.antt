@@ -1,0 +1,56 @@
+-- The closing of a cycle, as the words and the marker show it: what it asks, and that it is the core machine's.
+use Rattle.std.specs.Prelude.{ℕ, ◌≡◌, true, List, [], ◌∷◌, Contains}
+use Rattle.nmgc_graph.specs.declared.value.Name.{Name}
+use Rattle.nmgc_graph.specs.declared.node.Parts.{Parts}
+use Rattle.nmgc_graph.specs.Reach.{IsAlive}
+use Rattle.nmgc_core.specs.declared.event.Event.TheVariants as event
+use Rattle.nmgc_core.specs.Closing.{IsClosing}
+use Rattle.nmgc_core.specs.Facts.{Facts}
+use Rattle.nmgc_core.specs.Machine.{IsPossible}
+use Rattle.nmgc_core.specs.State.{State as Core}
+use Rattle.nmgc_alloc.specs.Segments.{Segments}
+use Rattle.nmgc_heap.specs.Places.{Place, Means}
+use Rattle.nmgc_heap.specs.Changes.{AreEarlier}
+use Rattle.nmgc_heap.specs.Represents.{Represents, NoNode}
+use Rattle.nmgc_heap.specs.Roots.{ListsWeaks}
+use Rattle.nmgc_round.specs.Marking.{marks_of}
+use Rattle.nmgc_round.specs.Objects.{earlier}
+use Rattle.nmgc_round.specs.View.{Opening}
+use Rattle.nmgc_run.specs.Seen.{MarkerSeen}
+use Rattle.nmgc_mark.specs.Stopped.{IsReady}
+use Rattle.nmgc_mark.specs.Tie.{IsTied}
+use Rattle.nmgc_weak.specs.declared.weaks.OldWeak.{OldWeak}
+use Rattle.nmgc_weak.specs.declared.weaks.Death.{Death}
+use Rattle.nmgc_weak.specs.Weaks.{places_of}
+
+-- no name of the list is among those that follow
+abbrev pub AreOnce : List Name → Type 0
+AreOnce [] = Unit {0}
+AreOnce (name ∷ names) = (Contains names name → ⊥) × AreOnce names
+
+-- the words represent the world of a core state that could open a round, and marks are that state's; it has the facts, has marked each name once and may close, and these are the weak pointers alive in its world that have a block. A weak pointer that was finalised since the snapshot is dead in that world
+pub record CanResolve (o : Opening) (words : List ℕ) (s : Segments) (marker : MarkerSeen) (weaks : List Place) : Type 0 where
+  pub ready : IsReady o words s marker
+  pub marking : o.marking ≡ true
+  pub facts : Facts o.core
+  pub once : AreOnce o.core.marked
+  pub gone : (weak : Name) (parts : Parts) → Contains o.core.finalised weak → IsAlive o.core.world weak parts → ⊥
+  pub can_close : IsPossible o.core event.Close
+  pub spoken : AreEarlier (earlier o) o.core.world
+  pub listed : ListsWeaks o.layout o.places o.core.world weaks
+
+-- each of the dead with the word of its finaliser, in order
+abbrev pub AreDeaths : Opening → List Name → List Death → Type 0
+AreDeaths o [] [] = Unit {0}
+AreDeaths o (weak ∷ weaks) (death ∷ deaths) = ((death.weak ≡ weak) × ((parts : Parts) × IsAlive o.core.world weak parts × Means (Contains o.places) death.finaliser parts.finaliser)) × AreDeaths o weaks deaths
+AreDeaths o _ _ = ⊥
+
+-- the core machine has closed: the marker has the marks of the state after it, the deaths are the weak pointers that die there, and words and list stand for the closed world
+pub record HasResolved (o : Opening) (words : List ℕ) (s : Segments) (marker : MarkerSeen) (list : List OldWeak) (deaths : List Death) : Type 0 where
+  pub next : Core
+  pub closing : IsClosing o.core next
+  pub once : AreOnce next.marked
+  pub tied : IsTied o (marks_of next) s marker
+  pub deaths_are : AreDeaths o closing.dead deaths
+  pub represents : Represents o.layout (earlier o) NoNode o.places next.world words
+  pub listed : ListsWeaks o.layout o.places next.world (places_of list)

@@ -1,0 +1,105 @@
+-- What each step of a closing does to the core state: it marks more, and changes nothing else.
+use Rattle.std.specs.Prelude.{ℕ, ◌≡◌, ◌≢◌, ◌⊎◌, ◌/◌, ◌%◌, ◌++◌, List, Contains, IsSome}
+use Rattle.nmgc_graph.specs.declared.value.Name.{Name}
+use Rattle.nmgc_graph.specs.declared.value.Value.{Value}
+use Rattle.nmgc_graph.specs.declared.value.Value.TheVariants as value
+use Rattle.nmgc_graph.specs.declared.node.Parts.{Parts}
+use Rattle.nmgc_graph.specs.World.{node_of}
+use Rattle.nmgc_graph.specs.Reach.{IsAlive, IsKeptBy, IsInOrder}
+use Rattle.nmgc_object.specs.declared.layout.TheConstants.{SHARED_PLACE}
+use Rattle.nmgc_core.specs.Closing.{IsWaiting, IsClosing}
+use Rattle.nmgc_core.specs.State.{State as Core}
+use Rattle.nmgc_alloc.specs.Blocks.{IsSnapshotAt, IsMarkedAt}
+use Rattle.nmgc_alloc.specs.Segments.{Segments}
+use Rattle.nmgc_heap.specs.Places.{Place}
+use Rattle.nmgc_round.specs.Marking.{marks_of}
+use Rattle.nmgc_round.specs.View.{Opening}
+use Rattle.nmgc_run.specs.Seen.{MarkerSeen}
+use Rattle.nmgc_mark.specs.Tie.{IsTied}
+use Rattle.nmgc_weak.specs.declared.weaks.OldWeak.{OldWeak}
+use Rattle.nmgc_weak.specs.Resolve.{AreOnce, CanResolve}
+use Rattle.nmgc_weak.specs.Weaks.{names_of, places_of}
+
+-- a key by which a weak pointer keeps its parts: nil, a number, or a marked name
+abbrev pub IsShown : List Name → Value → Type 0
+IsShown marked value.Nil = Unit {0}
+IsShown marked (value.Number n) = Unit {0}
+IsShown marked (value.Ref name) = Contains marked name
+
+-- the same, as its word tells it
+abbrev pub IsShownWord : Segments → ℕ → ℕ → Type 0
+IsShownWord s epoch word = (word % 2 ≢ 0) ⊎ ((word / 2 ≡ SHARED_PLACE) ⊎ IsMarkedAt s epoch (word / 2))
+
+-- the block there is in the snapshot, and the word of its key doesn't keep it
+abbrev pub IsLostAt : Segments → ℕ → ℕ → ℕ → Type 0
+IsLostAt s epoch at key = IsSnapshotAt s at × (IsShownWord s epoch key → ⊥)
+
+-- a waiting weak pointer whose key isn't shown
+pub record IsLost (core : Core) (weak : Name) : Type 0 where
+  pub parts : Parts
+  pub waiting : IsWaiting core weak parts
+  pub lost : IsShown core.marked parts.key → ⊥
+
+-- the parts of each waiting weak pointer of these whose key is shown in some marks are marked in others
+abbrev pub AreKept : Core → List Name → List Name → List Name → Type 0
+AreKept core weaks shown marked = (weak target : Name) (parts : Parts) → Contains weaks weak → IsWaiting core weak parts → IsShown shown parts.key → IsKeptBy weak parts target → Contains marked target
+
+-- the same opening, where more is marked
+pub record MarksOn (o next : Opening) : Type 0 where
+  pub more : List Name
+  pub marked : next.core.marked ≡ o.core.marked ++ more
+  pub rest : next ≡ record o { core = record o.core { marked = next.core.marked } }
+
+-- from a state that can be resolved to another
+pub record GoesTo (o next : Opening) (words : List ℕ) (s : Segments) (marker : MarkerSeen) (weaks : List Place) : Type 0 where
+  pub later : MarksOn o next
+  pub can : CanResolve next words s marker weaks
+
+-- every waiting weak pointer whose key is shown has its parts marked
+abbrev pub IsSaturated : Opening → List Place → Type 0
+IsSaturated o weaks = (weak target : Name) (parts : Parts) → IsWaiting o.core weak parts → IsShown o.core.marked parts.key → IsKeptBy weak parts target → Contains o.core.marked target
+
+-- these are exactly the lost ones of the list, in order of names
+pub record AreLost (o : Opening) (weaks : List Place) (dying : List OldWeak) : Type 0 where
+  pub ordered : IsInOrder (names_of dying)
+  pub sound : (place : Place) → Contains (places_of dying) place → Contains weaks place × IsLost o.core place.name
+  pub complete : (place : Place) → Contains weaks place → IsLost o.core place.name → Contains (places_of dying) place
+
+-- what those that die keep last is marked too: the machine has closed but for the world
+pub record HasSaved (o : Opening) (s : Segments) (marker : MarkerSeen) (dying : List OldWeak) : Type 0 where
+  pub next : Core
+  pub closing : IsClosing o.core next
+  pub dead : closing.dead ≡ names_of dying
+  pub once : AreOnce next.marked
+  pub tied : IsTied o (marks_of next) s marker
+
+-- a weak pointer of the snapshot, of the list, whose key is shown
+pub record CanKeep (o : Opening) (words : List ℕ) (s : Segments) (marker : MarkerSeen) (weaks : List Place) (at : ℕ) (weak : Name) : Type 0 where
+  pub can : CanResolve o words s marker weaks
+  pub listed : Contains weaks (record { at = at; name = weak })
+  pub known : IsSome (node_of o.core.snapshot weak)
+  pub shown : (parts : Parts) → IsAlive o.core.world weak parts → IsShown o.core.marked parts.key
+
+-- its parts are marked
+pub record HasKept (o : Opening) (words : List ℕ) (s : Segments) (marker : MarkerSeen) (weaks : List Place) (weak : Name) : Type 0 where
+  pub next : Opening
+  pub goes : GoesTo o next words s marker weaks
+  pub kept : (target : Name) (parts : Parts) → IsAlive o.core.world weak parts → IsKeptBy weak parts target → Contains next.core.marked target
+
+-- those of the list whose key was shown have kept their parts, as far as a pass has come
+pub record HasPassed (o : Opening) (words : List ℕ) (s : Segments) (marker : MarkerSeen) (weaks : List Place) (passed : List Name) : Type 0 where
+  pub next : Opening
+  pub goes : GoesTo o next words s marker weaks
+  pub kept : AreKept o.core passed o.core.marked next.core.marked
+
+-- no weak pointer whose key is shown has parts that aren't marked
+pub record HasRevived (o : Opening) (words : List ℕ) (s : Segments) (marker : MarkerSeen) (weaks : List Place) : Type 0 where
+  pub next : Opening
+  pub goes : GoesTo o next words s marker weaks
+  pub saturated : IsSaturated next weaks
+
+-- all that is revived is marked, and these are the ones that die
+pub record CanSave (o : Opening) (words : List ℕ) (s : Segments) (marker : MarkerSeen) (weaks : List Place) (dying : List OldWeak) : Type 0 where
+  pub can : CanResolve o words s marker weaks
+  pub saturated : IsSaturated o weaks
+  pub lost : AreLost o weaks dying

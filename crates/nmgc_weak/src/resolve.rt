@@ -1,0 +1,234 @@
+//! The steps of a closing: which weak pointers keep their parts, and which die.
+//!
+//! Nothing here decides liveness: a key is live by then exactly where it is marked, once no pass over the list
+//! finds a weak pointer that keeps something new. That this is the core machine's closing is told from each
+//! state that could be closed to one with more marks (`specs/Steps.antt`).
+//!
+//! Easy to get wrong: the finalisers of those that die may reach their own keys. So all of them are found before
+//! the first finaliser is marked, and their value words become 0 last, while the words still represent the world
+//! in which the marker follows fields.
+ghost use Rattle.std.specs.Prelude.{ℕ, ◌≡◌, ◌↔◌, ◌*◌, ◌^◌, ◌+◌, ◌<◌, ◌≤◌, List, length, slice_index, vec_len, vec_capacity, Contains, IsTrue, IsFalse, [], ◌∷◌};
+ghost use Rattle.nmgc_graph.specs.declared.value.Name.{Name};
+ghost use Rattle.nmgc_segment.specs.Marks.{IsEpoch};
+ghost use Rattle.nmgc_alloc.specs.Blocks.{IsSnapshotAt, IsMarkedAt};
+ghost use Rattle.nmgc_heap.specs.Places.{Place};
+ghost use Rattle.nmgc_round.specs.View.{Opening};
+ghost use Rattle.nmgc_round.specs.Marking.{Marks, with_name, name_meant};
+ghost use Rattle.nmgc_run.specs.Marker.{HasRoomToMark};
+ghost use Rattle.nmgc_mark.specs.Marker.{HasMarked};
+ghost use Rattle.nmgc_mark.specs.Tie.{IsTied};
+ghost use Rattle.nmgc_weak.specs.Resolve.{CanResolve};
+ghost use Rattle.nmgc_weak.specs.Steps.{IsShownWord, IsLostAt, CanKeep, HasKept, HasPassed, HasRevived, CanSave, AreLost, HasSaved};
+ghost use Rattle.nmgc_weak.specs.Weaks.{IsWithin, AreWithin, key_place, place_of, places_of, names_of, deaths_of, buried};
+
+use crate::weaks::{Death, FINALISER, OldWeak, VALUE};
+use nmgc_alloc::Segments;
+use nmgc_heap::HeapWords;
+use nmgc_mark::Marker;
+use nmgc_object::{Address, HEADER_WORDS, SHARED_PLACE};
+
+// Whether a block of the snapshot begins at a place.
+fn is_of_snapshot(segments: &Segments, at: Address) -> bool
+    ensures { IsTrue result ↔ IsSnapshotAt segments.now at.0 }
+{
+    let _ = segments.layout();
+    match segments.block_at(at) {
+        Some((number, block)) => segments.segment(number).in_snapshot(block),
+        None => false,
+    }
+}
+
+// Whether a block that is marked begins at a place.
+fn is_marked(segments: &Segments, at: Address, epoch: u8) -> bool
+    requires { IsEpoch epoch }
+    ensures { IsTrue result ↔ IsMarkedAt segments.now epoch at.0 }
+{
+    let _ = segments.layout();
+    match segments.block_at(at) {
+        Some((number, block)) => segments.segment(number).is_marked(block, epoch),
+        None => false,
+    }
+}
+
+// Whether a key is nil, a number, g, or marked.
+fn is_shown(segments: &Segments, key: u64, epoch: u8) -> bool
+    requires epoch { IsEpoch epoch }
+    requires small { (to : ℕ) → key ≡ 2 * to → to < 2 ^ 32 }
+    ensures { IsTrue result ↔ IsShownWord segments.now epoch key }
+{
+    if key % 2 != 0 {
+        return true;
+    }
+    let to = (key / 2) as u32;
+    to == SHARED_PLACE || is_marked(segments, Address(to), epoch)
+}
+
+// Whether a weak pointer is of the snapshot, and its key isn't shown.
+fn is_lost<W: HeapWords>(marker: &Marker, words: &mut W, segments: &Segments, at: Address) -> bool
+    requires { IsWithin (W.words words.old) at.0 }
+    ensures words { W.words words.new ≡ W.words words.old }
+    ensures lost { IsTrue result ↔ IsLostAt segments.now marker.now.epoch at.0 (slice_index (W.words words.old) (key_place at.0)) }
+    ensures shown { IsFalse result → IsSnapshotAt segments.now at.0 → IsShownWord segments.now marker.now.epoch (slice_index (W.words words.old) (key_place at.0)) }
+    ensures epoch { IsEpoch marker.now.epoch }
+{
+    let key = words.load(at.0 as usize + HEADER_WORDS as usize);
+    let shown = is_shown(segments, key, marker.epoch());
+    is_of_snapshot(segments, at) && !shown
+}
+
+// Marks what a field refers to.
+fn mark_word(marker: &mut Marker, segments: &mut Segments, word: u64)
+    requires room { HasRoomToMark segments.old marker.old }
+    requires small { (to : ℕ) → word ≡ 2 * to → to < 2 ^ 32 }
+    ensures marked { HasMarked segments.old segments.new marker.old marker.new 0 }
+    ensures tied { (o : Opening) (m : Marks) → IsTied o m segments.old marker.old → IsTied o (with_name o.core.snapshot m (name_meant o.places word)) segments.new marker.new }
+{
+    if word == 0 || word % 2 != 0 {
+        return;
+    }
+    marker.add(segments, &[Address((word / 2) as u32)]);
+}
+
+// Marks a weak pointer with its value and its finaliser, and all that these reach.
+fn keep<W: HeapWords>(marker: &mut Marker, words: &mut W, segments: &mut Segments, at: Address)
+    requires room { HasRoomToMark segments.old marker.old }
+    requires within { IsWithin (W.words words.old) at.0 }
+    requires can { (o : Opening) × (weaks : List Place) × (weak : Name) × CanKeep o (W.words words.old) segments.old marker.old weaks at.0 weak }
+    ensures words { W.words words.new ≡ W.words words.old }
+    ensures marked { (count : ℕ) × HasMarked segments.old segments.new marker.old marker.new count }
+    ensures kept { (o : Opening) (weaks : List Place) (weak : Name) → CanKeep o (W.words words.old) segments.old marker.old weaks at.0 weak → HasKept o (W.words words.old) segments.new marker.new weaks weak }
+{
+    let first = at.0 as usize;
+    let value = words.load(first + VALUE);
+    let finaliser = words.load(first + FINALISER);
+    marker.add(segments, &[at]);
+    mark_word(marker, segments, value);
+    mark_word(marker, segments, finaliser);
+    marker.finish(words, segments);
+}
+
+// A weak pointer of the snapshot whose key is shown keeps its parts, and any other is left as it is.
+fn keep_if_shown<W: HeapWords>(
+    marker: &mut Marker,
+    words: &mut W,
+    segments: &mut Segments,
+    weak: OldWeak,
+)
+    requires room { HasRoomToMark segments.old marker.old }
+    requires within { IsWithin (W.words words.old) weak.at.0 }
+    requires can { (o : Opening) × (weaks : List Place) × CanResolve o (W.words words.old) segments.old marker.old weaks × Contains weaks (place_of weak) }
+    ensures words { W.words words.new ≡ W.words words.old }
+    ensures marked { (count : ℕ) × HasMarked segments.old segments.new marker.old marker.new count }
+    ensures passed { (o : Opening) (weaks : List Place) → CanResolve o (W.words words.old) segments.old marker.old weaks → Contains weaks (place_of weak) → HasPassed o (W.words words.old) segments.new marker.new weaks (weak.weak ∷ []) }
+{
+    if !is_of_snapshot(segments, weak.at) {
+        return;
+    }
+    if is_lost(marker, words, segments, weak.at) {
+        return;
+    }
+    keep(marker, words, segments, weak.at);
+}
+
+// A pass over the list: each weak pointer of the snapshot whose key is shown keeps its parts.
+fn pass<W: HeapWords>(list: &[OldWeak], marker: &mut Marker, words: &mut W, segments: &mut Segments)
+    requires room { HasRoomToMark segments.old marker.old }
+    requires within { AreWithin (W.words words.old) list.now }
+    requires can { (o : Opening) × CanResolve o (W.words words.old) segments.old marker.old (places_of list.now) }
+    ensures words { W.words words.new ≡ W.words words.old }
+    ensures marked { (count : ℕ) × HasMarked segments.old segments.new marker.old marker.new count }
+    ensures passed { (o : Opening) → CanResolve o (W.words words.old) segments.old marker.old (places_of list.now) → HasPassed o (W.words words.old) segments.new marker.new (places_of list.now) (names_of list.now) }
+{
+    for weak in list {
+        keep_if_shown(marker, words, segments, *weak);
+    }
+}
+
+/// Passes over the list until one marks nothing: no weak pointer of the snapshot is left whose key is shown and
+/// whose parts aren't marked.
+pub(crate) fn revive<W: HeapWords>(
+    list: &[OldWeak],
+    marker: &mut Marker,
+    words: &mut W,
+    segments: &mut Segments,
+)
+    requires room { HasRoomToMark segments.old marker.old }
+    requires within { AreWithin (W.words words.old) list.now }
+    requires can { (o : Opening) × CanResolve o (W.words words.old) segments.old marker.old (places_of list.now) }
+    ensures words { W.words words.new ≡ W.words words.old }
+    ensures marked { (count : ℕ) × HasMarked segments.old segments.new marker.old marker.new count }
+    ensures revived { (o : Opening) → CanResolve o (W.words words.old) segments.old marker.old (places_of list.now) → HasRevived o (W.words words.old) segments.new marker.new (places_of list.now) }
+{
+    loop {
+        let before = marker.marked();
+        pass(list, marker, words, segments);
+        if marker.marked() == before {
+            break;
+        }
+    }
+}
+
+/// Notes those that die: of the snapshot, with a key that isn't shown.
+pub(crate) fn find_dying<W: HeapWords>(
+    list: &[OldWeak],
+    dying: &mut Vec<OldWeak>,
+    marker: &Marker,
+    words: &mut W,
+    segments: &Segments,
+)
+    requires empty { dying.old.items ≡ [] }
+    requires none { vec_len dying.old ≡ 0 }
+    requires room { length list.now ≤ vec_capacity dying.old }
+    requires within { AreWithin (W.words words.old) list.now }
+    ensures words { W.words words.new ≡ W.words words.old }
+    ensures found { (o : Opening) → CanResolve o (W.words words.old) segments.now marker.now (places_of list.now) → AreLost o (places_of list.now) dying.new.items }
+    ensures capacity { vec_capacity dying.new ≡ vec_capacity dying.old }
+    ensures few { vec_len dying.new ≤ length list.now }
+{
+    for weak in list {
+        if is_lost(marker, words, segments, weak.at) {
+            dying.push_reserved(*weak);
+        }
+    }
+}
+
+/// Notes the finalisers of those that die, and marks them with all that they reach.
+pub(crate) fn save_finalisers<W: HeapWords>(
+    dying: &[OldWeak],
+    deaths: &mut Vec<Death>,
+    marker: &mut Marker,
+    words: &mut W,
+    segments: &mut Segments,
+)
+    requires empty { deaths.old.items ≡ [] }
+    requires few { length dying.now ≤ vec_capacity deaths.old }
+    requires room { HasRoomToMark segments.old marker.old }
+    requires within { AreWithin (W.words words.old) dying.now }
+    requires can { (o : Opening) × (weaks : List Place) × CanSave o (W.words words.old) segments.old marker.old weaks dying.now }
+    ensures words { W.words words.new ≡ W.words words.old }
+    ensures deaths { deaths.new.items ≡ deaths_of (W.words words.old) dying.now }
+    ensures capacity { vec_capacity deaths.new ≡ vec_capacity deaths.old }
+    ensures marked { (count : ℕ) × HasMarked segments.old segments.new marker.old marker.new count }
+    ensures empty { marker.new.queue ≡ [] }
+    ensures saved { (o : Opening) (weaks : List Place) → CanSave o (W.words words.old) segments.old marker.old weaks dying.now → HasSaved o segments.new marker.new dying.now }
+{
+    for weak in dying {
+        let finaliser = words.load(weak.at.0 as usize + FINALISER);
+        deaths.push_reserved(Death {
+            weak: weak.weak,
+            finaliser,
+        });
+        mark_word(marker, segments, finaliser);
+    }
+    marker.finish(words, segments);
+}
+
+/// The value words of those that die become 0, and no other word changes.
+pub(crate) fn bury<W: HeapWords>(dying: &[OldWeak], words: &mut W)
+    requires { AreWithin (W.words words.old) dying.now }
+    ensures { W.words words.new ≡ buried (W.words words.old) dying.now }
+{
+    for weak in dying {
+        words.store(weak.at.0 as usize + VALUE, 0);
+    }
+}
