@@ -1,11 +1,8 @@
 -- The marker's calls, over the laws of the machine.
 use Rattle.std.proofs.Common.{ℕ, ◌≡◌, ◌++◌, true, List, [], ◌∷◌, length, map, refl, sym, ap, subst, ◌∙◌, inr}
-use Rattle.std.specs.Prelude.{All}
 use Rattle.std.specs.List.{flat_map}
 use Rattle.std.proofs.lemmas.List.{length-map}
-use Rattle.std.proofs.lemmas.List.Elements.{All-nil}
 use Rattle.nmgc_graph.specs.World.{World}
-use Rattle.nmgc_core.specs.declared.event.Entry.{Entry}
 use Rattle.nmgc_core.specs.State.{State as Core, names_of, opening}
 use Rattle.nmgc_heap.specs.Places.{Place}
 use Rattle.nmgc_heap.specs.laws.Kinds.{map_item}
@@ -15,18 +12,16 @@ use Rattle.nmgc_round.specs.Finishing.{places_then}
 use Rattle.nmgc_round.specs.View.{Opening, Scan, Seen as View}
 use Rattle.nmgc_run.specs.Collector.{IsMarking}
 use Rattle.nmgc_round.specs.Marking.{Marks, marks_of, marks_after}
-use Rattle.nmgc_round.specs.Rule.{now}
-use Rattle.nmgc_run.specs.Marker.{AreAt, AreRemembered, IsFresh, IsTied}
+use Rattle.nmgc_run.specs.Marker.{AreAt, AreRemembered, IsTied}
 use Rattle.nmgc_run.specs.Seen.{MutatorSeen}
 use Rattle.nmgc_run.specs.State.{Cycle, next_cycle, cycle_started}
 use Rattle.nmgc_mark.specs.Blocks.{AreOfBlocks, TiesAgree}
 use Rattle.nmgc_mark.specs.Tie.{IsTied as IsTiedByPlaces, with_places}
 use Rattle.nmgc_beside.specs.Begins.{all_prepared, with_names}
-use Rattle.nmgc_beside.specs.Calls.{all_entries, SnapshotIsMarking, RoundIsMarking, AddIsMarking, FinishCloses}
+use Rattle.nmgc_beside.specs.Calls.{all_entries, SnapshotIsMarking, RoundIsMarking, AddIsMarking}
 use Rattle.nmgc_beside.specs.Owed.{gathered}
-use Rattle.nmgc_beside.specs.Rest.{IsMachineAtRest, with_rows}
+use Rattle.nmgc_beside.specs.Rest.{with_rows}
 use Rattle.nmgc_beside.proofs.Beginning.{cycle_begins}
-use Rattle.nmgc_beside.proofs.Closing.{cycle_closes, machine_scans}
 use Rattle.nmgc_beside.proofs.Keeping.{add_keeps_marking, cycle_is_marking, round_keeps_marking}
 use Rattle.nmgc_beside.proofs.Preparing.{stop_begins}
 use Rattle.nmgc_beside.proofs.RoundHeap.{marked_holds}
@@ -80,15 +75,3 @@ add_is_marking law agree layout c s old new words ends weaks h sound sound_new i
     let blocks : AreOfBlocks o c new.segments words s.allocation after = heap_of_blocks law layout s words new.segments ends weaks c s.world after o k.0 sound_new interval taken.3.machine refl (sym k.1) snapshot in
     let tied : IsTied c s.allocation new.segments h.places new.marker after = (agree o c new.segments words s.allocation after new.marker blocks).1 (marked.scanned.epoch ∙ by_places.0, then) in
     add_keeps_marking c s old new h.places taken.0 after was taken.3 tied marked.room left nothing
-
-pub finish_closes : MarksLaw → TiesAgree → FinishCloses
-finish_closes law agree layout c s seen marked marker scanned words ends weaks o h sound none was rest same places core_is marks finished =
-    let core : Core = now o finished.events in
-    let empty : core.queue ≡ [] = ap (λ (x : Core). x.queue) finished.rest in
-    let at : IsMachineAtRest c s.world o.core = subst (λ (x : Core). IsMachineAtRest c s.world x) (sym core_is) rest in
-    let then = machine_scans c s.world o.core finished.events at finished.legal finished.scans (subst (λ (l : List Entry). All IsFresh l) (sym empty) (All-nil IsFresh)) in
-    let k = marked_holds layout s words seen.segments marked ends weaks h (marks.layout ∙ h.holds.layout_is) (marks.stands words s.allocation h.holds.stands) in
-    let snapshot : o.core.snapshot ≡ c.snapshot = ap (λ (x : Core). x.snapshot) core_is ∙ core_snapshot c s.world was.core rest.sound rest.machine in
-    let blocks : AreOfBlocks o c marked words s.allocation core = heap_of_blocks law layout s words marked ends weaks c s.world core o k.0 sound rest.sound then.machine same (places ∙ sym k.1) snapshot in
-    let tied : IsTied c s.allocation marked o.places marker core = (agree o c marked words s.allocation core marker blocks).1 (marks.scanned.epoch ∙ was.tied.epoch, finished.tied) in
-    cycle_closes c s marked o.places marker core none then empty tied

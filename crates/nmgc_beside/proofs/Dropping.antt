@@ -33,17 +33,14 @@ use Rattle.nmgc_run.specs.Census.{IsKeptIn}
 use Rattle.nmgc_run.specs.Heap.{FitBlocks, Holds, IsBlockPlace, IsBornPlace, IsPlaceAtStop, snapshots}
 use Rattle.nmgc_run.specs.Run.{last_state}
 use Rattle.nmgc_run.specs.Sound.{IsInCycle, IsSoundState}
-use Rattle.nmgc_round.specs.Finishing.{places_then}
-use Rattle.nmgc_run.specs.Round.{noted}
-use Rattle.nmgc_run.specs.State.{Progress, State, sweeping, layout_of}
+use Rattle.nmgc_run.specs.State.{Progress, State, sweeping}
 use Rattle.nmgc_run.specs.Sweep.{SweepsBeside}
 use Rattle.nmgc_run.specs.laws.CycleCounts.{free}
 use Rattle.nmgc_run.specs.laws.Places.{block_used}
 use Rattle.nmgc_run.specs.laws.Runs.{states_are_sound, rounds_are_sound}
 use Rattle.nmgc_run.specs.laws.Sweeps.{sweeps_keep}
 use Rattle.nmgc_run.specs.laws.Tracks.{tracked_before, tracked_itself}
-use Rattle.nmgc_beside.specs.Drops.{FreesUntracked, RoundFreesUntracked, StopFreesUntracked, FreeGrows, DropsFreed, SweptHoldsAfterRound, SweepingRoundHolds, SweptHoldsAtStop, DropKeepsRound}
-use Rattle.nmgc_beside.proofs.RoundHeap.{round_holds}
+use Rattle.nmgc_beside.specs.Drops.{FreesUntracked, RoundFreesUntracked, StopFreesUntracked, FreeGrows, DropsFreed, SweptHoldsAfterRound, SweptHoldsAtStop, DropKeepsRound}
 
 -- places, each of which is to stay or to go, without those that go
 split_places : (P Q : Place → Type 0) (places : List Place) → ((p : Place) → Contains places p → P p ⊎ Q p) → (fewer : List Place) × ((p : Place) → Contains fewer p → Contains places p × P p) × ((p : Place) → Contains places p → Contains fewer p ⊎ Q p)
@@ -314,13 +311,3 @@ round_frees plan run c closed replies rows t runnable i round is =
         | inr none ↦ absurd (nothing_in e none)
       ];
     }
-
-pub sweeping_round_holds : SweepingRoundHolds
-sweeping_round_holds plan run c closed replies rows t o before after v old new ends later runnable i round is r segments stands same =
-    let s : State = last_state run in
-    let layout : Layout = layout_of plan in
-    let u : State = record t { allocation = s.allocation } in
-    let none : snapshots t.progress ≡ [] = ap (λ (x : State). snapshots x.progress) round.rest ∙ ap (λ (p : Progress). snapshots (noted p rows)) is in
-    let frees = subst (λ (l : List World). FreesUntracked (s.world ∷ l) s.world t.world s.allocation t.allocation) (sym none) (round_frees plan run c closed replies rows t runnable i round is) in
-    let whole = round_holds layout s u o before after v old old ends later [] r in
-    swept_holds_after_round layout s u t.allocation (places_then o r.left.0.born) after old new later [] whole segments frees stands same (λ p d. absurd (nothing_in p d))

@@ -3,6 +3,7 @@ mod Calling
 mod Closing
 mod Dropping
 mod Going
+mod Joining
 mod Keeping
 mod Once
 mod Opens
@@ -12,6 +13,7 @@ mod Placing
 mod Preparing
 mod Pushing
 mod Remembering
+mod Resolving
 mod RoundHeap
 mod SmallLife
 mod Seats

@@ -51,7 +51,7 @@ own_snapshot layout earlier places w words r = remembered layout earlier (w ∷ 
   nodes = λ name node none. absurd none;
 }) r
 
-no_snapshot : (layout : Layout) (earlier later : List World) (places : List Place) (w : World) (words : List ℕ) → later ≡ [] → Represents layout earlier NoNode places w words → Represents layout later NoNode places w words
+pub no_snapshot : (layout : Layout) (earlier later : List World) (places : List Place) (w : World) (words : List ℕ) → later ≡ [] → Represents layout earlier NoNode places w words → Represents layout later NoNode places w words
 no_snapshot layout earlier later places w words none r = remembered layout earlier later NoNode NoNode places w words (record {
   worlds = λ e d. absurd (nothing_in e (subst (λ (l : List World). Contains l e) none d));
   nodes = λ name node k. absurd k;

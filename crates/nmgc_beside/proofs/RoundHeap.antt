@@ -38,7 +38,7 @@ use Rattle.nmgc_beside.specs.Heaps.{IsRoundFrom, RoundHolds, PromotionHolds, Mar
 use Rattle.nmgc_beside.specs.Stays.{places_after}
 
 -- a segment with a name isn't free
-not_free : (own : Cells) (block : ℕ) (name : Name) → (own.state ≡ stands.Free → own ≡ no_cells) → name_in own block ≡ Some name → own.state ≢ stands.Free
+pub not_free : (own : Cells) (block : ℕ) (name : Name) → (own.state ≡ stands.Free → own ≡ no_cells) → name_in own block ≡ Some name → own.state ≢ stands.Free
 not_free own block name free lies e = let none : name_in own block ≡ None = ap (λ (k : Cells). name_in k block) (free e) in let bad : Some name ≡ None = sym lies ∙ none in cc
 
 module _ (layout : Layout) (s t : State) (o : Opening) (before after : List ℕ) (v : View) (old new : Segments) (ends later : List MutatorEnd) (weaks : List Place) (r : IsRoundFrom layout s t o before after v old new ends later weaks) where

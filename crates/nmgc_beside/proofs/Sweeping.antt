@@ -28,7 +28,8 @@ use Rattle.nmgc_run.specs.Listing.{Counts}
 use Rattle.nmgc_run.specs.Marks.{AreSettled, IsFreedSoFar, IsSettledByte, epoch_of}
 use Rattle.nmgc_run.specs.State.{Cycle}
 use Rattle.nmgc_run.specs.laws.Course.{SameWait, all_placing_waits, still_noted}
-use Rattle.nmgc_beside.specs.Sweeps.{CarrySettles, ClosingSweeps, HasPlaced, IsWaiting, MarkedWait, PlacedWait, SweepingStays, SettledStays, all_carried}
+use Rattle.nmgc_beside.specs.Resolves.{ClosedCycleSweeps}
+use Rattle.nmgc_beside.specs.Sweeps.{CarrySettles, HasPlaced, IsWaiting, MarkedWait, PlacedWait, SweepingStays, SettledStays, all_carried}
 
 -- a byte that was carried over is settled
 carried_byte : (begun mark : ℕ) → 0 < begun → IsSettledByte begun (carried (epoch_of begun) mark)
@@ -89,14 +90,14 @@ none_twice : (freed : List Name) → freed ≡ [] → (i j : ℕ) (item : Name) 
 none_twice [] none i j item e f = absurd cc
 none_twice (x ∷ l) none i j item e f = absurd cc
 
-pub closing_sweeps : ClosingSweeps
-closing_sweeps c s words segments marker cycle sweeper sound stood last whole closed epoch tells noted none =
+pub closed_cycle_sweeps : ClosedCycleSweeps
+closed_cycle_sweeps c s dead words segments marker cycle sweeper sound stood last whole closed epoch tells noted none =
     let same : marker.epoch ≡ epoch_of s.begun = epoch ∙ ap (λ (k : ℕ). epoch_of k) last.number_is in
     let begun : 0 < s.begun = let some = last.some in let is = last.number_is in omega (arith, some, is) in (
       record {
         from_is = tells.from_is;
         closed_is = tells.closed_is;
-        dead = subst (λ (l : List Name). Lists (IsDeadIn c) l) (sym tells.none_dead) closed.none_dead;
+        dead = subst (λ (l : List Name). Lists (IsDeadIn c) l) (sym tells.dead_is) closed.lists;
         kept = subst (λ (k : ℕ). Counts (IsKeptObject c) k) (sym tells.kept_is) closed.kept;
         noted = noted;
         as_noted = whole.as_noted;

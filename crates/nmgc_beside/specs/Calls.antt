@@ -23,17 +23,15 @@ use Rattle.nmgc_run.specs.Census.{interval_of}
 use Rattle.nmgc_run.specs.Collector.{EachMutator, IsMarking, weaks_of}
 use Rattle.nmgc_run.specs.Heap.{HoldsAtStop}
 use Rattle.nmgc_run.specs.Marks.{AreSettled, HasNoted, epoch_of}
-use Rattle.nmgc_run.specs.Seen.{Seen, MarkerSeen, MutatorSeen}
+use Rattle.nmgc_run.specs.Seen.{Seen, MutatorSeen}
 use Rattle.nmgc_run.specs.Sound.{LieKnown}
 use Rattle.nmgc_run.specs.State.{Cycle, State, next_cycle, cycle_started}
 use Rattle.nmgc_mark.specs.Marker.{HasMarked, blank}
-use Rattle.nmgc_mark.specs.Stopped.{HasFinished}
 use Rattle.nmgc_mark.specs.Tie.{IsTied as IsTiedByPlaces, with_places}
 use Rattle.nmgc_beside.specs.Begins.{all_prepared}
-use Rattle.nmgc_beside.specs.Closes.{HasClosed, HasNoWeak}
 use Rattle.nmgc_beside.specs.Keeps.{HasLeft, NoneRemember, ShowEntries}
 use Rattle.nmgc_beside.specs.Owed.{GoesOn, IsGathered, gathered}
-use Rattle.nmgc_beside.specs.Rest.{IsMachineAtRest, with_rows}
+use Rattle.nmgc_beside.specs.Rest.{with_rows}
 
 -- the places that mutators remember, one mutator after the other
 abbrev pub all_entries : List MutatorSeen → List ℕ
@@ -61,9 +59,3 @@ AddIsMarking = (layout : Layout) (c : Cycle) (s : State) (old new : Seen) (words
     → HasMarked old.segments new.segments old.marker new.marker 0 → ((o : Opening) (m : Marks) → IsTiedByPlaces o m old.segments old.marker → IsTiedByPlaces o (with_places o m (all_entries old.mutators)) new.segments new.marker)
     → HasLeft c old new → NoneRemember new
     → IsMarking c s new h.places
-
--- and it finished where nothing was remembered: the cycle is closed
-abbrev pub FinishCloses : Type 0
-FinishCloses = (layout : Layout) (c : Cycle) (s : State) (seen : Seen) (marked : Segments) (marker : MarkerSeen) (scanned : ℕ) (words : List ℕ) (ends : List MutatorEnd) (weaks : List Place) (o : Opening) → (h : HoldsAtStop layout s words seen.segments ends weaks) → IsSegments marked → HasNoWeak c.snapshot → (k : IsMarking c s seen h.places) → IsMachineAtRest c s.world k.core
-    → o.layout ≡ layout → o.places ≡ h.places → o.core ≡ k.core → HasMarked seen.segments marked seen.marker marker scanned → HasFinished o marked marker
-    → HasClosed c s marked marker

@@ -1,45 +1,24 @@
--- How a cycle closes whose snapshot has no weak pointer that is alive: what is marked by then is what it keeps. And when the marker is done, so that the bounds of a closing hold.
-use Rattle.std.specs.Prelude.{ℕ, ◌≡◌, ◌↔◌, ◌+◌, ◌-◌, ◌/◌, ◌≤◌, List, [], All, true}
-use Rattle.nmgc_graph.specs.declared.node.Parts.{Parts}
-use Rattle.nmgc_graph.specs.declared.value.Name.{Name}
+-- When the marker is done at a stop, so that the bounds of a closing hold.
+use Rattle.std.specs.Prelude.{ℕ, ◌≡◌, ◌+◌, ◌-◌, ◌/◌, ◌≤◌, List, All, true}
 use Rattle.nmgc_graph.specs.World.{World}
-use Rattle.nmgc_segment.specs.Segment.{IsMarked}
 use Rattle.nmgc_core.specs.State.{State as Core}
-use Rattle.nmgc_alloc.specs.Search.{nth}
-use Rattle.nmgc_alloc.specs.Segments.{Segments}
-use Rattle.nmgc_alloc.specs.AllocState.{AllocState, LiesIn}
+use Rattle.nmgc_alloc.specs.AllocState.{AllocState}
 use Rattle.nmgc_heap.specs.Places.{Place}
 use Rattle.nmgc_round.specs.Events.{Happening, IsLegal, replay}
-use Rattle.nmgc_graph.specs.Reach.{IsAlive, Lists}
-use Rattle.nmgc_run.specs.Census.{IsDeadIn, IsKeptIn, IsKeptObject, interval_of}
+use Rattle.nmgc_run.specs.Census.{IsKeptObject, interval_of}
 use Rattle.nmgc_reach.specs.Reachable.{IsSound}
-use Rattle.nmgc_run.specs.Closing.{Closes, IsSoon, IsPaced}
+use Rattle.nmgc_run.specs.Closing.{IsSoon, IsPaced}
 use Rattle.nmgc_run.specs.Collector.{IsPacedAfterRound}
 use Rattle.nmgc_run.specs.Listing.{Counts}
 use Rattle.nmgc_run.specs.Marker.{IsCoreOf, IsFresh, IsTied}
-use Rattle.nmgc_run.specs.Seen.{Seen, MarkerSeen}
-use Rattle.nmgc_run.specs.State.{Cycle, State, sweeping}
+use Rattle.nmgc_run.specs.Seen.{Seen}
+use Rattle.nmgc_run.specs.State.{Cycle, State}
 use Rattle.nmgc_mark.specs.Stopped.{AreScans}
 use Rattle.nmgc_beside.specs.Rest.{IsMachineAtRest}
 
 -- the machine at a stop goes on by scans alone, and is at rest again where it scanned whole objects
 abbrev pub MachineScans : Type 0
 MachineScans = (c : Cycle) (w : World) (core : Core) (events : List Happening) → IsMachineAtRest c w core → IsLegal core events → AreScans events → All IsFresh (replay core events).queue → IsMachineAtRest c w (replay core events)
-
--- the world has no weak pointer that is alive. A collector that closes its cycles so must keep this of the snapshot of the cycle in progress, from its beginning on: that the world of now has none says nothing of the snapshot, whose weak pointers may have been finalised since
-abbrev pub HasNoWeak : World → Type 0
-HasNoWeak w = (weak : Name) (parts : Parts) → IsAlive w weak parts → ⊥
-
--- the cycle is closed at this stop: no weak pointer dies; of the names in blocks exactly those are marked that the cycle keeps, and the marker has counted them
-pub record HasClosed (c : Cycle) (s : State) (segments : Segments) (marker : MarkerSeen) : Type 0 where
-  pub closes : Closes c s (record s { progress = sweeping c s.number })
-  pub none_dead : Lists (IsDeadIn c) []
-  pub kept : Counts (IsKeptObject c) marker.marked
-  pub exact : (number block : ℕ) (name : Name) → LiesIn s.allocation number block name → IsMarked (nth segments.segments number) marker.epoch block ↔ IsKeptIn c name
-
--- where nothing waits any more, the cycle may close so
-abbrev pub CycleCloses : Type 0
-CycleCloses = (c : Cycle) (s : State) (segments : Segments) (places : List Place) (marker : MarkerSeen) (core : Core) → HasNoWeak c.snapshot → IsMachineAtRest c s.world core → core.queue ≡ [] → IsTied c s.allocation segments places marker core → HasClosed c s segments marker
 
 -- it isn't too late: each round before the last one scanned its quota, and the last one something unless it was the first
 abbrev pub ClosingIsSoon : Type 0

@@ -28,10 +28,7 @@ use Rattle.nmgc_run.specs.Heap.{HoldsAtStop, HoldsAfterRound, snapshots}
 use Rattle.nmgc_run.specs.Round.{IsRound}
 use Rattle.nmgc_run.specs.Run.{Run, IsRun, last_state}
 use Rattle.nmgc_run.specs.Sound.{AreSoundBlocks, IsAfterClosing, IsRunnable, LieKnown, WaitKnown}
-use Rattle.nmgc_round.specs.Finishing.{places_then}
-use Rattle.nmgc_round.specs.View.{Opening, Seen as View}
-use Rattle.nmgc_run.specs.State.{Plan, Cycle, State, sweeping, layout_of}
-use Rattle.nmgc_beside.specs.Heaps.{IsRoundFrom}
+use Rattle.nmgc_run.specs.State.{Plan, Cycle, State, sweeping}
 
 -- a sweep left names in their blocks, among them all of which anybody may speak, but g and what the round made; no free variable that an earlier world knows refers to a name of which nobody may
 pub record FreesUntracked (earlier : List World) (began w : World) (allocation swept : AllocState) : Type 0 where
@@ -67,12 +64,6 @@ abbrev pub SweptHoldsAfterRound : Type 0
 SweptHoldsAfterRound = (layout : Layout) (s t : State) (swept : AllocState) (places : List Place) (words : List ℕ) (old new : Segments) (ends : List MutatorEnd) (weaks : List Place) → HoldsAfterRound layout s t places words old ends weaks → IsSegments old → FreesUntracked (s.world ∷ snapshots t.progress) s.world t.world t.allocation swept
     → StandsFor new words swept → new.layout ≡ layout → ((p : Place) → Contains weaks p → HasBlock swept p.name)
     → (fewer : List Place) × HoldsAfterRound layout s (record t { allocation = swept }) fewer words new ends weaks × DropsFreed layout (s.world ∷ snapshots t.progress) t.world places fewer
-
--- so after a round of a run beside which a closed cycle swept, with what the round would have left without the sweep: as long as no weak pointers are listed
-abbrev pub SweepingRoundHolds : Type 0
-SweepingRoundHolds = (plan : Plan) (run : Run) (c : Cycle) (closed : ℕ) (replies : List (List Reply)) (rows : List Row) (t : State) (o : Opening) (before after : List ℕ) (v : View) (old new : Segments) (ends later : List MutatorEnd) → IsRunnable plan → IsRun plan run → IsRound plan.config (last_state run) replies rows t → (last_state run).progress ≡ sweeping c closed
-    → (r : IsRoundFrom (layout_of plan) (last_state run) (record t { allocation = (last_state run).allocation }) o before after v old old ends later []) → IsSegments old → StandsFor new after t.allocation → new.layout ≡ layout_of plan
-    → (fewer : List Place) × HoldsAfterRound (layout_of plan) (last_state run) t fewer after new later [] × DropsFreed (layout_of plan) ((last_state run).world ∷ snapshots t.progress) t.world (places_then o r.left.0.born) fewer
 
 -- and so they do at a stop
 abbrev pub SweptHoldsAtStop : Type 0

@@ -3,10 +3,12 @@ pub mod Calls
 pub mod Closes
 pub mod Drops
 pub mod Heaps
+pub mod Joins
 pub mod Keeps
 pub mod Owed
 pub mod Prepares
 pub mod Rest
+pub mod Resolves
 pub mod Stays
 pub mod Sweeps
 pub mod Tie

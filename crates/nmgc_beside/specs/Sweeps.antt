@@ -1,5 +1,5 @@
--- How a closed cycle begins to sweep, and what a promotion leaves of one that sweeps.
-use Rattle.std.specs.Prelude.{ℕ, ◌≡◌, ◌↔◌, ◌<◌, List, [], map}
+-- Marks as a cycle begins to sweep, and what a promotion leaves of one that sweeps.
+use Rattle.std.specs.Prelude.{ℕ, ◌≡◌, ◌↔◌, ◌<◌, List, map}
 use Rattle.nmgc_graph.specs.declared.value.Name.{Name}
 use Rattle.nmgc_graph.specs.World.{World}
 use Rattle.nmgc_object.specs.declared.layout.Layout.{Layout}
@@ -10,11 +10,9 @@ use Rattle.nmgc_alloc.specs.AllocState.{AllocState, StandsFor}
 use Rattle.nmgc_alloc.specs.Turns.{carried_over}
 use Rattle.nmgc_blocks.specs.Occupied.{KeepsMarks}
 use Rattle.nmgc_blocks.specs.Promoted.{PlacesEach}
-use Rattle.nmgc_run.specs.Course.{IsLastBegun, WaitsWhole}
-use Rattle.nmgc_run.specs.Marks.{AreSettled, HasNoted, IsSweeping, epoch_of}
-use Rattle.nmgc_run.specs.Seen.{CycleSeen, MarkerSeen, SweeperSeen}
-use Rattle.nmgc_run.specs.State.{Cycle, State}
-use Rattle.nmgc_beside.specs.Closes.{HasClosed}
+use Rattle.nmgc_run.specs.Marks.{AreSettled, IsSweeping, epoch_of}
+use Rattle.nmgc_run.specs.Seen.{CycleSeen, SweeperSeen}
+use Rattle.nmgc_run.specs.State.{Cycle}
 
 -- the segments as a cycle is closed: marks are carried over in those that don't wait
 abbrev pub all_carried : ℕ → Segments → Segments
@@ -23,19 +21,6 @@ all_carried epoch s = record s { segments = map (carried_over epoch) s.segments 
 -- so they are settled there
 abbrev pub CarrySettles : Type 0
 CarrySettles = (begun : ℕ) (segments : Segments) → IsSegments segments → 0 < begun → AreSettled begun (all_carried (epoch_of begun) segments)
-
--- what contracts see of a cycle that was closed at this stop without weak pointers: no name died, and what the marker counted is kept
-pub record TellsClosing (c : Cycle) (closed : ℕ) (marker : MarkerSeen) (cycle : CycleSeen) : Type 0 where
-  pub from_is : cycle.from ≡ c.from
-  pub closed_is : cycle.closed ≡ closed
-  pub none_dead : cycle.dead ≡ []
-  pub kept_is : cycle.kept ≡ marker.marked
-
--- a cycle that closes while all of its segments wait begins to sweep, and nothing was freed yet
-abbrev pub ClosingSweeps : Type 0
-ClosingSweeps = (c : Cycle) (s : State) (words : List ℕ) (segments : Segments) (marker : MarkerSeen) (cycle : CycleSeen) (sweeper : SweeperSeen) → IsSegments segments → StandsFor segments words s.allocation → IsLastBegun c s.number s.begun → WaitsWhole c s.allocation
-    → HasClosed c s segments marker → marker.epoch ≡ epoch_of c.number → TellsClosing c s.number marker cycle → HasNoted c sweeper → sweeper.freed ≡ []
-    → IsSweeping c s.number s.allocation (all_carried marker.epoch segments) cycle sweeper × AreSettled s.begun (all_carried marker.epoch segments)
 
 -- names were placed, and no mark byte changed
 pub record HasPlaced (old new : Segments) (words after : List ℕ) (allocation placed : AllocState) : Type 0 where

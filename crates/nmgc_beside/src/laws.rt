@@ -7,15 +7,19 @@ ghost use Rattle.nmgc_beside.specs.Tie.{HeapIsOfBlocks, CoreHasSnapshot, RoundBe
 ghost use Rattle.nmgc_beside.specs.Stays.{TieStays, RememberedStays, SettledIsAtRest};
 ghost use Rattle.nmgc_beside.specs.Begins.{CycleBegins, MachineTakes, PlacesMark, PlacesMarkOn};
 ghost use Rattle.nmgc_beside.specs.Prepares.{StopIsPrepared, StopBegins, FreeStays, StopForgets};
-ghost use Rattle.nmgc_beside.specs.Calls.{SnapshotIsMarking, RoundIsMarking, AddIsMarking, FinishCloses};
-ghost use Rattle.nmgc_beside.specs.Closes.{MachineScans, CycleCloses, ClosingIsSoon, ClosingComes, ClosingIsPaced};
-ghost use Rattle.nmgc_beside.specs.Sweeps.{CarrySettles, ClosingSweeps, MarkedWait, PlacedWait, SweepingStays, SettledStays};
-ghost use Rattle.nmgc_beside.specs.Drops.{RoundFreesUntracked, StopFreesUntracked, FreeGrows, SweptHoldsAfterRound, SweepingRoundHolds, SweptHoldsAtStop, DropKeepsRound};
+ghost use Rattle.nmgc_beside.specs.Calls.{SnapshotIsMarking, RoundIsMarking, AddIsMarking};
+ghost use Rattle.nmgc_beside.specs.Resolves.{FinishMayResolve, ResolveCloses, ClosedHolds, ClosedCycleSweeps};
+ghost use Rattle.nmgc_beside.specs.Joins.{JoiningLists, JoinersAreNew, FewerListed};
+ghost use Rattle.nmgc_beside.specs.Closes.{MachineScans, ClosingIsSoon, ClosingComes, ClosingIsPaced};
+ghost use Rattle.nmgc_beside.specs.Sweeps.{CarrySettles, MarkedWait, PlacedWait, SweepingStays, SettledStays};
+ghost use Rattle.nmgc_beside.specs.Drops.{RoundFreesUntracked, StopFreesUntracked, FreeGrows, SweptHoldsAfterRound, SweptHoldsAtStop, DropKeepsRound};
 ghost use Rattle.nmgc_beside.specs.Heaps.{HeapRests, StopRests, RoundHolds, MarkedHolds, PromotionHolds, SmallLifeRests};
 ghost use Rattle.nmgc_beside.specs.Keeps.{CycleIsMarking, StopIsAtRest, RoundKeepsMarking, PromotionKeepsMarking, AddKeepsMarking, PaceAfterRound, PaceAtStop, PaceBegins};
 
 use nmgc_mark::laws::{marks_are_of_the_snapshot, round_begins, round_ends, ties_agree};
+use nmgc_object::laws::words_differ;
 use nmgc_run::laws::{one_life_seen, places_are_blocks};
+use nmgc_weak::laws::{a_cycle_closes as weaks_close, queues_close};
 
 /// Words, blocks and mutators that stand for a world beside a marking cycle open a round with the cycle's machine,
 /// and the collector may speak of the snapshot in it.
@@ -90,31 +94,46 @@ pub fn the_machine_scans()
     ensures { MachineScans }
 {}
 
-/// A cycle without weak pointers closes where nothing waits any more: what is marked is what it keeps, and the
-/// marker has counted it.
-pub fn a_cycle_closes()
-    ensures { CycleCloses }
-{}
-
-/// The marker's calls, by their contracts: with its snapshot a cycle marks, it marks on after its work in a round and
-/// once it has added what was remembered, and once it has finished the cycle is closed.
+/// The marker's calls, by their contracts: with its snapshot a cycle marks, and it marks on after its work in a round and
+/// once it has added what was remembered.
 pub fn the_marker_leads_a_cycle()
     ensures snapshot { SnapshotIsMarking }
     ensures round { RoundIsMarking }
     ensures add { AddIsMarking }
-    ensures finish { FinishCloses }
 {
     marks_are_of_the_snapshot();
     ties_agree();
     round_ends();
 }
 
-/// A cycle that closes begins to sweep: its marks are carried over and settled, all of its segments wait, and nothing was
-/// freed yet. Marks change nothing of what waits, and a promotion leaves the cycle as it is, since names are placed in no
-/// segment that waits.
+/// At a stop at which the marker has finished, the weak pointers may be resolved. Then the cycle is closed, with the deaths
+/// as its dead weak pointers; words, roots and list stand for the closed world once the finalisers have joined their
+/// queues; and the cycle begins to sweep.
+pub fn a_resolved_cycle_is_closed()
+    ensures may { FinishMayResolve }
+    ensures closes { ResolveCloses }
+    ensures holds { ClosedHolds }
+    ensures sweeps { ClosedCycleSweeps }
+{
+    marks_are_of_the_snapshot();
+    weaks_close();
+    queues_close();
+}
+
+/// After a promotion the weak pointers that moved and are alive join the list, which had none of them; and as few weak
+/// pointers of a snapshot are listed as before.
+pub fn the_list_is_joined()
+    ensures joining { JoiningLists }
+    ensures new { JoinersAreNew }
+    ensures fewer { FewerListed }
+{
+    words_differ();
+}
+
+/// As a cycle is closed, its marks are carried over and settled. Marks change nothing of what waits, and a promotion
+/// leaves a cycle that sweeps as it is, since names are placed in no segment that waits.
 pub fn a_closed_cycle_sweeps()
     ensures carries { CarrySettles }
-    ensures sweeps { ClosingSweeps }
     ensures marked { MarkedWait }
     ensures placed { PlacedWait }
     ensures stays { SweepingStays }
@@ -129,7 +148,6 @@ pub fn freed_places_go()
     ensures stop { StopFreesUntracked }
     ensures free { FreeGrows }
     ensures after_round { SweptHoldsAfterRound }
-    ensures whole_round { SweepingRoundHolds }
     ensures at_stop { SweptHoldsAtStop }
     ensures remembered { DropKeepsRound }
 {}

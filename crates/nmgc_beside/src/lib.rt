@@ -6,11 +6,12 @@
 //! cycle begins on. `specs/Rest.antt` says when a heap is at rest beside a cycle, `specs/Owed.antt` what the
 //! mutators remember of a round, `specs/Tie.antt` what is asked of a marker, `specs/Stays.antt` what a promotion leaves
 //! of all this, `specs/Begins.antt` how a cycle begins and how the machine takes what is remembered,
-//! `specs/Prepares.antt` what the heap of a stop becomes as a cycle begins, and `specs/Closes.antt` how a cycle closes.
+//! `specs/Prepares.antt` what the heap of a stop becomes as a cycle begins, and `specs/Closes.antt` when it closes.
 //! `specs/Keeps.antt` joins these in the words in which `nmgc_run` says what a collector keeps, and
-//! `specs/Calls.antt` says so of each call of the marker by that call's own contract. A closed cycle
-//! sweeps: `specs/Sweeps.antt` says how that begins and what a promotion leaves of it, and `specs/Drops.antt` what a
-//! sweep leaves of the heap.
+//! `specs/Calls.antt` says so of each call of the marker by that call's own contract. `specs/Resolves.antt`
+//! is the closing, by the calls that do it, and how the cycle sweeps from then on; `specs/Joins.antt` says what a
+//! promotion makes of the list of weak pointers, `specs/Sweeps.antt` what it leaves of a cycle that sweeps, and
+//! `specs/Drops.antt` what a sweep leaves of the heap.
 //!
 //! Nothing here runs. `laws` has one function for each of these steps, and its contract is the law.
 //!

@@ -14,8 +14,9 @@ fn laws_ask_nothing(rt: HostRuntime) {
     laws::a_stop_is_prepared();
     laws::the_machine_takes();
     laws::the_machine_scans();
-    laws::a_cycle_closes();
     laws::the_marker_leads_a_cycle();
+    laws::a_resolved_cycle_is_closed();
+    laws::the_list_is_joined();
     laws::a_closed_cycle_sweeps();
     laws::freed_places_go();
     laws::a_closing_is_in_bounds();

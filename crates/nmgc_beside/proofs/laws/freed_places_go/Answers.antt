@@ -1,4 +1,4 @@
-use Rattle.nmgc_beside.proofs.Dropping.{round_frees, stop_frees, free_grows, swept_holds_after_round, sweeping_round_holds, swept_holds_at_stop, drop_keeps_round}
+use Rattle.nmgc_beside.proofs.Dropping.{round_frees, stop_frees, free_grows, swept_holds_after_round, swept_holds_at_stop, drop_keeps_round}
 use Rattle.nmgc_beside.proofs.laws.freed_places_go.Goals as goal
 
 pub returns-clause-round : goal.returns-clause-round
@@ -12,9 +12,6 @@ returns-clause-free c = free_grows
 
 pub returns-clause-after_round : goal.returns-clause-after_round
 returns-clause-after_round c = swept_holds_after_round
-
-pub returns-clause-whole_round : goal.returns-clause-whole_round
-returns-clause-whole_round c = sweeping_round_holds
 
 pub returns-clause-at_stop : goal.returns-clause-at_stop
 returns-clause-at_stop c = swept_holds_at_stop

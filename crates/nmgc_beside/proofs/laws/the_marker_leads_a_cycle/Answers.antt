@@ -1,4 +1,4 @@
-use Rattle.nmgc_beside.proofs.Calling.{snapshot_is_marking, round_is_marking, add_is_marking, finish_closes}
+use Rattle.nmgc_beside.proofs.Calling.{snapshot_is_marking, round_is_marking, add_is_marking}
 use Rattle.nmgc_beside.proofs.laws.the_marker_leads_a_cycle.Goals as goal
 
 pub returns-clause-snapshot : goal.returns-clause-snapshot
@@ -9,6 +9,3 @@ returns-clause-round c = round_is_marking c.marks_are_of_the_snapshot.ensures c.
 
 pub returns-clause-add : goal.returns-clause-add
 returns-clause-add c = add_is_marking c.marks_are_of_the_snapshot.ensures c.ties_agree.ensures
-
-pub returns-clause-finish : goal.returns-clause-finish
-returns-clause-finish c = finish_closes c.marks_are_of_the_snapshot.ensures c.ties_agree.ensures
