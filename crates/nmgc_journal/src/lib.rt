@@ -7,11 +7,13 @@
 //!
 //! - `report`: the rows. `text`: the whole text, with the rounds and their replies.
 //! - `stops`: the lines of a stop and of the cycles that ended there.
+//! - `summary`: the summary of a bench, which adds the rows up.
 //! - `words`: words, numbers, names and values within a line.
 #![tactic(auto)]
 
 pub mod report;
 mod stops;
+pub mod summary;
 pub mod text;
 mod words;
 

@@ -68,8 +68,8 @@ fn push_rounds_in_order(out: &mut Vec<u8>, report: &Report) -> Result<(), NoMemo
     Ok(())
 }
 
-// Appends the last line.
-fn push_end(out: &mut Vec<u8>, end: End) -> Result<(), NoMemory>
+/// Appends the last line.
+pub fn push_end(out: &mut Vec<u8>, end: End) -> Result<(), NoMemory>
     ensures { OnOk result (out.new.items ≡ out.old.items ++ end_text end) }
 {
     match end {

@@ -1,4 +1,5 @@
 pub mod ArityLaws
+pub mod BenchLaws
 pub mod CauseLaws
 pub mod CommandLaws
 pub mod ConfigLaws

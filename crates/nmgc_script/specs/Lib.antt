@@ -1,3 +1,4 @@
+pub mod Bench
 pub mod Faults
 pub mod Limits
 pub mod Printing

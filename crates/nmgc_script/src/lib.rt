@@ -11,6 +11,7 @@
 //! the report and the program stand on this crate, and no run begins before `parse` has answered.
 #![tactic(auto)]
 
+mod bench;
 mod commands;
 mod config;
 mod fault;
@@ -26,6 +27,7 @@ mod verbs;
 mod version;
 mod words;
 
+pub use bench::{MAX_BATCHES, generate};
 pub(crate) use fault::LineFault;
 pub use fault::{Cause, ScriptFault};
 pub use parsing::{parse, spells_one_script};

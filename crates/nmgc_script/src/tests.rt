@@ -1,5 +1,5 @@
 //! Scripts, good and bad, as tables.
-use crate::{Cause, ScriptFault, parse, print, spells_one_script};
+use crate::{Cause, ScriptFault, generate, parse, print, spells_one_script};
 use std::alloc::Global;
 use std::process::Abort;
 use std::test::Fail;
@@ -339,6 +339,36 @@ fn reads_the_numbers_of_a_heap(rt: HostRuntime) -> Result<(), Fail> {
     assert_eq!(rt; script.config.quota, 1000);
     assert_eq!(rt; script.config.trigger, 7);
     assert_eq!(rt; script.threads.items().len(), 2);
+    Ok(())
+}
+
+// The bench's script with so many batches, line by line.
+fn bench_text(alloc: Global, batches: u32) -> Result<String, Fail> {
+    let mut text = String::from_str(alloc, "nmgc 1\nheap 128 4096 4096 4096 1048576 8\n")?;
+    for mutator in 0..4u32 {
+        text.push_str(format!(in alloc; "thread {mutator}\n")?.as_str())?;
+        for _batch in 0..batches {
+            text.push_str("nil r0\n")?;
+            for _cell in 0..1024 {
+                text.push_str("con r0 0 r0 r1\n")?;
+            }
+            text.push_str(format!(in alloc; "set g {mutator} r0\n")?.as_str())?;
+        }
+    }
+    Ok(text)
+}
+
+#[test]
+fn generates_the_bench(rt: HostRuntime) -> Result<(), Fail> {
+    for batches in [1u32, 3] {
+        let script = generate(rt.alloc(), batches)?;
+        let want = bench_text(rt.alloc(), batches)?;
+        assert_eq!(rt;
+            print(rt.alloc(), &script)?.as_slice(),
+            want.as_bytes(),
+            "{batches}"
+        );
+    }
     Ok(())
 }
 

@@ -1,0 +1,7 @@
+use Rattle.std.proofs.Common.{◌≡◌, take}
+use Rattle.nmgc_journal.specs.Summary.{command_count}
+use Rattle.nmgc_journal.proofs.summary.command_count.Given as goal
+
+-- the commands of the rounds so far
+abbrev pub invariant-loop-rows : goal.invariant-loop-rows
+invariant-loop-rows l = l.count ≡ command_count (take l.rows-index l.rounds)

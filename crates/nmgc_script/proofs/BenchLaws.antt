@@ -1,0 +1,113 @@
+-- The bench's script is within the limits, and its programs are short.
+use Rattle.std.proofs.Common.{◌≡◌, ◌≤◌, ◌<◌, ◌∙◌, ℕ, zero, suc, ◌+◌, ◌*◌, List, [], ◌∷◌, ◌++◌, length, refl, arith, add-one, lit<, lit≤, length-append, ap, append_assoc}
+use Rattle.std.proofs.lemmas.List.{length-replicate}
+use Rattle.std.proofs.lemmas.List.Elements.{All-append, All-cons, All-nil, All-replicate}
+use Rattle.std.specs.Prelude.{All, replicate}
+use lib.Count.{ones}
+use Rattle.nmgc_limits.specs.Limits.{most_script_bytes}
+use Rattle.nmgc_graph.specs.Command.{Fits, IsOperand}
+use Rattle.nmgc_graph.specs.declared.command.Command.{Command}
+use Rattle.nmgc_graph.specs.declared.command.Command.TheVariants.{Nil, Set}
+use Rattle.nmgc_graph.specs.declared.command.Operand.TheVariants.{Register, Shared}
+use Rattle.nmgc_script.specs.Limits.{FitsConfig, FitsScript}
+use Rattle.nmgc_script.specs.Bench.{most_batches, list_cells, cell, batch, repeated, bench_program, bench_config, bench_script, HasFewCommands}
+
+-- a list once more
+pub once_more : {A : Type 0} (n : ℕ) (xs : List A) → repeated (n + 1) xs ≡ repeated n xs ++ xs
+once_more n xs = rw (add-one n) refl
+
+-- what holds of each item of a list holds of each of its copies
+All-repeated : {A : Type 0} (P : A → Type 0) (n : ℕ) (xs : List A) → All P xs → All P (repeated n xs)
+All-repeated P zero xs h = All-nil P
+All-repeated P (suc n) xs h = All-append P (repeated n xs) xs (All-repeated P n xs h) h
+
+length-repeated : {A : Type 0} (n : ℕ) (xs : List A) → length (repeated n xs) ≡ n * length xs
+length-repeated zero xs = omega arith
+length-repeated (suc n) xs = omega (arith, length-append (repeated n xs) xs, length-repeated n xs)
+
+-- how many cells a list has
+pub cells_are : list_cells ≡ 1024
+unfolding list_cells
+cells_are = refl
+
+-- the command that begins a batch, a cell, and the one that ends a batch are within the limits of the bench's segments
+nil_fits : Fits 4096 (Nil 0)
+nil_fits = record { registers = lit< tt; numbers = tt; size = lit≤ tt }
+
+cell_fits : Fits 4096 cell
+cell_fits = record {
+  registers = (lit< tt, All-cons IsOperand (Register 0) (Register 1 ∷ []) (lit< tt) (All-cons IsOperand (Register 1) [] (lit< tt) (All-nil IsOperand)));
+  numbers = lit< tt;
+  size = lit≤ tt;
+}
+
+set_fits : (mutator : ℕ) → mutator < 65536 → Fits 4096 (Set Shared mutator (Register 0))
+set_fits mutator h = record { registers = (tt, lit< tt); numbers = h; size = lit≤ tt }
+
+batch_fits : (mutator : ℕ) → mutator < 65536 → All (Fits 4096) (batch mutator)
+batch_fits mutator h =
+    let end : List Command = Set Shared mutator (Register 0) ∷ [] in
+    All-cons (Fits 4096) (Nil 0) (replicate list_cells cell ++ end) nil_fits
+    (All-append (Fits 4096) (replicate list_cells cell) end
+    (All-replicate (Fits 4096) list_cells cell cell_fits)
+    (All-cons (Fits 4096) (Set Shared mutator (Register 0)) [] (set_fits mutator h) (All-nil (Fits 4096))))
+
+length-batch : (mutator : ℕ) → length (batch mutator) ≡ 1026
+length-batch mutator = omega (arith, length-append (replicate list_cells cell) (Set Shared mutator (Register 0) ∷ []), length-replicate list_cells cell, cells_are)
+
+program_fits : (batches mutator : ℕ) → mutator < 65536 → All (Fits 4096) (bench_program batches mutator)
+program_fits batches mutator h = All-repeated (Fits 4096) batches (batch mutator) (batch_fits mutator h)
+
+program_is_short : (batches mutator : ℕ) → batches ≤ most_batches → length (bench_program batches mutator) ≤ most_script_bytes
+program_is_short batches mutator h = rw (length-repeated batches (batch mutator), length-batch mutator) (omega arith)
+
+config_fits : FitsConfig bench_config
+unfolding ones
+config_fits = record {
+  some_segments = lit≤ tt;
+  segments = lit≤ tt;
+  words = record { power = refl; least = lit≤ tt; most = lit≤ tt };
+  some_nursery = lit≤ tt;
+  nursery = lit≤ tt;
+  some_slice = lit≤ tt;
+  slice = lit≤ tt;
+  some_quota = lit≤ tt;
+  quota = lit≤ tt;
+  trigger = lit≤ tt;
+}
+
+-- what holds of the program of each mutator holds of all
+each_program : (P : List Command → Type 0) (batches : ℕ) → ((mutator : ℕ) → mutator < 4 → P (bench_program batches mutator)) → All P (bench_script batches).threads
+each_program P batches h =
+    let program : ℕ → List Command = bench_program batches in
+    All-cons P (program 0) (program 1 ∷ program 2 ∷ program 3 ∷ []) (h 0 (lit< tt))
+    (All-cons P (program 1) (program 2 ∷ program 3 ∷ []) (h 1 (lit< tt))
+    (All-cons P (program 2) (program 3 ∷ []) (h 2 (lit< tt))
+    (All-cons P (program 3) [] (h 3 (lit< tt)) (All-nil P))))
+
+-- the script is within the limits
+pub bench_fits : (batches : ℕ) → FitsScript (bench_script batches)
+bench_fits batches = record {
+  version = refl;
+  config = config_fits;
+  some_thread = lit≤ tt;
+  threads = lit≤ tt;
+  total = lit≤ tt;
+  commands = each_program (λ program. All (Fits 4096) program) batches (λ mutator h. program_fits batches mutator (omega (arith, h)));
+}
+
+-- its programs are short
+pub bench_is_short : (batches : ℕ) → batches ≤ most_batches → HasFewCommands (bench_script batches)
+bench_is_short batches h = each_program (λ program. length program ≤ most_script_bytes) batches (λ mutator _. program_is_short batches mutator h)
+
+-- a batch was appended, command after command
+pub with_batch : (before begun made after : List Command) (mutator cells : ℕ) → list_cells ≡ cells → begun ≡ before ++ Nil 0 ∷ [] → made ≡ begun ++ replicate cells cell → after ≡ made ++ Set Shared mutator (Register 0) ∷ [] → after ≡ before ++ batch mutator
+with_batch before begun made after mutator cells count first more last =
+    let all : List Command = replicate list_cells cell in
+    let end : List Command = Set Shared mutator (Register 0) ∷ [] in
+    let same : made ≡ (before ++ Nil 0 ∷ []) ++ all = rw (← count, first) at more in
+    last ∙ ap (λ (l : List Command). l ++ end) same ∙ rw (append_assoc, append_assoc) refl
+
+-- four items that are equal to four
+pub same_four : {A : Type 0} (a b c d a' b' c' d' : A) → a ≡ a' → b ≡ b' → c ≡ c' → d ≡ d' → a ∷ b ∷ c ∷ d ∷ [] ≡ a' ∷ b' ∷ c' ∷ d' ∷ []
+same_four a b c d a' b' c' d' e f g h = cc

@@ -1,0 +1,18 @@
+use Rattle.std.proofs.Common.{◌≡◌, ◌∙◌, List, sym, subst}
+use Rattle.nmgc_graph.specs.declared.command.Command.{Command}
+use Rattle.nmgc_script.specs.Limits.{FitsScript}
+use Rattle.nmgc_script.specs.Bench.{bench_config, bench_script, HasFewCommands}
+use Rattle.nmgc_script.proofs.BenchLaws.{bench_fits, bench_is_short, same_four}
+use Rattle.nmgc_script.proofs.bench.generate.Goals as goal
+
+pub returns-clause-fits : goal.returns-clause-fits
+returns-clause-fits c =
+    let e : c.from_vec.result ≡ (bench_script c.args.batches).threads = c.from_vec.ensures ∙ c.in_ok-threads.ensures.items ∙ same_four _ _ _ _ _ _ _ _ c.in_ok-program.ensures c.in_ok-program-2.ensures c.in_ok-program-3.ensures c.in_ok-program-4.ensures in
+    let P : List (List Command) → Type 0 = λ threads. FitsScript (record { version = 1; config = bench_config; threads = threads }) in
+    subst P (sym e) (bench_fits c.args.batches)
+
+pub returns-clause-few : goal.returns-clause-few
+returns-clause-few c =
+    let e : c.from_vec.result ≡ (bench_script c.args.batches).threads = c.from_vec.ensures ∙ c.in_ok-threads.ensures.items ∙ same_four _ _ _ _ _ _ _ _ c.in_ok-program.ensures c.in_ok-program-2.ensures c.in_ok-program-3.ensures c.in_ok-program-4.ensures in
+    let P : List (List Command) → Type 0 = λ threads. HasFewCommands (record { version = 1; config = bench_config; threads = threads }) in
+    subst P (sym e) (bench_is_short c.args.batches c.requires.few)

@@ -1,0 +1,7 @@
+use Rattle.std.proofs.Common.{◌≡◌}
+use Rattle.nmgc_script.specs.Bench.{batch, repeated}
+use Rattle.nmgc_script.proofs.bench.program.Given as goal
+
+-- so many batches were appended
+abbrev pub invariant-loop-batch : goal.invariant-loop-batch
+invariant-loop-batch l = l.commands.items ≡ repeated l._batch (batch l.mutator)

@@ -1,0 +1,7 @@
+use Rattle.std.proofs.Common.{◌≡◌, ◌++◌, replicate}
+use Rattle.nmgc_script.specs.Bench.{cell}
+use Rattle.nmgc_script.proofs.bench.push_cells.Given as goal
+
+-- so many cells were appended
+abbrev pub invariant-loop-cell : goal.invariant-loop-cell
+invariant-loop-cell l = l.commands.items ≡ l.fn.commands.items ++ replicate l._cell cell

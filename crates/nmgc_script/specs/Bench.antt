@@ -1,0 +1,50 @@
+-- The bench's script: each of four mutators makes lists, and keeps the last one in a slot of its own.
+use Rattle.std.specs.Prelude.{ℕ, zero, suc, ◌≤◌, List, [], ◌∷◌, ◌++◌, replicate, length, All}
+use Rattle.nmgc_limits.specs.Limits.{most_script_bytes}
+use Rattle.nmgc_graph.specs.declared.command.Operand.TheVariants.{Register, Shared}
+use Rattle.nmgc_graph.specs.declared.command.Command.{Command}
+use Rattle.nmgc_graph.specs.declared.command.Command.TheVariants.{Nil, Con, Set}
+use Rattle.nmgc_script.specs.declared.script.Config.{Config}
+use Rattle.nmgc_script.specs.declared.script.Script.{Script}
+use Rattle.nmgc_script.specs.Limits.{version_1}
+
+-- the most batches of a bench
+abbrev pub most_batches : ℕ
+most_batches = 100
+
+-- how many cells a list has: as many as fill a nursery
+unfoldable pub list_cells : ℕ
+list_cells = 1024
+
+-- a cell: a constructor of the list so far and of nil, in place of the list so far
+abbrev pub cell : Command
+cell = Con 0 0 (Register 0 ∷ Register 1 ∷ [])
+
+-- a mutator's batch: it lets its list go, makes another one, and puts that into its own slot of the shared array
+abbrev pub batch : ℕ → List Command
+batch mutator = Nil 0 ∷ (replicate list_cells cell ++ Set Shared mutator (Register 0) ∷ [])
+
+-- a list so many times
+abbrev pub repeated : {A : Type 0} → ℕ → List A → List A
+repeated zero xs = []
+repeated (suc n) xs = repeated n xs ++ xs
+
+-- a mutator's program: so many batches
+abbrev pub bench_program : ℕ → ℕ → List Command
+bench_program batches mutator = repeated batches (batch mutator)
+
+-- the sizes of the heap: a nursery and a segment hold a list each
+abbrev pub bench_config : Config
+bench_config = record { segments = 128; words = 4096; nursery = 4096; slice = 4096; quota = 1048576; trigger = 8 }
+
+-- the script
+abbrev pub bench_script : ℕ → Script
+bench_script batches = record {
+  version = version_1.number;
+  config = bench_config;
+  threads = bench_program batches 0 ∷ bench_program batches 1 ∷ bench_program batches 2 ∷ bench_program batches 3 ∷ [];
+}
+
+-- each program has no more commands than a script may have bytes
+abbrev pub HasFewCommands : Script → Type 0
+HasFewCommands script = All (λ (program : List Command). length program ≤ most_script_bytes) script.threads

@@ -1,0 +1,97 @@
+//! The bench's script: a load that makes, keeps and drops lists.
+//!
+//! Each of four mutators makes list after list, and has a slot of the shared array of its own, in which it
+//! keeps the last one; so nothing that one of them does is seen by another, and each run of the script gives
+//! the same report. A list's cells fill a nursery exactly, and one segment once they are promoted. The quota
+//! is more than all objects, so a cycle that begins at one stop is closed at the next. `specs/Bench.antt`
+//! is the script; the code appends its commands one after the other, into room that is taken once.
+//! Easy to get wrong: a batch begins with nil in its register, or its list would end in the one before.
+ghost use Rattle.std.specs.Prelude.{◌≡◌, ◌≤◌, ◌++◌, replicate, IfOk, OnOk};
+ghost use Rattle.nmgc_script.specs.Bench.{most_batches, cell, batch, bench_program, bench_script, HasFewCommands};
+ghost use Rattle.nmgc_script.specs.Limits.{FitsScript};
+
+use crate::{Config, Script};
+use nmgc_graph::{Command, List, NoMemory, Operand};
+use std::alloc::Global;
+
+/// The most batches of a bench.
+pub const MAX_BATCHES: u32 = 100;
+
+// How many cells a list has: each is four words, and they fill a nursery.
+const CELLS: usize = 1024;
+
+// How many commands a batch has: beside the cells one that lets the list go, and one that keeps the new one.
+const BATCH_COMMANDS: usize = CELLS + 2;
+
+const CONFIG: Config = Config {
+    segments: 128,
+    words: 4096,
+    nursery: 4096,
+    slice: 4096,
+    quota: 1_048_576,
+    trigger: 8,
+};
+
+/// The script of the bench with so many batches for each mutator, from 1 to `MAX_BATCHES`. It is within the
+/// limits of a script. Takes time and memory in its length.
+pub fn generate(alloc: Global, batches: u32) -> Result<Script, NoMemory>
+    requires some { 1 ≤ batches }
+    requires few { batches ≤ most_batches }
+    ensures script { IfOk result (λ script. script ≡ bench_script batches) }
+    ensures fits { IfOk result (λ script. FitsScript script) }
+    ensures few { IfOk result (λ script. HasFewCommands script) }
+{
+    let threads = vec![in alloc;
+        program(alloc, batches, 0)?,
+        program(alloc, batches, 1)?,
+        program(alloc, batches, 2)?,
+        program(alloc, batches, 3)?,
+    ]?;
+    Ok(Script {
+        version: 1,
+        config: CONFIG,
+        threads: List::from_vec(threads),
+    })
+}
+
+// The program of a mutator.
+#[tactic(auto, using(crate::proofs::BenchLaws::once_more))]
+fn program(alloc: Global, batches: u32, mutator: u32) -> Result<List<Command>, NoMemory>
+    requires { batches ≤ most_batches }
+    ensures { IfOk result (λ commands. commands ≡ bench_program batches mutator) }
+{
+    let mut commands = Vec::with_capacity(alloc, batches as usize * BATCH_COMMANDS)?;
+    for _batch in 0..batches {
+        push_batch(&mut commands, alloc, mutator)?;
+    }
+    Ok(List::from_vec(commands))
+}
+
+// Appends a batch.
+fn push_batch(commands: &mut Vec<Command>, alloc: Global, mutator: u32) -> Result<(), NoMemory>
+    ensures { OnOk result (commands.new.items ≡ commands.old.items ++ batch mutator) }
+{
+    commands.push(Command::Nil { dest: 0 })?;
+    push_cells(commands, alloc, CELLS)?;
+    commands.push(Command::Set {
+        object: Operand::Shared,
+        index: mutator,
+        value: Operand::Register(0),
+    })?;
+    Ok(())
+}
+
+// Appends so many cells.
+fn push_cells(commands: &mut Vec<Command>, alloc: Global, count: usize) -> Result<(), NoMemory>
+    ensures { OnOk result (commands.new.items ≡ commands.old.items ++ replicate count cell) }
+{
+    for _cell in 0..count {
+        let fields = vec![in alloc; Operand::Register(0), Operand::Register(1)]?;
+        commands.push(Command::Con {
+            dest: 0,
+            tag: 0,
+            fields: List::from_vec(fields),
+        })?;
+    }
+    Ok(())
+}
