@@ -1,5 +1,5 @@
 -- Once what was remembered was added, the collector stands for the same state, and nothing is remembered.
-use Rattle.std.proofs.Common.{ℕ, ◌≡◌, List, [], ◌∷◌, ◌++◌, length, map, refl, sym, ap, subst, ◌∙◌, arith, Some, Global}
+use Rattle.std.proofs.Common.{ℕ, ◌≡◌, List, [], ◌∷◌, ◌++◌, length, map, refl, sym, ap, subst, ◌∙◌, Some, Global, ◌≤◌, vec_capacity}
 use Rattle.std.specs.Prelude.{All, slice_get}
 use Rattle.std.specs.declared.vec.Vec.{Vec}
 use Rattle.std.proofs.lemmas.List.{length-map}
@@ -8,6 +8,7 @@ use Rattle.nmgc_object.specs.declared.layout.Nursery.{Nursery}
 use Rattle.nmgc_alloc.specs.AllocState.{StandsFor}
 use Rattle.nmgc_alloc.specs.Segments.{Segments, IsSegments}
 use Rattle.nmgc_heap.specs.Roots.{RepresentsRoots}
+use Rattle.nmgc_graph.specs.World.{World}
 use Rattle.nmgc_heap.specs.laws.Kinds.{map_item}
 use Rattle.nmgc_blocks.specs.Nurseries.{AreEmpty}
 use Rattle.nmgc_journal.specs.declared.report.MutatorEnd.{MutatorEnd}
@@ -19,7 +20,7 @@ use Rattle.nmgc_mutator.specs.declared.mutator.Mutator.{Mutator}
 use Rattle.nmgc_round.specs.Marking.{Marks}
 use Rattle.nmgc_round.specs.View.{Opening}
 use Rattle.nmgc_script.specs.declared.script.Script.{Script}
-use Rattle.nmgc_run.specs.Collector.{AreNurseries, HoldsInCycle, IsAtRest, IsMarking}
+use Rattle.nmgc_run.specs.Collector.{AreNurseries, EachMutator, HoldsInCycle, IsAtRest, IsMarking, weaks_of}
 use Rattle.nmgc_run.specs.Heap.{HoldsAtStop, HasAllRegisters, registers_of, queues_of, serials_of}
 use Rattle.nmgc_run.specs.Marker.{HasRoomToMark}
 use Rattle.nmgc_run.specs.Seen.{MarkerSeen, MutatorSeen, end_of, ends_of, nurseries_of}
@@ -34,7 +35,7 @@ use Rattle.nmgc_cycle.specs.declared.progress.Marking.{Marking}
 use Rattle.nmgc_cycle.specs.declared.progress.Progress.{Progress as Doing}
 use Rattle.nmgc_cycle.specs.declared.progress.Progress.TheVariants as doing
 use Rattle.nmgc_cycle.specs.Cycles.{AddsTo, CanAdd, HasAdded, HasTaken, forgetting, remembered_by}
-use Rattle.nmgc_cycle.specs.Keeps.{IsKept, IsOwn, Sweeps}
+use Rattle.nmgc_cycle.specs.Keeps.{HasClosingRoom, IsKept, IsOwn, Sweeps}
 use Rattle.nmgc_cycle.specs.Shown.{seen, seen_mutator, marker_in, phase_in}
 use Rattle.nmgc_cycle.specs.Steps.{StandsPromoted, StandsWithin, IsPacedPromoted, IsPacedWithin, AddingLeads}
 use Rattle.nmgc_cycle.proofs.Pacing.{paced_within}
@@ -89,6 +90,18 @@ module _ (script : Script) (old : Collector) (s : State) (h : StandsPromoted scr
       let left = h.rest k (seen_mutator was.0) (seen_at old.mutators.items k was.0 was.1) in
       subst IsAtRest (sym (x.2 ∙ ap seen_mutator was.2)) (record { recorded = left.recorded; young_weaks = left.young_weaks; entries = refl })
 
+  -- the queues have room as before
+  pub room_left : (snapshot : World) → EachMutator (seen old) (λ m mutator. weaks_of snapshot m (seen old).weaks ≤ mutator.queue.spare) → EachMutator (seen then) (λ m mutator. weaks_of snapshot m (seen then).weaks ≤ mutator.queue.spare)
+  room_left snapshot room k m e =
+      let x = map_item seen_mutator mutators.items k m e in
+      let was = one_forgot k x.0 x.1 in
+      let had : weaks_of snapshot k (seen old).weaks ≤ was.0.queue.spare = room k (seen_mutator was.0) (seen_at old.mutators.items k was.0 was.1) in
+      subst (λ (n : MutatorSeen). weaks_of snapshot k (seen old).weaks ≤ n.queue.spare) (sym (x.2 ∙ ap seen_mutator was.2)) had
+
+  -- there are as many
+  pub many : length mutators.items ≡ length old.mutators.items
+  many = ap (λ (l : List Mutator). length l) forgot ∙ length-map old.mutators.items forgetting
+
   own : (k : ℕ) (m : Mutator) → slice_get mutators.items k ≡ Some m → IsOwn then k m
   own k m e =
       let was = one_forgot k m e in
@@ -107,7 +120,7 @@ module _ (script : Script) (old : Collector) (s : State) (h : StandsPromoted scr
     lists = subst (λ (l : Layout). IsFor l old.promotion) (sym layout) h.kept.lists;
     has_words = h.kept.has_words;
     list = h.kept.list;
-    count = ap (λ (l : List Mutator). length l) forgot ∙ length-map old.mutators.items forgetting ∙ h.kept.count;
+    count = many ∙ h.kept.count;
     own = own;
     positions_are = h.kept.positions_are;
     positions = h.kept.positions;
@@ -115,7 +128,7 @@ module _ (script : Script) (old : Collector) (s : State) (h : StandsPromoted scr
     room = h.kept.room;
   }
 
-  abbrev heap : HoldsAtStop (layout_of (plan_of script)) s (seen then).words segments (ends_of (seen then)) []
+  abbrev heap : HoldsAtStop (layout_of (plan_of script)) s (seen then).words segments (ends_of (seen then)) (seen then).weaks
   heap = record {
     places = h.heap.places;
     all = h.heap.all;
@@ -130,8 +143,8 @@ module _ (script : Script) (old : Collector) (s : State) (h : StandsPromoted scr
     listed = h.heap.listed;
   }
 
-  pub stands_within : HoldsInCycle (λ (k : Cycle). IsPacedWithin script.config.quota k s (seen then)) s.progress s (seen then) h.heap.places → Sweeps s.progress s then → StandsWithin script then s
-  stands_within cycle sweeper = record {
+  pub stands_within : HoldsInCycle (λ (k : Cycle). IsPacedWithin script.config.quota k s (seen then)) s.progress s (seen then) h.heap.places → HasClosingRoom p (length mutators.items) → Sweeps s.progress s then → StandsWithin script then s
+  stands_within cycle closing sweeper = record {
     kept = kept;
     sound = h.sound;
     course = h.course;
@@ -141,7 +154,7 @@ module _ (script : Script) (old : Collector) (s : State) (h : StandsPromoted scr
     empty = subst AreEmpty (sym nurseries_are) h.empty;
     rest = at_rest;
     cycle = cycle;
-    weakless = h.weakless;
+    closing = closing;
     sweeper = sweeper;
   }
 
@@ -167,6 +180,7 @@ module _ (script : Script) (old new : Collector) (s : State) (h : StandsPromoted
       subst (λ (c : Collector). StandsWithin script c s) (sym is)
       (stands_within script old s h old.segments old.progress new.mutators taken.mutators refl refl h.kept.sound h.heap.holds.stands
       (unmarked_cycle script old s new.mutators s.progress never h.heap.places h.cycle)
+      (subst (λ (n : ℕ). HasClosingRoom old.progress n) (sym (many script old s h old.segments old.progress new.mutators taken.mutators refl refl h.kept.sound h.heap.holds.stands)) h.closing)
       (unmarked_sweeper old s new.mutators s.progress never h.sweeper))
 
 -- where one does
@@ -191,10 +205,10 @@ module _ (laws : HasAddingLaws) (script : Script) (was : Collector) (r : State) 
 
   marks : IsMarking k s (seen c) h.heap.places
   marks =
-      let left : HasLeft k (seen old) (seen c) = record { cycle = refl; sweeper = refl; queue_room = λ n mutator e. omega arith } in
+      let left : HasLeft k (seen old) (seen c) = record { cycle = refl; sweeper = refl; queue_room = room_left script old s h segments (doing.Marking (record m { marker = marker })) mutators forgot refl added.marked.layout sound stands k.snapshot h.cycle.0.queue_room } in
       let count : length (seen old).mutators ≡ length s.world.mutators = length-map was.mutators.items seen_mutator ∙ h.kept.count ∙ sym h.sound.able.mutators in
       let tied : (o : Opening) (l : Marks) → IsTied o l was.segments m.marker → IsTied o (with_places o l (all_entries (seen old).mutators)) segments marker = λ o l x. subst (λ (entries : List ℕ). IsTied o (with_places o l entries) segments marker) (entries_are was.mutators.items) (added.tied o l x) in
-      laws.marking (layout_of (plan_of script)) k s (seen old) (seen c) (seen old).words (ends_of (seen old)) [] h.heap h.kept.sound sound h.sound.cycle.0 count h.cycle.0 added.marked tied left (λ n mutator e. (at_rest script old s h segments (doing.Marking (record m { marker = marker })) mutators forgot refl added.marked.layout sound stands n mutator e).entries)
+      laws.marking (layout_of (plan_of script)) k s (seen old) (seen c) (seen old).words (ends_of (seen old)) (seen old).weaks h.heap h.kept.sound sound h.sound.cycle.0 count h.cycle.0 added.marked tied left (λ n mutator e. (at_rest script old s h segments (doing.Marking (record m { marker = marker })) mutators forgot refl added.marked.layout sound stands n mutator e).entries)
 
   paced : IsPacedWithin script.config.quota k s (seen c)
   paced = paced_within laws.soon laws.paced laws.pace script.config.quota k s (seen old) (seen c) s.allocation h.heap.places h.cycle.0.core h.sound.cycle.0 h.cycle.0.machine h.cycle.0.tied h.cycle.1.later h.cycle.1.paced added.marked.scanned.pace added.marked.scanned.grows refl
@@ -204,6 +218,7 @@ module _ (laws : HasAddingLaws) (script : Script) (was : Collector) (r : State) 
       let waits = laws.waits was.segments segments (seen old).words (seen old).words s.allocation h.heap.holds.stands stands in
       stands_within script old s h segments (doing.Marking (record m { marker = marker })) mutators forgot refl added.marked.layout sound stands
       (marks, paced)
+      (h.closing.0, subst (λ (n : ℕ). n ≤ vec_capacity m.queues) (sym (many script old s h segments (doing.Marking (record m { marker = marker })) mutators forgot refl added.marked.layout sound stands)) h.closing.1)
       (record { notes = h.sweeper.0.notes; left = laws.left was.segments segments m.sweeper.left waits h.sweeper.0.left }, h.sweeper.1, h.sweeper.2)
 
 module _ (laws : HasAddingLaws) (script : Script) (old new : Collector) (s : State) (h : StandsPromoted script old s) (taken : HasTaken old new) where
@@ -226,7 +241,7 @@ module _ (laws : HasAddingLaws) (script : Script) (old new : Collector) (s : Sta
   by_case (doing.Sweeping w) (sweeping k closed) at is e step = unmarked script old new s h taken (λ r marks. let bad : sweeping k closed ≡ marking r = sym is ∙ marks in cc) (step.0 ∙ sym at) step.1
 
 pub adding_leads : HasAddingLaws → AddingLeads
-adding_leads laws script old new s staged h taken =
+adding_leads laws script old new s limits h taken =
     let phases : phase_in old.progress ≡ phase_of s.progress = h.matches.phase in
     by_case laws script old new s h taken old.progress s.progress refl refl phases taken.adds
 

@@ -1,12 +1,11 @@
 -- What a collector has once the promotion of its stop is done.
-use Rattle.std.proofs.Common.{ℕ, ◌≡◌, ◌↔◌, ◌+◌, ◌*◌, ◌<◌, List, [], length, map, arith, refl, sym, ap, subst, ◌∙◌, inl, inr, slice_index_or, Some}
+use Rattle.std.proofs.Common.{ℕ, ◌≡◌, ◌↔◌, ◌+◌, ◌*◌, ◌<◌, List, length, map, arith, refl, sym, ap, subst, ◌∙◌, inl, inr, slice_index_or, Some}
 use Rattle.std.specs.Prelude.{All, Contains, slice_get}
 use Rattle.std.proofs.Math.ListN.{get_or-map}
-use Rattle.std.proofs.lemmas.List.{length-map}
+use Rattle.std.proofs.lemmas.List.{get_or_default, length-map}
 use Rattle.std.proofs.lemmas.Option.{slice_get-get_or}
 use Rattle.nmgc_graph.specs.declared.value.TheConstants.{REGISTERS}
 use Rattle.nmgc_graph.specs.World.{World}
-use Rattle.nmgc_reach.specs.laws.ItemLaws.{nothing_in}
 use Rattle.nmgc_object.specs.declared.layout.Layout.{Layout}
 use Rattle.nmgc_object.specs.declared.layout.Nursery.{Nursery}
 use Rattle.nmgc_object.specs.FinQueue.{FinQueue}
@@ -37,7 +36,7 @@ use Rattle.nmgc_cycle.specs.Keeps.{CanStop, IsKept, IsOwn}
 use Rattle.nmgc_cycle.specs.Roots.{HasRegisters, own_registers, no_queue, given_back}
 use Rattle.nmgc_cycle.specs.Shown.{seen, seen_mutator, words_in}
 use Rattle.nmgc_cycle.specs.Steps.{HasPromotedAll}
-use Rattle.nmgc_cycle.specs.Stopping.{HasPromoted, moves_of, moved_names}
+use Rattle.nmgc_cycle.specs.Stopping.{HasListed, HasPromoted, moves_of, moved_names}
 use Rattle.nmgc_cycle.proofs.Begins.{Begins}
 use Rattle.nmgc_cycle.proofs.GivenBack.{HaveGiven, have_given, one_given, own_count}
 use Rattle.nmgc_cycle.proofs.MutatorLists.{registers_count}
@@ -195,20 +194,33 @@ module _ (script : Script) (old new : Collector) (kept : IsKept script old) (b :
       (subst (λ (y : List (List ℕ)). RepresentsRoots places w (registers_of (ends_of (seen new))) y (serials_of (ends_of (seen old)))) queues
       (subst (λ (y : List ℕ). RepresentsRoots places w y (words_of p.queues) (serials_of (ends_of (seen old)))) registers settled_heap.roots))
 
-  -- no weak pointer is listed, since none is alive
-  pub listed : ListsWeaks new.segments.layout places w []
-  listed = record {
-    ordered = tt;
-    sound = λ q c. absurd (nothing_in q c);
-    complete = λ q h. absurd (b.weakless.world q.name h.1.0 h.1.1);
-  }
+  -- of a mutator's queue the room is what it was
+  pub same_spare : (k : ℕ) (m : MutatorSeen) → slice_get (seen new).mutators k ≡ Some m → (before : MutatorSeen) × (slice_get (seen old).mutators k ≡ Some before) × (m.queue.spare ≡ before.queue.spare)
+  same_spare k m e =
+      let x = map_item seen_mutator new.mutators.items k m e in
+      let was = one_given p.registers p.queues old.mutators.items new.mutators.items p.given k x.0 x.1 in
+      let own : m.queue.spare ≡ (slice_index_or p.queues k no_queue).spare = ap (λ (y : MutatorSeen). y.queue.spare) x.2 ∙ ap (λ (y : Mutator). y.queue.spare) was.3 in
+      let given : slice_index_or (map (λ (queue : FinQueue). queue.spare) p.queues) k 0 ≡ (slice_index_or p.queues k no_queue).spare = get_or-map (λ (queue : FinQueue). queue.spare) p.queues k no_queue in
+      let had : slice_index_or (map (λ (y : Mutator). y.queue.spare) old.mutators.items) k was.0.queue.spare ≡ (slice_index_or old.mutators.items k was.0).queue.spare = get_or-map (λ (y : Mutator). y.queue.spare) old.mutators.items k was.0 in
+      let there : k < length (map (λ (y : Mutator). y.queue.spare) old.mutators.items) = rw (length-map old.mutators.items (λ (y : Mutator). y.queue.spare)) was.1 in
+      let one : slice_index_or (map (λ (y : Mutator). y.queue.spare) old.mutators.items) k 0 ≡ slice_index_or (map (λ (y : Mutator). y.queue.spare) old.mutators.items) k was.0.queue.spare = get_or_default (map (λ (y : Mutator). y.queue.spare) old.mutators.items) k 0 was.0.queue.spare there in
+      let item : Some (slice_index_or old.mutators.items k was.0) ≡ Some was.0 = sym (slice_get-get_or old.mutators.items k was.0 was.1) ∙ was.2 in
+      let is : slice_index_or old.mutators.items k was.0 ≡ was.0 = cc in (
+        seen_mutator was.0,
+        seen_at old.mutators.items k was.0 was.2,
+        own ∙ sym given ∙ ap (λ (l : List ℕ). slice_index_or l k 0) p.spares ∙ one ∙ had ∙ ap (λ (y : Mutator). y.queue.spare) is,
+      )
 
   -- the heap at the stop
-  module _ (back : BlocksArePlaces) where
+  module _ (back : BlocksArePlaces) (l : HasListed old new) where
     pub told : FitBlocks w placed.0 × ((q : Place) → Contains places q ↔ IsPlaceAtStop new.segments.layout placed.0 q)
     told = back new.segments.layout (snapshots b.state.progress) places w placed.0 (words_in new.words) new.segments settled_heap.represents p.sound refl placed.2 low settled_heap.blocks
 
-    abbrev pub heap : HoldsAtStop (layout_of plan) promoted (words_in new.words) new.segments (ends_of (seen new)) []
+    -- listed are those that are alive and have a block
+    pub listed : ListsWeaks new.segments.layout places w (seen new).weaks
+    listed = l.lists at_stop b.stopped b.can_list
+
+    abbrev pub heap : HoldsAtStop (layout_of plan) promoted (words_in new.words) new.segments (ends_of (seen new)) (seen new).weaks
     heap = record {
       places = places;
       all = subst (λ (l : Layout). (q : Place) → Contains places q ↔ IsPlaceAtStop l placed.0 q) layout_is told.1;
@@ -220,5 +232,5 @@ module _ (script : Script) (old new : Collector) (kept : IsKept script old) (b :
         layout_is = layout_is;
         stands = placed.2;
       };
-      listed = subst (λ (l : Layout). ListsWeaks l places w []) layout_is listed;
+      listed = subst (λ (y : Layout). ListsWeaks y places w (seen new).weaks) layout_is listed;
     }

@@ -46,7 +46,7 @@ module _ (script : Script) (c : Collector) (s : State) (h : StandsAt script c s)
   )
 
 pub beginning_leads : StartingLeads → BeginningLeads
-beginning_leads law script old new s staged h step = elim step [
-  | inl x ↦ (_, inl (due_then script old s h x.0, refl), law script old new s staged h x.0 x.1)
+beginning_leads law script old new s limits h step = elim step [
+  | inl x ↦ (_, inl (due_then script old s h x.0, refl), law script old new s limits h x.0.0 x.1)
   | inr x ↦ (s, inr ((λ due. x.0 (due_back script old s h due)), refl), subst (λ (c : Collector). StandsAt script c s) (sym x.1) h)
 ]

@@ -1,19 +1,31 @@
 -- What a stop begins with, whether the collector is new or did a round.
-use Rattle.std.proofs.Common.{ℕ, ◌≡◌, ◌+◌, ◌≤◌, List, [], ◌∷◌, ◌++◌, length, drop, slice_index_or, arith, refl, sym, ap, subst, ◌∙◌, inl, inr, append-nil}
+use Rattle.std.proofs.Common.{ℕ, ◌≡◌, ◌+◌, ◌*◌, ◌<◌, ◌≤◌, ◌⊎◌, List, [], ◌∷◌, ◌++◌, length, drop, slice_index_or, arith, refl, sym, ap, subst, ◌∙◌, inl, inr, append-nil, Option, Some, None}
+use Rattle.std.specs.Prelude.{IsSome}
+use Rattle.std.proofs.Math.Nat.{mul-le-mul_right}
 use Rattle.std.proofs.lemmas.List.{drop-drop, length-map}
 use Rattle.nmgc_graph.specs.declared.command.Command.{Command}
 use Rattle.nmgc_graph.specs.History.{Row}
-use Rattle.nmgc_graph.specs.World.{World, IsWorld, new_world}
+use Rattle.nmgc_graph.specs.World.{World, IsWorld, node_of, new_world}
+use Rattle.nmgc_graph.specs.declared.node.Kind.TheVariants as kind
+use Rattle.nmgc_graph.specs.declared.node.Node.{Node}
+use Rattle.nmgc_graph.specs.declared.node.Node.TheVariants.{Con, Var, Arr, Thunk, Weak, Stack}
+use Rattle.nmgc_graph.specs.declared.node.Parts.{Parts}
+use Rattle.nmgc_graph.specs.laws.Orders.{contains_head}
+use Rattle.nmgc_graph.specs.laws.Worlds.{is_some_of}
 use Rattle.nmgc_reach.specs.laws.NewWorlds.{new_is_world}
 use Rattle.nmgc_reach.specs.laws.ItemLaws.{nothing_in}
-use Rattle.nmgc_object.specs.declared.layout.Nursery.{Nursery}
+use Rattle.nmgc_object.specs.declared.layout.Layout.{Layout}
+use Rattle.nmgc_object.specs.declared.words.Header.{Header}
+use Rattle.nmgc_object.specs.Places.{InSegment, nursery_place}
 use Rattle.nmgc_segment.specs.declared.state.State.TheVariants as stands
 use Rattle.nmgc_alloc.specs.AllocState.{AllocState, Cells, StandsFor}
-use Rattle.nmgc_alloc.specs.Segments.{Segments}
 use Rattle.nmgc_alloc.specs.laws.OneState.{first_cells}
 use Rattle.nmgc_heap.specs.Places.{Place}
+use Rattle.nmgc_heap.specs.Roots.{ListsWeaks}
+use Rattle.nmgc_heap.specs.Shape.{header_of}
 use Rattle.nmgc_blocks.specs.Stopped.{Stopped, IsStopped}
 use Rattle.nmgc_journal.specs.declared.report.CycleRow.{CycleRow}
+use Rattle.nmgc_journal.specs.declared.report.Phase.TheVariants as phase
 use Rattle.nmgc_journal.specs.declared.report.RoundRows.{RoundRows}
 use Rattle.nmgc_journal.specs.declared.report.StopRow.{StopRow}
 use Rattle.nmgc_script.specs.declared.script.Script.{Script}
@@ -22,7 +34,7 @@ use Rattle.nmgc_run.specs.Course.{IsInCourse, IsStateInCourse}
 use Rattle.nmgc_run.specs.Heap.{registers_of, queues_of}
 use Rattle.nmgc_run.specs.Round.{noted}
 use Rattle.nmgc_run.specs.Run.{Run, Turn, IsRun, IsTurn, Tells, last_state, with_turn}
-use Rattle.nmgc_run.specs.Seen.{ends_of, nurseries_of, recorded_in}
+use Rattle.nmgc_run.specs.Seen.{ends_of, nurseries_of, recorded_in, young_weaks_in}
 use Rattle.nmgc_run.specs.Slice.{program_of}
 use Rattle.nmgc_run.specs.Sound.{IsAble, IsInCycle, AreEarlier, AreSoundBlocks, IsSoundRound, LieKnown}
 use Rattle.nmgc_run.specs.State.{Plan, State, Cycle, Progress, idle, marking, sweeping, start, plan_of, layout_of}
@@ -35,17 +47,20 @@ use Rattle.nmgc_run.specs.laws.Runs.{states_are_sound, rounds_are_sound, opening
 use Rattle.nmgc_run.specs.laws.Turns.{run_goes_on, last_is_of_turn, tells_one_more}
 use Rattle.nmgc_cycle.specs.declared.collector.Collector.{Collector}
 use Rattle.nmgc_cycle.specs.Bound.{AreFew}
-use Rattle.nmgc_cycle.specs.Keeps.{CanStop, IsFresh, HasWorked, HasNoWeak, AreWeakless, Sweeps}
-use Rattle.nmgc_cycle.specs.Shown.{seen}
-use Rattle.nmgc_cycle.specs.Stage.{IsStaged, IsShortStop, IsShortAfter}
-use Rattle.nmgc_cycle.specs.Stopping.{StandsStopped}
+use Rattle.nmgc_cycle.specs.declared.progress.Progress.{Progress as Doing}
+use Rattle.nmgc_cycle.specs.declared.progress.Progress.TheVariants as doing
+use Rattle.nmgc_cycle.specs.Keeps.{CanStop, HasClosingRoom, IsFresh, HasWorked, Sweeps}
+use Rattle.nmgc_cycle.specs.Shown.{seen, phase_in}
+use Rattle.nmgc_cycle.specs.Limits.{IsInLimits}
+use Rattle.nmgc_cycle.specs.Stopping.{CanList, StandsStopped}
 use Rattle.nmgc_cycle.proofs.Few.{fresh_few, fresh_begun}
 use Rattle.nmgc_cycle.proofs.Measures.{answered_more}
 use Rattle.nmgc_cycle.proofs.MutatorLists.{same_stopped}
-use Rattle.nmgc_cycle.proofs.NewStops.{stopped_in, new_stopped, new_weakless}
+use Rattle.nmgc_cycle.proofs.NewStops.{stopped_in, new_stopped}
 use Rattle.nmgc_cycle.proofs.Plans.{is_runnable}
 use Rattle.nmgc_cycle.proofs.StopNumbers.{run_number}
-use Rattle.nmgc_cycle.proofs.Views.{registers_seen, queues_seen, nurseries_seen, recorded_seen}
+use Rattle.nmgc_cycle.proofs.Views.{registers_seen, queues_seen, nurseries_seen, recorded_seen, young_seen}
+use Rattle.nmgc_weak.specs.Weaks.{places_of}
 
 -- a run of which all was told but its last row
 pub record IsToldBut (plan : Plan) (rounds : List RoundRows) (stops : List StopRow) (cycles : List CycleRow) (row : StopRow) (t : State) : Type 0 where
@@ -74,12 +89,13 @@ pub record Begins (script : Script) (c : Collector) : Type 0 where
   pub state : State
   pub places : List Place
   pub stopped : StandsStopped (stopped_in began state places (seen c)) c
+  pub can_list : CanList (stopped_in began state places (seen c)) c
   pub stands : StandsFor c.segments (seen c).words state.allocation
   pub nurseries : AreNurseries (layout_of (plan_of script)) places state.world (nurseries_of (seen c))
   pub matches : Matches (seen c) state
   pub cycle : HoldsInCycle (λ (k : Cycle). IsPacedAfterRound script.config.quota k state (seen c)) state.progress state (seen c) places
   pub later : (k : Cycle) → state.progress ≡ marking k → k.from + 1 ≤ state.number
-  pub weakless : AreWeakless state
+  pub closing : HasClosingRoom c.progress (length c.mutators.items)
   pub sweeper : Sweeps state.progress state c
   pub sound : IsSoundBefore (plan_of script) began state
   pub course : IsStateInCourse state
@@ -88,54 +104,85 @@ pub record Begins (script : Script) (c : Collector) : Type 0 where
   pub begun : c.begun ≤ length c.stops
   pub left : IsLeft script c.rounds state.left
   pub goes_on : (t : State) (row : StopRow) (cycles : List CycleRow) → IsStop (plan_of script) began state t row cycles → IsToldBut (plan_of script) c.rounds c.stops (c.cycles ++ cycles) row t
-  pub short : (t : State) (row : StopRow) (cycles : List CycleRow) → IsShortStop (plan_of script) began state t row cycles → IsShortAfter (plan_of script) t row c.rounds c.stops (c.cycles ++ cycles)
-
--- where no weak pointer is alive, a promotion may be given none
-without_weaks : (t : Stopped) (s : Segments) (words : List ℕ) (nurseries : List Nursery) (registers : List ℕ) (queues : List (List ℕ)) (recorded weaks : List ℕ) → HasNoWeak t.world → IsStopped t s words nurseries registers queues recorded weaks → IsStopped t s words nurseries registers queues recorded []
-without_weaks t s words nurseries registers queues recorded weaks none h = record {
-  world = h.world;
-  round = h.round;
-  represents = h.represents;
-  roots = h.roots;
-  segments = h.segments;
-  blocks = h.blocks;
-  used = h.used;
-  order = h.order;
-  left = record {
-    fields = h.left.fields;
-    all_fields = h.left.all_fields;
-    weak_places = λ at c. absurd (nothing_in at c);
-    all_weaks = λ p parts c high alive. absurd (none p.name parts alive);
-  };
-  reserve = h.reserve;
-}
 
 -- the heap at a stop, by the mutators themselves
-stands_of : (t : Stopped) (c : Collector) → IsStopped t c.segments (seen c).words (nurseries_of (seen c)) (registers_of (ends_of (seen c))) (queues_of (ends_of (seen c))) (recorded_in (seen c)) [] → StandsStopped t c
-stands_of t c h = same_stopped t c.segments (seen c).words (seen c).words _ _ _ _ _ _ _ _ refl (nurseries_seen c) (registers_seen c) (queues_seen c) (recorded_seen c) h
+stands_of : (t : Stopped) (c : Collector) → IsStopped t c.segments (seen c).words (nurseries_of (seen c)) (registers_of (ends_of (seen c))) (queues_of (ends_of (seen c))) (recorded_in (seen c)) (young_weaks_in (seen c)) → StandsStopped t c
+stands_of t c h = same_stopped t c.segments (seen c).words (seen c).words _ _ _ _ _ _ _ _ _ _ refl (nurseries_seen c) (registers_seen c) (queues_seen c) (recorded_seen c) (young_seen c) h
+
+-- the list of weak pointers over the round
+
+-- a place in a segment is below the nurseries
+segment_low : (layout : Layout) (segment at : ℕ) → InSegment layout segment at → at < nursery_place layout 0
+segment_low layout segment at i =
+    let e : segment + 1 ≤ layout.segments = (let x = i.exists in omega (arith, x)) in
+    let up : (segment + 1) * layout.words ≤ layout.segments * layout.words = mul-le-mul_right layout.words e in
+    let high = i.before in
+    omega (arith, high, up)
+
+-- a node with the header of a weak pointer is one
+weak_of : (parts : Option Parts) (node : Node) → header_of (Weak parts) ≡ header_of node → (now : Option Parts) × (node ≡ Weak now)
+weak_of parts (Con tag values) e = absurd (let bad : kind.Weak ≡ kind.Con = ap (λ (h : Header). h.kind) e in cc)
+weak_of parts (Var v) e = absurd (let bad : kind.Weak ≡ kind.Var = ap (λ (h : Header). h.kind) e in cc)
+weak_of parts (Arr values) e = absurd (let bad : kind.Weak ≡ kind.Arr = ap (λ (h : Header). h.kind) e in cc)
+weak_of parts (Thunk free result) e = absurd (let bad : kind.Weak ≡ kind.Thunk = ap (λ (h : Header). h.kind) e in cc)
+weak_of parts (Weak now) e = (now, refl)
+weak_of parts (Stack size values) e = absurd (let bad : kind.Weak ≡ kind.Stack = ap (λ (h : Header). h.kind) e in cc)
+
+-- what is no name is none
+known_or_none : (o : Option Node) → (o ≡ None) ⊎ IsSome o
+known_or_none None = inl refl
+known_or_none (Some node) = inr refl
+
+-- the list was that of the world as the round began, and the round made none of these anew
+can_list_of : (t : Stopped) (c : Collector) → StandsStopped t c → ListsWeaks c.segments.layout t.places t.began (places_of c.weaks.list) → CanList t c
+can_list_of t c h listed =
+    let past = h.round.past t.began (contains_head t.began t.later) in
+    record {
+      began = past.world;
+      listed = listed;
+      old = record {
+        blocks = λ p there inside. elim (known_or_none (node_of t.began p.name)) [
+          | inl none ↦ absurd (let high = (h.round.young p there).1 none in let low = segment_low c.segments.layout inside.0 p.at inside.1 in omega (arith, high, low))
+          | inr known ↦ known
+        ];
+        alive = λ weak parts alive old. h.round.parts weak parts old alive;
+        weak = λ weak parts alive.
+            let node = is_some_of (node_of t.world weak) (past.names weak (subst (λ (o : Option Node). IsSome o) (sym alive) refl)) in
+            let x = weak_of (Some parts) node.0 (past.headers weak (Weak (Some parts)) node.0 alive node.1) in
+            (x.0, node.1 ∙ ap (λ (n : Node). Some n) x.1);
+      };
+    }
 
 -- a new collector
 
-new_begins : (script : Script) (c : Collector) → IsStaged script → IsFresh script c → Begins script c
-new_begins script c staged f =
+-- none is in progress
+idle_of : (p : Doing) → phase_in p ≡ phase.Idle → p ≡ doing.Idle
+idle_of doing.Idle e = refl
+idle_of (doing.Marking m) e = absurd (let bad : phase.Marking ≡ phase.Idle = e in cc)
+idle_of (doing.Sweeping w) e = absurd (let bad : phase.Sweeping ≡ phase.Idle = e in cc)
+
+new_begins : (script : Script) (c : Collector) → IsInLimits script → IsFresh script c → Begins script c
+new_begins script c limits f =
     let plan : Plan = plan_of script in
-    let runnable = is_runnable script staged in
+    let runnable = is_runnable script limits in
     let count : ℕ = length script.threads in
     let none : (c.rounds ≡ []) × (c.stops ≡ []) × (c.cycles ≡ []) = f.new.nothing in
     let no_stops : length c.stops ≡ 0 = ap (λ (stops : List StopRow). length stops) none.1 in
     let opening = opening_worked plan runnable in
     let able = start_programs plan runnable in
+    let stopped : StandsStopped (stopped_in (new_world count) (start plan) f.new.heap.places (seen c)) c = stands_of (stopped_in (new_world count) (start plan) f.new.heap.places (seen c)) c (new_stopped plan (seen c) (new_is_world count runnable.some runnable.few) f.kept.sound f.new.heap f.new.at_rest) in
     record {
       began = new_world count;
       state = start plan;
       places = f.new.heap.places;
-      stopped = stands_of (stopped_in (new_world count) (start plan) f.new.heap.places (seen c)) c (new_stopped plan (seen c) (new_is_world count runnable.some runnable.few) f.kept.sound f.new.heap f.new.at_rest);
+      stopped = stopped;
+      can_list = can_list_of (stopped_in (new_world count) (start plan) f.new.heap.places (seen c)) c stopped (subst (λ (l : Layout). ListsWeaks l f.new.heap.places (new_world count) (seen c).weaks) (sym f.kept.layout) f.new.heap.listed);
       stands = f.new.heap.holds.stands;
       nurseries = f.new.at_rest.nurseries;
       matches = f.new.matches;
       cycle = f.new.settled;
       later = λ k e. absurd (let bad : idle ≡ marking k = e in cc);
-      weakless = record { world = new_weakless count; snapshot = λ e there. absurd (nothing_in e there) };
+      closing = subst (λ (p : Doing). HasClosingRoom p (length c.mutators.items)) (sym (idle_of c.progress f.new.matches.phase)) tt;
       sweeper = tt;
       sound = record {
         world = opening.world;
@@ -156,10 +203,6 @@ new_begins script c staged f =
         tells = record { rounds_are = none.0; stops_are = ap (λ (stops : List StopRow). stops ++ row ∷ []) none.1; cycles_are = ap (λ (rows : List CycleRow). rows ++ cycles) none.2 ∙ sym (append-nil cycles) };
         last = refl;
       };
-      short = λ t row cycles stop.
-          subst (λ (rounds : List RoundRows). IsShortAfter plan t row rounds c.stops (c.cycles ++ cycles)) (sym none.0)
-          (subst (λ (stops : List StopRow). IsShortAfter plan t row [] stops (c.cycles ++ cycles)) (sym none.1)
-          (subst (λ (rows : List CycleRow). IsShortAfter plan t row [] [] (rows ++ cycles)) (sym none.2) (IsShortAfter.at_first cycles stop)));
     }
 
 -- a round comes after the stop at which a cycle that marks began
@@ -179,7 +222,7 @@ from_before (sweeping c closed) number begun a rows h k e = absurd (let bad : sw
 
 -- a collector that did a round
 
-module _ (script : Script) (c : Collector) (staged : IsStaged script) (h : HasWorked script c) where
+module _ (script : Script) (c : Collector) (limits : IsInLimits script) (h : HasWorked script c) where
   abbrev plan : Plan
   plan = plan_of script
 
@@ -191,9 +234,12 @@ module _ (script : Script) (c : Collector) (staged : IsStaged script) (h : HasWo
 
   stopped : StandsStopped (stopped_in before.world h.worked h.after.places (seen c)) c
   stopped =
-      let after = round_is_remembered plan h.run h.replies h.history h.worked (seen c) (is_runnable script staged) h.after h.kept.sound in
+      let after = round_is_remembered plan h.run h.replies h.history h.worked (seen c) (is_runnable script limits) h.after h.kept.sound in
       let at : Stopped = stopped_in before.world h.worked h.after.places (seen c) in
-      stands_of at c (without_weaks at c.segments (seen c).words (nurseries_of (seen c)) (registers_of (ends_of (seen c))) (queues_of (ends_of (seen c))) (recorded_in (seen c)) _ h.weakless.world after)
+      stands_of at c after
+
+  can_list : CanList (stopped_in before.world h.worked h.after.places (seen c)) c
+  can_list = can_list_of (stopped_in before.world h.worked h.after.places (seen c)) c stopped (subst (λ (l : Layout). ListsWeaks l h.after.places before.world (seen c).weaks) (sym h.kept.layout) h.after.heap.listed)
 
   numbers : h.worked.number ≡ length c.stops
   numbers =
@@ -203,7 +249,7 @@ module _ (script : Script) (c : Collector) (staged : IsStaged script) (h : HasWo
 
   left : IsLeft script c.rounds h.worked.left
   left = record {
-    count = ap (λ (x : State). length x.left) h.after.round.rest ∙ length-map before.left _ ∙ (states_are_sound plan h.run (is_runnable script staged) h.after.is_run).able.programs;
+    count = ap (λ (x : State). length x.left) h.after.round.rest ∙ length-map before.left _ ∙ (states_are_sound plan h.run (is_runnable script limits) h.after.is_run).able.programs;
     each = λ m.
         let told = left_is_told plan h.run h.after.before c.stops c.cycles h.after.is_run h.after.tells m in
         let count : ℕ = length (slice_index_or h.replies m []) in
@@ -215,7 +261,7 @@ module _ (script : Script) (c : Collector) (staged : IsStaged script) (h : HasWo
 
   sound : IsSoundBefore plan before.world h.worked
   sound =
-      let r : IsSoundRound plan before h.history h.worked = rounds_are_sound plan before h.worked h.replies h.history (states_are_sound plan h.run (is_runnable script staged) h.after.is_run) h.after.round in
+      let r : IsSoundRound plan before h.history h.worked = rounds_are_sound plan before h.worked h.replies h.history (states_are_sound plan h.run (is_runnable script limits) h.after.is_run) h.after.round in
       record { world = r.world; able = r.able; filed = r.filed; known = r.known; cycle = r.cycle; earlier = r.earlier }
 
   later : (k : Cycle) → h.worked.progress ≡ marking k → k.from + 1 ≤ h.worked.number
@@ -244,12 +290,13 @@ module _ (script : Script) (c : Collector) (staged : IsStaged script) (h : HasWo
     state = h.worked;
     places = h.after.places;
     stopped = stopped;
+    can_list = can_list;
     stands = h.after.heap.holds.stands;
     nurseries = h.after.nurseries;
     matches = h.after.matches;
     cycle = h.after.cycle;
     later = later;
-    weakless = h.weakless;
+    closing = h.closing;
     sweeper = h.sweeper;
     sound = sound;
     course = rounds_stay plan.config before h.worked h.replies h.history h.after.round (runs_are plan h.run h.after.is_run);
@@ -258,14 +305,13 @@ module _ (script : Script) (c : Collector) (staged : IsStaged script) (h : HasWo
     begun = h.few.begun;
     left = left;
     goes_on = goes_on;
-    short = λ t row cycles stop. subst (λ (r : List RoundRows). IsShortAfter plan t row r c.stops (c.cycles ++ cycles)) (sym h.after.rounds) (IsShortAfter.after_round h.run h.after.before c.stops c.cycles cycles h.replies h.history h.worked h.after.is_run h.after.tells h.after.goes_on h.after.round stop);
   }
 
-pub begins : (script : Script) (c : Collector) → IsStaged script → CanStop script c → Begins script c
-begins script c staged (inl fresh) = new_begins script c staged fresh
-begins script c staged (inr worked) = worked_begins script c staged worked
+pub begins : (script : Script) (c : Collector) → IsInLimits script → CanStop script c → Begins script c
+begins script c limits (inl fresh) = new_begins script c limits fresh
+begins script c limits (inr worked) = worked_begins script c limits worked
 
 -- a stop after a round is the last of one turn more
-pub one_turn : (script : Script) (c : Collector) (staged : IsStaged script) (h : HasWorked script c) (t : State) (row : StopRow) (cycles : List CycleRow) (stop : IsStop (plan_of script) (begins script c staged (inr h)).began (begins script c staged (inr h)).state t row cycles) → (turn : Turn) × (turn.worked ≡ h.worked) × (turn.history ≡ h.history) × (((begins script c staged (inr h)).goes_on t row cycles stop).run ≡ with_turn h.run turn)
+pub one_turn : (script : Script) (c : Collector) (limits : IsInLimits script) (h : HasWorked script c) (t : State) (row : StopRow) (cycles : List CycleRow) (stop : IsStop (plan_of script) (begins script c limits (inr h)).began (begins script c limits (inr h)).state t row cycles) → (turn : Turn) × (turn.replies ≡ record { replies = h.replies }) × (turn.worked ≡ h.worked) × (turn.history ≡ h.history) × (((begins script c limits (inr h)).goes_on t row cycles stop).run ≡ with_turn h.run turn)
 unfolding begins worked_begins goes_on
-one_turn script c staged h t row cycles stop = (record { replies = record { replies = h.replies }; history = h.history; worked = h.worked; stop = record { state = t; row = row; cycles = cycles } }, refl, refl, refl)
+one_turn script c limits h t row cycles stop = (record { replies = record { replies = h.replies }; history = h.history; worked = h.worked; stop = record { state = t; row = row; cycles = cycles } }, refl, refl, refl, refl)

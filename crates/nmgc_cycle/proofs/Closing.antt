@@ -1,7 +1,6 @@
 -- A cycle is closed at a stop, or goes on, as a run allows it.
 use Rattle.std.proofs.Common.{ℕ, ◌≡◌, List, Option, Some, None, refl, sym, ap, subst, ◌∙◌, inl, inr}
 use Rattle.std.specs.Prelude.{IsSome}
-use Rattle.nmgc_alloc.specs.Segments.{Segments}
 use Rattle.nmgc_heap.specs.Places.{Place}
 use Rattle.nmgc_journal.specs.declared.report.Phase.TheVariants as phase
 use Rattle.nmgc_run.specs.Closing.{ClosesOrWaits}
@@ -14,21 +13,13 @@ use Rattle.nmgc_cycle.specs.declared.progress.Progress.{Progress as Doing}
 use Rattle.nmgc_cycle.specs.declared.progress.Progress.TheVariants as doing
 use Rattle.nmgc_cycle.specs.Cycles.{Closes, HasClosed}
 use Rattle.nmgc_cycle.specs.Shown.{seen, phase_in, work_in, words_in}
-use Rattle.nmgc_cycle.specs.Stage.{IsStaged}
+use Rattle.nmgc_cycle.specs.Limits.{IsInLimits}
 use Rattle.nmgc_cycle.specs.Steps.{StandsWithin, StandsAt, IsPacedWithin, FinishingLeads, ClosingLeads}
 
 pub words_same : (a b : Option (List ℕ)) → IsSome a → IsSome b → words_in a ≡ words_in b → a ≡ b
 words_same None b some other e = absurd cc
 words_same (Some a) None some other e = absurd cc
 words_same (Some a) (Some b) some other e = ap Some e
-
--- nothing changed where neither progress nor segments did
-pub unchanged : (stop : ℕ) (old new : Collector) → HasClosed stop old new → IsSome old.words → new.segments ≡ old.segments → new.progress ≡ old.progress → new ≡ old
-unchanged stop old new h some segments progress =
-    h.rest
-    ∙ ap (λ (w : Option (List ℕ)). record old { words = w; segments = new.segments; progress = new.progress }) (words_same new.words old.words h.words.1 some h.words.0)
-    ∙ ap (λ (g : Segments). record old { segments = g; progress = new.progress }) segments
-    ∙ ap (λ (p : Doing). record old { progress = p }) progress
 
 -- a cycle that goes on in pace
 in_pace : (quota : ℕ) (s : State) (shown : Seen) (places : List Place) (q : Progress) → ((k : Cycle) → q ≡ marking k → IsPacedWithin quota k s shown → IsPacedAtStop quota k s shown) → HoldsInCycle (λ (k : Cycle). IsPacedWithin quota k s shown) q s shown places → HoldsInCycle (λ (k : Cycle). IsPacedAtStop quota k s shown) q s shown places
@@ -47,41 +38,41 @@ stands_on script c s goes h = record {
   empty = h.empty;
   rest = h.rest;
   cycle = in_pace script.config.quota s (seen c) h.heap.places s.progress goes h.cycle;
-  weakless = h.weakless;
+  closing = h.closing;
   sweeper = h.sweeper;
 }
 
-module _ (law : FinishingLeads) (script : Script) (old new : Collector) (s : State) (staged : IsStaged script) (h : StandsWithin script old s) (closed : HasClosed s.number old new) where
+module _ (law : FinishingLeads) (script : Script) (old new : Collector) (s : State) (limits : IsInLimits script) (h : StandsWithin script old s) (closed : HasClosed s.number old new) where
   abbrev Leads : Type 0
   Leads = (t : State) × ClosesOrWaits script.config.quota ⊥ s.progress s t × StandsAt script new t
 
-  stays : (p : Doing) (q : Progress) → old.progress ≡ p → s.progress ≡ q → ClosesOrWaits script.config.quota ⊥ q s s → ((k : Cycle) → s.progress ≡ marking k → IsPacedWithin script.config.quota k s (seen old) → IsPacedAtStop script.config.quota k s (seen old)) → new.progress ≡ p → new.segments ≡ old.segments → Leads
-  stays p q at is waits goes then segments = (
+  stays : (p : Doing) (q : Progress) → old.progress ≡ p → s.progress ≡ q → ClosesOrWaits script.config.quota ⊥ q s s → ((k : Cycle) → s.progress ≡ marking k → IsPacedWithin script.config.quota k s (seen old) → IsPacedAtStop script.config.quota k s (seen old)) → new ≡ old → Leads
+  stays p q at is waits goes same = (
     s,
     subst (λ (x : Progress). ClosesOrWaits script.config.quota ⊥ x s s) (sym is) waits,
-    subst (λ (c : Collector). StandsAt script c s) (sym (unchanged s.number old new closed h.kept.has_words segments (then ∙ sym at))) (stands_on script old s goes h),
+    subst (λ (c : Collector). StandsAt script c s) (sym same) (stands_on script old s goes h),
   )
 
   no_marking : (q : Progress) → s.progress ≡ q → ((k : Cycle) → q ≡ marking k → ⊥) → (k : Cycle) → s.progress ≡ marking k → IsPacedWithin script.config.quota k s (seen old) → IsPacedAtStop script.config.quota k s (seen old)
   no_marking q is never k marks paced = absurd (never k (sym is ∙ marks))
 
-  by_case : (p : Doing) (q : Progress) → old.progress ≡ p → s.progress ≡ q → phase_in p ≡ phase_of q → Closes s.number (words_in old.words) old.segments new.segments p new.progress → Leads
-  by_case doing.Idle idle at is e step = stays doing.Idle idle at is refl (no_marking idle is (λ k bad. cc)) step.0 step.1
+  by_case : (p : Doing) (q : Progress) → old.progress ≡ p → s.progress ≡ q → phase_in p ≡ phase_of q → Closes s.number p old new → Leads
+  by_case doing.Idle idle at is e step = stays doing.Idle idle at is refl (no_marking idle is (λ k bad. cc)) step
   by_case doing.Idle (marking k) at is e step = absurd (let bad : phase.Idle ≡ phase.Marking = e in cc)
   by_case doing.Idle (sweeping k since) at is e step = absurd (let bad : phase.Idle ≡ phase.Sweeping = e in cc)
   by_case (doing.Marking m) idle at is e step = absurd (let bad : phase.Marking ≡ phase.Idle = e in cc)
   by_case (doing.Marking m) (marking k) at is e step = elim step [
     | inl x ↦
-        let t = law script old new s k m x.1.0 staged h is at x.0 x.1.1 closed x.1.2 in
+        let t = law script old new s k m x.1.0 limits h is at x.0 x.1.1 closed x.1.2 in
         (t.0, subst (λ (q : Progress). ClosesOrWaits script.config.quota ⊥ q s t.0) (sym is) (inr (t.1, inr t.2)), t.3)
-    | inr x ↦ stays (doing.Marking m) (marking k) at is (inl refl) (λ r marks paced. paced.goes_on (ap (λ (p : Doing). (work_in p).empty) at ∙ x.0)) x.1 x.2
+    | inr x ↦ stays (doing.Marking m) (marking k) at is (inl refl) (λ r marks paced. paced.goes_on (ap (λ (p : Doing). (work_in p).empty) at ∙ x.0)) x.1
   ]
   by_case (doing.Marking m) (sweeping k since) at is e step = absurd (let bad : phase.Marking ≡ phase.Sweeping = e in cc)
   by_case (doing.Sweeping w) idle at is e step = absurd (let bad : phase.Sweeping ≡ phase.Idle = e in cc)
   by_case (doing.Sweeping w) (marking k) at is e step = absurd (let bad : phase.Sweeping ≡ phase.Marking = e in cc)
-  by_case (doing.Sweeping w) (sweeping k since) at is e step = stays (doing.Sweeping w) (sweeping k since) at is refl (no_marking (sweeping k since) is (λ r bad. cc)) step.0 step.1
+  by_case (doing.Sweeping w) (sweeping k since) at is e step = stays (doing.Sweeping w) (sweeping k since) at is refl (no_marking (sweeping k since) is (λ r bad. cc)) step
 
 pub closing_leads : FinishingLeads → ClosingLeads
-closing_leads law script old new s staged h closed =
+closing_leads law script old new s limits h closed =
     let phases : phase_in old.progress ≡ phase_of s.progress = h.matches.phase in
-    by_case law script old new s staged h closed old.progress s.progress refl refl phases closed.closes
+    by_case law script old new s limits h closed old.progress s.progress refl refl phases closed.closes

@@ -28,7 +28,7 @@ use Rattle.nmgc_cycle.specs.declared.progress.Progress.TheVariants as doing
 use Rattle.nmgc_cycle.specs.declared.progress.Sweeping.{Sweeping}
 use Rattle.nmgc_cycle.specs.Cycles.{row_of, Ends}
 use Rattle.nmgc_cycle.specs.Keeps.{IsKept, Sweeps}
-use Rattle.nmgc_cycle.specs.Shown.{seen, sweeper_in, cycle_in, phase_in}
+use Rattle.nmgc_cycle.specs.Shown.{seen, sweeper_in, cycle_in, phase_in, died}
 use Rattle.nmgc_cycle.specs.Steps.{StandsAt, EndLeads}
 use Rattle.nmgc_reach.specs.laws.ItemLaws.{nothing_in}
 
@@ -72,7 +72,7 @@ module _ (script : Script) (c : Collector) (s : State) (h : StandsAt script c s)
     blocks = λ name tracked other. h.sound.blocks name (subst (λ (l : List World). IsTracked s.world l name) (sym none) tracked) other;
   }
 
-  heap : HoldsAtStop (layout_of plan) (idled s) (seen c).words c.segments (ends_of (seen c)) []
+  heap : HoldsAtStop (layout_of plan) (idled s) (seen c).words c.segments (ends_of (seen c)) (seen c).weaks
   heap = record {
     places = h.heap.places;
     all = h.heap.all;
@@ -93,18 +93,18 @@ module _ (script : Script) (c : Collector) (s : State) (h : StandsAt script c s)
   left : AreLeft c.segments w.sweeper.left
   left = subst (λ (p : Doing). AreLeft c.segments (sweeper_in p).left) at swept_by.0.left
 
-  work : IsAtWork k closed (seen c).words s.allocation c.segments (cycle_in (doing.Sweeping w)) w.sweeper
-  work = subst (λ (p : Doing). IsAtWork k closed (seen c).words s.allocation c.segments (cycle_in p) (sweeper_in p)) at swept_by.1
+  work : IsAtWork k closed (seen c).words s.allocation c.segments (cycle_in (doing.Sweeping w) (died c.weaks.deaths)) w.sweeper
+  work = subst (λ (p : Doing). IsAtWork k closed (seen c).words s.allocation c.segments (cycle_in p (died c.weaks.deaths)) (sweeper_in p)) at swept_by.1
 
   course : IsInCourse (sweeping k closed) s.number s.begun s.allocation
   course = subst (λ (q : Progress). IsInCourse q s.number s.begun s.allocation) is h.course
 
   abbrev pub row : CycleRow
-  row = row_of c.begun s.number w
+  row = row_of c.begun s.number w (died c.weaks.deaths)
 
   census : EndTellsCensus → IsSwept s → IsCensus k closed s.number row
   census law swept =
-      let told : TellsCensus k w.sweeper = law k closed (seen c).words s.allocation c.segments (cycle_in (doing.Sweeping w)) w.sweeper work left swept in
+      let told : TellsCensus k w.sweeper = law k closed (seen c).words s.allocation c.segments (cycle_in (doing.Sweeping w) (died c.weaks.deaths)) w.sweeper work left swept in
       record {
         number = h.matches.begun ∙ sym course.0.number_is;
         from = work.sweeping.from_is;
@@ -129,7 +129,7 @@ module _ (script : Script) (c : Collector) (s : State) (h : StandsAt script c s)
     empty = h.empty;
     rest = h.rest;
     cycle = (subst (λ (q : Progress). HoldsInCycle (λ (r : Cycle). IsPacedAtStop script.config.quota r s (seen c)) q s (seen c) h.heap.places) is h.cycle).1;
-    weakless = record { world = h.weakless.world; snapshot = λ e there. absurd (nothing_in e there) };
+    closing = tt;
     sweeper = tt;
   }
 
@@ -177,6 +177,6 @@ module _ (law : EndTellsCensus) (script : Script) (old new : Collector) (s : Sta
 
 -- so it is at every stop
 pub end_leads : EndTellsCensus → EndLeads
-end_leads law script old new s staged h step =
+end_leads law script old new s limits h step =
     let phases : phase_in old.progress ≡ phase_of s.progress = h.matches.phase in
     by_case law script old new s h old.progress s.progress refl refl phases step

@@ -10,7 +10,7 @@ use Rattle.nmgc_cycle.specs.declared.progress.Progress.TheVariants as doing
 use Rattle.nmgc_cycle.specs.Bound.{commands_left, most_stops, phase_left, MayFollow, AreFew, NoneIsDue, commands, one_cycle, no_cycle}
 use Rattle.nmgc_cycle.specs.Keeps.{CanStop, IsFresh}
 use Rattle.nmgc_cycle.specs.Shown.{phase_in}
-use Rattle.nmgc_cycle.specs.Stage.{IsStaged}
+use Rattle.nmgc_cycle.specs.Limits.{IsInLimits}
 use Rattle.nmgc_cycle.proofs.Measures.{commands_most}
 
 -- the stops that were counted are no more than a run has
@@ -20,12 +20,12 @@ within N script c stops (one_cycle none h) = omega (arith, h)
 within N script c stops (no_cycle none nothing due h) = omega (arith, h)
 
 -- and these have numbers of 32 bits
-pub stops_fit : (script : Script) → IsStaged script → most_stops script < 2 ^ 32
-stops_fit script staged =
-    let most = commands_most script staged [] in
-    let threads = staged.fits.threads in
-    let total = staged.fits.total in
-    let segments = staged.fits.config.segments in
+pub stops_fit : (script : Script) → IsInLimits script → most_stops script < 2 ^ 32
+stops_fit script limits =
+    let most = commands_most script limits [] in
+    let threads = limits.fits.threads in
+    let total = limits.fits.total in
+    let segments = limits.fits.config.segments in
     omega arith
 
 -- a step that leaves the commands as they are, and no more for the cycle in progress
@@ -77,12 +77,12 @@ pub record Fit (script : Script) (c : Collector) : Type 0 where
   pub number : length c.stops + 1 < 2 ^ 32
   pub begun : c.begun + 1 < 2 ^ 32
 
-fits : (N : Type 0) (script : Script) (c : Collector) → IsStaged script → AreFew N script c (length c.stops + 1) → c.begun ≤ length c.stops → Fit script c
-fits N script c staged few begun =
+fits : (N : Type 0) (script : Script) (c : Collector) → IsInLimits script → AreFew N script c (length c.stops + 1) → c.begun ≤ length c.stops → Fit script c
+fits N script c limits few begun =
     let most = within N script c (length c.stops + 1) few.follow in
-    let small = stops_fit script staged in
+    let small = stops_fit script limits in
     record { within = most; number = omega (arith, most, small); begun = omega (arith, most, small, begun) }
 
-pub stop_fits : (script : Script) (c : Collector) → IsStaged script → CanStop script c → Fit script c
-stop_fits script c staged (inl fresh) = fits (Unit {0}) script c staged (fresh_few (Unit {0}) script c fresh) (fresh_begun script c fresh)
-stop_fits script c staged (inr worked) = fits _ script c staged worked.few.few worked.few.begun
+pub stop_fits : (script : Script) (c : Collector) → IsInLimits script → CanStop script c → Fit script c
+stop_fits script c limits (inl fresh) = fits (Unit {0}) script c limits (fresh_few (Unit {0}) script c fresh) (fresh_begun script c fresh)
+stop_fits script c limits (inr worked) = fits _ script c limits worked.few.few worked.few.begun

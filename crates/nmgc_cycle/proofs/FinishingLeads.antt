@@ -1,55 +1,77 @@
--- A marker that finished closes its cycle within the bounds, and the collector stands for the state in which the cycle sweeps.
-use Rattle.std.proofs.Common.{ℕ, ◌≡◌, ◌%◌, List, [], ◌∷◌, Bool, true, false, refl, sym, ap, subst, ◌∙◌, arith, Option}
-use Rattle.std.specs.Prelude.{◌==◌, if◌then◌else◌}
+-- A marker that finished, with the weak pointers resolved, closes its cycle within the bounds, and the collector stands for the closed state, in which the cycle sweeps.
+use Rattle.std.proofs.Common.{ℕ, ◌≡◌, ◌+◌, ◌-◌, ◌^◌, ◌<◌, ◌≤◌, ◌%◌, List, [], ◌∷◌, Bool, true, false, length, refl, sym, ap, subst, ◌∙◌, arith}
+use Rattle.std.specs.Prelude.{IsSome, ◌==◌, if◌then◌else◌}
+use Rattle.std.proofs.lemmas.List.{length-map}
 use Rattle.nmgc_alloc.specs.AllocState.{StandsFor}
 use Rattle.nmgc_alloc.specs.Segments.{Segments, IsSegments}
 use Rattle.nmgc_alloc.specs.laws.Keeping.{carried_stands}
-use Rattle.nmgc_beside.specs.Calls.{FinishCloses}
-use Rattle.nmgc_beside.specs.Closes.{HasClosed as IsClosedBy, HasNoWeak}
 use Rattle.nmgc_beside.specs.Heaps.{HeapRests, MarkedHolds}
-use Rattle.nmgc_beside.specs.Prepares.{StopForgets}
-use Rattle.nmgc_beside.specs.Rest.{opening_beside}
-use Rattle.nmgc_beside.specs.Sweeps.{ClosingSweeps, MarkedWait, TellsClosing, all_carried}
+use Rattle.nmgc_beside.specs.Resolves.{FinishMayResolve, ResolveCloses, ClosedHolds, ClosedCycleSweeps, IsStopOf, IsClosingOf, HaveJoined as HaveJoinedInRun, TellsDeaths, closed_state, finished_on, stop_opening}
+use Rattle.nmgc_beside.specs.Sweeps.{MarkedWait, all_carried}
+use Rattle.nmgc_blocks.specs.Nurseries.{AreEmpty}
+use Rattle.nmgc_graph.specs.declared.value.Name.{Name}
 use Rattle.nmgc_graph.specs.Reach.{closed}
-use Rattle.nmgc_graph.specs.World.{World}
-use Rattle.nmgc_graph.specs.laws.Orders.{contains_head}
+use Rattle.nmgc_graph.specs.World.{World, node_of}
+use Rattle.nmgc_graph.specs.laws.Worlds.{is_some_of}
 use Rattle.nmgc_heap.specs.Places.{Place}
+use Rattle.nmgc_heap.specs.Represents.{IsEarlier}
+use Rattle.nmgc_heap.specs.Shape.{size_of}
+use Rattle.nmgc_heap.specs.laws.CommandLaws.{closing_keeps_earlier, closing_tracks, world_is_earlier}
+use Rattle.nmgc_heap.specs.laws.Kinds.{map_item, item_map}
+use Rattle.nmgc_mark.specs.Stopped.{HasFinished}
+use Rattle.nmgc_minor.specs.Promotion.{IsFor}
+use Rattle.nmgc_mutator.specs.declared.mutator.Mutator.{Mutator}
+use Rattle.nmgc_mutator.specs.Ready.{IsWhole}
 use Rattle.nmgc_object.specs.declared.layout.Layout.{Layout}
+use Rattle.nmgc_object.specs.declared.layout.Nursery.{Nursery}
+use Rattle.nmgc_object.specs.declared.size.TheConstants.{HEADER_WORDS}
+use Rattle.nmgc_object.specs.declared.words.Header.{Header}
+use Rattle.nmgc_reach.specs.laws.Deaths.{closed_world, closed_names, closed_mutators, closed_serials}
 use Rattle.nmgc_reach.specs.laws.ItemLaws.{nothing_in}
 use Rattle.nmgc_round.specs.View.{Opening}
-use Rattle.nmgc_run.specs.Closing.{Closes, MayClose}
-use Rattle.nmgc_run.specs.Collector.{AreNurseries, IsMarking}
+use Rattle.nmgc_run.specs.Census.{IsKeptObject}
+use Rattle.nmgc_run.specs.Closing.{Closes, ClosesNow}
+use Rattle.nmgc_run.specs.Collector.{AreNurseries, EachMutator, IsAtRest, IsMarking, IsPacedAtStop}
 use Rattle.nmgc_run.specs.Heap.{HoldsAtStop}
+use Rattle.nmgc_run.specs.Listing.{Counts}
 use Rattle.nmgc_run.specs.Marks.{AreSettled, IsSweeping, epoch_of}
-use Rattle.nmgc_run.specs.Seen.{ends_of, nurseries_of}
-use Rattle.nmgc_run.specs.Sound.{IsSoundState}
-use Rattle.nmgc_run.specs.State.{State, Cycle, Progress, marking, sweeping, plan_of, layout_of}
+use Rattle.nmgc_run.specs.Seen.{Seen, ends_of, nurseries_of}
+use Rattle.nmgc_run.specs.Sound.{IsSoundState, left_of}
+use Rattle.nmgc_run.specs.State.{State, Cycle, Progress, idle, marking, sweeping, phase_of, plan_of, layout_of}
 use Rattle.nmgc_run.specs.laws.Tracks.{tracked_fewer}
+use Rattle.nmgc_journal.specs.declared.report.Phase.TheVariants as phase
 use Rattle.nmgc_script.specs.declared.script.Script.{Script}
 use Rattle.nmgc_segment.specs.Marks.{IsEpoch}
 use Rattle.nmgc_sweep.specs.Statements.{ClosingBeginsWork, IsClosedNow, LeftStays}
 use Rattle.nmgc_sweep.specs.Sweeper.{AreLeft}
 use Rattle.nmgc_sweep.specs.Work.{IsAtWork}
+use Rattle.nmgc_weak.specs.declared.weaks.Death.{Death}
+use Rattle.nmgc_weak.specs.Closes.{HasClosed as IsClosedBy}
+use Rattle.nmgc_weak.specs.Resolve.{AreDeaths, HasResolved}
+use Rattle.nmgc_weak.specs.Weaks.{places_of, Weaks}
 use Rattle.nmgc_cycle.specs.declared.collector.Collector.{Collector}
 use Rattle.nmgc_cycle.specs.declared.progress.Marking.{Marking}
 use Rattle.nmgc_cycle.specs.declared.progress.Progress.{Progress as Doing}
 use Rattle.nmgc_cycle.specs.declared.progress.Progress.TheVariants as doing
 use Rattle.nmgc_cycle.specs.declared.progress.Sweeping.{Sweeping}
 use Rattle.nmgc_cycle.specs.Cycles.{IsClosed}
+use Rattle.nmgc_cycle.specs.Full.{ClosesNow as ClosesNowBy, HasClosedNow}
+use Rattle.nmgc_cycle.specs.FullLaws.{FinishingNowLeads}
 use Rattle.nmgc_cycle.specs.Keeps.{IsKept}
-use Rattle.nmgc_cycle.specs.Shown.{seen, words_in, cycle_in}
-use Rattle.nmgc_cycle.specs.Steps.{StandsWithin, StandsAt, IsPacedWithin, FinishingLeads}
-use Rattle.nmgc_cycle.proofs.Closing.{words_same}
-use Rattle.nmgc_cycle.proofs.StepReady.{marks, rests_there}
-use Rattle.nmgc_minor.specs.Promotion.{IsFor}
+use Rattle.nmgc_cycle.specs.Roots.{queues_in}
+use Rattle.nmgc_cycle.specs.Shown.{died, phase_in, seen, seen_mutator, words_in}
+use Rattle.nmgc_cycle.specs.Steps.{StandsAt, IsPacedWithin, FinishingLeads}
+use Rattle.nmgc_cycle.proofs.Queued.{AreWith, are_with, new_queues, old_queues, one_with, same_nurseries, same_registers, same_serials, same_whole}
+use Rattle.nmgc_cycle.proofs.StepReady.{StandsInPace, marks, rests_there}
 
 -- the laws on which a closing rests
 pub record ClosingLaws : Type 0 where
   pub rests : HeapRests
-  pub finishes : FinishCloses
+  pub may : FinishMayResolve
+  pub closes : ResolveCloses
+  pub holds : ClosedHolds
   pub marked : MarkedHolds
-  pub forgets : StopForgets
-  pub sweeps : ClosingSweeps
+  pub sweeps : ClosedCycleSweeps
   pub waits : MarkedWait
   pub left : LeftStays
   pub works : ClosingBeginsWork
@@ -61,21 +83,34 @@ epoch_by false = (omega arith, omega arith)
 pub epoch_sound : (number : ℕ) → IsEpoch (epoch_of number)
 epoch_sound number = epoch_by ((number % 2) == 0)
 
-module _ (laws : ClosingLaws) (script : Script) (c : Collector) (st : State) (k : Cycle) (m : Marking)
-    (h : StandsWithin script (record c { progress = doing.Marking m }) (record st { progress = marking k }))
-    (none_left : m.last.empty ≡ true) (new : Segments) (w : Sweeping)
-    (cl : IsClosed st.number (words_in c.words) c.segments new m w) where
+-- the deaths are told by their names
+died_are : (o : Opening) (dead : List Name) (deaths : List Death) → AreDeaths o dead deaths → died deaths ≡ dead
+died_are o [] [] h = refl
+died_are o [] (death ∷ deaths) h = absurd h
+died_are o (weak ∷ dead) [] h = absurd h
+died_are o (weak ∷ dead) (death ∷ deaths) h = ap (λ (n : Name). n ∷ died deaths) h.0.0 ∙ ap (λ (l : List Name). weak ∷ l) (died_are o dead deaths h.1)
+
+module _ (Paced : Cycle → State → Seen → Type 0) (laws : ClosingLaws) (script : Script) (c : Collector) (st : State) (k : Cycle) (m : Marking)
+    (h : StandsInPace Paced script (record c { progress = doing.Marking m }) (record st { progress = marking k }))
+    (n : Collector) (some : IsSome n.words) (w : Sweeping)
+    (cl : IsClosed st.number (words_in c.words) (words_in n.words) c.segments n.segments c.weaks n.weaks c.mutators.items n.mutators.items m w) where
   abbrev old : Collector
   old = record c { progress = doing.Marking m }
 
   abbrev s : State
   s = record st { progress = marking k }
 
-  abbrev t : State
-  t = record st { progress = sweeping k st.number }
+  abbrev before : List ℕ
+  before = words_in c.words
 
   abbrev words : List ℕ
-  words = words_in c.words
+  words = words_in n.words
+
+  abbrev weaks : Weaks
+  weaks = n.weaks
+
+  abbrev later : List Mutator
+  later = n.mutators.items
 
   abbrev layout : Layout
   layout = layout_of (plan_of script)
@@ -86,60 +121,105 @@ module _ (laws : ClosingLaws) (script : Script) (c : Collector) (st : State) (k 
   abbrev work : Sweeping
   work = record { from = m.from; closed = st.number; kept = cl.marker.marked; sweeper = m.sweeper }
 
-  abbrev next : Collector
-  next = record c { segments = segments; progress = doing.Sweeping work }
+  -- the cycle as it marked, and what the calls did
 
-  -- the cycle as it marked, and what the marker did
+  abbrev now : IsMarking k s (seen old) h.heap.places × Paced k s (seen old)
+  now = marks Paced laws.rests script old s h k refl
 
-  abbrev now : IsMarking k s (seen old) h.heap.places × IsPacedWithin script.config.quota k s (seen old)
-  now = marks laws.rests script old s h k refl
+  abbrev stop : IsStopOf layout k s (seen old) c.mutators.items
+  stop = record { heap = h.heap; kept = now.0; rest = (rests_there Paced laws.rests script old s h k refl).0 }
 
   abbrev o : Opening
-  o = opening_beside c.segments.layout now.0.core h.heap.places c.mutators.items
+  o = stop_opening layout k s (seen old) c.mutators.items stop
 
-  no_weak : HasNoWeak k.snapshot
-  no_weak = h.weakless.snapshot k.snapshot (contains_head k.snapshot [])
+  abbrev pub finished : HasFinished o cl.between cl.finisher
+  finished = cl.finished o (rests_there Paced laws.rests script old s h k refl).1
 
-  closed_by : IsClosedBy k s cl.marked cl.marker
-  closed_by =
-      let rest = rests_there laws.rests script old s h k refl in
-      laws.finishes layout k s (seen old) cl.marked cl.marker cl.scanned words (ends_of (seen old)) [] o h.heap cl.sound.0 no_weak now.0 rest.0.machine h.kept.layout refl refl cl.marks (cl.finished o rest.1)
+  abbrev pub resolved : HasResolved (finished_on o cl.between cl.finisher finished) words cl.marked cl.marker weaks.list weaks.deaths
+  resolved = cl.resolved (finished_on o cl.between cl.finisher finished) (laws.may layout k s (seen old) c.mutators.items cl.between cl.finisher stop finished)
 
-  may_close : MayClose script.config.quota k st.number
-  may_close = now.1.closes none_left cl.marker.marked cl.marks.scanned.grows closed_by.kept
+  abbrev closing : IsClosingOf layout k s (seen old) c.mutators.items words cl.marked cl.marker weaks.list weaks.deaths
+  closing = record { stop = stop; between = cl.between; finisher = cl.finisher; first = cl.first; second = cl.second; finished = finished; resolved = resolved; sound = cl.sound.0 }
 
-  -- words and segments stand for the same heap
+  abbrev dead : List Name
+  dead = resolved.closing.dead
+
+  abbrev t : State
+  t = closed_state k st dead
+
+  closed_by : IsClosedBy k s dead cl.marked cl.marker
+  closed_by = laws.closes layout k s (seen old) c.mutators.items words cl.marked cl.marker weaks.list weaks.deaths closing
+
+  -- the marker has counted what is kept, and marked no less than before
+
+  pub kept_there : Counts (IsKeptObject k) cl.marker.marked
+  kept_there = closed_by.kept
+
+  pub grows : (seen old).marker.marked ≤ cl.marker.marked
+  grows = let a = cl.first.1.scanned.grows in let b = cl.second.1.scanned.grows in omega (arith, a, b)
+
+  pub in_pace : Paced k s (seen old)
+  in_pace = now.1
+
+  -- the mutators
+
+  queue_count : length cl.joined.queues ≡ length c.mutators.items
+  queue_count = cl.joined.joined.0 ∙ length-map c.mutators.items (λ (x : Mutator). x.queue)
+
+  with_queues : AreWith cl.joined.queues c.mutators.items later
+  with_queues = are_with cl.joined.queues c.mutators.items later queue_count cl.joined.have
+
+  abbrev next : Collector
+  next = record c { words = n.words; segments = segments; progress = doing.Sweeping work; weaks = n.weaks; mutators = n.mutators }
+
+  joined : HaveJoinedInRun (seen old) weaks.deaths cl.joined.queues (ends_of (seen next))
+  joined = record {
+    old = queues_in c.mutators.items;
+    old_are = old_queues c.mutators.items;
+    joined = cl.joined.joined;
+    queues_are = new_queues cl.joined.queues c.mutators.items later with_queues;
+    registers = same_registers cl.joined.queues c.mutators.items later with_queues;
+    serials = same_serials cl.joined.queues c.mutators.items later with_queues;
+    whole = same_whole cl.joined.queues c.mutators.items later with_queues h.heap.holds.registers;
+  }
+
+  same_there : nurseries_of (seen next) ≡ nurseries_of (seen old)
+  same_there = same_nurseries cl.joined.queues c.mutators.items later with_queues
+
+  -- words, roots and list stand for the closed world
+
+  closed_heap : (g : HoldsAtStop layout t words cl.marked (ends_of (seen next)) (places_of weaks.list)) × (g.places ≡ h.heap.places)
+  closed_heap = laws.holds layout k s (seen old) c.mutators.items words cl.marked cl.marker weaks.list weaks.deaths cl.joined.queues (ends_of (seen next)) closing joined
 
   epoch_is : cl.marker.epoch ≡ epoch_of k.number
-  epoch_is = cl.marks.scanned.epoch ∙ now.0.tied.epoch
-
-  marked_stands : StandsFor cl.marked words st.allocation
-  marked_stands = cl.marks.stands words st.allocation h.heap.holds.stands
+  epoch_is = cl.second.1.scanned.epoch ∙ cl.first.1.scanned.epoch ∙ now.0.tied.epoch
 
   stands_then : StandsFor segments words st.allocation
-  stands_then = carried_stands cl.marked words st.allocation cl.marker.epoch (subst IsEpoch (sym epoch_is) (epoch_sound k.number)) marked_stands
+  stands_then = carried_stands cl.marked words st.allocation cl.marker.epoch (subst IsEpoch (sym epoch_is) (epoch_sound k.number)) closed_heap.0.holds.stands
+
+  marked_layout : cl.marked.layout ≡ c.segments.layout
+  marked_layout = cl.second.1.layout ∙ cl.first.1.layout
 
   layout_is : segments.layout ≡ layout
-  layout_is = cl.marks.layout ∙ h.kept.layout
+  layout_is = marked_layout ∙ h.kept.layout
 
-  heap : (g : HoldsAtStop layout t words segments (ends_of (seen next)) []) × (g.places ≡ h.heap.places)
+  heap : (g : HoldsAtStop layout t words segments (ends_of (seen next)) (seen next).weaks) × (g.places ≡ h.heap.places)
   heap =
-      let on = laws.marked layout s words c.segments segments (ends_of (seen old)) [] h.heap layout_is stands_then in
-      let forgotten = laws.forgets layout s (sweeping k st.number) words segments (ends_of (seen old)) [] refl on.0 in
-      (forgotten.0, forgotten.1 ∙ on.1)
+      let on = laws.marked layout t words cl.marked segments (ends_of (seen next)) (places_of weaks.list) closed_heap.0 layout_is stands_then in
+      (on.0, on.1 ∙ closed_heap.1)
 
   -- the cycle sweeps
 
-  tells : TellsClosing k st.number cl.marker (cycle_in (doing.Sweeping work))
-  tells = record { from_is = now.0.from_is; closed_is = refl; none_dead = refl; kept_is = refl }
+  tells : TellsDeaths k st.number dead cl.marker (seen next).cycle
+  tells = record { from_is = now.0.from_is; closed_is = refl; dead_is = died_are (finished_on o cl.between cl.finisher finished) dead weaks.deaths resolved.deaths_are; kept_is = refl }
 
-  sweeps_then : IsSweeping k st.number st.allocation segments (cycle_in (doing.Sweeping work)) m.sweeper.seen × AreSettled st.begun segments
-  sweeps_then = laws.sweeps k s words cl.marked cl.marker (cycle_in (doing.Sweeping work)) m.sweeper.seen cl.sound.0 marked_stands h.course.0 h.course.1 closed_by epoch_is tells now.0.noted h.sweeper.2
+  sweeps_then : IsSweeping k st.number st.allocation segments (seen next).cycle m.sweeper.seen × AreSettled st.begun segments
+  sweeps_then = laws.sweeps k s dead words cl.marked cl.marker (seen next).cycle m.sweeper.seen cl.sound.0 closed_heap.0.holds.stands h.course.0 h.course.1 closed_by epoch_is tells now.0.noted h.sweeper.2
 
   left_then : AreLeft segments m.sweeper.left
-  left_then = laws.left c.segments segments m.sweeper.left (laws.waits c.segments segments words words st.allocation h.heap.holds.stands stands_then) h.sweeper.0.left
+  left_then = laws.left c.segments segments m.sweeper.left (laws.waits c.segments segments before words st.allocation h.heap.holds.stands stands_then) h.sweeper.0.left
 
-  closed_now : IsClosedNow k st.number st.allocation segments (cycle_in (doing.Sweeping work)) m.sweeper.seen.epoch
+  closed_now : IsClosedNow k st.number st.allocation segments (seen next).cycle m.sweeper.seen.epoch
   closed_now = record {
     from_is = sweeps_then.0.from_is;
     closed_is = sweeps_then.0.closed_is;
@@ -147,24 +227,36 @@ module _ (laws : ClosingLaws) (script : Script) (c : Collector) (st : State) (k 
     kept = sweeps_then.0.kept;
     as_noted = sweeps_then.0.as_noted;
     marked = sweeps_then.0.marked;
-    settled = subst (λ (n : ℕ). AreSettled n segments) (sym h.course.0.number_is) sweeps_then.1;
+    settled = subst (λ (i : ℕ). AreSettled i segments) (sym h.course.0.number_is) sweeps_then.1;
     begun = h.course.0.some;
   }
 
-  at_work : IsAtWork k st.number words st.allocation segments (cycle_in (doing.Sweeping work)) m.sweeper
-  at_work = laws.works k st.number words st.allocation segments (cycle_in (doing.Sweeping work)) m.sweeper stands_then h.sweeper.0.notes left_then h.sweeper.1 h.sweeper.2 closed_now
+  at_work : IsAtWork k st.number words st.allocation segments (seen next).cycle m.sweeper
+  at_work = laws.works k st.number words st.allocation segments (seen next).cycle m.sweeper stands_then h.sweeper.0.notes left_then h.sweeper.1 h.sweeper.2 closed_now
 
   -- the collector keeps what it keeps, and the state is sound
+
+  same_total : length words ≡ length before
+  same_total = heap.0.holds.represents.total ∙ sym h.heap.holds.represents.total
 
   still_kept : IsKept script next
   still_kept = record {
     layout = layout_is;
     sound = subst (λ (g : Segments). IsSegments g) cl.carried cl.sound.1;
-    lists = subst (λ (l : Layout). IsFor l c.promotion) (sym cl.marks.layout) h.kept.lists;
-    has_words = h.kept.has_words;
-    list = h.kept.list;
-    count = h.kept.count;
-    own = λ n x e. let own = h.kept.own n x e in record { number = own.number; layout = own.layout ∙ sym cl.marks.layout; whole = own.whole; no_replies = own.no_replies };
+    lists = subst (λ (l : Layout). IsFor l c.promotion) (sym marked_layout) h.kept.lists;
+    has_words = some;
+    list = h.kept.list ∙ sym same_total;
+    count = cl.joined.have.count ∙ h.kept.count;
+    own = λ i x e.
+        let was = one_with cl.joined.queues c.mutators.items later queue_count cl.joined.have i x e in
+        let own = h.kept.own i was.0 was.1 in
+        let is = was.2 in
+        record {
+          number = ap (λ (y : Mutator). y.number) is ∙ own.number;
+          layout = ap (λ (y : Mutator). y.layout) is ∙ own.layout ∙ sym marked_layout;
+          whole = subst IsWhole (sym is) (record { layout = own.whole.layout; number = own.whole.number; size = own.whole.size });
+          no_replies = ap (λ (y : Mutator). y.replies.items) is ∙ own.no_replies;
+        };
     positions_are = h.kept.positions_are;
     positions = h.kept.positions;
     no_ends = h.kept.no_ends;
@@ -173,61 +265,141 @@ module _ (laws : ClosingLaws) (script : Script) (c : Collector) (st : State) (k 
 
   sound_then : IsSoundState (plan_of script) t
   sound_then =
-      let world_is : st.world ≡ closed st.world closed_by.closes.dead = ap (λ (x : State). x.world) closed_by.closes.rest in
+      let world = h.sound.world in
       record {
-        world = h.sound.world;
-        able = record { programs = h.sound.able.programs; mutators = h.sound.able.mutators; registers = h.sound.able.registers; serials = h.sound.able.serials };
+        world = closed_world st.world dead world;
+        able = record {
+          programs = h.sound.able.programs;
+          mutators = closed_mutators st.world dead world ∙ h.sound.able.mutators;
+          registers = h.sound.able.registers;
+          serials = λ i. subst (λ (x : ℕ). x + length (left_of st i) < 2 ^ 32 - 1) (sym (closed_serials st.world dead world i)) (h.sound.able.serials i);
+        };
         filed = h.sound.filed;
-        known = h.sound.known;
+        known = λ number block name lies. closed_names st.world dead world name (h.sound.known number block name lies);
         cycle = (
           record {
             sound = h.sound.cycle.0;
-            dead = closed_by.closes.dead;
-            lists = closed_by.closes.lists;
+            dead = dead;
+            lists = closed_by.lists;
             since = [];
             can = tt;
-            world_is = world_is ∙ ap (λ (x : World). closed x closed_by.closes.dead) h.sound.cycle.1;
+            world_is = ap (λ (x : World). closed x dead) h.sound.cycle.1;
           },
           h.sound.cycle.2,
         );
         earlier = λ e there. absurd (nothing_in e there);
-        blocks = λ name tracked other. h.sound.blocks name (tracked_fewer st.world (k.snapshot ∷ []) name tracked) other;
+        blocks = λ name tracked other. h.sound.blocks name (closing_tracks st.world dead (k.snapshot ∷ []) world name (tracked_fewer (closed st.world dead) (k.snapshot ∷ []) name tracked)) other;
       }
 
-  pub leads : Closes k s t × MayClose script.config.quota k st.number × StandsAt script next t
+  -- no header changed
+  still : IsEarlier st.world (closed st.world dead)
+  still = closing_keeps_earlier st.world st.world dead h.sound.world (world_is_earlier st.world h.sound.world)
+
+  nurseries_then : AreNurseries layout h.heap.places (closed st.world dead) (nurseries_of (seen old))
+  nurseries_then = record {
+    used = record {
+      count = h.nurseries.used.count;
+      places_are = h.nurseries.used.places_are;
+      tops = h.nurseries.used.tops;
+      used = λ p node there high is.
+          let known = is_some_of (node_of st.world p.name) (h.heap.holds.represents.named p there).known in
+          let size : size_of known.0 ≡ size_of node = ap (λ (x : Header). HEADER_WORDS + x.fields) (still.headers p.name known.0 node known.1 is) in
+          let fits = h.nurseries.used.used p known.0 there high known.1 in
+          omega (arith, size, fits);
+    };
+    ends = h.nurseries.ends;
+  }
+
+  rest_then : EachMutator (seen next) (λ i mutator. IsAtRest mutator)
+  rest_then i x e =
+      let new_one = map_item seen_mutator later i x e in
+      let was = one_with cl.joined.queues c.mutators.items later queue_count cl.joined.have i new_one.0 new_one.1 in
+      let rest = h.rest i (seen_mutator was.0) (item_map seen_mutator c.mutators.items i was.0 was.1) in
+      let is : x ≡ seen_mutator (record was.0 { queue = new_one.0.queue }) = new_one.2 ∙ ap seen_mutator was.2 in
+      subst IsAtRest (sym is) (record { recorded = rest.recorded; young_weaks = rest.young_weaks; entries = rest.entries })
+
+  pub leads : Closes k s t × StandsAt script next t
   leads = (
     closed_by.closes,
-    may_close,
     record {
       kept = still_kept;
       sound = sound_then;
       course = (h.course.0, h.course.1.as_noted);
       matches = record { phase = refl; begun = h.matches.begun; collect = h.matches.collect; full = h.matches.full };
       heap = heap.0;
-      nurseries = subst (λ (places : List Place). AreNurseries layout places st.world (nurseries_of (seen old))) (sym heap.1) h.nurseries;
-      empty = h.empty;
-      rest = h.rest;
+      nurseries = subst (λ (y : List Place × List Nursery). AreNurseries layout y.0 (closed st.world dead) y.1) (λ i. (sym heap.1 i, sym same_there i)) nurseries_then;
+      empty = subst AreEmpty (sym same_there) h.empty;
+      rest = rest_then;
       cycle = sweeps_then;
-      weakless = record { world = h.weakless.world; snapshot = λ e there. absurd (nothing_in e there) };
+      closing = tt;
       sweeper = (record { notes = h.sweeper.0.notes; left = left_then }, at_work);
     },
   )
 
+-- whatever is known of its pace, a marker that finished closes its cycle
+module _ (Paced : Cycle → State → Seen → Type 0) (laws : ClosingLaws) (script : Script) (old new : Collector) (s : State) (k : Cycle) (m : Marking) (w : Sweeping)
+    (h : StandsInPace Paced script old s) (is : s.progress ≡ marking k) (at : old.progress ≡ doing.Marking m) (progress : new.progress ≡ doing.Sweeping w)
+    (rest : new ≡ record old { words = new.words; segments = new.segments; progress = new.progress; weaks = new.weaks; mutators = new.mutators })
+    (some : IsSome new.words)
+    (cl : IsClosed s.number (words_in old.words) (words_in new.words) old.segments new.segments old.weaks new.weaks old.mutators.items new.mutators.items m w) where
+  stood : StandsInPace Paced script (record old { progress = doing.Marking m }) (record s { progress = marking k })
+  stood =
+      let was : old ≡ record old { progress = doing.Marking m } = ap (λ (p : Doing). record old { progress = p }) at in
+      let state : s ≡ record s { progress = marking k } = ap (λ (q : Progress). record s { progress = q }) is in
+      subst (λ (x : Collector). StandsInPace Paced script x (record s { progress = marking k })) was (subst (λ (y : State). StandsInPace Paced script old y) state h)
+
+  pub paced_there : Paced k (record s { progress = marking k }) (seen (record old { progress = doing.Marking m }))
+  paced_there = in_pace Paced laws script old s k m stood new some w cl
+
+  pub counts_kept : Counts (IsKeptObject k) cl.marker.marked
+  counts_kept = kept_there Paced laws script old s k m stood new some w cl
+
+  pub marks_more : m.marker.marked ≤ cl.marker.marked
+  marks_more = grows Paced laws script old s k m stood new some w cl
+
+  pub closes_there : (t : State) × Closes k s t × StandsAt script new t
+  closes_there =
+      let all = leads Paced laws script old s k m stood new some w cl in
+      let t : State = closed_state k s (resolved Paced laws script old s k m stood new some w cl).closing.dead in
+      let carried : Segments = all_carried cl.marker.epoch cl.marked in
+      let next : new ≡ record old { words = new.words; segments = carried; progress = doing.Sweeping (record { from = m.from; closed = s.number; kept = cl.marker.marked; sweeper = m.sweeper }); weaks = new.weaks; mutators = new.mutators } =
+      rest
+      ∙ ap (λ (g : Segments). record old { words = new.words; segments = g; progress = new.progress; weaks = new.weaks; mutators = new.mutators }) cl.carried
+      ∙ ap (λ (p : Doing). record old { words = new.words; segments = carried; progress = p; weaks = new.weaks; mutators = new.mutators }) (progress ∙ ap doing.Sweeping cl.is) in (
+        t,
+        subst (λ (q : Progress). Closes k (record s { progress = q }) t) (sym is) all.0,
+        subst (λ (x : Collector). StandsAt script x t) (sym next) all.1,
+      )
+
 pub finishing_leads : ClosingLaws → FinishingLeads
-finishing_leads laws script old new s k m w staged h is at none_left progress closing cl =
-    let was : old ≡ record old { progress = doing.Marking m } = ap (λ (p : Doing). record old { progress = p }) at in
-    let state : s ≡ record s { progress = marking k } = ap (λ (q : Progress). record s { progress = q }) is in
-    let t : State = record s { progress = sweeping k s.number } in
-    let stood : StandsWithin script (record old { progress = doing.Marking m }) (record s { progress = marking k }) = subst (λ (x : Collector). StandsWithin script x (record s { progress = marking k })) was (subst (λ (y : State). StandsWithin script old y) state h) in
-    let all = leads laws script old s k m stood none_left new.segments w cl in
-    let carried : Segments = all_carried cl.marker.epoch cl.marked in
-    let next : new ≡ record old { segments = carried; progress = doing.Sweeping (record { from = m.from; closed = s.number; kept = cl.marker.marked; sweeper = m.sweeper }) } =
-    closing.rest
-    ∙ ap (λ (x : Option (List ℕ)). record old { words = x; segments = new.segments; progress = new.progress }) (words_same new.words old.words closing.words.1 h.kept.has_words closing.words.0)
-    ∙ ap (λ (g : Segments). record old { segments = g; progress = new.progress }) cl.carried
-    ∙ ap (λ (p : Doing). record old { segments = carried; progress = p }) (progress ∙ ap doing.Sweeping cl.is) in (
-      t,
-      subst (λ (y : State). Closes k y t) (sym state) all.0,
-      all.1,
-      subst (λ (x : Collector). StandsAt script x t) (sym next) all.2,
-    )
+finishing_leads laws script old new s k m w limits h is at none_left progress closing cl =
+    let P : Cycle → State → Seen → Type 0 = IsPacedWithin script.config.quota in
+    let there = closes_there P laws script old new s k m w h is at progress closing.rest closing.has_words cl in
+    let paced : IsPacedWithin script.config.quota k (record s { progress = marking k }) (seen (record old { progress = doing.Marking m })) = paced_there P laws script old new s k m w h is at progress closing.rest closing.has_words cl in
+    let counted = counts_kept P laws script old new s k m w h is at progress closing.rest closing.has_words cl in
+    let more = marks_more P laws script old new s k m w h is at progress closing.rest closing.has_words cl in
+    (there.0, there.1, paced.closes none_left cl.marker.marked more counted, there.2)
+
+-- one that is forced needs no pace
+module _ (laws : ClosingLaws) (script : Script) (old new : Collector) (s : State) (h : StandsAt script old s) (closing : HasClosedNow s.number old new) where
+  abbrev Leads : Type 0
+  Leads = (t : State) × ClosesNow s.progress s t × StandsAt script new t
+
+  stays : (q : Progress) → s.progress ≡ q → ClosesNow q s s → new ≡ old → Leads
+  stays q is closes same = (s, subst (λ (x : Progress). ClosesNow x s s) (sym is) closes, subst (λ (x : Collector). StandsAt script x s) (sym same) h)
+
+  by_case : (p : Doing) (q : Progress) → old.progress ≡ p → s.progress ≡ q → phase_in p ≡ phase_of q → ClosesNowBy s.number p old new → Leads
+  by_case doing.Idle idle at is e step = stays idle is refl step
+  by_case doing.Idle (marking k) at is e step = absurd (let bad : phase.Idle ≡ phase.Marking = e in cc)
+  by_case doing.Idle (sweeping k since) at is e step = absurd (let bad : phase.Idle ≡ phase.Sweeping = e in cc)
+  by_case (doing.Marking m) idle at is e step = absurd (let bad : phase.Marking ≡ phase.Idle = e in cc)
+  by_case (doing.Marking m) (marking k) at is e step =
+      let t = closes_there (IsPacedAtStop script.config.quota) laws script old new s k m step.0 h is at step.1 closing.rest closing.has_words step.2 in
+      (t.0, subst (λ (q : Progress). ClosesNow q s t.0) (sym is) t.1, t.2)
+  by_case (doing.Marking m) (sweeping k since) at is e step = absurd (let bad : phase.Marking ≡ phase.Sweeping = e in cc)
+  by_case (doing.Sweeping w) idle at is e step = absurd (let bad : phase.Sweeping ≡ phase.Idle = e in cc)
+  by_case (doing.Sweeping w) (marking k) at is e step = absurd (let bad : phase.Sweeping ≡ phase.Marking = e in cc)
+  by_case (doing.Sweeping w) (sweeping k since) at is e step = stays (sweeping k since) is refl step
+
+pub finishing_now_leads : ClosingLaws → FinishingNowLeads
+finishing_now_leads laws script old new s limits h closing = by_case laws script old new s h closing old.progress s.progress refl refl h.matches.phase closing.closes

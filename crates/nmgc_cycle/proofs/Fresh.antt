@@ -1,5 +1,5 @@
 -- A new collector is what a run begins with.
-use Rattle.std.proofs.Common.{false, ℕ, ◌≡◌, ◌≤◌, ◌<◌, List, [], ◌∷◌, length, map, replicate, arith, refl, sym, ap, subst, ◌∙◌, Some, vec_capacity, None}
+use Rattle.std.proofs.Common.{false, ℕ, ◌≡◌, ◌≤◌, ◌<◌, List, [], ◌∷◌, length, map, replicate, arith, sym, ap, subst, ◌∙◌, Some, vec_capacity, None}
 use Rattle.std.specs.Prelude.{All, IsSome, slice_get, slice_index}
 use Rattle.std.proofs.Math.ListN.{length-replicate}
 use Rattle.std.proofs.lemmas.List.{get_or-replicate}
@@ -23,7 +23,9 @@ use Rattle.nmgc_run.specs.Marks.{AreSettled}
 use Rattle.nmgc_run.specs.Seen.{end_of}
 use Rattle.nmgc_run.specs.Statements.{answered_count}
 use Rattle.nmgc_journal.specs.declared.report.RoundRows.{RoundRows}
-use Rattle.nmgc_heap.specs.Roots.{RepresentsRoots}
+use Rattle.nmgc_heap.specs.Roots.{ListsWeaks, RepresentsRoots}
+use Rattle.nmgc_weak.specs.declared.weaks.OldWeak.{OldWeak}
+use Rattle.nmgc_weak.specs.Weaks.{places_of}
 use Rattle.nmgc_cycle.specs.declared.collector.Collector.{Collector}
 use Rattle.nmgc_cycle.specs.Keeps.{IsOwn, IsKept, IsFresh}
 use Rattle.nmgc_cycle.specs.declared.progress.Progress.TheVariants as progress
@@ -36,8 +38,9 @@ use Rattle.nmgc_cycle.proofs.Unused.{are_empty, are_nurseries, nothing_left}
 pub record IsMade (layout : Layout) (script : Script) (c : Collector) : Type 0 where
   pub lawful : IsLayout layout
   pub nothing : (c.rounds ≡ []) × (c.stops ≡ []) × (c.cycles ≡ [])
-  pub idle : (c.progress ≡ progress.Idle) × (c.begun ≡ 0) × (c.collect ≡ false)
+  pub idle : (c.progress ≡ progress.Idle) × (c.begun ≡ 0) × (c.collect ≡ false) × (c.full ≡ false)
   pub goes_on : c.answered ≡ None
+  pub weakless : c.weaks.list ≡ []
   pub has_words : IsSome c.words
   pub list : c.list.items ≡ (seen c).words
   pub total : length (seen c).words ≡ word_total layout
@@ -110,12 +113,12 @@ module _ (script : Script) (c : Collector) (made : IsMade (layout_of (plan_of sc
   is_new : IsNew (plan_of script) (seen c)
   is_new = record {
     nothing = made.nothing;
-    matches = record { phase = ap phase_in made.idle.0; begun = made.idle.1; collect = made.idle.2; full = refl };
+    matches = record { phase = ap phase_in made.idle.0; begun = made.idle.1; collect = made.idle.2; full = made.idle.3 };
     heap = record {
       places = shared_place ∷ [];
       all = λ p. (place_of_g sizes script.config.segments p, g_has_place sizes script.config.segments p);
       holds = holds;
-      listed = lists_no_weaks sizes (shared_place ∷ []) (length script.threads);
+      listed = subst (λ (l : List OldWeak). ListsWeaks sizes (shared_place ∷ []) (new_world (length script.threads)) (places_of l)) (sym made.weakless) (lists_no_weaks sizes (shared_place ∷ []) (length script.threads));
     };
     at_rest = record {
       nurseries = are_nurseries sizes c.mutators.items made.new (new_world (length script.threads)) made.count;

@@ -1,8 +1,7 @@
 -- What the slices of all mutators leave, by their numbers.
 use Rattle.std.proofs.Common.{ℕ, ◌≡◌, List, length, map, slice_index_or, sym, ap, subst, ◌∙◌, arith, Some}
-use Rattle.std.specs.Prelude.{All, slice_get, option_map}
-use Rattle.std.proofs.lemmas.List.{length-map, get_or-map}
-use Rattle.std.proofs.lemmas.List.Elements.{All-take}
+use Rattle.std.specs.Prelude.{slice_get, option_map}
+use Rattle.std.proofs.lemmas.List.{length-map}
 use Rattle.std.proofs.lemmas.Option.{slice_get-map, slice_get_within, get_or_from_slice_get}
 use Rattle.nmgc_graph.specs.declared.command.Command.{Command}
 use Rattle.nmgc_object.specs.declared.layout.Layout.{Layout}
@@ -11,9 +10,7 @@ use Rattle.nmgc_round.specs.View.{Opening}
 use Rattle.nmgc_round.specs.Seat.{RoundSeat}
 use Rattle.nmgc_round.specs.Seating.{alone}
 use Rattle.nmgc_mutator.specs.declared.mutator.Mutator.{Mutator}
-use Rattle.nmgc_mutator.specs.Ready.{IsBuilt}
 use Rattle.nmgc_mutator.specs.Does.{HasDone}
-use Rattle.nmgc_mutator.specs.Slice.{CanRun}
 use Rattle.nmgc_turn.specs.Rest.{IsResting}
 use Rattle.nmgc_turn.specs.Turn.{SlicesAreDone}
 use Rattle.nmgc_turn.specs.Worked.{Done}
@@ -22,13 +19,13 @@ use Rattle.nmgc_run.specs.Run.{Run}
 use Rattle.nmgc_cycle.specs.declared.collector.Collector.{Collector}
 use Rattle.nmgc_cycle.specs.declared.worker.Worker.{Worker}
 use Rattle.nmgc_cycle.specs.Keeps.{IsStill}
-use Rattle.nmgc_cycle.specs.Stage.{IsStaged}
+use Rattle.nmgc_cycle.specs.Limits.{IsInLimits}
 use Rattle.nmgc_cycle.specs.Working.{left_at, HaveAllWorked, HasWorkedOn, worker_of, workers_of, mutator_of, seat_of}
 use Rattle.nmgc_cycle.proofs.Items.{item, chosen}
 use Rattle.nmgc_cycle.proofs.Opened.{IsOpened}
-use Rattle.nmgc_cycle.proofs.Readiness.{HasSeats, left_runs, seats_counted, seat_alone, workers_at, workers_count}
+use Rattle.nmgc_cycle.proofs.Readiness.{HasSeats, seats_counted, seat_alone, workers_at, workers_count}
 use Rattle.nmgc_cycle.proofs.Resting.{resting, mutators_counted}
-use Rattle.nmgc_cycle.proofs.Slicing.{commands_of, IsSlice, slice_done}
+use Rattle.nmgc_cycle.proofs.Slicing.{IsSlice, slice_done}
 
 -- what worker k did, from what its mutator was
 pub record OneDid (script : Script) (c : Collector) (round : Round) (o : Opening) (k : ℕ) (new : Worker) (done : List Done) : Type 0 where
@@ -42,10 +39,6 @@ pub record AllDid (script : Script) (c : Collector) (round : Round) (o : Opening
   pub count : length done ≡ length new
   pub each : (k : ℕ) (x : Worker) (d : List Done) → slice_get new k ≡ Some x → slice_get done k ≡ Some d → OneDid script c round o k x d
 
--- commands that are all built
-all_built : (words : ℕ) (done : List Done) → All (CanRun words) (commands_of done) → All (λ (x : Done). IsBuilt x.0) done
-all_built words done h k d lt = subst IsBuilt (get_or-map (λ (x : Done). x.0) done k d d.0 lt) (h k d.0 (let count = length-map done (λ (x : Done). x.0) in omega (arith, count, lt))).built
-
 -- an item of a mapped list
 pub mapped : {A B : Type 0} (f : A → B) (xs : List A) (k : ℕ) (y : B) → slice_get (map f xs) k ≡ Some y → (x : A) × (slice_get xs k ≡ Some x) × (y ≡ f x)
 mapped f xs k y e =
@@ -53,7 +46,7 @@ mapped f xs k y e =
     let there : slice_get (map f xs) k ≡ Some (f x.0) = slice_get-map f xs k ∙ ap (option_map f) x.1 in
     (x.0, x.1, cc (e, there))
 
-module _ (script : Script) (c : Collector) (run : Run) (staged : IsStaged script) (still : IsStill script c run) (o : Opening) (op : IsOpened script c run still o) (round : Round) (seats : List RoundSeat) (has : HasSeats o round seats) (new : List Worker) (worked : HaveAllWorked round script c.positions.items (workers_of c.mutators.items seats) new) where
+module _ (script : Script) (c : Collector) (run : Run) (limits : IsInLimits script) (still : IsStill script c run) (o : Opening) (op : IsOpened script c run still o) (round : Round) (seats : List RoundSeat) (has : HasSeats o round seats) (new : List Worker) (worked : HaveAllWorked round script c.positions.items (workers_of c.mutators.items seats) new) where
   old_count : length (workers_of c.mutators.items seats) ≡ length c.mutators.items
   old_count = workers_count c.mutators.items seats (seats_counted c.mutators.items o op.hands_are round seats has)
 
@@ -67,7 +60,7 @@ module _ (script : Script) (c : Collector) (run : Run) (staged : IsStaged script
       let now : slice_index_or new k x ≡ x = get_or_from_slice_get new k x x e in
       let left : List Command = left_at script c.positions.items k in
       let did : HasWorkedOn round script.config.slice left (worker_of (m.0, seat.0)) x = subst (HasWorkedOn round script.config.slice left (worker_of (m.0, seat.0))) now (subst (λ (w : Worker). HasWorkedOn round script.config.slice left w (slice_index_or new k x)) was (worked.each k x (omega (arith, within, count)))) in
-      let nursery : m.0.layout.nursery ≡ script.config.nursery = ap (λ (l : Layout). l.nursery) ((resting script c run staged still k m.0 m.1).layout_is ∙ still.kept.layout) in
+      let nursery : m.0.layout.nursery ≡ script.config.nursery = ap (λ (l : Layout). l.nursery) ((resting script c run limits still k m.0 m.1).layout_is ∙ still.kept.layout) in
       let h = slice_done script.config round o k left m.0 seat.0 x (seat_alone c.mutators.items o op.hands_are round seats has k seat.0 seat.1) nursery did in
       (h.0, record { old = m.0; old_is = m.1; slice = h.1 })
 
@@ -79,8 +72,7 @@ module _ (script : Script) (c : Collector) (run : Run) (staged : IsStaged script
     mutators_are = (count, length-map new mutator_of ∙ new_count ∙ count);
     seats_are = length-map new seat_of ∙ new_count ∙ count;
     done_are = did.count ∙ new_count ∙ count;
-    resting = λ k m e. subst (λ (l : Layout). IsResting l k m) (sym layout) (resting script c run staged still k m e);
-    built = built;
+    resting = λ k m e. subst (λ (l : Layout). IsResting l k m) (sym layout) (resting script c run limits still k m e);
     each = each;
   }
     where
@@ -88,16 +80,10 @@ module _ (script : Script) (c : Collector) (run : Run) (staged : IsStaged script
       layout = op.layout_is
 
       count : length c.mutators.items ≡ o.layout.mutators
-      count = mutators_counted script c run staged still ∙ sym (ap (λ (l : Layout). l.mutators) layout)
+      count = mutators_counted script c run limits still ∙ sym (ap (λ (l : Layout). l.mutators) layout)
 
       new_count : length new ≡ length c.mutators.items
       new_count = worked.count ∙ old_count
-
-      built : (k : ℕ) (d : List Done) → slice_get did.done k ≡ Some d → All (λ (x : Done). IsBuilt x.0) d
-      built k d e =
-          let x = item new k (let within = slice_get_within did.done k d e in let n = did.count in omega (arith, within, n)) in
-          let h = (did.each k x.0 d x.1 e).slice in
-          all_built script.config.words d (subst (All (CanRun script.config.words)) (sym h.first) (All-take (CanRun script.config.words) x.0.done (left_at script c.positions.items k) (left_runs script staged c.positions.items k)))
 
       each : (k : ℕ) (m n : Mutator) (seat : RoundSeat) (d : List Done) → slice_get c.mutators.items k ≡ Some m → slice_get (map mutator_of new) k ≡ Some n → slice_get (map seat_of new) k ≡ Some seat → slice_get did.done k ≡ Some d → HasDone round (alone o k) seat m n d
       each k m n seat d e f g i =

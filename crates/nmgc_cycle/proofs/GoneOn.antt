@@ -1,5 +1,5 @@
 -- What a round leaves of the cycle in progress and of the heap, by what the collector did beside it.
-use Rattle.std.proofs.Common.{◌≡◌, ◌≤◌, List, [], ◌∷◌}
+use Rattle.std.proofs.Common.{◌≡◌, ◌≤◌, List, ◌∷◌}
 use Rattle.nmgc_object.specs.Places.{nursery_place}
 use Rattle.nmgc_alloc.specs.AllocState.{AllocState}
 use Rattle.nmgc_alloc.specs.Reserve as reserve
@@ -10,7 +10,7 @@ use Rattle.nmgc_round.specs.View.{Opening}
 use Rattle.nmgc_turn.specs.Turn.{RoundIsHistory, RoundIsStopped}
 use Rattle.nmgc_script.specs.declared.script.Script.{Script}
 use Rattle.nmgc_beside.specs.Calls.{RoundIsMarking}
-use Rattle.nmgc_beside.specs.Drops.{SweepingRoundHolds, DropKeepsRound, FreeGrows}
+use Rattle.nmgc_beside.specs.Drops.{RoundFreesUntracked, SweptHoldsAfterRound, DropKeepsRound, FreeGrows}
 use Rattle.nmgc_beside.specs.Heaps.{RoundHolds}
 use Rattle.nmgc_beside.specs.Keeps.{PaceAfterRound}
 use Rattle.nmgc_beside.specs.Owed.{MachineGoesOn}
@@ -23,7 +23,7 @@ use Rattle.nmgc_run.specs.State.{Cycle}
 use Rattle.nmgc_run.specs.Sweep.{SweepsBeside}
 use Rattle.nmgc_cycle.specs.declared.collector.Collector.{Collector}
 use Rattle.nmgc_cycle.specs.Keeps.{Sweeps}
-use Rattle.nmgc_cycle.specs.Shown.{phase_in}
+use Rattle.nmgc_cycle.specs.Shown.{seen, phase_in}
 use Rattle.nmgc_cycle.proofs.Opened.{CanOpenRounds}
 use Rattle.nmgc_cycle.proofs.Over.{IsOver, s, w, t, last, shown}
 use Rattle.nmgc_cycle.proofs.RoundOver.{layout}
@@ -37,7 +37,8 @@ pub record HasLaws : Type 0 where
   pub goes_on : MachineGoesOn
   pub is_marking : RoundIsMarking
   pub pace : PaceAfterRound
-  pub swept_holds : SweepingRoundHolds
+  pub frees : RoundFreesUntracked
+  pub swept_holds : SweptHoldsAfterRound
   pub drops : DropKeepsRound
   pub grows : FreeGrows
   pub waits : MarkedWait
@@ -50,7 +51,7 @@ pub record HasGoneOn (script : Script) (c new : Collector) (o : Opening) (x : Is
   pub swept : SweepsBeside script.config.quota (s script c new o x).progress (s script c new o x).allocation blocks
   pub phase : phase_in new.progress ≡ phase_in c.progress
   pub at : List Place
-  pub heap : HoldsAfterRound (layout script c new o x) (s script c new o x) (t script c new o x blocks) at x.did.words new.segments (ends_of (shown script c new o x)) []
+  pub heap : HoldsAfterRound (layout script c new o x) (s script c new o x) (t script c new o x blocks) at x.did.words new.segments (ends_of (shown script c new o x)) (seen c).weaks
   pub nurseries : AreNurseries (layout script c new o x) at (w script c new o x) (nurseries_of (shown script c new o x))
   pub ordered : LieInOrder (nursery_place (layout script c new o x) 0) at
   pub remembers : Remembers (nursery_place (layout script c new o x) 0) ((s script c new o x).world ∷ snapshots (t script c new o x blocks).progress) at (w script c new o x) (recorded_in (shown script c new o x)) (young_weaks_in (shown script c new o x))

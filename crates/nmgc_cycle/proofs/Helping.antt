@@ -19,17 +19,17 @@ use Rattle.nmgc_cycle.specs.declared.progress.Progress.TheVariants as doing
 use Rattle.nmgc_cycle.specs.Cycles.{CanHelp}
 use Rattle.nmgc_cycle.specs.Keeps.{IsStill, Sweeps}
 use Rattle.nmgc_cycle.specs.Shown.{seen, marker_in, sweeper_in}
-use Rattle.nmgc_cycle.specs.Stage.{IsStaged}
+use Rattle.nmgc_cycle.specs.Limits.{IsInLimits}
 use Rattle.nmgc_cycle.specs.Working.{OpensIn}
 use Rattle.nmgc_cycle.proofs.Opened.{CanOpenRounds, in_cycle}
 use Rattle.nmgc_cycle.proofs.Phases.{when_idle, when_marking, when_sweeping}
 
-module _ (laws : CanOpenRounds) (begins : RoundBeginsTied) (script : Script) (c : Collector) (run : Run) (staged : IsStaged script) (still : IsStill script c run) (round : Round) (seat : RoundSeat) (at : IsAt round seat) where
+module _ (laws : CanOpenRounds) (begins : RoundBeginsTied) (script : Script) (c : Collector) (run : Run) (limits : IsInLimits script) (still : IsStill script c run) (round : Round) (seat : RoundSeat) (at : IsAt round seat) where
   -- the marker is tied to the opening's marks
   tied : (k : Cycle) → (last_state run).progress ≡ marking k → (h : IsMarking k (last_state run) (seen c) still.at_stop.heap.places) → seat_seen seat ≡ collecting (whole (opening_beside c.segments.layout h.core still.at_stop.heap.places c.mutators.items)) → IsTied (seat_seen seat).opening (marks_seen (seat_seen seat)) c.segments (seen c).marker
   tied k e h knows =
       let o : Opening = opening_beside c.segments.layout h.core still.at_stop.heap.places c.mutators.items in
-      subst (λ (v : View). IsTied v.opening (marks_seen v) c.segments (seen c).marker) (sym knows) (begins (layout_of (plan_of script)) (last_state run) (seen c).words c.segments _ _ k o (seen c).marker still.at_stop.heap still.kept.sound (in_cycle laws script c run staged still (marking k) e).0 h.machine still.kept.layout refl h.tied)
+      subst (λ (v : View). IsTied v.opening (marks_seen v) c.segments (seen c).marker) (sym knows) (begins (layout_of (plan_of script)) (last_state run) (seen c).words c.segments _ _ k o (seen c).marker still.at_stop.heap still.kept.sound (in_cycle laws script c run limits still (marking k) e).0 h.machine still.kept.layout refl h.tied)
 
   helps : (p : Progress) (o : Opening) → (last_state run).progress ≡ p → OpensIn p (last_state run) c still.at_stop.heap.places o → seat_seen seat ≡ collecting (whole o) → CanHelp round seat c.segments c.progress
   helps idle o e h knows =

@@ -1,17 +1,21 @@
 -- The collector after a round, its replies told: what it keeps, and that it worked.
-use Rattle.std.proofs.Common.{ℕ, ◌≡◌, ◌<◌, List, [], ◌∷◌, ◌++◌, length, map, slice_index, refl, sym, ap, subst, ◌∙◌, arith, Some}
-use Rattle.std.specs.Prelude.{slice_get, slice_index_or}
+use Rattle.std.proofs.Common.{ℕ, ◌≡◌, ◌<◌, ◌≤◌, List, [], ◌∷◌, ◌++◌, length, map, slice_index, refl, sym, ap, subst, ◌∙◌, arith, Some}
+use Rattle.std.specs.Prelude.{slice_get, slice_index_or, vec_capacity}
 use Rattle.std.specs.declared.vec.Vec.{Vec}
 use Rattle.std.proofs.Common.{Global}
 use Rattle.std.proofs.Math.ListN.{get_or-map}
 use Rattle.std.proofs.lemmas.List.{length-map}
 use Rattle.std.proofs.lemmas.Option.{get_or_from_slice_get, slice_get_within}
 use Rattle.nmgc_graph.specs.declared.command.Reply.{Reply}
+use Rattle.nmgc_alloc.specs.Segments.{Segments}
+use Rattle.nmgc_object.specs.FinQueue.{FinQueue}
 use Rattle.nmgc_object.specs.declared.layout.Layout.{Layout}
 use Rattle.nmgc_object.specs.Places.{IsLayout}
 use Rattle.nmgc_journal.specs.declared.report.RoundRows.{RoundRows}
 use Rattle.nmgc_minor.specs.Promotion.{IsFor}
 use Rattle.nmgc_mutator.specs.declared.mutator.Mutator.{Mutator}
+use Rattle.nmgc_round.specs.declared.table.Round.{Round}
+use Rattle.nmgc_round.specs.Seat.{RoundSeat}
 use Rattle.nmgc_round.specs.View.{Opening}
 use Rattle.nmgc_turn.specs.Worked.{Done}
 use Rattle.nmgc_script.specs.declared.script.Script.{Script}
@@ -20,7 +24,11 @@ use Rattle.nmgc_run.specs.Seen as run
 use Rattle.nmgc_run.specs.State.{plan_of}
 use Rattle.nmgc_run.specs.Statements.{answered_count}
 use Rattle.nmgc_cycle.specs.declared.collector.Collector.{Collector}
-use Rattle.nmgc_cycle.specs.Keeps.{IsKept, IsOwn, DidRound}
+use Rattle.nmgc_cycle.specs.declared.progress.Marking.{Marking}
+use Rattle.nmgc_cycle.specs.declared.progress.Progress.{Progress as Doing}
+use Rattle.nmgc_cycle.specs.declared.progress.Progress.TheVariants as doing
+use Rattle.nmgc_cycle.specs.Cycles.{HasHelped}
+use Rattle.nmgc_cycle.specs.Keeps.{HasClosingRoom, IsKept, IsOwn, DidRound}
 use Rattle.nmgc_cycle.specs.Shown.{seen, seen_mutator}
 use Rattle.nmgc_cycle.specs.Working.{cleared}
 use Rattle.nmgc_cycle.proofs.AfterRound.{gone_on, is_after}
@@ -33,13 +41,21 @@ use Rattle.nmgc_cycle.proofs.OwnRows.{replies_in}
 use Rattle.nmgc_cycle.proofs.Plans.{is_layout}
 use Rattle.nmgc_cycle.proofs.Reserved.{sweeps_on}
 use Rattle.nmgc_cycle.proofs.RoundFew.{round_few}
-use Rattle.nmgc_cycle.proofs.RoundWeaks.{weakless_then}
 use Rattle.nmgc_cycle.proofs.Rounded.{one_did, told_is}
 
 -- contracts see no replies of a mutator
 same_cleared : (ms : List Mutator) → map seen_mutator (map cleared ms) ≡ map seen_mutator ms
 same_cleared [] = refl
 same_cleared (m ∷ ms) = ap (λ (l : List run.MutatorSeen). seen_mutator m ∷ l) (same_cleared ms)
+
+-- the list that takes the queues at the closing is as it was
+closing_on : (round : Round) (quota : ℕ) (from seat : RoundSeat) (old new : Segments) (p q : Doing) (count : ℕ) → HasHelped round quota from seat old new p q → HasClosingRoom p count → HasClosingRoom q count
+closing_on round quota from seat old new doing.Idle q count h room = subst (λ (d : Doing). HasClosingRoom d count) (sym h.2) tt
+closing_on round quota from seat old new (doing.Marking m) q count h room =
+    let same : h.0.queues ≡ m.queues = ap (λ (n : Marking). n.queues) h.2.rest in
+    let kept : HasClosingRoom (doing.Marking h.0) count = subst (λ (queues : Vec FinQueue Global). (queues.items ≡ []) × (count ≤ vec_capacity queues)) (sym same) room in
+    subst (λ (d : Doing). HasClosingRoom d count) (sym h.1) kept
+closing_on round quota from seat old new (doing.Sweeping w) q count h room = subst (λ (d : Doing). HasClosingRoom d count) (sym h.1) tt
 
 module _ (laws : HasLaws) (script : Script) (c new : Collector) (o : Opening) (x : IsOver script c new o) (mutators : Vec Mutator Global) (mutators_are : mutators.items ≡ map cleared new.mutators.items) where
   abbrev row : RoundRows
@@ -50,6 +66,9 @@ module _ (laws : HasLaws) (script : Script) (c new : Collector) (o : Opening) (x
 
   seen_is : shown script c new o x ≡ seen after
   seen_is = ap (λ (l : List run.MutatorSeen). record (shown script c new o x) { mutators = l }) (sym (ap (λ (l : List Mutator). map seen_mutator l) mutators_are ∙ same_cleared new.mutators.items))
+
+  same_count : length mutators.items ≡ length c.mutators.items
+  same_count = ap (λ (l : List Mutator). length l) mutators_are ∙ length-map new.mutators.items cleared ∙ mutators_count script c new o x ∙ sym x.still.kept.count
 
   same_layout : new.segments.layout ≡ c.segments.layout
   same_layout = (gone_on laws script c new o x).heap.holds.layout_is ∙ sym x.still.kept.layout
@@ -64,7 +83,7 @@ module _ (laws : HasLaws) (script : Script) (c new : Collector) (o : Opening) (x
         number = number;
         layout = same ∙ sym same_layout;
         whole = record {
-          layout = subst IsLayout (sym (same ∙ x.still.kept.layout)) (is_layout script x.staged);
+          layout = subst IsLayout (sym (same ∙ x.still.kept.layout)) (is_layout script x.limits);
           number =
               let within = slice_get_within new.mutators.items k was.0 was.1 in
               let count = (worked script c new o x).mutators_are in
@@ -93,7 +112,7 @@ module _ (laws : HasLaws) (script : Script) (c new : Collector) (o : Opening) (x
     lists = subst (λ (l : Layout). IsFor l c.promotion) (sym same_layout) x.still.kept.lists;
     has_words = refl;
     list = x.still.kept.list ∙ x.still.at_stop.heap.holds.represents.total ∙ sym (gone_on laws script c new o x).heap.holds.represents.total;
-    count = ap (λ (l : List Mutator). length l) mutators_are ∙ length-map new.mutators.items cleared ∙ mutators_count script c new o x;
+    count = same_count ∙ x.still.kept.count;
     own = own;
     positions_are = x.did.positions_are ∙ x.still.kept.positions_are;
     positions = position_is;
@@ -113,9 +132,9 @@ module _ (laws : HasLaws) (script : Script) (c new : Collector) (o : Opening) (x
           history = rows script c new o x;
           worked = t script c new o x g.blocks;
           after = is;
-          weakless = weakless_then laws.stopped script c new o x g.blocks;
+          closing = closing_on x.did.helped.round script.config.quota x.did.helped.from x.did.helped.seat c.segments new.segments c.progress new.progress (length mutators.items) x.did.helped.helped (subst (HasClosingRoom c.progress) (sym same_count) x.still.closing);
           sweeper = sweeps_on (t script c new o x g.blocks).progress (t script c new o x g.blocks) (last script c new o x) mutators g.sweeper;
-          few = round_few script c after x.run (told script c new o x) (rows script c new o x) (t script c new o x g.blocks) x.staged x.still is x.did.helped.round x.did.helped.from x.did.helped.seat x.did.helped.helped;
+          few = round_few script c after x.run (told script c new o x) (rows script c new o x) (t script c new o x g.blocks) x.limits x.still is x.did.helped.round x.did.helped.from x.did.helped.seat x.did.helped.helped;
         },
         x.still,
       )

@@ -1,3 +1,8 @@
+mod ListOver
+mod Lists
+mod QueueRoom
+mod Queued
+mod Reserved
 pub mod Adding
 pub mod AddingLeads
 pub mod AfterPromotion
@@ -10,18 +15,22 @@ pub mod Empty
 pub mod Ending
 pub mod EnoughFree
 pub mod Few
+pub mod Filing
 pub mod FinishingLeads
 pub mod Fresh
+pub mod FullCycle
+pub mod FullFew
 pub mod Gathering
 pub mod GivenBack
 pub mod GoneOn
 pub mod Helping
 pub mod Items
 pub mod KeptAfter
-pub mod Lists
+pub mod ListedLeft
 pub mod Mapped
 pub mod MarkedBeside
 pub mod Measures
+pub mod MovedWeaks
 pub mod MutatorLists
 pub mod NewStops
 pub mod News
@@ -34,18 +43,16 @@ pub mod Phases
 pub mod Plans
 pub mod Played
 pub mod Positions
-pub mod Prepared
 pub mod PreparedSegments
 pub mod Promoting
+pub mod QueueLists
 pub mod Ran
 pub mod Readiness
-pub mod Reserved
 pub mod Reserving
 pub mod Resting
 pub mod RootLists
 pub mod RoundFew
 pub mod RoundOver
-pub mod RoundWeaks
 pub mod RoundWorked
 pub mod Rounded
 pub mod SameSeen
@@ -62,6 +69,7 @@ pub mod StopNumbers
 pub mod StopPlaces
 pub mod StopSteps
 pub mod Stopped
+pub mod SweepingRest
 pub mod SweptBeside
 pub mod Taking
 pub mod Told
@@ -69,4 +77,3 @@ pub mod Unused
 pub mod Views
 pub mod WhatIsLeft
 pub mod WholeStop
-pub mod WorldKept

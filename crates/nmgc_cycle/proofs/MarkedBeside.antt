@@ -1,8 +1,9 @@
 -- A round beside which a cycle marked, or no cycle was in progress: blocks and places are those of the stop, and what was born.
-use Rattle.std.proofs.Common.{◌≡◌, ◌≤◌, ◌⊎◌, ◌↔◌, [], refl, sym, ap, subst, ◌∙◌, inl, inr, arith, true}
+use Rattle.std.proofs.Common.{◌≡◌, ◌≤◌, ◌⊎◌, ◌↔◌, List, [], refl, sym, ap, subst, ◌∙◌, inl, inr, arith, true}
 use Rattle.std.proofs.lemmas.Bool.{cases_lt}
 use Rattle.nmgc_core.specs.State.{State as Core}
 use Rattle.nmgc_reach.specs.Reachable.{IsSound}
+use Rattle.nmgc_graph.specs.declared.value.Name.{Name}
 use Rattle.nmgc_graph.specs.World.{World}
 use Rattle.nmgc_segment.specs.declared.state.State.TheVariants as stands
 use Rattle.nmgc_alloc.specs.AllocState.{StandsFor}
@@ -20,7 +21,7 @@ use Rattle.nmgc_beside.specs.Owed.{GoesOn}
 use Rattle.nmgc_beside.specs.Rest.{IsMachineAtRest, with_rows}
 use Rattle.nmgc_sweep.specs.Sweeper.{Sweeper, HasNotes, AreLeft, numbers_of}
 use Rattle.nmgc_run.specs.Census.{interval_of}
-use Rattle.nmgc_run.specs.Collector.{HoldsInCycle, IsMarking, IsPacedAtStop, IsPacedAfterRound, weaks_of}
+use Rattle.nmgc_run.specs.Collector.{HoldsInCycle, IsMarking, IsPacedAtStop, IsPacedAfterRound}
 use Rattle.nmgc_run.specs.Course.{IsInCourse, IsLastBegun}
 use Rattle.nmgc_run.specs.Marks.{AreSettled}
 use Rattle.nmgc_run.specs.Round.{noted}
@@ -36,12 +37,12 @@ use Rattle.nmgc_cycle.specs.declared.progress.Progress as held
 use Rattle.nmgc_cycle.specs.declared.progress.Progress.TheVariants as doing
 use Rattle.nmgc_cycle.specs.Cycles.{HasHelped, HasScanned}
 use Rattle.nmgc_cycle.specs.Keeps.{Sweeps}
-use Rattle.nmgc_cycle.specs.Shown.{seen, seen_mutator, phase_in, marker_in, work_in, sweeper_in, cycle_in}
+use Rattle.nmgc_cycle.specs.Shown.{seen, seen_mutator, died, phase_in, marker_in, work_in, sweeper_in, cycle_in}
 use Rattle.nmgc_cycle.specs.Working.{OpensIn}
 use Rattle.nmgc_cycle.proofs.Gathering.{mapped}
 use Rattle.nmgc_cycle.proofs.GoneOn.{HasLaws, HasGoneOn}
 use Rattle.nmgc_cycle.proofs.Opened.{in_cycle, rests_beside}
-use Rattle.nmgc_cycle.proofs.Over.{IsOver, plan, s, w, t, rows, places, told, last, shown, view, worked, can}
+use Rattle.nmgc_cycle.proofs.Over.{IsOver, plan, s, w, t, rows, places, told, last, shown, view, worked, can, queue_kept}
 use Rattle.nmgc_cycle.proofs.Phases.{when_idle, when_marking}
 use Rattle.nmgc_cycle.proofs.Plans.{sound_state}
 use Rattle.nmgc_cycle.proofs.RoundOver.{layout, opening_layout, nurseries_left, in_order, remembered, round_from}
@@ -76,7 +77,7 @@ module _ (laws : HasLaws) (script : Script) (c new : Collector) (o : Opening) (x
       swept = subst (λ (p : Progress). SweepsBeside script.config.quota p (s script c new o x).allocation (s script c new o x).allocation) (sym e) refl;
       phase = ap phase_in (nothing.2 ∙ sym is_idle);
       at = places script c new o x;
-      heap = laws.holds (layout script c new o x) (s script c new o x) (t script c new o x (s script c new o x).allocation) o (seen c).words x.did.words (view script c new o x) c.segments new.segments (ends_of (seen c)) (ends_of (shown script c new o x)) [] (round_from script c new o x laws.stopped new.segments same_layout stands_still);
+      heap = laws.holds (layout script c new o x) (s script c new o x) (t script c new o x (s script c new o x).allocation) o (seen c).words x.did.words (view script c new o x) c.segments new.segments (ends_of (seen c)) (ends_of (shown script c new o x)) (seen c).weaks (round_from script c new o x laws.stopped new.segments same_layout stands_still);
       nurseries = nurseries_left script c new o x laws.stopped;
       ordered = in_order script c new o x laws.stopped;
       remembers = remembered script c new o x laws.stopped;
@@ -121,8 +122,10 @@ module _ (laws : HasLaws) (script : Script) (c new : Collector) (o : Opening) (x
     same_sweeper : sweeper_in new.progress ≡ sweeper_in c.progress
     same_sweeper = ap sweeper_in did.1 ∙ ap (λ (y : held_marking.Marking). y.sweeper) did.2.rest ∙ sym (ap sweeper_in before.1)
 
-    same_cycle : cycle_in new.progress ≡ cycle_in c.progress
-    same_cycle = ap cycle_in did.1 ∙ ap (λ (y : held_marking.Marking). cycle_in (doing.Marking y)) did.2.rest ∙ sym (ap cycle_in before.1)
+    same_cycle : (shown script c new o x).cycle ≡ (seen c).cycle
+    same_cycle =
+        let dead : List Name = died c.weaks.deaths in
+        ap (λ (q : held.Progress). cycle_in q dead) did.1 ∙ ap (λ (y : held_marking.Marking). cycle_in (doing.Marking y) dead) did.2.rest ∙ sym (ap (λ (q : held.Progress). cycle_in q dead) before.1)
 
     marked : HasMarked c.segments new.segments (seen c).marker (shown script c new o x).marker n.last.scanned
     marked =
@@ -154,34 +157,38 @@ module _ (laws : HasLaws) (script : Script) (c new : Collector) (o : Opening) (x
     at_rest : IsMachineAtRest k o.core.world o.core
     at_rest =
         subst (λ (core : Core). IsMachineAtRest k core.world core) (sym same_core)
-        (subst (λ (world : World). IsMachineAtRest k world opens.0.core) (sym opens.0.machine.world_is) (rests_beside laws.opens script c x.run x.staged x.still k e opens.0).machine)
+        (subst (λ (world : World). IsMachineAtRest k world opens.0.core) (sym opens.0.machine.world_is) (rests_beside laws.opens script c x.run x.limits x.still k e opens.0).machine)
 
     goes_on : (core : Core) × GoesOn k o x.did.words (view script c new o x) x.did.leaves.0 new.mutators.items core
     goes_on = laws.goes_on k o x.before x.did.words (view script c new o x) new.mutators.items x.did.done (ap (λ (y : Opening). y.marking) opens.1) (can script c new o x) at_rest x.did.leaves.0 (worked script c new o x) x.did.owed
 
     snapshot : o.core.snapshot ≡ k.snapshot
-    snapshot = ap (λ (core : Core). core.snapshot) same_core ∙ laws.opens.snapshot k (s script c new o x).world opens.0.core (in_cycle laws.opens script c x.run x.staged x.still (marking k) e).0 opens.0.machine
+    snapshot = ap (λ (core : Core). core.snapshot) same_core ∙ laws.opens.snapshot k (s script c new o x).world opens.0.core (in_cycle laws.opens script c x.run x.limits x.still (marking k) e).0 opens.0.machine
 
     swept_none : SweepsBeside script.config.quota (s script c new o x).progress (s script c new o x).allocation (s script c new o x).allocation
     swept_none = subst (λ (p : Progress). SweepsBeside script.config.quota p (s script c new o x).allocation (s script c new o x).allocation) (sym e) refl
 
     sound : IsSound (interval_of (with_rows k (rows script c new o x)))
     sound =
-        let h = rounds_are_sound (plan script c new o x) (s script c new o x) (t script c new o x (s script c new o x).allocation) (told script c new o x) (rows script c new o x) (sound_state script c x.run x.staged x.still) (is_round script c new o x laws.history (s script c new o x).allocation swept_none) in
+        let h = rounds_are_sound (plan script c new o x) (s script c new o x) (t script c new o x (s script c new o x).allocation) (told script c new o x) (rows script c new o x) (sound_state script c x.run x.limits x.still) (is_round script c new o x laws.history (s script c new o x).allocation swept_none) in
         (subst (λ (p : Progress). IsInCycle (noted p (rows script c new o x)) (w script c new o x) (s script c new o x).allocation) e h.cycle).0
 
     left_as : HasLeft k (seen c) (shown script c new o x)
     left_as = record {
       cycle = same_cycle;
       sweeper = ap (λ (y : Sweeper). y.seen) same_sweeper;
-      queue_room = λ i mutator is. let none : weaks_of k.snapshot i [] ≡ 0 = refl in omega (arith, none);
+      queue_room = λ i mutator is.
+          let h = queue_kept script c new o x i mutator is in
+          let before = was_marking.queue_room i (seen_mutator h.0) h.1 in
+          let kept = h.2 in
+          omega (arith, before, kept);
     }
 
     entries : ShowEntries (shown script c new o x) new.mutators.items
     entries i mutator is = let h = mapped seen_mutator new.mutators.items i mutator is in (h.0, h.1, ap (λ (y : MutatorSeen). y.entries) h.2)
 
     marks_on : IsMarking (with_rows k (rows script c new o x)) (t script c new o x (s script c new o x).allocation) (shown script c new o x) (places script c new o x)
-    marks_on = laws.is_marking (layout script c new o x) k (s script c new o x) (t script c new o x (s script c new o x).allocation) (seen c) (shown script c new o x) (seen c).words x.did.words (ends_of (seen c)) [] o x.did.scans x.did.seats new.mutators.items x.did.done goes_on.0 n.last.scanned x.still.at_stop.heap x.did.leaves.0 x.did.sound sound opens.0 (opening_layout script c new o x) x.op.places_are snapshot refl refl x.did.gathers goes_on.1 marked tied left_as entries
+    marks_on = laws.is_marking (layout script c new o x) k (s script c new o x) (t script c new o x (s script c new o x).allocation) (seen c) (shown script c new o x) (seen c).words x.did.words (ends_of (seen c)) (seen c).weaks o x.did.scans x.did.seats new.mutators.items x.did.done goes_on.0 n.last.scanned x.still.at_stop.heap x.did.leaves.0 x.did.sound sound opens.0 (opening_layout script c new o x) x.op.places_are snapshot refl refl x.did.gathers goes_on.1 marked tied left_as entries
 
     -- the pace
     paced_before : IsPacedAtStop script.config.quota k (s script c new o x) (seen c)
@@ -210,7 +217,7 @@ module _ (laws : HasLaws) (script : Script) (c new : Collector) (o : Opening) (x
 
     paced : IsPacedAfterRound script.config.quota k (t script c new o x (s script c new o x).allocation) (shown script c new o x)
     paced =
-        let some = x.staged.fits.config.some_quota in
+        let some = x.limits.fits.config.some_quota in
         let most = did.2.most in
         let pace = marked.scanned.pace in
         laws.pace script.config.quota k (s script c new o x) (t script c new o x (s script c new o x).allocation) (seen c) (shown script c new o x) some paced_before course.from_before refl (omega (arith, pace, scanned_is)) marked.scanned.grows (omega (arith, scanned_is, most)) all_or_none empty_where
@@ -250,7 +257,7 @@ module _ (laws : HasLaws) (script : Script) (c new : Collector) (o : Opening) (x
       swept = swept_none;
       phase = ap phase_in did.1 ∙ sym (ap phase_in before.1);
       at = places script c new o x;
-      heap = laws.holds (layout script c new o x) (s script c new o x) (t script c new o x (s script c new o x).allocation) o (seen c).words x.did.words (view script c new o x) c.segments new.segments (ends_of (seen c)) (ends_of (shown script c new o x)) [] (round_from script c new o x laws.stopped new.segments same_layout stands_still);
+      heap = laws.holds (layout script c new o x) (s script c new o x) (t script c new o x (s script c new o x).allocation) o (seen c).words x.did.words (view script c new o x) c.segments new.segments (ends_of (seen c)) (ends_of (shown script c new o x)) (seen c).weaks (round_from script c new o x laws.stopped new.segments same_layout stands_still);
       nurseries = nurseries_left script c new o x laws.stopped;
       ordered = in_order script c new o x laws.stopped;
       remembers = remembered script c new o x laws.stopped;

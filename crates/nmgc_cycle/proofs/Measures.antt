@@ -19,7 +19,7 @@ use Rattle.nmgc_run.specs.Statements.{answered_count}
 use Rattle.nmgc_run.specs.laws.Lefts.{slice_count}
 use Rattle.nmgc_run.specs.laws.Limits.{scripts_have_good_plans}
 use Rattle.nmgc_cycle.specs.Bound.{left_from, commands_left}
-use Rattle.nmgc_cycle.specs.Stage.{IsStaged}
+use Rattle.nmgc_cycle.specs.Limits.{IsInLimits}
 
 -- where more were answered of each, no more are left
 no_more : (old new : ℕ → ℕ) (m : ℕ) (programs : List (List Command)) → ((k : ℕ) → old k ≤ new k) → left_from new m programs ≤ left_from old m programs
@@ -99,16 +99,16 @@ nothing_left plan s answered left none m =
     omega (arith, all, rest, same)
 
 -- where some are left, a round leaves fewer
-pub round_falls : (script : Script) (s t : State) (replies : List (List Reply)) (rows : List Row) (answered : ℕ → ℕ) → IsStaged script → IsRound script.config s replies rows t → AreLeft (plan_of script) s answered → 1 ≤ left_from answered 0 script.threads → left_from (λ m. answered m + length (slice_index_or replies m [])) 0 script.threads < left_from answered 0 script.threads
-round_falls script s t replies rows answered staged round left some =
+pub round_falls : (script : Script) (s t : State) (replies : List (List Reply)) (rows : List Row) (answered : ℕ → ℕ) → IsInLimits script → IsRound script.config s replies rows t → AreLeft (plan_of script) s answered → 1 ≤ left_from answered 0 script.threads → left_from (λ m. answered m + length (slice_index_or replies m [])) 0 script.threads < left_from answered 0 script.threads
+round_falls script s t replies rows answered limits round left some =
     let one = some_left answered 0 script.threads some in
     let j : ℕ = one.0 in
     let at : one.1 ≡ j = (let e = one.2 in omega (arith, e)) in
     let has : answered j < length (program_of script.threads j) = subst (λ (k : ℕ). answered k < length (program_of script.threads j)) at one.3 in
     let dropped = length-drop (answered j) (program_of script.threads j) in
     let same = ap (λ (commands : List Command). length commands) (left j) in
-    let own : All (Fits script.config.words) (program_of s.left j) = subst (All (Fits script.config.words)) (sym (left j)) (All-drop (Fits script.config.words) (answered j) (program_of script.threads j) ((scripts_have_good_plans script staged.fits).fit j)) in
-    let done = has_slice script.config (program_of s.left j) staged.fits.config.some_slice staged.fits.config.some_nursery own (omega (arith, has, dropped, same)) in
+    let own : All (Fits script.config.words) (program_of s.left j) = subst (All (Fits script.config.words)) (sym (left j)) (All-drop (Fits script.config.words) (answered j) (program_of script.threads j) ((scripts_have_good_plans script limits.fits).fit j)) in
+    let done = has_slice script.config (program_of s.left j) limits.fits.config.some_slice limits.fits.config.some_nursery own (omega (arith, has, dropped, same)) in
     let count = slice_count script.config s t replies rows j round in
     let rose : answered j < answered j + length (slice_index_or replies j []) = omega (arith, done, count) in
     fewer answered (λ m. answered m + length (slice_index_or replies m [])) 0 j j script.threads (omega arith) (λ m. omega arith) has rose
@@ -130,6 +130,6 @@ unfolding commands_left
 left_is threads rounds = refl
 
 -- a run has no more commands than these
-pub commands_most : (script : Script) → IsStaged script → (rounds : List RoundRows) → commands_left script.threads rounds ≤ length script.threads * most_script_bytes
+pub commands_most : (script : Script) → IsInLimits script → (rounds : List RoundRows) → commands_left script.threads rounds ≤ length script.threads * most_script_bytes
 unfolding commands_left
-commands_most script staged rounds = left_most (answered_count rounds) 0 script.threads staged.few
+commands_most script limits rounds = left_most (answered_count rounds) 0 script.threads limits.few

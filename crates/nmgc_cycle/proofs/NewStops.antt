@@ -1,16 +1,11 @@
 -- A new collector has what the promotion of its first stop asks: nothing was made yet.
-use Rattle.std.proofs.Common.{ℕ, ◌≡◌, ◌<◌, ◌≤◌, List, [], ◌∷◌, arith, refl, sym, subst, inl, inr, Some}
+use Rattle.std.proofs.Common.{ℕ, ◌≡◌, ◌<◌, ◌≤◌, List, [], ◌∷◌, arith, sym, subst, inl, inr}
 use Rattle.std.specs.Prelude.{Contains}
-use Rattle.nmgc_graph.specs.declared.value.Name.{Name}
-use Rattle.nmgc_graph.specs.declared.node.Node.{Node}
-use Rattle.nmgc_graph.specs.declared.node.Node.TheVariants.{Weak}
-use Rattle.nmgc_graph.specs.World.{World, IsWorld, node_of, new_world}
+use Rattle.nmgc_graph.specs.World.{World, IsWorld, node_of}
 use Rattle.nmgc_graph.specs.Reach.{IsBefore}
 use Rattle.nmgc_graph.specs.laws.Orders.{contains_cases}
-use Rattle.nmgc_graph.specs.laws.Worlds.{at_some}
 use Rattle.nmgc_reach.specs.laws.HeldSteps.{absent}
 use Rattle.nmgc_reach.specs.laws.ItemLaws.{nothing_in, place_of, flat_contains}
-use Rattle.nmgc_reach.specs.laws.NewWorlds.{new_nodes}
 use Rattle.nmgc_reach.specs.laws.Reached.{world_holds}
 use Rattle.nmgc_object.specs.declared.layout.Layout.{Layout}
 use Rattle.nmgc_object.specs.Places.{nursery_place}
@@ -25,19 +20,14 @@ use Rattle.nmgc_blocks.specs.Remembers.{Remembers}
 use Rattle.nmgc_blocks.specs.Stopped.{Stopped, IsStopped, IsRoundOf}
 use Rattle.nmgc_run.specs.Collector.{AreAtRest}
 use Rattle.nmgc_run.specs.Heap.{HoldsAtStop, registers_of, queues_of, serials_of, snapshots}
-use Rattle.nmgc_run.specs.Seen.{Seen, MutatorSeen, ends_of, nurseries_of, recorded_in}
+use Rattle.nmgc_run.specs.Seen.{Seen, MutatorSeen, ends_of, nurseries_of, recorded_in, young_weaks_in}
 use Rattle.nmgc_run.specs.State.{Plan, State, start, layout_of}
 use Rattle.nmgc_run.specs.laws.Places.{blocks_at_stop}
-use Rattle.nmgc_cycle.specs.Keeps.{HasNoWeak}
 use Rattle.nmgc_cycle.proofs.StopPlaces.{places_low}
 
 -- the heap of a state, at a stop that follows this world
 abbrev pub stopped_in : World → State → List Place → Seen → Stopped
 stopped_in began s places seen = record { world = s.world; began = began; later = snapshots s.progress; places = places; serials = serials_of (ends_of seen) }
-
--- g alone is there
-pub new_weakless : (count : ℕ) → HasNoWeak (new_world count)
-new_weakless count weak parts alive = at_some (node_of (new_world count) weak) (Weak (Some parts)) (λ (node : Node). node ≡ Weak (Some parts) → ⊥) alive (new_nodes (λ (name : Name) (node : Node). node ≡ Weak (Some parts) → ⊥) (λ e. cc) count weak) refl
 
 module _ (plan : Plan) (seen : Seen)
     (is : IsWorld (start plan).world)
@@ -75,15 +65,22 @@ module _ (plan : Plan) (seen : Seen)
       let i = place_of seen.mutators m.0 m.1 in
       nothing_in at (subst (λ (l : List ℕ). Contains l at) (rest.nothing i.0 m.0 i.1).recorded m.2)
 
-  left : Remembers base (w ∷ []) h.places w (recorded_in seen) []
+  -- and no weak pointer was made
+  none_young : (at : ℕ) → Contains (young_weaks_in seen) at → ⊥
+  none_young at c =
+      let m = flat_contains (λ (m : MutatorSeen). m.young_weaks) seen.mutators at c in
+      let i = place_of seen.mutators m.0 m.1 in
+      nothing_in at (subst (λ (l : List ℕ). Contains l at) (rest.nothing i.0 m.0 i.1).young_weaks m.2)
+
+  left : Remembers base (w ∷ []) h.places w (recorded_in seen) (young_weaks_in seen)
   left = record {
     fields = λ at c. absurd (none_recorded at c);
     all_fields = λ p q node i there below other tracked known holds found high. absurd (low q found high);
-    weak_places = λ at c. absurd (nothing_in at c);
+    weak_places = λ at c. absurd (none_young at c);
     all_weaks = λ p parts c high alive. absurd (low p c high);
   }
 
-  pub new_stopped : IsStopped at_stop seen.segments seen.words (nurseries_of seen) (registers_of (ends_of seen)) (queues_of (ends_of seen)) (recorded_in seen) []
+  pub new_stopped : IsStopped at_stop seen.segments seen.words (nurseries_of seen) (registers_of (ends_of seen)) (queues_of (ends_of seen)) (recorded_in seen) (young_weaks_in seen)
   new_stopped =
       let layout : layout_of plan ≡ seen.segments.layout = sym h.holds.layout_is in
       record {
@@ -95,6 +92,6 @@ module _ (plan : Plan) (seen : Seen)
         blocks = subst (λ (l : Layout). AreBlocks seen.segments (nursery_place l 0) h.places w) layout (blocks_at_stop (layout_of plan) (start plan) seen.words seen.segments (ends_of seen) seen.weaks h);
         used = subst (λ (l : Layout). AreUsed l (nursery_place l 0) h.places w (nurseries_of seen)) layout rest.nurseries.used;
         order = subst (λ (l : Layout). (a b : Place) → Contains h.places a → Contains h.places b → nursery_place l 0 ≤ a.at → a.at < b.at → IsBefore a.name b.name) layout (λ a b c d high. absurd (low a c high));
-        left = subst (λ (l : Layout). Remembers (nursery_place l 0) (w ∷ []) h.places w (recorded_in seen) []) layout left;
+        left = subst (λ (l : Layout). Remembers (nursery_place l 0) (w ∷ []) h.places w (recorded_in seen) (young_weaks_in seen)) layout left;
         reserve = inr rest.empty;
       }

@@ -1,5 +1,5 @@
 -- A round in which no command is left: nothing is done, nothing is born, and no cycle is asked for.
-use Rattle.std.proofs.Common.{ℕ, ◌≡◌, ◌+◌, ◌<◌, List, [], ◌∷◌, length, cond, refl, sym, ap, subst, ◌∙◌, arith, Bool, true, false, slice_index_or, eqb}
+use Rattle.std.proofs.Common.{ℕ, ◌≡◌, ◌<◌, List, [], ◌∷◌, length, cond, refl, sym, ap, subst, ◌∙◌, arith, Bool, true, false, slice_index_or, eqb}
 use Rattle.std.specs.Prelude.{◌||◌, nat_lt}
 use Rattle.std.specs.List.{list_any}
 use Rattle.std.proofs.Math.ListN.{get_or-map}
@@ -7,7 +7,6 @@ use Rattle.std.proofs.lemmas.Bool.{ltb-true, eq-eqb}
 use Rattle.std.proofs.lemmas.List.{get_or_default}
 use Rattle.std.proofs.lemmas.List.Folds.{Any-from_list_any}
 use Rattle.nmgc_graph.specs.History.{Row, IsOrderOf, rows_of, replayed}
-use Rattle.nmgc_graph.specs.World.{World}
 use Rattle.nmgc_graph.specs.declared.command.Command.{Command}
 use Rattle.nmgc_graph.specs.declared.command.Reply.{Reply}
 use Rattle.nmgc_alloc.specs.AllocState.{AllocState, SweepsEach}
@@ -15,7 +14,7 @@ use Rattle.nmgc_script.specs.declared.script.Config.{Config}
 use Rattle.nmgc_run.specs.Census.{IsKeptIn}
 use Rattle.nmgc_run.specs.Round.{IsRound, answered, own_rows}
 use Rattle.nmgc_run.specs.Slice.{slice_of, slices, some_asks, is_collect, has_left, program_of}
-use Rattle.nmgc_run.specs.State.{State, Progress, idle, marking, sweeping, Cycle}
+use Rattle.nmgc_run.specs.State.{State, Progress, idle, marking, sweeping}
 use Rattle.nmgc_run.specs.Sweep.{SweepsBeside}
 use Rattle.nmgc_graph.specs.declared.value.Name.{Name}
 

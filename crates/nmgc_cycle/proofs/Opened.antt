@@ -21,7 +21,7 @@ use Rattle.nmgc_beside.specs.Tie.{CoreHasSnapshot}
 use Rattle.nmgc_cycle.specs.declared.collector.Collector.{Collector}
 use Rattle.nmgc_cycle.specs.Keeps.{IsStill, HasStopped}
 use Rattle.nmgc_cycle.specs.Shown.{seen, words_in, is_marking_in}
-use Rattle.nmgc_cycle.specs.Stage.{IsStaged}
+use Rattle.nmgc_cycle.specs.Limits.{IsInLimits}
 use Rattle.nmgc_cycle.specs.Working.{OpensIn, OpensAt}
 use Rattle.nmgc_cycle.proofs.Phases.{is_marking_phase, marks_by_phase}
 use Rattle.nmgc_cycle.proofs.Plans.{sound_state}
@@ -56,7 +56,7 @@ opening_there script c (run, still) =
     let h = some_opening _ (last_state run).progress (last_state run) c still.at_stop.heap.places still.at_stop.cycle in
     (h.0, (run, still, h.1))
 
-module _ (laws : CanOpenRounds) (script : Script) (c : Collector) (run : Run) (staged : IsStaged script) (still : IsStill script c run) where
+module _ (laws : CanOpenRounds) (script : Script) (c : Collector) (run : Run) (limits : IsInLimits script) (still : IsStill script c run) where
   -- whether it is marking
   marks_with : (p : Progress) → (last_state run).progress ≡ p → is_marking_phase (phase_of p) ≡ is_marking_in c.progress
   marks_with p e = sym (marks_by_phase c.progress ∙ ap is_marking_phase (still.at_stop.matches.phase ∙ ap phase_of e))
@@ -75,16 +75,16 @@ module _ (laws : CanOpenRounds) (script : Script) (c : Collector) (run : Run) (s
         places_are = refl;
         hands_are = refl;
         spoken = sym none_spoken;
-        can = λ words is. laws.quiet c.segments still.at_stop.heap.places (last_state run).world words c.mutators.items (still_rests script c run staged still none_spoken words is);
+        can = λ words is. laws.quiet c.segments still.at_stop.heap.places (last_state run).world words c.mutators.items (still_rests script c run limits still none_spoken words is);
         past = λ x h. absurd (nothing_in x h);
       }
 
   -- and where one does
   pub rests_beside : (k : Cycle) → (last_state run).progress ≡ marking k → (h : IsMarking k (last_state run) (seen c) still.at_stop.heap.places) → beside.IsAtRest k h.core c.segments still.at_stop.heap.places (last_state run).world (seen c).words c.mutators.items (seen c).marker.queue
-  rests_beside k e h = (laws.rests (plan_of script) (last_state run) (seen c) k c.mutators.items (sound_state script c run staged still) still.at_stop.heap still.at_stop.at_rest e h still.kept.sound shown_are).0
+  rests_beside k e h = (laws.rests (plan_of script) (last_state run) (seen c) k c.mutators.items (sound_state script c run limits still) still.at_stop.heap still.at_stop.at_rest e h still.kept.sound shown_are).0
 
   pub in_cycle : (p : Progress) → (last_state run).progress ≡ p → IsInCycle p (last_state run).world (last_state run).allocation
-  in_cycle p e = subst (λ (q : Progress). IsInCycle q (last_state run).world (last_state run).allocation) e (sound_state script c run staged still).cycle
+  in_cycle p e = subst (λ (q : Progress). IsInCycle q (last_state run).world (last_state run).allocation) e (sound_state script c run limits still).cycle
 
   beside_cycle : (k : Cycle) → (last_state run).progress ≡ marking k → (h : IsMarking k (last_state run) (seen c) still.at_stop.heap.places) → IsOpened script c run still (beside.opening_beside c.segments.layout h.core still.at_stop.heap.places c.mutators.items)
   beside_cycle k e h =
@@ -107,5 +107,5 @@ module _ (laws : CanOpenRounds) (script : Script) (c : Collector) (run : Run) (s
   opened_in (sweeping k closed) o e h = subst (IsOpened script c run still) (sym h) (quiet (sweeping k closed) e refl refl)
 
 -- the opening of a stop is one
-pub opened : CanOpenRounds → (script : Script) (c : Collector) (o : Opening) → IsStaged script → (h : OpensAt script c o) → IsOpened script c h.0 h.1 o
-opened laws script c o staged (run, still, is) = opened_in laws script c run staged still (last_state run).progress o refl is
+pub opened : CanOpenRounds → (script : Script) (c : Collector) (o : Opening) → IsInLimits script → (h : OpensAt script c o) → IsOpened script c h.0 h.1 o
+opened laws script c o limits (run, still, is) = opened_in laws script c run limits still (last_state run).progress o refl is

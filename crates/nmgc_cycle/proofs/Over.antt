@@ -1,5 +1,5 @@
 -- A round that is over: what it began with, what it did, and the state of the run after it.
-use Rattle.std.proofs.Common.{ℕ, ◌≡◌, ◌+◌, List, [], ◌∷◌, ◌++◌, length, map, sym, ap, ◌∙◌, arith, Some, None}
+use Rattle.std.proofs.Common.{ℕ, ◌≡◌, ◌+◌, ◌≤◌, List, [], ◌∷◌, ◌++◌, length, map, sym, ap, ◌∙◌, arith, Some, None}
 use Rattle.std.specs.Prelude.{slice_get, ◌||◌}
 use Rattle.std.proofs.lemmas.Option.{slice_get_within}
 use Rattle.nmgc_graph.specs.World.{World}
@@ -24,15 +24,17 @@ use Rattle.nmgc_run.specs.Slice.{slices, rest_of, some_asks, is_collect, is_full
 use Rattle.nmgc_run.specs.State.{State, Plan, plan_of}
 use Rattle.nmgc_cycle.specs.declared.collector.Collector.{Collector}
 use Rattle.nmgc_cycle.specs.Keeps.{IsStill}
-use Rattle.nmgc_cycle.specs.Shown.{seen}
-use Rattle.nmgc_cycle.specs.Stage.{IsStaged}
+use Rattle.nmgc_cycle.specs.Shown.{seen, seen_mutator}
+use Rattle.nmgc_cycle.specs.Limits.{IsInLimits}
 use Rattle.nmgc_cycle.specs.Working.{OpensIn, DidSlice, DidSlices, replies_of}
+use Rattle.nmgc_cycle.proofs.Gathering.{mapped}
 use Rattle.nmgc_cycle.proofs.Items.{item}
 use Rattle.nmgc_cycle.proofs.Opened.{IsOpened}
+use Rattle.nmgc_cycle.proofs.RootLists.{seen_at}
 
 -- a round after this stop is over, and may be followed by a stop
 pub record IsOver (script : Script) (c new : Collector) (o : Opening) : Type 0 where
-  pub staged : IsStaged script
+  pub limits : IsInLimits script
   pub run : Run
   pub still : IsStill script c run
   pub goes_on : c.answered ≡ None
@@ -95,6 +97,7 @@ module _ (script : Script) (c new : Collector) (o : Opening) (x : IsOver script 
     segments = new.segments;
     progress = new.progress;
     collect = new.collect;
+    full = new.full;
     mutators = new.mutators;
     positions = new.positions;
     rounds = c.rounds ++ record { replies = told } ∷ [];
@@ -123,6 +126,19 @@ module _ (script : Script) (c new : Collector) (o : Opening) (x : IsOver script 
       let m = item c.mutators.items k (let count = x.still.kept.count in omega (arith, within, done_count, count)) in
       let n = item new.mutators.items k (omega (arith, within, done_count, mutators_count)) in
       (m.0, n.0, m.1, n.1, x.did.each k m.0 n.0 d m.1 n.1 e)
+
+  -- no finaliser queue has less room than at the stop
+  pub queue_kept : (k : ℕ) (mutator : run.MutatorSeen) → slice_get shown.mutators k ≡ Some mutator → (m : Mutator) × (slice_get (seen c).mutators k ≡ Some (seen_mutator m)) × (m.queue.spare ≤ mutator.queue.spare)
+  queue_kept k mutator e =
+      let n = mapped seen_mutator new.mutators.items k mutator e in
+      let d = item x.did.done k (let within = slice_get_within new.mutators.items k n.0 n.1 in omega (arith, within, done_count, mutators_count)) in
+      let h = one k d.0 d.1 in
+      let there = h.3 in
+      let here = n.1 in
+      let same : n.0 ≡ h.1 = cc (there, here) in
+      let now : mutator.queue.spare ≡ h.1.queue.spare = ap (λ (y : run.MutatorSeen). y.queue.spare) n.2 ∙ ap (λ (own : Mutator). own.queue.spare) same in
+      let room = h.4.queue_room in
+      (h.0, seen_at c.mutators.items k h.0 h.2, omega (arith, now, room))
 
   -- all its replies are of this round
   pub replied : (k : ℕ) (n : Mutator) (d : List Done) → slice_get new.mutators.items k ≡ Some n → slice_get x.did.done k ≡ Some d → n.replies.items ≡ map (λ (y : Done). y.1) d

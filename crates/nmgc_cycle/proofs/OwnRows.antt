@@ -1,16 +1,9 @@
--- A round's order has each mutator's commands with their replies, and none that asks for a full cycle.
-use Rattle.std.proofs.Common.{ℕ, suc, ◌≡◌, List, [], ◌∷◌, length, map, refl, sym, ap, ◌∙◌, inl, inr, Bool, false}
-use Rattle.std.specs.Prelude.{All, slice_get, ◌||◌, Some}
-use Rattle.std.specs.List.{list_any}
+-- A round's order has each mutator's commands with their replies.
+use Rattle.std.proofs.Common.{ℕ, suc, ◌≡◌, List, [], ◌∷◌, length, map, refl, sym, ap, ◌∙◌, inl, inr}
 use Rattle.std.proofs.lemmas.Bool.{cases_eq, eq-eqb, ne_eqb}
-use Rattle.std.proofs.lemmas.List.Elements.{All-head, All-tail}
 use Rattle.nmgc_graph.specs.History.{Row, rows_of}
-use Rattle.nmgc_graph.specs.declared.command.Command.{Command}
-use Rattle.nmgc_graph.specs.declared.command.Command.TheVariants.{Full}
 use Rattle.nmgc_graph.specs.declared.command.Reply.{Reply}
-use Rattle.nmgc_mutator.specs.Ready.{IsBuilt}
 use Rattle.nmgc_run.specs.Round.{answered}
-use Rattle.nmgc_run.specs.Slice.{some_asks, is_full}
 use Rattle.nmgc_turn.specs.Worked.{Done}
 use Rattle.nmgc_cycle.proofs.Slicing.{commands_of}
 
@@ -40,16 +33,3 @@ same_lengths (d ∷ done) = ap (λ (n : ℕ). n ∷ map length (map replies_in d
     same : (d : List Done) → length (replies_in d) ≡ length (commands_of d)
     same [] = refl
     same (x ∷ d) = ap suc (same d)
-
--- no command that is built asks for a full cycle
-pub no_full : (c : Command) → IsBuilt c → is_full c ≡ false
-no_full Full h = absurd h
-no_full c h = refl
-
-none_of : (such : Command → Bool) → ((c : Command) → IsBuilt c → such c ≡ false) → (d : List Done) → All (λ (x : Done). IsBuilt x.0) d → list_any such (commands_of d) ≡ false
-none_of such not [] h = refl
-none_of such not (x ∷ d) h = ap (λ (b : Bool). b || list_any such (commands_of d)) (not x.0 (All-head (λ (x : Done). IsBuilt x.0) x d h)) ∙ none_of such not d (All-tail (λ (x : Done). IsBuilt x.0) x d h)
-
-pub none_asks : (such : Command → Bool) → ((c : Command) → IsBuilt c → such c ≡ false) → (done : List (List Done)) → ((k : ℕ) (d : List Done) → slice_get done k ≡ Some d → All (λ (x : Done). IsBuilt x.0) d) → some_asks such (map commands_of done) ≡ false
-none_asks such not [] h = refl
-none_asks such not (d ∷ done) h = ap (λ (b : Bool). b || some_asks such (map commands_of done)) (none_of such not d (h 0 d refl)) ∙ none_asks such not done (λ k e is. h (suc k) e is)

@@ -1,56 +1,43 @@
--- What a script of the first stage gives: its plan is runnable, and after a stop no cycle is in progress.
-use Rattle.std.proofs.Common.{ℕ, ◌≡◌, ◌≤◌, List, [], length, refl, ap, inl, inr, arith}
+-- What a script within the limits gives: its plan is runnable, and the states of its runs are sound.
+use Rattle.std.proofs.Common.{ℕ, ◌≡◌, ◌≤◌, List, [], length, ap, inl, inr, arith}
 use Rattle.std.proofs.lemmas.Bool.{cases_lt}
 use Rattle.std.proofs.lemmas.List.{get_or_past}
 use Rattle.std.proofs.lemmas.List.Elements.{All-get_or}
 use Rattle.nmgc_graph.specs.declared.command.Command.{Command}
 use Rattle.nmgc_limits.specs.Limits.{most_script_bytes}
 use Rattle.nmgc_object.specs.Places.{IsLayout}
-use Rattle.nmgc_journal.specs.declared.report.Phase.TheVariants.{Idle}
 use Rattle.nmgc_script.specs.declared.script.Script.{Script}
 use Rattle.nmgc_run.specs.Limits.{HasGoodPlan, IsWithinLimits}
 use Rattle.nmgc_run.specs.Run.{Run, last_state}
 use Rattle.nmgc_run.specs.Slice.{program_of}
 use Rattle.nmgc_run.specs.Sound.{IsRunnable, IsSoundState}
-use Rattle.nmgc_run.specs.State.{Progress, idle, marking, sweeping, phase_of, plan_of, layout_of}
+use Rattle.nmgc_run.specs.State.{plan_of, layout_of}
 use Rattle.nmgc_run.specs.laws.Limits.{scripts_have_good_plans, states_are_within}
 use Rattle.nmgc_run.specs.laws.Runs.{states_are_sound}
 use Rattle.nmgc_cycle.specs.declared.collector.Collector.{Collector}
 use Rattle.nmgc_cycle.specs.Keeps.{IsStill}
-use Rattle.nmgc_cycle.specs.Stage.{IsStaged}
+use Rattle.nmgc_cycle.specs.Limits.{IsInLimits}
 
-pub good_plan : (script : Script) → IsStaged script → HasGoodPlan script
-good_plan script staged = scripts_have_good_plans script staged.fits
+pub good_plan : (script : Script) → IsInLimits script → HasGoodPlan script
+good_plan script limits = scripts_have_good_plans script limits.fits
 
 -- a program has no more commands than the source has bytes
-pub program_few : (script : Script) → IsStaged script → (m : ℕ) → length (program_of script.threads m) ≤ most_script_bytes
-program_few script staged m = elim (cases_lt m (length script.threads)) [
-  | inl lt ↦ All-get_or (λ (program : List Command). length program ≤ most_script_bytes) script.threads m [] lt staged.few
+pub program_few : (script : Script) → IsInLimits script → (m : ℕ) → length (program_of script.threads m) ≤ most_script_bytes
+program_few script limits m = elim (cases_lt m (length script.threads)) [
+  | inl lt ↦ All-get_or (λ (program : List Command). length program ≤ most_script_bytes) script.threads m [] lt limits.few
   | inr past ↦ let none : length (program_of script.threads m) ≡ 0 = ap length (get_or_past script.threads m [] past) in omega arith
 ]
 
-pub is_runnable : (script : Script) → IsStaged script → IsRunnable (plan_of script)
-is_runnable script staged = (good_plan script staged).runnable (λ m. let few = program_few script staged m in omega (arith, few))
+pub is_runnable : (script : Script) → IsInLimits script → IsRunnable (plan_of script)
+is_runnable script limits = (good_plan script limits).runnable (λ m. let few = program_few script limits m in omega (arith, few))
 
-pub is_layout : (script : Script) → IsStaged script → IsLayout (layout_of (plan_of script))
-is_layout script staged = (good_plan script staged).layout
+pub is_layout : (script : Script) → IsInLimits script → IsLayout (layout_of (plan_of script))
+is_layout script limits = (good_plan script limits).layout
 
-module _ (script : Script) (c : Collector) (run : Run) (staged : IsStaged script) (still : IsStill script c run) where
+module _ (script : Script) (c : Collector) (run : Run) (limits : IsInLimits script) (still : IsStill script c run) where
   -- the state of the last stop is sound, and within the limits
   pub sound_state : IsSoundState (plan_of script) (last_state run)
-  sound_state = states_are_sound (plan_of script) run (is_runnable script staged) still.at_stop.is_run
+  sound_state = states_are_sound (plan_of script) run (is_runnable script limits) still.at_stop.is_run
 
   pub state_within : IsWithinLimits (plan_of script) (last_state run)
-  state_within = states_are_within (plan_of script) run (is_runnable script staged) (good_plan script staged).fit still.at_stop.is_run
-
--- the phase tells that no cycle is in progress
-pub idle_phase : (p : Progress) → Idle ≡ phase_of p → p ≡ idle
-idle_phase idle e = refl
-idle_phase (marking c) e = absurd (differ e)
-  where
-    differ : Idle ≡ phase_of (marking c) → ⊥
-    differ e = cc
-idle_phase (sweeping c closed) e = absurd (differ e)
-  where
-    differ : Idle ≡ phase_of (sweeping c closed) → ⊥
-    differ e = cc
+  state_within = states_are_within (plan_of script) run (is_runnable script limits) (good_plan script limits).fit still.at_stop.is_run

@@ -1,5 +1,5 @@
 -- The workers of a round, in the lists that the round fills; and what they and the collector leave.
-use Rattle.std.proofs.Common.{ℕ, ◌≡◌, ◌+◌, ◌<◌, ◌^◌, ◌↔◌, List, [], ◌++◌, length, map, take, drop, slice_index, refl, sym, ap, subst, ◌∙◌, Bool, IsTrue, Some}
+use Rattle.std.proofs.Common.{ℕ, ◌≡◌, ◌+◌, ◌<◌, ◌^◌, List, [], ◌++◌, length, map, take, drop, slice_index, refl, sym, ap, subst, ◌∙◌, Bool, Some}
 use Rattle.std.specs.Prelude.{All, ◌||◌}
 use Rattle.std.specs.declared.vec.Vec.{Vec}
 use Rattle.std.proofs.Common.{Global}
@@ -8,7 +8,7 @@ use Rattle.nmgc_beside.specs.Owed as owed
 use Rattle.nmgc_round.specs.declared.table.Round.{Round}
 use Rattle.nmgc_round.specs.View.{Opening, Scan, Seen, whole}
 use Rattle.nmgc_round.specs.Seat.{RoundSeat, IsAt, seen, opening_of}
-use Rattle.nmgc_round.specs.Seating.{alones, all_together, collecting}
+use Rattle.nmgc_round.specs.Seating.{all_together, collecting}
 use Rattle.nmgc_round.specs.Finishing.{HasAll, Leaves}
 use Rattle.nmgc_mutator.specs.declared.mutator.Mutator.{Mutator}
 use Rattle.nmgc_turn.specs.Turn.{SlicesAreGathered}
@@ -18,13 +18,14 @@ use Rattle.nmgc_cycle.specs.declared.progress.Progress as held
 use Rattle.nmgc_cycle.specs.declared.progress.Progress.TheVariants as doing
 use Rattle.nmgc_cycle.specs.declared.worker.Worker.{Worker}
 use Rattle.nmgc_cycle.specs.Cycles.{HasHelped}
-use Rattle.nmgc_cycle.specs.Working.{SomeAsks, DidSlices, HaveSliceRoom, CanAllWork, HaveAllWorked, workers_of, mutator_of, seat_of, done_by}
+use Rattle.std.specs.List.{list_any}
+use Rattle.nmgc_cycle.specs.Working.{asks_of, asks_full_of, DidSlices, HaveSliceRoom, CanAllWork, HaveAllWorked, workers_of, mutator_of, seat_of, done_by}
 use Rattle.nmgc_cycle.proofs.Ran.{MayBegin, HasBegun, HasRun, can_open, may_work, workers_are, has_run}
 use Rattle.nmgc_cycle.proofs.Readiness.{BeginReady}
 use Rattle.nmgc_cycle.proofs.Resting.{none_noted}
 use Rattle.nmgc_cycle.proofs.RootLists.{seen_at}
 use Rattle.nmgc_cycle.specs.Shown.{seen_mutator}
-use Rattle.nmgc_cycle.proofs.Sliced.{overwritten, asks_told, each_did}
+use Rattle.nmgc_cycle.proofs.Sliced.{overwritten, asks_told, asks_full_told, each_did}
 
 -- positions that can move on by so many commands
 abbrev pub CanMove : List ℕ → List ℕ → Type 0
@@ -34,35 +35,33 @@ CanMove positions done = (k : ℕ) → k < length positions → slice_index posi
 abbrev pub HaveMoved : List ℕ → List ℕ → List ℕ → Type 0
 HaveMoved old done new = (k : ℕ) → k < length old → slice_index new k ≡ slice_index old k + slice_index done k
 
-abbrev pub begun : (script : Script) (c : Collector) (o : Opening) (round : Round) (seats : List RoundSeat) → MayBegin script c o → opening_of round ≡ o → map seen seats ≡ alones o 0 o.hands → All (IsAt round) seats → HasBegun script c o round seats
-begun script c o round seats may opened seen_are at = record {
-  may = may;
-  has = record { opened = opened; seen_are = seen_are; at = at };
+-- the workers of a round that has begun: each mutator with its seat
+pub record AreSeated (script : Script) (c : Collector) (o : Opening) (round : Round) (workers : List Worker) : Type 0 where
+  pub seats : List RoundSeat
+  pub begun : HasBegun script c o round seats
+  pub seated : workers ≡ workers_of c.mutators.items seats
+
+pub are_seated : (script : Script) (c : Collector) (o : Opening) (round : Round) (seats : List RoundSeat) → HasBegun script c o round seats → (own : Vec Mutator Global) → own ≡ c.mutators → (workers : List Worker) → workers ≡ workers_of own.items seats → AreSeated script c o round workers
+are_seated script c o round seats b own own_is workers seated = record {
+  seats = seats;
+  begun = b;
+  seated = seated ∙ ap (λ (v : Vec Mutator Global). workers_of v.items seats) own_is;
 }
 
-module _ (script : Script) (c : Collector) (o : Opening) (round : Round) (seats : List RoundSeat) (b : HasBegun script c o round seats) (own : Vec Mutator Global) (own_is : own ≡ c.mutators) (workers : Vec Worker Global) (seated : workers.items ≡ workers_of own.items seats) where
-  seated_own : workers.items ≡ workers_of c.mutators.items seats
-  seated_own = seated ∙ ap (λ (v : Vec Mutator Global). workers_of v.items seats) own_is
+-- once all have worked, their list has what the slices left
+pub left_in : (workers : Vec Worker Global) (was new : List Worker) → was ≡ workers.items → length new ≡ length was → take workers.len (new ++ drop (length new) workers.items) ≡ new
+left_in workers was new was_is count = overwritten workers.len workers.items new (count ∙ ap (λ (l : List Worker). length l) was_is) workers.ok.0
 
+module _ (script : Script) (c : Collector) (o : Opening) (round : Round) (was : List Worker) (u : AreSeated script c o round was) where
   -- there are as many workers as mutators
-  pub counted : workers.len ≡ length c.mutators.items
-  counted = workers.ok.0 ∙ ap (λ (l : List Worker). length l) seated_own ∙ workers_are script c o round seats b
+  pub counted : length was ≡ length c.mutators.items
+  counted = ap (λ (l : List Worker). length l) u.seated ∙ workers_are script c o round u.seats u.begun
 
-  module _ (was : List Worker) (was_is : was ≡ workers.items) (positions : List ℕ) (positions_are : positions ≡ c.positions.items) where
-    pub can_play : BeginReady → HaveSliceRoom script c → CanAllWork round script positions was
-    can_play begin room =
-        subst (λ (l : List ℕ). CanAllWork round script l was) (sym positions_are)
-        (subst (λ (l : List Worker). CanAllWork round script c.positions.items l) (sym (was_is ∙ seated_own)) (may_work begin script c o round seats b room))
+  pub can_play : BeginReady → HaveSliceRoom script c → CanAllWork round script c.positions.items was
+  can_play begin room = subst (λ (l : List Worker). CanAllWork round script c.positions.items l) (sym u.seated) (may_work begin script c o round u.seats u.begun room)
 
-    pub played : SlicesAreGathered → (new : List Worker) → HaveAllWorked round script positions was new → HasRun script c o round new
-    played gather new worked =
-        has_run gather script c o round seats new b
-        (subst (λ (l : List Worker). HaveAllWorked round script c.positions.items l new) (was_is ∙ seated_own)
-        (subst (λ (l : List ℕ). HaveAllWorked round script l was new) positions_are worked))
-
-    -- their list has what the slices left
-    pub left_in : (new : List Worker) → HaveAllWorked round script positions was new → take workers.len (new ++ drop (length new) workers.items) ≡ new
-    left_in new worked = overwritten workers.len workers.items new (worked.count ∙ ap (λ (l : List Worker). length l) was_is) workers.ok.0
+  pub played : SlicesAreGathered → (new : List Worker) → HaveAllWorked round script c.positions.items was new → HasRun script c o round new
+  played gather new worked = has_run gather script c o round u.seats new u.begun (subst (λ (l : List Worker). HaveAllWorked round script c.positions.items l new) u.seated worked)
 
 -- what the collector's seat knows once it did its part: its scans
 pub record HasScanned (o : Opening) (round : Round) (seat : RoundSeat) : Type 0 where
@@ -96,9 +95,9 @@ module _ (script : Script) (c : Collector) (o : Opening) (may : MayBegin script 
   pub seats_at : (seats : List RoundSeat) → seats ≡ map seat_of new → All (IsAt round) seats
   seats_at seats same = subst (λ (l : List RoundSeat). All (IsAt round) l) (sym same) ran.at
 
-  module _ (own : owed.SlicesAreGathered) (owes : owed.SlicesAreOwed) (from : RoundSeat) (began : seen from ≡ collecting (whole o)) (opened : opening_of round ≡ o) (segments : Segments) (sound : IsSegments segments) (progress : held.Progress) (helped : HasHelped round script.config.quota from seat c.segments segments c.progress progress) (asks : Bool) (asks_are : IsTrue asks ↔ SomeAsks new) where
-    pub did_slices : (seats : List RoundSeat) → seats ≡ map seat_of new → (words : List ℕ) → Leaves (opening_of round) words (all_together (seen seat) (map seen seats)) → (collect : Bool) → collect ≡ (c.collect || asks) → (mutators : Vec Mutator Global) (positions : Vec ℕ Global) → mutators.items ≡ map mutator_of new → length positions.items ≡ length c.positions.items → HaveMoved c.positions.items (map done_by new) positions.items → DidSlices script o c (record c { words = Some words; segments = segments; progress = progress; collect = collect; mutators = mutators; positions = positions })
-    did_slices seats seats_are words leaves collect collects mutators positions same size moved = record {
+  module _ (own : owed.SlicesAreGathered) (owes : owed.SlicesAreOwed) (from : RoundSeat) (began : seen from ≡ collecting (whole o)) (opened : opening_of round ≡ o) (segments : Segments) (sound : IsSegments segments) (progress : held.Progress) (helped : HasHelped round script.config.quota from seat c.segments segments c.progress progress) where
+    pub did_slices : (seats : List RoundSeat) → seats ≡ map seat_of new → (words : List ℕ) → Leaves (opening_of round) words (all_together (seen seat) (map seen seats)) → (collect asked : Bool) → collect ≡ (c.collect || list_any asks_of new) → asked ≡ (c.full || list_any asks_full_of new) → (mutators : Vec Mutator Global) (positions : Vec ℕ Global) → mutators.items ≡ map mutator_of new → length positions.items ≡ length c.positions.items → HaveMoved c.positions.items (map done_by new) positions.items → DidSlices script o c (record c { words = Some words; segments = segments; progress = progress; collect = collect; full = asked; mutators = mutators; positions = positions })
+    did_slices seats seats_are words leaves collect asked collects askeds mutators positions same size moved = record {
       rest = refl;
       words = words;
       words_are = refl;
@@ -113,7 +112,8 @@ module _ (script : Script) (c : Collector) (o : Opening) (may : MayBegin script 
       owed = subst (λ (l : List Mutator). owed.HaveOwed o (owed.gathered o has.scans (map seat_of new)).parts l) (sym same) (owes o may.words round c.mutators.items (map mutator_of new) (map seat_of new) ran.did.done has.scans (can_open script c o may) ran.slices nothing);
       helped = record { round = round; from = from; seat = seat; began = began; knows = has.knows; helped = helped };
       sound = sound;
-      collect = collects ∙ ap (λ (b : Bool). c.collect || b) (asks_told script c may.run may.staged may.still o round new ran.count ran.did asks asks_are);
+      collect = collects ∙ ap (λ (b : Bool). c.collect || b) (asks_told script c may.run may.limits may.still o round new ran.count ran.did);
+      full = askeds ∙ ap (λ (b : Bool). c.full || b) (asks_full_told script c may.run may.limits may.still o round new ran.count ran.did);
       positions_are = size;
-      each = each_did script c may.run may.staged may.still o round new ran.count ran.did (Some words) segments progress collect mutators positions same moved;
+      each = each_did script c may.run may.limits may.still o round new ran.count ran.did (Some words) segments progress collect asked mutators positions same moved;
     }

@@ -15,7 +15,7 @@ use Rattle.nmgc_run.specs.Statements.{answered_count}
 use Rattle.nmgc_run.specs.laws.Lefts.{left_is_told, slice_count, round_left, stop_left}
 use Rattle.nmgc_cycle.specs.declared.collector.Collector.{Collector}
 use Rattle.nmgc_cycle.specs.Keeps.{IsStill}
-use Rattle.nmgc_cycle.specs.Stage.{IsStaged}
+use Rattle.nmgc_cycle.specs.Limits.{IsInLimits}
 use Rattle.nmgc_cycle.specs.Working.{left_at}
 use Rattle.nmgc_cycle.proofs.Plans.{sound_state}
 use Rattle.nmgc_cycle.proofs.RootLists.{serial_seen}
@@ -63,9 +63,9 @@ module _ (script : Script) (c : Collector) (run : Run) (still : IsStill script c
       omega (arith, turns, opening, position)
 
   -- serials suffice for what is left
-  pub serial_fits : (m : Mutator) → IsStaged script → slice_get c.mutators.items k ≡ Some m → m.serial + length (left_at script c.positions.items k) < 2 ^ 32 - 1
-  serial_fits m staged e =
+  pub serial_fits : (m : Mutator) → IsInLimits script → slice_get c.mutators.items k ≡ Some m → m.serial + length (left_at script c.positions.items k) < 2 ^ 32 - 1
+  serial_fits m limits e =
       let next : m.serial ≡ serial_of (last_state run).world k = still.at_stop.heap.holds.roots.next k m.serial (serial_seen c.mutators.items k m e) in
       let left : length (program_of (last_state run).left k) ≡ length (left_at script c.positions.items k) = ap (λ (program : List Command). length program) left_is in
-      let most = (sound_state script c run staged still).able.serials k in
+      let most = (sound_state script c run limits still).able.serials k in
       omega (arith, next, left, most)

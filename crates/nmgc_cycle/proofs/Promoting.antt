@@ -1,23 +1,27 @@
 -- After its promotion the collector stands for the state that the promotion left: the heap, and the cycle in progress.
 use Rattle.std.proofs.Common.{ℕ, ◌≡◌, ◌≢◌, ◌≤◌, ◌+◌, List, [], ◌∷◌, arith, refl, sym, ap, subst, ◌∙◌, inl, inr, None}
-use Rattle.std.specs.Prelude.{slice_index, IsSome}
+use Rattle.std.specs.Prelude.{slice_index, Contains, IsSome}
 use Rattle.nmgc_graph.specs.declared.value.Name.{Name}
 use Rattle.nmgc_graph.specs.Step.{shared_name}
 use Rattle.nmgc_graph.specs.World.{World, node_of}
+use Rattle.nmgc_graph.specs.laws.Orders.{contains_head}
 use Rattle.nmgc_graph.specs.laws.Worlds.{is_some_of}
 use Rattle.nmgc_reach.specs.laws.HeldSteps.{absent}
 use Rattle.nmgc_object.specs.Places.{word_total}
 use Rattle.nmgc_object.specs.declared.layout.Layout.{Layout}
 use Rattle.nmgc_alloc.specs.AllocState.{AllocState, Cells, LiesNowhere, HasBlock, cells, name_in}
 use Rattle.nmgc_alloc.specs.Segments.{block_place}
+use Rattle.nmgc_heap.specs.Moves.{Moved, old_place}
 use Rattle.nmgc_heap.specs.Places.{Place}
 use Rattle.nmgc_heap.specs.Tracked.{IsTracked}
+use Rattle.nmgc_heap.specs.laws.Moving.{contains_map}
 use Rattle.nmgc_minor.specs.Promotion.{IsFor}
 use Rattle.nmgc_minor.specs.Start.{words_of}
 use Rattle.nmgc_script.specs.declared.script.Script.{Script}
-use Rattle.nmgc_run.specs.Collector.{HoldsInCycle, IsPacedAfterRound}
+use Rattle.nmgc_run.specs.Collector.{EachMutator, HoldsInCycle, IsPacedAfterRound, weaks_of}
 use Rattle.nmgc_run.specs.Heap.{HoldsAtStop, snapshots}
-use Rattle.nmgc_run.specs.Seen.{ends_of}
+use Rattle.nmgc_run.specs.Marks.{IsSweeping}
+use Rattle.nmgc_run.specs.Seen.{CycleSeen, ends_of}
 use Rattle.nmgc_run.specs.Sound.{IsInCycle, IsSoundState, LieKnown, WaitKnown}
 use Rattle.nmgc_run.specs.State.{Plan, State, Cycle, Progress, idle, marking, sweeping, plan_of, layout_of}
 use Rattle.nmgc_run.specs.laws.Course.{SameWait, all_placing_waits, promotions_stay}
@@ -28,14 +32,18 @@ use Rattle.nmgc_beside.specs.Keeps.{HasLeft}
 use Rattle.nmgc_beside.specs.Stays as beside
 use Rattle.nmgc_beside.specs.Sweeps.{HasPlaced}
 use Rattle.nmgc_sweep.specs.Statements.{KeepsWaiting}
+use Rattle.nmgc_sweep.specs.Work.{IsAtWork}
+use Rattle.nmgc_weak.specs.Weaks.{place_of, places_of}
+use Rattle.nmgc_weak.specs.declared.weaks.Death.{Death}
 use Rattle.nmgc_cycle.specs.declared.collector.Collector.{Collector}
-use Rattle.nmgc_cycle.specs.Keeps.{IsKept, Sweeps}
-use Rattle.nmgc_cycle.specs.Shown.{seen, words_in, sweeper_in, cycle_in}
+use Rattle.nmgc_cycle.specs.Keeps.{HasClosingRoom, IsKept, Sweeps}
+use Rattle.nmgc_cycle.specs.Shown.{seen, words_in, sweeper_in, cycle_in, died}
 use Rattle.nmgc_cycle.specs.Steps.{StandsPromoted, IsPacedPromoted}
 use Rattle.nmgc_cycle.specs.StopLaws.{HasPromotionLaws}
-use Rattle.nmgc_cycle.specs.Stopping.{HasPromoted, moves_of, moved_names}
+use Rattle.nmgc_cycle.specs.Stopping.{HasListed, HasPromoted, moves_of, moved_names}
 use Rattle.nmgc_cycle.proofs.AfterPromotion as after
 use Rattle.nmgc_cycle.proofs.Begins.{Begins}
+use Rattle.nmgc_cycle.proofs.ListOver.{of_places}
 
 -- a young name lies nowhere, and isn't g
 young_fresh : (began : World) (a : AllocState) → LieKnown began a → (n : Name) → node_of began n ≡ None → LiesNowhere a n × (n ≢ shared_name)
@@ -68,10 +76,7 @@ module _ (laws : HasPromotionLaws) (script : Script) (old new : Collector) (kept
 
   -- the collector, by what the promotion changed
   abbrev mid : Collector
-  mid = record old { words = new.words; segments = new.segments; promotion = new.promotion; mutators = new.mutators }
-
-  abbrev heap : HoldsAtStop (layout_of plan) t (words_in new.words) new.segments (ends_of (seen new)) []
-  heap = after.heap script old new kept b p laws.back
+  mid = record old { words = new.words; segments = new.segments; promotion = new.promotion; mutators = new.mutators; weaks = new.weaks }
 
   same_waits : SameWait s.allocation t.allocation
   same_waits = all_placing_waits old.segments.layout s.world s.allocation t.allocation (moved_names new) (after.placed script old new kept b p).1
@@ -99,115 +104,158 @@ module _ (laws : HasPromotionLaws) (script : Script) (old new : Collector) (kept
         omega (arith, before, now, same);
   }
 
-  -- the state is sound
+  -- what moved is in no snapshot
+  not_of_snapshot : (c : Cycle) → snapshots s.progress ≡ c.snapshot ∷ [] → (m : Moved) → Contains (moves_of new) m → IsSome (node_of c.snapshot m.name) → ⊥
+  not_of_snapshot c spoken m there known =
+      let heap = after.settled_heap script old new kept b p in
+      let was : Contains b.places (old_place m) = heap.moved m there in
+      let later : Contains (snapshots s.progress) c.snapshot = subst (λ (l : List World). Contains l c.snapshot) (sym spoken) (contains_head c.snapshot []) in
+      let low = b.stopped.round.outside c.snapshot (old_place m) later was known in
+      let none : node_of b.began m.name ≡ None = (heap.promoted.sound m.name (contains_map (λ (x : Moved). x.name) (moves_of new) m there)).0.0 in
+      let high = (b.stopped.round.young (old_place m) was).1 none in
+      omega (arith, low, high)
 
-  lies_known : LieKnown s.world t.allocation
-  lies_known number block name lies =
-      let place : Place = record { at = block_place (layout_of plan) number (cells t.allocation number).class block; name = name } in
-      (heap.holds.represents.named place ((heap.all place).1 (inr (record { number = number; block = block; lies = lies; at = refl })))).known
+  -- the list of weak pointers is that of the heap
+  module _ (l : HasListed old new) where
+    abbrev heap : HoldsAtStop (layout_of plan) t (words_in new.words) new.segments (ends_of (seen new)) (seen new).weaks
+    heap = after.heap script old new kept b p laws.back l
 
-  has_block : (name : Name) → IsTracked s.world (snapshots s.progress) name → name ≢ shared_name → HasBlock t.allocation name
-  has_block name tracked other =
-      let there : IsSome (node_of s.world name) = tracked_known s.world (snapshots s.progress) b.sound.world (known_then s.world s.allocation s.progress b.sound.cycle) name tracked in
-      let node = is_some_of (node_of s.world name) there in
-      let at = heap.holds.represents.tracked name node.0 tracked node.1 in
-      let place : Place = record { at = at.at; name = name } in
-      elim ((heap.all place).0 at.there) [
-        | inl g ↦ absurd (other (ap (λ (q : Place). q.name) g))
-        | inr x ↦ (x.number, x.block, x.lies)
-      ]
+    -- the state is sound
 
-  sound : IsSoundState plan t
-  sound =
-      let promotes = after.promotes script old new kept b p in
-      record {
-        world = b.sound.world;
-        able = record { programs = b.sound.able.programs; mutators = b.sound.able.mutators; registers = b.sound.able.registers; serials = b.sound.able.serials };
-        filed = places_filed (layout_of plan) s.world s.allocation t.allocation promotes.names b.sound.world promotes.places promotes.lists.ordered (λ n c. young_fresh b.began s.allocation b.sound.known n (promotes.lists.sound n c).0.0) b.sound.filed;
-        known = lies_known;
-        cycle = cycle_then s.progress s.world s.allocation t.allocation same_waits b.sound.cycle;
-        earlier = b.sound.earlier;
-        blocks = has_block;
-      }
+    lies_known : LieKnown s.world t.allocation
+    lies_known number block name lies =
+        let place : Place = record { at = block_place (layout_of plan) number (cells t.allocation number).class block; name = name } in
+        (heap.holds.represents.named place ((heap.all place).1 (inr (record { number = number; block = block; lies = lies; at = refl })))).known
 
-  -- the cycle in progress
+    has_block : (name : Name) → IsTracked s.world (snapshots s.progress) name → name ≢ shared_name → HasBlock t.allocation name
+    has_block name tracked other =
+        let there : IsSome (node_of s.world name) = tracked_known s.world (snapshots s.progress) b.sound.world (known_then s.world s.allocation s.progress b.sound.cycle) name tracked in
+        let node = is_some_of (node_of s.world name) there in
+        let at = heap.holds.represents.tracked name node.0 tracked node.1 in
+        let place : Place = record { at = at.at; name = name } in
+        elim ((heap.all place).0 at.there) [
+          | inl g ↦ absurd (other (ap (λ (q : Place). q.name) g))
+          | inr x ↦ (x.number, x.block, x.lies)
+        ]
 
-  was_promoted : (c : Cycle) → snapshots s.progress ≡ c.snapshot ∷ [] → beside.HasPromoted c (after.at_stop script old new kept b p) old.segments new.segments (seen old).words (words_in new.words) p.registers (words_of p.queues) (moves_of new) s.allocation t.allocation
-  was_promoted c later = record {
-    later_is = later;
-    round = b.stopped.round;
-    known = b.sound.known;
-    sound = kept.sound;
-    sound_after = p.sound;
-    layout_is = p.layout;
-    stood = b.stands;
-    stands = (after.placed script old new kept b p).2;
-    places_each = (after.placed script old new kept b p).1;
-    marks = p.marks;
-    is_settled = after.settled_heap script old new kept b p;
-  }
-
-  cycle : (q : Progress) → snapshots s.progress ≡ snapshots q → IsInCycle q s.world s.allocation → ((k : Cycle) → q ≡ marking k → k.from + 1 ≤ s.number) → HoldsInCycle (λ (k : Cycle). IsPacedAfterRound script.config.quota k s (seen old)) q s (seen old) b.places → HoldsInCycle (λ (k : Cycle). IsPacedPromoted script.config.quota k t (seen mid)) q t (seen mid) heap.places
-  cycle idle spoken is later h = laws.settled s.begun old.segments new.segments (seen old).words (words_in new.words) s.allocation t.allocation placed h
-  cycle (marking c) spoken is later h =
-      let left : HasLeft c (seen old) (seen mid) = record { cycle = refl; sweeper = refl; queue_room = λ m mutator e. omega arith } in (
-        laws.marking c s (seen old) (seen mid) (after.at_stop script old new kept b p) (seen old).words (words_in new.words) p.registers (words_of p.queues) (moves_of new) t.allocation is.0 refl h.0 (was_promoted c spoken) refl left (after.remembers script old new kept b p),
+    sound : IsSoundState plan t
+    sound =
+        let promotes = after.promotes script old new kept b p in
         record {
-          paced = record { scanned = h.1.scanned; most = h.1.most; some = h.1.some; quota_or_done = h.1.quota_or_done; empty = h.1.empty };
-          later = later c refl;
-        },
-      )
-  cycle (sweeping c closed) spoken is later h = (
-    laws.sweeping c closed old.segments new.segments (seen old).words (words_in new.words) s.allocation t.allocation (seen old).cycle (seen old).sweeper placed h.0,
-    laws.settled s.begun old.segments new.segments (seen old).words (words_in new.words) s.allocation t.allocation placed h.1,
-  )
+          world = b.sound.world;
+          able = record { programs = b.sound.able.programs; mutators = b.sound.able.mutators; registers = b.sound.able.registers; serials = b.sound.able.serials };
+          filed = places_filed (layout_of plan) s.world s.allocation t.allocation promotes.names b.sound.world promotes.places promotes.lists.ordered (λ n c. young_fresh b.began s.allocation b.sound.known n (promotes.lists.sound n c).0.0) b.sound.filed;
+          known = lies_known;
+          cycle = cycle_then s.progress s.world s.allocation t.allocation same_waits b.sound.cycle;
+          earlier = b.sound.earlier;
+          blocks = has_block;
+        }
 
-  sweeper : (q : Progress) → Sweeps q s old → Sweeps q t mid
-  sweeper idle h = tt
-  sweeper (marking k) h = (
-    record { notes = h.0.notes; left = laws.left old.segments new.segments (sweeper_in old.progress).left keeps.waits h.0.left },
-    h.1,
-    h.2,
-  )
-  sweeper (sweeping k closed) h =
-      let work = laws.work k closed (seen old).words (words_in new.words) s.allocation t.allocation old.segments new.segments (cycle_in old.progress) (sweeper_in old.progress) h.1 h.0.left (after.placed script old new kept b p).2 keeps in
-      (record { notes = h.0.notes; left = work.1 }, work.0)
+    -- the cycle in progress
 
-  -- what is kept
+    was_promoted : (c : Cycle) → snapshots s.progress ≡ c.snapshot ∷ [] → beside.HasPromoted c (after.at_stop script old new kept b p) old.segments new.segments (seen old).words (words_in new.words) p.registers (words_of p.queues) (moves_of new) s.allocation t.allocation
+    was_promoted c later = record {
+      later_is = later;
+      round = b.stopped.round;
+      known = b.sound.known;
+      sound = kept.sound;
+      sound_after = p.sound;
+      layout_is = p.layout;
+      stood = b.stands;
+      stands = (after.placed script old new kept b p).2;
+      places_each = (after.placed script old new kept b p).1;
+      marks = p.marks;
+      is_settled = after.settled_heap script old new kept b p;
+    }
 
-  still_kept : IsKept script mid
-  still_kept = record {
-    layout = after.layout_is script old new kept b p;
-    sound = p.sound;
-    lists = subst (λ (l : Layout). IsFor l new.promotion) (sym p.layout) p.lists;
-    has_words = p.has_words;
-    list =
-        let before = b.stopped.represents.total in
-        let now = (after.settled_heap script old new kept b p).represents.total in
-        let same : word_total new.segments.layout ≡ word_total old.segments.layout = ap word_total p.layout in
-        kept.list ∙ before ∙ sym (now ∙ same);
-    count = p.given.count ∙ kept.count;
-    own = λ k m e. let own = (after.own script old new kept b p k m e).0 in record { number = own.number; layout = own.layout; whole = own.whole; no_replies = own.no_replies };
-    positions_are = kept.positions_are;
-    positions = kept.positions;
-    no_ends = kept.no_ends;
-    room = kept.room;
-  }
+    -- what died at the last closing is what had died
+    cycle_same : (seen mid).cycle ≡ (seen old).cycle
+    cycle_same = ap (λ (deaths : List Death). cycle_in old.progress (died deaths)) l.deaths
 
-  stands_mid : StandsPromoted script mid t
-  stands_mid = record {
-    kept = still_kept;
-    sound = sound;
-    course = promotions_stay (layout_of plan) b.began s t (after.count script old new kept b p) (after.promotes script old new kept b p) b.course;
-    matches = record { phase = b.matches.phase; begun = b.matches.begun; collect = b.matches.collect; full = b.matches.full };
-    heap = heap;
-    nurseries = after.are_nurseries script old new kept b p;
-    empty = after.are_empty script old new kept b p;
-    rest = after.rest script old new kept b p;
-    cycle = cycle s.progress refl b.sound.cycle b.later b.cycle;
-    weakless = record { world = b.weakless.world; snapshot = b.weakless.snapshot };
-    sweeper = sweeper s.progress b.sweeper;
-  }
+    -- a listed weak pointer of the snapshot was listed before
+    was_listed : (c : Cycle) → snapshots s.progress ≡ c.snapshot ∷ [] → (q : Place) → Contains (places_of new.weaks.list) q → IsSome (node_of c.snapshot q.name) → Contains (places_of old.weaks.list) q
+    was_listed c spoken q there known =
+        let x = of_places new.weaks.list q there in
+        elim (l.from x.0 x.1) [
+          | inl was ↦ subst (λ (y : Place). Contains (places_of old.weaks.list) y) x.2 (contains_map place_of old.weaks.list x.0 was)
+          | inr m ↦
+              let name : q.name ≡ m.0.name = sym (ap (λ (y : Place). y.name) x.2) ∙ m.2 in
+              absurd (not_of_snapshot c spoken m.0 m.1 (subst (λ (n : Name). IsSome (node_of c.snapshot n)) name known))
+        ]
 
-  pub promoted_stands : StandsPromoted script new t
-  promoted_stands = subst (λ (x : Collector). StandsPromoted script x t) (sym p.rest) stands_mid
+    -- so the queues have room for what may die
+    left_of : (c : Cycle) → snapshots s.progress ≡ c.snapshot ∷ [] → EachMutator (seen old) (λ m mutator. weaks_of c.snapshot m (seen old).weaks ≤ mutator.queue.spare) → HasLeft c (seen old) (seen mid)
+    left_of c spoken room = record {
+      cycle = cycle_same;
+      sweeper = refl;
+      queue_room = λ m mutator e.
+          let x = after.same_spare script old new kept b p m mutator e in
+          let fewer = laws.fewer c.snapshot m (seen old).weaks (seen new).weaks (after.listed script old new kept b p laws.back l).ordered (was_listed c spoken) in
+          let before = room m x.0 x.1 in
+          let spare = x.2 in
+          omega (arith, fewer, before, spare);
+    }
+
+    cycle : (q : Progress) → snapshots s.progress ≡ snapshots q → IsInCycle q s.world s.allocation → ((k : Cycle) → q ≡ marking k → k.from + 1 ≤ s.number) → HoldsInCycle (λ (k : Cycle). IsPacedAfterRound script.config.quota k s (seen old)) q s (seen old) b.places → HoldsInCycle (λ (k : Cycle). IsPacedPromoted script.config.quota k t (seen mid)) q t (seen mid) heap.places
+    cycle idle spoken is later h = laws.settled s.begun old.segments new.segments (seen old).words (words_in new.words) s.allocation t.allocation placed h
+    cycle (marking c) spoken is later h = (
+      laws.marking c s (seen old) (seen mid) (after.at_stop script old new kept b p) (seen old).words (words_in new.words) p.registers (words_of p.queues) (moves_of new) t.allocation is.0 refl h.0 (was_promoted c spoken) refl (left_of c spoken h.0.queue_room) (after.remembers script old new kept b p),
+      record {
+        paced = record { scanned = h.1.scanned; most = h.1.most; some = h.1.some; quota_or_done = h.1.quota_or_done; empty = h.1.empty };
+        later = later c refl;
+      },
+    )
+    cycle (sweeping c closed) spoken is later h = (
+      subst (λ (x : CycleSeen). IsSweeping c closed t.allocation new.segments x (seen old).sweeper) (sym cycle_same) (laws.sweeping c closed old.segments new.segments (seen old).words (words_in new.words) s.allocation t.allocation (seen old).cycle (seen old).sweeper placed h.0),
+      laws.settled s.begun old.segments new.segments (seen old).words (words_in new.words) s.allocation t.allocation placed h.1,
+    )
+
+    sweeper : (q : Progress) → Sweeps q s old → Sweeps q t mid
+    sweeper idle h = tt
+    sweeper (marking k) h = (
+      record { notes = h.0.notes; left = laws.left old.segments new.segments (sweeper_in old.progress).left keeps.waits h.0.left },
+      h.1,
+      h.2,
+    )
+    sweeper (sweeping k closed) h =
+        let work = laws.work k closed (seen old).words (words_in new.words) s.allocation t.allocation old.segments new.segments (seen old).cycle (sweeper_in old.progress) h.1 h.0.left (after.placed script old new kept b p).2 keeps in
+        (record { notes = h.0.notes; left = work.1 }, subst (λ (x : CycleSeen). IsAtWork k closed (words_in new.words) t.allocation new.segments x (sweeper_in old.progress)) (sym cycle_same) work.0)
+
+    -- what is kept
+
+    still_kept : IsKept script mid
+    still_kept = record {
+      layout = after.layout_is script old new kept b p;
+      sound = p.sound;
+      lists = subst (λ (l : Layout). IsFor l new.promotion) (sym p.layout) p.lists;
+      has_words = p.has_words;
+      list =
+          let before = b.stopped.represents.total in
+          let now = (after.settled_heap script old new kept b p).represents.total in
+          let same : word_total new.segments.layout ≡ word_total old.segments.layout = ap word_total p.layout in
+          kept.list ∙ before ∙ sym (now ∙ same);
+      count = p.given.count ∙ kept.count;
+      own = λ k m e. let own = (after.own script old new kept b p k m e).0 in record { number = own.number; layout = own.layout; whole = own.whole; no_replies = own.no_replies };
+      positions_are = kept.positions_are;
+      positions = kept.positions;
+      no_ends = kept.no_ends;
+      room = kept.room;
+    }
+
+    stands_mid : StandsPromoted script mid t
+    stands_mid = record {
+      kept = still_kept;
+      sound = sound;
+      course = promotions_stay (layout_of plan) b.began s t (after.count script old new kept b p) (after.promotes script old new kept b p) b.course;
+      matches = record { phase = b.matches.phase; begun = b.matches.begun; collect = b.matches.collect; full = b.matches.full };
+      heap = heap;
+      nurseries = after.are_nurseries script old new kept b p;
+      empty = after.are_empty script old new kept b p;
+      rest = after.rest script old new kept b p;
+      cycle = cycle s.progress refl b.sound.cycle b.later b.cycle;
+      closing = subst (λ (n : ℕ). HasClosingRoom old.progress n) (sym p.given.count) b.closing;
+      sweeper = sweeper s.progress b.sweeper;
+    }
+
+    pub promoted_stands : StandsPromoted script new t
+    promoted_stands = subst (λ (x : Collector). StandsPromoted script x t) (sym p.rest) stands_mid

@@ -11,7 +11,7 @@ use Rattle.nmgc_run.specs.Run.{Run, last_state}
 use Rattle.nmgc_cycle.specs.declared.collector.Collector.{Collector}
 use Rattle.nmgc_cycle.specs.declared.worker.Worker.{Worker}
 use Rattle.nmgc_cycle.specs.Keeps.{IsStill}
-use Rattle.nmgc_cycle.specs.Stage.{IsStaged}
+use Rattle.nmgc_cycle.specs.Limits.{IsInLimits}
 use Rattle.nmgc_cycle.specs.Working.{OpensAt, OpensIn, HaveSliceRoom, CanAllWork, HaveAllWorked, workers_of, mutator_of, seat_of}
 use Rattle.nmgc_cycle.proofs.Gathering.{AllDid, all_did, slices_done}
 use Rattle.nmgc_cycle.proofs.Opened.{CanOpenRounds, IsOpened, opened}
@@ -19,7 +19,7 @@ use Rattle.nmgc_cycle.proofs.Readiness.{BeginReady, HasSeats, can_all_work, seat
 
 -- the round after a stop may begin
 pub record MayBegin (script : Script) (c : Collector) (o : Opening) : Type 0 where
-  pub staged : IsStaged script
+  pub limits : IsInLimits script
   pub run : Run
   pub still : IsStill script c run
   pub opens : OpensIn (last_state run).progress (last_state run) c still.at_stop.heap.places o
@@ -27,8 +27,8 @@ pub record MayBegin (script : Script) (c : Collector) (o : Opening) : Type 0 whe
   pub words : List ℕ
   pub words_are : c.words ≡ Some words
 
-abbrev pub may_begin : CanOpenRounds → (script : Script) (c : Collector) (o : Opening) (words : List ℕ) → IsStaged script → OpensAt script c o → c.words ≡ Some words → MayBegin script c o
-may_begin laws script c o words staged h is = record { staged = staged; run = h.0; still = h.1; opens = h.2; op = opened laws script c o staged h; words = words; words_are = is }
+abbrev pub may_begin : CanOpenRounds → (script : Script) (c : Collector) (o : Opening) (words : List ℕ) → IsInLimits script → OpensAt script c o → c.words ≡ Some words → MayBegin script c o
+may_begin laws script c o words limits h is = record { limits = limits; run = h.0; still = h.1; opens = h.2; op = opened laws script c o limits h; words = words; words_are = is }
 
 pub can_open : (script : Script) (c : Collector) (o : Opening) (m : MayBegin script c o) → CanOpen o m.words
 can_open script c o m = m.op.can m.words m.words_are
@@ -43,7 +43,7 @@ seats_are script c o round seats b = seats_counted c.mutators.items o b.may.op.h
 
 -- the workers may do their slices
 pub may_work : (begin : BeginReady) (script : Script) (c : Collector) (o : Opening) (round : Round) (seats : List RoundSeat) → HasBegun script c o round seats → HaveSliceRoom script c → CanAllWork round script c.positions.items (workers_of c.mutators.items seats)
-may_work begin script c o round seats b room = can_all_work begin script c b.may.run b.may.staged b.may.still o b.may.op b.may.words (can_open script c o b.may) round seats b.has room
+may_work begin script c o round seats b room = can_all_work begin script c b.may.run b.may.limits b.may.still o b.may.op b.may.words (can_open script c o b.may) round seats b.has room
 
 pub workers_are : (script : Script) (c : Collector) (o : Opening) (round : Round) (seats : List RoundSeat) → HasBegun script c o round seats → length (workers_of c.mutators.items seats) ≡ length c.mutators.items
 workers_are script c o round seats b = workers_count c.mutators.items seats (seats_are script c o round seats b)
@@ -57,8 +57,8 @@ pub record HasRun (script : Script) (c : Collector) (o : Opening) (round : Round
 
 pub has_run : (gather : SlicesAreGathered) (script : Script) (c : Collector) (o : Opening) (round : Round) (seats : List RoundSeat) (new : List Worker) → HasBegun script c o round seats → HaveAllWorked round script c.positions.items (workers_of c.mutators.items seats) new → HasRun script c o round new
 has_run gather script c o round seats new b worked =
-    let did : AllDid script c round o new = all_did script c b.may.run b.may.staged b.may.still o b.may.op round seats b.has new worked in
-    let slices = slices_done script c b.may.run b.may.staged b.may.still o b.may.op round seats b.has new worked did in
+    let did : AllDid script c round o new = all_did script c b.may.run b.may.limits b.may.still o b.may.op round seats b.has new worked in
+    let slices = slices_done script c b.may.run b.may.limits b.may.still o b.may.op round seats b.has new worked did in
     record {
       count = worked.count ∙ workers_are script c o round seats b;
       did = did;

@@ -4,6 +4,7 @@ use Rattle.std.specs.Prelude.{All, slice_get, option_map}
 use Rattle.std.proofs.lemmas.List.{length-map}
 use Rattle.std.proofs.lemmas.List.Elements.{All-drop}
 use Rattle.std.proofs.lemmas.Option.{slice_get-map, slice_get_within, get_or_from_slice_get}
+use Rattle.nmgc_graph.specs.Command.{Fits}
 use Rattle.nmgc_object.specs.declared.layout.Layout.{Layout}
 use Rattle.nmgc_round.specs.declared.table.Round.{Round}
 use Rattle.nmgc_round.specs.View.{Hand, Opening, Seen, no_hand, hand_of}
@@ -11,8 +12,7 @@ use Rattle.nmgc_round.specs.Seat.{RoundSeat, IsAt, seen, opening_of}
 use Rattle.nmgc_round.specs.Seating.{alone, alones}
 use Rattle.nmgc_round.specs.Starting.{CanOpen}
 use Rattle.nmgc_mutator.specs.declared.mutator.Mutator.{Mutator}
-use Rattle.nmgc_mutator.specs.Ready.{IsReady, IsWhole, IsUnused, IsBuilt, Holds}
-use Rattle.nmgc_mutator.specs.Slice.{CanRun}
+use Rattle.nmgc_mutator.specs.Ready.{IsReady, IsWhole, IsUnused, Holds}
 use Rattle.nmgc_turn.specs.Rest as rest
 use Rattle.nmgc_script.specs.declared.script.Script.{Script}
 use Rattle.nmgc_run.specs.Run.{Run}
@@ -20,9 +20,9 @@ use Rattle.nmgc_run.specs.Slice.{program_of}
 use Rattle.nmgc_cycle.specs.declared.collector.Collector.{Collector}
 use Rattle.nmgc_cycle.specs.declared.worker.Worker.{Worker}
 use Rattle.nmgc_cycle.specs.Keeps.{IsStill}
-use Rattle.nmgc_cycle.specs.Stage.{IsStaged}
+use Rattle.nmgc_cycle.specs.Limits.{IsInLimits}
 use Rattle.nmgc_cycle.specs.Working.{left_at, CanWork, CanAllWork, worker_of, workers_of, HaveSliceRoom}
-use Rattle.nmgc_cycle.proofs.Items.{item, of_item, of_list}
+use Rattle.nmgc_cycle.proofs.Items.{item, of_item}
 use Rattle.nmgc_cycle.proofs.Opened.{IsOpened}
 use Rattle.nmgc_cycle.proofs.Plans.{good_plan}
 use Rattle.nmgc_cycle.proofs.Positions.{position_within}
@@ -54,12 +54,9 @@ workers_count [] seats e = refl
 workers_count (m ∷ ms) [] e = absurd (omega arith)
 workers_count (m ∷ ms) (s ∷ seats) e = let rest = workers_count ms seats (omega arith) in omega (arith, rest)
 
--- the commands that are left may be given
-pub left_runs : (script : Script) (staged : IsStaged script) (positions : List ℕ) (k : ℕ) → All (CanRun script.config.words) (left_at script positions k)
-left_runs script staged positions k = All-drop (CanRun script.config.words) (slice_index positions k) (program_of script.threads k) (λ i d lt. record {
-  fits = (good_plan script staged).fit k i d lt;
-  built = of_list IsBuilt script.threads staged.commands k i d lt;
-})
+-- the commands that are left fit a segment
+left_fits : (script : Script) (limits : IsInLimits script) (positions : List ℕ) (k : ℕ) → All (Fits script.config.words) (left_at script positions k)
+left_fits script limits positions k = All-drop (Fits script.config.words) (slice_index positions k) (program_of script.threads k) ((good_plan script limits).fit k)
 
 pub record HasSeats (o : Opening) (round : Round) (seats : List RoundSeat) : Type 0 where
   pub opened : opening_of round ≡ o
@@ -82,7 +79,7 @@ module _ (ms : List Mutator) (o : Opening) (hands_are : o.hands ≡ map (rest.ha
       let same : seen seat ≡ alone o (0 + k) = cc (here, there) in
       same ∙ ap (alone o) zero_first
 
-module _ (begin : BeginReady) (script : Script) (c : Collector) (run : Run) (staged : IsStaged script) (still : IsStill script c run) (o : Opening) (op : IsOpened script c run still o) (words : List ℕ) (can : CanOpen o words) (round : Round) (seats : List RoundSeat) (has : HasSeats o round seats) where
+module _ (begin : BeginReady) (script : Script) (c : Collector) (run : Run) (limits : IsInLimits script) (still : IsStill script c run) (o : Opening) (op : IsOpened script c run still o) (words : List ℕ) (can : CanOpen o words) (round : Round) (seats : List RoundSeat) (has : HasSeats o round seats) where
   -- what a mutator has as the round begins
   abbrev own_hand : Mutator → Hand
   own_hand = rest.hand_of o.core.world o.places
@@ -95,7 +92,7 @@ module _ (begin : BeginReady) (script : Script) (c : Collector) (run : Run) (sta
 
   pub is_ready : (k : ℕ) (m : Mutator) (seat : RoundSeat) → slice_get c.mutators.items k ≡ Some m → slice_get seats k ≡ Some seat → IsReady round seat m
   is_ready k m seat e f =
-      let r = resting script c run staged still k m e in
+      let r = resting script c run limits still k m e in
       let hand : hand_of o.hands m.number ≡ own_hand m = ap (λ (hs : List Hand). hand_of hs m.number) hands ∙ ap (hand_of (map own_hand c.mutators.items)) r.number_is ∙ get_or_from_slice_get (map own_hand c.mutators.items) k (own_hand m) no_hand (slice_get-map own_hand c.mutators.items k ∙ ap (option_map own_hand) e) in
       let place : IsAt round seat = of_item (IsAt round) seats k seat has.at f in
       begin o words round seat m can has.opened place (seat_alone c.mutators.items o hands round seats has k seat f ∙ ap (alone o) (sym r.number_is)) (op.layout_is ∙ sym r.layout_is) r.whole r.unused (subst (λ (h : Hand). Holds h m) (sym hand) (record { registers = refl; queue = refl; serial = refl }))
@@ -115,10 +112,10 @@ module _ (begin : BeginReady) (script : Script) (c : Collector) (run : Run) (sta
       each k d lt =
           let m = item c.mutators.items k lt in
           let seat = item seats k (omega (arith, lt, count_is)) in
-          let r = resting script c run staged still k m.0 m.1 in
+          let r = resting script c run limits still k m.0 m.1 in
           let words_are : m.0.layout.words ≡ script.config.words = ap (λ (l : Layout). l.words) (r.layout_is ∙ still.kept.layout) in
           subst (CanWork round script.config.slice (left_at script c.positions.items k)) (sym (get_or_from_slice_get (workers_of c.mutators.items seats) k (worker_of (m.0, seat.0)) d (workers_at c.mutators.items seats k m.0 seat.0 m.1 seat.1))) (record {
             ready = is_ready k m.0 seat.0 m.1 seat.1;
-            program_is = subst (λ (n : ℕ). All (CanRun n) (left_at script c.positions.items k)) (sym words_are) (left_runs script staged c.positions.items k);
+            program_is = subst (λ (n : ℕ). All (Fits n) (left_at script c.positions.items k)) (sym words_are) (left_fits script limits c.positions.items k);
             room = room k m.0 m.1;
           })

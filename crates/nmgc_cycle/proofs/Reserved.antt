@@ -17,7 +17,7 @@ use Rattle.nmgc_run.specs.Seen.{MutatorSeen}
 use Rattle.nmgc_run.specs.State.{State, Progress, idle, marking, sweeping, plan_of}
 use Rattle.nmgc_cycle.specs.declared.collector.Collector.{Collector}
 use Rattle.nmgc_cycle.specs.Bound.{MayFollow, commands, one_cycle, no_cycle, AreFewAtStop}
-use Rattle.nmgc_cycle.specs.Keeps.{IsKept, IsOwn, IsStill, HasStopped, Sweeps}
+use Rattle.nmgc_cycle.specs.Keeps.{HasClosingRoom, IsKept, IsOwn, IsStill, HasStopped, Sweeps}
 use Rattle.nmgc_cycle.specs.Shown.{seen, seen_mutator}
 use Rattle.nmgc_cycle.specs.Working.{AreReserved}
 use Rattle.nmgc_cycle.proofs.Items.{item}
@@ -123,7 +123,7 @@ module _ (script : Script) (c : Collector) (run : Run) (still : IsStill script c
   still_reserved = record {
     kept = kept;
     at_stop = subst (λ (l : List MutatorSeen). IsAtStop (plan_of script) run (record (seen c) { mutators = l })) (sym (reserved_seen c.mutators.items mutators.items reserved)) still.at_stop;
-    weakless = still.weakless;
+    closing = subst (HasClosingRoom c.progress) (sym reserved.count) still.closing;
     sweeper = sweeps_on (last_state run).progress (last_state run) c mutators still.sweeper;
     few = few_on script c mutators still.few;
   }
@@ -135,7 +135,7 @@ still_before script old new run kept rest reserved still =
     record {
       kept = kept;
       at_stop = subst (IsAtStop (plan_of script) run) same still.at_stop;
-      weakless = still.weakless;
+      closing = subst (HasClosingRoom old.progress) reserved.count (subst (λ (x : Collector). HasClosingRoom x.progress (length new.mutators.items)) rest still.closing);
       sweeper = sweeps_on (last_state run).progress (last_state run) (record old { mutators = new.mutators }) old.mutators (subst (Sweeps (last_state run).progress (last_state run)) rest still.sweeper);
       few = few_on script (record old { mutators = new.mutators }) old.mutators (subst (AreFewAtStop script) rest still.few);
     }

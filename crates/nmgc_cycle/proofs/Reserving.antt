@@ -11,7 +11,7 @@ use Rattle.nmgc_run.specs.Slice.{program_of}
 use Rattle.nmgc_cycle.specs.Working.{left_at, HasLists}
 
 -- what holds of the new item and of those before it holds of all up to it
-up_to : {A : Type 0} (P : ℕ → A → Type 0) (xs : List A) (n : ℕ) (x d : A) → n < length xs → (k : ℕ) → k < n + 1 → (k < n → P k (slice_index_or xs k d)) → P n x → P k (slice_index_or (slice_set xs n x) k d)
+pub up_to : {A : Type 0} (P : ℕ → A → Type 0) (xs : List A) (n : ℕ) (x d : A) → n < length xs → (k : ℕ) → k < n + 1 → (k < n → P k (slice_index_or xs k d)) → P n x → P k (slice_index_or (slice_set xs n x) k d)
 up_to P xs n x d lt k le before own = elim (cases_lt k n) [
   | inl less ↦ subst (P k) (sym (get_or-set_other xs n k x d (λ (e : k ≡ n). omega (arith, e, less)))) (before less)
   | inr more ↦

@@ -32,7 +32,7 @@ use Rattle.nmgc_run.specs.laws.Places.{blocks_at_stop, block_used}
 use Rattle.nmgc_cycle.specs.declared.collector.Collector.{Collector}
 use Rattle.nmgc_cycle.specs.Keeps.{IsStill}
 use Rattle.nmgc_cycle.specs.Shown.{seen, words_in, seen_mutator}
-use Rattle.nmgc_cycle.specs.Stage.{IsStaged}
+use Rattle.nmgc_cycle.specs.Limits.{IsInLimits}
 use Rattle.nmgc_cycle.proofs.Plans.{sound_state}
 use Rattle.nmgc_cycle.proofs.RootLists.{same_registers, same_queues, same_serials, seen_at}
 
@@ -53,7 +53,7 @@ same_roots places w ms r = subst (λ (l : List ℕ). RepresentsRoots places w l 
 pub nursery_seen : (ms : List Mutator) (k : ℕ) (m : Mutator) → slice_get ms k ≡ Some m → slice_get (map (λ (n : MutatorSeen). n.nursery) (map seen_mutator ms)) k ≡ Some m.nursery
 nursery_seen ms k m e = slice_get-map (λ (n : MutatorSeen). n.nursery) (map seen_mutator ms) k ∙ ap (option_map (λ (n : MutatorSeen). n.nursery)) (seen_at ms k m e)
 
-module _ (script : Script) (c : Collector) (run : Run) (staged : IsStaged script) (still : IsStill script c run) where
+module _ (script : Script) (c : Collector) (run : Run) (limits : IsInLimits script) (still : IsStill script c run) where
   -- a place lies below the nurseries
   pub rest_low : (p : Place) → Contains still.at_stop.heap.places p → p.at < young_base c.segments
   rest_low p held = elim ((still.at_stop.heap.all p).0 held) [
@@ -99,7 +99,7 @@ module _ (script : Script) (c : Collector) (run : Run) (staged : IsStaged script
       }
 
   pub blocks_there : AreBlocks c.segments (young_base c.segments) still.at_stop.heap.places (last_state run).world
-  blocks_there = subst (λ (l : Layout). AreBlocks c.segments (nursery_place l 0) still.at_stop.heap.places (last_state run).world) (sym still.kept.layout) (blocks_at_stop (layout_of (plan_of script)) (last_state run) (seen c).words c.segments (ends_of (seen c)) [] still.at_stop.heap)
+  blocks_there = subst (λ (l : Layout). AreBlocks c.segments (nursery_place l 0) still.at_stop.heap.places (last_state run).world) (sym still.kept.layout) (blocks_at_stop (layout_of (plan_of script)) (last_state run) (seen c).words c.segments (ends_of (seen c)) (seen c).weaks still.at_stop.heap)
 
   pub still_rests : snapshots (last_state run).progress ≡ [] → (words : List ℕ) → c.words ≡ Some words → IsAtRest c.segments still.at_stop.heap.places (last_state run).world words c.mutators.items
   still_rests none words is =
@@ -108,7 +108,7 @@ module _ (script : Script) (c : Collector) (run : Run) (staged : IsStaged script
       let w = (last_state run).world in
       let same : layout_of (plan_of script) ≡ c.segments.layout = sym still.kept.layout in
       record {
-        world = (sound_state script c run staged still).world;
+        world = (sound_state script c run limits still).world;
         sound = still.kept.sound;
         represents = restated heap.places w same none (ap words_in is) holds.represents;
         roots = same_roots heap.places w c.mutators.items holds.roots;

@@ -30,6 +30,10 @@ pub same_recorded : (ms : List Mutator) → flat_map (λ (m : MutatorSeen). m.re
 same_recorded [] = refl
 same_recorded (m ∷ ms) = ap (λ (l : List ℕ). numbers m.recorded.items ++ l) (same_recorded ms)
 
+pub same_weaks : (ms : List Mutator) → flat_map (λ (m : MutatorSeen). m.young_weaks) (map seen_mutator ms) ≡ turn.weaks_of ms
+same_weaks [] = refl
+same_weaks (m ∷ ms) = ap (λ (l : List ℕ). numbers m.young_weaks.items ++ l) (same_weaks ms)
+
 -- a mutator is seen by its number
 pub seen_at : (ms : List Mutator) (k : ℕ) (m : Mutator) → slice_get ms k ≡ Some m → slice_get (map seen_mutator ms) k ≡ Some (seen_mutator m)
 seen_at ms k m e = slice_get-map seen_mutator ms k ∙ ap (option_map seen_mutator) e

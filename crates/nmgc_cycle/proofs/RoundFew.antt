@@ -1,9 +1,8 @@
 -- A round leaves fewer rounds to follow.
-use Rattle.std.proofs.Common.{ℕ, ◌≡◌, ◌+◌, ◌<◌, ◌≤◌, ◌⊎◌, List, [], ◌∷◌, ◌++◌, length, refl, sym, ap, subst, ◌∙◌, arith, Bool, true, false, None, slice_index_or, inl, inr}
-use Rattle.std.specs.Prelude.{◌&&◌, not, nat_lt, if◌then◌else◌, Some, Option}
+use Rattle.std.proofs.Common.{ℕ, ◌≡◌, ◌+◌, ◌<◌, ◌≤◌, ◌⊎◌, List, [], ◌∷◌, ◌++◌, length, refl, sym, ap, subst, ◌∙◌, arith, Bool, true, false, None, inl, inr}
+use Rattle.std.specs.Prelude.{◌&&◌, not, nat_lt, if◌then◌else◌, Some}
 use Rattle.std.proofs.lemmas.Bool.{cases_lt}
 use Rattle.nmgc_alloc.specs.Segments.{Segments}
-use Rattle.nmgc_graph.specs.World.{World}
 use Rattle.nmgc_graph.specs.History.{Row}
 use Rattle.nmgc_graph.specs.declared.command.Reply.{Reply}
 use Rattle.nmgc_journal.specs.declared.report.End.{End}
@@ -20,18 +19,18 @@ use Rattle.nmgc_run.specs.Run.{Run, last_state}
 use Rattle.nmgc_run.specs.Slice.{has_left, program_of}
 use Rattle.nmgc_run.specs.State.{Plan, State, Progress, idle, marking, sweeping, phase_of, is_idle, plan_of, free_count, reserve_of}
 use Rattle.nmgc_run.specs.Statements.{answered_count}
-use Rattle.nmgc_run.specs.Stop.{answer_of, is_short}
+use Rattle.nmgc_run.specs.Stop.{answer_of}
 use Rattle.nmgc_run.specs.laws.Lefts.{left_is_told}
 use Rattle.nmgc_cycle.specs.declared.collector.Collector.{Collector}
 use Rattle.nmgc_cycle.specs.declared.progress.Marking.{Marking}
 use Rattle.nmgc_cycle.specs.declared.progress.Progress.{Progress as Doing}
 use Rattle.nmgc_cycle.specs.declared.progress.Progress.TheVariants as doing
 use Rattle.nmgc_cycle.specs.declared.progress.Sweeping.{Sweeping}
-use Rattle.nmgc_cycle.specs.Bound.{left_from, commands_left, cycle_most, heap_of, most_stops, phase_left, MayFollow, AreFew, AreFewBeforeStop, HasMore, NoneIsDue, commands, one_cycle, no_cycle}
+use Rattle.nmgc_cycle.specs.Bound.{commands_left, cycle_most, heap_of, most_stops, phase_left, MayFollow, AreFewBeforeStop, HasMore, NoneIsDue, commands, one_cycle, no_cycle}
 use Rattle.nmgc_cycle.specs.Cycles.{HasHelped, HasScanned, HasSweptSome}
 use Rattle.nmgc_cycle.specs.Keeps.{IsStill}
 use Rattle.nmgc_cycle.specs.Shown.{seen, phase_in}
-use Rattle.nmgc_cycle.specs.Stage.{IsStaged}
+use Rattle.nmgc_cycle.specs.Limits.{IsInLimits}
 use Rattle.nmgc_cycle.proofs.Measures.{AreLeft, nothing_left, round_falls, left_then, left_less, left_is}
 use Rattle.nmgc_cycle.proofs.NoneLeft.{DoesNothing, nothing_done, none_has}
 
@@ -86,7 +85,7 @@ not_idle p idle e not is = let bad : true ≡ false = not in cc
 not_idle p (marking k) e not is = let bad : phase.Idle ≡ phase.Marking = ap phase_in (sym is) ∙ e in cc
 not_idle p (sweeping k closed) e not is = let bad : phase.Idle ≡ phase.Sweeping = ap phase_in (sym is) ∙ e in cc
 
-module _ (script : Script) (old new : Collector) (run : Run) (replies : List (List Reply)) (history : List Row) (worked : State) (staged : IsStaged script) (still : IsStill script old run) (after : IsAfterRound (plan_of script) run replies history worked (seen new)) (round : Round) (from seat : RoundSeat) (help : HasHelped round script.config.quota from seat old.segments new.segments old.progress new.progress) where
+module _ (script : Script) (old new : Collector) (run : Run) (replies : List (List Reply)) (history : List Row) (worked : State) (limits : IsInLimits script) (still : IsStill script old run) (after : IsAfterRound (plan_of script) run replies history worked (seen new)) (round : Round) (from seat : RoundSeat) (help : HasHelped round script.config.quota from seat old.segments new.segments old.progress new.progress) where
   abbrev s : State
   s = last_state run
 
@@ -103,7 +102,7 @@ module _ (script : Script) (old new : Collector) (run : Run) (replies : List (Li
   left = left_is_told (plan_of script) run old.rounds old.stops old.cycles still.at_stop.is_run still.at_stop.tells
 
   part : ((old.progress ≡ doing.Idle) × (new.progress ≡ doing.Idle)) ⊎ (phase_left script.config.segments new.progress < phase_left script.config.segments old.progress)
-  part = helped script.config.segments script.config.quota round from seat old.segments new.segments staged.fits.config.some_quota old.progress new.progress still.few.more help
+  part = helped script.config.segments script.config.quota round from seat old.segments new.segments limits.fits.config.some_quota old.progress new.progress still.few.more help
 
   no_longer : phase_left script.config.segments new.progress ≤ phase_left script.config.segments old.progress
   no_longer = elim part [
@@ -114,7 +113,7 @@ module _ (script : Script) (old new : Collector) (run : Run) (replies : List (Li
   fewer_left : 1 ≤ commands_left script.threads old.rounds → commands_left script.threads new.rounds < commands_left script.threads old.rounds
   fewer_left some =
       let is = left_is script.threads old.rounds in
-      let falls = round_falls script s worked replies history (answered_count old.rounds) staged after.round left (omega (arith, some, is)) in
+      let falls = round_falls script s worked replies history (answered_count old.rounds) limits after.round left (omega (arith, some, is)) in
       let after_it = left_then script.threads old.rounds told in
       let now = ap (λ (r : List RoundRows). commands_left script.threads r) rounds_are in
       omega (arith, falls, after_it, now, is)

@@ -1,6 +1,6 @@
 -- What a round leaves for the promotion of its stop, whatever the collector did beside it.
-use Rattle.std.proofs.Common.{ℕ, suc, ◌≡◌, ◌+◌, ◌<◌, ◌≤◌, ◌⊎◌, List, [], ◌∷◌, ◌++◌, length, map, refl, sym, ap, subst, ◌∙◌, inl, inr, arith, Some}
-use Rattle.std.specs.Prelude.{All, slice_get, option_map, flat_map}
+use Rattle.std.proofs.Common.{ℕ, suc, ◌≡◌, ◌+◌, ◌<◌, ◌≤◌, ◌⊎◌, List, [], ◌∷◌, length, map, refl, sym, ap, subst, ◌∙◌, inl, inr, arith, Some}
+use Rattle.std.specs.Prelude.{All, slice_get, option_map}
 use Rattle.std.proofs.lemmas.Bool.{cases_lt}
 use Rattle.std.proofs.lemmas.List.{get_or_past, length-map}
 use Rattle.std.proofs.lemmas.List.Elements.{All-nil, All-cons}
@@ -9,7 +9,6 @@ use Rattle.nmgc_graph.specs.World.{World}
 use Rattle.nmgc_object.specs.Places.{nursery_place, reserve_count}
 use Rattle.nmgc_object.specs.declared.layout.Layout.{Layout}
 use Rattle.nmgc_object.specs.declared.layout.Nursery.{Nursery}
-use Rattle.nmgc_object.specs.declared.words.Address.{Address}
 use Rattle.nmgc_alloc.specs.AllocState.{StandsFor}
 use Rattle.nmgc_alloc.specs.Reserve as reserve
 use Rattle.nmgc_alloc.specs.Segments.{Segments}
@@ -21,7 +20,6 @@ use Rattle.nmgc_blocks.specs.Remembers.{Remembers}
 use Rattle.nmgc_blocks.specs.Stopped.{IsStopped, young_base}
 use Rattle.nmgc_mutator.specs.declared.mutator.Mutator.{Mutator}
 use Rattle.nmgc_mutator.specs.Ready.{words_by}
-use Rattle.nmgc_mutator.specs.Records.{numbers}
 use Rattle.nmgc_round.specs.Naming.{AllReply}
 use Rattle.nmgc_round.specs.Objects.{earlier}
 use Rattle.nmgc_round.specs.Starting.{CanOpen}
@@ -33,7 +31,7 @@ use Rattle.nmgc_script.specs.declared.script.Script.{Script}
 use Rattle.nmgc_beside.specs.Heaps.{IsRoundFrom}
 use Rattle.nmgc_run.specs.Collector.{AreNurseries}
 use Rattle.nmgc_run.specs.Heap.{HasAllRegisters, snapshots, registers_of, queues_of, serials_of}
-use Rattle.nmgc_run.specs.Seen.{MutatorSeen, end_of, ends_of, nurseries_of, recorded_in, young_weaks_in}
+use Rattle.nmgc_run.specs.Seen.{end_of, ends_of, nurseries_of, recorded_in, young_weaks_in}
 use Rattle.nmgc_run.specs.Slice.{slice_of, program_of}
 use Rattle.nmgc_run.specs.State.{layout_of}
 use Rattle.nmgc_cycle.specs.declared.collector.Collector.{Collector}
@@ -46,16 +44,9 @@ use Rattle.nmgc_cycle.proofs.Phases.{noted_snapshots}
 use Rattle.nmgc_cycle.proofs.Plans.{sound_state}
 use Rattle.nmgc_cycle.proofs.Positions.{left_is}
 use Rattle.nmgc_cycle.proofs.Resting.{blocks_there}
-use Rattle.nmgc_cycle.proofs.RootLists.{same_registers, same_queues, same_serials, same_nurseries, same_recorded}
+use Rattle.nmgc_cycle.proofs.RootLists.{same_registers, same_queues, same_serials, same_nurseries, same_recorded, same_weaks}
 use Rattle.nmgc_cycle.proofs.Rounded.{one_did}
 use Rattle.nmgc_cycle.proofs.Slicing.{commands_of}
-
--- no weak pointers were noted
-none_noted : (ms : List Mutator) → ((k : ℕ) (m : Mutator) → slice_get ms k ≡ Some m → m.young_weaks.items ≡ []) → flat_map (λ (m : MutatorSeen). m.young_weaks) (map seen_mutator ms) ≡ []
-none_noted [] h = refl
-none_noted (m ∷ ms) h =
-    ap (λ (l : List Address). numbers l ++ flat_map (λ (n : MutatorSeen). n.young_weaks) (map seen_mutator ms)) (h 0 m refl)
-    ∙ none_noted ms (λ k n e. h (suc k) n e)
 
 -- each has all its registers
 pub all_registers : (ms : List Mutator) → ((k : ℕ) (m : Mutator) → slice_get ms k ≡ Some m → HasRegisters m) → All HasAllRegisters (map end_of (map seen_mutator ms))
@@ -116,9 +107,9 @@ module _ (script : Script) (c new : Collector) (o : Opening) (x : IsOver script 
     blocks : AreBlocks c.segments (young_base c.segments) o.places o.core.world
     blocks =
         subst (λ (l : List Place). AreBlocks c.segments (young_base c.segments) l o.core.world) (sym x.op.places_are)
-        (subst (AreBlocks c.segments (young_base c.segments) x.still.at_stop.heap.places) (sym x.op.world_is) (blocks_there script c x.run x.staged x.still))
+        (subst (AreBlocks c.segments (young_base c.segments) x.still.at_stop.heap.places) (sym x.op.world_is) (blocks_there script c x.run x.limits x.still))
 
-    pub stopped : IsStopped (stop_after o x.did.words (view script c new o x) x.did.leaves.0 new.mutators.items) c.segments x.did.words (turn.nurseries_of new.mutators.items) (turn.registers_of new.mutators.items) (turn.queues_of new.mutators.items) (turn.recorded_of new.mutators.items) []
+    pub stopped : IsStopped (stop_after o x.did.words (view script c new o x) x.did.leaves.0 new.mutators.items) c.segments x.did.words (turn.nurseries_of new.mutators.items) (turn.registers_of new.mutators.items) (turn.queues_of new.mutators.items) (turn.recorded_of new.mutators.items) (turn.weaks_of new.mutators.items)
     stopped = law o x.before x.did.words (view script c new o x) new.mutators.items x.did.done c.segments (can script c new o x) x.op.past (sym x.op.layout_is) x.still.kept.sound blocks x.did.leaves (worked script c new o x) has_reserve
 
     -- the nurseries are whole
@@ -147,18 +138,17 @@ module _ (script : Script) (c new : Collector) (o : Opening) (x : IsOver script 
 
     pub remembered : Remembers (nursery_place layout 0) ((s script c new o x).world ∷ snapshots (t script c new o x (s script c new o x).allocation).progress) (places script c new o x) (w script c new o x) (recorded_in (shown script c new o x)) (young_weaks_in (shown script c new o x))
     remembered =
-        let none = none_noted new.mutators.items (λ k m e. (one_did script c new o x k m e).1.2.no_weaks) in
-        subst (λ (weaks : List ℕ). Remembers (nursery_place layout 0) ((s script c new o x).world ∷ snapshots (t script c new o x (s script c new o x).allocation).progress) (places script c new o x) (w script c new o x) (recorded_in (shown script c new o x)) weaks) (sym none)
-        (subst (λ (recorded : List ℕ). Remembers (nursery_place layout 0) ((s script c new o x).world ∷ snapshots (t script c new o x (s script c new o x).allocation).progress) (places script c new o x) (w script c new o x) recorded []) (sym (same_recorded new.mutators.items))
-        (subst (λ (later : List World). Remembers (nursery_place layout 0) ((s script c new o x).world ∷ later) (places script c new o x) (w script c new o x) (turn.recorded_of new.mutators.items) []) spoken
-        (subst (λ (began : World). Remembers (nursery_place layout 0) (began ∷ earlier o) (places script c new o x) (w script c new o x) (turn.recorded_of new.mutators.items) []) x.op.world_is
-        (subst (λ (l : Layout). Remembers (nursery_place l 0) (o.core.world ∷ earlier o) (places script c new o x) (w script c new o x) (turn.recorded_of new.mutators.items) []) x.still.kept.layout stopped.left))))
+        subst (λ (weaks : List ℕ). Remembers (nursery_place layout 0) ((s script c new o x).world ∷ snapshots (t script c new o x (s script c new o x).allocation).progress) (places script c new o x) (w script c new o x) (recorded_in (shown script c new o x)) weaks) (sym (same_weaks new.mutators.items))
+        (subst (λ (recorded : List ℕ). Remembers (nursery_place layout 0) ((s script c new o x).world ∷ snapshots (t script c new o x (s script c new o x).allocation).progress) (places script c new o x) (w script c new o x) recorded (turn.weaks_of new.mutators.items)) (sym (same_recorded new.mutators.items))
+        (subst (λ (later : List World). Remembers (nursery_place layout 0) ((s script c new o x).world ∷ later) (places script c new o x) (w script c new o x) (turn.recorded_of new.mutators.items) (turn.weaks_of new.mutators.items)) spoken
+        (subst (λ (began : World). Remembers (nursery_place layout 0) (began ∷ earlier o) (places script c new o x) (w script c new o x) (turn.recorded_of new.mutators.items) (turn.weaks_of new.mutators.items)) x.op.world_is
+        (subst (λ (l : Layout). Remembers (nursery_place l 0) (o.core.world ∷ earlier o) (places script c new o x) (w script c new o x) (turn.recorded_of new.mutators.items) (turn.weaks_of new.mutators.items)) x.still.kept.layout stopped.left))))
 
     -- with segments that stand for the same blocks, the round began with the heap of the stop
-    abbrev pub round_from : (segments : Segments) → segments.layout ≡ layout → StandsFor segments (seen c).words (s script c new o x).allocation → IsRoundFrom layout (s script c new o x) (t script c new o x (s script c new o x).allocation) o (seen c).words x.did.words (view script c new o x) c.segments segments (ends_of (seen c)) (ends_of (shown script c new o x)) []
+    abbrev pub round_from : (segments : Segments) → segments.layout ≡ layout → StandsFor segments (seen c).words (s script c new o x).allocation → IsRoundFrom layout (s script c new o x) (t script c new o x (s script c new o x).allocation) o (seen c).words x.did.words (view script c new o x) c.segments segments (ends_of (seen c)) (ends_of (shown script c new o x)) (seen c).weaks
     round_from segments same stands = record {
       heap = x.still.at_stop.heap;
-      known = (sound_state script c x.run x.staged x.still).known;
+      known = (sound_state script c x.run x.limits x.still).known;
       can = subst (CanOpen o) (sym (ap words_in x.before_are)) (can script c new o x);
       layout_is = opening_layout;
       places_are = x.op.places_are;

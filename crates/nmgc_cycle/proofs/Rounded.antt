@@ -1,6 +1,6 @@
 -- A round that is over is one of the run: its order of all commands is legal, and it has each mutator's own.
-use Rattle.std.proofs.Common.{ℕ, ◌≡◌, ◌<◌, List, [], length, map, sym, ap, subst, ◌∙◌, arith, Bool, false, Some}
-use Rattle.std.specs.Prelude.{All, slice_get, slice_index_or, ◌||◌}
+use Rattle.std.proofs.Common.{ℕ, ◌≡◌, ◌<◌, List, [], length, map, sym, ap, subst, ◌∙◌, arith, Bool, Some}
+use Rattle.std.specs.Prelude.{slice_get, slice_index_or, ◌||◌}
 use Rattle.std.proofs.Math.ListN.{get_or-map}
 use Rattle.std.proofs.lemmas.Option.{slice_get_within, get_or_from_slice_get}
 use Rattle.nmgc_graph.specs.World.{World}
@@ -9,7 +9,6 @@ use Rattle.nmgc_graph.specs.declared.command.Command.{Command}
 use Rattle.nmgc_graph.specs.declared.command.Reply.{Reply}
 use Rattle.nmgc_alloc.specs.AllocState.{AllocState}
 use Rattle.nmgc_mutator.specs.declared.mutator.Mutator.{Mutator}
-use Rattle.nmgc_mutator.specs.Ready.{IsBuilt}
 use Rattle.nmgc_round.specs.View.{Opening, Part}
 use Rattle.nmgc_turn.specs.Turn.{RoundIsHistory}
 use Rattle.nmgc_turn.specs.Worked.{Done, HasWorked}
@@ -22,8 +21,8 @@ use Rattle.nmgc_cycle.specs.declared.collector.Collector.{Collector}
 use Rattle.nmgc_cycle.specs.Shown.{phase_in}
 use Rattle.nmgc_cycle.proofs.Items.{item}
 use Rattle.nmgc_cycle.proofs.Mapped.{same_maps}
-use Rattle.nmgc_cycle.proofs.Over.{IsOver, s, rows, w, t, told, shown, view, worked, with_world, done_count, mutators_count, one, replied}
-use Rattle.nmgc_cycle.proofs.OwnRows.{replies_in, done_in, own_again, same_lengths, no_full, none_asks}
+use Rattle.nmgc_cycle.proofs.Over.{IsOver, s, rows, w, t, told, shown, view, worked, with_world, done_count, one, replied}
+use Rattle.nmgc_cycle.proofs.OwnRows.{replies_in, done_in, own_again, same_lengths}
 use Rattle.nmgc_cycle.proofs.Phases.{noted_phase}
 use Rattle.nmgc_cycle.proofs.Plans.{sound_state}
 use Rattle.nmgc_cycle.proofs.Positions.{left_is}
@@ -40,20 +39,12 @@ module _ (script : Script) (c new : Collector) (o : Opening) (x : IsOver script 
       let d = item x.did.done k (let n = h.done_are in omega (arith, within, many, n)) in
       (p.0, (d.0, d.1, h.each k p.0 m d.0 p.1 e d.1))
 
-  pub each_built : (k : ℕ) (d : List Done) → slice_get x.did.done k ≡ Some d → All (λ (y : Done). IsBuilt y.0) d
-  each_built k d e =
-      let m = item new.mutators.items k (let within = slice_get_within x.did.done k d e in let n = done_count script c new o x in let k = mutators_count script c new o x in omega (arith, within, n, k)) in
-      let h = one_did k m.0 m.1 in
-      let there = h.1.1 in
-      let same : h.1.0 ≡ d = cc (there, e) in
-      subst (All (λ (y : Done). IsBuilt y.0)) same h.1.2.built
-
   -- the replies, and the commands, which are the slices of the rule
   pub told_is : told script c new o x ≡ map replies_in x.did.done
   told_is = let h = worked script c new o x in same_maps (λ (m : Mutator). m.replies.items) replies_in new.mutators.items x.did.done (h.mutators_are ∙ sym h.done_are) (λ k m d e f. replied script c new o x k m d e f)
 
   pub slices_are : slices script.config (s script c new o x).left ≡ map commands_of x.did.done
-  slices_are = same_maps (slice_of script.config) commands_of (s script c new o x).left x.did.done ((sound_state script c x.run x.staged x.still).able.programs ∙ sym (done_count script c new o x)) each
+  slices_are = same_maps (slice_of script.config) commands_of (s script c new o x).left x.did.done ((sound_state script c x.run x.limits x.still).able.programs ∙ sym (done_count script c new o x)) each
     where
       each : (k : ℕ) (program : List Command) (d : List Done) → slice_get (s script c new o x).left k ≡ Some program → slice_get x.did.done k ≡ Some d → slice_of script.config program ≡ commands_of d
       each k program d e f =
@@ -97,24 +88,23 @@ module _ (script : Script) (c new : Collector) (o : Opening) (x : IsOver script 
       rest = ap (λ (world : World). with_world script c new o x world allocation) world_is;
     }
 
-  -- a cycle is asked for by the slices; a full cycle never is
+  -- a cycle, or a full one, is asked for by the slices
   asked : new.collect ≡ ((s script c new o x).collect || some_asks is_collect (slices script.config (s script c new o x).left))
   asked =
       x.did.collect
       ∙ ap (λ (b : Bool). b || some_asks is_collect (map commands_of x.did.done)) x.still.at_stop.matches.collect
       ∙ ap (λ (l : List (List Command)). (s script c new o x).collect || some_asks is_collect l) (sym slices_are)
 
-  no_full_asked : false ≡ ((s script c new o x).full || some_asks is_full (slices script.config (s script c new o x).left))
-  no_full_asked = sym (
-      ap (λ (b : Bool). b || some_asks is_full (slices script.config (s script c new o x).left)) (sym x.still.at_stop.matches.full)
-      ∙ ap (λ (l : List (List Command)). some_asks is_full l) slices_are
-      ∙ none_asks is_full no_full x.did.done each_built
-      )
+  full_asked : new.full ≡ ((s script c new o x).full || some_asks is_full (slices script.config (s script c new o x).left))
+  full_asked =
+      x.did.full
+      ∙ ap (λ (b : Bool). b || some_asks is_full (map commands_of x.did.done)) x.still.at_stop.matches.full
+      ∙ ap (λ (l : List (List Command)). (s script c new o x).full || some_asks is_full l) (sym slices_are)
 
   pub matches : (allocation : AllocState) → phase_in new.progress ≡ phase_in c.progress → Matches (shown script c new o x) (t script c new o x allocation)
   matches allocation same = record {
     phase = same ∙ x.still.at_stop.matches.phase ∙ sym (noted_phase (s script c new o x).progress (rows script c new o x));
     begun = x.still.at_stop.matches.begun;
     collect = asked;
-    full = no_full_asked;
+    full = full_asked;
   }

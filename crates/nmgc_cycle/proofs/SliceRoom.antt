@@ -9,7 +9,7 @@ use Rattle.nmgc_script.specs.declared.script.Script.{Script}
 use Rattle.nmgc_run.specs.Run.{Run}
 use Rattle.nmgc_cycle.specs.declared.collector.Collector.{Collector}
 use Rattle.nmgc_cycle.specs.Keeps.{IsStill}
-use Rattle.nmgc_cycle.specs.Stage.{IsStaged}
+use Rattle.nmgc_cycle.specs.Limits.{IsInLimits}
 use Rattle.nmgc_cycle.specs.Working.{left_at, HasLists, AreReserved, HaveSliceRoom}
 use Rattle.nmgc_cycle.proofs.Items.{item}
 use Rattle.nmgc_cycle.proofs.Positions.{serial_fits}
@@ -23,8 +23,8 @@ on_both (Err e) f p q = p
 min_few : (slice left : ℕ) → min slice left ≤ left
 min_few slice left = omega arith
 
-pub reserved_room : (script : Script) (c d : Collector) (run : Run) → IsStaged script → IsStill script c run → d ≡ record c { mutators = d.mutators } → AreReserved c.mutators.items d.mutators.items → ((k : ℕ) (x : Mutator) → k < length c.mutators.items → HasLists (min script.config.slice (length (left_at script c.positions.items k))) (slice_index_or d.mutators.items k x)) → HaveSliceRoom script d
-reserved_room script c d run staged still same reserved lists k m e =
+pub reserved_room : (script : Script) (c d : Collector) (run : Run) → IsInLimits script → IsStill script c run → d ≡ record c { mutators = d.mutators } → AreReserved c.mutators.items d.mutators.items → ((k : ℕ) (x : Mutator) → k < length c.mutators.items → HasLists (min script.config.slice (length (left_at script c.positions.items k))) (slice_index_or d.mutators.items k x)) → HaveSliceRoom script d
+reserved_room script c d run limits still same reserved lists k m e =
     let within = slice_get_within d.mutators.items k m e in
     let count = reserved.count in
     let lt : k < length c.mutators.items = omega (arith, within, count) in
@@ -36,7 +36,7 @@ reserved_room script c d run staged still same reserved lists k m e =
     let size : ℕ = length (left_at script c.positions.items k) in
     let room : HasLists (min script.config.slice size) m = subst (HasLists (min script.config.slice size)) now (lists k m lt) in
     let exists : k < length script.threads = let n = still.kept.count in omega (arith, lt, n) in
-    let fits : old.0.serial + size < 2 ^ 32 - 1 = serial_fits script c run still k exists old.0 staged old.1 in
+    let fits : old.0.serial + size < 2 ^ 32 - 1 = serial_fits script c run still k exists old.0 limits old.1 in
     let few : min script.config.slice size ≤ size = min_few script.config.slice size in
     let positions : d.positions.items ≡ c.positions.items = ap (λ (x : Collector). x.positions.items) same in
     subst (λ l. HasRoom m (min script.config.slice (length (left_at script l k)))) (sym positions) (record {

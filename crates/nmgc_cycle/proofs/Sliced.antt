@@ -1,5 +1,5 @@
 -- What the slices of a round leave of positions and replies, and whether one asked for a cycle.
-use Rattle.std.proofs.Common.{ℕ, zero, suc, ◌≡◌, ◌+◌, ◌-◌, ◌<◌, ◌^◌, ◌↔◌, Bool, IsTrue, List, [], ◌∷◌, ◌++◌, length, map, take, drop, slice_index, refl, sym, ap, ◌∙◌, arith, Option, Some}
+use Rattle.std.proofs.Common.{ℕ, zero, suc, ◌≡◌, ◌+◌, ◌-◌, ◌<◌, ◌^◌, Bool, List, [], ◌∷◌, ◌++◌, length, map, take, drop, slice_index, refl, sym, ap, ◌∙◌, arith, Option, Some}
 use Rattle.std.specs.Prelude.{slice_get, option_map}
 use Rattle.std.specs.List.{list_any}
 use Rattle.std.specs.declared.vec.Vec.{Vec}
@@ -13,14 +13,14 @@ use Rattle.nmgc_mutator.specs.declared.mutator.Mutator.{Mutator}
 use Rattle.nmgc_turn.specs.Worked.{Done}
 use Rattle.nmgc_script.specs.declared.script.Script.{Script}
 use Rattle.nmgc_run.specs.Run.{Run}
-use Rattle.nmgc_run.specs.Slice.{program_of, some_asks, is_collect}
+use Rattle.nmgc_run.specs.Slice.{program_of, some_asks, is_collect, is_full}
 use Rattle.nmgc_cycle.specs.declared.collector.Collector.{Collector}
 use Rattle.nmgc_cycle.specs.declared.progress.Progress as held
 use Rattle.nmgc_cycle.specs.declared.worker.Worker.{Worker}
 use Rattle.nmgc_cycle.specs.Keeps.{IsStill}
-use Rattle.nmgc_cycle.specs.Stage.{IsStaged}
-use Rattle.nmgc_cycle.specs.Working.{SomeAsks, left_at, commands_in, mutator_of, done_by, DidSlice}
-use Rattle.nmgc_cycle.proofs.Asking.{asks_of, some_ask, same_any, any_mapped}
+use Rattle.nmgc_cycle.specs.Limits.{IsInLimits}
+use Rattle.nmgc_cycle.specs.Working.{asks_of, asks_full_of, left_at, commands_in, mutator_of, done_by, DidSlice}
+use Rattle.nmgc_cycle.proofs.Asking.{same_any, any_mapped}
 use Rattle.nmgc_cycle.proofs.Gathering.{AllDid, OneDid, mapped}
 use Rattle.nmgc_cycle.proofs.Items.{item}
 use Rattle.nmgc_cycle.proofs.Plans.{program_few}
@@ -36,7 +36,7 @@ overwritten n (x ∷ xs) [] l e = absurd (omega arith)
 overwritten zero (x ∷ xs) (y ∷ ys) l e = absurd (omega arith)
 overwritten (suc n) (x ∷ xs) (y ∷ ys) l e = ap (λ rest. y ∷ rest) (overwritten n xs ys (omega arith) (omega arith))
 
-module _ (script : Script) (c : Collector) (run : Run) (staged : IsStaged script) (still : IsStill script c run) (o : Opening) (round : Round) (new : List Worker) (count : length new ≡ length c.mutators.items) (did : AllDid script c round o new) where
+module _ (script : Script) (c : Collector) (run : Run) (limits : IsInLimits script) (still : IsStill script c run) (o : Opening) (round : Round) (new : List Worker) (count : length new ≡ length c.mutators.items) (did : AllDid script c round o new) where
   positions_counted : length c.positions.items ≡ length new
   positions_counted = still.kept.positions_are ∙ sym (count ∙ still.kept.count)
 
@@ -60,19 +60,24 @@ module _ (script : Script) (c : Collector) (run : Run) (staged : IsStaged script
       let most = x.2.1.slice.within in
       let left : length (left_at script c.positions.items k) ≡ length (program_of script.threads k) - slice_index c.positions.items k = length-drop (slice_index c.positions.items k) (program_of script.threads k) in
       let within = position_within script c run still k (let n = still.kept.positions_are in omega (arith, lt, n)) in
-      let few = program_few script staged k in
+      let few = program_few script limits k in
       omega (arith, is, most, left, within, few)
 
   -- a cycle is asked for where one of them asks
-  pub asks_told : (asks : Bool) → IsTrue asks ↔ SomeAsks new → asks ≡ some_asks is_collect (commands_in did.done)
-  asks_told asks h =
-      some_ask new asks h
-      ∙ same_any asks_of (λ (d : List Done). list_any is_collect (commands_of d)) new did.done (sym did.count) (λ k x d e f. (did.each k x d e f).slice.asks)
+  pub asks_told : list_any asks_of new ≡ some_asks is_collect (commands_in did.done)
+  asks_told =
+      same_any asks_of (λ (d : List Done). list_any is_collect (commands_of d)) new did.done (sym did.count) (λ k x d e f. (did.each k x d e f).slice.asks)
       ∙ sym (any_mapped (list_any is_collect) commands_of did.done)
 
+  -- and so is a full one
+  pub asks_full_told : list_any asks_full_of new ≡ some_asks is_full (commands_in did.done)
+  asks_full_told =
+      same_any asks_full_of (λ (d : List Done). list_any is_full (commands_of d)) new did.done (sym did.count) (λ k x d e f. (did.each k x d e f).slice.asks_full)
+      ∙ sym (any_mapped (list_any is_full) commands_of did.done)
+
   -- each did its slice
-  pub each_did : (words : Option (List ℕ)) (segments : Segments) (progress : held.Progress) (collect : Bool) (mutators : Vec Mutator Global) (positions : Vec ℕ Global) → mutators.items ≡ map mutator_of new → ((k : ℕ) → k < length c.positions.items → slice_index positions.items k ≡ slice_index c.positions.items k + slice_index (map done_by new) k) → (k : ℕ) (m n : Mutator) (d : List Done) → slice_get c.mutators.items k ≡ Some m → slice_get mutators.items k ≡ Some n → slice_get did.done k ≡ Some d → DidSlice script c (record c { words = words; segments = segments; progress = progress; collect = collect; mutators = mutators; positions = positions }) k m n d
-  each_did words segments progress collect mutators positions same moved k m n d e f g =
+  pub each_did : (words : Option (List ℕ)) (segments : Segments) (progress : held.Progress) (collect asked : Bool) (mutators : Vec Mutator Global) (positions : Vec ℕ Global) → mutators.items ≡ map mutator_of new → ((k : ℕ) → k < length c.positions.items → slice_index positions.items k ≡ slice_index c.positions.items k + slice_index (map done_by new) k) → (k : ℕ) (m n : Mutator) (d : List Done) → slice_get c.mutators.items k ≡ Some m → slice_get mutators.items k ≡ Some n → slice_get did.done k ≡ Some d → DidSlice script c (record c { words = words; segments = segments; progress = progress; collect = collect; full = asked; mutators = mutators; positions = positions }) k m n d
+  each_did words segments progress collect asked mutators positions same moved k m n d e f g =
       let x = mapped mutator_of new k n (ap (λ (l : List Mutator). slice_get l k) (sym same) ∙ f) in
       let h = did.each k x.0 d x.1 g in
       let old_is = h.old_is in
@@ -85,4 +90,9 @@ module _ (script : Script) (c : Collector) (run : Run) (staged : IsStaged script
         commands = h.slice.commands;
         replies = ap (λ (u : Mutator). u.replies.items) x.2 ∙ h.slice.did.replies ∙ ap (λ (u : Mutator). u.replies.items ++ map (λ (p : Done). p.1) d) old;
         position = omega (arith, is, many, now);
+        queue_room =
+            let room = h.slice.did.room.queue in
+            let before = ap (λ (u : Mutator). u.queue.spare) old in
+            let after = ap (λ (u : Mutator). u.queue.spare) x.2 in
+            omega (arith, room, before, after);
       }

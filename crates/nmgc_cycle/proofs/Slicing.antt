@@ -19,10 +19,10 @@ use Rattle.nmgc_mutator.specs.Does.{HasDone}
 use Rattle.nmgc_mutator.specs.Slice.{Ended}
 use Rattle.nmgc_turn.specs.Worked.{Done}
 use Rattle.nmgc_script.specs.declared.script.Config.{Config}
-use Rattle.nmgc_run.specs.Slice.{slice_of, is_collect}
+use Rattle.nmgc_run.specs.Slice.{slice_of, is_collect, is_full}
 use Rattle.nmgc_cycle.specs.declared.worker.Worker.{Worker}
 use Rattle.nmgc_cycle.specs.Working.{HasWorkedOn, worker_of}
-use Rattle.nmgc_cycle.proofs.Asking.{asks_by_end}
+use Rattle.nmgc_cycle.proofs.Asking.{asks_by_end, full_by_end}
 use Rattle.nmgc_cycle.proofs.SliceRule.{all_made, slice_rule}
 
 -- the commands that were done
@@ -56,6 +56,7 @@ pub record IsSlice (config : Config) (round : Round) (o : Opening) (k : ℕ) (le
   pub within : new.done ≤ length left
   pub did : HasDone round (alone o k) new.seat m new.mutator done
   pub asks : new.asks ≡ list_any is_collect (commands_of done)
+  pub asks_full : new.asks_full ≡ list_any is_full (commands_of done)
 
 pub slice_done : (config : Config) (round : Round) (o : Opening) (k : ℕ) (left : List Command) (m : Mutator) (seat : RoundSeat) (new : Worker) → seen seat ≡ alone o k → m.layout.nursery ≡ config.nursery → HasWorkedOn round config.slice left (worker_of (m, seat)) new → (done : List Done) × IsSlice config round o k left m new done
 slice_done config round o k left m seat new is nursery h =
@@ -79,5 +80,6 @@ slice_done config round o k left m seat new is nursery h =
         within = within;
         did = did;
         asks = asks_by_end left config.slice new.done new.mutator h.end new.asks h.ended h.asks ∙ sym (ap (λ (cs : List Command). list_any is_collect cs) first);
+        asks_full = full_by_end left config.slice new.done new.mutator h.end new.asks_full h.ended h.asks_full ∙ sym (ap (λ (cs : List Command). list_any is_full cs) first);
       },
     )

@@ -1,5 +1,5 @@
 -- A cycle that was started where one is due is the run's next cycle.
-use Rattle.std.proofs.Common.{ℕ, suc, ◌≡◌, ◌≢◌, ◌+◌, ◌*◌, List, [], ◌∷◌, length, map, false, refl, sym, ap, subst, ◌∙◌, arith, Option, Some, inl, inr}
+use Rattle.std.proofs.Common.{ℕ, suc, ◌≡◌, ◌≢◌, ◌+◌, ◌*◌, ◌≤◌, List, [], ◌∷◌, length, map, false, refl, sym, ap, subst, ◌∙◌, arith, Option, Some, inl, inr}
 use Rattle.std.specs.Prelude.{slice_get, slice_index_or, option_map}
 use Rattle.std.proofs.lemmas.List.{length-append}
 use Rattle.std.proofs.lemmas.Option.{get_or_from_slice_get, slice_get-map}
@@ -17,7 +17,6 @@ use Rattle.nmgc_alloc.specs.Segments.{Segments}
 use Rattle.nmgc_alloc.specs.laws.Cells.{begun_names}
 use Rattle.nmgc_beside.specs.Begins.{all_prepared}
 use Rattle.nmgc_beside.specs.Calls.{SnapshotIsMarking}
-use Rattle.nmgc_beside.specs.Closes.{HasNoWeak}
 use Rattle.nmgc_beside.specs.Heaps.{MarkedHolds}
 use Rattle.nmgc_beside.specs.Keeps.{PaceBegins}
 use Rattle.nmgc_beside.specs.Prepares.{StopIsPrepared, StopBegins}
@@ -27,16 +26,18 @@ use Rattle.nmgc_heap.specs.Places.{Place}
 use Rattle.nmgc_heap.specs.Represents.{IsEarlier}
 use Rattle.nmgc_heap.specs.Tracked.{IsTracked}
 use Rattle.nmgc_heap.specs.laws.CommandLaws.{world_is_earlier}
+use Rattle.nmgc_heap.specs.laws.Kinds.{map_item}
+use Rattle.nmgc_journal.specs.declared.report.MutatorEnd.{MutatorEnd}
 use Rattle.nmgc_mark.specs.Beginning.{most_blocks}
 use Rattle.nmgc_mark.specs.Marker.{HasMarked, blank}
 use Rattle.nmgc_minor.specs.Promotion.{IsFor}
 use Rattle.nmgc_mutator.specs.declared.mutator.Mutator.{Mutator}
 use Rattle.nmgc_round.specs.View.{Opening}
-use Rattle.nmgc_run.specs.Collector.{AreNurseries, EachMutator, HoldsInCycle, IsAtRest, IsMarking, IsPacedAtStop, Matches}
+use Rattle.nmgc_run.specs.Collector.{AreNurseries, EachMutator, IsAtRest, IsMarking, IsPacedAtStop, weaks_of}
 use Rattle.nmgc_run.specs.Course.{CyclesBeginInCourse}
 use Rattle.nmgc_run.specs.Heap.{HoldsAtStop, snapshots}
 use Rattle.nmgc_run.specs.Marks.{epoch_of}
-use Rattle.nmgc_run.specs.Seen.{Seen, MutatorSeen, ends_of, nurseries_of}
+use Rattle.nmgc_run.specs.Seen.{MutatorSeen, end_of, ends_of, nurseries_of}
 use Rattle.nmgc_run.specs.Sound.{IsSoundState}
 use Rattle.nmgc_run.specs.State.{State, Cycle, next_cycle, cycle_started, plan_of, layout_of}
 use Rattle.nmgc_run.specs.laws.Filing.{begun_filed}
@@ -51,12 +52,14 @@ use Rattle.nmgc_cycle.specs.declared.progress.Marking.{Marking}
 use Rattle.nmgc_cycle.specs.declared.progress.Progress.TheVariants as doing
 use Rattle.nmgc_cycle.specs.Cycles.{StartsMarking, next_epoch}
 use Rattle.nmgc_cycle.specs.Keeps.{IsKept, IsOwn}
-use Rattle.nmgc_cycle.specs.Roots.{AreGivenBack, queues_in}
+use Rattle.nmgc_cycle.specs.Listed.{HasQueueRoom, made_by}
+use Rattle.nmgc_cycle.specs.Roots.{AreGivenBack, given_back, no_queue, own_registers, queues_in}
 use Rattle.nmgc_cycle.specs.Shown.{seen, seen_mutator, words_in}
 use Rattle.nmgc_cycle.specs.Steps.{StandsAt, StartingLeads}
 use Rattle.nmgc_cycle.proofs.Closing.{words_same}
 use Rattle.nmgc_cycle.proofs.GivenBack.{one_given, own_count}
 use Rattle.nmgc_cycle.proofs.MutatorLists.{given_without}
+use Rattle.nmgc_cycle.proofs.QueueRoom.{counted, one_room, room_ends, room_nurseries}
 use Rattle.nmgc_cycle.proofs.RootLists.{seen_at}
 use Rattle.nmgc_cycle.proofs.SameSeen.{IsQuiet, same_seen}
 use Rattle.nmgc_cycle.proofs.StepReady.{PreparedBegins, none, settled, snapshot_opening, beginning, prepared_shown}
@@ -83,15 +86,6 @@ registers_long (m ∷ ms) each =
     let rest : length (registers_of ms) ≡ REGISTERS * length ms = registers_long ms (λ n x e. each (suc n) x e) in
     omega (arith, all, own, rest)
 
--- what contracts see of a collector that stands for a state
-record Shows (script : Script) (s : State) (shown : Seen) : Type 0 where
-  matches : Matches shown s
-  heap : HoldsAtStop (layout_of (plan_of script)) s shown.words shown.segments (ends_of shown) []
-  nurseries : AreNurseries (layout_of (plan_of script)) heap.places s.world (nurseries_of shown)
-  empty : AreEmpty (nurseries_of shown)
-  rest : EachMutator shown (λ m mutator. IsAtRest mutator)
-  cycle : HoldsInCycle (λ (k : Cycle). IsPacedAtStop script.config.quota k s shown) s.progress s shown heap.places
-
 module _ (laws : BeginningLaws) (script : Script) (c : Collector) (s : State) (h : StandsAt script c s) (at : c.progress ≡ doing.Idle)
     (before : Collector) (mk : Marking) (st : StartsMarking s.number c before mk) where
   abbrev plan : Layout
@@ -112,14 +106,10 @@ module _ (laws : BeginningLaws) (script : Script) (c : Collector) (s : State) (h
   abbrev next : Collector
   next = record c { segments = before.segments; mutators = before.mutators; progress = doing.Marking mk; begun = c.begun + 1; collect = false }
 
-  -- what is seen of it, with the mutators as they were
-  abbrev shown : Seen
-  shown = record (seen next) { mutators = map seen_mutator c.mutators.items }
-
   no_wait : NoneIs (IsIn stands.Sweeping) s.allocation
   no_wait = none laws.prepares laws.begins script c s h at
 
-  -- the mutators are as they were
+  -- the mutators are as they were, but for the room in their queues
 
   quiet : (n : ℕ) (m : Mutator) → slice_get c.mutators.items n ≡ Some m → IsQuiet m
   quiet n m e =
@@ -134,26 +124,57 @@ module _ (laws : BeginningLaws) (script : Script) (c : Collector) (s : State) (h
         size = (h.kept.own n m e).whole.size;
       }
 
-  given : AreGivenBack (registers_of c.mutators.items) (queues_in c.mutators.items) c.mutators.items before.mutators.items
-  given = given_without (registers_of c.mutators.items) (queues_in c.mutators.items) c.mutators.items before.mutators.items st.given
+  given : AreGivenBack (registers_of c.mutators.items) (queues_in c.mutators.items) c.mutators.items st.between
+  given = given_without (registers_of c.mutators.items) (queues_in c.mutators.items) c.mutators.items st.between st.given
 
-  same : shown ≡ seen next
-  same = ap (λ (l : List MutatorSeen). record (seen next) { mutators = l }) (sym (same_seen c.mutators.items before.mutators.items quiet given))
+  between_same : map seen_mutator st.between ≡ map seen_mutator c.mutators.items
+  between_same = same_seen c.mutators.items st.between quiet given
+
+  ends_same : ends_of (seen next) ≡ ends_of (seen c)
+  ends_same = room_ends c.weaks.list st.between before.mutators.items st.queue_room ∙ ap (λ (l : List MutatorSeen). map end_of l) between_same
+
+  nurseries_same : nurseries_of (seen next) ≡ nurseries_of (seen c)
+  nurseries_same = room_nurseries c.weaks.list st.between before.mutators.items st.queue_room ∙ ap (λ (l : List MutatorSeen). map (λ (m : MutatorSeen). m.nursery) l) between_same
+
+  -- one of them, without the room
+  was : (n : ℕ) (m : Mutator) → slice_get before.mutators.items n ≡ Some m → (b : Mutator) × (slice_get st.between n ≡ Some b) × HasQueueRoom (made_by b.number c.weaks.list) b m
+  was n m e = one_room c.weaks.list st.between before.mutators.items st.queue_room n m e
 
   layout_is : segments.layout ≡ c.segments.layout
   layout_is = st.marked.layout
 
   own_then : (n : ℕ) (m : Mutator) → slice_get before.mutators.items n ≡ Some m → IsOwn next n m
   own_then n m e =
-      let one = one_given (registers_of c.mutators.items) (queues_in c.mutators.items) c.mutators.items before.mutators.items given n m e in
+      let b = was n m e in
+      let one = one_given (registers_of c.mutators.items) (queues_in c.mutators.items) c.mutators.items st.between given n b.0 b.1 in
       let own = h.kept.own n one.0 one.2 in
       let long = registers_long c.mutators.items (λ i x there. (h.kept.own i x there).whole.size) in
-      subst (λ (x : Mutator). IsOwn next n x) (sym one.3) (record {
+      let is : m ≡ record (given_back (own_registers (registers_of c.mutators.items) n) (slice_index_or (queues_in c.mutators.items) n no_queue) one.0) { queue = m.queue } = b.2.rest ∙ ap (λ (x : Mutator). record x { queue = m.queue }) one.3 in
+      subst (λ (x : Mutator). IsOwn next n x) (sym is) (record {
         number = own.number;
         layout = own.layout ∙ sym layout_is;
         whole = record { layout = own.whole.layout; number = own.whole.number; size = own_count (registers_of c.mutators.items) (length c.mutators.items) n long one.1 };
         no_replies = own.no_replies;
       })
+
+  rest_then : EachMutator (seen next) (λ n mutator. IsAtRest mutator)
+  rest_then n mutator e =
+      let x = map_item seen_mutator before.mutators.items n mutator e in
+      let b = was n x.0 x.1 in
+      let there : slice_get (seen c).mutators n ≡ Some (seen_mutator b.0) = ap (λ (l : List MutatorSeen). slice_get l n) (sym between_same) ∙ seen_at st.between n b.0 b.1 in
+      let left : IsAtRest (seen_mutator b.0) = h.rest n (seen_mutator b.0) there in
+      subst IsAtRest (sym (x.2 ∙ ap seen_mutator b.2.rest)) (record { recorded = left.recorded; young_weaks = left.young_weaks; entries = left.entries })
+
+  queue_room_then : EachMutator (seen next) (λ n mutator. weaks_of s.world n (seen next).weaks ≤ mutator.queue.spare)
+  queue_room_then n mutator e =
+      let x = map_item seen_mutator before.mutators.items n mutator e in
+      let b = was n x.0 x.1 in
+      let own = own_then n x.0 x.1 in
+      let number : b.0.number ≡ n = sym (ap (λ (y : Mutator). y.number) b.2.rest) ∙ own.number in
+      let room : made_by n c.weaks.list ≤ x.0.queue.spare = subst (λ (i : ℕ). made_by i c.weaks.list ≤ x.0.queue.spare) number b.2.room in
+      let few : weaks_of s.world n (seen c).weaks ≤ made_by n c.weaks.list = counted s.world n c.weaks.list in
+      let enough : weaks_of s.world n (seen c).weaks ≤ x.0.queue.spare = omega (arith, few, room) in
+      subst (λ (y : MutatorSeen). weaks_of s.world n (seen c).weaks ≤ y.queue.spare) (sym x.2) enough
 
   still_kept : IsKept script next
   still_kept = record {
@@ -162,7 +183,7 @@ module _ (laws : BeginningLaws) (script : Script) (c : Collector) (s : State) (h
     lists = subst (λ (l : Layout). IsFor l c.promotion) (sym layout_is) h.kept.lists;
     has_words = h.kept.has_words;
     list = h.kept.list;
-    count = given.count ∙ h.kept.count;
+    count = st.queue_room.count ∙ given.count ∙ h.kept.count;
     own = own_then;
     positions_are = h.kept.positions_are;
     positions = h.kept.positions;
@@ -194,11 +215,14 @@ module _ (laws : BeginningLaws) (script : Script) (c : Collector) (s : State) (h
   stands_then : StandsFor segments words (cycle_begun s.allocation)
   stands_then = st.marked.stands words (cycle_begun s.allocation) (prepared_shown laws.prepares laws.begins script c s h at)
 
-  heap : (g : HoldsAtStop plan t words segments (ends_of shown) []) × (g.places ≡ h.heap.places)
-  heap =
-      let begun = laws.stop plan s words c.segments (ends_of (seen c)) [] h.heap in
-      let on = laws.marked plan (cycle_started s) words (all_prepared c.segments) segments (ends_of (seen c)) [] begun.0 (layout_is ∙ h.kept.layout) stands_then in
+  heap_as : (g : HoldsAtStop plan t words segments (ends_of (seen c)) (seen c).weaks) × (g.places ≡ h.heap.places)
+  heap_as =
+      let begun = laws.stop plan s words c.segments (ends_of (seen c)) (seen c).weaks h.heap in
+      let on = laws.marked plan (cycle_started s) words (all_prepared c.segments) segments (ends_of (seen c)) (seen c).weaks begun.0 (layout_is ∙ h.kept.layout) stands_then in
       (record { places = on.0.places; all = on.0.all; holds = on.0.holds; listed = on.0.listed }, on.1 ∙ begun.1)
+
+  heap : (g : HoldsAtStop plan t words segments (ends_of (seen next)) (seen next).weaks) × (g.places ≡ h.heap.places)
+  heap = subst (λ (es : List MutatorEnd). (g : HoldsAtStop plan t words segments es (seen c).weaks) × (g.places ≡ h.heap.places)) (sym ends_same) heap_as
 
   -- the cycle marks
 
@@ -217,56 +241,38 @@ module _ (laws : BeginningLaws) (script : Script) (c : Collector) (s : State) (h
   left_then : AreLeft segments mk.sweeper.left
   left_then = laws.left (all_prepared c.segments) segments mk.sweeper.left (laws.waits (all_prepared c.segments) segments words words (cycle_begun s.allocation) (prepared_shown laws.prepares laws.begins script c s h at) stands_then) begun_then.left
 
-  is_marking : (places : List Place) → places ≡ h.heap.places → IsMarking k t shown places
+  is_marking : (places : List Place) → places ≡ h.heap.places → IsMarking k t (seen next) places
   is_marking places same_places =
       let o : Opening = snapshot_opening laws.prepares laws.begins script c s h at in
       let tied = st.tied o (beginning laws.prepares laws.begins script c s h at) in
-      let m = laws.marks plan s words c.segments shown (ends_of (seen c)) [] o (most_blocks c.segments.layout) h.heap h.sound.world h.kept.sound st.sound h.sound.known h.sound.filed.shared no_wait (settled laws.prepares laws.begins script c s h at) refl refl refl marked_then tied
-      (λ n mutator e. omega arith) (λ n mutator e. (h.rest n mutator e).entries) st.from_is notes.noted in
-      subst (λ (l : List Place). IsMarking k t shown l) (sym same_places) (record { core = m.core; machine = m.machine; tied = m.tied; remembered = m.remembered; low = m.low; room = m.room; queue_room = m.queue_room; from_is = m.from_is; noted = m.noted })
+      let m = laws.marks plan s words c.segments (seen next) (ends_of (seen c)) (seen c).weaks o (most_blocks c.segments.layout) h.heap h.sound.world h.kept.sound st.sound h.sound.known h.sound.filed.shared no_wait (settled laws.prepares laws.begins script c s h at) refl refl refl marked_then tied
+      queue_room_then (λ n mutator e. (rest_then n mutator e).entries) st.from_is notes.noted in
+      subst (λ (l : List Place). IsMarking k t (seen next) l) (sym same_places) (record { core = m.core; machine = m.machine; tied = m.tied; remembered = m.remembered; low = m.low; room = m.room; queue_room = m.queue_room; from_is = m.from_is; noted = m.noted })
 
-  in_pace : IsPacedAtStop script.config.quota k t shown
-  in_pace = laws.pace script.config.quota k t shown refl (let pace = st.marked.scanned.pace in omega (arith, pace))
-
-  shows : Shows script t shown
-  shows = record {
-    matches = record { phase = refl; begun = ap (λ (n : ℕ). n + 1) h.matches.begun; collect = refl; full = h.matches.full };
-    heap = heap.0;
-    nurseries = subst (λ (places : List Place). AreNurseries plan places s.world (nurseries_of (seen c))) (sym heap.1) h.nurseries;
-    empty = h.empty;
-    rest = h.rest;
-    cycle = (is_marking heap.0.places heap.1, in_pace);
-  }
+  in_pace : IsPacedAtStop script.config.quota k t (seen next)
+  in_pace = laws.pace script.config.quota k t (seen next) refl (let pace = st.marked.scanned.pace in omega (arith, pace))
 
   pub leads : StandsAt script next t
-  leads =
-      let there : Shows script t (seen next) = subst (λ (x : Seen). Shows script t x) same shows in
-      record {
-        kept = still_kept;
-        sound = sound_then;
-        course = laws.course s no_wait;
-        matches = there.matches;
-        heap = there.heap;
-        nurseries = there.nurseries;
-        empty = there.empty;
-        rest = there.rest;
-        cycle = there.cycle;
-        weakless = record {
-          world = h.weakless.world;
-          snapshot = λ e held. elim (contains_cases s.world [] e held) [
-            | inl is ↦ subst HasNoWeak is h.weakless.world
-            | inr nowhere ↦ absurd (nothing_in e nowhere)
-          ];
-        };
-        sweeper = (record { notes = notes; left = left_then }, begun_then.swept, begun_then.freed);
-      }
+  leads = record {
+    kept = still_kept;
+    sound = sound_then;
+    course = laws.course s no_wait;
+    matches = record { phase = refl; begun = ap (λ (n : ℕ). n + 1) h.matches.begun; collect = refl; full = h.matches.full };
+    heap = heap.0;
+    nurseries = subst (λ (y : List Place × List Nursery). AreNurseries plan y.0 s.world y.1) (λ i. (sym heap.1 i, sym nurseries_same i)) h.nurseries;
+    empty = subst AreEmpty (sym nurseries_same) h.empty;
+    rest = rest_then;
+    cycle = (is_marking heap.0.places heap.1, in_pace);
+    closing = st.closing_room;
+    sweeper = (record { notes = notes; left = left_then }, begun_then.swept, begun_then.freed);
+  }
 
 pub starting_leads : BeginningLaws → StartingLeads
-starting_leads laws script old new s staged h due started =
+starting_leads laws script old new s limits h idle started =
     let st = started.starts in
     let words : started.before.words ≡ old.words = words_same started.before.words old.words st.words.1 h.kept.has_words st.words.0 in
     let before : started.before ≡ record old { segments = started.before.segments; mutators = started.before.mutators } =
     st.rest ∙ ap (λ (x : Option (List ℕ)). record old { words = x; segments = started.before.segments; mutators = started.before.mutators }) words in
     let next : new ≡ record old { segments = started.before.segments; mutators = started.before.mutators; progress = doing.Marking started.marking; begun = old.begun + 1; collect = false } =
     started.is ∙ ap (λ (x : Collector). record x { progress = doing.Marking started.marking; begun = old.begun + 1; collect = false }) before in
-    subst (λ (x : Collector). StandsAt script x (record (cycle_started s) { collect = false })) (sym next) (leads laws script old s h due.0 started.before started.marking st)
+    subst (λ (x : Collector). StandsAt script x (record (cycle_started s) { collect = false })) (sym next) (leads laws script old s h idle started.before started.marking st)

@@ -11,20 +11,17 @@ use Rattle.nmgc_run.specs.Collector.{HoldsInCycle, IsPacedAtStop}
 use Rattle.nmgc_run.specs.Run.{Tells, last_state}
 use Rattle.nmgc_run.specs.Slice.{has_left}
 use Rattle.nmgc_run.specs.State.{Plan, State, Cycle, Progress, idle, marking, sweeping, is_idle, plan_of, free_count, reserve_of}
-use Rattle.nmgc_run.specs.Stop.{IsStop, stop_row, is_short, answer_of}
+use Rattle.nmgc_run.specs.Stop.{IsStop, stop_row, answer_of}
 use Rattle.nmgc_cycle.specs.declared.collector.Collector.{Collector}
-use Rattle.nmgc_cycle.specs.declared.stop.StopEnd.{StopEnd}
-use Rattle.nmgc_cycle.specs.declared.stop.StopEnd.TheVariants as answer
 use Rattle.nmgc_cycle.specs.Bound.{AreFewAtStop}
-use Rattle.nmgc_cycle.specs.Keeps.{IsKept, IsStill, HasAnswered, Sweeps}
+use Rattle.nmgc_cycle.specs.Keeps.{IsKept, IsStill, Sweeps}
 use Rattle.nmgc_cycle.specs.Shown.{seen}
-use Rattle.nmgc_cycle.specs.Stage.{IsShortAfter}
 use Rattle.nmgc_cycle.specs.Steps.{StandsAt}
 use Rattle.nmgc_cycle.proofs.Begins.{Begins, IsToldBut}
 use Rattle.nmgc_cycle.proofs.StopFew.{few_at_stop}
 use Rattle.nmgc_cycle.proofs.StopSteps.{IsLed}
-use Rattle.nmgc_cycle.proofs.Stopped.{not_short, is_short_by, is_enough_by, answers_done, answers_on, answers_none}
-use Rattle.nmgc_cycle.proofs.WholeStop.{whole_stop, short_stop}
+use Rattle.nmgc_cycle.proofs.Stopped.{is_short_by, is_enough_by, answers_done, answers_on, answers_none, answers_full}
+use Rattle.nmgc_cycle.proofs.WholeStop.{whole_stop}
 
 -- its row and its answer change nothing of what a collector stands for
 module _ (script : Script) (c : Collector) (stops : List StopRow) (answered : Option End) (s : State) where
@@ -80,7 +77,7 @@ module _ (script : Script) (c : Collector) (stops : List StopRow) (answered : Op
     empty = h.empty;
     rest = h.rest;
     cycle = told_cycle s.progress h.heap.places h.cycle;
-    weakless = h.weakless;
+    closing = h.closing;
     sweeper = told_sweeper s.progress h.sweeper;
   }
 
@@ -102,7 +99,7 @@ still script c rounds stops cycles row t rounds_are stops_are cycles_are told st
         at_rest = record { nurseries = at.nurseries; empty = at.empty; nothing = at.rest };
         cycle = at.cycle;
       };
-      weakless = at.weakless;
+      closing = at.closing;
       sweeper = at.sweeper;
       few = few;
     }
@@ -129,55 +126,30 @@ module _ (script : Script) (old new : Collector) (b : Begins script old) (many :
   few : AreFewAtStop script last
   few = subst (λ (rows : List StopRow). AreFewAtStop script (record new { stops = rows; answered = answered })) (sym stops_are) (few_at_stop script new old.stops row answered led.few led.begun led.more)
 
-  -- a stop that isn't short of segments is one of the run
-  abbrev Goes : Type 0
+  -- the stop is one of the run, and for the run with it the collector stands
+  abbrev pub Goes : Type 0
   Goes = (rows : List CycleRow) × (stop : IsStop plan b.began b.state t row rows) × IsStill script last (b.goes_on t row rows stop).run
 
-  goes : is_short plan t ≡ false → answered ≡ answer_of plan t → Goes
-  goes enough answers =
-      let stop : IsStop plan b.began b.state t row led.rows = whole_stop plan b.began b.state led.promoted led.closed led.ended t many led.rows row led.promotes led.closes led.ends led.begins row_is led.full enough in
-      let told = b.goes_on t row led.rows stop in
-      (led.rows, stop, still script last old.rounds old.stops (old.cycles ++ led.rows) row t rounds_are stops_are led.cycles told stands few answers)
-
-  -- what it answers, and the run for which the collector stands then
-  abbrev pub Outcome : StopEnd → Type 0
-  Outcome (answer.HeapFull free reserve) = HasAnswered script last (answer.HeapFull free reserve)
-  Outcome answer.GoOn = Goes × (answered ≡ None)
-  Outcome answer.Done = Goes × (answered ≡ Some end.Done)
+  goes : answered ≡ answer_of plan t → Goes
+  goes answers =
+      let rows : List CycleRow = led.first ++ led.own in
+      let stop : IsStop plan b.began b.state t row rows = whole_stop plan b.began b.state led.promoted led.closed led.ended t many led.first led.own row led.promotes led.closes led.ends led.proceeds row_is in
+      let told = b.goes_on t row rows stop in
+      (rows, stop, still script last old.rounds old.stops (old.cycles ++ rows) row t rounds_are stops_are led.cycles told stands few answers)
 
   -- the end of the run
-  pub done : has_left t.left ≡ false → is_idle t.progress ≡ true → answered ≡ Some end.Done → Outcome answer.Done
-  done none quiet is = (goes (not_short plan t none) (is ∙ answers_done plan t none quiet), is)
+  pub done : has_left t.left ≡ false → is_idle t.progress ≡ true → answered ≡ Some end.Done → Goes
+  done none quiet is = goes (is ∙ answers_done plan t none quiet)
 
   -- a round follows, since a cycle is in progress
-  pub on : has_left t.left ≡ false → is_idle t.progress ≡ false → answered ≡ None → Outcome answer.GoOn
-  on none busy is = (goes (not_short plan t none) (is ∙ answers_on plan t none busy), is)
+  pub on : has_left t.left ≡ false → is_idle t.progress ≡ false → answered ≡ None → Goes
+  on none busy is = goes (is ∙ answers_on plan t none busy)
 
   module _ (free reserve : ℕ) (some : has_left t.left ≡ true) (free_is : free ≡ free_count t) (reserve_is : reserve ≡ reserve_of plan) where
     -- a round follows, since commands are left
-    pub goes_on : reserve ≤ free → answered ≡ None → Outcome answer.GoOn
-    goes_on more is =
-        let enough = is_enough_by plan t free reserve some free_is reserve_is more in
-        (goes enough (is ∙ answers_none plan t some enough), is)
+    pub goes_on : reserve ≤ free → answered ≡ None → Goes
+    goes_on more is = goes (is ∙ answers_none plan t some (is_enough_by plan t free reserve some free_is reserve_is more))
 
     -- short of segments
-    pub full : free < reserve → answered ≡ Some (end.HeapFull free reserve) → Outcome (answer.HeapFull free reserve)
-    full less is =
-        let short = is_short_by plan t free reserve some free_is reserve_is less in
-        let stop = short_stop plan b.began b.state led.promoted led.closed led.ended t many led.rows row led.promotes led.closes led.ends led.begins row_is short in
-        let before : IsShortAfter plan t row old.rounds old.stops (old.cycles ++ led.rows) = b.short t row led.rows stop in (
-          record {
-            kept = stands.kept;
-            state = t;
-            row = row;
-            stops = old.stops;
-            before =
-                subst (λ (r : List RoundRows). IsShortAfter plan t row r old.stops new.cycles) (sym rounds_are)
-                (subst (λ (r : List CycleRow). IsShortAfter plan t row old.rounds old.stops r) (sym led.cycles) before);
-            stops_are = stops_are;
-            free_is = free_is;
-            reserve_is = reserve_is;
-            heap = stands.heap;
-          },
-          is,
-        )
+    pub full : free < reserve → answered ≡ Some (end.HeapFull free reserve) → Goes
+    full less is = goes (is ∙ answers_full plan t free reserve free_is reserve_is (is_short_by plan t free reserve some free_is reserve_is less))

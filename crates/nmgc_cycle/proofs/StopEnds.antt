@@ -1,5 +1,5 @@
 -- What a stop answers and why, by what it did and what it read in the end.
-use Rattle.std.proofs.Common.{ℕ, ◌≡◌, ◌<◌, ◌≤◌, ◌⊎◌, ◌↔◌, List, [], ◌∷◌, ◌++◌, length, refl, sym, ap, subst, ◌∙◌, arith, inl, inr, Bool, true, false, Option, Some, None, IsTrue}
+use Rattle.std.proofs.Common.{ℕ, ◌≡◌, ◌<◌, ◌≤◌, ◌⊎◌, ◌↔◌, List, [], ◌∷◌, ◌++◌, length, refl, sym, ap, subst, ◌∙◌, arith, inl, inr, Bool, true, false, Option, IsTrue}
 use Rattle.std.specs.Prelude.{count_by, slice_index}
 use Rattle.nmgc_segment.specs.Segment.{Segment}
 use Rattle.nmgc_segment.specs.declared.state.State.TheVariants as stands
@@ -15,7 +15,7 @@ use Rattle.nmgc_journal.specs.declared.report.StopRow.{StopRow}
 use Rattle.nmgc_script.specs.declared.script.Script.{Script}
 use Rattle.nmgc_run.specs.Run.{Run, Turn, with_turn}
 use Rattle.nmgc_run.specs.Slice.{has_left}
-use Rattle.nmgc_run.specs.State.{State, is_idle, free_count as run_free, reserve_of, plan_of}
+use Rattle.nmgc_run.specs.State.{free_count as run_free, reserve_of, plan_of}
 use Rattle.nmgc_run.specs.Statements.{answered_count}
 use Rattle.nmgc_run.specs.Stop.{stop_row}
 use Rattle.nmgc_cycle.specs.declared.collector.Collector.{Collector}
@@ -23,16 +23,17 @@ use Rattle.nmgc_cycle.specs.declared.progress.Progress.{Progress as Doing}
 use Rattle.nmgc_cycle.specs.declared.progress.Progress.TheVariants as doing
 use Rattle.nmgc_cycle.specs.declared.stop.StopEnd.{StopEnd}
 use Rattle.nmgc_cycle.specs.declared.stop.StopEnd.TheVariants as answer
-use Rattle.nmgc_cycle.specs.Cycles.{HasTaken, HasClosed, Ends, Begins as BeginsThen}
-use Rattle.nmgc_cycle.specs.Keeps.{CanStop, IsStill, HasAnswered, HasWorked, StopsAfter}
+use Rattle.nmgc_cycle.specs.Cycles.{HasTaken, HasClosed, Ends}
+use Rattle.nmgc_cycle.specs.Full.{Proceeds as ProceedsThen}
+use Rattle.nmgc_cycle.specs.Keeps.{CanStop, IsStill, HasStopped, HasAnswered, HasWorked, StopsAfter}
 use Rattle.nmgc_cycle.specs.Shown.{phase_in, words_in}
-use Rattle.nmgc_cycle.specs.Stage.{IsStaged}
+use Rattle.nmgc_cycle.specs.Limits.{IsInLimits}
 use Rattle.nmgc_cycle.specs.StopLaws.{HasStopLaws}
-use Rattle.nmgc_cycle.specs.Stopping.{HasPromoted, SomeIsLeft, IsDone, IsFull, ended_by}
+use Rattle.nmgc_cycle.specs.Stopping.{HasPromoted, HasListed, SomeIsLeft, IsDone, IsFull, ended_by}
 use Rattle.nmgc_cycle.proofs.Begins.{Begins, begins, one_turn}
-use Rattle.nmgc_cycle.proofs.StopAnswers.{last, Outcome, done, on, goes_on, full}
+use Rattle.nmgc_cycle.proofs.StopAnswers.{Goes, done, on, goes_on, full}
 use Rattle.nmgc_cycle.proofs.StopSteps as steps
-use Rattle.nmgc_cycle.proofs.StopSteps.{IsLed}
+use Rattle.nmgc_cycle.proofs.StopSteps.{IsLed, proceeds_told}
 use Rattle.nmgc_cycle.proofs.Stopped.{row_is, quiet_then, busy_then}
 use Rattle.nmgc_cycle.proofs.WhatIsLeft.{left_is}
 
@@ -42,13 +43,16 @@ pub record IsStepped (script : Script) (old new : Collector) : Type 0 where
   pub number_is : number ≡ length old.stops
   pub promoted : Collector
   pub promotes : HasPromoted old promoted
+  pub lists : HasListed old promoted
   pub added : Collector
   pub adds : HasTaken promoted added
   pub closed : Collector
   pub closes : HasClosed number added closed
   pub ended : Collector
   pub ends : Ends number closed.progress closed ended
-  pub begins : BeginsThen script.config.trigger number ended new
+  pub some : Bool
+  pub some_is : IsTrue some ↔ SomeIsLeft script.threads ended.positions.items
+  pub proceeds : ProceedsThen script.config.trigger some number ended new
 
 -- what was read of the collector then: whether commands are left, its phase, and how many segments are in each state
 pub record IsRead (script : Script) (c : Collector) : Type 0 where
@@ -64,6 +68,12 @@ pub record IsRead (script : Script) (c : Collector) : Type 0 where
   pub sweep_is : sweep ≡ count_by (λ (segment : Segment). is segment.state stands.Sweeping) c.segments.segments
   pub reserve : ℕ
   pub reserve_is : reserve ≡ reserve_count c.segments.layout
+
+-- commands are left where they were before the last step of the stop
+pub some_left_then : (script : Script) (old new : Collector) (trigger stop : ℕ) (some : Bool) → ProceedsThen trigger some stop old new → IsTrue some ↔ SomeIsLeft script.threads old.positions.items → IsTrue some ↔ SomeIsLeft script.threads new.positions.items
+some_left_then script old new trigger stop some proceeds is =
+    let same : new.positions.items ≡ old.positions.items = ap (λ (x : List RoundRows × List StopRow × List ℕ). x.2) (proceeds_told trigger some stop old new proceeds) in
+    subst (λ (positions : List ℕ). IsTrue some ↔ SomeIsLeft script.threads positions) (sym same) is
 
 -- why it answers so
 abbrev pub Why : (script : Script) (c : Collector) → IsRead script c → StopEnd → Type 0
@@ -127,7 +137,7 @@ module _ (script : Script) (c : Collector) (r : IsRead script c) where
 
 -- the run
 
-module _ (laws : HasStopLaws) (script : Script) (old new : Collector) (staged : IsStaged script) (x : IsStepped script old new) (r : IsRead script new) (many : ℕ) (many_is : many ≡ length x.promoted.promotion.moves) where
+module _ (laws : HasStopLaws) (script : Script) (old new : Collector) (limits : IsInLimits script) (x : IsStepped script old new) (r : IsRead script new) (many : ℕ) (many_is : many ≡ length x.promoted.promotion.moves) where
   abbrev pub row : StopRow
   row = record { number = x.number; phase = r.phase; free = r.free; filled = r.filled; sweep = r.sweep; promoted = many }
 
@@ -137,16 +147,16 @@ module _ (laws : HasStopLaws) (script : Script) (old new : Collector) (staged : 
 
     module _ (can : CanStop script old) where
       abbrev b : Begins script old
-      b = begins script old staged can
+      b = begins script old limits can
 
       led : IsLed script b.began b.state (length x.promoted.promotion.moves) old new
-      led = steps.led laws script old x.promoted staged can x.promotes x.added x.adds x.number x.number_is x.closed x.closes x.ended x.ends new x.begins
+      led = steps.led laws script old x.promoted limits can x.promotes x.lists x.added x.adds x.number x.number_is x.closed x.closes x.ended x.ends new x.some x.some_is x.proceeds
 
-      rounds_are : new.rounds ≡ old.rounds
-      rounds_are = steps.rounds_are laws script old x.promoted staged can x.promotes x.added x.adds x.number x.number_is x.closed x.closes x.ended x.ends new x.begins
+      pub rounds_are : new.rounds ≡ old.rounds
+      rounds_are = steps.rounds_are laws script old x.promoted limits can x.promotes x.lists x.added x.adds x.number x.number_is x.closed x.closes x.ended x.ends new x.some x.some_is x.proceeds
 
-      stops_are : stops ≡ old.stops ++ row ∷ []
-      stops_are = pushed ∙ ap (λ (rows : List StopRow). rows ++ row ∷ []) (steps.stops_are laws script old x.promoted staged can x.promotes x.added x.adds x.number x.number_is x.closed x.closes x.ended x.ends new x.begins)
+      pub stops_are : stops ≡ old.stops ++ row ∷ []
+      stops_are = pushed ∙ ap (λ (rows : List StopRow). rows ++ row ∷ []) (steps.stops_are laws script old x.promoted limits can x.promotes x.lists x.added x.adds x.number x.number_is x.closed x.closes x.ended x.ends new x.some x.some_is x.proceeds)
 
       told : row ≡ stop_row led.state (length x.promoted.promotion.moves)
       told = row_is led.state (length x.promoted.promotion.moves) x.number r.free r.filled r.sweep many r.phase new.segments (words_in new.words) led.stands.heap.holds.stands (r.phase_is ∙ led.stands.matches.phase) (led.number ∙ b.number ∙ sym x.number_is) r.free_is r.filled_is r.sweep_is many_is
@@ -162,37 +172,29 @@ module _ (laws : HasStopLaws) (script : Script) (old new : Collector) (staged : 
       reserve_is : r.reserve ≡ reserve_of (plan_of script)
       reserve_is = r.reserve_is ∙ ap reserve_count led.stands.kept.layout
 
-      Result : StopEnd → Type 0
-      Result = Outcome script old new b (length x.promoted.promotion.moves) led rounds_are stops answered row stops_are told
-
-      result : (e : StopEnd) → Why script new r e → answered ≡ ended_by e → Result e
-      unfolding Result
+      -- what it answers is what the run does
+      result : (e : StopEnd) → Why script new r e → answered ≡ ended_by e → Goes script old new b (length x.promoted.promotion.moves) led rounds_are stops answered row stops_are told
       result answer.Done why is = done script old new b (length x.promoted.promotion.moves) led rounds_are stops answered row stops_are told (left ∙ why.0) (quiet_then led.state.progress (sym led.stands.matches.phase ∙ why.1)) is
       result answer.GoOn (inl why) is = goes_on script old new b (length x.promoted.promotion.moves) led rounds_are stops answered row stops_are told r.free r.reserve (left ∙ why.0) free_is reserve_is why.1 is
       result answer.GoOn (inr why) is = on script old new b (length x.promoted.promotion.moves) led rounds_are stops answered row stops_are told (left ∙ why.0) (busy_then led.state.progress (λ e. why.1 (led.stands.matches.phase ∙ e))) is
       result (answer.HeapFull free reserve) why is =
           let same : answered ≡ ended_by (answer.HeapFull r.free r.reserve) = is ∙ ap (λ (n : ℕ). ended_by (answer.HeapFull n reserve)) why.0 ∙ ap (λ (n : ℕ). ended_by (answer.HeapFull r.free n)) why.1 in
-          let own = full script old new b (length x.promoted.promotion.moves) led rounds_are stops answered row stops_are told r.free r.reserve (left ∙ why.2) free_is reserve_is why.3 same in
-          subst (λ (n : ℕ). HasAnswered script after (answer.HeapFull n reserve)) (sym why.0) (subst (λ (n : ℕ). HasAnswered script after (answer.HeapFull r.free n)) (sym why.1) own)
+          full script old new b (length x.promoted.promotion.moves) led rounds_are stops answered row stops_are told r.free r.reserve (left ∙ why.2) free_is reserve_is why.3 same
 
-      answers : (e : StopEnd) → Result e → HasAnswered script after e
-      unfolding Result
-      answers (answer.HeapFull free reserve) h = h
-      answers answer.GoOn h = (((b.goes_on led.state row h.0.0 h.0.1).run, h.0.2), h.1)
-      answers answer.Done h = (((b.goes_on led.state row h.0.0 h.0.1).run, h.0.2), h.1)
+      has_stopped : (e : StopEnd) → Why script new r e → answered ≡ ended_by e → HasStopped script after
+      has_stopped e why is = let h = result e why is in ((b.goes_on led.state row h.0 h.1).run, h.2)
 
       pub has_answered : (e : StopEnd) → Why script new r e → answered ≡ ended_by e → HasAnswered script after e
-      has_answered e why is = answers e (result e why is)
+      has_answered answer.GoOn why is = (has_stopped answer.GoOn why is, is)
+      has_answered answer.Done why is = (has_stopped answer.Done why is, is)
+      has_answered (answer.HeapFull free reserve) why is = (has_stopped (answer.HeapFull free reserve) why is, is)
 
     -- after a round, the run is that of before with one turn more
 
-    one_more : (w : HasWorked script old) (rows : List CycleRow) (stop : _) → IsStill script after ((begins script old staged (inr w)).goes_on (led (inr w)).state row rows stop).run → (turn : Turn) × (turn.worked ≡ w.worked) × (turn.history ≡ w.history) × IsStill script after (with_turn w.run turn)
+    one_more : (w : HasWorked script old) (rows : List CycleRow) (stop : _) → IsStill script after ((begins script old limits (inr w)).goes_on (led (inr w)).state row rows stop).run → (turn : Turn) × (turn.replies ≡ record { replies = w.replies }) × (turn.worked ≡ w.worked) × (turn.history ≡ w.history) × IsStill script after (with_turn w.run turn)
     one_more w rows stop still =
-        let turn = one_turn script old staged w (led (inr w)).state row rows stop in
-        (turn.0, turn.1, turn.2, subst (λ (run : Run). IsStill script after run) turn.3 still)
+        let turn = one_turn script old limits w (led (inr w)).state row rows stop in
+        (turn.0, turn.1, turn.2, turn.3, subst (λ (run : Run). IsStill script after run) turn.4 still)
 
-    pub stops_after : (e : StopEnd) → Why script new r e → answered ≡ ended_by e → StopsAfter script old after e
-    unfolding Result
-    stops_after (answer.HeapFull free reserve) why is = tt
-    stops_after answer.GoOn why is = λ w. let h = result (inr w) answer.GoOn why is in one_more w h.0.0 h.0.1 h.0.2
-    stops_after answer.Done why is = λ w. let h = result (inr w) answer.Done why is in one_more w h.0.0 h.0.1 h.0.2
+    pub stops_after : (e : StopEnd) → Why script new r e → answered ≡ ended_by e → StopsAfter script old after
+    stops_after e why is = λ w. let h = result (inr w) e why is in one_more w h.0 h.1 h.2

@@ -142,32 +142,34 @@ none_waits segments left h none i lt waits =
     omega (arith, in_it, many, none)
 
 module _ (script : Script) (old new : Collector) (stops stop : ℕ) (words : List ℕ) (a : AllocState) (st : StandsFor old.segments words a) (count : length old.segments.segments ≡ script.config.segments) (waiting : (m : Marking) → old.progress ≡ doing.Marking m → AreLeft old.segments m.sweeper.left) (closed : HasClosed stop old new) where
-  Closed : Doing → Doing → Type 0
-  Closed p q = (phase_left script.config.segments q ≤ phase_left script.config.segments p) × (new.segments.fresh ≡ old.segments.fresh)
+  Closed : Type 0
+  Closed = (phase_left script.config.segments new.progress ≤ phase_left script.config.segments old.progress) × (new.segments.fresh ≡ old.segments.fresh)
 
-  same : (p q : Doing) → q ≡ p → new.segments ≡ old.segments → Closed p q
+  same : new ≡ old → Closed
   unfolding Closed
-  same p q e segments = (let phase = ap (phase_left script.config.segments) e in omega (arith, phase), ap (λ (x : Segments). x.fresh) segments)
+  same e = (let phase = ap (λ (c : Collector). phase_left script.config.segments c.progress) e in omega (arith, phase), ap (λ (c : Collector). c.segments.fresh) e)
 
-  closes : (p q : Doing) → old.progress ≡ p → Closes stop (words_in old.words) old.segments new.segments p q → Closed p q
+  closes : (p : Doing) → old.progress ≡ p → Closes stop p old new → Closed
   unfolding Closed
-  closes doing.Idle q is h = same doing.Idle q h.0 h.1
-  closes (doing.Sweeping w) q is h = same (doing.Sweeping w) q h.0 h.1
-  closes (doing.Marking m) q is (inr h) = same (doing.Marking m) q h.1 h.2
-  closes (doing.Marking m) q is (inl h) =
+  closes doing.Idle is h = same h
+  closes (doing.Sweeping w) is h = same h
+  closes (doing.Marking m) is (inr h) = same h.1
+  closes (doing.Marking m) is (inl h) =
+      let before : phase_left script.config.segments old.progress ≡ phase_left script.config.segments (doing.Marking m) = ap (phase_left script.config.segments) is in
       let was : phase_left script.config.segments (doing.Marking m) ≡ script.config.segments + 1 = ap (λ (b : Bool). if b then script.config.segments + 1 else m.marker.spare + length m.marker.queue + script.config.segments + 2) h.0 in
       let w : Sweeping = h.1.0 in
-      let now : phase_left script.config.segments q ≡ phase_left script.config.segments (doing.Sweeping w) = ap (phase_left script.config.segments) h.1.1 in
+      let now : phase_left script.config.segments new.progress ≡ phase_left script.config.segments (doing.Sweeping w) = ap (phase_left script.config.segments) h.1.1 in
       let own : phase_left script.config.segments (doing.Sweeping w) ≡ length m.sweeper.left = ap (λ (x : Sweeping). length x.sweeper.left) h.1.2.is in
-      let few = left_few old.segments m.sweeper.left (waiting m is) in (
-        omega (arith, was, now, own, few, count),
-        ap (λ (x : Segments). x.fresh) h.1.2.carried ∙ fresh_before old.segments h.1.2.marked words a st h.1.2.marks.stands,
+      let few = left_few old.segments m.sweeper.left (waiting m is) in
+      let stays : StandAsBefore old.segments h.1.2.marked = λ words b there. h.1.2.second.1.stands words b (h.1.2.first.1.stands words b there) in (
+        omega (arith, before, was, now, own, few, count),
+        ap (λ (x : Segments). x.fresh) h.1.2.carried ∙ fresh_before old.segments h.1.2.marked words a st stays,
       )
 
   pub closing_few : AreFew (Unit {0}) script old stops → AreFew (Unit {0}) script new stops
   unfolding Closed
   closing_few few =
-      let by : Closed old.progress new.progress = closes old.progress new.progress refl closed.closes in
+      let by : Closed = closes old.progress refl closed.closes in
       let fresh = by.1 in
       leaves_few (Unit {0}) (Unit {0}) script old new stops (ap (λ (c : Collector). c.rounds) closed.rest) by.0 (λ e not. (
         tt,
@@ -177,12 +179,16 @@ module _ (script : Script) (old new : Collector) (stops stop : ℕ) (words : Lis
         },
       )) few
 
--- a cycle that still marks then has something left to scan
-pub closing_goes : (stop : ℕ) (words : List ℕ) (old new : Segments) (p q : Doing) → Closes stop words old new p q → (m : Marking) → q ≡ doing.Marking m → m.last.empty ≡ false
-closing_goes stop words old new doing.Idle q h m is = absurd (let bad : doing.Idle ≡ doing.Marking m = sym h.0 ∙ is in cc)
-closing_goes stop words old new (doing.Sweeping w) q h m is = absurd (let bad : doing.Sweeping w ≡ doing.Marking m = sym h.0 ∙ is in cc)
-closing_goes stop words old new (doing.Marking n) q (inl h) m is = absurd (let bad : doing.Sweeping h.1.0 ≡ doing.Marking m = sym h.1.1 ∙ is in cc)
-closing_goes stop words old new (doing.Marking n) q (inr h) m is = ap (λ (x : Doing). (work_in x).empty) (sym is ∙ h.1) ∙ h.0
+-- a cycle that still marks after the closing has something left to scan
+
+goes_by : (stop : ℕ) (p : Doing) (old new : Collector) → old.progress ≡ p → Closes stop p old new → (m : Marking) → new.progress ≡ doing.Marking m → m.last.empty ≡ false
+goes_by stop doing.Idle old new was h m is = absurd (let bad : doing.Idle ≡ doing.Marking m = sym (ap (λ (c : Collector). c.progress) h ∙ was) ∙ is in cc)
+goes_by stop (doing.Sweeping w) old new was h m is = absurd (let bad : doing.Sweeping w ≡ doing.Marking m = sym (ap (λ (c : Collector). c.progress) h ∙ was) ∙ is in cc)
+goes_by stop (doing.Marking n) old new was (inl h) m is = absurd (let bad : doing.Sweeping h.1.0 ≡ doing.Marking m = sym h.1.1 ∙ is in cc)
+goes_by stop (doing.Marking n) old new was (inr h) m is = ap (λ (x : Doing). (work_in x).empty) (sym is ∙ ap (λ (c : Collector). c.progress) h.1 ∙ was) ∙ h.0
+
+pub closing_goes : (stop : ℕ) (old new : Collector) → HasClosed stop old new → (m : Marking) → new.progress ≡ doing.Marking m → m.last.empty ≡ false
+closing_goes stop old new closed m is = goes_by stop old.progress old new refl closed.closes m is
 
 -- The end of a cycle
 

@@ -52,6 +52,13 @@ module _ (plan : Plan) (t : State) where
       let done : is_done t ≡ false = ap (λ (b : Bool). not b && is_idle t.progress) some in
       sym (answers_by short ∙ ap (λ (b : Bool). if b then Some Done else None) done)
 
+  -- and where it is, that end
+  pub answers_full : (free reserve : ℕ) → free ≡ free_count t → reserve ≡ reserve_of plan → is_short plan t ≡ true → Some (HeapFull free reserve) ≡ answer_of plan t
+  answers_full free reserve f r short =
+      ap (λ (n : ℕ). Some (HeapFull n reserve)) f
+      ∙ ap (λ (n : ℕ). Some (HeapFull (free_count t) n)) r
+      ∙ sym (ap (λ (b : Bool). if b then Some (HeapFull (free_count t) (reserve_of plan)) else (if is_done t then Some Done else None)) short)
+
 -- the phase tells whether a cycle is in progress
 
 pub quiet_then : (q : Progress) → phase_of q ≡ Idle → is_idle q ≡ true

@@ -1,10 +1,13 @@
 -- A round beside which a closed cycle swept: places of freed names are gone, and all of which anybody may speak are there.
 use Rattle.std.proofs.Common.{ℕ, ◌≡◌, ◌+◌, ◌≤◌, ◌<◌, List, [], ◌∷◌, length, sym, ap, subst, ◌∙◌, inl, inr, arith}
-use Rattle.std.specs.Prelude.{min}
+use Rattle.std.specs.Prelude.{Contains, min}
 use Rattle.std.proofs.lemmas.Bool.{cases_lt}
+use Rattle.nmgc_graph.specs.World.{World}
+use Rattle.nmgc_graph.specs.declared.value.Name.{Name}
+use Rattle.nmgc_graph.specs.laws.Orders.{contains_head, contains_tail}
 use Rattle.nmgc_object.specs.Places.{nursery_place}
 use Rattle.nmgc_segment.specs.declared.state.State.TheVariants as stands
-use Rattle.nmgc_alloc.specs.AllocState.{AllocState, StandsFor, SweepsSome}
+use Rattle.nmgc_alloc.specs.AllocState.{AllocState, HasBlock, StandsFor, SweepsSome}
 use Rattle.nmgc_alloc.specs.Reserve as reserve
 use Rattle.nmgc_alloc.specs.laws.Keeping.{counts_stand}
 use Rattle.nmgc_heap.specs.Places.{Place}
@@ -12,7 +15,7 @@ use Rattle.nmgc_blocks.specs.Nurseries.{LieInOrder}
 use Rattle.nmgc_blocks.specs.Remembers.{Remembers}
 use Rattle.nmgc_round.specs.View.{Opening}
 use Rattle.nmgc_script.specs.declared.script.Script.{Script}
-use Rattle.nmgc_beside.specs.Drops.{DropsFreed}
+use Rattle.nmgc_beside.specs.Drops.{DropsFreed, FreesUntracked}
 use Rattle.nmgc_sweep.specs.Sweeper.{Sweeper, AreLeft}
 use Rattle.nmgc_sweep.specs.Work.{IsAtWork}
 use Rattle.nmgc_run.specs.Census.{IsKeptIn}
@@ -26,16 +29,18 @@ use Rattle.nmgc_run.specs.State.{Cycle, Progress, sweeping, waiting_count}
 use Rattle.nmgc_run.specs.Sweep.{SweepsBeside}
 use Rattle.nmgc_run.specs.laws.Course.{runs_are}
 use Rattle.nmgc_cycle.specs.declared.collector.Collector.{Collector}
+use Rattle.nmgc_cycle.specs.declared.progress.Progress as held
 use Rattle.nmgc_cycle.specs.declared.progress.Progress.TheVariants as doing
 use Rattle.nmgc_cycle.specs.declared.progress.Sweeping as held_sweeping
 use Rattle.nmgc_cycle.specs.Cycles.{HasSweptSome}
 use Rattle.nmgc_cycle.specs.Keeps.{Sweeps}
-use Rattle.nmgc_cycle.specs.Shown.{seen, phase_in, sweeper_in, cycle_in}
+use Rattle.nmgc_cycle.specs.Shown.{seen, died, phase_in, sweeper_in, cycle_in}
 use Rattle.nmgc_cycle.proofs.GoneOn.{HasLaws, HasGoneOn}
+use Rattle.nmgc_cycle.proofs.ListedLeft.{listed_left}
 use Rattle.nmgc_cycle.proofs.MarkedBeside.{phase_with, helped_as}
 use Rattle.nmgc_cycle.proofs.Over.{IsOver, plan, s, w, t, rows, places, told, last, shown, view}
-use Rattle.nmgc_cycle.proofs.Phases.{when_sweeping}
-use Rattle.nmgc_cycle.proofs.Plans.{is_runnable}
+use Rattle.nmgc_cycle.proofs.Phases.{when_sweeping, noted_snapshots}
+use Rattle.nmgc_cycle.proofs.Plans.{is_runnable, sound_state}
 use Rattle.nmgc_cycle.proofs.RoundOver.{layout, nurseries_left, in_order, remembered, round_from}
 use Rattle.nmgc_cycle.proofs.Rounded.{is_round}
 
@@ -59,24 +64,29 @@ module _ (laws : HasLaws) (script : Script) (c new : Collector) (o : Opening) (x
   sweeper_now : sweeper_in new.progress ≡ did.0.sweeper
   sweeper_now = ap sweeper_in did.1
 
-  same_cycle : cycle_in new.progress ≡ cycle_in c.progress
-  same_cycle = ap cycle_in did.1 ∙ ap (λ (y : held_sweeping.Sweeping). cycle_in (doing.Sweeping y)) did.3.rest ∙ sym (ap cycle_in before.1)
+  same_cycle : (shown script c new o x).cycle ≡ (seen c).cycle
+  same_cycle =
+      let dead : List Name = died c.weaks.deaths in
+      ap (λ (q : held.Progress). cycle_in q dead) did.1 ∙ ap (λ (y : held_sweeping.Sweeping). cycle_in (doing.Sweeping y) dead) did.3.rest ∙ sym (ap (λ (q : held.Progress). cycle_in q dead) before.1)
 
   sweeps_before : Sweeps (sweeping k closed) (s script c new o x) c
   sweeps_before = subst (λ (p : Progress). Sweeps p (s script c new o x) c) e x.still.sweeper
 
   -- with the segments of before, all stands for what it stood for
+  whole : HoldsAfterRound (layout script c new o x) (s script c new o x) (t script c new o x (s script c new o x).allocation) (places script c new o x) x.did.words c.segments (ends_of (shown script c new o x)) (seen c).weaks
+  whole = laws.holds (layout script c new o x) (s script c new o x) (t script c new o x (s script c new o x).allocation) o (seen c).words x.did.words (view script c new o x) c.segments c.segments (ends_of (seen c)) (ends_of (shown script c new o x)) (seen c).weaks (round_from script c new o x laws.stopped c.segments x.still.kept.layout x.still.at_stop.heap.holds.stands)
+
   stands_then : StandsFor c.segments x.did.words (s script c new o x).allocation
-  stands_then = (laws.holds (layout script c new o x) (s script c new o x) (t script c new o x (s script c new o x).allocation) o (seen c).words x.did.words (view script c new o x) c.segments c.segments (ends_of (seen c)) (ends_of (shown script c new o x)) [] (round_from script c new o x laws.stopped c.segments x.still.kept.layout x.still.at_stop.heap.holds.stands)).holds.stands
+  stands_then = whole.holds.stands
 
   -- so the sweeper went on from there
-  at_work : IsAtWork k closed x.did.words (s script c new o x).allocation c.segments (cycle_in c.progress) before.0.sweeper
+  at_work : IsAtWork k closed x.did.words (s script c new o x).allocation c.segments (seen c).cycle before.0.sweeper
   at_work =
-      let h = subst (IsAtWork k closed (seen c).words (s script c new o x).allocation c.segments (cycle_in c.progress)) sweeper_was sweeps_before.1 in
+      let h = subst (IsAtWork k closed (seen c).words (s script c new o x).allocation c.segments (seen c).cycle) sweeper_was sweeps_before.1 in
       record { stands = stands_then; notes = h.notes; sweeping = h.sweeping; settled = h.settled; begun = h.begun; ordered = h.ordered }
 
-  swept : (b : AllocState) × SweepsSome (IsKeptIn k) did.3.count (s script c new o x).allocation b × IsAtWork k closed x.did.words b new.segments (cycle_in c.progress) did.0.sweeper
-  swept = did.3.swept.sweeps k closed x.did.words (s script c new o x).allocation (cycle_in c.progress) at_work
+  swept : (b : AllocState) × SweepsSome (IsKeptIn k) did.3.count (s script c new o x).allocation b × IsAtWork k closed x.did.words b new.segments (seen c).cycle did.0.sweeper
+  swept = did.3.swept.sweeps k closed x.did.words (s script c new o x).allocation (seen c).cycle at_work
 
   left_before : AreLeft c.segments before.0.sweeper.left
   left_before = subst (λ (y : Sweeper). AreLeft c.segments y.left) sweeper_was sweeps_before.0.left
@@ -96,9 +106,21 @@ module _ (laws : HasLaws) (script : Script) (c new : Collector) (o : Opening) (x
   same_layout : new.segments.layout ≡ layout script c new o x
   same_layout = did.3.swept.layout ∙ x.still.kept.layout
 
+  -- nobody may speak of what was freed, and no weak pointer of the list was
+  frees : FreesUntracked ((s script c new o x).world ∷ snapshots (t script c new o x swept.0).progress) (s script c new o x).world (w script c new o x) (s script c new o x).allocation swept.0
+  frees =
+      let none : snapshots (t script c new o x swept.0).progress ≡ [] = noted_snapshots (s script c new o x).progress (rows script c new o x) ∙ ap snapshots e in
+      subst (λ (l : List World). FreesUntracked ((s script c new o x).world ∷ l) (s script c new o x).world (w script c new o x) (s script c new o x).allocation swept.0) (sym none) (laws.frees (plan script c new o x) x.run k closed (told script c new o x) (rows script c new o x) (t script c new o x swept.0) (is_runnable script x.limits) x.still.at_stop.is_run round e)
+
+  listed : (p : Place) → Contains (seen c).weaks p → HasBlock swept.0 p.name
+  listed =
+      let earlier : List World = (s script c new o x).world ∷ snapshots (t script c new o x swept.0).progress in
+      let known : Contains (w script c new o x ∷ earlier) (s script c new o x).world = contains_tail (w script c new o x) earlier (s script c new o x).world (contains_head (s script c new o x).world (snapshots (t script c new o x swept.0).progress)) in
+      listed_left (layout script c new o x) earlier (s script c new o x).world (w script c new o x) (s script c new o x).allocation swept.0 (places script c new o x) (seen c).weaks (sound_state script c x.run x.limits x.still).world known frees whole.listed
+
   -- the freed places are gone
-  fewer : (fewer : List Place) × HoldsAfterRound (layout script c new o x) (s script c new o x) (t script c new o x swept.0) fewer x.did.words new.segments (ends_of (shown script c new o x)) [] × DropsFreed (layout script c new o x) ((s script c new o x).world ∷ snapshots (t script c new o x swept.0).progress) (w script c new o x) (places script c new o x) fewer
-  fewer = laws.swept_holds (plan script c new o x) x.run k closed (told script c new o x) (rows script c new o x) (t script c new o x swept.0) o (seen c).words x.did.words (view script c new o x) c.segments new.segments (ends_of (seen c)) (ends_of (shown script c new o x)) (is_runnable script x.staged) x.still.at_stop.is_run round e (round_from script c new o x laws.stopped c.segments x.still.kept.layout x.still.at_stop.heap.holds.stands) x.still.kept.sound swept.2.stands same_layout
+  fewer : (fewer : List Place) × HoldsAfterRound (layout script c new o x) (s script c new o x) (t script c new o x swept.0) fewer x.did.words new.segments (ends_of (shown script c new o x)) (seen c).weaks × DropsFreed (layout script c new o x) ((s script c new o x).world ∷ snapshots (t script c new o x swept.0).progress) (w script c new o x) (places script c new o x) fewer
+  fewer = laws.swept_holds (layout script c new o x) (s script c new o x) (t script c new o x (s script c new o x).allocation) swept.0 (places script c new o x) x.did.words c.segments new.segments (ends_of (shown script c new o x)) (seen c).weaks whole x.still.kept.sound frees swept.2.stands same_layout listed
 
   kept_on : AreNurseries (layout script c new o x) fewer.0 (w script c new o x) (nurseries_of (shown script c new o x)) × LieInOrder (nursery_place (layout script c new o x) 0) fewer.0 × Remembers (nursery_place (layout script c new o x) 0) ((s script c new o x).world ∷ snapshots (t script c new o x swept.0).progress) fewer.0 (w script c new o x) (recorded_in (shown script c new o x)) (young_weaks_in (shown script c new o x))
   kept_on = laws.drops (layout script c new o x) ((s script c new o x).world ∷ snapshots (t script c new o x swept.0).progress) (w script c new o x) (places script c new o x) fewer.0 (nurseries_of (shown script c new o x)) (recorded_in (shown script c new o x)) (young_weaks_in (shown script c new o x)) fewer.2 (nurseries_left script c new o x laws.stopped) (in_order script c new o x laws.stopped) (remembered script c new o x laws.stopped)
@@ -114,10 +136,10 @@ module _ (laws : HasLaws) (script : Script) (c new : Collector) (o : Opening) (x
   course = (subst (λ (p : Progress). IsInCourse p (s script c new o x).number (s script c new o x).begun (s script c new o x).allocation) e (runs_are (plan script c new o x) x.run x.still.at_stop.is_run)).0
 
   -- the cycle sweeps on
-  work_on : IsAtWork k closed x.did.words swept.0 new.segments (cycle_in new.progress) (sweeper_in new.progress)
+  work_on : IsAtWork k closed x.did.words swept.0 new.segments (shown script c new o x).cycle (sweeper_in new.progress)
   work_on =
       subst (λ (y : CycleSeen). IsAtWork k closed x.did.words swept.0 new.segments y (sweeper_in new.progress)) (sym same_cycle)
-      (subst (IsAtWork k closed x.did.words swept.0 new.segments (cycle_in c.progress)) (sym sweeper_now) swept.2)
+      (subst (IsAtWork k closed x.did.words swept.0 new.segments (seen c).cycle) (sym sweeper_now) swept.2)
 
   sweeps_on : Sweeps (sweeping k closed) (t script c new o x swept.0) (last script c new o x)
   sweeps_on = (

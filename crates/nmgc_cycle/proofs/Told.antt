@@ -1,54 +1,55 @@
 -- The report of a run that has ended.
-use Rattle.std.proofs.Common.{ℕ, ◌≡◌, List, [], length, refl, sym, ap, ◌∙◌, Option, Some, None}
+use Rattle.std.proofs.Common.{ℕ, ◌≡◌, List, [], ◌∷◌, length, map, refl, sym, ap, ◌∙◌, Option, Some, None}
 use Rattle.std.specs.Prelude.{IfSome, IsSome}
 use Rattle.nmgc_graph.specs.declared.value.Name.{Name}
 use Rattle.nmgc_journal.specs.declared.report.CycleRow.{CycleRow}
 use Rattle.nmgc_journal.specs.declared.report.MutatorEnd.{MutatorEnd}
 use Rattle.nmgc_journal.specs.declared.report.End.{End}
 use Rattle.nmgc_journal.specs.declared.report.End.TheVariants.{Done, HeapFull}
-use Rattle.nmgc_run.specs.State.{free_count}
+use Rattle.nmgc_run.specs.Lawful.{IsLawful}
 use Rattle.nmgc_run.specs.Seen.{ends_of}
+use Rattle.nmgc_heap.specs.Places.{Place}
 use Rattle.nmgc_script.specs.declared.script.Script.{Script}
+use Rattle.nmgc_weak.specs.declared.weaks.OldWeak.{OldWeak}
+use Rattle.nmgc_weak.specs.Weaks.{names_of, places_of}
 use Rattle.nmgc_cycle.specs.declared.collector.Collector.{Collector}
-use Rattle.nmgc_cycle.specs.Stage.{IsTold}
-use Rattle.nmgc_cycle.specs.Keeps.{IsKept, HasEnded}
+use Rattle.nmgc_cycle.specs.Keeps.{IsKept, HasStopped, HasEnded}
 use Rattle.nmgc_cycle.specs.Shown.{seen, words_in, report_of}
 
+pub stopped_by : (script : Script) (c : Collector) (end : End) → HasEnded script c end → HasStopped script c × (c.answered ≡ Some end)
+stopped_by script c Done h = h
+stopped_by script c (HeapFull free reserve) h = h
+
 pub kept_of : (script : Script) (c : Collector) (end : End) → HasEnded script c end → IsKept script c
-kept_of script c Done h = h.0.1.kept
-kept_of script c (HeapFull free reserve) h = h.0.kept
+kept_of script c end h = (stopped_by script c end h).0.1.kept
+
+-- the names of the list are those of its places
+names_told : (list : List OldWeak) → names_of list ≡ map (λ (p : Place). p.name) (places_of list)
+names_told [] = refl
+names_told (weak ∷ list) = ap (λ (l : List Name). weak.weak ∷ l) (names_told list)
 
 -- it tells the run, to the end that the last stop answered
-pub told : (script : Script) (c : Collector) (end : End) → HasEnded script c end → IsTold script (report_of c end)
-told script c Done h =
-    let at_stop = h.0.1.at_stop in
+pub told : (script : Script) (c : Collector) (end : End) → HasEnded script c end → IsLawful script (report_of c end)
+told script c end h =
+    let stopped = stopped_by script c end h in
+    let at_stop = stopped.0.1.at_stop in
     record {
-      run = h.0.0;
+      run = stopped.0.0;
       is_run = at_stop.is_run;
       tells = at_stop.tells;
-      end_is = sym at_stop.answered ∙ h.1;
-      weaks = [];
-      weaks_are = refl;
+      end_is = sym at_stop.answered ∙ stopped.1;
+      weaks = (seen c).weaks;
+      weaks_are = names_told c.weaks.list;
       heap = at_stop.heap;
     }
-told script c (HeapFull free reserve) h = record {
-  state = h.0.state;
-  row = h.0.row;
-  stops = h.0.stops;
-  before = h.0.before;
-  stops_are = h.0.stops_are;
-  end_is = ap (λ (n : ℕ). HeapFull n reserve) h.0.free_is ∙ ap (λ (n : ℕ). HeapFull (free_count h.0.state) n) h.0.reserve_is;
-  no_weaks = refl;
-  heap = h.0.heap;
-}
 
 -- a report with these parts is the collector's
-pub same_parts : (c : Collector) (end : End) (cycles : List CycleRow) (words : List ℕ) (mutators : List MutatorEnd) (weaks : List Name) → cycles ≡ c.cycles → words ≡ (seen c).words → mutators ≡ ends_of (seen c) → weaks ≡ [] → record (report_of c end) { cycles = cycles; words = words; mutators = mutators; weaks = weaks } ≡ report_of c end
-same_parts c end cycles words mutators weaks cycles_are words_are mutators_are no_weaks = sym (
+pub same_parts : (c : Collector) (end : End) (cycles : List CycleRow) (words : List ℕ) (mutators : List MutatorEnd) (weaks : List Name) → cycles ≡ c.cycles → words ≡ (seen c).words → mutators ≡ ends_of (seen c) → weaks ≡ names_of c.weaks.list → record (report_of c end) { cycles = cycles; words = words; mutators = mutators; weaks = weaks } ≡ report_of c end
+same_parts c end cycles words mutators weaks cycles_are words_are mutators_are weaks_are = sym (
     ap (λ (rows : List CycleRow). record (report_of c end) { cycles = rows }) (sym cycles_are)
     ∙ ap (λ (ws : List ℕ). record (report_of c end) { cycles = cycles; words = ws }) (sym words_are)
     ∙ ap (λ (ends : List MutatorEnd). record (report_of c end) { cycles = cycles; words = words; mutators = ends }) (sym mutators_are)
-    ∙ ap (λ (names : List Name). record (report_of c end) { cycles = cycles; words = words; mutators = mutators; weaks = names }) (sym no_weaks)
+    ∙ ap (λ (names : List Name). record (report_of c end) { cycles = cycles; words = words; mutators = mutators; weaks = names }) (sym weaks_are)
     )
 
 -- a list is as long as the words, if there are any

@@ -9,7 +9,7 @@ use Rattle.nmgc_mutator.specs.Records.{numbers}
 use Rattle.nmgc_turn.specs.Worked as worked
 use Rattle.nmgc_run.specs.Heap as told
 use Rattle.nmgc_run.specs.Heap.{HasAllRegisters}
-use Rattle.nmgc_run.specs.Seen.{MutatorSeen, ends_of, end_of, nurseries_of, recorded_in}
+use Rattle.nmgc_run.specs.Seen.{MutatorSeen, ends_of, end_of, nurseries_of, recorded_in, young_weaks_in}
 use Rattle.nmgc_cycle.specs.declared.collector.Collector.{Collector}
 use Rattle.nmgc_cycle.specs.Roots.{HasRegisters}
 use Rattle.nmgc_cycle.specs.Shown.{seen, seen_mutator}
@@ -38,6 +38,10 @@ each_recorded : (ms : List Mutator) → flat_map (λ (m : MutatorSeen). m.record
 each_recorded [] = refl
 each_recorded (m ∷ ms) = ap (λ (rest : List ℕ). numbers m.recorded.items ++ rest) (each_recorded ms)
 
+each_young : (ms : List Mutator) → flat_map (λ (m : MutatorSeen). m.young_weaks) (map seen_mutator ms) ≡ worked.weaks_of ms
+each_young [] = refl
+each_young (m ∷ ms) = ap (λ (rest : List ℕ). numbers m.young_weaks.items ++ rest) (each_young ms)
+
 each_whole : (ms : List Mutator) → All HasRegisters ms → All HasAllRegisters (ends_in ms)
 each_whole [] h = All-nil HasAllRegisters
 each_whole (m ∷ ms) h = All-cons HasAllRegisters (end_of (seen_mutator m)) (ends_in ms) (All-head HasRegisters m ms h) (each_whole ms (All-tail HasRegisters m ms h))
@@ -57,6 +61,9 @@ module _ (c : Collector) where
 
   pub recorded_seen : recorded_in (seen c) ≡ worked.recorded_of c.mutators.items
   recorded_seen = each_recorded c.mutators.items
+
+  pub young_seen : young_weaks_in (seen c) ≡ worked.weaks_of c.mutators.items
+  young_seen = each_young c.mutators.items
 
   -- each has all its registers
   pub whole_seen : All HasRegisters c.mutators.items → All HasAllRegisters (ends_of (seen c))

@@ -1,17 +1,13 @@
 -- The steps of a stop together are a stop of the run.
-use Rattle.std.proofs.Common.{ℕ, ◌≡◌, List, [], true, false, refl, sym, ap, ◌∙◌, inl, inr, append-nil}
-use Rattle.std.specs.Prelude.{◌&&◌, nat_lt}
+use Rattle.std.proofs.Common.{ℕ, ◌≡◌, List, ◌++◌, refl, ap, inl, inr}
 use Rattle.nmgc_graph.specs.World.{World}
 use Rattle.nmgc_journal.specs.declared.report.CycleRow.{CycleRow}
 use Rattle.nmgc_journal.specs.declared.report.StopRow.{StopRow}
 use Rattle.nmgc_script.specs.declared.script.Config.{Config}
 use Rattle.nmgc_run.specs.Closing.{ClosesOrWaits}
 use Rattle.nmgc_run.specs.Promotion.{Promotes}
-use Rattle.nmgc_run.specs.Slice.{has_left}
-use Rattle.nmgc_run.specs.State.{Plan, State, Progress, idle, marking, sweeping, layout_of, reserve_of}
-use Rattle.nmgc_run.specs.Stop.{IsStop, EndsOrWaits, BeginsOrWaits, IsFullDue, is_short, stop_row}
-use Rattle.nmgc_cycle.specs.Stage.{IsShortStop}
-use Rattle.nmgc_cycle.proofs.Prepared.{free_stays}
+use Rattle.nmgc_run.specs.State.{Plan, State, Progress, idle, marking, sweeping, layout_of}
+use Rattle.nmgc_run.specs.Stop.{IsStop, EndsOrWaits, BeginsOrWaits, IsFullDue, Proceeds, stop_row}
 
 -- what the steps after the promotion leave as it is
 pub record KeepsOn (s t : State) : Type 0 where
@@ -44,38 +40,24 @@ closes_anyway quota forced (marking c) s t (inl e) = inl e
 closes_anyway quota forced (marking c) s t (inr h) = inr (h.0, elim h.1 [ inl bad ↦ absurd bad | inr may ↦ inr may ])
 closes_anyway quota forced (sweeping c closed) s t h = h
 
--- beginning a cycle leaves as many segments free
-pub short_same : (plan : Plan) (s t : State) → BeginsOrWaits plan.config s t → is_short plan t ≡ is_short plan s
-short_same plan s t (inl h) = ap (λ (x : State). is_short plan x) h.1 ∙ ap (λ (n : ℕ). has_left s.left && nat_lt n (reserve_of plan)) (free_stays s.allocation)
-short_same plan s t (inr h) = ap (λ (x : State). is_short plan x) h.1
-
-module _ (plan : Plan) (began : World) (s promoted closed ended t : State) (count : ℕ) (cycles : List CycleRow) (row : StopRow)
+module _ (plan : Plan) (began : World) (s promoted closed ended t : State) (count : ℕ) (first more : List CycleRow) (row : StopRow)
     (promotes : Promotes (layout_of plan) began s promoted count)
     (closes : ClosesOrWaits plan.config.quota ⊥ promoted.progress promoted closed)
-    (ends : EndsOrWaits closed.progress closed ended cycles)
-    (begins : BeginsOrWaits plan.config ended t)
+    (ends : EndsOrWaits closed.progress closed ended first)
+    (proceeds : Proceeds plan ended t more)
     (shown : row ≡ stop_row t count) where
-  -- one that isn't short, where no full cycle was asked for
-  pub whole_stop : false ≡ ended.full → is_short plan t ≡ false → IsStop plan began s t row cycles
-  whole_stop full enough = record {
+  pub whole_stop : IsStop plan began s t row (first ++ more)
+  whole_stop = record {
     promoted = promoted;
     count = count;
     promotes = promotes;
     closed = closed;
     closes = closes_anyway plan.config.quota (IsFullDue plan promoted) promoted.progress promoted closed closes;
     ended = ended;
-    first = cycles;
+    first = first;
     ends = ends;
-    more = [];
-    proceeds = inr (not_due, begins, refl);
-    told = sym (append-nil cycles);
+    more = more;
+    proceeds = proceeds;
+    told = refl;
     shown = shown;
   }
-    where
-      not_due : IsFullDue plan ended → ⊥
-      not_due (inl asked) = let bad : false ≡ true = full ∙ asked in cc
-      not_due (inr short) = let bad : false ≡ true = sym enough ∙ short_same plan ended t begins ∙ short in cc
-
-  -- one that is short
-  pub short_stop : is_short plan t ≡ true → IsShortStop plan began s t row cycles
-  short_stop short = record { promoted = promoted; count = count; promotes = promotes; closed = closed; closes = closes; ended = ended; ends = ends; begins = begins; short = short; shown = shown }

@@ -1,5 +1,5 @@
 -- The collector beside the mutators, and the steps of a stop that lead a cycle on.
-use Rattle.std.specs.Prelude.{ℕ, ◌≡◌, ◌⊎◌, ◌↔◌, ◌+◌, ◌≤◌, ◌<◌, ◌++◌, ◌∷◌, List, [], map, true, false, IsSome}
+use Rattle.std.specs.Prelude.{ℕ, ◌≡◌, ◌⊎◌, ◌↔◌, ◌+◌, ◌≤◌, ◌<◌, ◌++◌, ◌∷◌, List, [], length, map, true, false, IsSome, vec_capacity}
 use Rattle.std.specs.List.{flat_map}
 use Rattle.nmgc_alloc.specs.declared.search.Wanted.TheVariants as wanted
 use Rattle.nmgc_alloc.specs.Segments.{Segments, HasNone, IsSegments}
@@ -30,7 +30,16 @@ use Rattle.nmgc_cycle.specs.declared.progress.Sweeping.{Sweeping}
 use Rattle.nmgc_core.specs.State.{opening}
 use Rattle.nmgc_turn.specs.Worked.{registers_of}
 use Rattle.nmgc_cycle.specs.Roots.{cleared, queues_in, without_queue, AreGivenBack}
-use Rattle.nmgc_cycle.specs.Shown.{words_in}
+use Rattle.nmgc_cycle.specs.Listed.{HaveJoined, HaveQueueRoom}
+use Rattle.nmgc_cycle.specs.Shown.{died, words_in}
+use Rattle.nmgc_graph.specs.declared.value.Name.{Name}
+use Rattle.nmgc_object.specs.FinQueue.{FinQueue}
+use Rattle.nmgc_beside.specs.Resolves.{finished_on}
+use Rattle.nmgc_weak.specs.declared.weaks.Death.{Death}
+use Rattle.nmgc_weak.specs.declared.weaks.OldWeak.{OldWeak}
+use Rattle.nmgc_weak.specs.Queues.{HaveRoom}
+use Rattle.nmgc_weak.specs.Resolve.{CanResolve, HasResolved}
+use Rattle.nmgc_weak.specs.Weaks.{Weaks, places_of}
 
 -- In a round
 
@@ -93,40 +102,49 @@ pub record HasTaken (old new : Collector) : Type 0 where
   pub mutators : new.mutators.items ≡ map forgetting old.mutators.items
   pub adds : AddsTo (remembered_by old.mutators.items) old.segments new.segments old.progress new.progress
 
--- a marker may finish: it has room, and its marks and its queue are those of a state that opens a round on these words
-abbrev pub IsReadyToClose : List ℕ → Segments → MarkerSeen → Type 0
-IsReadyToClose words segments marker = HasRoomToMark segments marker × ((o : Opening) × IsReady o words segments marker)
+-- a marker may finish: it has room, and its marks and its queue are those of a state that opens a round on these words. After that the weak pointers of the list may be resolved, and the finalisers of those that die have room in the queues; and there is room for the queues themselves
+pub record IsReadyToClose (words : List ℕ) (segments : Segments) (weaks : List OldWeak) (queues : List FinQueue) (m : Marking) : Type 0 where
+  pub room : HasRoomToMark segments m.marker
+  pub opening : Opening
+  pub ready : IsReady opening words segments m.marker
+  pub resolves : (between : Segments) (finisher : MarkerSeen) (f : HasFinished opening between finisher) → CanResolve (finished_on opening between finisher f) words between finisher (places_of weaks)
+  pub queue_room : (between marked : Segments) (finisher marker : MarkerSeen) (after : List ℕ) (list : List OldWeak) (deaths : List Death) (f : HasFinished opening between finisher) → HasResolved (finished_on opening between finisher f) after marked marker list deaths → HaveRoom deaths queues
+  pub none_held : m.queues.items ≡ []
+  pub holds_all : length queues ≤ vec_capacity m.queues
 
 -- so may one whose last work left nothing
-abbrev pub CanClose : List ℕ → Segments → Progress → Type 0
-CanClose words segments (progress.Marking m) = m.last.empty ≡ true → IsReadyToClose words segments m.marker
-CanClose words segments _ = Unit {0}
+abbrev pub CanClose : List ℕ → Segments → List OldWeak → List FinQueue → Progress → Type 0
+CanClose words segments weaks queues (progress.Marking m) = m.last.empty ≡ true → IsReadyToClose words segments weaks queues m
+CanClose words segments weaks queues _ = Unit {0}
 
--- the marker finished, the marks of segments that don't wait were carried, and the cycle sweeps from this stop on
-pub record IsClosed (stop : ℕ) (words : List ℕ) (old new : Segments) (m : Marking) (after : Sweeping) : Type 0 where
+-- the marker finished, the weak pointers were resolved, the finalisers of the deaths joined the queues, the marks of segments that don't wait were carried, and the cycle sweeps from this stop on
+pub record IsClosed (stop : ℕ) (words after : List ℕ) (old new : Segments) (weaks list : Weaks) (mutators then : List Mutator) (m : Marking) (sweeping : Sweeping) : Type 0 where
+  pub between : Segments
+  pub finisher : MarkerSeen
   pub marker : MarkerSeen
   pub marked : Segments
-  pub scanned : ℕ
-  pub marks : HasMarked old marked m.marker marker scanned
-  pub done : marker.queue ≡ []
-  pub finished : (o : Opening) → IsReady o words old m.marker → HasFinished o marked marker
+  pub first : (scanned : ℕ) × HasMarked old between m.marker finisher scanned
+  pub second : (scanned : ℕ) × HasMarked between marked finisher marker scanned
+  pub finished : (o : Opening) → IsReady o words old m.marker → HasFinished o between finisher
+  pub resolved : (o : Opening) → CanResolve o words between finisher (places_of weaks.list) → HasResolved o after marked marker list.list list.deaths
+  pub joined : HaveJoined list.deaths mutators then
   pub carried : new ≡ record marked { segments = map (carried_over marker.epoch) marked.segments }
   pub sound : IsSegments marked × IsSegments new
-  pub is : after ≡ record { from = m.from; closed = stop; kept = marker.marked; sweeper = m.sweeper }
+  pub is : sweeping ≡ record { from = m.from; closed = stop; kept = marker.marked; sweeper = m.sweeper }
 
 -- a cycle is closed where the marker's last work left nothing
-abbrev pub Closes : ℕ → List ℕ → Segments → Segments → Progress → Progress → Type 0
-Closes stop words old new (progress.Marking m) after = ((m.last.empty ≡ true) × ((w : Sweeping) × (after ≡ progress.Sweeping w) × IsClosed stop words old new m w)) ⊎ ((m.last.empty ≡ false) × (after ≡ progress.Marking m) × (new ≡ old))
-Closes stop words old new p after = (after ≡ p) × (new ≡ old)
+abbrev pub Closes : ℕ → Progress → Collector → Collector → Type 0
+Closes stop (progress.Marking m) old new = ((m.last.empty ≡ true) × ((w : Sweeping) × (new.progress ≡ progress.Sweeping w) × IsClosed stop (words_in old.words) (words_in new.words) old.segments new.segments old.weaks new.weaks old.mutators.items new.mutators.items m w)) ⊎ ((m.last.empty ≡ false) × (new ≡ old))
+Closes stop p old new = new ≡ old
 
 pub record HasClosed (stop : ℕ) (old new : Collector) : Type 0 where
-  pub rest : new ≡ record old { words = new.words; segments = new.segments; progress = new.progress }
-  pub words : (words_in new.words ≡ words_in old.words) × IsSome new.words
-  pub closes : Closes stop (words_in old.words) old.segments new.segments old.progress new.progress
+  pub rest : new ≡ record old { words = new.words; segments = new.segments; progress = new.progress; weaks = new.weaks; mutators = new.mutators }
+  pub has_words : IsSome new.words
+  pub closes : Closes stop old.progress old new
 
--- the row of a cycle that ends at this stop
-abbrev pub row_of : ℕ → ℕ → Sweeping → CycleRow
-row_of number stop w = record {
+-- the row of a cycle that ends at this stop, at whose closing these died
+abbrev pub row_of : ℕ → ℕ → Sweeping → List Name → CycleRow
+row_of number stop w dead = record {
   number = number;
   from = w.from;
   closed = w.closed;
@@ -134,13 +152,13 @@ row_of number stop w = record {
   swept = w.sweeper.seen.swept;
   had = w.sweeper.seen.had;
   freed = w.sweeper.seen.freed;
-  dead = [];
+  dead = dead;
   kept = w.kept;
 }
 
 -- a cycle that sweeps ends where no segment waits
 abbrev pub Ends : ℕ → Progress → Collector → Collector → Type 0
-Ends stop (progress.Sweeping w) old new = (HasNone wanted.Sweeping old.segments × (new ≡ record old { progress = progress.Idle; turns = new.turns; cycles = old.cycles ++ row_of old.begun stop w ∷ [] })) ⊎ ((HasNone wanted.Sweeping old.segments → ⊥) × (new ≡ old))
+Ends stop (progress.Sweeping w) old new = (HasNone wanted.Sweeping old.segments × (new ≡ record old { progress = progress.Idle; turns = new.turns; cycles = old.cycles ++ row_of old.begun stop w (died old.weaks.deaths) ∷ [] })) ⊎ ((HasNone wanted.Sweeping old.segments → ⊥) × (new ≡ old))
 Ends stop _ old new = new ≡ old
 
 -- a cycle is due: none is in progress, and one was asked for, or enough segments were filled since the last one began
@@ -157,14 +175,17 @@ pub record CanBegin (c : Collector) : Type 0 where
   pub stood : HasStood (all_prepared c.segments) (words_in c.words)
   pub begins : (o : Opening) × IsBeginning o (all_prepared c.segments) (next_epoch c) (words_in c.words) (registers_of c.mutators.items) (queues_in c.mutators.items)
 
--- a marking cycle was started at this stop: the segments were prepared, the sweeper noted what waits, and the marker marked what the roots refer to; the mutators have their roots again
+-- a marking cycle was started at this stop: the segments were prepared, the sweeper noted what waits, and the marker marked what the roots refer to; the mutators have their roots again, and their queues have room for what the closing adds
 pub record StartsMarking (stop : ℕ) (old new : Collector) (marking : Marking) : Type 0 where
   pub rest : new ≡ record old { words = new.words; segments = new.segments; mutators = new.mutators }
   pub from_is : marking.from ≡ stop
   pub last : marking.last ≡ record { scanned = 0; empty = false }
   pub words : (words_in new.words ≡ words_in old.words) × IsSome new.words
   pub sound : IsSegments new.segments
-  pub given : AreGivenBack (registers_of old.mutators.items) (queues_in old.mutators.items) (map without_queue old.mutators.items) new.mutators.items
+  pub between : List Mutator
+  pub given : AreGivenBack (registers_of old.mutators.items) (queues_in old.mutators.items) (map without_queue old.mutators.items) between
+  pub queue_room : HaveQueueRoom old.weaks.list between new.mutators.items
+  pub closing_room : (marking.queues.items ≡ []) × (length new.mutators.items ≤ vec_capacity marking.queues)
   pub sweeper : HasBegun (all_prepared old.segments) (words_in old.words) (next_epoch old) marking.sweeper
   pub marked : HasMarked (all_prepared old.segments) new.segments (blank (next_epoch old) (most_blocks old.segments.layout)) marking.marker 0
   pub tied : (o : Opening) → IsBeginning o (all_prepared old.segments) (next_epoch old) (words_in old.words) (registers_of old.mutators.items) (queues_in old.mutators.items) → IsTied o (marks_of (opening o.core.snapshot)) new.segments marking.marker

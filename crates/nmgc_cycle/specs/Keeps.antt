@@ -1,36 +1,32 @@
 -- What a collector keeps from call to call.
-use Rattle.std.specs.Prelude.{ℕ, ◌≡◌, ◌<◌, ◌≤◌, ◌⊎◌, List, [], ◌∷◌, ◌++◌, length, slice_get, slice_index, Some, None, IsSome, Contains, vec_capacity}
-use Rattle.nmgc_graph.specs.World.{World}
+use Rattle.std.specs.Prelude.{ℕ, ◌≡◌, ◌<◌, ◌≤◌, ◌⊎◌, List, [], length, slice_get, slice_index, Some, None, IsSome, vec_capacity}
 use Rattle.nmgc_graph.specs.declared.command.Reply.{Reply}
 use Rattle.nmgc_graph.specs.History.{Row}
-use Rattle.nmgc_journal.specs.declared.report.StopRow.{StopRow}
 use Rattle.nmgc_alloc.specs.Segments.{IsSegments}
-pub use Rattle.nmgc_beside.specs.Closes.{HasNoWeak}
 use Rattle.nmgc_minor.specs.Promotion.{IsFor}
 use Rattle.nmgc_mutator.specs.declared.mutator.Mutator.{Mutator}
 use Rattle.nmgc_mutator.specs.Ready.{IsWhole}
 use Rattle.nmgc_script.specs.declared.script.Script.{Script}
 use Rattle.nmgc_journal.specs.declared.report.End.{End}
 use Rattle.nmgc_journal.specs.declared.report.End.TheVariants.{Done, HeapFull}
-use Rattle.nmgc_run.specs.State.{State, Cycle, Progress, idle, marking, sweeping, plan_of, layout_of, reserve_of, free_count}
+use Rattle.nmgc_run.specs.State.{State, Cycle, Progress, idle, marking, sweeping, plan_of, layout_of}
 use Rattle.nmgc_run.specs.Statements.{answered_count}
 use Rattle.nmgc_run.specs.Run.{Run, Turn, last_state, with_turn}
-use Rattle.nmgc_run.specs.Heap.{HoldsAtStop, snapshots}
-use Rattle.nmgc_run.specs.Seen.{ends_of}
 use Rattle.nmgc_run.specs.Collector.{IsNew, IsAtStop, IsAfterRound}
 use Rattle.nmgc_cycle.specs.declared.collector.Collector.{Collector}
+use Rattle.nmgc_cycle.specs.declared.progress.Progress.{Progress as Doing}
+use Rattle.nmgc_cycle.specs.declared.progress.Progress.TheVariants as doing
 use Rattle.nmgc_cycle.specs.declared.stop.StopEnd.{StopEnd}
 use Rattle.nmgc_cycle.specs.declared.stop.StopEnd.TheVariants as answer
 use Rattle.nmgc_sweep.specs.Sweeper.{HasNotes, AreLeft, numbers_of}
 use Rattle.nmgc_sweep.specs.Work.{IsAtWork}
 use Rattle.nmgc_cycle.specs.Bound.{AreFewAtStop, AreFewBeforeStop}
-use Rattle.nmgc_cycle.specs.Shown.{seen, sweeper_in, cycle_in}
-use Rattle.nmgc_cycle.specs.Stage.{IsShortAfter}
+use Rattle.nmgc_cycle.specs.Shown.{seen, sweeper_in}
 
--- no weak pointer is alive in the world, nor in the snapshot of a cycle that is marking: none is made so far
-pub record AreWeakless (s : State) : Type 0 where
-  pub world : HasNoWeak s.world
-  pub snapshot : (e : World) → Contains (snapshots s.progress) e → HasNoWeak e
+-- while a cycle marks, there is a list with room for the queues of so many mutators, for its closing
+abbrev pub HasClosingRoom : Doing → ℕ → Type 0
+HasClosingRoom (doing.Marking m) count = (m.queues.items ≡ []) × (count ≤ vec_capacity m.queues)
+HasClosingRoom p count = Unit {0}
 
 -- the sweeper of a cycle in progress: it noted what lay in the segments that are to be swept, and has notes left of all segments that wait
 pub record HasSweeper (k : Cycle) (c : Collector) : Type 0 where
@@ -41,7 +37,7 @@ pub record HasSweeper (k : Cycle) (c : Collector) : Type 0 where
 abbrev pub Sweeps : Progress → State → Collector → Type 0
 Sweeps idle s c = Unit {0}
 Sweeps (marking k) s c = HasSweeper k c × ((sweeper_in c.progress).seen.swept ≡ numbers_of (sweeper_in c.progress).left) × ((sweeper_in c.progress).seen.freed ≡ [])
-Sweeps (sweeping k closed) s c = HasSweeper k c × IsAtWork k closed (seen c).words s.allocation c.segments (cycle_in c.progress) (sweeper_in c.progress)
+Sweeps (sweeping k closed) s c = HasSweeper k c × IsAtWork k closed (seen c).words s.allocation c.segments (seen c).cycle (sweeper_in c.progress)
 
 -- a mutator between two calls: it has its number and the layout of the heap, and its replies were told
 pub record IsOwn (c : Collector) (k : ℕ) (m : Mutator) : Type 0 where
@@ -74,11 +70,11 @@ pub record IsFresh (script : Script) (c : Collector) : Type 0 where
 pub record IsStill (script : Script) (c : Collector) (run : Run) : Type 0 where
   pub kept : IsKept script c
   pub at_stop : IsAtStop (plan_of script) run (seen c)
-  pub weakless : AreWeakless (last_state run)
+  pub closing : HasClosingRoom c.progress (length c.mutators.items)
   pub sweeper : Sweeps (last_state run).progress (last_state run) c
   pub few : AreFewAtStop script c
 
--- after a stop, and the run goes on or is done
+-- after a stop
 abbrev pub HasStopped : Script → Collector → Type 0
 HasStopped script c = (run : Run) × IsStill script c run
 
@@ -91,7 +87,7 @@ pub record HasWorked (script : Script) (c : Collector) : Type 0 where
   pub history : List Row
   pub worked : State
   pub after : IsAfterRound (plan_of script) run replies history worked (seen c)
-  pub weakless : AreWeakless worked
+  pub closing : HasClosingRoom c.progress (length c.mutators.items)
   pub sweeper : Sweeps worked.progress worked c
   pub few : AreFewBeforeStop script c (last_state run).world worked.world
 
@@ -103,28 +99,15 @@ DidRound script old new = (worked : HasWorked script new) × IsStill script old 
 abbrev pub CanStop : Script → Collector → Type 0
 CanStop script c = IsFresh script c ⊎ HasWorked script c
 
--- a stop was short of segments, and the run can't go on
-pub record IsShort (script : Script) (c : Collector) (free reserve : ℕ) : Type 0 where
-  pub kept : IsKept script c
-  pub state : State
-  pub row : StopRow
-  pub stops : List StopRow
-  pub before : IsShortAfter (plan_of script) state row c.rounds stops c.cycles
-  pub stops_are : c.stops ≡ stops ++ row ∷ []
-  pub free_is : free ≡ free_count state
-  pub reserve_is : reserve ≡ reserve_of (plan_of script)
-  pub heap : HoldsAtStop (layout_of (plan_of script)) state (seen c).words c.segments (ends_of (seen c)) []
-
 -- what a stop that answered so left
 abbrev pub HasAnswered : Script → Collector → StopEnd → Type 0
 HasAnswered script c answer.GoOn = HasStopped script c × (c.answered ≡ None)
 HasAnswered script c answer.Done = HasStopped script c × (c.answered ≡ Some Done)
-HasAnswered script c (answer.HeapFull free reserve) = IsShort script c free reserve × (c.answered ≡ Some (HeapFull free reserve))
+HasAnswered script c (answer.HeapFull free reserve) = HasStopped script c × (c.answered ≡ Some (HeapFull free reserve))
 
--- a stop after a round: where it isn't short of segments, the run before the round, with the round and this stop as one turn more, is the run for which the collector stands
-abbrev pub StopsAfter : Script → Collector → Collector → StopEnd → Type 0
-StopsAfter script old new (answer.HeapFull free reserve) = Unit {0}
-StopsAfter script old new _ = (w : HasWorked script old) → (turn : Turn) × (turn.worked ≡ w.worked) × (turn.history ≡ w.history) × IsStill script new (with_turn w.run turn)
+-- a stop after a round: the run before the round, with the round and this stop as one turn more, is the run for which the collector stands. Of a new collector's first stop `answered` says all: the run has no turn yet
+abbrev pub StopsAfter : Script → Collector → Collector → Type 0
+StopsAfter script old new = (w : HasWorked script old) → (turn : Turn) × (turn.replies ≡ record { replies = w.replies }) × (turn.worked ≡ w.worked) × (turn.history ≡ w.history) × IsStill script new (with_turn w.run turn)
 
 -- the run has ended so
 abbrev pub HasEnded : Script → Collector → End → Type 0

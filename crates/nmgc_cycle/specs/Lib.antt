@@ -1,10 +1,13 @@
 pub mod Bound
 pub mod Cycles
+pub mod Full
+pub mod FullLaws
 pub mod Keeps
+pub mod Limits
+pub mod Listed
 pub mod Roots
 pub mod Shown
-pub mod Stage
 pub mod Steps
+pub mod StopLaws
 pub mod Stopping
 pub mod Working
-pub mod StopLaws

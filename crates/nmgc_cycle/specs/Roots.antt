@@ -16,6 +16,10 @@ queues_in mutators = map (λ (m : Mutator). m.queue) mutators
 abbrev pub addresses_of : List Mutator → List Address
 addresses_of mutators = flat_map (λ (m : Mutator). m.recorded.items) mutators
 
+-- the places of all weak pointers that they made
+abbrev pub young_in : List Mutator → List Address
+young_in mutators = flat_map (λ (m : Mutator). m.young_weaks.items) mutators
+
 -- a queue without words and without room
 abbrev pub no_queue : FinQueue
 no_queue = record { words = []; spare = 0 }

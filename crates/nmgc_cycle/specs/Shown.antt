@@ -8,6 +8,9 @@ use Rattle.nmgc_journal.specs.declared.report.Report.{Report}
 use Rattle.nmgc_journal.specs.declared.report.End.{End}
 use Rattle.nmgc_run.specs.Seen.{Seen, MutatorSeen, MarkerSeen, WorkSeen, CycleSeen, ends_of}
 use Rattle.nmgc_sweep.specs.Sweeper.{Sweeper}
+use Rattle.nmgc_graph.specs.declared.value.Name.{Name}
+use Rattle.nmgc_weak.specs.declared.weaks.Death.{Death}
+use Rattle.nmgc_weak.specs.Weaks.{names_of, places_of}
 use Rattle.nmgc_cycle.specs.declared.collector.Collector.{Collector}
 use Rattle.nmgc_cycle.specs.declared.progress.Progress.{Progress}
 use Rattle.nmgc_cycle.specs.declared.progress.Progress.TheVariants as progress
@@ -40,6 +43,10 @@ abbrev pub is_marking_in : Progress → Bool
 is_marking_in (progress.Marking m) = true
 is_marking_in _ = false
 
+-- the names of those that died at the last closing
+abbrev pub died : List Death → List Name
+died deaths = map (λ (death : Death). death.weak) deaths
+
 -- what there is of marker, work, sweeper and cycle, and what stands in its place where there is none
 abbrev pub marker_in : Progress → MarkerSeen
 marker_in (progress.Marking m) = m.marker
@@ -57,10 +64,10 @@ sweeper_in progress.Idle = no_sweeper
 sweeper_in (progress.Marking m) = m.sweeper
 sweeper_in (progress.Sweeping w) = w.sweeper
 
-abbrev pub cycle_in : Progress → CycleSeen
-cycle_in progress.Idle = record { from = 0; closed = 0; dead = []; kept = 0 }
-cycle_in (progress.Marking m) = record { from = m.from; closed = 0; dead = []; kept = 0 }
-cycle_in (progress.Sweeping w) = record { from = w.from; closed = w.closed; dead = []; kept = w.kept }
+abbrev pub cycle_in : Progress → List Name → CycleSeen
+cycle_in progress.Idle dead = record { from = 0; closed = 0; dead = []; kept = 0 }
+cycle_in (progress.Marking m) dead = record { from = m.from; closed = 0; dead = []; kept = 0 }
+cycle_in (progress.Sweeping w) dead = record { from = w.from; closed = w.closed; dead = dead; kept = w.kept }
 
 -- the collector, as `IsAtStop` and `IsAfterRound` speak of it
 abbrev pub seen : Collector → Seen
@@ -71,16 +78,16 @@ seen c = record {
   words = words_in c.words;
   segments = c.segments;
   mutators = map seen_mutator c.mutators.items;
-  weaks = [];
+  weaks = places_of c.weaks.list;
   phase = phase_in c.progress;
   begun = c.begun;
   collect = c.collect;
-  full = false;
+  full = c.full;
   answered = c.answered;
   work = work_in c.progress;
   marker = marker_in c.progress;
   sweeper = (sweeper_in c.progress).seen;
-  cycle = cycle_in c.progress;
+  cycle = cycle_in c.progress (died c.weaks.deaths);
 }
 
 -- the report that tells what a collector has, with this end
@@ -92,6 +99,6 @@ report_of c end = record {
   words = (seen c).words;
   segments = c.segments;
   mutators = ends_of (seen c);
-  weaks = [];
+  weaks = names_of c.weaks.list;
   end = end;
 }

@@ -1,8 +1,8 @@
 -- The steps of a stop as a run tells them: what the collector stands for from its promotion to its answer, and what each step leaves of that.
 --
--- A stop is promotion, adding, closing, end and beginning. After each of these the collector stands for a state of
--- the run at that stop; only what is known of the pace and of what mutators remember differs.
-use Rattle.std.specs.Prelude.{ℕ, ◌≡◌, ◌+◌, ◌++◌, ◌≤◌, List, [], true, false}
+-- A stop is promotion, adding, closing, end and beginning, or a full cycle in the beginning's place (`Full`, `FullLaws`).
+-- After each of these the collector stands for a state of the run at that stop; only what is known of the pace and of what mutators remember differs.
+use Rattle.std.specs.Prelude.{ℕ, ◌≡◌, ◌+◌, ◌++◌, ◌≤◌, List, [], true, false, length}
 use Rattle.nmgc_run.specs.Census.{IsKeptObject}
 use Rattle.nmgc_run.specs.Closing.{Closes, ClosesOrWaits, MayClose}
 use Rattle.nmgc_run.specs.Collector.{Matches, AreNurseries, EachMutator, IsAtRest, HoldsInCycle, IsPacedAtStop, IsPacedAfterRound}
@@ -20,10 +20,11 @@ use Rattle.nmgc_cycle.specs.declared.collector.Collector.{Collector}
 use Rattle.nmgc_cycle.specs.declared.progress.Marking.{Marking}
 use Rattle.nmgc_cycle.specs.declared.progress.Progress.TheVariants as doing
 use Rattle.nmgc_cycle.specs.declared.progress.Sweeping.{Sweeping}
-use Rattle.nmgc_cycle.specs.Cycles.{HasTaken, CanClose, HasClosed, IsClosed, Ends, IsDue, CanBegin, HasStarted, Begins}
-use Rattle.nmgc_cycle.specs.Keeps.{IsKept, AreWeakless, Sweeps}
+use Rattle.nmgc_cycle.specs.Cycles.{HasTaken, CanClose, HasClosed, IsClosed, Ends, CanBegin, HasStarted, Begins}
+use Rattle.nmgc_cycle.specs.Keeps.{IsKept, HasClosingRoom, Sweeps}
+use Rattle.nmgc_cycle.specs.Roots.{queues_in}
 use Rattle.nmgc_cycle.specs.Shown.{seen, words_in}
-use Rattle.nmgc_cycle.specs.Stage.{IsStaged}
+use Rattle.nmgc_cycle.specs.Limits.{IsInLimits}
 
 -- the pace of marking once what was remembered was added: where the last work left something the cycle goes on in pace, and else it may be closed
 pub record IsPacedWithin (quota : ℕ) (c : Cycle) (s : State) (seen : Seen) : Type 0 where
@@ -46,12 +47,12 @@ pub record Stands (Paced : Cycle → State → Seen → Type 0) (Rests : Mutator
   pub sound : IsSoundState (plan_of script) s
   pub course : IsStateInCourse s
   pub matches : Matches (seen c) s
-  pub heap : HoldsAtStop (layout_of (plan_of script)) s (seen c).words c.segments (ends_of (seen c)) []
+  pub heap : HoldsAtStop (layout_of (plan_of script)) s (seen c).words c.segments (ends_of (seen c)) (seen c).weaks
   pub nurseries : AreNurseries (layout_of (plan_of script)) heap.places s.world (nurseries_of (seen c))
   pub empty : AreEmpty (nurseries_of (seen c))
   pub rest : EachMutator (seen c) (λ m mutator. Rests mutator)
   pub cycle : HoldsInCycle (λ k. Paced k s (seen c)) s.progress s (seen c) heap.places
-  pub weakless : AreWeakless s
+  pub closing : HasClosingRoom c.progress (length c.mutators.items)
   pub sweeper : Sweeps s.progress s c
 
 -- after the promotion; once what was remembered was added; and from the closing on
@@ -68,34 +69,34 @@ StandsAt script c s = Stands (IsPacedAtStop script.config.quota) IsAtRest script
 
 -- adding changes nothing of the state
 abbrev pub AddingLeads : Type 0
-AddingLeads = (script : Script) (old new : Collector) (s : State) → IsStaged script → StandsPromoted script old s → HasTaken old new → StandsWithin script new s
+AddingLeads = (script : Script) (old new : Collector) (s : State) → IsInLimits script → StandsPromoted script old s → HasTaken old new → StandsWithin script new s
 
 -- a marker that finished closes its cycle, within the bounds
 abbrev pub FinishingLeads : Type 0
-FinishingLeads = (script : Script) (old new : Collector) (s : State) (k : Cycle) (m : Marking) (w : Sweeping) → IsStaged script → StandsWithin script old s → s.progress ≡ marking k → old.progress ≡ doing.Marking m → m.last.empty ≡ true → new.progress ≡ doing.Sweeping w → HasClosed s.number old new → IsClosed s.number (words_in old.words) old.segments new.segments m w → (t : State) × Closes k s t × MayClose script.config.quota k s.number × StandsAt script new t
+FinishingLeads = (script : Script) (old new : Collector) (s : State) (k : Cycle) (m : Marking) (w : Sweeping) → IsInLimits script → StandsWithin script old s → s.progress ≡ marking k → old.progress ≡ doing.Marking m → m.last.empty ≡ true → new.progress ≡ doing.Sweeping w → HasClosed s.number old new → IsClosed s.number (words_in old.words) (words_in new.words) old.segments new.segments old.weaks new.weaks old.mutators.items new.mutators.items m w → (t : State) × Closes k s t × MayClose script.config.quota k s.number × StandsAt script new t
 
 -- a closing comes within its bounds
 abbrev pub ClosingLeads : Type 0
-ClosingLeads = (script : Script) (old new : Collector) (s : State) → IsStaged script → StandsWithin script old s → HasClosed s.number old new → (t : State) × ClosesOrWaits script.config.quota ⊥ s.progress s t × StandsAt script new t
+ClosingLeads = (script : Script) (old new : Collector) (s : State) → IsInLimits script → StandsWithin script old s → HasClosed s.number old new → (t : State) × ClosesOrWaits script.config.quota ⊥ s.progress s t × StandsAt script new t
 
 -- a cycle's row tells its census
 abbrev pub EndLeads : Type 0
-EndLeads = (script : Script) (old new : Collector) (s : State) → IsStaged script → StandsAt script old s → Ends s.number old.progress old new → (t : State) × (rows : List CycleRow) × EndsOrWaits s.progress s t rows × (new.cycles ≡ old.cycles ++ rows) × StandsAt script new t
+EndLeads = (script : Script) (old new : Collector) (s : State) → IsInLimits script → StandsAt script old s → Ends s.number old.progress old new → (t : State) × (rows : List CycleRow) × EndsOrWaits s.progress s t rows × (new.cycles ≡ old.cycles ++ rows) × StandsAt script new t
 
--- where one is due, what was started is the next cycle
+-- where none is in progress, what was started is the next cycle
 abbrev pub StartingLeads : Type 0
-StartingLeads = (script : Script) (old new : Collector) (s : State) → IsStaged script → StandsAt script old s → IsDue script.config.trigger old → HasStarted s.number old new → StandsAt script new (record (cycle_started s) { collect = false })
+StartingLeads = (script : Script) (old new : Collector) (s : State) → IsInLimits script → StandsAt script old s → old.progress ≡ doing.Idle → HasStarted s.number old new → StandsAt script new (record (cycle_started s) { collect = false })
 
 -- a cycle begins where one is due
 abbrev pub BeginningLeads : Type 0
-BeginningLeads = (script : Script) (old new : Collector) (s : State) → IsStaged script → StandsAt script old s → Begins script.config.trigger s.number old new → (t : State) × BeginsOrWaits script.config s t × StandsAt script new t
+BeginningLeads = (script : Script) (old new : Collector) (s : State) → IsInLimits script → StandsAt script old s → Begins script.config.trigger s.number old new → (t : State) × BeginsOrWaits script.config s t × StandsAt script new t
 
 -- What the steps ask for
 
 -- a marker whose last work left nothing may finish
 abbrev pub CloseReady : Type 0
-CloseReady = (script : Script) (c : Collector) (s : State) → IsStaged script → StandsWithin script c s → CanClose (words_in c.words) c.segments c.progress
+CloseReady = (script : Script) (c : Collector) (s : State) → IsInLimits script → StandsWithin script c s → CanClose (words_in c.words) c.segments c.weaks.list (queues_in c.mutators.items) c.progress
 
--- where a cycle is due, it may begin
+-- where none is in progress, one may begin
 abbrev pub BeginReady : Type 0
-BeginReady = (script : Script) (c : Collector) (s : State) → IsStaged script → StandsAt script c s → IsDue script.config.trigger c → CanBegin c
+BeginReady = (script : Script) (c : Collector) (s : State) → IsInLimits script → StandsAt script c s → c.progress ≡ doing.Idle → CanBegin c

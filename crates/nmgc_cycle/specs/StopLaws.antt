@@ -1,14 +1,17 @@
 -- The laws on which a stop rests: what its promotion leaves of a heap and of a cycle, and to what each step after it leads.
+use Rattle.nmgc_beside.specs.Joins.{FewerListed}
 use Rattle.nmgc_beside.specs.Keeps.{PromotionKeepsMarking}
 use Rattle.nmgc_beside.specs.Sweeps.{PlacedWait, SweepingStays, SettledStays}
 use Rattle.nmgc_run.specs.Places.{BlocksArePlaces}
 use Rattle.nmgc_sweep.specs.Statements.{LeftStays, WorkGoesOn}
-use Rattle.nmgc_cycle.specs.Steps.{AddingLeads, ClosingLeads, EndLeads, BeginningLeads, CloseReady, BeginReady}
+use Rattle.nmgc_cycle.specs.FullLaws.{ProceedingLeads}
+use Rattle.nmgc_cycle.specs.Steps.{AddingLeads, ClosingLeads, EndLeads, CloseReady, BeginReady}
 
 -- a promotion leaves the places of a heap, and the cycle in progress
 pub record HasPromotionLaws : Type 0 where
   pub back : BlocksArePlaces
   pub marking : PromotionKeepsMarking
+  pub fewer : FewerListed
   pub sweeping : SweepingStays
   pub settled : SettledStays
   pub waits : PlacedWait
@@ -23,4 +26,4 @@ pub record HasStopLaws : Type 0 where
   pub closing : ClosingLeads
   pub ending : EndLeads
   pub begin_ready : BeginReady
-  pub beginning : BeginningLeads
+  pub proceeding : ProceedingLeads

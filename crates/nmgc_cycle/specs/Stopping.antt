@@ -1,22 +1,30 @@
 -- The parts of a stop: its promotion, what is left of the programs, and what its answer says of the run.
-use Rattle.std.specs.Prelude.{ℕ, ◌≡◌, ◌<◌, List, [], map, length, slice_index, slice_index_or, Option, Some, None, IsSome}
+use Rattle.std.specs.Prelude.{ℕ, ◌≡◌, ◌⊎◌, ◌<◌, Contains, List, [], map, length, slice_index, slice_index_or, Option, Some, None, IsSome}
 use Rattle.nmgc_graph.specs.declared.value.Name.{Name}
 use Rattle.nmgc_graph.specs.declared.command.Command.{Command}
 use Rattle.nmgc_alloc.specs.AllocState.{AllocState, StandsFor}
 use Rattle.nmgc_alloc.specs.Reserve.{free_count}
 use Rattle.nmgc_alloc.specs.Segments.{IsSegments}
-use Rattle.nmgc_heap.specs.Moves.{Moved}
+use Rattle.nmgc_graph.specs.World.{IsWorld}
+use Rattle.nmgc_heap.specs.Moves.{Moved, settled}
+use Rattle.nmgc_heap.specs.Roots.{ListsWeaks}
+use Rattle.nmgc_weak.specs.declared.weaks.OldWeak.{OldWeak}
+use Rattle.nmgc_weak.specs.Closes.{OldStayOld}
+use Rattle.nmgc_weak.specs.Weaks.{places_of}
 use Rattle.nmgc_blocks.specs.Occupied.{KeepsMarks}
 use Rattle.nmgc_blocks.specs.Promoted.{PlacesEach}
-use Rattle.nmgc_blocks.specs.Stopped.{Stopped, IsStopped, IsSettled}
+use Rattle.nmgc_beside.specs.Joins.{HaveMoved}
+use Rattle.nmgc_blocks.specs.Stopped.{Stopped, IsStopped, IsSettled, young_base}
 use Rattle.nmgc_journal.specs.declared.report.End.{End}
 use Rattle.nmgc_journal.specs.declared.report.End.TheVariants as end
 use Rattle.nmgc_minor.specs.Placing.{moved_of}
 use Rattle.nmgc_minor.specs.Promotion.{IsFor}
 use Rattle.nmgc_object.specs.FinQueue.{FinQueue}
+use Rattle.nmgc_mutator.specs.declared.mutator.Mutator.{Mutator}
 use Rattle.nmgc_object.specs.Places.{reserve_count}
 use Rattle.nmgc_script.specs.declared.script.Script.{Script}
 use Rattle.nmgc_turn.specs.Worked.{registers_of, queues_of, nurseries_of, recorded_of}
+pub use Rattle.nmgc_turn.specs.Worked.{weaks_of as young_weaks_of}
 use Rattle.nmgc_cycle.specs.declared.collector.Collector.{Collector}
 use Rattle.nmgc_cycle.specs.declared.progress.Progress.TheVariants as doing
 use Rattle.nmgc_cycle.specs.declared.stop.StopEnd.{StopEnd}
@@ -24,9 +32,9 @@ use Rattle.nmgc_cycle.specs.declared.stop.StopEnd.TheVariants as answer
 use Rattle.nmgc_cycle.specs.Roots.{AreGivenBack}
 use Rattle.nmgc_cycle.specs.Shown.{words_in}
 
--- words, segments and mutators of the collector stand for the heap at a stop; no weak pointer was made
+-- words, segments and mutators of the collector stand for the heap at a stop
 abbrev pub StandsStopped : Stopped → Collector → Type 0
-StandsStopped t c = IsStopped t c.segments (words_in c.words) (nurseries_of c.mutators.items) (registers_of c.mutators.items) (queues_of c.mutators.items) (recorded_of c.mutators.items) []
+StandsStopped t c = IsStopped t c.segments (words_in c.words) (nurseries_of c.mutators.items) (registers_of c.mutators.items) (queues_of c.mutators.items) (recorded_of c.mutators.items) (young_weaks_of c.mutators.items)
 
 -- what the last promotion moved
 abbrev pub moves_of : Collector → List Moved
@@ -36,9 +44,9 @@ moves_of c = map moved_of c.promotion.moves
 abbrev pub moved_names : Collector → List Name
 moved_names c = map (λ (m : Moved). m.name) (moves_of c)
 
--- what the round made was promoted: of the collector only words, segments and what mutators hold changed
+-- what the round made was promoted: of the collector only words, segments, what mutators hold and the list of weak pointers changed, and what moved is told
 pub record HasPromoted (old new : Collector) : Type 0 where
-  pub rest : new ≡ record old { words = new.words; segments = new.segments; promotion = new.promotion; mutators = new.mutators }
+  pub rest : new ≡ record old { words = new.words; segments = new.segments; promotion = new.promotion; mutators = new.mutators; weaks = new.weaks }
   pub has_words : IsSome new.words
   pub registers : List ℕ
   pub queues : List FinQueue
@@ -49,10 +57,20 @@ pub record HasPromoted (old new : Collector) : Type 0 where
   pub marks : KeepsMarks old.segments new.segments
   pub layout : new.segments.layout ≡ old.segments.layout
   pub lists : IsFor old.segments.layout new.promotion
+  pub spares : map (λ (queue : FinQueue). queue.spare) queues ≡ map (λ (m : Mutator). m.queue.spare) old.mutators.items
+  pub copied : HaveMoved (young_base old.segments) (moves_of new) (words_in old.words) (words_in new.words)
 
--- whatever heap the collector before stood for was promoted, and the collector after stands for it
-abbrev pub KeepsWorld : Collector → Collector → Type 0
-KeepsWorld old new = (t : Stopped) → StandsStopped t old → IsSettled t new.segments (words_in new.words) (registers_of new.mutators.items) (queues_of new.mutators.items) (moves_of new)
+-- the list is that of the weak pointers that were alive as the round began, and the round made none of these anew
+pub record CanList (t : Stopped) (c : Collector) : Type 0 where
+  pub began : IsWorld t.began
+  pub listed : ListsWeaks c.segments.layout t.places t.began (places_of c.weaks.list)
+  pub old : OldStayOld c.segments.layout t.places t.began t.world
+
+-- those that were finalised have left the list, and those that moved and are alive have joined it
+pub record HasListed (old new : Collector) : Type 0 where
+  pub from : (weak : OldWeak) → Contains new.weaks.list weak → Contains old.weaks.list weak ⊎ ((m : Moved) × Contains (moves_of new) m × (weak.weak ≡ m.name))
+  pub lists : (t : Stopped) → StandsStopped t old → CanList t old → ListsWeaks new.segments.layout (settled (young_base new.segments) (moves_of new) t.places) t.world (places_of new.weaks.list)
+  pub deaths : new.weaks.deaths ≡ old.weaks.deaths
 
 -- some program is longer than what was done of it
 abbrev pub SomeIsLeft : List (List Command) → List ℕ → Type 0

@@ -1,8 +1,9 @@
 -- The slices of a round: what a mutator with its seat does of its program, and what all of them leave.
-use Rattle.std.specs.Prelude.{ℕ, ◌≡◌, ◌↔◌, ◌||◌, IsTrue, true, false, ◌+◌, ◌*◌, ◌<◌, ◌≤◌, List, [], ◌++◌, length, map, drop, take, min, All, slice_get, slice_index, slice_index_or, Some, vec_capacity}
+use Rattle.std.specs.Prelude.{ℕ, ◌≡◌, ◌↔◌, ◌||◌, IsTrue, Bool, false, ◌+◌, ◌*◌, ◌<◌, ◌≤◌, List, [], ◌++◌, length, map, drop, take, min, All, slice_get, slice_index, slice_index_or, Some, vec_capacity}
 use Rattle.std.specs.List.{zip}
 use Rattle.nmgc_graph.specs.declared.command.Command.{Command}
 use Rattle.nmgc_graph.specs.declared.command.Reply.{Reply}
+use Rattle.nmgc_graph.specs.Command.{Fits}
 use Rattle.nmgc_alloc.specs.Segments.{IsSegments}
 use Rattle.nmgc_beside.specs.Owed.{IsGathered, HaveOwed, gathered}
 use Rattle.nmgc_beside.specs.Rest.{opening_beside}
@@ -16,13 +17,13 @@ use Rattle.nmgc_mutator.specs.declared.mutator.Mutator.{Mutator}
 use Rattle.nmgc_mutator.specs.declared.mutator.SliceEnd.{SliceEnd}
 use Rattle.nmgc_mutator.specs.declared.mutator.SliceEnd.TheVariants as ending
 use Rattle.nmgc_mutator.specs.Ready.{IsReady, Reserves}
-use Rattle.nmgc_mutator.specs.Slice.{CanRun, HasRoom, HasRun, Ended}
+use Rattle.nmgc_mutator.specs.Slice.{HasRoom, HasRun, Ended}
 use Rattle.nmgc_turn.specs.Rest.{opening_at}
 use Rattle.nmgc_turn.specs.Worked.{Done}
 use Rattle.nmgc_script.specs.declared.script.Script.{Script}
 use Rattle.nmgc_run.specs.Collector.{IsMarking}
 use Rattle.nmgc_run.specs.Run.{Run, last_state}
-use Rattle.nmgc_run.specs.Slice.{program_of, slice_of, some_asks, is_collect}
+use Rattle.nmgc_run.specs.Slice.{program_of, slice_of, some_asks, is_collect, is_full}
 use Rattle.nmgc_run.specs.State.{State, Progress, marking}
 use Rattle.nmgc_cycle.specs.declared.collector.Collector.{Collector}
 use Rattle.nmgc_cycle.specs.declared.round.Lists.{Lists}
@@ -38,7 +39,7 @@ left_at script positions k = drop (slice_index positions k) (program_of script.t
 -- a mutator with its seat may do its slice of these commands
 pub record CanWork (round : Round) (slice : ℕ) (program : List Command) (worker : Worker) : Type 0 where
   pub ready : IsReady round worker.seat worker.mutator
-  pub program_is : All (CanRun worker.mutator.layout.words) program
+  pub program_is : All (Fits worker.mutator.layout.words) program
   pub room : HasRoom worker.mutator (min slice (length program))
 
 -- it did its slice of them
@@ -47,6 +48,7 @@ pub record HasWorkedOn (round : Round) (slice : ℕ) (program : List Command) (o
   pub end : SliceEnd
   pub ended : Ended program slice new.done new.mutator end
   pub asks : IsTrue new.asks ↔ (end ≡ ending.Collect)
+  pub asks_full : IsTrue new.asks_full ↔ (end ≡ ending.Full)
   pub most : new.done ≤ slice
 
 -- each of the workers may do its slice of what is left
@@ -61,13 +63,16 @@ pub record HaveAllWorked (round : Round) (script : Script) (positions : List ℕ
   pub count : length new ≡ length old
   pub each : (k : ℕ) (d : Worker) → k < length old → HasWorkedOn round script.config.slice (left_at script positions k) (slice_index_or old k d) (slice_index_or new k d)
 
--- the slice of one of them asks for a cycle
-abbrev pub SomeAsks : List Worker → Type 0
-SomeAsks workers = (k : ℕ) × ((worker : Worker) × (slice_get workers k ≡ Some worker) × (worker.asks ≡ true))
+-- whether a worker's slice asks for a cycle, or for a full one
+abbrev pub asks_of : Worker → Bool
+asks_of worker = worker.asks
+
+abbrev pub asks_full_of : Worker → Bool
+asks_full_of worker = worker.asks_full
 
 -- a mutator with its seat, that did nothing yet
 abbrev pub worker_of : Mutator × RoundSeat → Worker
-worker_of (m, seat) = record { mutator = m; seat = seat; done = 0; asks = false }
+worker_of (m, seat) = record { mutator = m; seat = seat; done = 0; asks = false; asks_full = false }
 
 -- the mutators with their seats, by their numbers
 abbrev pub workers_of : List Mutator → List RoundSeat → List Worker
@@ -116,11 +121,12 @@ OpensIn _ s c places o = o ≡ opening_at c.segments.layout s.world places c.mut
 abbrev pub OpensAt : Script → Collector → Opening → Type 0
 OpensAt script c o = (run : Run) × (h : IsStill script c run) × OpensIn (last_state run).progress (last_state run) c h.at_stop.heap.places o
 
--- what mutator k did in a round: its slice of what was left, with these replies
+-- what mutator k did in a round: its slice of what was left, with these replies; its finaliser queue has no less room
 pub record DidSlice (script : Script) (old new : Collector) (k : ℕ) (m n : Mutator) (done : List Done) : Type 0 where
   pub commands : map (λ (d : Done). d.0) done ≡ slice_of script.config (left_at script old.positions.items k)
   pub replies : n.replies.items ≡ m.replies.items ++ map (λ (d : Done). d.1) done
   pub position : slice_index new.positions.items k ≡ slice_index old.positions.items k + length done
+  pub queue_room : m.queue.spare ≤ n.queue.spare
 
 -- beside the slices the collector did its part, with these scans
 pub record HasHelpedBeside (quota : ℕ) (o : Opening) (scans : List Scan) (old new : Collector) : Type 0 where
@@ -135,9 +141,9 @@ pub record HasHelpedBeside (quota : ℕ) (o : Opening) (scans : List Scan) (old 
 abbrev pub commands_in : List (List Done) → List (List Command)
 commands_in done = map (λ (d : List Done). map (λ (x : Done). x.0) d) done
 
--- a round is over, and its replies aren't told yet: the words are those that it left, each mutator did its slice and remembers what it owes, and the collector did its part; a cycle is asked for where it was, or where a slice asked for one
+-- a round is over, and its replies aren't told yet: the words are those that it left, each mutator did its slice and remembers what it owes, and the collector did its part; a cycle, or a full one, is asked for where it was, or where a slice asked for one
 pub record DidSlices (script : Script) (o : Opening) (old new : Collector) : Type 0 where
-  pub rest : new ≡ record old { words = new.words; segments = new.segments; progress = new.progress; collect = new.collect; mutators = new.mutators; positions = new.positions }
+  pub rest : new ≡ record old { words = new.words; segments = new.segments; progress = new.progress; collect = new.collect; full = new.full; mutators = new.mutators; positions = new.positions }
   pub words : List ℕ
   pub words_are : new.words ≡ Some words
   pub scans : List Scan
@@ -149,6 +155,7 @@ pub record DidSlices (script : Script) (o : Opening) (old new : Collector) : Typ
   pub helped : HasHelpedBeside script.config.quota o scans old new
   pub sound : IsSegments new.segments
   pub collect : new.collect ≡ (old.collect || some_asks is_collect (commands_in done))
+  pub full : new.full ≡ (old.full || some_asks is_full (commands_in done))
   pub positions_are : length new.positions.items ≡ length old.positions.items
   pub each : (k : ℕ) (m n : Mutator) (d : List Done) → slice_get old.mutators.items k ≡ Some m → slice_get new.mutators.items k ≡ Some n → slice_get done k ≡ Some d → DidSlice script old new k m n d
 

@@ -27,7 +27,8 @@ ghost use Rattle.nmgc_script.specs.Limits.{FitsScript};
 ghost use Rattle.nmgc_run.specs.State.{plan_of, layout_of as planned_layout};
 ghost use Rattle.nmgc_run.specs.Seen.{end_of as told_end};
 ghost use Rattle.nmgc_cycle.specs.Shown.{seen_mutator, report_of};
-ghost use Rattle.nmgc_cycle.specs.Stage.{IsStaged, IsTold};
+ghost use Rattle.nmgc_run.specs.Lawful.{IsLawful};
+ghost use Rattle.nmgc_cycle.specs.Limits.{IsInLimits};
 ghost use Rattle.nmgc_cycle.specs.Keeps.{IsFresh, HasEnded};
 
 use crate::progress::Progress;
@@ -44,6 +45,7 @@ use nmgc_object::{Header, Layout};
 use nmgc_round::laws::empty_heap_opens;
 use nmgc_round::{Gate, Words};
 use nmgc_script::Script;
+use nmgc_weak::Weaks;
 use std::alloc::Global;
 use std::thread::Threads;
 
@@ -57,6 +59,8 @@ pub struct Collector {
     pub(crate) list: Vec<u64>,
     pub(crate) segments: Segments,
     pub(crate) promotion: Promotion,
+    // The weak pointers that are alive and have a block.
+    pub(crate) weaks: Weaks,
     // By their numbers.
     pub(crate) mutators: Vec<Mutator>,
     // How many commands of each program were answered.
@@ -70,6 +74,8 @@ pub struct Collector {
     pub(crate) begun: u32,
     // Whether a cycle was asked for since the last one began.
     pub(crate) collect: bool,
+    // Whether a full cycle was asked for since the last one was done.
+    pub(crate) full: bool,
     // While no cycle is in progress: how often the collector passed the gate.
     pub(crate) turns: u64,
     // The end that the last stop answered, if it was one.
@@ -133,11 +139,10 @@ impl Collector {
     /// The collector of a script's run, before its first stop: no command was answered, the registers and g are
     /// full of nil, and every segment is free.
     ///
-    /// Asks that the script is within the limits, and that its commands are built. Takes memory for the words, twice,
-    /// for the segments with their marks, and for what the promotion of full nurseries needs; what a cycle needs is
-    /// taken as it begins.
+    /// Asks that the script is within the limits. Takes memory for the words, twice, for the segments with their marks,
+    /// and for what the promotion of full nurseries needs; what a cycle needs is taken as it begins.
     pub fn new(alloc: Global, script: &Script) -> Result<Collector, NoMemory>
-        requires { IsStaged script.now }
+        requires { IsInLimits script.now }
         ensures { IfOk result (λ collector. IsFresh script.now collector) }
     {
         empty_heap_opens();
@@ -156,6 +161,7 @@ impl Collector {
             list,
             segments,
             promotion,
+            weaks: Weaks::new(alloc),
             mutators,
             positions,
             rounds: List::new(alloc),
@@ -164,6 +170,7 @@ impl Collector {
             progress: Progress::Idle,
             begun: 0,
             collect: false,
+            full: false,
             turns: 0,
             answered: None,
             ends,
@@ -174,16 +181,17 @@ impl Collector {
     ///
     /// In a round each mutator works in a thread of its own, and passes `gate` before each command that it tries, and
     /// so does the collector before each object that it scans and each segment that it sweeps; where a thread can't be
-    /// started, its work is done by this one. The report is lawful, or tells a run that
-    /// was short of segments. Asks what `new` asks. After `NoMemory` nothing of the run is left.
+    /// started, its work is done by this one. The report is lawful, to its end: `Done`, where every command was answered, or
+    /// `HeapFull`, where a full cycle at the last stop left fewer segments free than the reserve. Asks what `new` asks.
+    /// After `NoMemory` nothing of the run is left.
     pub fn run<R: Threads + Sync, G: Gate>(
         alloc: Global,
         rt: &R,
         script: &Script,
         gate: &G,
     ) -> Result<Report, NoMemory>
-        requires { IsStaged script.now }
-        ensures { IfOk result (λ report. IsTold script.now report) }
+        requires { IsInLimits script.now }
+        ensures { IfOk result (λ report. IsLawful script.now report) }
     {
         let mut collector = Collector::new(alloc, script)?;
         'stops: loop {
@@ -204,14 +212,15 @@ impl Collector {
     pub fn into_report(self, end: End) -> Report
         requires { (script : ScriptSeen) × HasEnded script self end }
         ensures parts { result ≡ report_of self end }
-        ensures told { (script : ScriptSeen) → HasEnded script self end → IsTold script result }
+        ensures told { (script : ScriptSeen) → HasEnded script self end → IsLawful script result }
     {
         let Collector {
-            alloc,
+            alloc: _,
             words,
             list,
             segments,
             promotion: _,
+            weaks,
             mutators,
             positions: _,
             rounds,
@@ -220,6 +229,7 @@ impl Collector {
             progress: _,
             begun: _,
             collect: _,
+            full: _,
             turns: _,
             answered: _,
             ends,
@@ -233,7 +243,7 @@ impl Collector {
             words: List::from_vec(words),
             segments,
             mutators: List::from_vec(ends),
-            weaks: List::new(alloc),
+            weaks: weaks.into_names(),
             end,
         }
     }

@@ -13,14 +13,14 @@ ghost use Rattle.nmgc_alloc.specs.Segments.{IsSegments};
 ghost use Rattle.nmgc_run.specs.Marker.{HasRoomToMark};
 ghost use Rattle.nmgc_run.specs.Marks.{epoch_of as epoch_by};
 ghost use Rattle.nmgc_segment.specs.Marks.{IsEpoch};
-ghost use Rattle.nmgc_cycle.specs.Roots.{HasRegisters};
+ghost use Rattle.nmgc_cycle.specs.Roots.{HasRegisters, queues_in};
 ghost use Rattle.nmgc_cycle.specs.Shown.{words_in};
-ghost use Rattle.nmgc_cycle.specs.Cycles.{remembered_by, forgetting, CanAdd, HasAdded, HasTaken, CanClose, HasClosed, IsClosed, IsReadyToClose, row_of as row_shown, Ends, IsDue, CanBegin, StartsMarking, Begins};
+ghost use Rattle.nmgc_cycle.specs.Cycles.{remembered_by, forgetting, CanAdd, HasAdded, HasTaken, CanClose, HasClosed, IsClosed, IsReadyToClose, row_of as row_shown, Ends, IsDue, CanBegin, StartsMarking, HasStarted, Begins};
 
 use crate::progress::{Marking, Progress, Sweeping};
-use crate::{Collector, roots};
+use crate::{Collector, roots, weaks};
 use nmgc_alloc::Segments;
-use nmgc_graph::{List, NoMemory};
+use nmgc_graph::{List, Name, NoMemory};
 use nmgc_journal::CycleRow;
 use nmgc_mark::{Marker, Work};
 use nmgc_mutator::Mutator;
@@ -84,7 +84,7 @@ impl Collector {
     // The cycle is closed where the marker's last work left nothing.
     pub(crate) fn close(&mut self, stop: u32)
         requires words { IsSome self.old.words }
-        requires can { CanClose (words_in self.old.words) self.old.segments self.old.progress }
+        requires can { CanClose (words_in self.old.words) self.old.segments self.old.weaks.list (queues_in self.old.mutators.items) self.old.progress }
         ensures { HasClosed stop self.old self.new }
     {
         self.progress = match mem::replace(&mut self.progress, Progress::Idle) {
@@ -100,23 +100,31 @@ impl Collector {
     }
 
     // Marking is finished, and the marks of segments that aren't to be swept are carried.
-    fn closed(&mut self, marking: Marking, stop: u32) -> Sweeping
+    pub(crate) fn closed(&mut self, marking: Marking, stop: u32) -> Sweeping
         requires words { IsSome self.old.words }
-        requires ready { IsReadyToClose (words_in self.old.words) self.old.segments marking.marker }
-        ensures rest { self.new ≡ record self.old { words = self.new.words; segments = self.new.segments } }
-        ensures words { (words_in self.new.words ≡ words_in self.old.words) × IsSome self.new.words }
-        ensures closed { IsClosed stop (words_in self.old.words) self.old.segments self.new.segments marking result }
+        requires ready { IsReadyToClose (words_in self.old.words) self.old.segments self.old.weaks.list (queues_in self.old.mutators.items) marking }
+        ensures rest { self.new ≡ record self.old { words = self.new.words; segments = self.new.segments; weaks = self.new.weaks; mutators = self.new.mutators } }
+        ensures words { IsSome self.new.words }
+        ensures closed { IsClosed stop (words_in self.old.words) (words_in self.new.words) self.old.segments self.new.segments self.old.weaks self.new.weaks self.old.mutators.items self.new.mutators.items marking result }
     {
         let Marking {
             from,
             mut marker,
             last: _,
             mut sweeper,
+            queues,
         } = marking;
         let Some(words) = &mut self.words else {
             unreachable!()
         };
         marker.finish(words, &mut self.segments);
+        self.weaks.resolve(&mut marker, words, &mut self.segments);
+        weaks::queue_all(
+            self.alloc,
+            self.weaks.deaths(),
+            self.mutators.as_mut_slice(),
+            queues,
+        );
         let _ = self.segments.layout();
         self.segments.carry(marker.epoch());
         sweeper.turns = marker.turns;
@@ -134,7 +142,8 @@ impl Collector {
     {
         if let Progress::Sweeping(sweeping) = &self.progress {
             if self.segments.sweep_count() == 0 {
-                let row = row_of(self.alloc, self.begun, sweeping, stop)?;
+                let dead = weaks::dead_names(self.alloc, self.weaks.deaths())?;
+                let row = row_of(self.alloc, self.begun, sweeping, dead, stop)?;
                 self.turns = sweeping.sweeper.turns;
                 self.cycles.push(row)?;
                 self.progress = Progress::Idle;
@@ -165,11 +174,25 @@ impl Collector {
         ensures { OnOk result (Begins trigger stop self.old self.new) }
     {
         if self.is_due(trigger) {
-            let marking = self.start_marking(stop)?;
-            self.begun += 1;
-            self.collect = false;
-            self.progress = Progress::Marking(marking);
+            self.start(stop)?;
         }
+        Ok(())
+    }
+
+    // A cycle begins.
+    pub(crate) fn start(&mut self, stop: u32) -> Result<(), NoMemory>
+        requires words { IsSome self.old.words }
+        requires inside { FIRST_PLACE ≤ length (words_in self.old.words) }
+        requires few { length self.old.mutators.items ≤ MAKERS }
+        requires whole { All HasRegisters self.old.mutators.items }
+        requires number { self.old.begun + 1 < 2 ^ 32 }
+        requires can { CanBegin self.old }
+        ensures { OnOk result (HasStarted stop self.old self.new) }
+    {
+        let marking = self.start_marking(stop)?;
+        self.begun += 1;
+        self.collect = false;
+        self.progress = Progress::Marking(marking);
         Ok(())
     }
 
@@ -200,6 +223,8 @@ impl Collector {
         )?;
         let _ = self.segments.layout();
         roots::give_back(self.mutators.as_mut_slice(), roots);
+        weaks::reserve_queues(self.mutators.as_mut_slice(), self.weaks.list())?;
+        let queues = Vec::with_capacity(self.alloc, self.mutators.len())?;
         marker.turns = self.turns;
         sweeper.turns = self.turns;
         Ok(Marking {
@@ -210,13 +235,20 @@ impl Collector {
                 empty: false,
             },
             sweeper,
+            queues,
         })
     }
 }
 
 // The row of a cycle that ends at a stop.
-fn row_of(alloc: Global, number: u32, sweeping: &Sweeping, stop: u32) -> Result<CycleRow, NoMemory>
-    ensures { IfOk result (λ row. row ≡ row_shown number stop sweeping.now) }
+fn row_of(
+    alloc: Global,
+    number: u32,
+    sweeping: &Sweeping,
+    dead: List<Name>,
+    stop: u32,
+) -> Result<CycleRow, NoMemory>
+    ensures { IfOk result (λ row. row ≡ row_shown number stop sweeping.now dead) }
 {
     let sweeper = &sweeping.sweeper;
     Ok(CycleRow {
@@ -227,7 +259,7 @@ fn row_of(alloc: Global, number: u32, sweeping: &Sweeping, stop: u32) -> Result<
         swept: List::from_vec(Vec::from_slice(alloc, sweeper.swept())?),
         had: List::from_vec(Vec::from_slice(alloc, sweeper.had())?),
         freed: List::from_vec(Vec::from_slice(alloc, sweeper.freed())?),
-        dead: List::new(alloc),
+        dead,
         kept: sweeping.kept,
     })
 }

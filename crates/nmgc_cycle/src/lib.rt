@@ -9,14 +9,14 @@
 //! What a collector keeps from call to call is in `specs/Keeps.antt`: there is one run of the script, as
 //! `nmgc_run` defines it, of which the collector's rows tell and for whose last state its words, segments, mutators,
 //! marker and sweeper stand. A new collector is what such a run begins with; a round leads from a stop to the end of a
-//! round, with one legal order of all its commands; a stop leads from there to the next stop, and keeps the world.
-//! So the report of a run is lawful, whatever the schedule was. `specs/Shown.antt` says what of a collector these
-//! facts see.
+//! round, with one legal order of all its commands; a stop leads from there to the next stop of the run, and changes
+//! the world only where weak pointers die. So the report of a run is lawful, whatever the schedule was.
+//! `specs/Shown.antt` says what of a collector these facts see.
 //!
 //! A cycle begins at a stop, marks in the rounds that follow, beside the mutators, is closed at a stop, sweeps beside
 //! the mutators, and ends at a stop (`progress`, `cycle`). `specs/Cycles.antt` says what each of these calls does, and
-//! `specs/Steps.antt` what it leads to in the run. The full cycle isn't built yet: `specs/Stage.antt` says which
-//! scripts may run, and what is told of a run that is short of segments.
+//! `specs/Steps.antt` what it leads to in the run. A full cycle is done at one stop (`full`, `specs/Full.antt`,
+//! `specs/FullLaws.antt`). `specs/Limits.antt` says which scripts may run.
 //!
 //! Easy to get wrong: the words of a round are with its seats, and an error between its start and its end would
 //! lose them. So all that can fail comes before the words are taken, or after they are back. After `NoMemory` no
@@ -25,11 +25,13 @@
 
 mod collector;
 mod cycle;
+mod full;
 mod leading;
 mod progress;
 mod roots;
 mod round;
 mod stop;
+mod weaks;
 mod worker;
 
 pub use collector::Collector;

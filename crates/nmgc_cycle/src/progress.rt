@@ -13,6 +13,7 @@ ghost use Rattle.nmgc_cycle.specs.Cycles.{CanHelp, HasHelped};
 use nmgc_alloc::Segments;
 use nmgc_journal::Phase;
 use nmgc_mark::{Marker, Work};
+use nmgc_object::FinQueue;
 use nmgc_round::{CollectorSeat, Gate, Round};
 use nmgc_sweep::Sweeper;
 
@@ -26,6 +27,8 @@ pub struct Marking {
     pub last: Work,
     /// It noted, as the cycle began, what is to be swept.
     pub sweeper: Sweeper,
+    /// Empty, with room for the finaliser queues of all mutators: the closing has them in hand, and takes no memory.
+    pub queues: Vec<FinQueue>,
 }
 
 /// A cycle that was closed, and is sweeping.

@@ -2,7 +2,7 @@
 ghost use Rattle.std.specs.Prelude.{◌≡◌, ◌*◌, ◌≤◌, All, length, map, IfOk, OnOk};
 ghost use Rattle.nmgc_graph.specs.declared.value.TheConstants.{MAKERS, REGISTERS};
 ghost use Rattle.nmgc_turn.specs.Worked.{registers_of, nurseries_of};
-ghost use Rattle.nmgc_cycle.specs.Roots.{queues_in, addresses_of, without_queue, HasRegisters, given_back, AreGivenBack};
+ghost use Rattle.nmgc_cycle.specs.Roots.{queues_in, addresses_of, young_in, without_queue, HasRegisters, given_back, AreGivenBack};
 
 use nmgc_graph::{List, NoMemory, REGISTERS};
 use nmgc_minor::Roots;
@@ -51,6 +51,17 @@ pub fn recorded(alloc: Global, mutators: &[Mutator]) -> Result<Vec<Address>, NoM
         recorded.extend_from_slice(mutator.recorded.items())?;
     }
     Ok(recorded)
+}
+
+/// The places of all weak pointers that the mutators made.
+pub fn young_weaks(alloc: Global, mutators: &[Mutator]) -> Result<Vec<Address>, NoMemory>
+    ensures { IfOk result (λ young. young.items ≡ young_in mutators.now) }
+{
+    let mut young = Vec::new(alloc);
+    for mutator in mutators {
+        young.extend_from_slice(mutator.young_weaks.items())?;
+    }
+    Ok(young)
 }
 
 // The mutator gets its registers and its queue back; its nursery is empty, and nothing of the round is left.

@@ -12,16 +12,18 @@
 //! Whatever the collector does, commands, replies and worlds of the round are those of the mutators alone: what it
 //! writes are marks and segments that wait. What it leaves of its cycle is told phase by phase (`DidSlices`,
 //! `HasHelped`): the marker's marks are those of its scans, and of a segment that was swept only freed names are gone.
-ghost use Rattle.std.specs.Prelude.{ℕ, ◌≡◌, ◌<◌, ◌≤◌, ◌+◌, ◌^◌, [], ◌∷◌, ◌++◌, None, IfOk, OnOk, length, map, min, slice_index, slice_index_or};
+ghost use Rattle.std.specs.Prelude.{ℕ, ◌≡◌, ◌||◌, ◌<◌, ◌≤◌, ◌+◌, ◌^◌, [], ◌∷◌, ◌++◌, None, IfOk, OnOk, length, map, min, slice_index, slice_index_or};
+ghost use Rattle.std.specs.List.{list_any};
 ghost use Rattle.nmgc_alloc.specs.Segments.{IsSegments};
 ghost use Rattle.nmgc_mutator.specs.declared.mutator.Mutator.{Mutator as MutatorSeen};
 ghost use Rattle.nmgc_run.specs.Slice.{program_of};
-ghost use Rattle.nmgc_cycle.specs.Stage.{IsStaged};
+ghost use Rattle.nmgc_cycle.specs.Limits.{IsInLimits};
 ghost use Rattle.nmgc_cycle.specs.Keeps.{HasStopped, DidRound};
-ghost use Rattle.nmgc_cycle.specs.Working.{left_at, HaveRoom, HasLists, HaveSliceRoom, AreReserved, OpensAt, DidSlices, cleared, replies_of};
+ghost use Rattle.nmgc_cycle.specs.Cycles.{CanHelp, HasHelped};
+ghost use Rattle.nmgc_cycle.specs.Working.{left_at, HaveRoom, HasLists, HaveSliceRoom, AreReserved, CanAllWork, HaveAllWorked, OpensAt, DidSlices, asks_of, asks_full_of, cleared, replies_of};
 
 use crate::Collector;
-use crate::worker::{Worker, seated, some_asks, unseated, work_beside};
+use crate::worker::{Worker, seated, some_ask_full, some_asks, unseated, work_beside};
 use nmgc_alloc::Segments;
 use nmgc_beside::laws::{
     a_closed_cycle_sweeps, a_heap_ties_by_blocks, a_rest_opens_a_round as opens_beside,
@@ -33,7 +35,7 @@ use nmgc_journal::RoundRows;
 use nmgc_mutator::Mutator;
 use nmgc_mutator::laws::a_round_finds_mutators_ready;
 use nmgc_round::chosen::Wanted;
-use nmgc_round::{Chosen, Finished, Gate, MutatorSeat, Opened, Round, Started};
+use nmgc_round::{Chosen, CollectorSeat, Finished, Gate, MutatorSeat, Opened, Round, Started};
 use nmgc_script::Script;
 use nmgc_sweep::laws::segments_are_left;
 use nmgc_turn::laws::{
@@ -88,8 +90,8 @@ impl Collector {
     /// One round: each mutator with commands left does a slice, in a thread of its own, and passes `gate` before each
     /// command that it tries. Beside them the collector scans as many objects as the quota says while a cycle marks, or
     /// sweeps as many segments of a closed one, or fewer where no more are left; it passes `gate` before each. Where a
-    /// slice asks for a cycle, one is due at the next stop that finds none in progress. The replies of the round are
-    /// told after those of the rounds before.
+    /// slice asks for a cycle, one is due at the next stop that finds none in progress, and where it asks for a full cycle,
+    /// that is due at the next stop. The replies of the round are told after those of the rounds before.
     ///
     /// Asks that the last stop answered `GoOn`, and that no round was done since. After `NoMemory` nothing
     /// is known of the collector.
@@ -99,7 +101,7 @@ impl Collector {
         script: &Script,
         gate: &G,
     ) -> Result<(), NoMemory>
-        requires staged { IsStaged script.now }
+        requires limits { IsInLimits script.now }
         requires stopped { HasStopped script.now self.old × (self.old.answered ≡ None) }
         ensures worked { OnOk result (DidRound script.now self.old self.new) }
         ensures told { OnOk result ((rows : RoundRows) × (self.new.rounds ≡ self.old.rounds ++ rows ∷ [])) }
@@ -127,7 +129,7 @@ impl Collector {
 
     // Makes room for what the mutators note in the round.
     fn make_room(&mut self, script: &Script) -> Result<(), NoMemory>
-        requires staged { IsStaged script.now }
+        requires limits { IsInLimits script.now }
         requires stopped { HasStopped script.now self.old }
         ensures rest { OnOk result (self.new ≡ record self.old { mutators = self.new.mutators }) }
         ensures mutators { OnOk result (AreReserved self.old.mutators.items self.new.mutators.items) }
@@ -149,7 +151,7 @@ impl Collector {
         opening: &Chosen<Opened>,
         lists: Lists,
     )
-        requires staged { IsStaged script.now }
+        requires limits { IsInLimits script.now }
         requires opens { OpensAt script.now self.old opening.now.value }
         requires room { HaveSliceRoom script.now self.old }
         requires lists { HaveRoom (length self.old.mutators.items) lists }
@@ -170,39 +172,71 @@ impl Collector {
             mut done,
         } = lists;
         let words = self.words.take().unwrap();
+        let layout = self.segments.layout();
+        let marking = self.progress.is_marking();
         let Started {
             round,
             mutators: given,
             mut collector,
-        } = Round::start(
-            words,
-            self.segments.layout(),
-            self.progress.is_marking(),
-            opening,
-            room,
-        );
+        } = Round::start(words, layout, marking, opening, room);
         let own = mem::replace(&mut self.mutators, Vec::new(self.alloc));
         seated(own, given, &mut workers);
-        work_beside(
+        self.work(
             rt,
             &round,
-            &mut self.progress,
             &mut collector,
-            &mut self.segments,
             workers.as_mut_slice(),
             script,
-            self.positions.as_slice(),
             gate,
         );
-        sound(&self.segments);
-        let asks = some_asks(workers.as_slice());
-        self.collect = self.collect || asks;
         unseated(workers, &mut mutators, &mut seats, &mut done);
         let Finished { words } = round.finish(List::from_vec(seats), collector);
         self.words = Some(words);
         self.mutators = mutators;
         advance(self.positions.as_mut_slice(), done.as_slice());
     }
+
+    // The workers do their slices, and the collector its part beside them; what the slices ask for is noted.
+    fn work<R: Threads + Sync, G: Gate>(
+        &mut self,
+        rt: &R,
+        round: &Round,
+        seat: &mut CollectorSeat,
+        workers: &mut [Worker],
+        script: &Script,
+        gate: &G,
+    )
+        requires collector { CanHelp round.now seat.old self.old.segments self.old.progress }
+        requires mutators { CanAllWork round.now script.now self.old.positions.items workers.old }
+        ensures rest { self.new ≡ record self.old { segments = self.new.segments; progress = self.new.progress; collect = self.new.collect; full = self.new.full } }
+        ensures collector { HasHelped round.now script.now.config.quota seat.old seat.new self.old.segments self.new.segments self.old.progress self.new.progress }
+        ensures mutators { HaveAllWorked round.now script.now self.old.positions.items workers.old workers.new }
+        ensures sound { IsSegments self.new.segments }
+        ensures collect { self.new.collect ≡ (self.old.collect || list_any asks_of workers.new) }
+        ensures full { self.new.full ≡ (self.old.full || list_any asks_full_of workers.new) }
+    {
+        work_beside(
+            rt,
+            round,
+            &mut self.progress,
+            seat,
+            &mut self.segments,
+            workers,
+            script,
+            self.positions.as_slice(),
+            gate,
+        );
+        sound(&self.segments);
+        self.collect = is_asked(self.collect, some_asks(workers));
+        self.full = is_asked(self.full, some_ask_full(workers));
+    }
+}
+
+// Whether something is asked for that was before, or is now.
+fn is_asked(was: bool, now: bool) -> bool
+    ensures { result ≡ (was || now) }
+{
+    was || now
 }
 
 // What is true of all segments is true of these, also once marker or sweeper worked on them.

@@ -2,30 +2,33 @@
 //!
 //! The mutators stand still, so the words are read and written plainly. Roots and recorded fields are taken off the
 //! mutators (`roots`), promoted, and given back; then the nurseries are empty, and of the round only what the mutators
-//! remember is left. That goes to the marker; then a cycle may be closed, one may end, and one may begin (`cycle`).
+//! remember is left. That goes to the marker; then a cycle may be closed, one may end, and one may begin (`cycle`), or
+//! a full cycle is done in its place (`full`).
 //! After each of these steps the collector stands for a state of the run at this stop (`specs/Steps.antt`), and
 //! together they are the run's stop. So a stop leads from what a round left, or from a new collector, to words,
 //! segments, mutators, marker and sweeper that stand for the state of the same run after that stop.
 //!
 //! The row is taken last: its numbers are those of the heap that the next round begins with.
 //!
-//! Easy to get wrong: fewer free segments than the reserve end a run only while commands are left, so what is
-//! asked first is whether any are. And where none are, the run goes on as long as a cycle is in progress, since its row
-//! is still to be told.
-ghost use Rattle.std.specs.Prelude.{ℕ, ◌≡◌, ◌↔◌, ◌<◌, [], ◌∷◌, ◌++◌, All, IfOk, OnOk, IsSome, IsTrue, length};
+//! Easy to get wrong: fewer free segments than the reserve end a run only while commands are left, and only where a full
+//! cycle at this stop left it so. And where no commands are left, the run goes on as long as a cycle is in progress,
+//! since its row is still to be told.
+ghost use Rattle.std.specs.Prelude.{ℕ, ◌≡◌, ◌↔◌, ◌^◌, ◌<◌, [], ◌∷◌, ◌++◌, All, IfOk, OnOk, IsSome, IsTrue, length};
 ghost use Rattle.nmgc_blocks.specs.Stopped.{Stopped};
 ghost use Rattle.nmgc_minor.specs.Promotion.{IsFor};
-ghost use Rattle.nmgc_cycle.specs.Stage.{IsStaged};
+ghost use Rattle.nmgc_cycle.specs.Limits.{IsInLimits};
 ghost use Rattle.nmgc_cycle.specs.Roots.{HasRegisters};
 ghost use Rattle.nmgc_cycle.specs.declared.stop.StopEnd.TheVariants as answer;
 ghost use Rattle.nmgc_cycle.specs.Keeps.{CanStop, HasAnswered, StopsAfter};
-ghost use Rattle.nmgc_cycle.specs.Stopping.{StandsStopped, HasPromoted, KeepsWorld, SomeIsLeft, IsDone, IsFull, ended_by};
+ghost use Rattle.nmgc_cycle.specs.Stopping.{StandsStopped, CanList, HasListed, HasPromoted, SomeIsLeft, IsDone, IsFull, ended_by};
 
 use crate::leading::a_stop_leads;
 use crate::{Collector, roots};
+use nmgc_beside::laws::the_list_is_joined;
 use nmgc_graph::NoMemory;
 use nmgc_journal::{End, Phase, StopRow};
 use nmgc_script::Script;
+use nmgc_weak::laws::the_list_is_left;
 
 /// What a stop answers.
 #[derive(Clone, Copy, Debug, PartialEq, Eq)]
@@ -35,31 +38,33 @@ pub enum StopEnd {
     GoOn,
     /// Every command was answered, and no cycle is in progress.
     Done,
-    /// Commands are left, and only `free` segments are free, fewer than the reserve.
+    /// Commands are left, and after a full cycle at this stop only `free` segments are free, fewer than the reserve.
     HeapFull { free: u32, reserve: u32 },
 }
 
 impl Collector {
     /// A stop: what the round made is promoted, and the nurseries are empty afterwards; what the mutators remember
-    /// goes to the marker; a cycle is closed, ends or begins where the rules of a run say so; and the stop's row is
-    /// told. No command is answered.
+    /// goes to the marker; a cycle is closed, ends or begins where the rules of a run say so, and a full cycle is done where
+    /// one was asked for, or commands are left and fewer segments are free than the reserve; and the stop's row is told.
+    /// No command is answered.
     ///
-    /// Asks that no stop was done yet, or a round since the last one. Whatever world words, segments and mutators
-    /// stood for before, they stand for it afterwards, and exactly what the promotion rule says has moved.
+    /// Asks that no stop was done yet, or a round since the last one. Afterwards words, segments, mutators and list of weak
+    /// pointers stand for the state of the same run after this stop: the world is as it was but for weak pointers that
+    /// died, where a cycle was closed.
     ///
-    /// Takes memory for the roots and the recorded fields, for the row of a cycle that ends, and where one begins for
-    /// its marker's queue and its sweeper's notes. Takes time for what is promoted, the roots, the recorded and the
-    /// remembered fields and the number of segments; at a closing for what is left to scan; where a cycle begins for
-    /// the blocks of the segments that it will sweep, and where one ends for the names of its row. After `NoMemory`
-    /// nothing is known of the collector.
+    /// Takes memory for the roots and the recorded fields, for weak pointers that join the list, for the row of a cycle that
+    /// ends, and where one begins for its marker's queue, its sweeper's notes and room in the finaliser queues. Takes time
+    /// for what is promoted, the roots, the list of weak pointers, the recorded and the remembered fields and the number of
+    /// segments; at a closing for what is left to scan, and for the list as often as finalisers are saved; where a cycle
+    /// begins for the blocks of the segments that it will sweep, and where one ends for the names of its row; a full cycle
+    /// takes time for all that is reached and for every block. After `NoMemory` nothing is known of the collector.
     pub fn stop(&mut self, script: &Script) -> Result<StopEnd, NoMemory>
-        requires staged { IsStaged script.now }
+        requires limits { IsInLimits script.now }
         requires can { CanStop script.now self.old }
         ensures answered { IfOk result (λ end. HasAnswered script.now self.new end) }
-        ensures after { IfOk result (λ end. StopsAfter script.now self.old self.new end) }
+        ensures after { OnOk result (StopsAfter script.now self.old self.new) }
         ensures done { IfOk result (λ end. (end ≡ answer.Done) ↔ IsDone script.now self.new) }
         ensures full { IfOk result (λ end. (free reserve : ℕ) → (end ≡ answer.HeapFull free reserve) ↔ IsFull script.now self.new free reserve) }
-        ensures world { OnOk result (KeepsWorld self.old self.new) }
         ensures rounds { OnOk result (self.new.rounds ≡ self.old.rounds) }
         ensures stops { OnOk result ((row : StopRow) × (self.new.stops ≡ self.old.stops ++ row ∷ [])) }
     {
@@ -69,7 +74,8 @@ impl Collector {
         self.add_remembered();
         self.close(number);
         self.end(number)?;
-        self.begin(script.config.trigger, number)?;
+        let left = self.has_left(script);
+        self.proceed(left, script.config.trigger, number)?;
         let free = self.segments.free_count();
         let row = StopRow {
             number,
@@ -81,7 +87,6 @@ impl Collector {
         };
         self.stops.push(row)?;
         let reserve = self.segments.layout().reserve();
-        let left = self.has_left(script);
         let end = if left && free < reserve {
             StopEnd::HeapFull { free, reserve }
         } else if !left && self.progress.phase() == Phase::Idle {
@@ -104,18 +109,39 @@ impl Collector {
         )| (*position as usize) < program.items().len())
     }
 
-    // Promotes what the round made, and answers how many objects moved.
+    // Promotes what the round made, and answers how many objects moved. Weak pointers that were finalised in the round leave
+    // the list, and those that moved and are alive join it.
     fn promote(&mut self) -> Result<u32, NoMemory>
+        requires whole { All HasRegisters self.old.mutators.items }
+        requires words { IsSome self.old.words }
+        requires lists { IsFor self.old.segments.layout self.old.promotion }
+        requires stopped { (t : Stopped) × StandsStopped t self.old × CanList t self.old }
+        ensures promoted { OnOk result (HasPromoted self.old self.new) }
+        ensures listed { OnOk result (HasListed self.old self.new) }
+        ensures many { IfOk result (λ count. count ≡ length self.new.promotion.moves) }
+    {
+        the_list_is_left();
+        the_list_is_joined();
+        self.leave();
+        self.move_promoted()?;
+        self.join()?;
+        Ok(self.promotion.moves().len() as u32)
+    }
+
+    // Moves what is promoted.
+    fn move_promoted(&mut self) -> Result<(), NoMemory>
         requires whole { All HasRegisters self.old.mutators.items }
         requires words { IsSome self.old.words }
         requires lists { IsFor self.old.segments.layout self.old.promotion }
         requires stopped { (t : Stopped) × StandsStopped t self.old }
         ensures promoted { OnOk result (HasPromoted self.old self.new) }
-        ensures many { IfOk result (λ count. count ≡ length self.new.promotion.moves) }
+        ensures weaks { OnOk result (self.new.weaks ≡ self.old.weaks) }
+        ensures few { OnOk result (length self.new.promotion.moves < 2 ^ 32) }
     {
         let mut roots = roots::taken(self.alloc, self.mutators.as_mut_slice())?;
         let mut nurseries = roots::nurseries(self.alloc, self.mutators.as_slice())?;
         let recorded = roots::recorded(self.alloc, self.mutators.as_slice())?;
+        let young = roots::young_weaks(self.alloc, self.mutators.as_slice())?;
         let Some(words) = &mut self.words else {
             unreachable!()
         };
@@ -125,10 +151,10 @@ impl Collector {
             nurseries.as_mut_slice(),
             &mut roots,
             recorded.as_slice(),
-            &[],
+            young.as_slice(),
         );
         roots::give_back(self.mutators.as_mut_slice(), roots);
-        Ok(self.promotion.moves().len() as u32)
+        Ok(())
     }
 }
 

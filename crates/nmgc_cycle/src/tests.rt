@@ -4,13 +4,11 @@
 //! A gate gives up after many turns of its spin, and notes it, so a round that has its mutators on one thread
 //! fails the test and doesn't hang. What is read under a gate is told too, so a round whose threads only pass the
 //! gate fails as well.
-ghost use Rattle.std.specs.Prelude.{IfOk, IsTrue, All, length};
-ghost use Rattle.nmgc_limits.specs.Limits.{most_script_bytes};
-ghost use Rattle.nmgc_mutator.specs.Ready.{IsBuilt};
-ghost use Rattle.nmgc_cycle.specs.Stage.{IsStaged};
+ghost use Rattle.std.specs.Prelude.{IfOk};
+ghost use Rattle.nmgc_cycle.specs.Limits.{IsInLimits};
 
 use crate::Collector;
-use nmgc_graph::{Command, Reply, Value};
+use nmgc_graph::{Reply, Value};
 use nmgc_journal::Report;
 use nmgc_journal::text::text;
 use nmgc_limits::MAX_SCRIPT_BYTES;
@@ -60,7 +58,7 @@ const RUNS: [(&str, &str); 12] = [
     // Fewer free segments than the reserve end a run only while commands are left.
     (
         "nmgc 1\nheap 6 64 64 100 1000 0\nthread 0\nnil r0\n",
-        "report 1\nstop 0 idle free 6 filled 0 sweep 0 promoted 0\nend heapfull free 6 reserve 7\n",
+        "report 1\nstop 0 idle free 6 filled 0 sweep 0 promoted 0\ncycle 1 from 0 closed 0 swept 0 had 0 freed 0 kept 0 dead 0\nend heapfull free 6 reserve 7\n",
     ),
     (
         "nmgc 1\nheap 6 64 64 100 1000 0\nthread 0\n",
@@ -72,11 +70,11 @@ const RUNS: [(&str, &str); 12] = [
     ),
     (
         "nmgc 1\nheap 7 64 64 100 1000 0\nthread 0\ncon r0 0 r1\nyield\nshow r0\n",
-        "report 1\nstop 0 idle free 7 filled 0 sweep 0 promoted 0\nround 1\n0 0.0\n0 ok\nstop 1 idle free 6 filled 0 sweep 0 promoted 1\nend heapfull free 6 reserve 7\n",
+        "report 1\nstop 0 idle free 7 filled 0 sweep 0 promoted 0\nround 1\n0 0.0\n0 ok\nstop 1 idle free 6 filled 0 sweep 0 promoted 1\ncycle 1 from 1 closed 1 swept 1 had 1 freed 0 kept 1 dead 0\nend heapfull free 6 reserve 7\n",
     ),
     (
         "nmgc 1\nheap 14 64 64 100 1000 0\nthread 0\ncon r0 0 r1\nyield\nshow r0\nthread 1\nshow r0\n",
-        "report 1\nstop 0 idle free 14 filled 0 sweep 0 promoted 0\nround 1\n0 0.0\n0 ok\n1 nil\nstop 1 idle free 13 filled 0 sweep 0 promoted 1\nend heapfull free 13 reserve 14\n",
+        "report 1\nstop 0 idle free 14 filled 0 sweep 0 promoted 0\nround 1\n0 0.0\n0 ok\n1 nil\nstop 1 idle free 13 filled 0 sweep 0 promoted 1\ncycle 1 from 1 closed 1 swept 1 had 1 freed 0 kept 1 dead 0\nend heapfull free 13 reserve 14\n",
     ),
     // As many segments as there may be.
     (
@@ -86,7 +84,7 @@ const RUNS: [(&str, &str); 12] = [
 ];
 
 // Scripts whose cycles mark beside the mutators and sweep beside them, each with the text of its report.
-const CYCLES: [(&str, &str); 6] = [
+const CYCLES: [(&str, &str); 10] = [
     // The sixteenth block fills a segment, and the second cycle has it to sweep.
     (
         "nmgc 1\nheap 32 64 64 100 1000 0\nthread 0\ncon r0 0 r0 r1\ncon r0 0 r0 r1\ncon r0 0 r0 r1\ncon r0 0 r0 r1\ncon r0 0 r0 r1\ncon r0 0 r0 r1\ncon r0 0 r0 r1\ncon r0 0 r0 r1\ncon r0 0 r0 r1\ncon r0 0 r0 r1\ncon r0 0 r0 r1\ncon r0 0 r0 r1\ncon r0 0 r0 r1\ncon r0 0 r0 r1\ncon r0 0 r0 r1\ncollect\ncon r0 0 r0 r1\ncollect\n",
@@ -116,6 +114,26 @@ const CYCLES: [(&str, &str); 6] = [
     (
         "nmgc 1\nheap 32 64 256 100 2 0\nthread 0\ncon r0 0 r0 r1\ncon r0 0 r0 r1\ncon r0 0 r0 r1\ncon r0 0 r0 r1\ncon r0 0 r0 r1\ncon r0 0 r0 r1\ncon r0 0 r0 r1\ncon r0 0 r0 r1\ncon r0 0 r0 r1\ncon r0 0 r0 r1\ncon r0 0 r0 r1\ncon r0 0 r0 r1\ncon r0 0 r0 r1\ncon r0 0 r0 r1\ncon r0 0 r0 r1\ncon r0 0 r0 r1\ncon r2 0 r2 r1\ncon r2 0 r2 r1\ncon r2 0 r2 r1\ncon r2 0 r2 r1\ncon r2 0 r2 r1\ncon r2 0 r2 r1\ncon r2 0 r2 r1\ncon r2 0 r2 r1\ncon r2 0 r2 r1\ncon r2 0 r2 r1\ncon r2 0 r2 r1\ncon r2 0 r2 r1\ncon r2 0 r2 r1\ncon r2 0 r2 r1\ncon r2 0 r2 r1\ncon r2 0 r2 r1\ncon r3 0 r3 r1\ncon r3 0 r3 r1\ncon r3 0 r3 r1\ncon r3 0 r3 r1\ncon r3 0 r3 r1\ncon r3 0 r3 r1\ncon r3 0 r3 r1\ncon r3 0 r3 r1\ncon r3 0 r3 r1\ncon r3 0 r3 r1\ncon r3 0 r3 r1\ncon r3 0 r3 r1\ncon r3 0 r3 r1\ncon r3 0 r3 r1\ncon r3 0 r3 r1\ncon r3 0 r3 r1\nyield\nnil r0\nget r2 r2 0\ncollect\n",
         "report 1\nstop 0 idle free 32 filled 0 sweep 0 promoted 0\nround 1\n0 0.0\n0 0.1\n0 0.2\n0 0.3\n0 0.4\n0 0.5\n0 0.6\n0 0.7\n0 0.8\n0 0.9\n0 0.10\n0 0.11\n0 0.12\n0 0.13\n0 0.14\n0 0.15\n0 0.16\n0 0.17\n0 0.18\n0 0.19\n0 0.20\n0 0.21\n0 0.22\n0 0.23\n0 0.24\n0 0.25\n0 0.26\n0 0.27\n0 0.28\n0 0.29\n0 0.30\n0 0.31\n0 0.32\n0 0.33\n0 0.34\n0 0.35\n0 0.36\n0 0.37\n0 0.38\n0 0.39\n0 0.40\n0 0.41\n0 0.42\n0 0.43\n0 0.44\n0 0.45\n0 0.46\n0 0.47\n0 ok\nstop 1 idle free 29 filled 3 sweep 0 promoted 48\nround 2\n0 ok\n0 0.30\n0 ok\nstop 2 marking free 29 filled 0 sweep 3 promoted 0\nround 3\nstop 3 marking free 29 filled 0 sweep 3 promoted 0\nround 4\nstop 4 marking free 29 filled 0 sweep 3 promoted 0\nround 5\nstop 5 marking free 29 filled 0 sweep 3 promoted 0\nround 6\nstop 6 marking free 29 filled 0 sweep 3 promoted 0\nround 7\nstop 7 marking free 29 filled 0 sweep 3 promoted 0\nround 8\nstop 8 marking free 29 filled 0 sweep 3 promoted 0\nround 9\nstop 9 marking free 29 filled 0 sweep 3 promoted 0\nround 10\nstop 10 marking free 29 filled 0 sweep 3 promoted 0\nround 11\nstop 11 marking free 29 filled 0 sweep 3 promoted 0\nround 12\nstop 12 marking free 29 filled 0 sweep 3 promoted 0\nround 13\nstop 13 marking free 29 filled 0 sweep 3 promoted 0\nround 14\nstop 14 marking free 29 filled 0 sweep 3 promoted 0\nround 15\nstop 15 marking free 29 filled 0 sweep 3 promoted 0\nround 16\nstop 16 marking free 29 filled 0 sweep 3 promoted 0\nround 17\nstop 17 marking free 29 filled 0 sweep 3 promoted 0\nround 18\nstop 18 sweeping free 29 filled 0 sweep 3 promoted 0\nround 19\nstop 19 sweeping free 30 filled 0 sweep 1 promoted 0\nround 20\nstop 20 idle free 30 filled 1 sweep 0 promoted 0\ncycle 1 from 2 closed 18 swept 3 had 48 freed 17 kept 31 dead 0\nfreed 0.0\nfreed 0.1\nfreed 0.2\nfreed 0.3\nfreed 0.4\nfreed 0.5\nfreed 0.6\nfreed 0.7\nfreed 0.8\nfreed 0.9\nfreed 0.10\nfreed 0.11\nfreed 0.12\nfreed 0.13\nfreed 0.14\nfreed 0.15\nfreed 0.31\nend done\n",
+    ),
+    // A full cycle frees nothing, since everything is reached, so the heap is full.
+    (
+        "nmgc 1\nheap 5 16 16 100 1000 0\nthread 0\ncon r0 0 r0 r1\ncon r0 0 r0 r1\ncon r0 0 r0 r1\ncon r0 0 r0 r1\ncon r0 0 r0 r1\ncon r0 0 r0 r1\ncon r0 0 r0 r1\ncon r0 0 r0 r1\nshow r0\n",
+        "report 1\nstop 0 idle free 5 filled 0 sweep 0 promoted 0\nround 1\n0 0.0\n0 0.1\n0 0.2\n0 0.3\nstop 1 idle free 4 filled 1 sweep 0 promoted 4\ncycle 1 from 1 closed 1 swept 1 had 4 freed 0 kept 4 dead 0\nend heapfull free 4 reserve 5\n",
+    ),
+    // With a segment more it isn't.
+    (
+        "nmgc 1\nheap 6 16 16 100 1000 0\nthread 0\ncon r0 0 r0 r1\ncon r0 0 r0 r1\ncon r0 0 r0 r1\ncon r0 0 r0 r1\ncon r0 0 r0 r1\ncon r0 0 r0 r1\ncon r0 0 r0 r1\ncon r0 0 r0 r1\nshow r0\n",
+        "report 1\nstop 0 idle free 6 filled 0 sweep 0 promoted 0\nround 1\n0 0.0\n0 0.1\n0 0.2\n0 0.3\nstop 1 idle free 5 filled 1 sweep 0 promoted 4\nround 2\n0 0.4\n0 0.5\n0 0.6\n0 0.7\n0 0.7\nstop 2 idle free 4 filled 2 sweep 0 promoted 4\nend done\n",
+    ),
+    // A full cycle that was asked for.
+    (
+        "nmgc 1\nheap 32 64 64 100 1000 0\nthread 0\ncon r0 0 r1 r1\ncon r2 0 r1 r1\nyield\nnil r0\nfull\n",
+        "report 1\nstop 0 idle free 32 filled 0 sweep 0 promoted 0\nround 1\n0 0.0\n0 0.1\n0 ok\nstop 1 idle free 31 filled 0 sweep 0 promoted 2\nround 2\n0 ok\n0 ok\nstop 2 idle free 31 filled 0 sweep 0 promoted 0\ncycle 1 from 2 closed 2 swept 1 had 2 freed 1 kept 1 dead 0\nfreed 0.0\nend done\n",
+    ),
+    // The heap gets short of segments while a cycle marks.
+    (
+        "nmgc 1\nheap 6 16 16 100 1 0\nthread 0\ncon r0 0 r0 r1\ncon r0 0 r0 r1\ncon r0 0 r0 r1\ncollect\ncon r0 0 r0 r1\ncon r0 0 r0 r1\ncon r0 0 r0 r1\ncon r0 0 r0 r1\ncon r0 0 r0 r1\nshow r0\n",
+        "report 1\nstop 0 idle free 6 filled 0 sweep 0 promoted 0\nround 1\n0 0.0\n0 0.1\n0 0.2\n0 ok\nstop 1 marking free 5 filled 0 sweep 0 promoted 3\nround 2\n0 0.3\n0 0.4\n0 0.5\n0 0.6\nstop 2 idle free 4 filled 1 sweep 0 promoted 4\ncycle 1 from 1 closed 2 swept 0 had 0 freed 0 kept 3 dead 0\ncycle 2 from 2 closed 2 swept 2 had 7 freed 0 kept 7 dead 0\nend heapfull free 4 reserve 5\n",
     ),
 ];
 
@@ -163,43 +181,38 @@ const OVERWRITTEN: &str =
 const OVERWRITTEN_REPORT: &str =
     "report 1\nstop 0 idle free 32 filled 0 sweep 0 promoted 0\nround 1\n0 ok\n0 0.0\n0 0.1\n0 ok\n0 0.2\n0 0.3\n0 0.4\n0 0.5\n0 0.6\n0 0.7\n0 0.8\n0 0.9\n0 0.10\n0 0.11\n0 0.12\n0 0.13\n0 0.14\n0 0.15\n0 ok\nstop 1 marking free 31 filled 0 sweep 1 promoted 16\nround 2\n0 ok\n0 ok\nstop 2 sweeping free 31 filled 0 sweep 1 promoted 0\nround 3\nstop 3 marking free 31 filled 0 sweep 1 promoted 0\ncycle 1 from 1 closed 2 swept 1 had 16 freed 0 kept 16 dead 0\nround 4\nstop 4 sweeping free 31 filled 0 sweep 1 promoted 0\nround 5\nstop 5 idle free 31 filled 0 sweep 0 promoted 0\ncycle 2 from 3 closed 4 swept 1 had 16 freed 1 kept 15 dead 0\nfreed 0.0\nend done\n";
 
-// Whether a command is built.
-fn is_built(command: &Command) -> bool
-    ensures { IsTrue result → IsBuilt command.now }
-{
-    match command {
-        Command::Num { .. } | Command::Nil { .. } | Command::Mov { .. } => true,
-        Command::Con { .. } | Command::Var { .. } | Command::Arr { .. } => true,
-        Command::Thunk { .. } | Command::Stack { .. } => true,
-        Command::Get { .. } | Command::Set { .. } | Command::Cas { .. } => true,
-        Command::Update { .. } | Command::Force { .. } => true,
-        Command::Push { .. } | Command::Pop { .. } => true,
-        Command::Show { .. } | Command::Same { .. } => true,
-        Command::Yield | Command::Collect => true,
-        _ => false,
-    }
-}
+// Scripts whose cycles close with weak pointers, each with the text of its report.
+const WEAKS: [(&str, &str); 4] = [
+    // A weak pointer's value is read while the cycle marks.
+    (
+        "nmgc 1\nheap 32 64 128 100 1000 0\nthread 0\nnum r1 5\ncon r4 0 r1\ncon r5 0 r1\nweak r0 r4 r5 r6\nnil r4\nnil r5\ncon r3 0 r3 r1\ncon r3 0 r3 r1\ncon r3 0 r3 r1\ncon r3 0 r3 r1\ncon r3 0 r3 r1\ncon r3 0 r3 r1\ncon r3 0 r3 r1\ncon r3 0 r3 r1\ncon r3 0 r3 r1\ncon r3 0 r3 r1\ncon r3 0 r3 r1\ncon r3 0 r3 r1\ncon r3 0 r3 r1\ncon r3 0 r3 r1\ncollect\nderef r7 r0\nnil r7\nyield\nderef r7 r0\n",
+        "report 1\nstop 0 idle free 32 filled 0 sweep 0 promoted 0\nround 1\n0 ok\n0 0.0\n0 0.1\n0 0.2\n0 ok\n0 ok\n0 0.3\n0 0.4\n0 0.5\n0 0.6\n0 0.7\n0 0.8\n0 0.9\n0 0.10\n0 0.11\n0 0.12\n0 0.13\n0 0.14\n0 0.15\n0 0.16\n0 ok\nstop 1 marking free 30 filled 0 sweep 1 promoted 17\nround 2\n0 0.1\n0 ok\n0 ok\nstop 2 sweeping free 30 filled 0 sweep 1 promoted 0\nround 3\n0 dead\nstop 3 idle free 30 filled 0 sweep 0 promoted 0\ncycle 1 from 1 closed 2 swept 1 had 16 freed 1 kept 16 dead 1\ndead 0.2\nfreed 0.0\nend done\n",
+    ),
+    // One is finalised while the cycle marks.
+    (
+        "nmgc 1\nheap 32 64 128 100 1000 0\nthread 0\nnum r1 5\ncon r4 0 r1\ncon r5 0 r1\ncon r6 0 r1\nweak r0 r4 r5 r6\nnil r4\nnil r5\nnil r6\ncon r3 0 r3 r1\ncon r3 0 r3 r1\ncon r3 0 r3 r1\ncon r3 0 r3 r1\ncon r3 0 r3 r1\ncon r3 0 r3 r1\ncon r3 0 r3 r1\ncon r3 0 r3 r1\ncon r3 0 r3 r1\ncon r3 0 r3 r1\ncon r3 0 r3 r1\ncon r3 0 r3 r1\ncon r3 0 r3 r1\ncollect\nfinalise r7 r0\nfinalise r7 r0\nnil r7\nyield\nnextfin r8\n",
+        "report 1\nstop 0 idle free 32 filled 0 sweep 0 promoted 0\nround 1\n0 ok\n0 0.0\n0 0.1\n0 0.2\n0 0.3\n0 ok\n0 ok\n0 ok\n0 0.4\n0 0.5\n0 0.6\n0 0.7\n0 0.8\n0 0.9\n0 0.10\n0 0.11\n0 0.12\n0 0.13\n0 0.14\n0 0.15\n0 0.16\n0 ok\nstop 1 marking free 30 filled 0 sweep 1 promoted 17\nround 2\n0 0.2\n0 dead\n0 ok\n0 ok\nstop 2 sweeping free 30 filled 0 sweep 1 promoted 0\nround 3\n0 none\nstop 3 idle free 30 filled 0 sweep 0 promoted 0\ncycle 1 from 1 closed 2 swept 1 had 16 freed 1 kept 16 dead 0\nfreed 0.0\nend done\n",
+    ),
+    // A chain of weak pointers: each value is the key of the one before.
+    (
+        "nmgc 1\nheap 32 64 64 100 1000 0\nthread 0\nnum r1 5\nnum r2 9\ncon r4 0 r1\ncon r5 0 r1\ncon r6 0 r1\ncon r7 0 r1\nweak r8 r6 r7 r1\nweak r8 r5 r6 r10\nweak r8 r4 r5 r2\nnil r5\nnil r6\nnil r7\nnil r8\ncollect\nnil r4\ncollect\nyield\nnextfin r9\nnextfin r9\nnextfin r9\n",
+        "report 1\nstop 0 idle free 32 filled 0 sweep 0 promoted 0\nround 1\n0 ok\n0 ok\n0 0.0\n0 0.1\n0 0.2\n0 0.3\n0 0.4\n0 0.5\n0 0.6\n0 ok\n0 ok\n0 ok\n0 ok\n0 ok\nstop 1 marking free 30 filled 0 sweep 0 promoted 7\nround 2\n0 ok\n0 ok\nstop 2 marking free 30 filled 0 sweep 0 promoted 0\ncycle 1 from 1 closed 2 swept 0 had 0 freed 0 kept 7 dead 0\nround 3\n0 ok\nstop 3 idle free 30 filled 0 sweep 0 promoted 0\ncycle 2 from 2 closed 3 swept 0 had 0 freed 0 kept 0 dead 3\ndead 0.4\ndead 0.5\ndead 0.6\nround 4\n0 5\n0 9\n0 none\nstop 4 idle free 30 filled 0 sweep 0 promoted 0\nend done\n",
+    ),
+    // A finaliser that holds its key.
+    (
+        "nmgc 1\nheap 32 64 64 100 1000 0\nthread 0\nnum r1 5\ncon r4 0 r1\ncon r5 0 r4\nweak r6 r4 r10 r5\nnil r4\nnil r5\nnil r6\ncollect\nyield\nnextfin r7\nget r8 r7 0\nnextfin r9\n",
+        "report 1\nstop 0 idle free 32 filled 0 sweep 0 promoted 0\nround 1\n0 ok\n0 0.0\n0 0.1\n0 0.2\n0 ok\n0 ok\n0 ok\n0 ok\nstop 1 marking free 30 filled 0 sweep 0 promoted 3\nround 2\n0 ok\nstop 2 idle free 30 filled 0 sweep 0 promoted 0\ncycle 1 from 1 closed 2 swept 0 had 0 freed 0 kept 2 dead 1\ndead 0.2\nround 3\n0 0.1\n0 0.0\n0 none\nstop 3 idle free 30 filled 0 sweep 0 promoted 0\nend done\n",
+    ),
+];
 
-// Whether all commands are built.
-fn are_built(program: &[Command]) -> bool
-    ensures { IsTrue result → All IsBuilt program.now }
-{
-    program.iter().all(|command| is_built(command))
-}
-
-// The script with this text, if it is one of this stage.
-fn staged(alloc: Global, text: &str) -> Result<Script, Fail>
-    ensures { IfOk result IsStaged }
+// The script with this text.
+fn script_of(alloc: Global, text: &str) -> Result<Script, Fail>
+    ensures { IfOk result IsInLimits }
 {
     if text.len() > MAX_SCRIPT_BYTES {
         return Err("too long".into());
     }
-    let script = parse(alloc, text.as_bytes())?;
-    let threads = script.threads.items();
-    if !threads.iter().all(|program| are_built(program.items())) {
-        return Err("not of this stage".into());
-    }
-    Ok(script)
+    Ok(parse(alloc, text.as_bytes())?)
 }
 
 // The text of the script's report.
@@ -209,7 +222,7 @@ fn told<R: Threads + Sync, G: Gate>(
     script: &str,
     gate: &G,
 ) -> Result<Vec<u8>, Fail> {
-    let script = staged(alloc, script)?;
+    let script = script_of(alloc, script)?;
     let report = Collector::run(alloc, rt, &script, gate)?;
     Ok(text(alloc, &report)?)
 }
@@ -260,6 +273,17 @@ fn thunks_stacks_and_exchanges_have_these_reports(rt: HostRuntime) -> Result<(),
 }
 
 #[test]
+fn weak_pointers_have_these_reports(rt: HostRuntime) -> Result<(), Fail> {
+    for (script, report) in &WEAKS {
+        assert!(rt;
+            tells(rt.alloc(), &rt, script, report, &OpenGate)?,
+            "{script}"
+        );
+    }
+    Ok(())
+}
+
+#[test]
 fn a_thunk_gets_one_result(rt: HostRuntime) -> Result<(), Fail> {
     for _ in 0..1000u32 {
         let bytes = told(rt.alloc(), &rt, THUNK, &OpenGate)?;
@@ -286,7 +310,7 @@ fn number_of(report: &Report, mutator: usize) -> u64 {
 
 // What the two mutators read under this gate.
 fn race<R: Threads + Sync, G: Gate>(alloc: Global, rt: &R, gate: &G) -> Result<(u64, u64), Fail> {
-    let script = staged(alloc, RACE)?;
+    let script = script_of(alloc, RACE)?;
     let told = Collector::run(alloc, rt, &script, gate)?;
     Ok((number_of(&told, 0), number_of(&told, 1)))
 }

@@ -2,11 +2,12 @@
 //!
 //! A worker is a mutator with its seat. It reads its program from where it stands, and no other's, and notes how many
 //! commands it did; so the workers share the round alone, and what each did is told by its own contract.
-ghost use Rattle.std.specs.Prelude.{◌≡◌, ◌<◌, ◌≤◌, ◌↔◌, [], IsTrue, length, map, slice_index, vec_len, vec_capacity};
+ghost use Rattle.std.specs.Prelude.{◌≡◌, ◌<◌, ◌≤◌, [], length, map, slice_index, vec_len, vec_capacity};
 ghost use Rattle.nmgc_run.specs.Slice.{program_of};
 ghost use Rattle.std.specs.Thread.{IsSync};
+ghost use Rattle.std.specs.List.{list_any};
 ghost use Rattle.nmgc_cycle.specs.Cycles.{CanHelp, HasHelped};
-ghost use Rattle.nmgc_cycle.specs.Working.{SomeAsks, left_at, CanWork, HasWorkedOn, CanAllWork, HaveAllWorked, workers_of, mutator_of, seat_of, done_by};
+ghost use Rattle.nmgc_cycle.specs.Working.{asks_of, asks_full_of, left_at, CanWork, HasWorkedOn, CanAllWork, HaveAllWorked, workers_of, mutator_of, seat_of, done_by};
 
 use crate::progress::Progress;
 use nmgc_alloc::Segments;
@@ -25,6 +26,8 @@ pub struct Worker {
     pub done: u32,
     /// Whether its slice asks for a cycle.
     pub asks: bool,
+    /// Whether it asks for a full cycle.
+    pub asks_full: bool,
 }
 
 impl Worker {
@@ -38,6 +41,7 @@ impl Worker {
             .run_slice(round, &mut self.seat, program, slice, gate);
         self.done = ended.done;
         self.asks = ended.end == SliceEnd::Collect;
+        self.asks_full = ended.end == SliceEnd::Full;
     }
 }
 
@@ -105,9 +109,16 @@ pub fn work_beside<R: Threads + Sync, G: Gate>(
 
 /// Whether one of them asks for a cycle.
 pub fn some_asks(workers: &[Worker]) -> bool
-    ensures { IsTrue result ↔ SomeAsks workers.now }
+    ensures { result ≡ list_any asks_of workers.now }
 {
     workers.iter().any(|worker| worker.asks)
+}
+
+/// Whether one of them asks for a full cycle.
+pub fn some_ask_full(workers: &[Worker]) -> bool
+    ensures { result ≡ list_any asks_full_of workers.now }
+{
+    workers.iter().any(|worker| worker.asks_full)
 }
 
 /// Each mutator gets its seat. The list has room for them.
@@ -122,6 +133,7 @@ pub fn seated(mutators: Vec<Mutator>, seats: List<MutatorSeat>, workers: &mut Ve
             seat,
             done: 0,
             asks: false,
+            asks_full: false,
         });
     }
 }
@@ -146,6 +158,7 @@ pub fn unseated(
             seat,
             done: count,
             asks: _,
+            asks_full: _,
         } = worker;
         mutators.push_reserved(mutator);
         seats.push_reserved(seat);

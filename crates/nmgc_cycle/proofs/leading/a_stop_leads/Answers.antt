@@ -5,6 +5,7 @@ returns c = record {
   promotion = record {
     back = c.places_are_blocks.ensures.back;
     marking = c.marking_goes_on.ensures.promotion;
+    fewer = c.the_list_is_joined.ensures.fewer;
     sweeping = c.a_closed_cycle_sweeps.ensures.stays;
     settled = c.a_closed_cycle_sweeps.ensures.settled;
     waits = c.a_closed_cycle_sweeps.ensures.placed;
@@ -15,6 +16,6 @@ returns c = record {
   close_ready = c.a_closing_leads.ensures.ready;
   closing = c.a_closing_leads.ensures.leads;
   ending = c.an_end_leads.ensures;
-  begin_ready = c.a_beginning_leads.ensures.ready;
-  beginning = c.a_beginning_leads.ensures.leads;
+  begin_ready = c.a_full_cycle_leads.ensures.begin_ready;
+  proceeding = c.a_full_cycle_leads.ensures.leads;
 }

@@ -1,20 +1,13 @@
 use Rattle.std.proofs.Common.{◌≡◌, ℕ, ◌+◌, ◌<◌, List, [], ◌∷◌, ◌++◌, length, map, take, drop, get_or, set, arith, sym, ap, subst, ◌∙◌, append-nil}
-use Rattle.std.proofs.lemmas.List.{take_more, get_or_at, drop_more, map_push, length-map, length-take-le}
+use Rattle.std.proofs.lemmas.List.{take_more}
 use Rattle.std.proofs.lemmas.List.Concat.{flat_map-append}
 use Rattle.std.proofs.lemmas.List.Edits.{map_over_more}
 use Rattle.nmgc_mutator.specs.declared.mutator.Mutator.{Mutator}
 use Rattle.nmgc_turn.specs.Worked.{registers_of}
 use Rattle.nmgc_object.specs.FinQueue.{FinQueue}
 use Rattle.nmgc_cycle.specs.Roots.{queues_in, no_queue, without_queue}
+use Rattle.nmgc_cycle.proofs.QueueLists.{next_is, queues_more, no_queue_is}
 use Rattle.nmgc_cycle.proofs.roots.taken.Goals as goal
-
--- the next mutator still has its queue
-next_is : (xs ys : List Mutator) (i : ℕ) (x : Mutator) → i < length xs → ys ≡ map without_queue (take i xs) ++ drop i xs → x ≡ get_or ys i x → get_or xs i x ≡ x
-next_is xs ys i x lt is read =
-    let n : length (map without_queue (take i xs)) ≡ i = length-map (take i xs) without_queue ∙ length-take-le i xs (omega arith) in
-    let rest : drop i xs ≡ get_or xs i x ∷ drop (i + 1) xs = drop_more xs i x lt in
-    let split : ys ≡ map without_queue (take i xs) ++ (get_or xs i x ∷ drop (i + 1) xs) = is ∙ ap (λ (r : List Mutator). map without_queue (take i xs) ++ r) rest in
-    sym (get_or_at (map without_queue (take i xs)) (get_or xs i x) (drop (i + 1) xs) x i n) ∙ sym (ap (λ (l : List Mutator). get_or l i x) split) ∙ sym read
 
 -- with the next mutator, all mutators so far have its registers and its queue
 registers_more : (xs : List Mutator) (i : ℕ) (x : Mutator) → i < length xs → get_or xs i x ≡ x → registers_of (take (i + 1) xs) ≡ registers_of (take i xs) ++ x.registers
@@ -22,15 +15,6 @@ registers_more xs i x lt is =
     ap registers_of (take_more xs i x lt ∙ ap (λ (y : Mutator). take i xs ++ y ∷ []) is)
     ∙ flat_map-append (λ (m : Mutator). m.registers) (take i xs) (x ∷ [])
     ∙ ap (λ (r : List ℕ). registers_of (take i xs) ++ r) (append-nil x.registers)
-
-queues_more : (xs : List Mutator) (i : ℕ) (x : Mutator) → i < length xs → get_or xs i x ≡ x → queues_in (take (i + 1) xs) ≡ queues_in (take i xs) ++ x.queue ∷ []
-queues_more xs i x lt is =
-    ap queues_in (take_more xs i x lt ∙ ap (λ (y : Mutator). take i xs ++ y ∷ []) is)
-    ∙ map_push (λ (m : Mutator). m.queue) (take i xs) x
-
--- a queue without words and room
-no_queue_is : (q : FinQueue) → q.words ≡ [] → q.spare ≡ 0 → no_queue ≡ q
-no_queue_is q words spare = sym (ap (λ (w : List ℕ). record { words = w; spare = q.spare }) words ∙ ap (λ (n : ℕ). record { words = []; spare = n }) spare)
 
 pub loop-mutator-preserved : goal.loop-mutator-preserved
 loop-mutator-preserved c =

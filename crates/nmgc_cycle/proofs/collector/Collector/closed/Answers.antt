@@ -1,11 +1,21 @@
-use Rattle.std.proofs.Common.{ℕ, ◌≡◌, List, map, ap, subst, ◌∙◌}
+use Rattle.std.proofs.Common.{ℕ, ◌≡◌, ◌≤◌, List, length, map, sym, ap, subst, ◌∙◌, vec_capacity}
+use Rattle.std.proofs.lemmas.List.{length-map}
 use Rattle.nmgc_alloc.specs.Segments.{Segments}
 use Rattle.nmgc_alloc.specs.Turns.{carried_over}
+use Rattle.nmgc_beside.specs.Resolves.{finished_on}
 use Rattle.nmgc_mark.specs.Stopped.{IsReady}
+use Rattle.nmgc_mutator.specs.declared.mutator.Mutator.{Mutator}
 use Rattle.nmgc_sweep.specs.Sweeper.{Sweeper}
+use Rattle.nmgc_weak.specs.declared.weaks.Death.{Death}
+use Rattle.nmgc_weak.specs.Queues.{HaveRoom}
+use Rattle.nmgc_weak.specs.Resolve.{CanResolve}
+use Rattle.nmgc_weak.specs.Weaks.{places_of}
 use Rattle.nmgc_cycle.specs.declared.progress.Marking.{Marking}
 use Rattle.nmgc_cycle.specs.declared.progress.Sweeping.{Sweeping}
+use Rattle.nmgc_cycle.specs.Listed.{HaveJoined}
+use Rattle.nmgc_cycle.specs.Roots.{queues_in}
 use Rattle.nmgc_cycle.specs.Shown.{words_in}
+use Rattle.nmgc_cycle.proofs.MutatorLists.{vec_back}
 use Rattle.nmgc_cycle.proofs.collector.Collector.closed.Goals as goal
 
 -- what a closed cycle has, by what it keeps and its sweeper
@@ -14,18 +24,63 @@ same_sweeping m stop a b x kept sweeper =
     ap (λ (n : ℕ). let w : Sweeping = record { from = m.from; closed = stop; kept = n; sweeper = x } in w) kept
     ∙ ap (λ (y : Sweeper). let w : Sweeping = record { from = m.from; closed = stop; kept = b; sweeper = y } in w) sweeper
 
+pub finish-requires-clause-ready : goal.finish-requires-clause-ready
+finish-requires-clause-ready c =
+    let ready = c.requires.ready in
+    let held : words_in c.args.self.now.words ≡ c.in-Some.words = ap words_in c.in-Some.is in
+    (ready.opening, subst (λ (l : List ℕ). IsReady ready.opening l c.args.self.now.segments c.args.marking.marker) held ready.ready)
+
+pub resolve-requires-clause-room : goal.resolve-requires-clause-room
+resolve-requires-clause-room c = c.finish.ensures.marked.1.room
+
+pub resolve-requires-clause-can : goal.resolve-requires-clause-can
+resolve-requires-clause-can c =
+    let ready = c.requires.ready in
+    let held : words_in c.args.self.now.words ≡ c.in-Some.words = ap words_in c.in-Some.is in
+    let words : c.finish.new.words ≡ words_in c.args.self.now.words = c.finish.ensures.words ∙ sym held in
+    let f = c.finish.ensures.finished ready.opening (subst (λ (l : List ℕ). IsReady ready.opening l c.args.self.now.segments c.args.marking.marker) held ready.ready) in (
+      finished_on ready.opening c.finish.new.segments c.finish.new.self f,
+      subst (λ (l : List ℕ). CanResolve (finished_on ready.opening c.finish.new.segments c.finish.new.self f) l c.finish.new.segments c.finish.new.self (places_of c.args.self.now.weaks.list)) (sym words) (ready.resolves c.finish.new.segments c.finish.new.self f),
+    )
+
+pub queue_all-requires-clause-room : goal.queue_all-requires-clause-room
+queue_all-requires-clause-room c =
+    let v = c.args.self.now.mutators in
+    let many : length (queues_in v.items) ≡ length c.as_mut_slice.result.now = length-map v.items (λ (x : Mutator). x.queue) ∙ sym (ap (λ (ms : List Mutator). length ms) c.as_mut_slice.ensures.value) in
+    subst (λ (n : ℕ). n ≤ vec_capacity c.args.marking.queues) many c.requires.ready.holds_all
+
+pub queue_all-requires-clause-queues : goal.queue_all-requires-clause-queues
+queue_all-requires-clause-queues c =
+    let ready = c.requires.ready in
+    let held : words_in c.args.self.now.words ≡ c.in-Some.words = ap words_in c.in-Some.is in
+    let words : c.finish.new.words ≡ words_in c.args.self.now.words = c.finish.ensures.words ∙ sym held in
+    let f = c.finish.ensures.finished ready.opening (subst (λ (l : List ℕ). IsReady ready.opening l c.args.self.now.segments c.args.marking.marker) held ready.ready) in
+    let o = finished_on ready.opening c.finish.new.segments c.finish.new.self f in
+    let can = subst (λ (l : List ℕ). CanResolve o l c.finish.new.segments c.finish.new.self (places_of c.args.self.now.weaks.list)) (sym words) (ready.resolves c.finish.new.segments c.finish.new.self f) in
+    let room : HaveRoom c.resolve.new.self.deaths (queues_in c.args.self.now.mutators.items) = ready.queue_room c.finish.new.segments c.resolve.new.segments c.finish.new.self c.resolve.new.marker c.resolve.new.words c.resolve.new.self.list c.resolve.new.self.deaths f (c.resolve.ensures.resolved o can) in
+    subst (λ (y : List Death × List Mutator). HaveRoom y.0 (queues_in y.1)) (λ i. (sym c.deaths.ensures i, sym c.as_mut_slice.ensures.value i)) room
+
 pub returns-clause-closed : goal.returns-clause-closed
 returns-clause-closed c =
+    let v = c.args.self.now.mutators in
     let held : words_in c.args.self.now.words ≡ c.in-Some.words = ap words_in c.in-Some.is in
-    let marked : Segments = c.finish.new.segments in
+    let words : c.finish.new.words ≡ words_in c.args.self.now.words = c.finish.ensures.words ∙ sym held in
+    let marked : Segments = c.resolve.new.segments in
+    let was = c.as_mut_slice.ensures.value in
+    let later : List Mutator = c.queue_all.new.mutators in
+    let count : length later ≡ length v.items = c.queue_all.ensures.have.count ∙ ap (λ (ms : List Mutator). length ms) was in
+    let joined : HaveJoined c.resolve.new.self.deaths v.items later = subst (λ (y : List Death × List Mutator). HaveJoined y.0 y.1 later) (λ i. (c.deaths.ensures i, was i)) c.queue_all.ensures in
     record {
-      marker = c.finish.new.self;
-      marked = c.finish.new.segments;
-      scanned = c.finish.ensures.marked.0;
-      marks = c.finish.ensures.marked.1;
-      done = c.finish.ensures.empty;
-      finished = λ o ready. c.finish.ensures.finished o (subst (λ (words : List ℕ). IsReady o words c.args.self.now.segments c.args.marking.marker) held ready);
+      between = c.finish.new.segments;
+      finisher = c.finish.new.self;
+      marker = c.resolve.new.marker;
+      marked = marked;
+      first = c.finish.ensures.marked;
+      second = c.resolve.ensures.marked;
+      finished = λ o ready. c.finish.ensures.finished o (subst (λ (l : List ℕ). IsReady o l c.args.self.now.segments c.args.marking.marker) held ready);
+      resolved = λ o can. c.resolve.ensures.resolved o (subst (λ (l : List ℕ). CanResolve o l c.finish.new.segments c.finish.new.self (places_of c.args.self.now.weaks.list)) (sym words) can);
+      joined = subst (λ (ms : List Mutator). HaveJoined c.resolve.new.self.deaths v.items ms) (sym (vec_back v later count)) joined;
       carried = c.carry.ensures.value ∙ ap (λ (epoch : ℕ). let s : Segments = record marked { segments = map (carried_over epoch) marked.segments } in s) c.epoch.ensures.epoch;
       sound = (c.layout.ensures.sound, c.carry.ensures.sound);
-      is = same_sweeping c.args.marking c.args.stop c.marked.result c.finish.new.self.marked _ c.marked.ensures c.sweeper.view_is;
+      is = same_sweeping c.args.marking c.args.stop c.marked.result c.resolve.new.marker.marked _ c.marked.ensures c.sweeper.view_is;
     }

@@ -1,5 +1,5 @@
 use Rattle.std.proofs.Common.{◌∙◌, refl, sym, subst}
-use Rattle.nmgc_cycle.specs.Stage.{IsTold}
+use Rattle.nmgc_run.specs.Lawful.{IsLawful}
 use Rattle.nmgc_cycle.proofs.Told.{kept_of, told, same_parts, as_long, words_copied}
 use Rattle.nmgc_cycle.proofs.collector.Collector.into_report.Goals as goal
 
@@ -12,12 +12,12 @@ returns-clause-parts c =
     refl
     (c.from_vec.ensures ∙ words_copied c.args.self.words c.copied-words.result.items (kept_of c.requires.0 c.args.self c.args.end c.requires.1).has_words c.copied-words.ensures)
     (c.from_vec-2.ensures ∙ c.all_ends-ends.ensures)
-    c.new.ensures
+    c.into_names.ensures
 
 pub returns-clause-told : goal.returns-clause-told
 returns-clause-told c = λ script ended.
-    subst (IsTold script) (sym (same_parts c.args.self c.args.end _ _ _ _
+    subst (IsLawful script) (sym (same_parts c.args.self c.args.end _ _ _ _
     refl
     (c.from_vec.ensures ∙ words_copied c.args.self.words c.copied-words.result.items (kept_of c.requires.0 c.args.self c.args.end c.requires.1).has_words c.copied-words.ensures)
     (c.from_vec-2.ensures ∙ c.all_ends-ends.ensures)
-    c.new.ensures)) (told script c.args.self c.args.end ended)
+    c.into_names.ensures)) (told script c.args.self c.args.end ended)

@@ -7,7 +7,7 @@ use Rattle.nmgc_run.specs.Run.{Run}
 use Rattle.nmgc_script.specs.declared.script.Script.{Script}
 use Rattle.nmgc_cycle.specs.declared.collector.Collector.{Collector}
 use Rattle.nmgc_cycle.specs.Keeps.{IsStill}
-use Rattle.nmgc_cycle.specs.Stage.{IsStaged}
+use Rattle.nmgc_cycle.specs.Limits.{IsInLimits}
 use Rattle.nmgc_cycle.specs.Working.{left_at, HasLists, AreReserved, HaveSliceRoom}
 use Rattle.nmgc_cycle.proofs.Positions.{position_within}
 use Rattle.nmgc_cycle.proofs.SliceRoom.{on_both, reserved_room}
@@ -29,13 +29,13 @@ returns-clause-room c =
     let new = c.reserve_all.new.mutators in
     let old : c.as_mut_slice.result.now ≡ own.mutators.items = c.as_mut_slice.ensures.value in
     let positions : c.as_slice.result.now ≡ own.positions.items = c.as_slice.ensures.value in
-    on_both c.reserve_all.result (room_after script own new still c.requires.staged old positions) c.reserve_all.ensures.kept c.reserve_all.ensures.room
+    on_both c.reserve_all.result (room_after script own new still c.requires.limits old positions) c.reserve_all.ensures.kept c.reserve_all.ensures.room
   where
-    room_after : (script : Script) (own : Collector) (new : List Mutator) {run : Run} → IsStill script own run → IsStaged script → {lent : List Mutator} {told : List ℕ} → lent ≡ own.mutators.items → told ≡ own.positions.items → AreReserved lent new → ((k : ℕ) (d : Mutator) → k < length lent → HasLists (min script.config.slice (length (left_at script told k))) (slice_index_or new k d)) → HaveSliceRoom script (record own { mutators = with_items own.mutators new })
-    room_after script own new {run} still staged {lent} {told} old positions kept room =
+    room_after : (script : Script) (own : Collector) (new : List Mutator) {run : Run} → IsStill script own run → IsInLimits script → {lent : List Mutator} {told : List ℕ} → lent ≡ own.mutators.items → told ≡ own.positions.items → AreReserved lent new → ((k : ℕ) (d : Mutator) → k < length lent → HasLists (min script.config.slice (length (left_at script told k))) (slice_index_or new k d)) → HaveSliceRoom script (record own { mutators = with_items own.mutators new })
+    room_after script own new {run} still limits {lent} {told} old positions kept room =
         let reserved : AreReserved own.mutators.items new = subst (λ (l : List Mutator). AreReserved l new) old kept in
         let back : (with_items own.mutators new).items ≡ new = with_items_is own.mutators new (reserved.count ∙ sym own.mutators.ok.0) in
-        reserved_room script own (record own { mutators = with_items own.mutators new }) run staged still refl (subst (AreReserved own.mutators.items) (sym back) reserved) (λ k d lt.
+        reserved_room script own (record own { mutators = with_items own.mutators new }) run limits still refl (subst (AreReserved own.mutators.items) (sym back) reserved) (λ k d lt.
         subst (λ (l : List Mutator). HasLists (min script.config.slice (length (left_at script own.positions.items k))) (slice_index_or l k d)) (sym back)
         (subst (λ (l : List ℕ). HasLists (min script.config.slice (length (left_at script l k))) (slice_index_or new k d)) positions
         (room k d (let e = ap (λ (l : List Mutator). length l) old in omega (arith, lt, e)))))

@@ -25,7 +25,8 @@ returns-clause-worked g c =
       goes_on = c.the_machine_goes_on.ensures;
       is_marking = c.the_marker_leads_a_cycle.ensures.round;
       pace = c.the_pace_is_kept.ensures.round;
-      swept_holds = c.freed_places_go.ensures.whole_round;
+      frees = c.freed_places_go.ensures.round;
+      swept_holds = c.freed_places_go.ensures.after_round;
       drops = c.freed_places_go.ensures.remembered;
       grows = c.freed_places_go.ensures.free;
       waits = c.a_closed_cycle_sweeps.ensures.marked;
@@ -44,5 +45,5 @@ returns-clause-worked g c =
     let told : rows.replies ≡ replies_of did.mutators.items = c.in_ok-rows.ensures.rows ∙ ap replies_of was in
     let own : Collector = c.args.self.now in
     let before : (x : Collector) → DidRound script roomy x → DidRound script own x = λ x d. (d.0, still_before script own roomy d.0.run c.requires.stopped.0.1.kept c.in_ok-make_room.ensures.rest c.in_ok-make_room.ensures.mutators d.1) in
-    let worked : DidRound script roomy (record did { mutators = with_items did.mutators new; rounds = did.rounds ++ rows ∷ [] }) = worked_after laws script roomy did c.opening_of-opening.result.value c.requires.staged goes_on c.opening_of-opening.ensures c.do_slices.ensures (with_items did.mutators new) (vec_back did.mutators new many ∙ left) rows told in
+    let worked : DidRound script roomy (record did { mutators = with_items did.mutators new; rounds = did.rounds ++ rows ∷ [] }) = worked_after laws script roomy did c.opening_of-opening.result.value c.requires.limits goes_on c.opening_of-opening.ensures c.do_slices.ensures (with_items did.mutators new) (vec_back did.mutators new many ∙ left) rows told in
     on_ok c.push.result c.push.ensures.ok (λ pushed. subst (λ (l : List RoundRows). DidRound script own (record did { mutators = with_items did.mutators new; rounds = l })) (sym pushed) (before (record did { mutators = with_items did.mutators new; rounds = did.rounds ++ rows ∷ [] }) worked))

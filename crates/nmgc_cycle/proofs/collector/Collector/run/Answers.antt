@@ -1,4 +1,4 @@
-use Rattle.std.proofs.Common.{◌≡◌, ◌∷◌, [], List, length, length-append, arith, ap, subst}
+use Rattle.std.proofs.Common.{◌∷◌, [], List, length, length-append, arith, ap, subst}
 use Rattle.nmgc_journal.specs.declared.report.StopRow.{StopRow}
 use Rattle.nmgc_cycle.specs.Keeps.{HasAnswered}
 use Rattle.nmgc_cycle.proofs.Few.{stop_fits}
@@ -25,3 +25,6 @@ into_report-requires-in-HeapFull g c = (c.args.script.now, subst (HasAnswered c.
 
 pub returns-in-Done : goal.returns-in-Done
 returns-in-Done g c = c.into_report.ensures.told c.args.script.now (subst (HasAnswered c.args.script.now c.stop.new.self) c.in-Done.is c.in_ok-stop.ensures.answered)
+
+pub returns-in-HeapFull : goal.returns-in-HeapFull
+returns-in-HeapFull g c = c.into_report-in-HeapFull.ensures.told c.args.script.now (subst (HasAnswered c.args.script.now c.stop.new.self) c.in-HeapFull.is c.in_ok-stop.ensures.answered)

@@ -1,4 +1,5 @@
-use Rattle.std.proofs.Common.{◌≡◌, ℕ, ◌*◌, List, length, map, false, refl, sym, ap, subst, ◌∙◌}
+use Rattle.std.proofs.Common.{◌≡◌, ℕ, ◌*◌, ◌≤◌, List, length, map, false, refl, sym, ap, subst, ◌∙◌, arith, Global, vec_capacity}
+use Rattle.std.specs.declared.vec.Vec.{Vec}
 use Rattle.std.specs.Prelude.{All}
 use Rattle.std.specs.Vec.{with_items}
 use Rattle.std.proofs.lemmas.List.{length-map}
@@ -15,14 +16,16 @@ use Rattle.nmgc_mutator.specs.declared.mutator.Mutator.{Mutator}
 use Rattle.nmgc_turn.specs.Worked.{registers_of}
 use Rattle.nmgc_cycle.specs.declared.collector.Collector.{Collector}
 use Rattle.nmgc_cycle.specs.Cycles.{StartsMarking, next_epoch}
+use Rattle.nmgc_weak.specs.declared.weaks.OldWeak.{OldWeak}
+use Rattle.nmgc_cycle.specs.Listed.{HaveQueueRoom}
 use Rattle.nmgc_cycle.specs.Roots.{HasRegisters, queues_in, without_queue, AreGivenBack}
 use Rattle.nmgc_cycle.specs.Shown.{words_in}
 use Rattle.nmgc_cycle.proofs.MutatorLists.{registers_without, registers_count, vec_back, given_items}
 use Rattle.nmgc_cycle.proofs.collector.Collector.start_marking.Goals as goal
 
 -- the same marking, by what is seen of its marker and its sweeper
-by_view : (stop : ℕ) (old new : Collector) (marker m : MarkerSeen) (sweeper s : Sweeper) → marker ≡ m → sweeper ≡ s → StartsMarking stop old new (record { from = stop; marker = m; last = record { scanned = 0; empty = false }; sweeper = s }) → StartsMarking stop old new (record { from = stop; marker = marker; last = record { scanned = 0; empty = false }; sweeper = sweeper })
-by_view stop old new marker m sweeper s first second h = subst (λ (y : MarkerSeen × Sweeper). StartsMarking stop old new (record { from = stop; marker = y.0; last = record { scanned = 0; empty = false }; sweeper = y.1 })) (λ i. (sym first i, sym second i)) h
+by_view : (stop : ℕ) (old new : Collector) (marker m : MarkerSeen) (sweeper s : Sweeper) (queues : Vec FinQueue Global) → marker ≡ m → sweeper ≡ s → StartsMarking stop old new (record { from = stop; marker = m; last = record { scanned = 0; empty = false }; sweeper = s; queues = queues }) → StartsMarking stop old new (record { from = stop; marker = marker; last = record { scanned = 0; empty = false }; sweeper = sweeper; queues = queues })
+by_view stop old new marker m sweeper s queues first second h = subst (λ (y : MarkerSeen × Sweeper). StartsMarking stop old new (record { from = stop; marker = y.0; last = record { scanned = 0; empty = false }; sweeper = y.1; queues = queues })) (λ i. (sym first i, sym second i)) h
 
 pub give_back-requires-clause-whole : goal.give_back-requires-clause-whole
 give_back-requires-clause-whole c =
@@ -51,16 +54,26 @@ returns c =
     let registers : c.in_ok-roots.roots.registers ≡ registers_of v.items = c.in_ok-roots.ensures.registers ∙ ap registers_of was in
     let queues : c.in_ok-roots.roots.queues ≡ queues_in v.items = c.in_ok-roots.ensures.queues ∙ ap queues_in was in
     let read : c.as_mut_slice-2.result.now ≡ map without_queue v.items = given_items v c.as_mut_slice.result.now c.taken.new.mutators c.as_mut_slice-2.result.now was c.in_ok-roots.ensures.left c.as_mut_slice-2.ensures.value in
-    let new : List Mutator = c.give_back.new.mutators in
-    let count : length new ≡ length (with_items v c.taken.new.mutators).items = c.give_back.ensures.count ∙ ap (λ (ms : List Mutator). length ms) c.as_mut_slice-2.ensures.value in
-    let given : AreGivenBack (registers_of v.items) (queues_in v.items) (map without_queue v.items) new = subst (λ (y : List ℕ × List FinQueue × List Mutator). AreGivenBack y.0 y.1 y.2 new) (λ i. (registers i, queues i, read i)) c.give_back.ensures in
-    by_view c.args.stop old _ _ c.in_ok-marker.marker _ c.in_ok-sweeper.sweeper c.marker.view_is c.sweeper.view_is (record {
+    let between : List Mutator = c.give_back.new.mutators in
+    let count : length between ≡ length (with_items v c.taken.new.mutators).items = c.give_back.ensures.count ∙ ap (λ (ms : List Mutator). length ms) c.as_mut_slice-2.ensures.value in
+    let given : AreGivenBack (registers_of v.items) (queues_in v.items) (map without_queue v.items) between = subst (λ (y : List ℕ × List FinQueue × List Mutator). AreGivenBack y.0 y.1 y.2 between) (λ i. (registers i, queues i, read i)) c.give_back.ensures in
+    let back : (with_items (with_items v c.taken.new.mutators) between).items ≡ between = vec_back (with_items v c.taken.new.mutators) between count in
+    let new : List Mutator = c.reserve_queues.new.mutators in
+    let room : HaveQueueRoom old.weaks.list between new = subst (λ (y : List OldWeak × List Mutator). HaveQueueRoom y.0 y.1 new) (λ i. (c.list.ensures.list i, (c.as_mut_slice-3.ensures.value ∙ back) i)) c.in_ok-reserve_queues.ensures in
+    let more : length new ≡ length (with_items (with_items v c.taken.new.mutators) between).items = room.count ∙ ap (λ (ms : List Mutator). length ms) (sym back) in
+    let now : (with_items (with_items (with_items v c.taken.new.mutators) between) new).items ≡ new = vec_back (with_items (with_items v c.taken.new.mutators) between) new more in
+    let many : length new ≡ length v.items = room.count ∙ c.give_back.ensures.count ∙ ap (λ (ms : List Mutator). length ms) read ∙ length-map v.items without_queue in
+    let most : length new ≤ vec_capacity c.in_ok-queues.queues = (let len = c.len.ensures in let capacity = c.in_ok-queues.ensures.capacity in let exact = c.in_ok-queues.ensures.exact in let whole = v.ok.0 in omega (arith, many, len, capacity, exact, whole)) in
+    by_view c.args.stop old _ _ c.in_ok-marker.marker _ c.in_ok-sweeper.sweeper c.in_ok-queues.queues c.marker.view_is c.sweeper.view_is (record {
       rest = refl;
       from_is = refl;
       last = refl;
       words = (c.snapshot.ensures.words ∙ started, refl);
       sound = c.layout.ensures.sound;
-      given = subst (λ (ms : List Mutator). AreGivenBack (registers_of v.items) (queues_in v.items) (map without_queue v.items) ms) (sym (vec_back (with_items v c.taken.new.mutators) new count)) given;
+      between = between;
+      given = given;
+      queue_room = subst (λ (ms : List Mutator). HaveQueueRoom old.weaks.list between ms) (sym now) room;
+      closing_room = (c.in_ok-queues.ensures.items, subst (λ (ms : List Mutator). length ms ≤ vec_capacity c.in_ok-queues.queues) (sym now) most);
       sweeper = subst (λ (y : Segments × List ℕ × ℕ). HasBegun y.0 y.1 y.2 c.in_ok-sweeper.sweeper) (λ i. (prepared_is i, held i, epoch_is i)) c.in_ok-sweeper.ensures.begun;
       marked = subst (λ (y : Segments × ℕ). HasMarked y.0 c.snapshot.new.segments (blank y.1 (most_blocks y.0.layout)) c.in_ok-marker.marker 0) (λ i. (prepared_is i, epoch_is i)) c.in_ok-marker.ensures.marked;
       tied = λ o begins. c.in_ok-marker.ensures.tied o (subst (λ (y : Segments × ℕ × List ℕ × List ℕ × List FinQueue). IsBeginning o y.0 y.1 y.2 y.3 y.4) (λ i. (sym prepared_is i, sym epoch_is i, sym started i, sym (c.items.ensures ∙ registers) i, sym (c.items-2.ensures ∙ queues) i)) begins);

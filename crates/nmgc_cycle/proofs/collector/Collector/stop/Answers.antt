@@ -1,4 +1,4 @@
-use Rattle.std.proofs.Common.{◌≡◌, List, [], ◌∷◌, ◌++◌, length, arith, refl, sym, ap, subst, ◌∙◌, inl, inr, true, false}
+use Rattle.std.proofs.Common.{◌≡◌, List, length, arith, refl, sym, ap, subst, ◌∙◌, inl, inr, true, false}
 use denote.Enum.Bare.{same_true, same_false}
 use Rattle.nmgc_object.specs.Places.{reserve_count}
 use Rattle.nmgc_journal.specs.contracts.report.Phase.{the_type}
@@ -12,9 +12,8 @@ use Rattle.nmgc_cycle.proofs.AfterPromotion as after
 use Rattle.nmgc_cycle.proofs.Begins.{begins}
 use Rattle.nmgc_cycle.proofs.Few.{stop_fits}
 use Rattle.nmgc_cycle.proofs.NewStops.{stopped_in}
-use Rattle.nmgc_cycle.proofs.StopEnds.{IsStepped, IsRead, Why, has_answered, stops_after, done_where, full_where}
+use Rattle.nmgc_cycle.proofs.StopEnds.{IsStepped, IsRead, Why, row, some_left_then, rounds_are, stops_are, has_answered, stops_after, done_where, full_where}
 use Rattle.nmgc_cycle.proofs.StopSteps as steps
-use Rattle.nmgc_cycle.proofs.StopSteps.{IsLed, words_inside}
 use Rattle.nmgc_cycle.proofs.collector.Collector.stop.Goals as goal
 use Rattle.nmgc_cycle.proofs.collector.Collector.stop.Goals.{then-left+then-free-reserve, else-left+then-not-left+then-eq, else-left-via-then-left+else-free-reserve, else-left-via-else-left, else-left+else-not-left, else-not-left-via-then-not-left+else-eq, else-not-left-via-else-not-left}
 
@@ -23,7 +22,7 @@ true_isnt e = cc
 
 pub overflow_cast-number : goal.overflow_cast-number
 overflow_cast-number c =
-    let few = (stop_fits c.args.script.now c.args.self.now c.requires.staged c.requires.can).number in
+    let few = (stop_fits c.args.script.now c.args.self.now c.requires.limits c.requires.can).number in
     let same = ap (λ (rows : List StopRow). length rows) c.items.ensures in
     omega (arith, few, same)
 
@@ -32,60 +31,55 @@ promote-requires-clause-whole c = after.all_whole c.args.script.now c.args.self.
 
 pub promote-requires-clause-stopped : goal.promote-requires-clause-stopped
 promote-requires-clause-stopped c =
-    let b = begins c.args.script.now c.args.self.now c.requires.staged c.requires.can in
-    (stopped_in b.began b.state b.places (seen c.args.self.now), b.stopped)
+    let b = begins c.args.script.now c.args.self.now c.requires.limits c.requires.can in
+    (stopped_in b.began b.state b.places (seen c.args.self.now), b.stopped, b.can_list)
 
 pub add_remembered-requires : goal.add_remembered-requires
 add_remembered-requires c =
-    can_add c.args.script.now c.promote.new.self _ (steps.stands_first c.a_stop_leads.ensures c.args.script.now c.args.self.now c.promote.new.self c.requires.staged c.requires.can c.in_ok-promoted.ensures.promoted)
+    can_add c.args.script.now c.promote.new.self _ (steps.stands_first c.a_stop_leads.ensures c.args.script.now c.args.self.now c.promote.new.self c.requires.limits c.requires.can c.in_ok-promoted.ensures.promoted c.in_ok-promoted.ensures.listed)
 
 pub close-requires-clause-can : goal.close-requires-clause-can
 close-requires-clause-can c =
-    c.a_stop_leads.ensures.close_ready c.args.script.now c.add_remembered.new.self _ c.requires.staged (steps.stands_within c.a_stop_leads.ensures c.args.script.now c.args.self.now c.promote.new.self c.requires.staged c.requires.can c.in_ok-promoted.ensures.promoted c.add_remembered.new.self c.add_remembered.ensures)
-
-pub begin-requires-clause-inside : goal.begin-requires-clause-inside
-begin-requires-clause-inside c =
-    words_inside c.args.script.now c.end.new.self _ (steps.stands_ended c.a_stop_leads.ensures c.args.script.now c.args.self.now c.promote.new.self c.requires.staged c.requires.can c.in_ok-promoted.ensures.promoted c.add_remembered.new.self c.add_remembered.ensures (length c.items.result.now) (ap (λ (rows : List StopRow). length rows) c.items.ensures) c.close.new.self c.close.ensures c.end.new.self c.in_ok-end.ensures)
-
-pub begin-requires-clause-whole : goal.begin-requires-clause-whole
-begin-requires-clause-whole c =
-    after.all_whole c.args.script.now c.end.new.self (steps.stands_ended c.a_stop_leads.ensures c.args.script.now c.args.self.now c.promote.new.self c.requires.staged c.requires.can c.in_ok-promoted.ensures.promoted c.add_remembered.new.self c.add_remembered.ensures (length c.items.result.now) (ap (λ (rows : List StopRow). length rows) c.items.ensures) c.close.new.self c.close.ensures c.end.new.self c.in_ok-end.ensures).kept
-
-pub begin-requires-clause-number : goal.begin-requires-clause-number
-begin-requires-clause-number c =
-    let few = (stop_fits c.args.script.now c.args.self.now c.requires.staged c.requires.can).begun in
-    let same = steps.begun_is c.a_stop_leads.ensures c.args.script.now c.args.self.now c.promote.new.self c.requires.staged c.requires.can c.in_ok-promoted.ensures.promoted c.add_remembered.new.self c.add_remembered.ensures (length c.items.result.now) (ap (λ (rows : List StopRow). length rows) c.items.ensures) c.close.new.self c.close.ensures c.end.new.self c.in_ok-end.ensures in
-    omega (arith, few, same)
-
-pub begin-requires-clause-can : goal.begin-requires-clause-can
-begin-requires-clause-can c =
-    c.a_stop_leads.ensures.begin_ready c.args.script.now c.end.new.self _ c.requires.staged (steps.stands_ended c.a_stop_leads.ensures c.args.script.now c.args.self.now c.promote.new.self c.requires.staged c.requires.can c.in_ok-promoted.ensures.promoted c.add_remembered.new.self c.add_remembered.ensures (length c.items.result.now) (ap (λ (rows : List StopRow). length rows) c.items.ensures) c.close.new.self c.close.ensures c.end.new.self c.in_ok-end.ensures)
+    c.a_stop_leads.ensures.close_ready c.args.script.now c.add_remembered.new.self _ c.requires.limits (steps.stands_within c.a_stop_leads.ensures c.args.script.now c.args.self.now c.promote.new.self c.requires.limits c.requires.can c.in_ok-promoted.ensures.promoted c.in_ok-promoted.ensures.listed c.add_remembered.new.self c.add_remembered.ensures)
 
 pub has_left-left-requires : goal.has_left-left-requires
 has_left-left-requires c =
-    (steps.led c.a_stop_leads.ensures c.args.script.now c.args.self.now c.promote.new.self c.requires.staged c.requires.can c.in_ok-promoted.ensures.promoted c.add_remembered.new.self c.add_remembered.ensures (length c.items.result.now) (ap (λ (rows : List StopRow). length rows) c.items.ensures) c.close.new.self c.close.ensures c.end.new.self c.in_ok-end.ensures c.begin.new.self c.in_ok-begin.ensures).stands.kept.positions_are
+    (steps.stands_ended c.a_stop_leads.ensures c.args.script.now c.args.self.now c.promote.new.self c.requires.limits c.requires.can c.in_ok-promoted.ensures.promoted c.in_ok-promoted.ensures.listed c.add_remembered.new.self c.add_remembered.ensures (length c.items.result.now) (ap (λ (rows : List StopRow). length rows) c.items.ensures) c.close.new.self c.close.ensures c.end.new.self c.in_ok-end.ensures).kept.positions_are
+
+pub proceed-requires-clause-stands : goal.proceed-requires-clause-stands
+proceed-requires-clause-stands c =
+    steps.at_this_stop c.a_stop_leads.ensures c.args.script.now c.args.self.now c.promote.new.self c.requires.limits c.requires.can c.in_ok-promoted.ensures.promoted c.in_ok-promoted.ensures.listed c.add_remembered.new.self c.add_remembered.ensures (length c.items.result.now) (ap (λ (rows : List StopRow). length rows) c.items.ensures) c.close.new.self c.close.ensures c.end.new.self c.in_ok-end.ensures
+
+pub proceed-requires-clause-number : goal.proceed-requires-clause-number
+proceed-requires-clause-number c =
+    let few = (stop_fits c.args.script.now c.args.self.now c.requires.limits c.requires.can).begun in
+    let same = steps.begun_is c.a_stop_leads.ensures c.args.script.now c.args.self.now c.promote.new.self c.requires.limits c.requires.can c.in_ok-promoted.ensures.promoted c.in_ok-promoted.ensures.listed c.add_remembered.new.self c.add_remembered.ensures (length c.items.result.now) (ap (λ (rows : List StopRow). length rows) c.items.ensures) c.close.new.self c.close.ensures c.end.new.self c.in_ok-end.ensures in
+    omega (arith, few, same)
 
 -- what the stop did, what it read in the end, and why it answers as it does
 
-stepped : (c : goal.After-self-1) → IsStepped c.args.script.now c.args.self.now c.begin.new.self
+stepped : (c : goal.After-self-1) → IsStepped c.args.script.now c.args.self.now c.proceed.new.self
 stepped c = record {
   number = length c.items.result.now;
   number_is = ap (λ (rows : List StopRow). length rows) c.items.ensures;
   promoted = c.promote.new.self;
   promotes = c.in_ok-promoted.ensures.promoted;
+  lists = c.in_ok-promoted.ensures.listed;
   added = c.add_remembered.new.self;
   adds = c.add_remembered.ensures;
   closed = c.close.new.self;
   closes = c.close.ensures;
   ended = c.end.new.self;
   ends = c.in_ok-end.ensures;
-  begins = c.in_ok-begin.ensures;
+  some = c.has_left-left.result;
+  some_is = c.has_left-left.ensures;
+  proceeds = c.in_ok-proceed.ensures;
 }
 
-read : (c : goal.After-self-1) → IsRead c.args.script.now c.begin.new.self
+read : (c : goal.After-self-1) → IsRead c.args.script.now c.proceed.new.self
 read c = record {
   left = c.has_left-left.result;
-  left_is = c.has_left-left.ensures;
+  left_is = some_left_then c.args.script.now c.end.new.self c.proceed.new.self c.args.script.now.config.trigger (length c.items.result.now) c.has_left-left.result c.in_ok-proceed.ensures c.has_left-left.ensures;
   phase = c.phase.result;
   phase_is = c.phase.ensures;
   free = c.free_count-free.result;
@@ -98,10 +92,10 @@ read c = record {
   reserve_is = c.reserve-reserve.ensures ∙ ap reserve_count c.layout.ensures.layout;
 }
 
-why : (c : goal.After-self-1) → Why c.args.script.now c.begin.new.self (read c) c.if-left.end
+why : (c : goal.After-self-1) → Why c.args.script.now c.proceed.new.self (read c) c.if-left.end
 unfolding read
 why c =
-    let because : StopEnd → Type 0 = λ (e : StopEnd). Why c.args.script.now c.begin.new.self (read c) e in
+    let because : StopEnd → Type 0 = λ (e : StopEnd). Why c.args.script.now c.proceed.new.self (read c) e in
     elim c.if-left.branch [
       | then-left+then-free-reserve w ↦ subst because (sym w.end-is) (refl, refl, w.if-left.true, w.if-free-reserve.true)
       | else-left+then-not-left+then-eq w ↦
@@ -125,28 +119,26 @@ why c =
 
 pub returns-clause-answered : goal.returns-clause-answered
 unfolding stepped read
-returns-clause-answered c = has_answered c.a_stop_leads.ensures c.args.script.now c.args.self.now c.begin.new.self c.requires.staged (stepped c) (read c) c.in_ok-promoted.promoted c.in_ok-promoted.ensures.many c.push.new.self c.ended-self.result c.in_ok-push.ensures.ok c.requires.can c.if-left.end (why c) c.ended-self.ensures
+returns-clause-answered c = has_answered c.a_stop_leads.ensures c.args.script.now c.args.self.now c.proceed.new.self c.requires.limits (stepped c) (read c) c.in_ok-promoted.promoted c.in_ok-promoted.ensures.many c.push.new.self c.ended-self.result c.in_ok-push.ensures.ok c.requires.can c.if-left.end (why c) c.ended-self.ensures
 
 pub returns-clause-after : goal.returns-clause-after
 unfolding stepped read
-returns-clause-after c = stops_after c.a_stop_leads.ensures c.args.script.now c.args.self.now c.begin.new.self c.requires.staged (stepped c) (read c) c.in_ok-promoted.promoted c.in_ok-promoted.ensures.many c.push.new.self c.ended-self.result c.in_ok-push.ensures.ok c.if-left.end (why c) c.ended-self.ensures
+returns-clause-after c = stops_after c.a_stop_leads.ensures c.args.script.now c.args.self.now c.proceed.new.self c.requires.limits (stepped c) (read c) c.in_ok-promoted.promoted c.in_ok-promoted.ensures.many c.push.new.self c.ended-self.result c.in_ok-push.ensures.ok c.if-left.end (why c) c.ended-self.ensures
 
 pub returns-clause-done : goal.returns-clause-done
 returns-clause-done c =
-    let h = done_where c.args.script.now c.begin.new.self (read c) c.if-left.end (why c) in
+    let h = done_where c.args.script.now c.proceed.new.self (read c) c.if-left.end (why c) in
     (λ e. let d = h.0 e in (d.0, d.1), λ d. h.1 (d.0, d.1))
 
 pub returns-clause-full : goal.returns-clause-full
 returns-clause-full c = λ free reserve.
-    let h = full_where c.args.script.now c.begin.new.self (read c) c.if-left.end (why c) free reserve in
+    let h = full_where c.args.script.now c.proceed.new.self (read c) c.if-left.end (why c) free reserve in
     (λ e. let f = h.0 e in record { left = f.left; free_is = f.free_is; reserve_is = f.reserve_is; less = f.less }, λ f. h.1 (record { left = f.left; free_is = f.free_is; reserve_is = f.reserve_is; less = f.less }))
 
-pub returns-clause-world : goal.returns-clause-world
-returns-clause-world c =
-    steps.world_kept c.a_stop_leads.ensures c.args.script.now c.args.self.now c.promote.new.self c.requires.staged c.requires.can c.in_ok-promoted.ensures.promoted c.add_remembered.new.self c.add_remembered.ensures (length c.items.result.now) (ap (λ (rows : List StopRow). length rows) c.items.ensures) c.close.new.self c.close.ensures c.end.new.self c.in_ok-end.ensures c.begin.new.self c.in_ok-begin.ensures
+pub returns-clause-rounds : goal.returns-clause-rounds
+unfolding stepped read
+returns-clause-rounds c = rounds_are c.a_stop_leads.ensures c.args.script.now c.args.self.now c.proceed.new.self c.requires.limits (stepped c) (read c) c.in_ok-promoted.promoted c.in_ok-promoted.ensures.many c.push.new.self c.ended-self.result c.in_ok-push.ensures.ok c.requires.can
 
 pub returns-clause-stops : goal.returns-clause-stops
-returns-clause-stops c =
-    let row : StopRow = record { number = length c.items.result.now; phase = c.phase.result; free = c.free_count-free.result; filled = c.filled_count.result; sweep = c.sweep_count.result; promoted = c.in_ok-promoted.promoted } in
-    let before = steps.stops_are c.a_stop_leads.ensures c.args.script.now c.args.self.now c.promote.new.self c.requires.staged c.requires.can c.in_ok-promoted.ensures.promoted c.add_remembered.new.self c.add_remembered.ensures (length c.items.result.now) (ap (λ (rows : List StopRow). length rows) c.items.ensures) c.close.new.self c.close.ensures c.end.new.self c.in_ok-end.ensures c.begin.new.self c.in_ok-begin.ensures in
-    (row, c.in_ok-push.ensures.ok ∙ ap (λ (rows : List StopRow). rows ++ row ∷ []) before)
+unfolding stepped read
+returns-clause-stops c = (row c.a_stop_leads.ensures c.args.script.now c.args.self.now c.proceed.new.self c.requires.limits (stepped c) (read c) c.in_ok-promoted.promoted c.in_ok-promoted.ensures.many, stops_are c.a_stop_leads.ensures c.args.script.now c.args.self.now c.proceed.new.self c.requires.limits (stepped c) (read c) c.in_ok-promoted.promoted c.in_ok-promoted.ensures.many c.push.new.self c.ended-self.result c.in_ok-push.ensures.ok c.requires.can)

@@ -1,0 +1,17 @@
+use Rattle.std.proofs.Common.{ℕ, ◌≡◌, ◌+◌, false, ap}
+use Rattle.nmgc_cycle.specs.declared.collector.Collector.{Collector}
+use Rattle.nmgc_cycle.specs.declared.progress.Progress.TheVariants as progress
+use Rattle.nmgc_cycle.specs.Cycles.{StartsMarking}
+use Rattle.nmgc_cycle.proofs.collector.Collector.start.Goals as goal
+
+pub returns : goal.returns
+returns c =
+    let before : Collector = c.start_marking.new.self in
+    let starts : StartsMarking c.args.stop c.args.self.now before c.in_ok-marking.marking = c.in_ok-marking.ensures in
+    let begun : before.begun ≡ c.args.self.now.begun = ap (λ (x : Collector). x.begun) starts.rest in
+    record {
+      marking = c.in_ok-marking.marking;
+      before = before;
+      starts = starts;
+      is = ap (λ (n : ℕ). record before { progress = progress.Marking c.in_ok-marking.marking; begun = n + 1; collect = false }) begun;
+    }

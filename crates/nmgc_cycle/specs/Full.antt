@@ -1,0 +1,89 @@
+-- A full cycle at a stop: what each of its parts does with a collector.
+use Rattle.std.specs.Prelude.{ℕ, ◌≡◌, ◌⊎◌, List, [], map, length, Bool, true, false, ◌&&◌, nat_lt, IsSome}
+use Rattle.nmgc_alloc.specs.Reserve.{free_count}
+use Rattle.nmgc_alloc.specs.Segments.{Segments, IsSegments}
+use Rattle.nmgc_alloc.specs.Turns.{retired}
+use Rattle.nmgc_object.specs.Places.{reserve_count}
+use Rattle.nmgc_object.specs.FinQueue.{FinQueue}
+use Rattle.nmgc_sweep.specs.Sweeper.{AreLeft}
+use Rattle.nmgc_sweep.specs.Work.{HasSwept}
+use Rattle.nmgc_weak.specs.declared.weaks.OldWeak.{OldWeak}
+use Rattle.nmgc_cycle.specs.declared.collector.Collector.{Collector}
+use Rattle.nmgc_cycle.specs.declared.progress.Progress.{Progress}
+use Rattle.nmgc_cycle.specs.declared.progress.Progress.TheVariants as progress
+use Rattle.nmgc_cycle.specs.declared.progress.Sweeping.{Sweeping}
+use Rattle.nmgc_cycle.specs.Cycles.{IsClosed, IsReadyToClose, HasStarted, Ends, Begins}
+use Rattle.nmgc_cycle.specs.Shown.{words_in}
+
+-- commands are left, and fewer segments are free than the reserve
+abbrev pub is_short_of : Bool → Collector → Bool
+is_short_of left c = left && nat_lt (free_count c.segments.segments) (reserve_count c.segments.layout)
+
+-- a full cycle is due: it was asked for, or the heap is short of segments
+abbrev pub IsFullDue : Bool → Collector → Type 0
+IsFullDue left c = (c.full ≡ true) ⊎ (is_short_of left c ≡ true)
+
+-- a marker may finish, whatever its last work left
+abbrev pub CanCloseNow : List ℕ → Segments → List OldWeak → List FinQueue → Progress → Type 0
+CanCloseNow words segments weaks queues (progress.Marking m) = IsReadyToClose words segments weaks queues m
+CanCloseNow words segments weaks queues _ = Unit {0}
+
+-- a cycle that marks was closed
+abbrev pub ClosesNow : ℕ → Progress → Collector → Collector → Type 0
+ClosesNow stop (progress.Marking m) old new = (w : Sweeping) × (new.progress ≡ progress.Sweeping w) × IsClosed stop (words_in old.words) (words_in new.words) old.segments new.segments old.weaks new.weaks old.mutators.items new.mutators.items m w
+ClosesNow stop p old new = new ≡ old
+
+-- of the collector words, segments, list and queues are then those of the closed cycle
+pub record HasClosedNow (stop : ℕ) (old new : Collector) : Type 0 where
+  pub rest : new ≡ record old { words = new.words; segments = new.segments; progress = new.progress; weaks = new.weaks; mutators = new.mutators }
+  pub has_words : IsSome new.words
+  pub closes : ClosesNow stop old.progress old new
+
+-- a sweeper has notes of all segments that wait
+abbrev pub CanSweepRest : Segments → Progress → Type 0
+CanSweepRest segments (progress.Sweeping w) = AreLeft segments w.sweeper.left
+CanSweepRest segments _ = Unit {0}
+
+-- all that waited were swept
+pub record HasSweptAll (old new : Segments) (w v : Sweeping) : Type 0 where
+  pub rest : v ≡ record w { sweeper = v.sweeper }
+  pub swept : HasSwept old new w.sweeper v.sweeper (length w.sweeper.left)
+  pub none : v.sweeper.left ≡ []
+  pub sound : IsSegments new
+
+-- a cycle that sweeps was swept to its end, and any other is as it was
+abbrev pub SweepsRest : Segments → Segments → Progress → Progress → Type 0
+SweepsRest old new (progress.Sweeping w) after = (v : Sweeping) × (after ≡ progress.Sweeping v) × HasSweptAll old new w v
+SweepsRest old new p after = (after ≡ p) × (new ≡ old)
+
+-- nothing else of the collector changed
+pub record HasSweptRest (old new : Collector) : Type 0 where
+  pub rest : new ≡ record old { segments = new.segments; progress = new.progress }
+  pub sweeps : SweepsRest old.segments new.segments old.progress new.progress
+
+-- the cycle in progress was closed, swept and ended at this stop
+pub record HasFinished (stop : ℕ) (old new : Collector) : Type 0 where
+  pub closed : Collector
+  pub closes : HasClosedNow stop old closed
+  pub swept : Collector
+  pub sweeps : HasSweptRest closed swept
+  pub ends : Ends stop swept.progress swept new
+
+-- current and active segments are filed as filled
+abbrev pub all_filed : Collector → Collector
+all_filed c = record c { segments = record c.segments { segments = map retired c.segments.segments } }
+
+-- a full cycle: the cycle in progress was finished, and then another began and was finished; nothing is asked for any more
+pub record HasDoneFull (stop : ℕ) (old new : Collector) : Type 0 where
+  pub idled : Collector
+  pub first : HasFinished stop old idled
+  pub sound : IsSegments (all_filed idled).segments
+  pub started : Collector
+  pub starts : HasStarted stop (all_filed idled) started
+  pub last : Collector
+  pub again : HasFinished stop started last
+  pub is : new ≡ record last { collect = false; full = false }
+
+-- a full cycle where one is due, else a cycle where one is due
+abbrev pub Proceeds : ℕ → Bool → ℕ → Collector → Collector → Type 0
+Proceeds trigger left stop old new = (IsFullDue left old × HasDoneFull stop old new) ⊎ ((IsFullDue left old → ⊥) × Begins trigger stop old new)

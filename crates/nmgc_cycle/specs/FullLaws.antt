@@ -1,0 +1,56 @@
+-- What the parts of a full cycle lead to in the run, and what each asks for.
+use Rattle.std.specs.Prelude.{ℕ, ◌≡◌, ◌++◌, Bool, List}
+use Rattle.nmgc_alloc.specs.AllocState.{AllocState}
+use Rattle.nmgc_alloc.specs.Segments.{IsSegments}
+use Rattle.nmgc_journal.specs.declared.report.CycleRow.{CycleRow}
+use Rattle.nmgc_run.specs.Closing as run_closing
+use Rattle.nmgc_run.specs.Slice.{has_left}
+use Rattle.nmgc_run.specs.State.{State, plan_of}
+use Rattle.nmgc_run.specs.Stop as run
+use Rattle.nmgc_run.specs.Sweep as run_sweep
+use Rattle.nmgc_script.specs.declared.script.Script.{Script}
+use Rattle.nmgc_cycle.specs.declared.collector.Collector.{Collector}
+use Rattle.nmgc_cycle.specs.declared.progress.Progress.TheVariants as doing
+use Rattle.nmgc_cycle.specs.Full.{CanCloseNow, HasClosedNow, CanSweepRest, HasSweptRest, HasFinished, all_filed, HasDoneFull, Proceeds}
+use Rattle.nmgc_cycle.specs.Roots.{queues_in}
+use Rattle.nmgc_cycle.specs.Shown.{words_in}
+use Rattle.nmgc_cycle.specs.Limits.{IsInLimits}
+use Rattle.nmgc_cycle.specs.Steps.{StandsAt}
+
+-- the collector stands for a state of a script's run at this stop
+abbrev pub StandsAtStop : ℕ → Collector → Type 0
+StandsAtStop stop c = (script : Script) × (s : State) × IsInLimits script × (s.number ≡ stop) × StandsAt script c s
+
+-- a closing that a full cycle forces has no bounds
+abbrev pub FinishingNowLeads : Type 0
+FinishingNowLeads = (script : Script) (old new : Collector) (s : State) → IsInLimits script → StandsAt script old s → HasClosedNow s.number old new → (t : State) × run_closing.ClosesNow s.progress s t × StandsAt script new t
+
+-- what waits is swept
+abbrev pub SweepingRestLeads : Type 0
+SweepingRestLeads = (script : Script) (old new : Collector) (s : State) → IsInLimits script → StandsAt script old s → HasSweptRest old new → (b : AllocState) × run_sweep.SweepsRest s.progress s.allocation b × StandsAt script new (record s { allocation = b })
+
+-- so a cycle in progress is finished, and then none is in progress
+abbrev pub FinishLeads : Type 0
+FinishLeads = (script : Script) (old new : Collector) (s : State) → IsInLimits script → StandsAt script old s → HasFinished s.number old new → (t : State) × (rows : List CycleRow) × run.Finishes s t rows × (new.cycles ≡ old.cycles ++ rows) × StandsAt script new t × (new.progress ≡ doing.Idle)
+
+-- segments that are filed stand for the state with them filed
+abbrev pub FilingLeads : Type 0
+FilingLeads = (script : Script) (c : Collector) (s : State) → IsInLimits script → StandsAt script c s → c.progress ≡ doing.Idle → IsSegments (all_filed c).segments → StandsAt script (all_filed c) (run.all_filed s)
+
+-- the whole full cycle
+abbrev pub FullLeads : Type 0
+FullLeads = (script : Script) (old new : Collector) (s : State) → IsInLimits script → StandsAt script old s → HasDoneFull s.number old new → (t : State) × (rows : List CycleRow) × run.DoesFullCycle s t rows × (new.cycles ≡ old.cycles ++ rows) × StandsAt script new t
+
+-- the stop goes on as the run does
+abbrev pub ProceedingLeads : Type 0
+ProceedingLeads = (script : Script) (old new : Collector) (s : State) (left : Bool) → IsInLimits script → StandsAt script old s → left ≡ has_left s.left → Proceeds script.config.trigger left s.number old new → (t : State) × (rows : List CycleRow) × run.Proceeds (plan_of script) s t rows × (new.cycles ≡ old.cycles ++ rows) × StandsAt script new t
+
+-- What the parts ask for
+
+-- a cycle that marks may be closed, whatever its last work left
+abbrev pub CloseNowReady : Type 0
+CloseNowReady = (script : Script) (c : Collector) (s : State) → StandsAt script c s → CanCloseNow (words_in c.words) c.segments c.weaks.list (queues_in c.mutators.items) c.progress
+
+-- what waits may be swept
+abbrev pub SweepRestReady : Type 0
+SweepRestReady = (script : Script) (c : Collector) (s : State) → StandsAt script c s → CanSweepRest c.segments c.progress

@@ -1,0 +1,83 @@
+-- The list of weak pointers and the finaliser queues at a stop: who leaves the list and who joins it, and what a closing needs of the queues.
+use Rattle.std.specs.Prelude.{ℕ, ◌≡◌, ◌≢◌, ◌⊎◌, ◌↔◌, ◌<◌, ◌≤◌, ◌^◌, ◌==◌, ◌&&◌, not, Bool, List, map, filter, length, count_by, slice_get, slice_index, slice_index_or, Contains, Some, IsSome}
+use Rattle.nmgc_graph.specs.Reach.{IsInOrder}
+use Rattle.nmgc_object.specs.FinQueue.{FinQueue}
+use Rattle.nmgc_object.specs.Words.{header_word}
+use Rattle.nmgc_minor.specs.declared.placing.Move.{Move}
+use Rattle.nmgc_mutator.specs.declared.mutator.Mutator.{Mutator}
+use Rattle.nmgc_beside.specs.Joins.{weak_header}
+use Rattle.nmgc_weak.specs.declared.weaks.Death.{Death}
+use Rattle.nmgc_weak.specs.declared.weaks.OldWeak.{OldWeak}
+use Rattle.nmgc_weak.specs.Queues.{AllJoin}
+use Rattle.nmgc_weak.specs.Weaks.{alive_of, names_of, value_place}
+use Rattle.nmgc_cycle.specs.declared.collector.Collector.{Collector}
+use Rattle.nmgc_cycle.specs.Roots.{no_queue, queues_in}
+use Rattle.nmgc_cycle.specs.Shown.{words_in}
+
+-- whether by its words a weak pointer stands at the place that is alive
+abbrev pub is_alive_at : List ℕ → ℕ → Bool
+is_alive_at words at = (slice_index words at == header_word weak_header) && not (slice_index words (value_place at) == 0)
+
+-- what moved, as one of the list
+abbrev pub listed_move : Move → OldWeak
+listed_move m = record { weak = m.name; at = m.to }
+
+-- of what moved, the weak pointers that are alive
+abbrev pub moved_weaks : List ℕ → List Move → List OldWeak
+moved_weaks words moves = map listed_move (filter (λ (m : Move). is_alive_at words m.to.0) moves)
+
+-- header and value word of what moved are among the heap's
+abbrev pub AreMovedInside : List ℕ → List Move → Type 0
+AreMovedInside words moves = (m : Move) → Contains moves m → value_place m.to.0 < length words
+
+-- what moved may join the list: it has new names, in order
+pub record CanJoin (words : List ℕ) (list : List OldWeak) (moves : List Move) : Type 0 where
+  pub inside : AreMovedInside words moves
+  pub ordered : IsInOrder (map (λ (m : Move). m.name) moves)
+  pub new : (m : Move) (other : OldWeak) → Contains moves m → Contains list other → other.weak ≢ m.name
+  pub few : length moves < 2 ^ 32
+
+-- the list with these, in order
+pub record Joins (old fresh new : List OldWeak) : Type 0 where
+  pub ordered : IsInOrder (names_of new)
+  pub list : (other : OldWeak) → Contains new other ↔ (Contains old other ⊎ Contains fresh other)
+
+-- those that are dead by now have left the list
+pub record HasLeft (old new : Collector) : Type 0 where
+  pub rest : new ≡ record old { words = new.words; weaks = new.weaks }
+  pub words : (words_in new.words ≡ words_in old.words) × IsSome new.words
+  pub list : new.weaks.list ≡ alive_of (words_in old.words) old.weaks.list
+  pub deaths : new.weaks.deaths ≡ old.weaks.deaths
+
+-- those that moved and are alive have joined it
+pub record HasJoined (old new : Collector) : Type 0 where
+  pub rest : new ≡ record old { words = new.words; weaks = new.weaks }
+  pub words : (words_in new.words ≡ words_in old.words) × IsSome new.words
+  pub joins : Joins old.weaks.list (moved_weaks (words_in old.words) old.promotion.moves) new.weaks.list
+  pub deaths : new.weaks.deaths ≡ old.weaks.deaths
+
+-- how many weak pointers of the list a mutator made
+abbrev pub made_by : ℕ → List OldWeak → ℕ
+made_by maker list = count_by (λ (weak : OldWeak). weak.weak.maker == maker) list
+
+-- the same mutator, whose queue has room for so many
+pub record HasQueueRoom (count : ℕ) (old new : Mutator) : Type 0 where
+  pub rest : new ≡ record old { queue = new.queue }
+  pub words : new.queue.words ≡ old.queue.words
+  pub room : count ≤ new.queue.spare
+
+-- each mutator's queue has room for a finaliser of each weak pointer of the list that it made
+pub record HaveQueueRoom (list : List OldWeak) (old new : List Mutator) : Type 0 where
+  pub count : length new ≡ length old
+  pub each : (k : ℕ) (d : Mutator) → k < length old → HasQueueRoom (made_by (slice_index_or old k d).number list) (slice_index_or old k d) (slice_index_or new k d)
+
+-- the same mutators, with these queues
+pub record HaveQueues (queues : List FinQueue) (old new : List Mutator) : Type 0 where
+  pub count : length new ≡ length old
+  pub each : (k : ℕ) (m : Mutator) → slice_get old k ≡ Some m → slice_get new k ≡ Some (record m { queue = slice_index_or queues k no_queue })
+
+-- the finalisers of the deaths have joined the queues
+pub record HaveJoined (deaths : List Death) (old new : List Mutator) : Type 0 where
+  pub queues : List FinQueue
+  pub joined : AllJoin deaths (queues_in old) queues
+  pub have : HaveQueues queues old new

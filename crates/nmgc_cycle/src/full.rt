@@ -1,0 +1,104 @@
+//! A full cycle, done at one stop: the cycle in progress is finished, and then one that sweeps every segment begins and
+//! is finished.
+//!
+//! It is done where it was asked for, or where commands are left and fewer segments are free than the reserve. After it
+//! each segment that isn't free has an object that the cycle kept, so what is still short of segments is full of them.
+//! `specs/Full.antt` says what its parts do, and `specs/FullLaws.antt` what they lead to in the run.
+//!
+//! Easy to get wrong: current and active segments aren't swept unless they are filed as filled before the cycle begins.
+//! And the cycle in progress is closed whatever its marker's last work answered: what is left is scanned by the closing.
+ghost use Rattle.std.specs.Prelude.{◌≡◌, ◌↔◌, ◌+◌, ◌<◌, ◌^◌, OnOk, IsSome, IsTrue};
+ghost use Rattle.nmgc_cycle.specs.Roots.{queues_in};
+ghost use Rattle.nmgc_cycle.specs.Shown.{words_in};
+ghost use Rattle.nmgc_cycle.specs.Full.{is_short_of, IsFullDue, CanCloseNow, HasClosedNow, CanSweepRest, HasSweptRest, HasFinished, HasDoneFull, Proceeds};
+ghost use Rattle.nmgc_cycle.specs.FullLaws.{StandsAtStop};
+
+use crate::Collector;
+use crate::leading::{a_finish_leads, a_full_cycle_leads};
+use crate::progress::Progress;
+use nmgc_graph::NoMemory;
+use std::mem;
+
+impl Collector {
+    // Whether commands are left, and fewer segments are free than the reserve.
+    fn is_short(&self, left: bool) -> bool
+        ensures { result ≡ is_short_of left self.now }
+    {
+        left && self.segments.free_count() < self.segments.layout().reserve()
+    }
+
+    // Whether a full cycle is due: it was asked for, or the heap is short of segments.
+    fn is_full_due(&self, left: bool) -> bool
+        ensures { IsTrue result ↔ IsFullDue left self.now }
+    {
+        self.full || self.is_short(left)
+    }
+
+    // The cycle is closed, if one marks.
+    fn close_now(&mut self, stop: u32)
+        requires words { IsSome self.old.words }
+        requires can { CanCloseNow (words_in self.old.words) self.old.segments self.old.weaks.list (queues_in self.old.mutators.items) self.old.progress }
+        ensures { HasClosedNow stop self.old self.new }
+    {
+        self.progress = match mem::replace(&mut self.progress, Progress::Idle) {
+            Progress::Marking(marking) => Progress::Sweeping(self.closed(marking, stop)),
+            progress => progress,
+        };
+    }
+
+    // All segments that wait are swept.
+    fn sweep_rest(&mut self)
+        requires { CanSweepRest self.old.segments self.old.progress }
+        ensures { HasSweptRest self.old self.new }
+    {
+        if let Progress::Sweeping(sweeping) = &mut self.progress {
+            sweeping.sweeper.finish(&mut self.segments);
+            // What is true of all segments is true of these.
+            let _ = self.segments.layout();
+        }
+    }
+
+    // The cycle in progress is closed, swept and ended at this stop.
+    fn finish_cycle(&mut self, stop: u32) -> Result<(), NoMemory>
+        requires { StandsAtStop stop self.old }
+        ensures { OnOk result (HasFinished stop self.old self.new) }
+    {
+        a_finish_leads();
+        self.close_now(stop);
+        self.sweep_rest();
+        self.end(stop)?;
+        Ok(())
+    }
+
+    // A full cycle is done at this stop, and nothing is asked for any more.
+    fn full_cycle(&mut self, stop: u32) -> Result<(), NoMemory>
+        requires stands { StandsAtStop stop self.old }
+        requires number { self.old.begun + 1 < 2 ^ 32 }
+        ensures { OnOk result (HasDoneFull stop self.old self.new) }
+    {
+        a_full_cycle_leads();
+        self.finish_cycle(stop)?;
+        self.segments.retire_all();
+        self.start(stop)?;
+        self.finish_cycle(stop)?;
+        self.collect = false;
+        self.full = false;
+        Ok(())
+    }
+
+    // A full cycle is done where one is due, and else a cycle begins where one is due.
+    pub(crate) fn proceed(&mut self, left: bool, trigger: u32, stop: u32) -> Result<(), NoMemory>
+        requires stands { StandsAtStop stop self.old }
+        requires number { self.old.begun + 1 < 2 ^ 32 }
+        ensures { OnOk result (Proceeds trigger left stop self.old self.new) }
+    {
+        a_full_cycle_leads();
+        if self.is_full_due(left) {
+            self.full_cycle(stop)?;
+            Ok(())
+        } else {
+            self.begin(trigger, stop)?;
+            Ok(())
+        }
+    }
+}

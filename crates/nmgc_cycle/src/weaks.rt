@@ -1,0 +1,195 @@
+//! Weak pointers over a stop: who leaves the list, who joins it, and how finalisers get into the queues.
+//!
+//! A round leaves the list as it is. At the stop after it, those that were finalised leave, and those that were
+//! promoted alive join. A closing may not run out of memory half way, so the queues have room for a finaliser of each
+//! weak pointer from the snapshot on.
+//!
+//! Easy to get wrong: of a weak pointer that was finalised in the round nobody need speak once the promotion is done, and
+//! then its words mean nothing. So those leave before the promotion, while the world as the round began is still
+//! spoken of; the others join after it, at their new places.
+ghost use Rattle.std.specs.Prelude.{ℕ, ◌≡◌, ◌≢◌, ◌+◌, ◌<◌, ◌≤◌, ◌^◌, [], length, map, vec_len, vec_capacity, Contains, IfOk, OnOk, IsSome, IsTrue};
+ghost use Rattle.nmgc_graph.specs.Reach.{IsInOrder};
+ghost use Rattle.nmgc_object.specs.declared.size.TheConstants.{HEADER_WORDS};
+ghost use Rattle.nmgc_weak.specs.Queues.{HaveRoom};
+ghost use Rattle.nmgc_weak.specs.Weaks.{AreInside, names_of};
+ghost use Rattle.nmgc_weak.specs.declared.weaks.OldWeak.{OldWeak as Old};
+ghost use Rattle.nmgc_cycle.specs.Roots.{queues_in, without_queue};
+ghost use Rattle.nmgc_cycle.specs.Shown.{died, words_in};
+ghost use Rattle.nmgc_cycle.specs.Listed.{is_alive_at, moved_weaks, AreMovedInside, CanJoin, Joins, HasLeft, HasJoined, made_by, HasQueueRoom, HaveQueueRoom, HaveQueues, HaveJoined};
+
+use crate::Collector;
+use nmgc_graph::{Kind, List, Name, NoMemory};
+use nmgc_heap::HeapWords;
+use nmgc_minor::Move;
+use nmgc_mutator::Mutator;
+use nmgc_object::words::encode_header;
+use nmgc_object::{Address, FinQueue, HEADER_WORDS, Header};
+use nmgc_weak::{Death, OldWeak, Weaks, queue_finalisers};
+use std::alloc::Global;
+use std::mem;
+
+// Whether by its words a weak pointer stands at a place that is alive.
+fn is_alive<W: HeapWords>(words: &mut W, at: Address) -> bool
+    requires { at.0 + (HEADER_WORDS + 1) < length (W.words words.old) }
+    ensures words { W.words words.new ≡ W.words words.old }
+    ensures alive { result ≡ is_alive_at (W.words words.old) at.0 }
+{
+    let header = encode_header(Header {
+        kind: Kind::Weak,
+        tag: 0,
+        fields: 3,
+    });
+    let found = words.load(at.0 as usize);
+    let value = words.load(at.0 as usize + HEADER_WORDS as usize + 1);
+    found == header && value != 0
+}
+
+// Of what moved, the weak pointers that are alive, at their new places, in order of names.
+fn gather_moved<W: HeapWords>(
+    alloc: Global,
+    moves: &[Move],
+    words: &mut W,
+) -> Result<Vec<OldWeak>, NoMemory>
+    requires { AreMovedInside (W.words words.old) moves.now }
+    ensures words { OnOk result (W.words words.new ≡ W.words words.old) }
+    ensures gathered { IfOk result (λ fresh. fresh.items ≡ moved_weaks (W.words words.old) moves.now) }
+{
+    let mut fresh = Vec::new(alloc);
+    for moved in moves {
+        if is_alive(words, moved.to) {
+            fresh.push(OldWeak {
+                weak: moved.name,
+                at: moved.to,
+            })?;
+        }
+    }
+    Ok(fresh)
+}
+
+// They join the list.
+fn join_all(weaks: &mut Weaks, fresh: &[OldWeak])
+    requires room { length fresh.now ≤ weaks.old.spare }
+    requires ordered { IsInOrder (names_of fresh.now) }
+    requires new { (one other : Old) → Contains fresh.now one → Contains weaks.old.list other → other.weak ≢ one.weak }
+    ensures joins { Joins weaks.old.list fresh.now weaks.new.list }
+    ensures deaths { weaks.new.deaths ≡ weaks.old.deaths }
+{
+    weaks.add_all(fresh);
+    // What is true of each list is true of this one: it is in order.
+    let _ = weaks.list();
+}
+
+impl Collector {
+    // Those leave the list of weak pointers that are dead by now.
+    pub(crate) fn leave(&mut self)
+        requires words { IsSome self.old.words }
+        requires inside { AreInside (words_in self.old.words) self.old.weaks.list }
+        ensures { HasLeft self.old self.new }
+    {
+        let Some(words) = &mut self.words else {
+            unreachable!()
+        };
+        self.weaks.leave(words);
+    }
+
+    // Those join it that were promoted and are alive.
+    pub(crate) fn join(&mut self) -> Result<(), NoMemory>
+        requires words { IsSome self.old.words }
+        requires can { CanJoin (words_in self.old.words) self.old.weaks.list self.old.promotion.moves }
+        ensures { OnOk result (HasJoined self.old self.new) }
+    {
+        let Some(words) = &mut self.words else {
+            unreachable!()
+        };
+        let fresh = gather_moved(self.alloc, self.promotion.moves(), words)?;
+        self.weaks.reserve(fresh.len() as u32)?;
+        join_all(&mut self.weaks, fresh.as_slice());
+        Ok(())
+    }
+}
+
+// How many weak pointers of a list a mutator made.
+fn count_of(maker: u8, list: &[OldWeak]) -> usize
+    ensures { result ≡ made_by maker list.now }
+{
+    list.iter().filter(|weak| weak.weak.maker == maker).count()
+}
+
+// The queue of a mutator gets room for a finaliser of each weak pointer of the list that it made.
+fn reserve_queue(mutator: &mut Mutator, list: &[OldWeak]) -> Result<(), NoMemory>
+    ensures { OnOk result (HasQueueRoom (made_by mutator.old.number list.now) mutator.old mutator.new) }
+{
+    // No heap has so many that this fails.
+    let Ok(own) = u32::try_from(count_of(mutator.number, list)) else {
+        return Err(NoMemory);
+    };
+    mutator.queue.reserve(own)
+}
+
+/// The queue of each mutator gets room for a finaliser of each weak pointer of the list that it made.
+pub fn reserve_queues(mutators: &mut [Mutator], list: &[OldWeak]) -> Result<(), NoMemory>
+    ensures { OnOk result (HaveQueueRoom list.now mutators.old mutators.new) }
+{
+    for mutator in mutators {
+        reserve_queue(mutator, list)?;
+    }
+    Ok(())
+}
+
+// Takes the queues off the mutators, into a list that has room for them.
+fn take_queues(alloc: Global, mutators: &mut [Mutator], room: Vec<FinQueue>) -> Vec<FinQueue>
+    requires empty { room.items ≡ [] }
+    requires room { length mutators.old ≤ vec_capacity room }
+    ensures taken { result.items ≡ queues_in mutators.old }
+    ensures left { mutators.new ≡ map without_queue mutators.old }
+{
+    let mut queues = room;
+    for mutator in mutators.iter_mut() {
+        queues.push_reserved(mem::replace(&mut mutator.queue, FinQueue::new(alloc)));
+    }
+    queues
+}
+
+// The mutator gets this queue.
+fn give_queue(mutator: &mut Mutator, queue: &mut FinQueue)
+    ensures { mutator.new ≡ record mutator.old { queue = queue.old } }
+{
+    mem::swap(&mut mutator.queue, queue);
+}
+
+// The mutators get these queues.
+fn give_queues(mutators: &mut [Mutator], queues: &mut [FinQueue])
+    requires { length queues.old ≡ length mutators.old }
+    ensures { HaveQueues queues.old mutators.old mutators.new }
+{
+    for (number, mutator) in mutators.iter_mut().enumerate() {
+        give_queue(mutator, &mut queues[number]);
+    }
+}
+
+/// The finalisers of those that died join the queues of their makers. `room` is an empty list with room for the
+/// queues of all mutators, which are in it for the time of the call. Takes no memory.
+pub fn queue_all(alloc: Global, deaths: &[Death], mutators: &mut [Mutator], room: Vec<FinQueue>)
+    requires empty { room.items ≡ [] }
+    requires room { length mutators.old ≤ vec_capacity room }
+    requires queues { HaveRoom deaths.now (queues_in mutators.old) }
+    ensures { HaveJoined deaths.now mutators.old mutators.new }
+{
+    let mut queues = take_queues(alloc, mutators, room);
+    queue_finalisers(deaths, queues.as_mut_slice());
+    give_queues(mutators, queues.as_mut_slice());
+}
+
+/// The names of those that died, in order.
+pub fn dead_names(alloc: Global, deaths: &[Death]) -> Result<List<Name>, NoMemory>
+    ensures { IfOk result (λ names. names ≡ died deaths.now) }
+{
+    Ok(List::from_vec(all_dead(alloc, deaths)?))
+}
+
+// Their names, one after another.
+fn all_dead(alloc: Global, deaths: &[Death]) -> Result<Vec<Name>, NoMemory>
+    ensures { IfOk result (λ names. names.items ≡ died deaths.now) }
+{
+    Ok(deaths.iter().map(|death| death.weak).collect(alloc)?)
+}
