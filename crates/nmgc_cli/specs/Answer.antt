@@ -8,18 +8,26 @@ use Rattle.nmgc_script.specs.declared.fault.ScriptFault.{ScriptFault}
 use Rattle.nmgc_script.specs.declared.fault.ScriptFault.TheVariants as script
 use Rattle.nmgc_journal.specs.declared.report.Report.{Report}
 use Rattle.nmgc_journal.specs.Text.{report_text}
+use Rattle.nmgc_journal.specs.Summary.{summary_text}
 use Rattle.nmgc_cli.specs.Status.{status_of}
+use Rattle.nmgc_cli.specs.declared.answer.Outcome.{Outcome}
 use Rattle.nmgc_cli.specs.declared.answer.Refusal.{Refusal}
 use Rattle.nmgc_cli.specs.declared.answer.Refusal.TheVariants as no
 use Rattle.nmgc_cli.specs.declared.told.Text.{Text}
 use Rattle.nmgc_cli.specs.declared.told.Text.TheVariants.{Fixed, Made}
 use Rattle.nmgc_cli.specs.declared.told.Told.{Told}
 use Rattle.nmgc_cli.specs.declared.status.Status.{Status}
-use Rattle.nmgc_cli.specs.declared.status.Status.TheVariants.{Usage, ReadFault, BadScript, TooLong, NoMemory, Unbuilt}
+use Rattle.nmgc_cli.specs.declared.task.Task.{Task}
+use Rattle.nmgc_cli.specs.declared.task.Task.TheVariants.{Run, Bench}
+use Rattle.nmgc_cli.specs.declared.status.Status.TheVariants.{Usage, ReadFault, BadScript, TooLong, NoMemory}
 
--- a report, or why there is none
+-- the report of a run, or why there is none
+abbrev pub Reported : Type 0
+Reported = Result Report Refusal
+
+-- a task that was done, with its report, or why it wasn't
 abbrev pub Answer : Type 0
-Answer = Result Report Refusal
+Answer = Result Outcome Refusal
 
 -- the refusal of a source that wasn't read to its end
 abbrev pub read_refusal : ReadEnd → Refusal
@@ -38,7 +46,6 @@ refusal_status no.Usage = Usage
 refusal_status no.ReadFault = ReadFault
 refusal_status no.TooLong = TooLong
 refusal_status (no.Bad line c) = BadScript
-refusal_status no.Unbuilt = Unbuilt
 refusal_status no.NoMemory = NoMemory
 
 -- the word of a cause
@@ -63,26 +70,30 @@ IsBad _ = ⊥
 
 -- the text of a refusal
 abbrev pub refusal_text : Refusal → List ℕ
-refusal_text no.Usage = codes "usage: nmgc run\n"
+refusal_text no.Usage = codes "usage: nmgc run | nmgc bench N\n"
 refusal_text no.ReadFault = codes "read fault\n"
 refusal_text no.TooLong = codes "too long\n"
 refusal_text (no.Bad line c) = bad_line line c
-refusal_text no.Unbuilt = codes "unbuilt\n"
 refusal_text no.NoMemory = codes "no memory\n"
 
 -- the status of an answer
 abbrev pub answer_status : Answer → Status
-answer_status (Ok report) = status_of report.end
+answer_status (Ok outcome) = status_of outcome.report.end
 answer_status (Err refusal) = refusal_status refusal
 
 -- the report of an answer
 abbrev pub answer_report : Answer → Option Report
-answer_report (Ok report) = Some report
+answer_report (Ok outcome) = Some outcome.report
 answer_report (Err refusal) = None
+
+-- what a task writes of its report: the whole text for a run, the summary for a bench
+abbrev pub task_text : Task → Report → List ℕ
+task_text Run report = report_text report
+task_text (Bench batches) report = summary_text batches report
 
 -- the text of an answer
 abbrev pub answer_text : Answer → List ℕ
-answer_text (Ok report) = report_text report
+answer_text (Ok outcome) = task_text outcome.task outcome.report
 answer_text (Err refusal) = refusal_text refusal
 
 -- the bytes of a text

@@ -1,5 +1,6 @@
 pub mod Answer
-pub mod Built
+pub mod Bench
+pub mod Crowded
 pub mod Program
 pub mod Status
 pub mod Task

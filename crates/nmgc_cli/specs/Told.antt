@@ -8,19 +8,19 @@ use Rattle.nmgc_script.specs.Text.{kept_lines, end_of}
 use Rattle.nmgc_script.specs.declared.script.Script.{Script}
 use Rattle.nmgc_script.specs.declared.fault.Cause.{Cause}
 use Rattle.nmgc_journal.specs.declared.report.Report.{Report}
-use Rattle.nmgc_cli.specs.Answer.{Answer, answer_status, answer_report, answer_text}
-use Rattle.nmgc_cycle.specs.Stage.{IsCutShort}
-use Rattle.nmgc_cycle.specs.Stage as run
-use Rattle.nmgc_run.specs.State.{plan_of}
+use Rattle.nmgc_cli.specs.Answer.{Answer, Reported, answer_status, answer_report, answer_text}
+use Rattle.nmgc_cli.specs.Bench.{IsBenchOf, AnswersBench}
 use Rattle.nmgc_journal.specs.Text.{report_text}
-use Rattle.nmgc_cli.specs.Built.{IsBuilt}
+use Rattle.nmgc_journal.specs.Summary.{summary_text}
+use Rattle.nmgc_script.specs.Bench.{bench_script}
+use Rattle.nmgc_cli.specs.Crowded.{IsRunOf, IsHeapFull}
 use Rattle.nmgc_cli.specs.Status.{status_of}
 use Rattle.nmgc_cli.specs.Task.{Asks, IsWrong}
 use Rattle.nmgc_cli.specs.declared.answer.Refusal.TheVariants as no
 use Rattle.nmgc_cli.specs.declared.status.Status.{Status}
-use Rattle.nmgc_cli.specs.declared.status.Status.TheVariants.{Done, WriteFault, HeapFull, NoMemory, Unbuilt}
+use Rattle.nmgc_cli.specs.declared.status.Status.TheVariants.{Done, WriteFault, HeapFull, NoMemory}
 use Rattle.nmgc_cli.specs.declared.task.Task.{Task}
-use Rattle.nmgc_cli.specs.declared.task.Task.TheVariants.{Run}
+use Rattle.nmgc_cli.specs.declared.task.Task.TheVariants.{Run, Bench}
 use Rattle.nmgc_limits.specs.Limits.{most_script_bytes}
 
 -- what a source had left was read to its end, and is no more than a script may have
@@ -40,29 +40,30 @@ pub record SpellsNone (bytes : List ℕ) (line : ℕ) (c : Cause) : Type 0 where
   pub fault : Tells (end_of bytes) (kept_lines bytes) line c
 
 -- the answer to a script's bytes
-abbrev pub AnswersBytes : List ℕ → Answer → Type 0
-AnswersBytes bytes (Ok report) = (script : Script) × SpellsOnly bytes script × IsBuilt script × run.IsTold script report
+abbrev pub AnswersBytes : List ℕ → Reported → Type 0
+AnswersBytes bytes (Ok report) = (script : Script) × SpellsOnly bytes script × IsRunOf script report
 AnswersBytes bytes (Err (no.Bad line c)) = SpellsNone bytes line c
-AnswersBytes bytes (Err no.Unbuilt) = (script : Script) × SpellsOnly bytes script × (IsBuilt script → ⊥)
 AnswersBytes bytes (Err no.NoMemory) = Unit {0}
 AnswersBytes bytes (Err _) = ⊥
 
 -- the answer to a script that is read, by what a source had left and what it has now, and whether its count of faults rose
-abbrev pub AnswersScript : Option (List ℕ) → Option (List ℕ) → Type 0 → Answer → Type 0
+abbrev pub AnswersScript : Option (List ℕ) → Option (List ℕ) → Type 0 → Reported → Type 0
 AnswersScript old new rose (Err no.Usage) = ⊥
 AnswersScript old new rose (Err no.ReadFault) = TakesUpTo old new most_script_bytes × rose
 AnswersScript old new rose (Err no.TooLong) = Takes old new (most_script_bytes + 1)
 AnswersScript old new rose (Err no.NoMemory) = TakesUpTo old new most_script_bytes
 AnswersScript old new rose answer = (bytes : List ℕ) × IsRead old new bytes × AnswersBytes bytes answer
 
--- the answer to a task
-abbrev pub Answers : Task → Option (List ℕ) → Option (List ℕ) → Type 0 → Answer → Type 0
+-- the answer to a task: a bench reads nothing
+abbrev pub Answers : Task → Option (List ℕ) → Option (List ℕ) → Type 0 → Reported → Type 0
 Answers Run old new rose answer = AnswersScript old new rose answer
+Answers (Bench batches) old new rose answer = Keeps old new × AnswersBench batches answer
 
 -- the answer to these words
 abbrev pub IsTold : List (List ℕ) → Option (List ℕ) → Option (List ℕ) → Type 0 → Answer → Type 0
 IsTold words old new rose (Err no.Usage) = IsWrong words × Keeps old new
-IsTold words old new rose answer = (task : Task) × Asks words task × Answers task old new rose answer
+IsTold words old new rose (Ok outcome) = Asks words outcome.task × Answers outcome.task old new rose (Ok outcome.report)
+IsTold words old new rose (Err refusal) = (task : Task) × Asks words task × Answers task old new rose (Err refusal)
 
 -- the text was written whole, or the sink failed and has a front of it
 abbrev pub IsWritten : Option (List ℕ) → Option (List ℕ) → Type 0 → Status → List ℕ → Status → Type 0
@@ -73,27 +74,46 @@ pub record Ends (old new : Option (List ℕ)) (rose : Type 0) (answer : Answer) 
   pub report_of : report ≡ answer_report answer
   pub written : IsWritten old new rose (answer_status answer) (answer_text answer) status
 
--- what a report is: the words asked for a run, what was left was read to its end and spells one script, which is built; the report tells a run of it; and its text was written, with the status of its end
-pub record IsReport (words : List (List ℕ)) (left left' taken taken' : Option (List ℕ)) (rose : Type 0) (status : Status) (report : Report) : Type 0 where
+-- a report of `run`: what was left was read to its end and spells one script; the report is one of a run of it, and so lawful; and its text was written, with the status of its end
+pub record IsReportOfRun (words : List (List ℕ)) (left left' taken taken' : Option (List ℕ)) (rose : Type 0) (status : Status) (report : Report) : Type 0 where
   pub asked : Asks words Run
   pub bytes : List ℕ
   pub read : IsRead left left' bytes
   pub script : Script
   pub spells : SpellsOnly bytes script
-  pub built : IsBuilt script
-  pub tells : run.IsTold script report
+  pub run : IsRunOf script report
   pub written : IsWritten taken taken' rose (status_of report.end) (report_text report) status
 
--- the report tells a run that ended at a stop where commands were left, and fewer segments were free than the reserve
-abbrev pub IsShortOf : Script → Option Report → Type 0
-IsShortOf script None = ⊥
-IsShortOf script (Some report) = IsCutShort (plan_of script) report
+-- a report of `bench N`: nothing was read; the report is one of a run of the bench's script, and so lawful; and its summary was written, with the status of its end
+pub record IsReportOfBench (words : List (List ℕ)) (left left' taken taken' : Option (List ℕ)) (rose : Type 0) (status : Status) (report : Report) : Type 0 where
+  pub batches : ℕ
+  pub asked : Asks words (Bench batches)
+  pub unread : Keeps left left'
+  pub run : IsRunOf (bench_script batches) report
+  pub written : IsWritten taken taken' rose (status_of report.end) (summary_text batches report) status
 
--- a script that is built is run to its end, or to a stop that is short of segments; one that isn't is told so; or there was no memory
+-- what a report is
+abbrev pub IsReport : List (List ℕ) → Option (List ℕ) → Option (List ℕ) → Option (List ℕ) → Option (List ℕ) → Type 0 → Status → Report → Type 0
+IsReport words left left' taken taken' rose status report = IsReportOfRun words left left' taken taken' rose status report ⊎ IsReportOfBench words left left' taken taken' rose status report
+
+-- the report tells a run that ended as heap full: so its last stop is full, and some stop is crowded
+abbrev pub IsFullOf : Script → Option Report → Type 0
+IsFullOf script None = ⊥
+IsFullOf script (Some report) = IsRunOf script report × IsHeapFull report.end
+
+-- a script is run to its end, or until even a full cycle leaves too few segments free; or there was no memory
 abbrev pub IsRunThrough : Script → Status → Option Report → Type 0
-IsRunThrough script status report = (status ≡ NoMemory) ⊎ (IsBuilt script × ((status ≡ Done) ⊎ ((status ≡ HeapFull) × IsShortOf script report))) ⊎ ((status ≡ Unbuilt) × (IsBuilt script → ⊥))
+IsRunThrough script status report = (status ≡ NoMemory) ⊎ (status ≡ Done) ⊎ ((status ≡ HeapFull) × IsFullOf script report)
 
 -- a script within the limit is run through, where neither the source nor the sink fails
 abbrev pub IsComplete : List (List ℕ) → Option (List ℕ) → Type 0 → Type 0 → Status → Option Report → Type 0
 IsComplete words left read_fault write_fault status report = (bytes : List ℕ) (script : Script) → Asks words Run → left ≡ Some bytes → length bytes ≤ most_script_bytes → Spells bytes script
     → (read_fault → ⊥) → (write_fault → ⊥) → IsRunThrough script status report
+
+-- a bench is run through, where the sink doesn't fail
+abbrev pub IsBenchComplete : List (List ℕ) → Type 0 → Status → Option Report → Type 0
+IsBenchComplete words write_fault status report = (batches : ℕ) → Asks words (Bench batches) → (write_fault → ⊥) → IsRunThrough (bench_script batches) status report
+
+-- the words ask for nothing that is read
+abbrev pub ReadsNothing : List (List ℕ) → Type 0
+ReadsNothing words = Asks words Run → ⊥

@@ -9,10 +9,18 @@ ghost use Rattle.std.specs.Prelude.{◌≡◌};
 ghost use Rattle.nmgc_cli.specs.Answer.{refusal_status, read_refusal, script_refusal};
 ghost use Rattle.nmgc_cli.specs.declared.answer.Refusal.TheVariants.{NoMemory as no_memory};
 
-use crate::Status;
+use crate::{Status, Task};
 use nmgc_graph::NoMemory;
 use nmgc_io::ReadEnd;
+use nmgc_journal::Report;
 use nmgc_script::{Cause, ScriptFault};
+
+/// A task that was done, and the report of its run.
+#[derive(Drop)]
+pub struct Outcome {
+    pub task: Task,
+    pub report: Report,
+}
 
 /// Why there is no report.
 #[derive(Clone, Copy, Debug, PartialEq, Eq)]
@@ -25,8 +33,6 @@ pub enum Refusal {
     TooLong,
     /// The bytes spell no script: the first bad line, from 1, and its cause.
     Bad { line: u32, cause: Cause },
-    /// The script has something that isn't built yet.
-    Unbuilt,
     /// There was no memory.
     NoMemory,
 }
@@ -41,7 +47,6 @@ impl Refusal {
             Refusal::ReadFault => Status::ReadFault,
             Refusal::TooLong => Status::TooLong,
             Refusal::Bad { .. } => Status::BadScript,
-            Refusal::Unbuilt => Status::Unbuilt,
             Refusal::NoMemory => Status::NoMemory,
         }
     }

@@ -7,12 +7,12 @@
 //!
 //! - `words`, `task`: the words of the command line, and what they ask for.
 //! - `top`: the top call. `answer`, `told`, `message`: what is answered, and what is told of it.
-//! - `built`: which scripts are built so far.
+//! - `bench`: the bench, which reads no script.
 //! - `status`, `entry`: statuses with their numbers, and the whole program but for its streams.
 #![tactic(auto)]
 
 mod answer;
-mod built;
+mod bench;
 pub mod entry;
 mod message;
 pub mod status;

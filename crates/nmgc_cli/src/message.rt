@@ -14,11 +14,10 @@ pub fn message(refusal: Refusal) -> &'static [u8]
     ensures { result.now ≡ refusal_text refusal }
 {
     match refusal {
-        Refusal::Usage => b"usage: nmgc run\n",
+        Refusal::Usage => b"usage: nmgc run | nmgc bench N\n",
         Refusal::ReadFault => b"read fault\n",
         Refusal::TooLong => b"too long\n",
         Refusal::Bad { .. } => unreachable!(),
-        Refusal::Unbuilt => b"unbuilt\n",
         Refusal::NoMemory => b"no memory\n",
     }
 }

@@ -7,7 +7,7 @@ use nmgc_journal::{End, Report};
 /// How the program ended. Each has its own text, and a number with which the process ends.
 #[derive(Clone, Copy, Debug, PartialEq, Eq)]
 pub enum Status {
-    /// The script was run to its end; the report's text was written. Number 0.
+    /// The script was run to its end; the report's text or the summary was written. Number 0.
     Done,
     /// The words ask for no task; nothing was read. Number 2.
     Usage,
@@ -19,13 +19,11 @@ pub enum Status {
     BadScript,
     /// There are more bytes than a script may have. Number 5.
     TooLong,
-    /// The run ended at a stop where commands were left, and fewer segments were free than the reserve; the
-    /// report's text was written. Number 6.
+    /// The run ended at a stop where commands were left, and where even a full cycle left fewer segments free
+    /// than the reserve; the report's text was written. Number 6.
     HeapFull,
     /// There was no memory. Number 7.
     NoMemory,
-    /// The script has something that isn't built yet. Number 8.
-    Unbuilt,
 }
 
 impl Status {
@@ -41,7 +39,6 @@ impl Status {
             Status::BadScript | Status::TooLong => 5,
             Status::HeapFull => 6,
             Status::NoMemory => 7,
-            Status::Unbuilt => 8,
         }
     }
 

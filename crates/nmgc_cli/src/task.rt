@@ -5,14 +5,19 @@
 ghost use Rattle.std.specs.Prelude.{◌≡◌, ◌↔◌, codes, [], ◌∷◌, map, string_bytes, IsTrue, IfSome, IfNone};
 ghost use Rattle.nmgc_cli.specs.Task.{Asks, IsWrong};
 
+use crate::bench::batches_of;
+
 /// What the program is asked to do.
 #[derive(Clone, Copy, Debug, PartialEq, Eq)]
 pub enum Task {
     /// `run`: reads a script from the source to its end, runs it, and writes the report's text.
     Run,
+    /// `bench N`: runs the bench's script with so many batches, and writes the summary of its report.
+    Bench { batches: u32 },
 }
 
 /// The task that the words ask for. `None` comes exactly where they ask for none.
+#[tactic(auto, using(crate::proofs::Asking::none_asked))]
 pub fn task_of(words: &[String]) -> Option<Task>
     ensures asked { IfSome result (λ task. Asks (map string_bytes words.now) task) }
     ensures wrong { IfNone result (IsWrong (map string_bytes words.now)) }
@@ -20,7 +25,8 @@ pub fn task_of(words: &[String]) -> Option<Task>
     if is_run(words) {
         return Some(Task::Run);
     }
-    None
+    let batches = batches_of(words)?;
+    Some(Task::Bench { batches })
 }
 
 // Whether the words are `run` alone.

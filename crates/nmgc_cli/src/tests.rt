@@ -31,6 +31,8 @@ stop 1 idle free 31 filled 0 sweep 0 promoted 1
 end done
 ";
 
+const USAGE: &str = "usage: nmgc run | nmgc bench N\n";
+
 const EMPTY_REPORT: &str = "report 1
 stop 0 idle free 32 filled 0 sweep 0 promoted 0
 end done
@@ -124,8 +126,68 @@ stop 2 idle free 31 filled 0 sweep 0 promoted 1
 end done
 ",
     ),
-    ("full\n", Status::Unbuilt, "unbuilt\n"),
-    ("weak r0 g r1 r2\n", Status::Unbuilt, "unbuilt\n"),
+    // A chain of weak pointers: each one's value is the key of the one before.
+    (
+        "num r1 5\nnum r2 9\ncon r4 0 r1\ncon r5 0 r1\ncon r6 0 r1\ncon r7 0 r1\nweak r8 r6 r7 r1\nweak r8 r5 r6 r10\nweak r8 r4 r5 r2\nnil r5\nnil r6\nnil r7\nnil r8\ncollect\nnil r4\ncollect\nyield\nnextfin r9\nnextfin r9\nnextfin r9\n",
+        Status::Done,
+        "report 1
+stop 0 idle free 32 filled 0 sweep 0 promoted 0
+round 1
+0 ok
+0 ok
+0 0.0
+0 0.1
+0 0.2
+0 0.3
+0 0.4
+0 0.5
+0 0.6
+0 ok
+0 ok
+0 ok
+0 ok
+0 ok
+stop 1 marking free 30 filled 0 sweep 0 promoted 7
+round 2
+0 ok
+0 ok
+stop 2 marking free 30 filled 0 sweep 0 promoted 0
+cycle 1 from 1 closed 2 swept 0 had 0 freed 0 kept 7 dead 0
+round 3
+0 ok
+stop 3 idle free 30 filled 0 sweep 0 promoted 0
+cycle 2 from 2 closed 3 swept 0 had 0 freed 0 kept 0 dead 3
+dead 0.4
+dead 0.5
+dead 0.6
+round 4
+0 5
+0 9
+0 none
+stop 4 idle free 30 filled 0 sweep 0 promoted 0
+end done
+",
+    ),
+    // A full cycle sweeps the segment that isn't filled too.
+    (
+        "con r0 0 r1 r1\ncon r2 0 r1 r1\nyield\nnil r0\nfull\n",
+        Status::Done,
+        "report 1
+stop 0 idle free 32 filled 0 sweep 0 promoted 0
+round 1
+0 0.0
+0 0.1
+0 ok
+stop 1 idle free 31 filled 0 sweep 0 promoted 2
+round 2
+0 ok
+0 ok
+stop 2 idle free 31 filled 0 sweep 0 promoted 0
+cycle 1 from 2 closed 2 swept 1 had 2 freed 1 kept 1 dead 0
+freed 0.0
+end done
+",
+    ),
     ("sho", Status::BadScript, "bad line 4 command\n"),
     ("show\n", Status::BadScript, "bad line 4 arity\n"),
     ("show r16\n", Status::BadScript, "bad line 4 operand\n"),
@@ -281,6 +343,7 @@ const HEAPS: [(&str, Status, &str); 3] = [
         Status::HeapFull,
         "report 1
 stop 0 idle free 4 filled 0 sweep 0 promoted 0
+cycle 1 from 0 closed 0 swept 0 had 0 freed 0 kept 0 dead 0
 end heapfull free 4 reserve 5
 ",
     ),
@@ -295,6 +358,7 @@ round 1
 0 0.2
 0 0.3
 stop 1 idle free 4 filled 1 sweep 0 promoted 4
+cycle 1 from 1 closed 1 swept 1 had 4 freed 0 kept 4 dead 0
 end heapfull free 4 reserve 5
 ",
     ),
@@ -322,7 +386,7 @@ end done
 ];
 
 // Whole scripts, and what is written.
-const SCRIPTS: [(&str, Status, &str); 15] = [
+const SCRIPTS: [(&str, Status, &str); 16] = [
     ("", Status::BadScript, "bad line 1 version\n"),
     (
         "nmgc 1\nheap 32 64 64 100 1000 0\n",
@@ -428,11 +492,71 @@ end done
     ),
     (TWO_THREADS, Status::Done, TWO_THREADS_REPORT),
     (EIGHT_THREADS, Status::Done, EIGHT_THREADS_REPORT),
-    // What isn't built stands in the second section.
+    // A weak pointer's value is read while the cycle marks, and so it is kept; the weak pointer dies.
     (
-        "nmgc 1\nheap 32 64 64 100 1000 0\nthread 0\nthread 1\nfull\n",
-        Status::Unbuilt,
-        "unbuilt\n",
+        "nmgc 1\nheap 32 64 128 100 1000 0\nthread 0\nnum r1 5\ncon r4 0 r1\ncon r5 0 r1\nweak r0 r4 r5 r6\nnil r4\nnil r5\ncon r3 0 r3 r1\ncon r3 0 r3 r1\ncon r3 0 r3 r1\ncon r3 0 r3 r1\ncon r3 0 r3 r1\ncon r3 0 r3 r1\ncon r3 0 r3 r1\ncon r3 0 r3 r1\ncon r3 0 r3 r1\ncon r3 0 r3 r1\ncon r3 0 r3 r1\ncon r3 0 r3 r1\ncon r3 0 r3 r1\ncon r3 0 r3 r1\ncollect\nderef r7 r0\nnil r7\nyield\nderef r7 r0\n",
+        Status::Done,
+        "report 1
+stop 0 idle free 32 filled 0 sweep 0 promoted 0
+round 1
+0 ok
+0 0.0
+0 0.1
+0 0.2
+0 ok
+0 ok
+0 0.3
+0 0.4
+0 0.5
+0 0.6
+0 0.7
+0 0.8
+0 0.9
+0 0.10
+0 0.11
+0 0.12
+0 0.13
+0 0.14
+0 0.15
+0 0.16
+0 ok
+stop 1 marking free 30 filled 0 sweep 1 promoted 17
+round 2
+0 0.1
+0 ok
+0 ok
+stop 2 sweeping free 30 filled 0 sweep 1 promoted 0
+round 3
+0 dead
+stop 3 idle free 30 filled 0 sweep 0 promoted 0
+cycle 1 from 1 closed 2 swept 1 had 16 freed 1 kept 16 dead 1
+dead 0.2
+freed 0.0
+end done
+",
+    ),
+    // The heap runs full while a cycle marks.
+    (
+        "nmgc 1\nheap 6 16 16 100 1 0\nthread 0\ncon r0 0 r0 r1\ncon r0 0 r0 r1\ncon r0 0 r0 r1\ncollect\ncon r0 0 r0 r1\ncon r0 0 r0 r1\ncon r0 0 r0 r1\ncon r0 0 r0 r1\ncon r0 0 r0 r1\nshow r0\n",
+        Status::HeapFull,
+        "report 1
+stop 0 idle free 6 filled 0 sweep 0 promoted 0
+round 1
+0 0.0
+0 0.1
+0 0.2
+0 ok
+stop 1 marking free 5 filled 0 sweep 0 promoted 3
+round 2
+0 0.3
+0 0.4
+0 0.5
+0 0.6
+stop 2 idle free 4 filled 1 sweep 0 promoted 4
+cycle 1 from 1 closed 2 swept 0 had 0 freed 0 kept 3 dead 0
+cycle 2 from 2 closed 2 swept 2 had 7 freed 0 kept 7 dead 0
+end heapfull free 4 reserve 5
+",
     ),
 ];
 
@@ -585,23 +709,118 @@ fn a_cut_report_is_handed_on(rt: HostRuntime) -> Result<(), Fail> {
     Ok(())
 }
 
+// Words that ask for no task.
+const WRONG: [&[&str]; 13] = [
+    &[],
+    &[""],
+    &["run", "run"],
+    &["Run"],
+    &["bench"],
+    &["bench", ""],
+    &["bench", "0"],
+    &["bench", "01"],
+    &["bench", "101"],
+    &["bench", "+1"],
+    &["bench", "18446744073709551617"],
+    &["bench", "1", "1"],
+    &["1", "bench"],
+];
+
+// Words of a command line.
+fn all_words(alloc: Global, words: &[&str]) -> Result<Vec<String>, AllocError> {
+    let mut all = Vec::new(alloc);
+    for word in words {
+        all.push(String::from_str(alloc, word)?)?;
+    }
+    Ok(all)
+}
+
 #[test]
 fn other_words_are_refused(rt: HostRuntime) -> Result<(), Fail> {
     let alloc = rt.alloc();
-    let mut twice = one_word(alloc, "run")?;
-    twice.push(String::from_str(alloc, "run")?)?;
-    for words in [
-        &Vec::new(alloc),
-        &twice,
-        &one_word(alloc, "bench")?,
-        &one_word(alloc, "")?,
-    ] {
+    for words in &WRONG {
         let mut source = MemorySource::new(Vec::new(alloc), 1, Vec::new(alloc));
         let mut sink = MemorySink::new(alloc, 100, Vec::new(alloc), 100)?;
-        let ended = nmgc(alloc, &rt, words, &mut source, &mut sink);
+        let words = all_words(alloc, words)?;
+        let ended = nmgc(alloc, &rt, &words, &mut source, &mut sink);
         assert_eq!(rt; ended.status, Status::Usage);
-        assert_eq!(rt; sink.bytes(), b"usage: nmgc run\n".as_slice());
+        assert_eq!(rt; sink.bytes(), USAGE.as_bytes());
     }
+    Ok(())
+}
+
+// Benches, with their summaries.
+const BENCHES: [(&str, &str); 3] = [
+    ("1", ONE_BATCH),
+    (
+        "2",
+        "bench 2
+commands 8208
+rounds 4
+cycles 1
+made 8192
+promoted 8192
+freed 4096
+kept 4096
+end done
+",
+    ),
+    (
+        "10",
+        "bench 10
+commands 41040
+rounds 12
+cycles 5
+made 40960
+promoted 40960
+freed 36864
+kept 4096
+end done
+",
+    ),
+];
+
+const ONE_BATCH: &str = "bench 1
+commands 4104
+rounds 1
+cycles 0
+made 4096
+promoted 4096
+freed 0
+kept 0
+end done
+";
+
+// Runs a bench, with a source that fails at each read.
+fn run_bench<R: Threads + Sync>(rt: &R, alloc: Global, batches: &str) -> Result<Run, Fail> {
+    let mut source = MemorySource::new(Vec::new(alloc), 1, listed(alloc, 1)?);
+    let mut sink = MemorySink::new(alloc, 100, Vec::new(alloc), 1000)?;
+    let words = all_words(alloc, &["bench", batches])?;
+    let ended = nmgc(alloc, rt, &words, &mut source, &mut sink);
+    Ok(Run { ended, sink })
+}
+
+#[test]
+fn benches_are_summed_up(rt: HostRuntime) -> Result<(), Fail> {
+    for (batches, summary) in &BENCHES {
+        let run = run_bench(&rt, rt.alloc(), batches)?;
+        assert_eq!(rt; run.ended.status, Status::Done, "{batches}");
+        assert_eq!(rt; run.sink.bytes(), summary.as_bytes(), "{batches}");
+        assert!(rt; run.ended.report.is_some());
+    }
+    Ok(())
+}
+
+#[test]
+fn the_longest_bench_is_run(rt: HostRuntime) -> Result<(), Fail> {
+    let run = run_bench(&rt, rt.alloc(), "100")?;
+    assert_eq!(rt; run.ended.status, Status::Done);
+    assert!(rt;
+        run.sink
+            .bytes()
+            .starts_with(b"bench 100\ncommands 410400\n")
+    );
+    assert!(rt; run.sink.bytes().ends_with(b"kept 4096\nend done\n"));
     Ok(())
 }
 
@@ -680,15 +899,17 @@ fn all_words_are_passed_on(rt: HostRuntime) -> Result<(), Fail> {
 }
 
 // Command lines, how much of the script with one object is there, and what the program ends with.
-const LINES: [(&[&[u8]], usize, u8, &str); 8] = [
+const LINES: [(&[&[u8]], usize, u8, &str); 10] = [
     (&[b"nmgc", b"run"], 200, 0, ONE_OBJECT_REPORT),
-    (&[b"nmgc"], 200, 2, "usage: nmgc run\n"),
-    (&[], 200, 2, "usage: nmgc run\n"),
-    (&[b"run"], 200, 2, "usage: nmgc run\n"),
-    (&[b"nmgc", b"run", b"run"], 200, 2, "usage: nmgc run\n"),
-    (&[b"nmgc", b"run", b"\xff"], 200, 2, "usage: nmgc run\n"),
+    (&[b"nmgc"], 200, 2, USAGE),
+    (&[], 200, 2, USAGE),
+    (&[b"run"], 200, 2, USAGE),
+    (&[b"nmgc", b"run", b"run"], 200, 2, USAGE),
+    (&[b"nmgc", b"run", b"\xff"], 200, 2, USAGE),
     (&[b"nmgc", b"run"], 6, 5, "bad line 2 heap\n"),
     (&[b"nmgc", b"run"], 40, 0, EMPTY_REPORT),
+    (&[b"nmgc", b"bench", b"1"], 200, 0, ONE_BATCH),
+    (&[b"nmgc", b"bench", b"0"], 200, 2, USAGE),
 ];
 
 #[test]
@@ -707,7 +928,7 @@ fn the_program_ends_with_its_number(rt: HostRuntime) -> Result<(), Fail> {
 
 #[test]
 fn statuses_have_numbers(rt: HostRuntime) {
-    let rows: [(Status, u8); 9] = [
+    let rows: [(Status, u8); 8] = [
         (Status::Done, 0),
         (Status::Usage, 2),
         (Status::ReadFault, 3),
@@ -716,7 +937,6 @@ fn statuses_have_numbers(rt: HostRuntime) {
         (Status::TooLong, 5),
         (Status::HeapFull, 6),
         (Status::NoMemory, 7),
-        (Status::Unbuilt, 8),
     ];
     for (status, number) in rows {
         assert_eq!(rt; status.number(), number);

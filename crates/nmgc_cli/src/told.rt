@@ -1,14 +1,17 @@
 //! What is told of an answer: its status, its report and its text.
 //!
-//! The text of a report and that of a bad line take memory. Where there is none, the answer is
+//! The text of a report, its summary and the text of a bad line take memory. Where there is none, the answer is
 //! `NoMemory` in place of the one that was found.
-ghost use Rattle.std.specs.Prelude.{◌≡◌, ◌⊎◌, Ok, Err};
-ghost use Rattle.nmgc_cli.specs.Answer.{IsBad, IsToldAs, text_bytes};
+ghost use Rattle.std.specs.Prelude.{◌≡◌, ◌⊎◌, IfOk, Ok, Err};
+ghost use Rattle.nmgc_cli.specs.Answer.{IsBad, IsToldAs, task_text, text_bytes};
+ghost use Rattle.nmgc_cli.specs.Bench.{CanBeWritten};
 
-use crate::Status;
-use crate::answer::Refusal;
+use crate::answer::{Outcome, Refusal};
 use crate::message::{bad_line, message};
+use crate::{Status, Task};
+use nmgc_graph::NoMemory;
 use nmgc_journal::Report;
+use nmgc_journal::summary::summary;
 use nmgc_journal::text::text;
 use nmgc_script::Cause;
 use std::alloc::Global;
@@ -40,17 +43,30 @@ impl Text {
     }
 }
 
-/// What is told of a report.
-pub fn told_report(alloc: Global, report: Report) -> Told
-    ensures { IsToldAs (Ok report) result ⊎ IsToldAs (Err Refusal.NoMemory) result }
+/// What is told of a task that was done.
+pub fn told_outcome(alloc: Global, outcome: Outcome) -> Told
+    requires { CanBeWritten outcome.task outcome.report }
+    ensures { IsToldAs (Ok outcome) result ⊎ IsToldAs (Err Refusal.NoMemory) result }
 {
-    match text(alloc, &report) {
+    let Outcome { task, report } = outcome;
+    match task_text(alloc, task, &report) {
         Ok(text) => Told {
             status: Status::of_end(report.end),
             report: Some(report),
             text: Text::Made(text),
         },
         Err(_) => told_fixed(Refusal::NoMemory),
+    }
+}
+
+// What a task writes of its report.
+fn task_text(alloc: Global, task: Task, report: &Report) -> Result<Vec<u8>, NoMemory>
+    requires { CanBeWritten task report.now }
+    ensures { IfOk result (λ text. text.items ≡ task_text task report.now) }
+{
+    match task {
+        Task::Run => text(alloc, report),
+        Task::Bench { batches } => summary(alloc, batches, report),
     }
 }
 

@@ -3,33 +3,40 @@
 //! The work goes one way: words, task, bytes, script, report, text, sink. Each part can refuse, in that
 //! order, and the first refusal is told. What is to be told is settled before the sink is touched, so
 //! a sink that fails replaces the status and nothing else.
-ghost use Rattle.std.specs.Prelude.{◌≡◌, ◌≤◌, ◌⊎◌, map, string_bytes, length, IfSome};
+ghost use Rattle.std.specs.Prelude.{◌≡◌, ◌≤◌, ◌⊎◌, map, string_bytes, length, IfOk, IfSome};
 ghost use Rattle.nmgc_io.specs.Causes.{Rose};
+ghost use Rattle.nmgc_cycle.specs.Limits.{IsInLimits};
 ghost use Rattle.nmgc_cli.specs.Answer.{Answer, IsToldAs};
-ghost use Rattle.nmgc_cli.specs.Task.{IsWrong};
+ghost use Rattle.nmgc_cli.specs.Crowded.{IsRunOf};
+ghost use Rattle.nmgc_cli.specs.Task.{CanBeDone};
 ghost use Rattle.nmgc_limits.specs.Limits.{most_script_bytes};
-ghost use Rattle.nmgc_cli.specs.Told.{IsTold, AnswersScript, AnswersBytes, IsWritten, Ends, IsReport, IsComplete};
+ghost use Rattle.nmgc_cli.specs.Told.{IsTold, Answers, AnswersScript, AnswersBytes, IsWritten, Ends, IsReport, IsComplete, IsBenchComplete, ReadsNothing};
 
-use crate::answer::Refusal;
-use crate::built::is_built;
+use crate::answer::{Outcome, Refusal};
+use crate::bench::bench;
 use crate::task::{Task, task_of};
-use crate::told::{Told, told_refusal, told_report};
+use crate::told::{Told, told_outcome, told_refusal};
 use crate::{Ended, Status};
 use nmgc_cycle::Collector;
+use nmgc_graph::NoMemory;
 use nmgc_io::{Sink, Source, read_all, write_all};
 use nmgc_journal::Report;
 use nmgc_limits::MAX_SCRIPT_BYTES;
 use nmgc_round::OpenGate;
-use nmgc_script::parse;
+use nmgc_script::{Script, parse};
 use std::alloc::Global;
 use std::thread::Threads;
 
 /// Does what the words ask for. For `run`, reads a script from the source to its end, runs it, and writes
-/// the report's text to the sink. Answers the status, and the report where the script was run.
+/// the report's text to the sink; for `bench N`, reads nothing, runs the bench's script, and writes the
+/// summary. Answers the status, and the report where a script was run.
 ///
 /// Where something is in the way, the text of the first refusal is written in the report's place:
-/// words, read, length, grammar, what isn't built, run. For wrong words nothing is read. Where the sink
-/// fails, the status is `WriteFault`, and the sink has a front of what was to be written.
+/// words, read, length, grammar, run. For wrong words nothing is read. Where the sink fails, the status is
+/// `WriteFault`, and the sink has a front of what was to be written.
+///
+/// A run ends as `HeapFull` only where a full cycle at its last stop kept more objects than there are
+/// segments above the reserve. Takes memory for the bytes, for the script, for the run and for the text.
 pub fn nmgc<R: Threads + Sync, S: Source, K: Sink>(
     alloc: Global,
     rt: &R,
@@ -41,12 +48,14 @@ pub fn nmgc<R: Threads + Sync, S: Source, K: Sink>(
     ensures told { (answer : Answer)
         × IsTold (map string_bytes words.now) (S.left source.old) (S.left source.new) (Rose (S.faults source.old) (S.faults source.new)) answer
         × Ends (K.taken sink.old) (K.taken sink.new) (Rose (K.faults sink.old) (K.faults sink.new)) answer result.status result.report }
-    // A report tells a run of the script that was read, and its text was written.
+    // A report is lawful for the script that was read, ends by its cause, and its text was written.
     ensures report { IfSome result.report (λ report. IsReport (map string_bytes words.now) (S.left source.old) (S.left source.new) (K.taken sink.old) (K.taken sink.new) (Rose (K.faults sink.old) (K.faults sink.new)) result.status report) }
-    // For wrong words nothing is read.
-    ensures unread { IsWrong (map string_bytes words.now) → source.new ≡ source.old }
-    // A script within the limit is run through where there is no fault, unless memory ran out.
+    // For wrong words and for a bench nothing is read.
+    ensures unread { ReadsNothing (map string_bytes words.now) → source.new ≡ source.old }
+    // A script within the limit is run to its end where there is no fault, unless the heap or memory ran out.
     ensures complete { IsComplete (map string_bytes words.now) (S.left source.old) (Rose (S.faults source.old) (S.faults source.new)) (Rose (K.faults sink.old) (K.faults sink.new)) result.status result.report }
+    // So is a bench, which has no source that could fail.
+    ensures bench { IsBenchComplete (map string_bytes words.now) (Rose (K.faults sink.old) (K.faults sink.new)) result.status result.report }
 {
     let Told {
         status,
@@ -79,27 +88,48 @@ fn told<R: Threads + Sync, S: Source>(
     ensures told { (answer : Answer)
         × IsTold (map string_bytes words.now) (S.left source.old) (S.left source.new) (Rose (S.faults source.old) (S.faults source.new)) answer
         × IsToldAs answer result }
-    ensures unread { IsWrong (map string_bytes words.now) → source.new ≡ source.old }
+    ensures unread { ReadsNothing (map string_bytes words.now) → source.new ≡ source.old }
 {
     match answer(alloc, rt, words, source) {
-        Ok(report) => told_report(alloc, report),
+        Ok(outcome) => told_outcome(alloc, outcome),
         Err(refusal) => told_refusal(alloc, refusal),
     }
 }
 
 // The answer to the words.
+#[tactic(auto, using(crate::proofs::Telling::undone, crate::proofs::Telling::asked_can))]
 fn answer<R: Threads + Sync, S: Source>(
     alloc: Global,
     rt: &R,
     words: &[String],
     source: &mut S,
-) -> Result<Report, Refusal>
+) -> Result<Outcome, Refusal>
     ensures told { IsTold (map string_bytes words.now) (S.left source.old) (S.left source.new) (Rose (S.faults source.old) (S.faults source.new)) result }
-    ensures unread { IsWrong (map string_bytes words.now) → source.new ≡ source.old }
+    ensures unread { ReadsNothing (map string_bytes words.now) → source.new ≡ source.old }
 {
-    match task_of(words) {
-        Some(Task::Run) => run(alloc, rt, source),
-        None => Err(Refusal::Usage),
+    let Some(task) = task_of(words) else {
+        return Err(Refusal::Usage);
+    };
+    match report_of(alloc, rt, task, source) {
+        Ok(report) => Ok(Outcome { task, report }),
+        Err(refusal) => Err(refusal),
+    }
+}
+
+// The answer to a task.
+fn report_of<R: Threads + Sync, S: Source>(
+    alloc: Global,
+    rt: &R,
+    task: Task,
+    source: &mut S,
+) -> Result<Report, Refusal>
+    requires { CanBeDone task }
+    ensures told { Answers task (S.left source.old) (S.left source.new) (Rose (S.faults source.old) (S.faults source.new)) result }
+    ensures unread { (task ≡ Task.Run → ⊥) → source.new ≡ source.old }
+{
+    match task {
+        Task::Run => run(alloc, rt, source),
+        Task::Bench { batches } => bench(alloc, rt, batches),
     }
 }
 
@@ -121,8 +151,17 @@ fn run_bytes<R: Threads + Sync>(alloc: Global, rt: &R, bytes: &[u8]) -> Result<R
     ensures { AnswersBytes bytes.now result }
 {
     let script = parse(alloc, bytes)?;
-    if !is_built(&script) {
-        return Err(Refusal::Unbuilt);
-    }
-    Ok(Collector::run(alloc, rt, &script, &OpenGate)?)
+    Ok(run_script(alloc, rt, &script)?)
+}
+
+/// The report of a script's run, whose threads pass no gate.
+pub fn run_script<R: Threads + Sync>(
+    alloc: Global,
+    rt: &R,
+    script: &Script,
+) -> Result<Report, NoMemory>
+    requires { IsInLimits script.now }
+    ensures { IfOk result (λ report. IsRunOf script.now report) }
+{
+    Collector::run(alloc, rt, script, &OpenGate)
 }

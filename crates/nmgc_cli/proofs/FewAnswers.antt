@@ -1,0 +1,94 @@
+-- A run answers no more commands than its programs have.
+use Rattle.std.proofs.Common.{◌≡◌, ◌≤◌, ◌<◌, ◌∙◌, ℕ, ◌+◌, ◌-◌, ◌*◌, ◌^◌, List, [], ◌∷◌, length, map, drop, refl, sym, ap, subst, arith, Bool, true, false}
+use Rattle.std.specs.Prelude.{All, sum_by, if◌then◌else◌}
+use Rattle.std.proofs.lemmas.List.{length-drop}
+use Rattle.std.proofs.lemmas.List.Sums.{sum_by-cons, sum_by-le}
+use Rattle.nmgc_limits.specs.Limits.{most_script_bytes}
+use Rattle.nmgc_graph.specs.declared.command.Command.{Command}
+use Rattle.nmgc_graph.specs.declared.command.Reply.{Reply}
+use Rattle.nmgc_graph.specs.Command.{words_made}
+use Rattle.nmgc_graph.specs.History.{Row}
+use Rattle.nmgc_script.specs.declared.script.Config.{Config}
+use Rattle.nmgc_script.specs.declared.script.Script.{Script}
+use Rattle.nmgc_journal.specs.declared.report.Report.{Report}
+use Rattle.nmgc_journal.specs.declared.report.RoundRows.{RoundRows}
+use Rattle.nmgc_journal.specs.Summary.{reply_count, command_count}
+use Rattle.nmgc_run.specs.Lawful.{IsLawful}
+use Rattle.nmgc_run.specs.Round.{IsRound}
+use Rattle.nmgc_run.specs.Run.{Turn, AreTurns, state_after}
+use Rattle.nmgc_run.specs.Slice.{slice, slice_of, slices, rest_of, is_next, ends_slice}
+use Rattle.nmgc_run.specs.State.{Plan, State, plan_of, start}
+use Rattle.nmgc_run.specs.laws.Lefts.{stop_left}
+
+either_few : (b : Bool) (program : List Command) (n : ℕ) → length program ≤ n → length {A = Command} (if b then [] else program) ≤ n
+either_few true program n h = omega arith
+either_few false program n h = h
+
+next_few : (b : Bool) (c : Command) (rest : List Command) (n : ℕ) → length rest ≤ n → length {A = Command} (if b then c ∷ rest else []) ≤ n + 1
+next_few true c rest n h = omega (arith, h)
+next_few false c rest n h = omega arith
+
+slice_few : (commands words : ℕ) (program : List Command) → length (slice commands words program) ≤ length program
+slice_few commands words [] = omega arith
+slice_few commands words (c ∷ program) =
+    let few : length (slice commands words (c ∷ program)) ≤ length program + 1 = next_few (is_next commands words c) c (if ends_slice c then [] else slice (commands - 1) (words - words_made c) program) (length program) (either_few (ends_slice c) (slice (commands - 1) (words - words_made c) program) (length program) (slice_few (commands - 1) (words - words_made c) program)) in
+    omega (arith, few)
+
+-- how many items lists have together
+abbrev total : {A : Type 0} → List (List A) → ℕ
+total lists = sum_by length lists
+
+-- the slices of programs, and what is left of them
+parts : (config : Config) (left : List (List Command)) → total (slices config left) + total (map (rest_of config) left) ≡ total left
+parts config [] = refl
+parts config (program ∷ left) =
+    let own : length (slice_of config program) ≤ length program = slice_few config.slice config.nursery program in
+    let rest : length (rest_of config program) ≡ length program - length (slice_of config program) = length-drop (length (slice_of config program)) program in
+    let before : total (slices config left) + total (map (rest_of config) left) ≡ total left = parts config left in
+    let a : total (slices config (program ∷ left)) ≡ length (slice_of config program) + total (slices config left) = sum_by-cons length (slice_of config program) (slices config left) in
+    let b : total (map (rest_of config) (program ∷ left)) ≡ length (rest_of config program) + total (map (rest_of config) left) = sum_by-cons length (rest_of config program) (map (rest_of config) left) in
+    let c : total (program ∷ left) ≡ length program + total left = sum_by-cons length program left in
+    omega (arith, own, rest, before, a, b, c)
+
+-- lists of the same lengths
+same_total : {A B : Type 0} (xs : List (List A)) (ys : List (List B)) → map length xs ≡ map length ys → total xs ≡ total ys
+same_total [] [] e = refl
+same_total [] (y ∷ ys) e = absurd cc
+same_total (x ∷ xs) [] e = absurd cc
+same_total (x ∷ xs) (y ∷ ys) e =
+    let head : length x ≡ length y = cc in
+    let tail : map length xs ≡ map length ys = cc in
+    let rest : total xs ≡ total ys = same_total xs ys tail in
+    omega (arith, head, rest, sum_by-cons length x xs, sum_by-cons length y ys)
+
+-- a round answers what it takes from the programs
+round_counts : (config : Config) (s t : State) (replies : List (List Reply)) (rows : List Row) → IsRound config s replies rows t → total replies + total t.left ≡ total s.left
+round_counts config s t replies rows round =
+    let answers : total replies ≡ total (slices config s.left) = same_total replies (slices config s.left) round.history.lengths in
+    let left : total t.left ≡ total (map (rest_of config) s.left) = ap (λ (x : State). total x.left) round.rest in
+    omega (arith, answers, left, parts config s.left)
+
+turns_count : (plan : Plan) (s : State) (turns : List Turn) → AreTurns plan s turns → command_count (map (λ (turn : Turn). turn.replies) turns) + total (state_after s turns).left ≡ total s.left
+turns_count plan s [] are = omega arith
+turns_count plan s (turn ∷ turns) are =
+    let rest : command_count (map (λ (turn : Turn). turn.replies) turns) + total (state_after turn.stop.state turns).left ≡ total turn.stop.state.left = turns_count plan turn.stop.state turns are.1 in
+    let stopped : total turn.stop.state.left ≡ total turn.worked.left = ap (λ (left : List (List Command)). total left) (stop_left plan s.world turn.worked turn.stop.state turn.stop.row turn.stop.cycles are.0.stop) in
+    let own : total turn.replies.replies + total turn.worked.left ≡ total s.left = round_counts plan.config s turn.worked turn.replies.replies turn.history are.0.round in
+    let more : command_count (map (λ (turn : Turn). turn.replies) (turn ∷ turns)) ≡ reply_count turn.replies + command_count (map (λ (turn : Turn). turn.replies) turns) = sum_by-cons reply_count turn.replies (map (λ (turn : Turn). turn.replies) turns) in
+    omega (arith, rest, stopped, own, more)
+
+-- the programs of a lawful report's script have more commands than it answers, or as many
+lawful_count : (script : Script) (report : Report) → IsLawful script report → command_count report.rounds ≤ total script.threads
+lawful_count script report lawful =
+    let plan : Plan = plan_of script in
+    let turns : command_count (map (λ (turn : Turn). turn.replies) lawful.run.turns) + total (state_after lawful.run.opening.state lawful.run.turns).left ≡ total lawful.run.opening.state.left = turns_count plan lawful.run.opening.state lawful.run.turns lawful.is_run.turns in
+    let opened : total lawful.run.opening.state.left ≡ total script.threads = ap (λ (left : List (List Command)). total left) (stop_left plan _ (start plan) lawful.run.opening.state lawful.run.opening.row lawful.run.opening.cycles lawful.is_run.opening) in
+    let told : command_count report.rounds ≡ command_count (map (λ (turn : Turn). turn.replies) lawful.run.turns) = ap (λ (rounds : List RoundRows). command_count rounds) lawful.tells.rounds_are in
+    omega (arith, turns, opened, told)
+
+-- they are few
+pub few_answers : (script : Script) (report : Report) → length script.threads ≤ 8 → All (λ (program : List Command). length program ≤ most_script_bytes) script.threads → IsLawful script report → command_count report.rounds < 2 ^ 64
+few_answers script report threads few lawful =
+    let programs : total script.threads ≤ length script.threads * most_script_bytes = sum_by-le length most_script_bytes script.threads few in
+    let answered : command_count report.rounds ≤ total script.threads = lawful_count script report lawful in
+    omega (arith, programs, answered, threads)
