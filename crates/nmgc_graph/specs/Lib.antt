@@ -2,6 +2,8 @@ pub mod Change
 pub mod Closing
 pub mod Command
 pub mod History
+pub mod Items
+pub mod ItemsLends
 pub mod Lends
 pub mod Marks
 pub mod Order

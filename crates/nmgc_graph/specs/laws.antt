@@ -1,5 +1,6 @@
 pub mod Closings
 pub mod Growth
+pub mod NewWorlds
 pub mod Nodes
 pub mod Orders
 pub mod Rows

@@ -456,7 +456,30 @@ fn queues_and_lists(rt: HostRuntime) -> Result<(), Fail> {
     let copy = list.copy(rt.alloc())?;
     assert_eq!(rt; copy.items(), [7, 2].as_slice());
     assert_eq!(rt; list.pop(), Some(2));
-    assert_eq!(rt; list.into_vec().as_slice(), [7].as_slice());
+    assert_eq!(rt; list.items(), [7].as_slice());
+    Ok(())
+}
+
+#[test]
+fn a_pair_is_a_list(rt: HostRuntime) -> Result<(), Fail> {
+    let mut list = List::pair(rt.alloc(), 1, 2);
+    if let Some(first) = list.items_mut().first_mut() {
+        *first = 7;
+    }
+    assert_eq!(rt; list.items(), [7, 2].as_slice());
+    list.push(3)?;
+    assert_eq!(rt; list.items(), [7, 2, 3].as_slice());
+    assert_eq!(rt; list.take_first(), Some(7));
+    let mut list = List::pair(rt.alloc(), 4, 5);
+    assert_eq!(rt; list.pop(), Some(5));
+    assert_eq!(rt; list.items(), [4].as_slice());
+    list.push(6)?;
+    assert_eq!(rt; list.take_first(), Some(4));
+    assert_eq!(rt; list.items(), [6].as_slice());
+    let mut list = List::pair(rt.alloc(), 8, 9);
+    assert_eq!(rt; list.take_first(), Some(8));
+    assert_eq!(rt; list.take_first(), Some(9));
+    assert_eq!(rt; list.take_first(), None);
     Ok(())
 }
 

@@ -1,25 +1,212 @@
 //! A growing list, which contracts see as a list.
 //!
-//! It is `Vec` with one answer for want of memory. Only `push` and `copy` take memory; after a
-//! refusal the list is unchanged.
-ghost use Rattle.std.specs.Prelude.{◌≡◌, [], ◌∷◌, ◌++◌, IfSome, IfNone, IfOk, OnOk, OnErr};
+//! It is `Vec` with one answer for want of memory, and with room for two items in the value itself: most
+//! constructors have one or two fields, and a script has a list of operands for every one that it makes, so
+//! `pair` spares a long script an allocation for each. Only `push` and `copy` take memory; after a refusal the
+//! list is unchanged. Where the items lie is not part of the list's value: contracts never see it.
+ghost use Rattle.std.specs.Prelude.{◌≡◌, ◌≤◌, [], ◌∷◌, ◌++◌, IfSome, IfNone, IfOk, OnOk, OnErr, vec_capacity};
+ghost use Rattle.nmgc_graph.specs.Items.{items_of, IsFull};
 
 use crate::NoMemory;
+use arrayvec::ArrayVec;
 use std::alloc::Global;
 use std::marker::Model;
+use std::mem;
 
 /// A list of items in order.
 #[derive(Drop)]
 pub struct List<T> {
-    items: Vec<T>,
+    items: Items<T>,
 }
 
 impl<T> Model for List<T> {
     ghost use Rattle.std.specs.Prelude.{List};
+    ghost use Rattle.nmgc_graph.specs.Items.{items_of, IsFull};
 
     ghost Value = { List T };
 
-    ghost view = { λ a. a.items.items };
+    ghost view = { λ a. items_of a.items };
+
+    ghost invariant = { λ a. IsFull a.items };
+}
+
+/// Where the items lie: one or two in the value itself, or any number in a vector.
+#[derive(Drop)]
+enum Items<T> {
+    Pair(ArrayVec<T, 2, Global>),
+    Single(ArrayVec<T, 1, Global>),
+    Many(Vec<T>),
+}
+
+impl<T> Items<T> {
+    ghost use Rattle.std.specs.Borrow.{sem};
+    ghost use Rattle.nmgc_graph.specs.ItemsLends.{LendsThem};
+
+    fn alloc(&self) -> Global {
+        match self {
+            Items::Pair(pair) => *pair.allocator(),
+            Items::Single(single) => *single.allocator(),
+            Items::Many(items) => *items.allocator(),
+        }
+    }
+
+    fn as_slice(&self) -> &[T]
+        ensures { result.now ≡ items_of self.now }
+    {
+        match self {
+            Items::Pair(pair) => pair.as_slice(),
+            Items::Single(single) => single.as_slice(),
+            Items::Many(items) => items.as_slice(),
+        }
+    }
+
+    fn as_mut_slice(&mut self) -> &mut [T]
+        ensures* writes_back { sem 𝓛 (LendsThem T.row self.entry result) }
+        ensures value { result.now ≡ items_of self.old }
+    {
+        match self {
+            Items::Pair(pair) => pair.as_mut_slice(),
+            Items::Single(single) => single.as_mut_slice(),
+            Items::Many(items) => items.as_mut_slice(),
+        }
+    }
+}
+
+// An item that lies in the list itself.
+fn single<T>(alloc: Global, item: T) -> Items<T>
+    ensures items { items_of result ≡ item ∷ [] }
+    ensures full { IsFull result }
+{
+    Items::Single(ArrayVec::from_array_in(alloc, [item]))
+}
+
+// The items in a vector, which is the empty `room` if they lie in none yet. Takes no memory.
+fn gathered<T: Drop>(items: Items<T>, room: Vec<T>) -> Vec<T>
+    requires full { IsFull items }
+    requires empty { room.items ≡ [] }
+    requires enough { 2 ≤ vec_capacity room }
+    ensures { result.items ≡ items_of items }
+{
+    let mut room = room;
+    match items {
+        Items::Pair(pair) => {
+            let [first, second] = pair.into_inner().unwrap();
+            room.push_reserved(first);
+            room.push_reserved(second);
+            room
+        }
+        Items::Single(single) => {
+            let [only] = single.into_inner().unwrap();
+            room.push_reserved(only);
+            room
+        }
+        Items::Many(items) => items,
+    }
+}
+
+// The items before the last, and the last. Takes no memory.
+fn last_of<T: Drop>(items: Items<T>) -> (Items<T>, Option<T>)
+    requires { IsFull items }
+    ensures full { IsFull result.0 }
+    ensures last { IfSome result.1 (λ item. items_of items ≡ items_of result.0 ++ item ∷ []) }
+    ensures empty { IfNone result.1 ((items_of items ≡ []) × (items_of result.0 ≡ [])) }
+{
+    match items {
+        Items::Pair(pair) => {
+            let alloc = *pair.allocator();
+            let [first, second] = pair.into_inner().unwrap();
+            (single(alloc, first), Some(second))
+        }
+        Items::Single(single) => {
+            let alloc = *single.allocator();
+            let [only] = single.into_inner().unwrap();
+            (Items::Many(Vec::new(alloc)), Some(only))
+        }
+        Items::Many(mut items) => {
+            let last = items.pop();
+            (Items::Many(items), last)
+        }
+    }
+}
+
+// The first item, and the items after it. Takes no memory.
+fn first_of<T: Drop>(items: Items<T>) -> (Option<T>, Items<T>)
+    requires { IsFull items }
+    ensures full { IsFull result.1 }
+    ensures first { IfSome result.0 (λ item. items_of items ≡ item ∷ items_of result.1) }
+    ensures empty { IfNone result.0 ((items_of items ≡ []) × (items_of result.1 ≡ [])) }
+{
+    match items {
+        Items::Pair(pair) => {
+            let alloc = *pair.allocator();
+            let [first, second] = pair.into_inner().unwrap();
+            (Some(first), single(alloc, second))
+        }
+        Items::Single(single) => {
+            let alloc = *single.allocator();
+            let [only] = single.into_inner().unwrap();
+            (Some(only), Items::Many(Vec::new(alloc)))
+        }
+        Items::Many(mut items) => {
+            let first = first_taken(&mut items);
+            (first, Items::Many(items))
+        }
+    }
+}
+
+fn first_taken<T>(items: &mut Vec<T>) -> Option<T>
+    ensures first { IfSome result (λ item. items.old.items ≡ item ∷ items.new.items) }
+    ensures empty { IfNone result ((items.old.items ≡ []) × (items.new.items ≡ [])) }
+{
+    if items.is_empty() {
+        return None;
+    }
+    Some(items.remove(0))
+}
+
+// Each of these is for items that lie in the value itself. It is right for a vector's too, and slower.
+impl<T: Drop> Items<T> {
+    fn add(&mut self, item: T) -> Result<(), NoMemory>
+        requires { IsFull self.old }
+        ensures full { IsFull self.new }
+        ensures ok { OnOk result (items_of self.new ≡ items_of self.old ++ item ∷ []) }
+        ensures err { OnErr result (items_of self.new ≡ items_of self.old) }
+    {
+        let alloc = self.alloc();
+        let room = Vec::with_capacity(alloc, 4)?;
+        let few = mem::replace(self, Items::Many(Vec::new(alloc)));
+        let mut items = gathered(few, room);
+        let pushed = items.push(item);
+        *self = Items::Many(items);
+        pushed?;
+        Ok(())
+    }
+
+    fn take_last(&mut self) -> Option<T>
+        requires { IsFull self.old }
+        ensures full { IsFull self.new }
+        ensures last { IfSome result (λ item. items_of self.old ≡ items_of self.new ++ item ∷ []) }
+        ensures empty { IfNone result ((items_of self.old ≡ []) × (items_of self.new ≡ [])) }
+    {
+        let alloc = self.alloc();
+        let few = mem::replace(self, Items::Many(Vec::new(alloc)));
+        let (rest, last) = last_of(few);
+        *self = rest;
+        last
+    }
+
+    fn take_first(&mut self) -> Option<T>
+        requires { IsFull self.old }
+        ensures full { IsFull self.new }
+        ensures first { IfSome result (λ item. items_of self.old ≡ item ∷ items_of self.new) }
+        ensures empty { IfNone result ((items_of self.old ≡ []) × (items_of self.new ≡ [])) }
+    {
+        let alloc = self.alloc();
+        let few = mem::replace(self, Items::Many(Vec::new(alloc)));
+        let (first, rest) = first_of(few);
+        *self = rest;
+        first
+    }
 }
 
 impl<T> List<T> {
@@ -30,43 +217,25 @@ impl<T> List<T> {
     pub fn new(alloc: Global) -> Self
         ensures { result ≡ [] }
     {
-        List {
-            items: Vec::new(alloc),
-        }
+        List::from_vec(Vec::new(alloc))
     }
 
     /// The list of a vector's items. Takes no memory.
     pub fn from_vec(items: Vec<T>) -> Self
         ensures { result ≡ items.items }
     {
-        List { items }
+        List {
+            items: Items::Many(items),
+        }
     }
 
-    /// The vector of the list's items. Takes no memory.
-    pub fn into_vec(self) -> Vec<T>
-        ensures { result.items ≡ self }
+    /// The list of two items, which lie in the list itself. Takes no memory.
+    pub fn pair(alloc: Global, first: T, second: T) -> Self
+        ensures { result ≡ first ∷ second ∷ [] }
     {
-        let List { items } = self;
-        items
-    }
-
-    /// Adds an item at the end. After `NoMemory` the list is unchanged.
-    pub fn push(&mut self, item: T) -> Result<(), NoMemory>
-    where
-        T: Drop,
-        ensures ok { OnOk result (self.new ≡ self.old ++ item ∷ []) }
-        ensures err { OnErr result (self.new ≡ self.old) }
-    {
-        self.items.push(item)?;
-        Ok(())
-    }
-
-    /// Takes the last item off. `None` comes exactly where the list is empty.
-    pub fn pop(&mut self) -> Option<T>
-        ensures last { IfSome result (λ item. self.old ≡ self.new ++ item ∷ []) }
-        ensures empty { IfNone result ((self.old ≡ []) × (self.new ≡ [])) }
-    {
-        self.items.pop()
+        List {
+            items: Items::Pair(ArrayVec::from_array_in(alloc, [first, second])),
+        }
     }
 
     /// The items in order.
@@ -91,5 +260,44 @@ impl<T> List<T> {
         ensures { IfOk result (λ list. list ≡ self.now) }
     {
         Ok(List::from_vec(Vec::from_slice(alloc, self.items())?))
+    }
+}
+
+impl<T: Drop> List<T> {
+    /// Adds an item at the end. After `NoMemory` the list is unchanged.
+    pub fn push(&mut self, item: T) -> Result<(), NoMemory>
+        ensures ok { OnOk result (self.new ≡ self.old ++ item ∷ []) }
+        ensures err { OnErr result (self.new ≡ self.old) }
+    {
+        match &mut self.items {
+            Items::Many(items) => {
+                items.push(item)?;
+                Ok(())
+            }
+            _ => self.items.add(item),
+        }
+    }
+
+    /// Takes the last item off. `None` comes exactly where the list is empty.
+    pub fn pop(&mut self) -> Option<T>
+        ensures last { IfSome result (λ item. self.old ≡ self.new ++ item ∷ []) }
+        ensures empty { IfNone result ((self.old ≡ []) × (self.new ≡ [])) }
+    {
+        match &mut self.items {
+            Items::Many(items) => items.pop(),
+            _ => self.items.take_last(),
+        }
+    }
+
+    /// Takes the first item off. `None` comes exactly where the list is empty. Takes time that grows with the
+    /// list, so it is for short lists.
+    pub fn take_first(&mut self) -> Option<T>
+        ensures first { IfSome result (λ item. self.old ≡ item ∷ self.new) }
+        ensures empty { IfNone result ((self.old ≡ []) × (self.new ≡ [])) }
+    {
+        match &mut self.items {
+            Items::Many(items) => first_taken(items),
+            _ => self.items.take_first(),
+        }
     }
 }

@@ -18,7 +18,7 @@ use Rattle.nmgc_object.specs.declared.layout.TheConstants.{SHARED_PLACE}
 use Rattle.nmgc_object.specs.declared.size.TheConstants.{HEADER_WORDS}
 use Rattle.nmgc_object.specs.declared.words.TheConstants.{NIL_WORD}
 use Rattle.nmgc_reach.specs.laws.ItemLaws.{nothing_in, contains_one, one_is}
-use Rattle.nmgc_reach.specs.laws.NewWorlds.{new_nodes, new_is_world}
+use Rattle.nmgc_graph.specs.laws.NewWorlds.{new_nodes, new_is_world}
 use Rattle.nmgc_heap.specs.Shape.{slots_of}
 use Rattle.nmgc_heap.specs.Places.{Place, Means, HasSlots, AllMean, ListMeans}
 use Rattle.nmgc_heap.specs.Represents.{IsNamed, IsObject, IsPlaced, Represents, NoNode}

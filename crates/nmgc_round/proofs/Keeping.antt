@@ -22,7 +22,7 @@ use Rattle.nmgc_core.specs.declared.event.Event.TheVariants as event
 use Rattle.nmgc_core.specs.laws.Listed.{names_same, names_other}
 use Rattle.nmgc_heap.specs.Places.{Place, ListMeans}
 use Rattle.nmgc_round.specs.Events.{Happening, did, scanned, after, IsLegal, done_by, scans_in}
-use Rattle.nmgc_round.specs.View.{Answer, Slots, Hand, FixedWord, UnbornWord, Opening, Part, Scan, Seen, hand_of, hand_now, leaves, doing, scanning}
+use Rattle.nmgc_round.specs.View.{Answer, Hand, FixedWord, UnbornWord, Opening, Part, Scan, Seen, hand_of, hand_now, leaves, doing, scanning}
 use Rattle.nmgc_round.specs.Own.{OwnSlots}
 use Rattle.nmgc_round.specs.Objects.{Object, IsLater, IsObject, IsIn, Stands}
 use Rattle.nmgc_round.proofs.Standing.{later_of}

@@ -1,5 +1,5 @@
 -- What an opening lists of a mutator's stacks are its own ones: each tracked stack that it made has its words there.
-use Rattle.std.proofs.Common.{◌≡◌, ◌≢◌, inl, inr, ℕ, zero, suc, ◌+◌, ◌*◌, ◌<◌, ◌&&◌, Bool, true, false, cond, eqb, List, [], ◌∷◌, ◌++◌, map, refl, sym, ap, subst, ◌∙◌, arith, slice_index, Option, Some, None, eq-eqb, ne_eqb, eqb-true, true≢false}
+use Rattle.std.proofs.Common.{◌≡◌, ◌≢◌, inl, inr, ℕ, suc, ◌+◌, ◌<◌, Bool, true, false, cond, eqb, List, [], ◌∷◌, ◌++◌, map, refl, sym, ap, subst, ◌∙◌, arith, slice_index, Option, Some, None, eq-eqb, ne_eqb, eqb-true, true≢false}
 use Rattle.std.specs.Prelude.{Contains, slice_get}
 use Rattle.std.proofs.lemmas.Bool.{cases_eq, and_parts, and_from}
 use Rattle.nmgc_graph.specs.declared.value.Name.{Name}
@@ -13,13 +13,13 @@ use Rattle.nmgc_graph.specs.laws.Orders.{contains_head, contains_tail, contains_
 use Rattle.nmgc_object.specs.declared.size.TheConstants.{HEADER_WORDS}
 use Rattle.nmgc_heap.specs.Shape.{holds, slots_of}
 use Rattle.nmgc_heap.specs.Tracked.{IsTracked}
-use Rattle.nmgc_heap.specs.Places.{Place, Means, AllMean, ListMeans, HasSlots}
+use Rattle.nmgc_heap.specs.Places.{Place, Means, ListMeans}
 use Rattle.nmgc_heap.specs.laws.Kinds.{fields_of_slots, item_left, item_map}
 use Rattle.nmgc_heap.specs.laws.Slots.{contains_read}
 use Rattle.nmgc_heap.specs.laws.Tracking.{slot_tracked}
 use Rattle.nmgc_graph.specs.laws.Worlds.{is_some_of}
-use Rattle.nmgc_round.specs.View.{Slots, Hand, Opening, hand_of}
-use Rattle.nmgc_round.specs.Objects.{Object, place_of, IsOld, IsIn, earlier}
+use Rattle.nmgc_round.specs.View.{Slots, Opening, hand_of}
+use Rattle.nmgc_round.specs.Objects.{place_of, IsIn, earlier}
 use Rattle.nmgc_round.specs.Own.{slots_at, OwnSlots, place_named, word_in, slots_of_node, stacks_at, old_stacks}
 use Rattle.nmgc_round.specs.Starting.{CanOpen}
 

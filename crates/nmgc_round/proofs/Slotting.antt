@@ -1,15 +1,12 @@
 -- Lists of slots, where the top changes.
-use Rattle.std.proofs.Common.{◌≡◌, ◌≢◌, ◌⊎◌, inl, inr, ℕ, zero, suc, ◌+◌, ◌-◌, ◌<◌, ◌≤◌, List, [], ◌∷◌, ◌++◌, length, take, set, refl, sym, ap, subst, ◌∙◌, arith, slice_index, true, false, cond, eqb, Some, eq-eqb, ne_eqb, get_or-set_same, get_or-set_other}
-use Rattle.std.specs.Prelude.{slice_get, Contains}
+use Rattle.std.proofs.Common.{◌≡◌, ◌≢◌, ◌⊎◌, inl, inr, ℕ, zero, suc, ◌+◌, ◌-◌, ◌<◌, ◌≤◌, List, [], ◌∷◌, ◌++◌, length, take, set, refl, sym, ap, subst, ◌∙◌, arith, slice_index, Some, get_or-set_same, get_or-set_other}
+use Rattle.std.specs.Prelude.{slice_get}
 use Rattle.std.proofs.lemmas.Bool.{cases_eq}
 use Rattle.std.proofs.lemmas.Option.{slice_get_within}
 use Rattle.nmgc_graph.specs.declared.value.Value.{Value}
 use Rattle.nmgc_graph.specs.Change.{without_last, last_of}
-use Rattle.nmgc_graph.specs.laws.Orders.{contains_head, contains_tail, contains_cases}
 use Rattle.nmgc_heap.specs.Places.{Place, Means, AllMean, ListMeans}
 use Rattle.nmgc_heap.specs.laws.Kinds.{AreUnset, item_cases, item_left}
-use Rattle.nmgc_round.specs.View.{Slots, with_slots}
-use Rattle.nmgc_round.specs.Own.{slots_at}
 
 -- nothing stands past the end
 pub past : (ws : List ℕ) (i : ℕ) → length ws ≤ i → slice_index ws i ≡ 0

@@ -1,5 +1,5 @@
 -- A load and a compare-exchange of a thunk's result keep the rule.
-use Rattle.std.proofs.Common.{◌≡◌, ◌≢◌, inl, inr, ℕ, ◌+◌, ◌-◌, ◌*◌, ◌/◌, Bool, true, false, cond, eqb, eq-eqb, ne_eqb, List, [], ◌∷◌, ◌++◌, length, set, refl, sym, ap, subst, ◌∙◌, arith, slice_index, Option, Some, None, get_or-set_same}
+use Rattle.std.proofs.Common.{◌≡◌, ◌≢◌, ℕ, ◌+◌, ◌-◌, ◌*◌, ◌/◌, Bool, true, false, cond, eqb, eq-eqb, ne_eqb, List, [], ◌∷◌, ◌++◌, length, set, refl, sym, ap, subst, ◌∙◌, arith, slice_index, Option, Some, None, get_or-set_same}
 use mathlib.Core.Option.{some}
 use lib.ListN.{get_elem?}
 use Rattle.nmgc_graph.specs.declared.value.Name.{Name}
@@ -18,7 +18,6 @@ use Rattle.nmgc_graph.specs.declared.command.Reply.{Reply}
 use Rattle.nmgc_graph.specs.declared.command.Reply.TheVariants as reply
 use Rattle.nmgc_graph.specs.World.{World, state_of, node_of}
 use Rattle.nmgc_graph.specs.Change.{given_or, result_read, thunk_updated}
-use Rattle.nmgc_graph.specs.laws.Rows.{name_cases}
 use Rattle.nmgc_graph.specs.Step.{value_for, with_node, with_register, holding as world_holding, keeping, change_object, change_node, object_of, read_object, read_into, step}
 use Rattle.nmgc_object.specs.Words.{header_word}
 use Rattle.nmgc_object.specs.declared.words.Header.{Header}

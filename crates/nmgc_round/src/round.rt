@@ -128,7 +128,7 @@ impl Round {
         ensures leaves { Leaves (opening_of self) result.words (all_together (seen collector) (map seen mutators)) }
         ensures count { length result.words ≡ word_count self }
     {
-        let last = self.gather(collector, mutators.into_vec());
+        let last = self.gather(collector, mutators);
         Finished {
             words: self.end(last),
         }

@@ -9,6 +9,7 @@ ghost use Rattle.nmgc_round.specs.Seat.{IsAt, seen, word_count, opening_of};
 
 use crate::plays::{Both, CollectorAlone, FirstMutator};
 use crate::table::{CollectorSeat, MutatorSeat, Round};
+use nmgc_graph::List;
 
 impl Round {
     /// Cuts off the seat of the first mutator. The seat keeps the other parts.
@@ -57,13 +58,14 @@ impl Round {
     }
 
     /// The parts of all seats in one.
-    pub fn gather(&self, seat: MutatorSeat, others: Vec<MutatorSeat>) -> MutatorSeat
-        requires seats { IsAt self.now seat × All (IsAt self.now) others.items }
+    pub fn gather(&self, seat: MutatorSeat, others: List<MutatorSeat>) -> MutatorSeat
+        requires seats { IsAt self.now seat × All (IsAt self.now) others }
         requires within { 0 < word_count self.now }
-        ensures { IsAt self.now result × (seen result ≡ all_together (seen seat) (map seen others.items)) }
+        ensures { IsAt self.now result × (seen result ≡ all_together (seen seat) (map seen others)) }
     {
         let mut seat = seat;
-        for other in others {
+        let mut others = others;
+        while let Some(other) = others.take_first() {
             self.join(&mut seat, other);
         }
         seat

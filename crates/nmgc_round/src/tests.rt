@@ -8,7 +8,7 @@ ghost use Rattle.nmgc_round.specs.Ready.{HasPart};
 
 use crate::chosen::Wanted;
 use crate::{Chosen, Gate, MutatorSeat, OpenGate, Opened, Round, Started, Words};
-use nmgc_graph::{Command, List, Name, NoMemory, Operand};
+use nmgc_graph::{Command, Name, NoMemory, Operand};
 use nmgc_object::{Address, Layout, encode_name};
 use std::alloc::Global;
 use std::test::Fail;
@@ -118,16 +118,12 @@ fn worked<R: Threads + Sync>(
     let opening = first_of(&layout);
     let Started {
         round,
-        mutators,
+        mut mutators,
         collector,
     } = Round::start(words, layout, false, &opening, room);
     let marking = round.is_marking();
-    let mut seats = mutators.into_vec();
-    work_all(rt, &round, seats.as_mut_slice(), layout);
-    (
-        round.finish(List::from_vec(seats), collector).words,
-        marking,
-    )
+    work_all(rt, &round, mutators.items_mut(), layout);
+    (round.finish(mutators, collector).words, marking)
 }
 
 // The words that a mutator's work leaves: the header of a variable is 2 + 2048 * 1, the name word of its first object is its

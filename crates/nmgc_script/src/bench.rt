@@ -86,11 +86,10 @@ fn push_cells(commands: &mut Vec<Command>, alloc: Global, count: usize) -> Resul
     ensures { OnOk result (commands.new.items ≡ commands.old.items ++ replicate count cell) }
 {
     for _cell in 0..count {
-        let fields = vec![in alloc; Operand::Register(0), Operand::Register(1)]?;
         commands.push(Command::Con {
             dest: 0,
             tag: 0,
-            fields: List::from_vec(fields),
+            fields: List::pair(alloc, Operand::Register(0), Operand::Register(1)),
         })?;
     }
     Ok(())

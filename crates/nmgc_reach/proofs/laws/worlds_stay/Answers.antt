@@ -1,4 +1,4 @@
-use Rattle.nmgc_reach.specs.laws.NewWorlds.{new_is_world}
+use Rattle.nmgc_graph.specs.laws.NewWorlds.{new_is_world}
 use Rattle.nmgc_reach.specs.laws.WorldSteps.{step_keeps_world}
 use Rattle.nmgc_reach.specs.laws.LiveRows.{world_after}
 use Rattle.nmgc_reach.specs.laws.Deaths.{closed_world}

@@ -1,4 +1,5 @@
-use Rattle.std.proofs.Common.{◌≡◌, List, length, map, All, arith, sym, ap, subst, ◌∙◌}
+use Rattle.std.proofs.Common.{◌≡◌, List, length, map, All, arith, refl, sym, ap, subst, ◌∙◌}
+use Rattle.std.specs.List.{refill}
 use Rattle.nmgc_round.specs.View.{Opening, Seen}
 use Rattle.nmgc_round.specs.Seat.{RoundSeat, IsAt, seen}
 use Rattle.nmgc_round.specs.Seating.{all_together}
@@ -14,15 +15,15 @@ start-round-requires-clause-opens g c = subst (λ (o : Opening). CanOpen o c.arg
 pub work_all-requires-clause-seats : goal.work_all-requires-clause-seats
 work_all-requires-clause-seats g c = λ κs out.
     let s = c.start-round.ensures in
-    are_ready c.args.layout c.start-round.result.round c.first_of-opening.result.value c.start-round.result.mutators c.as_mut_slice.result.now c.first_of-opening.ensures s.mutators.0 s.mutators.1 (c.as_mut_slice.ensures.value ∙ c.into_vec-seats.ensures)
+    are_ready c.args.layout c.start-round.result.round c.first_of-opening.result.value c.start-round.result.mutators c.items_mut.result.now c.first_of-opening.ensures s.mutators.0 s.mutators.1 c.items_mut.ensures.value
 
 pub finish-requires-clause-seats : goal.finish-requires-clause-seats
 finish-requires-clause-seats g c =
     let r = c.start-round.result.round in
-    let all = c.into_vec-seats.result in
+    let given = c.start-round.result.mutators in
     let new = c.work_all.new.seats in
     let many = c.work_all.ensures.count in
-    let is : c.from_vec.result ≡ new = c.from_vec.ensures ∙ written all.len all.items new (many ∙ ap length c.as_mut_slice.ensures.value) all.ok.0 in
+    let is : refill (length given) given new ≡ new = written (length given) given new (many ∙ ap length c.items_mut.ensures.value) refl in
     (subst (λ (l : List RoundSeat). All (IsAt r) l) (sym is) (λ k d lt. (c.work_all.ensures.seats k d (omega (arith, lt, many))).0), c.start-round.ensures.collector.0)
 
 pub finish-requires-clause-all : goal.finish-requires-clause-all
@@ -32,11 +33,11 @@ finish-requires-clause-all g c =
     let first = c.first_of-opening.ensures in
     let r = c.start-round.result.round in
     let collector : RoundSeat = c.start-round.result.collector in
-    let all = c.into_vec-seats.result in
+    let given = c.start-round.result.mutators in
     let new = c.work_all.new.seats in
     let many = c.work_all.ensures.count in
-    let full = c.as_mut_slice.ensures.value ∙ c.into_vec-seats.ensures in
-    let count = (are_ready layout r c.first_of-opening.result.value c.start-round.result.mutators c.as_mut_slice.result.now first s.mutators.0 s.mutators.1 full).0 in
-    let is : c.from_vec.result ≡ new = c.from_vec.ensures ∙ written all.len all.items new (many ∙ ap length c.as_mut_slice.ensures.value) all.ok.0 in
+    let full = c.items_mut.ensures.value in
+    let count = (are_ready layout r c.first_of-opening.result.value c.start-round.result.mutators c.items_mut.result.now first s.mutators.0 s.mutators.1 full).0 in
+    let is : refill (length given) given new ≡ new = written (length given) given new (many ∙ ap length c.items_mut.ensures.value) refl in
     subst (λ (l : List RoundSeat). HasAll (all_together (seen collector) (map seen l))) (sym is)
     (has_all layout (seen collector) new collector (ap (λ (v : Seen). v.collects) s.collector.1) (ap (λ (v : Seen). v.opening) s.collector.1 ∙ first) (many ∙ count) (λ k lt. (c.work_all.ensures.seats k collector (omega (arith, lt, many))).1))

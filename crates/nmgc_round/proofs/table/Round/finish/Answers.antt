@@ -1,6 +1,6 @@
-use Rattle.std.proofs.Common.{◌≡◌, ◌∙◌, List, map, ap, sym, subst}
+use Rattle.std.proofs.Common.{◌≡◌, ◌∙◌, map, sym, subst}
 use Rattle.nmgc_round.specs.View.{Opening, Seen}
-use Rattle.nmgc_round.specs.Seat.{RoundSeat, seen, opening_of}
+use Rattle.nmgc_round.specs.Seat.{seen, opening_of}
 use Rattle.nmgc_round.specs.Seating.{all_together}
 use Rattle.nmgc_round.specs.Finishing.{HasAll, HasEach, IsFinished}
 use Rattle.nmgc_round.proofs.Finishings.{leaves}
@@ -9,14 +9,14 @@ use Rattle.nmgc_round.proofs.table.Round.finish.Goals as goal
 
 pub end-requires : goal.end-requires
 end-requires c =
-    let is : seen c.gather-last.result ≡ all_together (seen c.args.collector) (map seen c.args.mutators) = c.gather-last.ensures.1 ∙ ap (λ (l : List RoundSeat). all_together (seen c.args.collector) (map seen l)) c.into_vec.ensures in
+    let is : seen c.gather-last.result ≡ all_together (seen c.args.collector) (map seen c.args.mutators) = c.gather-last.ensures.1 in
     (c.gather-last.ensures.0, subst HasAll (sym is) c.requires.all)
 
 pub returns : goal.returns
 returns c =
     let o = opening_of c.args.self in
     let v : Seen = all_together (seen c.args.collector) (map seen c.args.mutators) in
-    let is : seen c.gather-last.result ≡ v = c.gather-last.ensures.1 ∙ ap (λ (l : List RoundSeat). all_together (seen c.args.collector) (map seen l)) c.into_vec.ensures in
+    let is : seen c.gather-last.result ≡ v = c.gather-last.ensures.1 in
     let same : v.opening ≡ o = same_opening (seen c.args.collector) (map seen c.args.mutators) ∙ c.requires.seats.1.2 in
     record {
       leaves = leaves o c.end.result v (subst (λ (u : Seen). IsFinished o c.end.result u) is c.end.ensures.0) (subst (λ (y : Opening). HasEach y v) same c.requires.all.1);

@@ -1,0 +1,17 @@
+-- Where the items of a list lie.
+use Rattle.std.specs.Prelude.{◌≡◌, List, length}
+use Rattle.nmgc_graph.specs.declared.list.Items.{Items}
+use Rattle.nmgc_graph.specs.declared.list.Items.TheVariants.{Pair, Single, Many}
+
+module _ {T : Type 0} where
+  -- the items in order, wherever they lie
+  abbrev pub items_of : Items T → List T
+  items_of (Pair pair) = pair.items
+  items_of (Single single) = single.items
+  items_of (Many items) = items.items
+
+  -- a pair has two items, and a single one has one
+  abbrev pub IsFull : Items T → Type 0
+  IsFull (Pair pair) = length pair.items ≡ 2
+  IsFull (Single single) = length single.items ≡ 1
+  IsFull (Many items) = Unit {0}

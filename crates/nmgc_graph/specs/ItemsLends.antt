@@ -1,0 +1,18 @@
+-- What the items of a list end as, where a `&mut` to them is returned. No public clause cites this module.
+use Rattle.std.specs.Prelude.{List}
+use Rattle.std.specs.Borrow.{Lends, Fml, RattleType, MutBor, Array}
+use Rattle.std.specs.Vec as vec
+use Rattle.arrayvec.specs.ArrayVec as inline
+use Rattle.nmgc_graph.specs.declared.list.Items.{Items}
+use Rattle.nmgc_graph.specs.declared.list.Items.TheVariants.{Pair, Single, Many}
+use Rattle.nmgc_graph.specs.contracts.list.Items.{the_row}
+
+-- the items that were written, where the old ones lay
+abbrev pub refilled : {T : Type 0} → Items T → List T → Items T
+refilled (Pair pair) written = Pair (inline.with_items pair written)
+refilled (Single single) written = Single (inline.with_items single written)
+refilled (Many items) written = Many (vec.with_items items written)
+
+-- once the borrow ends, the items are those that it shows last
+abbrev pub LendsThem : (T : RattleType) → MutBor (the_row T).Denot → MutBor (List T.Denot) → Fml
+LendsThem T items r = Lends (the_row T) (Array T 0) items r (refilled items.now)
