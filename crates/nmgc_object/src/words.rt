@@ -131,6 +131,7 @@ pub fn encode_header(header: Header) -> u64
 }
 
 /// The valid header that has this word. `None` comes exactly where there is none. Takes no memory.
+#[inline]
 pub fn decode_header(word: u64) -> Option<Header>
     ensures some { IfSome result (λ header. IsHeader header × (header_word header ≡ word)) }
     ensures none { IfNone result ((header : Header) → IsHeader header → header_word header ≢ word) }
@@ -161,6 +162,7 @@ pub fn encode_name(name: Name) -> u64
 }
 
 /// The name that has this word. `None` comes exactly where there is none. Takes no memory.
+#[inline]
 pub fn decode_name(word: u64) -> Option<Name>
     ensures some { IfSome result (λ name. IsName name × (name_word name ≡ word)) }
     ensures none { IfNone result ((name : Name) → IsName name → name_word name ≢ word) }

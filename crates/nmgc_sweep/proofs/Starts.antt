@@ -1,5 +1,5 @@
 -- What a sweeper notes as a cycle begins: block after block, and segment after segment.
-use Rattle.std.proofs.Common.{ℕ, ◌≡◌, ◌+◌, ◌*◌, ◌<◌, ◌≤◌, ◌∙◌, inl, inr, refl, sym, ap, subst, arith, List, [], ◌∷◌, ◌++◌, length, take, get_or, cond, Bool, true, false, not, slice_index, Option, Some, None}
+use Rattle.std.proofs.Common.{ℕ, ◌≡◌, ◌+◌, ◌*◌, ◌^◌, ◌<◌, ◌≤◌, ◌∙◌, inl, inr, refl, sym, ap, subst, arith, List, [], ◌∷◌, ◌++◌, length, take, get_or, cond, Bool, true, false, not, slice_index, Option, Some, None}
 use Rattle.std.specs.Prelude.{Contains, IsSome, filter, sum_by}
 use Rattle.std.proofs.lemmas.Bool.{cases_eq}
 use Rattle.std.proofs.Common.{mul-le-mul_right}
@@ -9,7 +9,10 @@ use Rattle.std.proofs.lemmas.List.Sums.{sum_by-cons}
 use Rattle.std.proofs.lemmas.List.Concat.{flat_map-append, flat_map-cons, length-flat_map}
 use Rattle.std.proofs.lemmas.List.Elements.{Contains-append_left, Contains-push, Contains-push_cases, filter_more}
 use Rattle.nmgc_graph.specs.declared.value.Name.{Name}
+use Rattle.nmgc_object.specs.declared.layout.Layout.{Layout}
 use Rattle.nmgc_object.specs.Parts.{name_place}
+use Rattle.nmgc_object.specs.Places.{segment_place}
+use Rattle.nmgc_object.specs.Size.{block_size}
 use Rattle.nmgc_object.specs.Words.{IsName, name_word}
 use Rattle.nmgc_segment.specs.Segment.{Segment, InUse, block_count}
 use Rattle.nmgc_segment.specs.declared.state.State.TheVariants.{Free, Sweeping}
@@ -40,6 +43,20 @@ name_in_heap s words number block sound stood there waits within =
     let up : (number + 1) * s.layout.words ≤ s.layout.segments * s.layout.words = let e : number + 1 ≤ s.layout.segments = omega (arith, exists) in mul-le-mul_right s.layout.words e in
     let total = stood.1.total in
     omega (arith, before, up, total)
+
+-- the place of a block fits into a place's 32 bits
+pub place_fits : (s : Segments) (words : List ℕ) (number block : ℕ) → IsSegments s → HasStood s words → HasNumber s number → IsWaiting s number → block < block_count (nth s.segments number) → block_place s.layout number (nth s.segments number).class block < 2 ^ 32
+place_fits s words number block sound stood there waits within =
+    let inside = name_in_heap s words number block sound stood there waits within in
+    let total = stood.1.total in
+    let heap = sound.layout.heap in
+    omega (arith, inside, total, heap)
+
+-- the place of a block, from that of its segment and the words of a block
+pub placed_at : (layout told : Layout) (number class given block base size : ℕ) → told ≡ layout → given ≡ class → base ≡ segment_place told number → size ≡ block_size given → base + block * size ≡ block_place layout number class block
+placed_at layout told number class given block base size e f b s =
+    ap (λ (x : ℕ). x + block * size) b ∙ ap (λ (x : ℕ). segment_place told number + block * x) s
+    ∙ ap (λ (l : Layout). segment_place l number + block * block_size given) e ∙ ap (λ (k : ℕ). block_place layout number k block) f
 
 some_of : (o : Option Name) → IsSome o → (n : Name) × (o ≡ Some n)
 some_of None h = absurd (cc)

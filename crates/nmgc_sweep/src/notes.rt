@@ -13,7 +13,7 @@ use nmgc_alloc::Segments;
 use nmgc_graph::{List, Name, NoMemory};
 use nmgc_heap::HeapWords;
 use nmgc_object::laws::words_differ;
-use nmgc_object::{Address, NAME_OFFSET, decode_name};
+use nmgc_object::{Address, NAME_OFFSET, block_words, decode_name};
 use nmgc_segment::Segment;
 use std::alloc::Global;
 
@@ -45,7 +45,8 @@ fn name_at<W: HeapWords>(words: &mut W, at: Address) -> Name
     }
 }
 
-/// Notes whose objects lie in a segment that waits to be swept.
+/// Notes whose objects lie in a segment that waits to be swept. Takes memory once, for as many notes as there are
+/// blocks.
 pub(crate) fn of_segment<W: HeapWords>(
     alloc: Global,
     words: &mut W,
@@ -58,16 +59,19 @@ pub(crate) fn of_segment<W: HeapWords>(
     ensures words { W.words words.new ≡ W.words words.old }
     ensures notes { IfOk result (λ notes. (a : AllocState) → StandsFor segments.now (W.words words.old) a → IsNotesOf (cells a number) notes) }
 {
-    let _ = segments.layout();
-    let mut notes = List::new(alloc);
-    let blocks = segments.segment(number).blocks();
+    let base = segments.layout().segment_base(number);
+    let segment = segments.segment(number);
+    let blocks = segment.blocks();
+    let size = block_words(segment.class());
+    let mut notes = Vec::with_capacity(alloc, blocks as usize)?;
     for block in 0..blocks {
-        if segments.segment(number).in_use(block) {
-            let name = name_at(words, segments.place_of(number, block));
-            notes.push(Note { block, name })?;
+        if segment.in_use(block) {
+            let at = base + block * size;
+            let name = name_at(words, Address(at));
+            notes.push_reserved(Note { block, name });
         }
     }
-    Ok(notes)
+    Ok(List::from_vec(notes))
 }
 
 // Whether the segment has the block, and it is in use.

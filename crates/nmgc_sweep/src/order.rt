@@ -3,11 +3,19 @@ ghost use Rattle.std.specs.List.Sorted.{IsPermutation};
 ghost use Rattle.nmgc_sweep.specs.Sweeper.{AreSorted};
 
 use nmgc_graph::Name;
+use std::alloc::Global;
 
-/// Puts names in order, in place.
-pub(crate) fn sort(names: &mut [Name])
+/// Puts names in order. They come in a few runs that are in order already, which the stable sort keeps and merges
+/// in linear time. It takes a buffer for as many names, and gives it back; where there is no memory for it, the
+/// sort in place does the same, only slower.
+pub(crate) fn sort(names: &mut [Name], alloc: Global)
     ensures permutation { IsPermutation names.old names.new }
     ensures sorted { AreSorted names.new }
 {
-    names.sort_unstable_by_key(|name| (name.maker, name.serial));
+    if names
+        .sort_by_key(alloc, |name| (name.maker, name.serial))
+        .is_err()
+    {
+        names.sort_unstable_by_key(|name| (name.maker, name.serial));
+    }
 }

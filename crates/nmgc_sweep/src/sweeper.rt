@@ -3,10 +3,12 @@
 //! The segments that wait are exactly those that are left, in the same order, so each sweep takes the notes at
 //! the front. Each name is judged once: its block is looked at after its segment's sweep, when a block is in use
 //! exactly where it was marked in this cycle, and before anything can be placed there. Room for all freed names
-//! is taken at the start, so that sweeping beside the mutators takes no memory.
+//! is taken at the start, so that sweeping beside the mutators takes no memory but a buffer for the sort, without
+//! which it is only slower.
 //!
 //! Easy to get wrong: the names that were had and freed lie in order of blocks, and several makers' segments
-//! alternate. They are sorted with the last segment, in place, and by maker before serial.
+//! alternate. They are sorted with the last segment, and by maker before serial. Each maker's names lie in a few
+//! runs, so the sort is one that keeps runs.
 ghost use Rattle.std.specs.Prelude.{ℕ, ◌≡◌, ◌≢◌, ◌+◌, ◌≤◌, [], length, min, IsTrue, IfOk, OnOk, ◌↔◌};
 ghost use Rattle.nmgc_segment.specs.Marks.{IsEpoch};
 ghost use Rattle.nmgc_alloc.specs.Segments.{HasNumber};
@@ -76,8 +78,10 @@ fn note<W: HeapWords>(
     ensures adds { OnOk result (AddsSection segments.now (W.words words.old) number swept.old.items swept.new.items left.old.items left.new.items had.old.items had.new.items) }
 {
     let notes = notes::of_segment(alloc, words, segments, number)?;
-    for note in notes.items() {
-        had.push(note.name)?;
+    let items = notes.items();
+    had.reserve(items.len())?;
+    for note in items {
+        had.push_reserved(note.name);
     }
     swept.push(number)?;
     left.push_back(Section { number, notes })?;
@@ -86,7 +90,7 @@ fn note<W: HeapWords>(
 
 impl Sweeper {
     /// Notes, as a cycle begins, the segments to be swept and the name of each block in use in them, and makes
-    /// room for the names that will be freed: the only memory that a sweeper takes. `Segments::prepare` was just
+    /// room for the names that will be freed: the only memory that a sweeper keeps. `Segments::prepare` was just
     /// called, and segments and words stand for an allocation state. `turns` is 0 then. No word changes.
     pub fn start<W: HeapWords>(
         alloc: Global,
@@ -122,7 +126,8 @@ impl Sweeper {
         })
     }
 
-    /// The numbers of the segments noted at the snapshot, in order. Takes no memory, as every call but `start`.
+    /// The numbers of the segments noted at the snapshot, in order. Takes no memory, as every call but `start` and
+    /// those that sweep.
     pub fn swept(&self) -> &[u32]
         ensures { result.now ≡ self.now.seen.swept }
     {
@@ -175,8 +180,9 @@ impl Sweeper {
         let segment = segments.segment(number);
         notes::free(segment, section.notes.items(), &mut self.freed);
         if self.left.is_empty() {
-            order::sort(self.had.as_mut_slice());
-            order::sort(self.freed.as_mut_slice());
+            let alloc = *self.had.allocator();
+            order::sort(self.had.as_mut_slice(), alloc);
+            order::sort(self.freed.as_mut_slice(), alloc);
         }
     }
 
@@ -185,7 +191,8 @@ impl Sweeper {
     ///
     /// `swept` is the lesser of `quota` and the number of those that waited. `finished` is false exactly where one
     /// is left. The segments that wait are exactly those that this sweeper noted and hasn't swept. Takes no
-    /// memory, and waits for nobody but the gate.
+    /// memory but, with the last segment, a buffer for the sort, without which it is only slower; and waits for
+    /// nobody but the gate.
     pub fn work<G: Gate>(&mut self, segments: &mut Segments, quota: u32, gate: &G) -> SweepWork
         requires left { AreLeft segments.old self.old.left }
         ensures swept { HasSwept segments.old segments.new self.old self.new result.swept }
