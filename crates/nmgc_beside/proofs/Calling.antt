@@ -17,24 +17,24 @@ use Rattle.nmgc_run.specs.Seen.{MutatorSeen}
 use Rattle.nmgc_run.specs.State.{Cycle, next_cycle, cycle_started}
 use Rattle.nmgc_mark.specs.Blocks.{AreOfBlocks, TiesAgree}
 use Rattle.nmgc_mark.specs.Tie.{IsTied as IsTiedByPlaces, with_places}
-use Rattle.nmgc_beside.specs.Begins.{all_prepared, with_names}
+use Rattle.nmgc_beside.specs.Prepares.{all_prepared}
 use Rattle.nmgc_beside.specs.Calls.{all_entries, SnapshotIsMarking, RoundIsMarking, AddIsMarking}
 use Rattle.nmgc_beside.specs.Owed.{gathered}
 use Rattle.nmgc_beside.specs.Rest.{with_rows}
-use Rattle.nmgc_beside.proofs.Beginning.{cycle_begins}
+use Rattle.nmgc_beside.proofs.Beginning.{opening_rests}
 use Rattle.nmgc_beside.proofs.Keeping.{add_keeps_marking, cycle_is_marking, round_keeps_marking}
 use Rattle.nmgc_beside.proofs.Preparing.{stop_begins}
 use Rattle.nmgc_beside.proofs.RoundHeap.{marked_holds}
-use Rattle.nmgc_beside.proofs.Taking.{machine_takes, places_mark}
+use Rattle.nmgc_beside.proofs.Taking.{machine_takes, places_mark, with_names}
 use Rattle.nmgc_beside.proofs.Tying.{MarksLaw, EndsLaw, core_facts, core_snapshot, heap_of_blocks, round_ends}
 
 pub snapshot_is_marking : MarksLaw → TiesAgree → SnapshotIsMarking
-snapshot_is_marking law agree layout s words old new ends weaks o spare h world sound sound_new known shared none settled same places snapshot marked tied queue_room nothing from noted =
+snapshot_is_marking law agree layout s words old new ends weaks o spare h world sound_new same places snapshot marked tied queue_room nothing from noted =
     let c : Cycle = next_cycle s in
     let core : Core = opening s.world in
     let k = stop_begins layout s words old ends weaks h in
     let m = marked_holds layout (cycle_started s) words (all_prepared old) new.segments ends weaks k.0 (marked.layout ∙ h.holds.layout_is) (marked.stands words _ k.0.holds.stands) in
-    let rest = (cycle_begins s old words h.places spare world sound h.holds.stands known shared none settled).1 in
+    let rest = opening_rests s world in
     let blocks : AreOfBlocks o c new.segments words (cycle_started s).allocation core = heap_of_blocks law layout (cycle_started s) words new.segments ends weaks c s.world core o m.0 sound_new rest.sound rest.machine same (places ∙ sym k.1 ∙ sym m.1) snapshot in
     let here : IsTiedByPlaces o (marks_of core) new.segments new.marker = subst (λ (w : World). IsTiedByPlaces o (marks_of (opening w)) new.segments new.marker) snapshot tied in
     let by_blocks : IsTied c (cycle_started s).allocation new.segments o.places new.marker core = (agree o c new.segments words (cycle_started s).allocation core new.marker blocks).1 (marked.scanned.epoch, here) in

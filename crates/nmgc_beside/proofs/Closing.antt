@@ -1,13 +1,17 @@
 -- At a stop the machine goes on by scans alone.
 use Rattle.std.proofs.Common.{◌≡◌, ◌+◌, ◌++◌, List, [], ◌∷◌, map, refl, sym, ap, subst, ◌∙◌, append-nil}
+use Rattle.std.specs.Prelude.{All}
 use Rattle.nmgc_graph.specs.History.{Row}
+use Rattle.nmgc_graph.specs.World.{World}
 use Rattle.nmgc_core.specs.Machine.{AreEmpty, after_scan}
 use Rattle.nmgc_core.specs.Run.{Runs}
 use Rattle.nmgc_core.specs.State.{State, opening}
-use Rattle.nmgc_round.specs.Events.{Happening, did, scanned, event_of, replay, rows_in}
+use Rattle.nmgc_round.specs.Events.{Happening, IsLegal, did, scanned, event_of, replay, rows_in}
+use Rattle.nmgc_run.specs.Marker.{IsFresh}
+use Rattle.nmgc_run.specs.State.{Cycle}
 use Rattle.nmgc_turn.specs.laws.Replays.{world_scanned}
 use Rattle.nmgc_mark.specs.Stopped.{AreScans}
-use Rattle.nmgc_beside.specs.Closes.{MachineScans}
+use Rattle.nmgc_beside.specs.Rest.{IsMachineAtRest}
 use Rattle.nmgc_beside.proofs.Going.{Leaves, runs_then, round_runs, leaves_round, same_owed}
 
 -- scans alone have no rows
@@ -16,7 +20,8 @@ no_rows [] alone = refl
 no_rows (did m c r ∷ hs) alone = absurd alone
 no_rows (scanned entry v ∷ hs) alone = no_rows hs alone
 
-pub machine_scans : MachineScans
+-- the machine at a stop goes on by scans alone, and is at rest again where it scanned whole objects
+pub machine_scans : (c : Cycle) (w : World) (core : State) (events : List Happening) → IsMachineAtRest c w core → IsLegal core events → AreScans events → All IsFresh (replay core events).queue → IsMachineAtRest c w (replay core events)
 machine_scans c w core events h legal scans fresh =
     let none : rows_in events ≡ [] = no_rows events scans in
     let t : State = replay core events in

@@ -1,33 +1,42 @@
 -- A marking cycle, kept over a round, a promotion and an add; and its pace.
-use Rattle.std.proofs.Common.{◌≡◌, ◌≢◌, ◌-◌, ◌*◌, ◌<◌, ◌≤◌, ◌↔◌, ℕ, true, false, List, [], ◌∷◌, length, refl, sym, ap, subst, ◌∙◌, arith, inl, inr, Some}
+use Rattle.std.proofs.Common.{◌≡◌, ◌≢◌, ◌-◌, ◌*◌, ◌<◌, ◌≤◌, ◌↔◌, ℕ, true, false, List, [], ◌∷◌, map, length, refl, sym, ap, subst, ◌∙◌, arith, inl, inr, Some}
 use Rattle.std.specs.Prelude.{Contains, slice_get}
 use Rattle.std.specs.List.{filter}
 use Rattle.nmgc_graph.specs.declared.value.Name.{Name}
-use Rattle.nmgc_graph.specs.World.{World}
+use Rattle.nmgc_graph.specs.World.{World, IsWorld}
+use Rattle.nmgc_reach.specs.Reachable.{IsSound}
 use Rattle.nmgc_reach.specs.laws.ItemLaws.{nothing_in}
 use Rattle.nmgc_object.specs.Places.{nursery_place}
 use Rattle.nmgc_object.specs.declared.layout.Layout.{Layout}
+use Rattle.nmgc_core.specs.declared.event.Entry.{Entry}
 use Rattle.nmgc_core.specs.Machine.{is_pushed_in}
 use Rattle.nmgc_core.specs.State.{State as Core, names_of, opening}
 use Rattle.nmgc_segment.specs.declared.state.State.TheVariants as stands
-use Rattle.nmgc_alloc.specs.AllocState.{AllocState, IsOne, IsIn, LiesIn}
+use Rattle.nmgc_alloc.specs.AllocState.{AllocState, IsOne, IsIn, LiesIn, cycle_begun}
 use Rattle.nmgc_heap.specs.Places.{Place}
 use Rattle.nmgc_round.specs.Events.{rows_in}
-use Rattle.nmgc_round.specs.Finishing.{places_then}
+use Rattle.nmgc_round.specs.Finishing.{IsFinished, places_then}
+use Rattle.nmgc_round.specs.Rule.{now}
+use Rattle.nmgc_round.specs.View.{Opening, Seen as View}
+use Rattle.nmgc_mutator.specs.declared.mutator.Mutator.{Mutator}
 use Rattle.nmgc_turn.specs.laws.Reading.{item}
+use Rattle.nmgc_run.specs.Census.{interval_of}
+use Rattle.nmgc_run.specs.Collector.{IsMarking, EachMutator, weaks_of}
 use Rattle.nmgc_run.specs.Listing.{ListsNumbers}
 use Rattle.nmgc_run.specs.Marker.{AreAt, AreRemembered, IsCoreOf, IsTied, HasRoomToMark}
 use Rattle.nmgc_run.specs.Marks.{HasNoted, epoch_of}
 use Rattle.nmgc_run.specs.Seen.{Seen, CycleSeen, MarkerSeen, MutatorSeen, SweeperSeen}
-use Rattle.nmgc_run.specs.State.{Cycle, next_cycle}
-use Rattle.nmgc_beside.specs.Rest.{with_rows}
+use Rattle.nmgc_run.specs.State.{Cycle, State, next_cycle, cycle_started}
+use Rattle.nmgc_beside.specs.Owed.{GoesOn}
+use Rattle.nmgc_beside.specs.Rest.{IsMachineAtRest, with_rows}
 use Rattle.nmgc_beside.specs.Stays.{places_after}
-use Rattle.nmgc_beside.specs.Keeps.{NoneRemember, CycleIsMarking, StopIsAtRest, RoundKeepsMarking, PromotionKeepsMarking, AddKeepsMarking, PaceAfterRound, PaceAtStop, PaceBegins}
+use Rattle.nmgc_beside.specs.Keeps.{NoneRemember, HasLeft, ShowEntries, PromotionKeepsMarking, PaceAfterRound, PaceAtStop, PaceBegins}
 use Rattle.nmgc_beside.proofs.Beginning.{IsBegun, begun, none_at_first}
 use Rattle.nmgc_beside.proofs.Pacing.{one_more}
 use Rattle.nmgc_beside.proofs.Pushing.{all_empty, each_empty}
 use Rattle.nmgc_beside.proofs.Snapshots.{IsReachedBy, reached_core}
 use Rattle.nmgc_beside.proofs.Staying.{remembered_stays, tie_is_kept}
+use Rattle.nmgc_beside.proofs.Taking.{HasTaken}
 
 -- where nothing is remembered, nothing that counts was pushed
 none_at : (places : List Place) (names : List Name) → AreAt places [] names → names ≡ []
@@ -43,7 +52,10 @@ none_pushed c places entries pushed none r =
 none_low : (seen : Seen) → NoneRemember seen → (k : ℕ) (mutator : MutatorSeen) → slice_get seen.mutators k ≡ Some mutator → (at : ℕ) → Contains mutator.entries at → at < nursery_place seen.segments.layout 0
 none_low seen nothing k mutator there at d = absurd (nothing_in at (subst (λ (l : List ℕ). Contains l at) (nothing k mutator there) d))
 
-pub cycle_is_marking : CycleIsMarking
+-- a cycle begins: the marker has marked what the machine marks of the roots, and the sweeper has noted what it is to sweep
+pub cycle_is_marking : (s : State) (seen : Seen) (places : List Place) → IsWorld s.world → IsTied (next_cycle s) (cycle_begun s.allocation) seen.segments places seen.marker (opening s.world) → HasRoomToMark seen.segments seen.marker
+    → EachMutator seen (λ m mutator. weaks_of s.world m seen.weaks ≤ mutator.queue.spare) → NoneRemember seen → seen.cycle.from ≡ s.number → HasNoted (next_cycle s) seen.sweeper
+    → IsMarking (next_cycle s) (cycle_started s) seen places
 cycle_is_marking s seen places world tied room queue_room nothing from noted =
     let core : Core = opening s.world in
     let b : IsBegun s.world core = begun s.world in
@@ -60,7 +72,9 @@ cycle_is_marking s seen places world tied room queue_room nothing from noted =
       noted = noted;
     }
 
-pub stop_is_at_rest : StopIsAtRest
+-- at a stop the machine is at rest, and what it is to scan is at the places in the marker's queue
+pub stop_is_at_rest : (c : Cycle) (s : State) (seen : Seen) (places : List Place) (h : IsMarking c s seen places) → IsSound (interval_of c) → length seen.mutators ≡ length s.world.mutators → NoneRemember seen →
+    IsMachineAtRest c s.world h.core × AreAt places seen.marker.queue (map (λ (entry : Entry). entry.name) h.core.queue)
 stop_is_at_rest c s seen places h sound many nothing =
     let core : Core = h.core in
     let r : IsReachedBy c.snapshot c.rows core = reached_core c s.world core sound h.machine in
@@ -84,7 +98,10 @@ still_noted c d old new number heap same n = subst (HasNoted d) (sym same) (reco
   once = n.once;
 })
 
-pub round_keeps_marking : RoundKeepsMarking
+-- over a round: with the machine as it goes on, and a marker that is tied to it and has room
+pub round_keeps_marking : (c : Cycle) (s t : State) (old new : Seen) (o : Opening) (words : List ℕ) (v : View) (h : IsFinished o words v) (mutators : List Mutator) (core : Core) → IsMarking c s old o.places → GoesOn c o words v h mutators core → t.world ≡ (now o h.events).world
+    → IsTied (with_rows c (rows_in h.events)) t.allocation new.segments (places_then o h.born) new.marker core → HasRoomToMark new.segments new.marker → new.segments.layout ≡ o.layout → HasLeft c old new → ShowEntries new mutators
+    → IsMarking (with_rows c (rows_in h.events)) t new (places_then o h.born)
 round_keeps_marking c s t old new o words v h mutators core was goes world tied room layout left entries =
     let d : Cycle = with_rows c (rows_in h.events) in
     record {
@@ -124,7 +141,9 @@ promotion_keeps_marking c s old new t words after registers queues moves placed 
       noted = still_noted c c old.sweeper new.sweeper refl refl left.sweeper was.noted;
     }
 
-pub add_keeps_marking : AddKeepsMarking
+-- once the marker has added what was remembered, which the machine took: nothing is remembered any more
+pub add_keeps_marking : (c : Cycle) (s : State) (old new : Seen) (places : List Place) (names : List Name) (core : Core) (h : IsMarking c s old places) → HasTaken c s.world h.core names core → IsTied c s.allocation new.segments places new.marker core → HasRoomToMark new.segments new.marker → HasLeft c old new → NoneRemember new →
+    IsMarking c s new places
 add_keeps_marking c s old new places names core was taken tied room left nothing = record {
   core = core;
   machine = taken.machine;

@@ -23,9 +23,7 @@ use Rattle.nmgc_heap.specs.Roots.{RepresentsRoots}
 use Rattle.nmgc_heap.specs.laws.Changes.{remembered}
 use Rattle.nmgc_run.specs.Heap.{IsPlaceAtStop, registers_of, serials_of, snapshots}
 use Rattle.nmgc_run.specs.Marks.{epoch_of}
-use Rattle.nmgc_beside.specs.Begins.{all_prepared}
-use Rattle.nmgc_beside.specs.Prepares.{StopIsPrepared, StopBegins, FreeStays, StopForgets}
-use Rattle.nmgc_run.specs.laws.CycleCounts.{free_kept}
+use Rattle.nmgc_beside.specs.Prepares.{StopIsPrepared, StopBegins, all_prepared}
 use Rattle.nmgc_beside.proofs.Beginning.{unmarked_there}
 
 -- a segment keeps its class as a cycle begins, and so each block its place
@@ -72,27 +70,6 @@ stop_begins layout s words segments ends weaks h = (
       roots = h.holds.roots;
       layout_is = h.holds.layout_is;
       stands = prepared_stands segments words s.allocation h.holds.stands;
-    };
-    listed = h.listed;
-  },
-  refl,
-)
-
-pub free_stays : FreeStays
-free_stays s = free_kept s.allocation.segments
-
-pub stop_forgets : StopForgets
-stop_forgets layout s progress words segments ends weaks none h = (
-  record {
-    places = h.places;
-    all = h.all;
-    holds = record {
-      fit = h.holds.fit;
-      represents = no_snapshot layout (snapshots s.progress) (snapshots progress) h.places s.world words none h.holds.represents;
-      registers = h.holds.registers;
-      roots = h.holds.roots;
-      layout_is = h.holds.layout_is;
-      stands = h.holds.stands;
     };
     listed = h.listed;
   },

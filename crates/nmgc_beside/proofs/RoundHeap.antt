@@ -1,5 +1,5 @@
 -- What a round leaves of the heap of a stop, in the words of a run; and what a promotion makes of it.
-use Rattle.std.proofs.Common.{◌≡◌, ◌≢◌, ◌⊎◌, ◌+◌, ◌<◌, ℕ, List, ◌∷◌, map, refl, sym, ap, subst, ◌∙◌, arith, inl, inr, Some, None, slice_index}
+use Rattle.std.proofs.Common.{◌≡◌, ◌≢◌, ◌⊎◌, ◌+◌, ℕ, List, ◌∷◌, map, refl, sym, ap, subst, ◌∙◌, arith, inl, inr, Some, None, slice_index}
 use Rattle.std.specs.Prelude.{IsSome, Contains}
 use Rattle.std.proofs.lemmas.List.Elements.{Contains-append_left, Contains-append_right}
 use Rattle.nmgc_graph.specs.declared.value.Name.{Name}
@@ -7,7 +7,7 @@ use Rattle.nmgc_graph.specs.World.{World, node_of}
 use Rattle.nmgc_graph.specs.laws.Orders.{contains_tail}
 use Rattle.nmgc_graph.specs.laws.Worlds.{is_some_of}
 use Rattle.nmgc_reach.specs.laws.HeldSteps.{absent, some_of}
-use Rattle.nmgc_object.specs.Places.{InNursery, nursery_place, word_total}
+use Rattle.nmgc_object.specs.Places.{InNursery, word_total}
 use Rattle.nmgc_object.specs.declared.layout.Layout.{Layout}
 use Rattle.nmgc_object.specs.declared.size.TheConstants.{HEADER_WORDS}
 use Rattle.nmgc_object.specs.declared.words.Header.{Header}
@@ -18,11 +18,10 @@ use Rattle.nmgc_alloc.specs.Segments.{Segments, block_place}
 use Rattle.nmgc_heap.specs.Shape.{size_of}
 use Rattle.nmgc_heap.specs.Places.{Place}
 use Rattle.nmgc_heap.specs.Represents.{Represents, NoNode, IsEarlier}
-use Rattle.nmgc_heap.specs.Roots.{RepresentsRoots, ListsWeaks}
+use Rattle.nmgc_heap.specs.Roots.{ListsWeaks}
 use Rattle.nmgc_heap.specs.laws.Changes.{remembered}
 use Rattle.nmgc_heap.specs.laws.CommandLaws.{world_is_earlier}
 use Rattle.nmgc_heap.specs.laws.Moving.{contains_map}
-use Rattle.nmgc_blocks.specs.Occupied.{AreBlocks}
 use Rattle.nmgc_journal.specs.declared.report.MutatorEnd.{MutatorEnd}
 use Rattle.nmgc_round.specs.View.{Opening, Seen as View}
 use Rattle.nmgc_round.specs.Objects.{Object, place_of, earlier}
@@ -30,12 +29,9 @@ use Rattle.nmgc_round.specs.Rule.{now}
 use Rattle.nmgc_round.specs.Finishing.{IsKeptThen, places_then}
 use Rattle.nmgc_turn.specs.laws.Placed.{place_cases}
 use Rattle.nmgc_turn.specs.laws.Replays.{still_earlier}
-use Rattle.nmgc_turn.specs.laws.Rests.{settled_low}
 use Rattle.nmgc_run.specs.Heap.{FitBlocks, Holds, HoldsAfterRound, IsPlaceAtStop, IsBornPlace, snapshots}
-use Rattle.nmgc_run.specs.Places.{BlocksArePlaces}
 use Rattle.nmgc_run.specs.State.{State}
-use Rattle.nmgc_beside.specs.Heaps.{IsRoundFrom, RoundHolds, PromotionHolds, MarkedHolds}
-use Rattle.nmgc_beside.specs.Stays.{places_after}
+use Rattle.nmgc_beside.specs.Heaps.{IsRoundFrom, RoundHolds, MarkedHolds}
 
 -- a segment with a name isn't free
 pub not_free : (own : Cells) (block : ℕ) (name : Name) → (own.state ≡ stands.Free → own ≡ no_cells) → name_in own block ≡ Some name → own.state ≢ stands.Free
@@ -67,7 +63,7 @@ module _ (layout : Layout) (s t : State) (o : Opening) (before after : List ℕ)
       let w : World = (now o r.left.0.events).world in
       let all : List World = o.core.world ∷ earlier o in
       let plain : Represents o.layout all NoNode places w after = remembered o.layout all all (IsKeptThen o born) NoNode places w after (record { worlds = λ e d. contains_tail w all e d; nodes = λ name node none. absurd none }) r.left.1 in
-      subst (λ (y : Layout × World × List World × World). Represents y.0 (y.1 ∷ y.2) NoNode places y.3 after) (λ i. (r.layout_is i, r.began i, sym r.spoken i, sym r.world_is i)) plain
+      subst (λ (y : Layout × World × List World × World). Represents y.0 (y.1 ∷ y.2) NoNode places y.3 after) (λ i. (r.layout_is i, r.began i, sym r.earlier_is i, sym r.world_is i)) plain
 
   -- no header changed
   still : IsEarlier s.world t.world
@@ -170,30 +166,6 @@ module _ (layout : Layout) (s t : State) (o : Opening) (before after : List ℕ)
 
 pub round_holds : RoundHolds
 round_holds layout s t o before after v old new ends later weaks r = holds layout s t o before after v old new ends later weaks r
-
-pub promotion_holds : BlocksArePlaces → PromotionHolds
-promotion_holds back layout s t new after registers queues moves placed ends weaks p =
-    let h = p.is_settled in
-    let places : List Place = places_after new moves t in
-    let represents : Represents layout (snapshots s.progress) NoNode places s.world after = subst (λ (y : Layout × List World × World). Represents y.0 y.1 NoNode places y.2 after) (λ i. (p.layout_is i, p.spoken i, p.world_is i)) h.represents in
-    let same : nursery_place new.layout 0 ≡ nursery_place layout 0 = ap (λ (l : Layout). nursery_place l 0) p.layout_is in
-    let blocks = subst (λ (y : ℕ × World). AreBlocks new y.0 places y.1) (λ i. (same i, p.world_is i)) h.blocks in
-    let told = back layout (snapshots s.progress) places s.world placed after new represents p.sound p.layout_is p.stands (λ q d. subst (λ n. q.at < n) same (settled_low t new after registers queues moves h q d)) blocks in (
-      record {
-        places = places;
-        all = told.1;
-        holds = record {
-          fit = told.0;
-          represents = represents;
-          registers = p.whole;
-          roots = subst (λ (y : List ℕ × List (List ℕ) × List ℕ × World). RepresentsRoots places y.3 y.0 y.1 y.2) (λ i. (sym p.registers_are i, sym p.queues_are i, sym p.serials_are i, p.world_is i)) h.roots;
-          layout_is = p.layout_is;
-          stands = p.stands;
-        };
-        listed = p.listed;
-      },
-      refl,
-    )
 
 pub marked_holds : MarkedHolds
 marked_holds layout s words old new ends weaks h same stands = (

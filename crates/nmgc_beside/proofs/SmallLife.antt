@@ -1,5 +1,5 @@
 -- The small life of `nmgc_run` has a heap at rest beside a marking cycle.
-use Rattle.std.proofs.Common.{◌≡◌, ◌<◌, ◌≤◌, ◌^◌, ◌-◌, ℕ, zero, suc, [], ◌∷◌, length, replicate, refl, sym, ap, subst, ◌∙◌, arith, lit<, lit≤, Some}
+use Rattle.std.proofs.Common.{◌≡◌, ◌<◌, ◌≤◌, ◌^◌, ◌-◌, ℕ, zero, suc, List, [], ◌∷◌, length, replicate, refl, sym, ap, subst, ◌∙◌, arith, lit<, lit≤, Some}
 use Rattle.std.specs.Prelude.{All, slice_get, slice_index}
 use Rattle.std.proofs.lemmas.List.Elements.{All-nil, All-cons}
 use lib.Count.{ones}
@@ -15,13 +15,17 @@ use Rattle.nmgc_alloc.specs.laws.Numbers.{nth_free, unmarked}
 use Rattle.nmgc_journal.specs.declared.report.Phase.TheVariants.{Marking}
 use Rattle.nmgc_mutator.specs.declared.mutator.Mutator.{Mutator}
 use Rattle.nmgc_mutator.specs.Ready.{IsWhole}
+use Rattle.nmgc_run.specs.Collector.{HoldsInCycle, IsAtStop, IsMarking, IsPacedAtStop}
 use Rattle.nmgc_run.specs.Life.{LifeIsSeen, array_layout, array_plan, marking_seen, waiting_segment}
 use Rattle.nmgc_run.specs.Run.{Run, last_state}
+use Rattle.nmgc_run.specs.Seen.{Seen}
 use Rattle.nmgc_run.specs.Slice.{program_of}
 use Rattle.nmgc_run.specs.Sound.{IsRunnable}
-use Rattle.nmgc_run.specs.State.{Cycle, Progress, idle, marking, sweeping, phase_of}
+use Rattle.nmgc_run.specs.State.{Plan, Cycle, State, Progress, idle, marking, sweeping, phase_of}
+use Rattle.nmgc_run.specs.laws.Runs.{states_are_sound}
 use Rattle.nmgc_beside.specs.Heaps.{AreShown, SmallLifeRests, marking_mutator}
-use Rattle.nmgc_beside.proofs.Stopping.{stop_rests}
+use Rattle.nmgc_beside.specs.Rest.{IsAtRest}
+use Rattle.nmgc_beside.proofs.Stopping.{rests}
 
 -- a progress whose phase is marking
 marking_of : (p : Progress) → Marking ≡ phase_of p → (c : Cycle) × (p ≡ marking c)
@@ -121,10 +125,18 @@ each_shown (suc k) m e = absurd cc
 are_shown : AreShown array_layout marking_seen (marking_mutator ∷ [])
 are_shown = record { are = refl; each = each_shown }
 
+-- the heap at a stop of a run is at rest, with the machine to which the marker is tied
+stop_rests : (plan : Plan) (run : Run) (seen : Seen) (c : Cycle) (mutators : List Mutator) → IsRunnable plan → (h : IsAtStop plan run seen) → (last_state run).progress ≡ marking c → IsSegments seen.segments → AreShown seen.segments.layout seen mutators →
+    (k : IsMarking c (last_state run) seen h.heap.places) × IsAtRest c k.core seen.segments h.heap.places (last_state run).world seen.words mutators seen.marker.queue
+stop_rests plan run seen c mutators runnable h marks segments are =
+    let s : State = last_state run in
+    let both : IsMarking c s seen h.heap.places × IsPacedAtStop plan.config.quota c s seen = subst (λ (p : Progress). HoldsInCycle (λ (k : Cycle). IsPacedAtStop plan.config.quota k s seen) p s seen h.heap.places) marks h.cycle in
+    (both.0, rests plan s seen c mutators (states_are_sound plan run runnable h.is_run) h.heap h.at_rest marks both.0 segments are)
+
 pub small_life_rests : LifeIsSeen → SmallLifeRests
 small_life_rests life =
     let run : Run = life.marking.0 in
     let h = life.marking.1 in
     let c = marking_of (last_state run).progress h.matches.phase in
     let r = stop_rests array_plan run marking_seen c.0 (marking_mutator ∷ []) runnable h c.1 segments_sound are_shown in
-    (are_shown, (c.0, r.0.core, h.heap.places, (last_state run).world, r.2))
+    (are_shown, (c.0, r.0.core, h.heap.places, (last_state run).world, r.1))

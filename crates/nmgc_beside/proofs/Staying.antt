@@ -27,16 +27,13 @@ use Rattle.nmgc_alloc.specs.laws.Cells.{free_empty}
 use Rattle.nmgc_alloc.specs.laws.Placing.{free_or_not}
 use Rattle.nmgc_alloc.specs.laws.Sound.{stands_sound}
 use Rattle.nmgc_heap.specs.Places.{Place}
-use Rattle.nmgc_heap.specs.Moves.{Moved, old_place, settled}
-use Rattle.nmgc_heap.specs.Represents.{Represents, NoNode}
-use Rattle.nmgc_heap.specs.Roots.{RepresentsRoots}
+use Rattle.nmgc_heap.specs.Moves.{Moved, old_place}
 use Rattle.nmgc_heap.specs.laws.Moving.{map_contains, settled_stays}
 use Rattle.nmgc_blocks.specs.Stopped.{Stopped, young_base}
-use Rattle.nmgc_turn.specs.laws.Rests.{settled_low}
-use Rattle.nmgc_run.specs.Marker.{AreAt, IsCoreOf, IsRightSnapshot, AreMarked, IsTied, HasRoomToMark}
+use Rattle.nmgc_run.specs.Marker.{AreAt, AreRemembered, IsCoreOf, IsRightSnapshot, AreMarked, IsTied, HasRoomToMark}
 use Rattle.nmgc_run.specs.Seen.{MarkerSeen}
 use Rattle.nmgc_run.specs.State.{Cycle}
-use Rattle.nmgc_beside.specs.Stays.{HasPromoted, places_after, TieStays, RememberedStays, SettledIsAtRest}
+use Rattle.nmgc_beside.specs.Stays.{HasPromoted, places_after}
 use Rattle.nmgc_beside.proofs.Beginning.{epoch_is_some, epoch_is_epoch, lies_within}
 use Rattle.nmgc_beside.proofs.Placing.{Stay, each_stay}
 
@@ -50,7 +47,8 @@ at_kept places more (at ∷ ats) (name ∷ names) kept h = (
   at_kept places more ats names (λ p c d e. kept p c (contains_tail at ats p.at d) (contains_tail name names p.name e)) h.1,
 )
 
-pub remembered_stays : RememberedStays
+-- what was remembered at places below the nurseries is at these places still
+pub remembered_stays : (c : Cycle) (t : Stopped) (new : Segments) (moves : List Moved) (entries : List ℕ) (pushed : List Name) → ((at : ℕ) → Contains entries at → at < young_base new) → AreRemembered c t.places entries pushed → AreRemembered c (places_after new moves t) entries pushed
 remembered_stays c t new moves entries pushed low r = record {
   names = r.names;
   at = at_kept t.places (places_after new moves t) entries r.names (λ p d e f. settled_stays (young_base new) moves t.places p d (low p.at e)) r.at;
@@ -189,22 +187,10 @@ module _ (c : Cycle) (t : Stopped) (s new : Segments) (words after registers : L
   room_stays : HasRoomToMark s marker → HasRoomToMark new marker
   room_stays r = record { places = r.places; all = λ at snap not. r.all at (snapshot_at at snap) (λ was. not (marked_at at was)); room = r.room }
 
-pub tie_is_kept : TieStays
+-- the marker is tied to the same machine, at the places after the promotion, and has room as before
+pub tie_is_kept : (c : Cycle) (t : Stopped) (s new : Segments) (words after registers : List ℕ) (queues : List (List ℕ)) (moves : List Moved) (allocation placed : AllocState) (marker : MarkerSeen) (core : Core) → HasPromoted c t s new words after registers queues moves allocation placed → IsWorld c.snapshot → IsCoreOf c t.world core → IsTied c allocation s t.places marker core →
+    IsTied c placed new (places_after new moves t) marker core × (HasRoomToMark s marker → HasRoomToMark new marker)
 tie_is_kept c t s new words after registers queues moves allocation placed marker core h world machine tied = (
   tie_stays c t s new words after registers queues moves allocation placed marker core h world machine tied,
   room_stays c t s new words after registers queues moves allocation placed marker core h world machine tied,
 )
-
-pub settled_rests : SettledIsAtRest
-settled_rests c core t s words registers queues moves mutators queue later world machine sound h forwarded waits = record {
-  world = world;
-  machine = machine;
-  sound = sound;
-  represents = subst (λ (l : List World). Represents s.layout l NoNode (settled (young_base s) moves t.places) t.world words) later h.represents;
-  roots = subst (λ (y : List ℕ × List (List ℕ) × List ℕ). RepresentsRoots (settled (young_base s) moves t.places) t.world y.0 y.1 y.2) (λ i. (sym forwarded.registers_are i, sym forwarded.queues_are i, sym forwarded.serials_are i)) h.roots;
-  blocks = h.blocks;
-  low = settled_low t s words registers queues moves h;
-  count = forwarded.count;
-  mutators_are = forwarded.each;
-  waits = waits;
-}

@@ -1,4 +1,4 @@
--- At a stop of a run while a cycle marks, the heap is at rest beside the cycle.
+-- At a stop while a cycle marks, the heap is at rest beside the cycle.
 use Rattle.std.proofs.Common.{◌≡◌, ◌+◌, ◌++◌, ◌<◌, ℕ, List, [], ◌∷◌, length, map, refl, sym, ap, subst, ◌∙◌, arith, inl, inr, Some}
 use Rattle.std.specs.Prelude.{slice_get, Contains}
 use Rattle.std.proofs.lemmas.List.{length-map}
@@ -23,17 +23,15 @@ use Rattle.nmgc_mutator.specs.Ready.{IsUnused}
 use Rattle.nmgc_mutator.specs.Records.{numbers}
 use Rattle.nmgc_turn.specs.Rest.{IsResting}
 use Rattle.nmgc_turn.specs.Worked as turn
-use Rattle.nmgc_run.specs.Collector.{AreAtRest, IsMarking, IsPacedAtStop, HoldsInCycle}
+use Rattle.nmgc_run.specs.Collector.{AreAtRest, IsMarking}
 use Rattle.nmgc_run.specs.Heap.{HoldsAtStop, registers_of, queues_of, serials_of, snapshots}
-use Rattle.nmgc_run.specs.Run.{last_state}
 use Rattle.nmgc_run.specs.Seen.{Seen, MutatorSeen, end_of, ends_of, nurseries_of}
 use Rattle.nmgc_run.specs.Sound.{IsSoundState, IsInCycle}
 use Rattle.nmgc_run.specs.State.{Plan, Cycle, State, Progress, marking, layout_of}
 use Rattle.nmgc_run.specs.laws.Places.{blocks_at_stop, block_used}
-use Rattle.nmgc_run.specs.laws.Runs.{states_are_sound}
 use Rattle.nmgc_round.specs.View.{Opening}
 use Rattle.nmgc_mark.specs.Blocks.{AreOfBlocks, TiesAgree}
-use Rattle.nmgc_beside.specs.Heaps.{shown, AreShown, HeapRests, StopRests}
+use Rattle.nmgc_beside.specs.Heaps.{seen_mutator, AreShown, HeapRests}
 use Rattle.nmgc_beside.specs.Rest.{IsAtRest, opening_beside}
 use Rattle.nmgc_beside.proofs.Keeping.{stop_is_at_rest}
 use Rattle.nmgc_beside.proofs.Opens.{rest_opens}
@@ -41,17 +39,17 @@ use Rattle.nmgc_beside.proofs.Tying.{MarksLaw, core_snapshot, heap_of_blocks}
 
 -- the roots of mutators, as a run reads them and as a turn does
 abbrev told : List Mutator → List MutatorSeen
-told mutators = map shown mutators
+told mutators = map seen_mutator mutators
 
-same_registers : (ms : List Mutator) → registers_of (map end_of (map shown ms)) ≡ turn.registers_of ms
+same_registers : (ms : List Mutator) → registers_of (map end_of (map seen_mutator ms)) ≡ turn.registers_of ms
 same_registers [] = refl
 same_registers (m ∷ ms) = ap (λ (l : List ℕ). m.registers ++ l) (same_registers ms)
 
-same_queues : (ms : List Mutator) → queues_of (map end_of (map shown ms)) ≡ turn.queues_of ms
+same_queues : (ms : List Mutator) → queues_of (map end_of (map seen_mutator ms)) ≡ turn.queues_of ms
 same_queues [] = refl
 same_queues (m ∷ ms) = ap (λ (l : List (List ℕ)). m.queue.words ∷ l) (same_queues ms)
 
-same_serials : (ms : List Mutator) → serials_of (map end_of (map shown ms)) ≡ turn.serials_of ms
+same_serials : (ms : List Mutator) → serials_of (map end_of (map seen_mutator ms)) ≡ turn.serials_of ms
 same_serials [] = refl
 same_serials (m ∷ ms) = ap (λ (l : List ℕ). m.serial ∷ l) (same_serials ms)
 
@@ -82,12 +80,12 @@ module _ (plan : Plan) (s : State) (seen : Seen) (c : Cycle) (mutators : List Mu
         omega (arith, four, below, at)
   ]
 
-  seen_at : (k : ℕ) (m : Mutator) → slice_get mutators k ≡ Some m → slice_get seen.mutators k ≡ Some (shown m)
-  seen_at k m e = subst (λ (l : List MutatorSeen). slice_get l k ≡ Some (shown m)) (sym are.are) (item_map shown mutators k m e)
+  seen_at : (k : ℕ) (m : Mutator) → slice_get mutators k ≡ Some m → slice_get seen.mutators k ≡ Some (seen_mutator m)
+  seen_at k m e = subst (λ (l : List MutatorSeen). slice_get l k ≡ Some (seen_mutator m)) (sym are.are) (item_map seen_mutator mutators k m e)
 
   roots : RepresentsRoots places s.world (turn.registers_of mutators) (turn.queues_of mutators) (turn.serials_of mutators)
   roots =
-      let e : ends_of seen ≡ map end_of (map shown mutators) = ap (λ (l : List MutatorSeen). map end_of l) are.are in
+      let e : ends_of seen ≡ map end_of (map seen_mutator mutators) = ap (λ (l : List MutatorSeen). map end_of l) are.are in
       subst (λ (y : List ℕ × List (List ℕ) × List ℕ). RepresentsRoots places s.world y.0 y.1 y.2)
       (λ i. ((ap registers_of e ∙ same_registers mutators) i, (ap queues_of e ∙ same_queues mutators) i, (ap serials_of e ∙ same_serials mutators) i))
       heap.holds.roots
@@ -102,7 +100,7 @@ module _ (plan : Plan) (s : State) (seen : Seen) (c : Cycle) (mutators : List Mu
   unused k m e =
       let own = are.each k m e in
       let rest = at_rest in
-      let at : nursery_at (nurseries_of seen) k ≡ m.nursery = get_or_from_slice_get (nurseries_of seen) k m.nursery _ (item_map (λ (x : MutatorSeen). x.nursery) seen.mutators k (shown m) (seen_at k m e)) in
+      let at : nursery_at (nurseries_of seen) k ≡ m.nursery = get_or_from_slice_get (nurseries_of seen) k m.nursery _ (item_map (λ (x : MutatorSeen). x.nursery) seen.mutators k (seen_mutator m) (seen_at k m e)) in
       let same : m.layout ≡ layout_of plan = own.1 ∙ layout_is in
       let within = slice_get_within mutators k m e in
       let as_many = ap (λ (l : Layout). l.mutators) layout_is in
@@ -116,7 +114,7 @@ module _ (plan : Plan) (s : State) (seen : Seen) (c : Cycle) (mutators : List Mu
   resting : (k : ℕ) (m : Mutator) → slice_get mutators k ≡ Some m → IsResting seen.segments.layout k m
   resting k m e =
       let own = are.each k m e in
-      let nothing = at_rest.nothing k (shown m) (seen_at k m e) in
+      let nothing = at_rest.nothing k (seen_mutator m) (seen_at k m e) in
       record {
         number_is = own.0;
         layout_is = own.1;
@@ -126,9 +124,9 @@ module _ (plan : Plan) (s : State) (seen : Seen) (c : Cycle) (mutators : List Mu
         no_weaks = none_told m.young_weaks.items nothing.young_weaks;
       }
 
-  rests : IsAtRest c kept.core seen.segments places s.world seen.words mutators seen.marker.queue
+  pub rests : IsAtRest c kept.core seen.segments places s.world seen.words mutators seen.marker.queue
   rests =
-      let length_seen : length seen.mutators ≡ length s.world.mutators = ap (λ (l : List MutatorSeen). length l) are.are ∙ length-map mutators shown ∙ many in
+      let length_seen : length seen.mutators ≡ length s.world.mutators = ap (λ (l : List MutatorSeen). length l) are.are ∙ length-map mutators seen_mutator ∙ many in
       let at_stop = stop_is_at_rest c s seen places kept in_cycle.0 length_seen (λ k mutator e. (at_rest.nothing k mutator e).entries) in
       record {
         world = sound.world;
@@ -152,9 +150,3 @@ heap_rests law agree plan s seen c mutators sound heap at_rest marks kept segmen
     let snapshot = core_snapshot c s.world kept.core interval kept.machine in
     let blocks : AreOfBlocks o c seen.segments seen.words s.allocation kept.core = heap_of_blocks law (layout_of plan) s seen.words seen.segments (ends_of seen) seen.weaks c s.world kept.core o heap segments interval kept.machine heap.holds.layout_is refl snapshot in
     (rest, record { opens = (rest_opens c kept.core seen.segments heap.places s.world seen.words mutators seen.marker.queue rest).0; tied = ((agree o c seen.segments seen.words s.allocation kept.core seen.marker blocks).0 kept.tied).1 })
-
-pub stop_rests : StopRests
-stop_rests plan run seen c mutators runnable h marks segments are =
-    let s : State = last_state run in
-    let both : IsMarking c s seen h.heap.places × IsPacedAtStop plan.config.quota c s seen = subst (λ (p : Progress). HoldsInCycle (λ (k : Cycle). IsPacedAtStop plan.config.quota k s seen) p s seen h.heap.places) marks h.cycle in
-    (both.0, both.1, rests plan s seen c mutators (states_are_sound plan run runnable h.is_run) h.heap h.at_rest marks both.0 segments are)

@@ -15,7 +15,7 @@ use Rattle.nmgc_segment.specs.declared.state.State.{State as Stands}
 use Rattle.nmgc_segment.specs.declared.state.State.TheVariants as stands
 use Rattle.nmgc_segment.specs.laws.Segments.{mark-map}
 use Rattle.nmgc_alloc.specs.Search.{nth}
-use Rattle.nmgc_alloc.specs.Segments.{Segments, HasNumber}
+use Rattle.nmgc_alloc.specs.Segments.{Segments, IsSegments, HasNumber}
 use Rattle.nmgc_alloc.specs.AllocState.{AllocState, Cells, StandsFor, IsIn, cells, name_in}
 use Rattle.nmgc_alloc.specs.Turns.{carried_in, carried_over}
 use Rattle.nmgc_alloc.specs.laws.Cells.{placed_size}
@@ -29,7 +29,7 @@ use Rattle.nmgc_run.specs.Marks.{AreSettled, IsFreedSoFar, IsSettledByte, epoch_
 use Rattle.nmgc_run.specs.State.{Cycle}
 use Rattle.nmgc_run.specs.laws.Course.{SameWait, all_placing_waits, still_noted}
 use Rattle.nmgc_beside.specs.Resolves.{ClosedCycleSweeps}
-use Rattle.nmgc_beside.specs.Sweeps.{CarrySettles, HasPlaced, IsWaiting, MarkedWait, PlacedWait, SweepingStays, SettledStays, all_carried}
+use Rattle.nmgc_beside.specs.Sweeps.{HasPlaced, IsWaiting, MarkedWait, PlacedWait, SweepingStays, SettledStays, all_carried}
 
 -- a byte that was carried over is settled
 carried_byte : (begun mark : ℕ) → 0 < begun → IsSettledByte begun (carried (epoch_of begun) mark)
@@ -60,7 +60,8 @@ carried_state epoch x stands.Sweeping = refl
 carried_number : (epoch : ℕ) (segments : Segments) (number : ℕ) → HasNumber (all_carried epoch segments) number → HasNumber segments number
 carried_number epoch segments number lt = let long = length-map segments.segments (carried_over epoch) in omega (arith, lt, long)
 
-pub carry_settles : CarrySettles
+-- marks that are carried over as a cycle is closed are settled
+pub carry_settles : (begun : ℕ) (segments : Segments) → IsSegments segments → 0 < begun → AreSettled begun (all_carried (epoch_of begun) segments)
 carry_settles begun segments sound some number block there awake =
     let lt : HasNumber segments number = carried_number (epoch_of begun) segments number there in
     let x : Segment = nth segments.segments number in

@@ -5,7 +5,7 @@ use Rattle.std.specs.List.{filter, flat_map}
 use Rattle.std.proofs.lemmas.Bool.{cases_eq, and_cases, not-false}
 use Rattle.std.proofs.lemmas.List.Elements.{Contains-append_left}
 use Rattle.nmgc_graph.specs.declared.value.Name.{Name}
-use Rattle.nmgc_graph.specs.World.{World, node_of}
+use Rattle.nmgc_graph.specs.World.{World, IsWorld, node_of}
 use Rattle.nmgc_graph.specs.Change.{is_same_name}
 use Rattle.nmgc_graph.specs.Step.{shared_name}
 use Rattle.nmgc_graph.specs.laws.Orders.{contains_head, contains_tail, contains_cases}
@@ -21,12 +21,23 @@ use Rattle.nmgc_core.specs.laws.Marking.{mark_cases}
 use Rattle.nmgc_core.specs.laws.Runs.{facts_kept, snapshot_theorem}
 use Rattle.nmgc_heap.specs.Places.{Place}
 use Rattle.nmgc_round.specs.Marking.{Marks, marks_of, name_at, with_name}
-use Rattle.nmgc_run.specs.Marker.{AreAt, AreRemembered}
+use Rattle.nmgc_round.specs.View.{Opening}
+use Rattle.nmgc_run.specs.Marker.{AreAt, AreRemembered, IsCoreOf}
 use Rattle.nmgc_run.specs.State.{Cycle}
 use Rattle.nmgc_mark.specs.Tie.{with_places}
-use Rattle.nmgc_beside.specs.Begins.{with_names, MachineTakes, PlacesMark, PlacesMarkOn}
 use Rattle.nmgc_beside.proofs.Going.{runs_then}
 use Rattle.nmgc_beside.proofs.Pushing.{all_empty}
+
+-- names are marked one after another, each that is of the snapshot and wasn't marked
+abbrev pub with_names : World → Marks → List Name → Marks
+with_names snapshot m [] = m
+with_names snapshot m (name ∷ names) = with_names snapshot (with_name snapshot m (Some name)) names
+
+-- the machine took all that was pushed, and so has marked these names too
+pub record HasTaken (c : Cycle) (w : World) (core : State) (names : List Name) (after : State) : Type 0 where
+  pub machine : IsCoreOf c w after
+  pub none_pushed : AreEmpty after.pushed
+  pub marks : marks_of after ≡ with_names c.snapshot (marks_of core) names
 
 -- what marking a name changes is marks and queue
 record OnlyMarks (s t : State) : Type 0 where
@@ -211,7 +222,9 @@ module _ (c : Cycle) (places : List Place) where
           let place : first + suc k ≡ suc first + k = omega arith in
           subst (λ (j : ℕ). AreRemembered c places x (names_of u.pushed j)) place (subst (λ (l : List Name). AreRemembered c places x l) (sym (h.others (first + suc k) ne)) (own (suc k) x e))
 
-pub machine_takes : MachineTakes
+-- what the mutators remember, one after the other, are places of names; the machine takes what it pushed, which marks the same as these names would
+pub machine_takes : (c : Cycle) (w : World) (core : State) (places : List Place) (entries : List (List ℕ)) → IsWorld c.snapshot → IsCoreOf c w core → length entries ≡ length core.pushed → ((k : ℕ) (own : List ℕ) → slice_get entries k ≡ Some own → AreRemembered c places own (names_of core.pushed k)) →
+    (names : List Name) × (after : State) × AreAt places (flat_map (λ (own : List ℕ). own) entries) names × HasTaken c w core names after
 machine_takes c w core places entries world m many own =
     let facts : Facts core = facts_kept c.snapshot world m.events c.rows core m.runs m.open_yet in
     let marking = (snapshot_theorem c.snapshot world m.events c.rows core m.runs).before m.open_yet in
@@ -251,14 +264,11 @@ found_at all (p ∷ places) one among at name c =
       | inr later ↦ found_at all places one (λ q d. among q (contains_tail p places q d)) at name later
     ])
 
-pub places_mark : PlacesMark
+-- where no two places are the same, they mark what their names mark
+pub places_mark : (o : Opening) (m : Marks) (entries : List ℕ) (names : List Name) → ((p q : Place) → Contains o.places p → Contains o.places q → p.at ≡ q.at → p ≡ q) → AreAt o.places entries names → with_places o m entries ≡ with_names o.core.snapshot m names
 places_mark o m [] [] one h = refl
 places_mark o m [] (name ∷ names) one h = absurd h
 places_mark o m (at ∷ ats) [] one h = absurd h
 places_mark o m (at ∷ ats) (name ∷ names) one h =
     ap (λ (n : Option Name). with_places o (with_name o.core.snapshot m n) ats) (found_at o.places o.places one (λ p c. c) at name h.0)
     ∙ places_mark o (with_name o.core.snapshot m (Some name)) ats names one h.1
-
-pub places_mark_on : PlacesMarkOn
-places_mark_on o m [] more = refl
-places_mark_on o m (at ∷ ats) more = places_mark_on o (with_name o.core.snapshot m (name_at o.places at)) ats more

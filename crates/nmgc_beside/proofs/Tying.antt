@@ -11,11 +11,13 @@ use Rattle.nmgc_core.specs.Facts.{Facts}
 use Rattle.nmgc_core.specs.State.{State as Core}
 use Rattle.nmgc_core.specs.laws.Runs.{facts_kept, snapshot_theorem}
 use Rattle.std.proofs.lemmas.List.Elements.{Contains-append_left}
-use Rattle.nmgc_alloc.specs.Segments.{Segments, block_place}
-use Rattle.nmgc_alloc.specs.AllocState.{cells}
+use Rattle.nmgc_alloc.specs.Segments.{Segments, IsSegments, block_place}
+use Rattle.nmgc_alloc.specs.AllocState.{StandsFor, cells}
 use Rattle.nmgc_heap.specs.Places.{Place, LiesWell}
 use Rattle.nmgc_heap.specs.Represents.{Represents, NoNode}
 use Rattle.nmgc_heap.specs.laws.Changes.{lies_within}
+use Rattle.nmgc_journal.specs.declared.report.MutatorEnd.{MutatorEnd}
+use Rattle.nmgc_mutator.specs.declared.mutator.Mutator.{Mutator}
 use Rattle.nmgc_round.specs.Events.{rows_in}
 use Rattle.nmgc_round.specs.Finishing.{IsFinished, places_then}
 use Rattle.nmgc_round.specs.Marking.{Marks, marks_of}
@@ -24,15 +26,17 @@ use Rattle.nmgc_round.specs.Rule.{now}
 use Rattle.nmgc_round.specs.Seating.{collecting}
 use Rattle.nmgc_round.specs.View.{Opening, Seen, whole}
 use Rattle.nmgc_run.specs.Census.{interval_of}
-use Rattle.nmgc_run.specs.Heap.{IsBlockPlace, shared_place}
+use Rattle.nmgc_run.specs.Heap.{HoldsAtStop, IsBlockPlace, shared_place}
 use Rattle.nmgc_run.specs.Marker.{AreAt, IsCoreOf, IsTied}
+use Rattle.nmgc_run.specs.Marks.{epoch_of}
 use Rattle.nmgc_run.specs.Seen.{MarkerSeen}
-use Rattle.nmgc_run.specs.State.{Cycle}
+use Rattle.nmgc_run.specs.State.{Cycle, State}
 use Rattle.nmgc_mark.specs.Blocks.{AreOfBlocks, TiesAgree}
 use Rattle.nmgc_mark.specs.Tie.{AreApart, IsTied as IsTiedByPlaces}
 use Rattle.nmgc_mark.specs.Work.{marks_seen}
 use Rattle.nmgc_beside.specs.Rest.{with_rows}
-use Rattle.nmgc_beside.specs.Tie.{CoreHasSnapshot, HeapIsOfBlocks, RoundBeginsTied, RoundEndsTied, TieGrows}
+use Rattle.nmgc_beside.specs.Owed.{GoesOn}
+use Rattle.nmgc_beside.specs.Tie.{CoreHasSnapshot, RoundBeginsTied}
 use Rattle.nmgc_beside.proofs.RoundHeap.{marked_holds}
 
 -- places of names, among more places
@@ -41,9 +45,6 @@ at_more places more [] [] all h = tt
 at_more places more [] (name ∷ names) all h = h
 at_more places more (at ∷ ats) [] all h = h
 at_more places more (at ∷ ats) (name ∷ names) all h = (all (record { at = at; name = name }) h.0, at_more places more ats names all h.1)
-
-pub tie_grows : TieGrows
-tie_grows c rows a s places more marker core all t = record { epoch = t.epoch; snapshot = t.snapshot; marks = t.marks; queue = at_more places more marker.queue _ all t.queue; fresh = t.fresh; count = t.count }
 
 -- places that words represent are apart
 
@@ -71,7 +72,9 @@ core_snapshot c w core sound m = ((snapshot_theorem c.snapshot sound.world m.eve
 abbrev pub MarksLaw : Type 0
 MarksLaw = (core : Core) → Facts core → ((name : Name) → Contains core.marked name → IsSome (node_of core.snapshot name)) × Contains core.marked shared_name
 
-pub heap_of_blocks : MarksLaw → HeapIsOfBlocks
+-- where words and segments stand for a heap at a stop, an opening with its places has those of the blocks, whatever the machine has scanned since; so the tie by places and that by blocks are one (`TiesAgree`): as a round begins, at the places and the words of before as it ends, after the promotion, and as a cycle begins
+pub heap_of_blocks : MarksLaw → (layout : Layout) (s : State) (words : List ℕ) (segments : Segments) (ends : List MutatorEnd) (weaks : List Place) (c : Cycle) (w : World) (core : Core) (o : Opening) → (h : HoldsAtStop layout s words segments ends weaks) → IsSegments segments → IsSound (interval_of c) → IsCoreOf c w core → o.layout ≡ layout → o.places ≡ h.places → o.core.snapshot ≡ c.snapshot →
+    AreOfBlocks o c segments words s.allocation core
 heap_of_blocks law layout s words segments ends weaks c w core o h segments_are sound machine same places snapshot =
     let marked = law core (core_facts c w core sound machine) in
     let here : (p : Place) → Contains h.places p → Contains o.places p = λ p d. subst (λ (l : List Place). Contains l p) (sym places) d in
@@ -102,7 +105,10 @@ round_begins law agree begins layout s words segments ends weaks c o marker h so
     let blocks : AreOfBlocks o c segments words s.allocation o.core = heap_of_blocks law layout s words segments ends weaks c s.world o.core o h sound interval machine same places (core_snapshot c s.world o.core interval machine) in
     begins o segments marker ((agree o c segments words s.allocation o.core marker blocks).0 tied).1
 
-pub round_ends : MarksLaw → TiesAgree → EndsLaw → RoundEndsTied
+-- once it is over, a marker that is tied by places to the view of all seats, with segments of which blocks were marked, is tied to the machine as it goes on
+pub round_ends : MarksLaw → TiesAgree → EndsLaw → (layout : Layout) (s : State) (before after : List ℕ) (old new : Segments) (ends : List MutatorEnd) (weaks : List Place) (c : Cycle) (o : Opening) (v : Seen) (mutators : List Mutator) (core : Core) (marker : MarkerSeen) (h : HoldsAtStop layout s before old ends weaks) (f : IsFinished o after v) → IsSegments new → new.layout ≡ layout → StandsFor new before s.allocation
+    → IsSound (interval_of (with_rows c (rows_in f.events))) → GoesOn c o after v f mutators core → v.collects ≡ true → v.opening ≡ o → o.layout ≡ layout → o.places ≡ h.places → o.core.snapshot ≡ c.snapshot → marker.epoch ≡ epoch_of c.number → IsTiedByPlaces v.opening (marks_seen v) new marker
+    → IsTied (with_rows c (rows_in f.events)) s.allocation new (places_then o f.born) marker core
 round_ends law agree ending layout s before after old new ends weaks c o v mutators core marker h f sound same_layout stands interval goes on opening same places snapshot epoch tied =
     let d : Cycle = with_rows c (rows_in f.events) in
     let k = marked_holds layout s before old new ends weaks h same_layout stands in

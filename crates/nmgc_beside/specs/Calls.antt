@@ -2,13 +2,11 @@
 use Rattle.std.specs.Prelude.{ℕ, ◌≡◌, ◌+◌, ◌≤◌, List, length}
 use Rattle.std.specs.List.{flat_map}
 use Rattle.nmgc_graph.specs.World.{IsWorld}
-use Rattle.nmgc_graph.specs.Step.{shared_name}
 use Rattle.nmgc_reach.specs.Reachable.{IsSound}
 use Rattle.nmgc_segment.specs.declared.state.State.TheVariants as stands
 use Rattle.nmgc_object.specs.declared.layout.Layout.{Layout}
 use Rattle.nmgc_core.specs.State.{State as Core, opening}
 use Rattle.nmgc_alloc.specs.Segments.{Segments, IsSegments}
-use Rattle.nmgc_alloc.specs.AllocState.{IsIn, LiesNowhere, NoneIs}
 use Rattle.nmgc_heap.specs.Places.{Place}
 use Rattle.nmgc_journal.specs.declared.report.MutatorEnd.{MutatorEnd}
 use Rattle.nmgc_round.specs.Events.{rows_in}
@@ -22,13 +20,12 @@ use Rattle.nmgc_turn.specs.Worked.{Done}
 use Rattle.nmgc_run.specs.Census.{interval_of}
 use Rattle.nmgc_run.specs.Collector.{EachMutator, IsMarking, weaks_of}
 use Rattle.nmgc_run.specs.Heap.{HoldsAtStop}
-use Rattle.nmgc_run.specs.Marks.{AreSettled, HasNoted, epoch_of}
+use Rattle.nmgc_run.specs.Marks.{HasNoted, epoch_of}
 use Rattle.nmgc_run.specs.Seen.{Seen, MutatorSeen}
-use Rattle.nmgc_run.specs.Sound.{LieKnown}
 use Rattle.nmgc_run.specs.State.{Cycle, State, next_cycle, cycle_started}
 use Rattle.nmgc_mark.specs.Marker.{HasMarked, blank}
 use Rattle.nmgc_mark.specs.Tie.{IsTied as IsTiedByPlaces, with_places}
-use Rattle.nmgc_beside.specs.Begins.{all_prepared}
+use Rattle.nmgc_beside.specs.Prepares.{all_prepared}
 use Rattle.nmgc_beside.specs.Keeps.{HasLeft, NoneRemember, ShowEntries}
 use Rattle.nmgc_beside.specs.Owed.{GoesOn, IsGathered, gathered}
 use Rattle.nmgc_beside.specs.Rest.{with_rows}
@@ -39,7 +36,7 @@ all_entries mutators = flat_map (λ (m : MutatorSeen). m.entries) mutators
 
 -- a marker took the snapshot of a heap at a stop: a cycle marks
 abbrev pub SnapshotIsMarking : Type 0
-SnapshotIsMarking = (layout : Layout) (s : State) (words : List ℕ) (old : Segments) (new : Seen) (ends : List MutatorEnd) (weaks : List Place) (o : Opening) (spare : ℕ) → (h : HoldsAtStop layout s words old ends weaks) → IsWorld s.world → IsSegments old → IsSegments new.segments → LieKnown s.world s.allocation → LiesNowhere s.allocation shared_name → NoneIs (IsIn stands.Sweeping) s.allocation → AreSettled s.begun old
+SnapshotIsMarking = (layout : Layout) (s : State) (words : List ℕ) (old : Segments) (new : Seen) (ends : List MutatorEnd) (weaks : List Place) (o : Opening) (spare : ℕ) → (h : HoldsAtStop layout s words old ends weaks) → IsWorld s.world → IsSegments new.segments
     → o.layout ≡ layout → o.places ≡ h.places → o.core.snapshot ≡ s.world
     → HasMarked (all_prepared old) new.segments (blank (epoch_of (s.begun + 1)) spare) new.marker 0 → IsTiedByPlaces o (marks_of (opening o.core.snapshot)) new.segments new.marker
     → EachMutator new (λ m mutator. weaks_of s.world m new.weaks ≤ mutator.queue.spare) → NoneRemember new → new.cycle.from ≡ s.number → HasNoted (next_cycle s) new.sweeper

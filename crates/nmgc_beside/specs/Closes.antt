@@ -1,24 +1,16 @@
 -- When the marker is done at a stop, so that the bounds of a closing hold.
-use Rattle.std.specs.Prelude.{ℕ, ◌≡◌, ◌+◌, ◌-◌, ◌/◌, ◌≤◌, List, All, true}
-use Rattle.nmgc_graph.specs.World.{World}
+use Rattle.std.specs.Prelude.{ℕ, ◌≡◌, ◌+◌, ◌-◌, ◌/◌, ◌≤◌, List, true}
 use Rattle.nmgc_core.specs.State.{State as Core}
 use Rattle.nmgc_alloc.specs.AllocState.{AllocState}
 use Rattle.nmgc_heap.specs.Places.{Place}
-use Rattle.nmgc_round.specs.Events.{Happening, IsLegal, replay}
 use Rattle.nmgc_run.specs.Census.{IsKeptObject, interval_of}
 use Rattle.nmgc_reach.specs.Reachable.{IsSound}
 use Rattle.nmgc_run.specs.Closing.{IsSoon, IsPaced}
 use Rattle.nmgc_run.specs.Collector.{IsPacedAfterRound}
 use Rattle.nmgc_run.specs.Listing.{Counts}
-use Rattle.nmgc_run.specs.Marker.{IsCoreOf, IsFresh, IsTied}
+use Rattle.nmgc_run.specs.Marker.{IsCoreOf, IsTied}
 use Rattle.nmgc_run.specs.Seen.{Seen}
 use Rattle.nmgc_run.specs.State.{Cycle, State}
-use Rattle.nmgc_mark.specs.Stopped.{AreScans}
-use Rattle.nmgc_beside.specs.Rest.{IsMachineAtRest}
-
--- the machine at a stop goes on by scans alone, and is at rest again where it scanned whole objects
-abbrev pub MachineScans : Type 0
-MachineScans = (c : Cycle) (w : World) (core : Core) (events : List Happening) → IsMachineAtRest c w core → IsLegal core events → AreScans events → All IsFresh (replay core events).queue → IsMachineAtRest c w (replay core events)
 
 -- it isn't too late: each round before the last one scanned its quota, and the last one something unless it was the first
 abbrev pub ClosingIsSoon : Type 0

@@ -3,12 +3,10 @@ use Rattle.std.specs.Prelude.{ℕ, ◌≡◌, List, [], ◌∷◌, map, replicat
 use Rattle.nmgc_graph.specs.World.{World}
 use Rattle.nmgc_object.specs.declared.layout.Layout.{Layout}
 use Rattle.nmgc_core.specs.State.{State as Core}
-use Rattle.nmgc_alloc.specs.AllocState.{AllocState, StandsFor}
+use Rattle.nmgc_alloc.specs.AllocState.{StandsFor}
 use Rattle.nmgc_alloc.specs.Segments.{Segments, IsSegments}
 use Rattle.nmgc_heap.specs.Places.{Place}
-use Rattle.nmgc_heap.specs.Moves.{Moved}
-use Rattle.nmgc_heap.specs.Roots.{RepresentsRoots, ListsWeaks}
-use Rattle.nmgc_blocks.specs.Stopped.{Stopped, IsSettled}
+use Rattle.nmgc_heap.specs.Roots.{RepresentsRoots}
 use Rattle.nmgc_journal.specs.declared.report.MutatorEnd.{MutatorEnd}
 use Rattle.nmgc_round.specs.View.{Opening, Seen as View}
 use Rattle.nmgc_round.specs.Objects.{earlier}
@@ -18,20 +16,18 @@ use Rattle.nmgc_round.specs.Finishing.{Leaves, places_then}
 use Rattle.nmgc_mutator.specs.declared.mutator.Mutator.{Mutator}
 use Rattle.nmgc_mutator.specs.Ready.{IsWhole}
 use Rattle.nmgc_mutator.specs.Records.{numbers}
-use Rattle.nmgc_run.specs.Collector.{AreAtRest, IsAtStop, IsMarking, IsPacedAtStop}
+use Rattle.nmgc_run.specs.Collector.{AreAtRest, IsMarking}
 use Rattle.nmgc_run.specs.Heap.{HoldsAtStop, HoldsAfterRound, HasAllRegisters, registers_of, queues_of, serials_of, snapshots}
 use Rattle.nmgc_run.specs.Life.{array_layout, marking_seen}
-use Rattle.nmgc_run.specs.Run.{Run, last_state}
 use Rattle.nmgc_run.specs.Seen.{Seen, MutatorSeen, ends_of}
-use Rattle.nmgc_run.specs.Sound.{IsRunnable, IsSoundState, LieKnown}
+use Rattle.nmgc_run.specs.Sound.{IsSoundState, LieKnown}
 use Rattle.nmgc_run.specs.State.{Plan, Cycle, State, marking, layout_of}
 use Rattle.nmgc_mark.specs.Stopped.{IsReady}
 use Rattle.nmgc_beside.specs.Rest.{IsAtRest, opening_beside}
-use Rattle.nmgc_beside.specs.Stays.{places_after}
 
 -- a mutator as contracts of a collector see it
-abbrev pub shown : Mutator → MutatorSeen
-shown m = record {
+abbrev pub seen_mutator : Mutator → MutatorSeen
+seen_mutator m = record {
   registers = m.registers;
   queue = m.queue;
   serial = m.serial;
@@ -43,18 +39,13 @@ shown m = record {
 
 -- these are the mutators of a collector, by their numbers, each with all its registers
 pub record AreShown (layout : Layout) (seen : Seen) (mutators : List Mutator) : Type 0 where
-  pub are : seen.mutators ≡ map shown mutators
+  pub are : seen.mutators ≡ map seen_mutator mutators
   pub each : (k : ℕ) (m : Mutator) → slice_get mutators k ≡ Some m → (m.number ≡ k) × (m.layout ≡ layout) × IsWhole m
 
 -- the heap of a sound state at a stop, also before the stop has answered, is at rest beside a cycle that marks, where nothing is left of the mutators' round; so the marker may finish there
 abbrev pub HeapRests : Type 0
 HeapRests = (plan : Plan) (s : State) (seen : Seen) (c : Cycle) (mutators : List Mutator) → IsSoundState plan s → (h : HoldsAtStop (layout_of plan) s seen.words seen.segments (ends_of seen) seen.weaks) → AreAtRest (layout_of plan) h.places s.world seen → s.progress ≡ marking c → (k : IsMarking c s seen h.places) → IsSegments seen.segments → AreShown seen.segments.layout seen mutators →
     IsAtRest c k.core seen.segments h.places s.world seen.words mutators seen.marker.queue × IsReady (opening_beside seen.segments.layout k.core h.places mutators) seen.words seen.segments seen.marker
-
--- at a stop of a run while a cycle marks, the heap is at rest beside it, with the machine to which the marker is tied
-abbrev pub StopRests : Type 0
-StopRests = (plan : Plan) (run : Run) (seen : Seen) (c : Cycle) (mutators : List Mutator) → IsRunnable plan → (h : IsAtStop plan run seen) → (last_state run).progress ≡ marking c → IsSegments seen.segments → AreShown seen.segments.layout seen mutators →
-    (k : IsMarking c (last_state run) seen h.heap.places) × IsPacedAtStop plan.config.quota c (last_state run) seen × IsAtRest c k.core seen.segments h.heap.places (last_state run).world seen.words mutators seen.marker.queue
 
 -- a round that began with the heap of a stop: what it left, and what its mutators have in hand; the segments stand for what they stood for, whatever blocks the marker marked
 pub record IsRoundFrom (layout : Layout) (s t : State) (o : Opening) (before after : List ℕ) (v : View) (old new : Segments) (ends later : List MutatorEnd) (weaks : List Place) : Type 0 where
@@ -66,7 +57,7 @@ pub record IsRoundFrom (layout : Layout) (s t : State) (o : Opening) (before aft
   pub began : o.core.world ≡ s.world
   pub left : Leaves o after v
   pub world_is : t.world ≡ (now o left.0.events).world
-  pub spoken : snapshots t.progress ≡ earlier o
+  pub earlier_is : snapshots t.progress ≡ earlier o
   pub allocation_is : t.allocation ≡ s.allocation
   pub new_layout : new.layout ≡ layout
   pub stands : StandsFor new before s.allocation
@@ -77,25 +68,6 @@ pub record IsRoundFrom (layout : Layout) (s t : State) (o : Opening) (before aft
 abbrev pub RoundHolds : Type 0
 RoundHolds = (layout : Layout) (s t : State) (o : Opening) (before after : List ℕ) (v : View) (old new : Segments) (ends later : List MutatorEnd) (weaks : List Place) → (r : IsRoundFrom layout s t o before after v old new ends later weaks) →
     HoldsAfterRound layout s t (places_then o r.left.0.born) after new later weaks
-
--- a promotion that is done, with what the mutators have in hand then and the list of weak pointers
-pub record IsPromotionOf (layout : Layout) (s : State) (t : Stopped) (new : Segments) (after registers : List ℕ) (queues : List (List ℕ)) (moves : List Moved) (placed : AllocState) (ends : List MutatorEnd) (weaks : List Place) : Type 0 where
-  pub layout_is : new.layout ≡ layout
-  pub sound : IsSegments new
-  pub is_settled : IsSettled t new after registers queues moves
-  pub spoken : t.later ≡ snapshots s.progress
-  pub world_is : t.world ≡ s.world
-  pub stands : StandsFor new after placed
-  pub registers_are : registers_of ends ≡ registers
-  pub queues_are : queues_of ends ≡ queues
-  pub serials_are : serials_of ends ≡ t.serials
-  pub whole : All HasAllRegisters ends
-  pub listed : ListsWeaks layout (places_after new moves t) s.world weaks
-
--- words and segments then stand for the state of the stop, at the places after the promotion
-abbrev pub PromotionHolds : Type 0
-PromotionHolds = (layout : Layout) (s : State) (t : Stopped) (new : Segments) (after registers : List ℕ) (queues : List (List ℕ)) (moves : List Moved) (placed : AllocState) (ends : List MutatorEnd) (weaks : List Place) → IsPromotionOf layout s t new after registers queues moves placed ends weaks →
-    (h : HoldsAtStop layout (record s { allocation = placed }) after new ends weaks) × (h.places ≡ places_after new moves t)
 
 -- segments of which blocks were marked stand for the same heap
 abbrev pub MarkedHolds : Type 0

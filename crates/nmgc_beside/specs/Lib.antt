@@ -1,4 +1,3 @@
-pub mod Begins
 pub mod Calls
 pub mod Closes
 pub mod Drops

@@ -1,19 +1,23 @@
 -- What a heap at a stop becomes as a cycle begins there: its segments are prepared, and the collector speaks of the world as the snapshot from then on.
-use Rattle.std.specs.Prelude.{ℕ, ◌≡◌, ◌+◌, List, [], map}
+use Rattle.std.specs.Prelude.{ℕ, ◌≡◌, ◌+◌, List, map}
 use Rattle.nmgc_graph.specs.World.{IsWorld}
 use Rattle.nmgc_segment.specs.declared.state.State.TheVariants as stands
 use Rattle.nmgc_object.specs.FinQueue.{FinQueue}
 use Rattle.nmgc_object.specs.declared.layout.Layout.{Layout}
 use Rattle.nmgc_alloc.specs.Segments.{Segments, IsSegments}
 use Rattle.nmgc_alloc.specs.AllocState.{IsIn, NoneIs}
+use Rattle.nmgc_alloc.specs.Turns.{prepared}
 use Rattle.nmgc_heap.specs.Places.{Place}
 use Rattle.nmgc_journal.specs.declared.report.MutatorEnd.{MutatorEnd}
 use Rattle.nmgc_round.specs.View.{Opening}
-use Rattle.nmgc_run.specs.Heap.{HoldsAtStop, registers_of, queues_of, snapshots}
+use Rattle.nmgc_run.specs.Heap.{HoldsAtStop, registers_of, queues_of}
 use Rattle.nmgc_run.specs.Marks.{AreSettled, epoch_of}
-use Rattle.nmgc_run.specs.State.{State, Progress, cycle_started, free_count}
+use Rattle.nmgc_run.specs.State.{State, cycle_started}
 use Rattle.nmgc_mark.specs.Beginning.{IsPrepared}
-use Rattle.nmgc_beside.specs.Begins.{all_prepared}
+
+-- the segments as a cycle begins
+abbrev pub all_prepared : Segments → Segments
+all_prepared s = record s { segments = map prepared s.segments; fresh = 0 }
 
 -- where no segment waits and marks are settled, the heap with prepared segments is one with which marking begins: no byte is the epoch of the next cycle
 abbrev pub StopIsPrepared : Type 0
@@ -25,12 +29,3 @@ StopIsPrepared = (layout : Layout) (s : State) (words : List ℕ) (segments : Se
 abbrev pub StopBegins : Type 0
 StopBegins = (layout : Layout) (s : State) (words : List ℕ) (segments : Segments) (ends : List MutatorEnd) (weaks : List Place) → (h : HoldsAtStop layout s words segments ends weaks) →
     (k : HoldsAtStop layout (cycle_started s) words (all_prepared segments) ends weaks) × (k.places ≡ h.places)
-
--- as many segments are free then
-abbrev pub FreeStays : Type 0
-FreeStays = (s : State) → free_count (cycle_started s) ≡ free_count s
-
--- once no cycle marks any more, the collector speaks of no snapshot: words and segments stand for the same world and blocks still, as the cycle is closed and as it ends
-abbrev pub StopForgets : Type 0
-StopForgets = (layout : Layout) (s : State) (progress : Progress) (words : List ℕ) (segments : Segments) (ends : List MutatorEnd) (weaks : List Place) → snapshots progress ≡ [] → (h : HoldsAtStop layout s words segments ends weaks) →
-    (k : HoldsAtStop layout (record s { progress = progress }) words segments ends weaks) × (k.places ≡ h.places)

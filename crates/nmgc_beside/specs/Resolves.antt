@@ -76,7 +76,7 @@ pub record HaveJoined (seen : Seen) (deaths : List Death) (queues : List FinQueu
   pub serials : serials_of ends ≡ serials_of (ends_of seen)
   pub whole : All HasAllRegisters ends
 
--- words, roots and list then stand for the closed world, at the same places; of no snapshot is spoken any more
+-- words, roots and list then stand for the closed world, at the same places; no snapshot is tracked any more
 abbrev pub ClosedHolds : Type 0
 ClosedHolds = (layout : Layout) (c : Cycle) (s : State) (seen : Seen) (mutators : List Mutator) (words : List ℕ) (marked : Segments) (marker : MarkerSeen) (list : List OldWeak) (deaths : List Death) (queues : List FinQueue) (ends : List MutatorEnd) → (k : IsClosingOf layout c s seen mutators words marked marker list deaths) → HaveJoined seen deaths queues ends →
     (g : HoldsAtStop layout (closed_state c s k.resolved.closing.dead) words marked ends (places_of list)) × (g.places ≡ k.stop.heap.places)

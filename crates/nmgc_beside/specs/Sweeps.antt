@@ -1,26 +1,22 @@
 -- Marks as a cycle begins to sweep, and what a promotion leaves of one that sweeps.
-use Rattle.std.specs.Prelude.{ℕ, ◌≡◌, ◌↔◌, ◌<◌, List, map}
+use Rattle.std.specs.Prelude.{ℕ, ◌≡◌, ◌↔◌, List, map}
 use Rattle.nmgc_graph.specs.declared.value.Name.{Name}
 use Rattle.nmgc_graph.specs.World.{World}
 use Rattle.nmgc_object.specs.declared.layout.Layout.{Layout}
 use Rattle.nmgc_segment.specs.declared.state.State.TheVariants as stands
 use Rattle.nmgc_alloc.specs.Search.{nth}
-use Rattle.nmgc_alloc.specs.Segments.{Segments, IsSegments}
+use Rattle.nmgc_alloc.specs.Segments.{Segments}
 use Rattle.nmgc_alloc.specs.AllocState.{AllocState, StandsFor}
 use Rattle.nmgc_alloc.specs.Turns.{carried_over}
 use Rattle.nmgc_blocks.specs.Occupied.{KeepsMarks}
 use Rattle.nmgc_blocks.specs.Promoted.{PlacesEach}
-use Rattle.nmgc_run.specs.Marks.{AreSettled, IsSweeping, epoch_of}
+use Rattle.nmgc_run.specs.Marks.{AreSettled, IsSweeping}
 use Rattle.nmgc_run.specs.Seen.{CycleSeen, SweeperSeen}
 use Rattle.nmgc_run.specs.State.{Cycle}
 
 -- the segments as a cycle is closed: marks are carried over in those that don't wait
 abbrev pub all_carried : ℕ → Segments → Segments
 all_carried epoch s = record s { segments = map (carried_over epoch) s.segments }
-
--- so they are settled there
-abbrev pub CarrySettles : Type 0
-CarrySettles = (begun : ℕ) (segments : Segments) → IsSegments segments → 0 < begun → AreSettled begun (all_carried (epoch_of begun) segments)
 
 -- names were placed, and no mark byte changed
 pub record HasPlaced (old new : Segments) (words after : List ℕ) (allocation placed : AllocState) : Type 0 where

@@ -3,22 +3,20 @@
 //! Each function's contract is the law. A body does nothing but call the laws that its proof rests on.
 ghost use Rattle.nmgc_beside.specs.Rest.{RestOpens};
 ghost use Rattle.nmgc_beside.specs.Owed.{SlicesAreGathered, SlicesAreOwed, MachineGoesOn};
-ghost use Rattle.nmgc_beside.specs.Tie.{HeapIsOfBlocks, CoreHasSnapshot, RoundBeginsTied, RoundEndsTied, TieGrows};
-ghost use Rattle.nmgc_beside.specs.Stays.{TieStays, RememberedStays, SettledIsAtRest};
-ghost use Rattle.nmgc_beside.specs.Begins.{CycleBegins, MachineTakes, PlacesMark, PlacesMarkOn};
-ghost use Rattle.nmgc_beside.specs.Prepares.{StopIsPrepared, StopBegins, FreeStays, StopForgets};
+ghost use Rattle.nmgc_beside.specs.Tie.{CoreHasSnapshot, RoundBeginsTied};
+ghost use Rattle.nmgc_beside.specs.Prepares.{StopIsPrepared, StopBegins};
 ghost use Rattle.nmgc_beside.specs.Calls.{SnapshotIsMarking, RoundIsMarking, AddIsMarking};
 ghost use Rattle.nmgc_beside.specs.Resolves.{FinishMayResolve, ResolveCloses, ClosedHolds, ClosedCycleSweeps};
 ghost use Rattle.nmgc_beside.specs.Joins.{JoiningLists, JoinersAreNew, FewerListed};
-ghost use Rattle.nmgc_beside.specs.Closes.{MachineScans, ClosingIsSoon, ClosingComes, ClosingIsPaced};
-ghost use Rattle.nmgc_beside.specs.Sweeps.{CarrySettles, MarkedWait, PlacedWait, SweepingStays, SettledStays};
+ghost use Rattle.nmgc_beside.specs.Closes.{ClosingIsSoon, ClosingComes, ClosingIsPaced};
+ghost use Rattle.nmgc_beside.specs.Sweeps.{MarkedWait, PlacedWait, SweepingStays, SettledStays};
 ghost use Rattle.nmgc_beside.specs.Drops.{RoundFreesUntracked, StopFreesUntracked, FreeGrows, SweptHoldsAfterRound, SweptHoldsAtStop, DropKeepsRound};
-ghost use Rattle.nmgc_beside.specs.Heaps.{HeapRests, StopRests, RoundHolds, MarkedHolds, PromotionHolds, SmallLifeRests};
-ghost use Rattle.nmgc_beside.specs.Keeps.{CycleIsMarking, StopIsAtRest, RoundKeepsMarking, PromotionKeepsMarking, AddKeepsMarking, PaceAfterRound, PaceAtStop, PaceBegins};
+ghost use Rattle.nmgc_beside.specs.Heaps.{HeapRests, RoundHolds, MarkedHolds, SmallLifeRests};
+ghost use Rattle.nmgc_beside.specs.Keeps.{PromotionKeepsMarking, PaceAfterRound, PaceAtStop, PaceBegins};
 
 use nmgc_mark::laws::{marks_are_of_the_snapshot, round_begins, round_ends, ties_agree};
 use nmgc_object::laws::words_differ;
-use nmgc_run::laws::{one_life_seen, places_are_blocks};
+use nmgc_run::laws::one_life_seen;
 use nmgc_weak::laws::{a_cycle_closes as weaks_close, queues_close};
 
 /// Words, blocks and mutators that stand for a world beside a marking cycle open a round with the cycle's machine,
@@ -40,58 +38,22 @@ pub fn the_machine_goes_on()
     ensures { MachineGoesOn }
 {}
 
-/// While a cycle marks, the places of a heap at a stop are those of its blocks. So there a marker that is tied by places,
-/// as it works, is tied by blocks, as a run tells it, and the other way round: so a round begins, and so it ends. More
-/// places and rows change nothing of the tie.
+/// While a cycle marks, the places of a heap at a stop are those of its blocks. So a marker that is tied by blocks there,
+/// as a run tells it, is tied by places, as it works in the round that begins.
 pub fn a_heap_ties_by_blocks()
-    ensures blocks { HeapIsOfBlocks }
     ensures snapshot { CoreHasSnapshot }
     ensures begins { RoundBeginsTied }
-    ensures ends { RoundEndsTied }
-    ensures grows { TieGrows }
 {
     marks_are_of_the_snapshot();
     ties_agree();
     round_begins();
-    round_ends();
 }
 
-/// After a promotion the marker is tied to the same machine as before, and what the mutators remember is where it was.
-pub fn a_promotion_keeps_the_tie()
-    ensures tied { TieStays }
-    ensures remembered { RememberedStays }
-{}
-
-/// After its promotion the heap is at rest again beside the cycle.
-pub fn a_promotion_rests()
-    ensures { SettledIsAtRest }
-{}
-
-/// As a cycle begins, the blocks in use are its snapshot, and none is marked.
-pub fn a_cycle_begins()
-    ensures { CycleBegins }
-{}
-
 /// A heap at a stop where no segment waits, with its segments prepared, is one with which marking begins, and stands for
-/// the state with which the cycle begins. Once the cycle marks no more, its snapshot is forgotten.
+/// the state with which the cycle begins.
 pub fn a_stop_is_prepared()
     ensures prepared { StopIsPrepared }
     ensures begins { StopBegins }
-    ensures free { FreeStays }
-    ensures forgets { StopForgets }
-{}
-
-/// The machine takes all that was pushed, and marks the names of all that is remembered, in order: which the
-/// remembered places mark too.
-pub fn the_machine_takes()
-    ensures takes { MachineTakes }
-    ensures places { PlacesMark }
-    ensures on { PlacesMarkOn }
-{}
-
-/// At a stop the machine goes on by scans alone, as the marker does that finishes.
-pub fn the_machine_scans()
-    ensures { MachineScans }
 {}
 
 /// The marker's calls, by their contracts: with its snapshot a cycle marks, and it marks on after its work in a round and
@@ -130,10 +92,9 @@ pub fn the_list_is_joined()
     words_differ();
 }
 
-/// As a cycle is closed, its marks are carried over and settled. Marks change nothing of what waits, and a promotion
-/// leaves a cycle that sweeps as it is, since names are placed in no segment that waits.
+/// Marks change nothing of what waits, and a promotion leaves a cycle that sweeps as it is, since names are placed in no
+/// segment that waits.
 pub fn a_closed_cycle_sweeps()
-    ensures carries { CarrySettles }
     ensures marked { MarkedWait }
     ensures placed { PlacedWait }
     ensures stays { SweepingStays }
@@ -160,14 +121,9 @@ pub fn a_closing_is_in_bounds()
     ensures paced { ClosingIsPaced }
 {}
 
-/// What a collector keeps of a marking cycle holds as the cycle begins. It gives a machine at rest at a stop, and is
-/// kept over a round, over the promotion after it, and over the add that follows.
+/// What a collector keeps of a marking cycle is kept over a promotion.
 pub fn marking_goes_on()
-    ensures begins { CycleIsMarking }
-    ensures rests { StopIsAtRest }
-    ensures round { RoundKeepsMarking }
-    ensures promotion { PromotionKeepsMarking }
-    ensures add { AddKeepsMarking }
+    ensures { PromotionKeepsMarking }
 {}
 
 /// The pace of marking: nothing was scanned as the cycle begins; a round adds what the marker's work tells, and a stop
@@ -178,16 +134,13 @@ pub fn the_pace_is_kept()
     ensures stop { PaceAtStop }
 {}
 
-/// At a stop while a cycle marks, the heap is at rest beside it, and the marker may finish there. What a round leaves of the heap of a stop
-/// stands for the state after it, whatever blocks were marked, and what a promotion leaves for that of the next stop.
+/// At a stop while a cycle marks, the heap is at rest beside it, and the marker may finish there. What a round leaves of
+/// the heap of a stop stands for the state after it, and whatever blocks were marked, the heap stays what it was.
 pub fn the_heap_goes_on()
     ensures rests { HeapRests }
-    ensures stop { StopRests }
     ensures round { RoundHolds }
     ensures marked { MarkedHolds }
-    ensures promotion { PromotionHolds }
 {
-    places_are_blocks();
     marks_are_of_the_snapshot();
     ties_agree();
 }

@@ -4,9 +4,9 @@
 //! rest speaks of the cycle's snapshot too, the core machine goes through the round's commands and the
 //! collector's scans, and the marks and the queue of the marker are the machine's, from the stop at which the
 //! cycle begins on. `specs/Rest.antt` says when a heap is at rest beside a cycle, `specs/Owed.antt` what the
-//! mutators remember of a round, `specs/Tie.antt` what is asked of a marker, `specs/Stays.antt` what a promotion leaves
-//! of all this, `specs/Begins.antt` how a cycle begins and how the machine takes what is remembered,
-//! `specs/Prepares.antt` what the heap of a stop becomes as a cycle begins, and `specs/Closes.antt` when it closes.
+//! mutators remember of a round, `specs/Tie.antt` what is asked of a marker, `specs/Stays.antt` what a promotion does
+//! beside the cycle, `specs/Prepares.antt` what the heap of a stop becomes as a cycle begins, and `specs/Closes.antt`
+//! when it closes.
 //! `specs/Keeps.antt` joins these in the words in which `nmgc_run` says what a collector keeps, and
 //! `specs/Calls.antt` says so of each call of the marker by that call's own contract. `specs/Resolves.antt`
 //! is the closing, by the calls that do it, and how the cycle sweeps from then on; `specs/Joins.antt` says what a

@@ -8,12 +8,7 @@ fn laws_ask_nothing(rt: HostRuntime) {
     laws::slices_are_owed();
     laws::the_machine_goes_on();
     laws::a_heap_ties_by_blocks();
-    laws::a_promotion_keeps_the_tie();
-    laws::a_promotion_rests();
-    laws::a_cycle_begins();
     laws::a_stop_is_prepared();
-    laws::the_machine_takes();
-    laws::the_machine_scans();
     laws::the_marker_leads_a_cycle();
     laws::a_resolved_cycle_is_closed();
     laws::the_list_is_joined();

@@ -23,7 +23,7 @@ use Rattle.nmgc_heap.specs.Tracked.{IsTracked}
 use Rattle.nmgc_heap.specs.laws.Changes.{field_changed}
 use Rattle.nmgc_heap.specs.laws.CommandLaws.{closing_tracks, closing_keeps_earlier}
 use Rattle.nmgc_weak.specs.declared.weaks.OldWeak.{OldWeak}
-use Rattle.nmgc_weak.specs.Weaks.{place_of, places_of, names_of, value_place, buried, alive_of, is_alive}
+use Rattle.nmgc_weak.specs.Weaks.{place_of, places_of, names_of, value_place, without_values, alive_of, is_alive}
 use Rattle.nmgc_weak.proofs.Finding.{names_same}
 use Rattle.nmgc_weak.proofs.Leaving.{filter_ordered}
 use Rattle.nmgc_weak.proofs.Saving.{has_place, of_place}
@@ -103,7 +103,7 @@ lies_above layout p (inr (ne, inl segment)) = let l = segment.1 p.at (omega arit
 lies_above layout p (inr (ne, inr nursery)) = let l = nursery.1 p.at (omega arith) (omega arith) in let f = l.from in omega arith
 
 -- all of them die, one after another
-pub all_die : (layout : Layout) (earlier : List World) (places : List Place) (w : World) (words : List ℕ) (dying : List OldWeak) → IsWorld w → AreEarlier earlier w → IsInOrder (names_of dying) → AreAlive places w dying → Represents layout earlier NoNode places w words → Represents layout earlier NoNode places (closed w (names_of dying)) (buried words dying)
+pub all_die : (layout : Layout) (earlier : List World) (places : List Place) (w : World) (words : List ℕ) (dying : List OldWeak) → IsWorld w → AreEarlier earlier w → IsInOrder (names_of dying) → AreAlive places w dying → Represents layout earlier NoNode places w words → Represents layout earlier NoNode places (closed w (names_of dying)) (without_values words dying)
 all_die layout earlier places w words [] world past o alive r = r
 all_die layout earlier places w words (x ∷ xs) world past o alive r =
     let a = alive x (contains_head x xs) in
@@ -137,10 +137,10 @@ set_zero [] (suc i) = refl
 set_zero (w ∷ ws) zero = refl
 set_zero (w ∷ ws) (suc i) = set_zero ws i
 
--- a word that was buried is 0, and any other as it was
-buried_or : (words : List ℕ) (dying : List OldWeak) (j : ℕ) → (slice_index (buried words dying) j ≡ slice_index words j) ⊎ (slice_index (buried words dying) j ≡ 0)
-buried_or words [] j = inl refl
-buried_or words (x ∷ xs) j = elim (buried_or (set words (value_place x.at.0) 0) xs j) [
+-- a value word of these is 0, and any other as it was
+cleared_or : (words : List ℕ) (dying : List OldWeak) (j : ℕ) → (slice_index (without_values words dying) j ≡ slice_index words j) ⊎ (slice_index (without_values words dying) j ≡ 0)
+cleared_or words [] j = inl refl
+cleared_or words (x ∷ xs) j = elim (cleared_or (set words (value_place x.at.0) 0) xs j) [
   | inr none ↦ inr none
   | inl same ↦ elim (cases_eq j (value_place x.at.0)) [
     | inr other ↦ inl (same ∙ get_or-set_other words (value_place x.at.0) j 0 0 other)
@@ -148,14 +148,14 @@ buried_or words (x ∷ xs) j = elim (buried_or (set words (value_place x.at.0) 0
   ]
 ]
 
-pub buried_zero : (words : List ℕ) (dying : List OldWeak) (x : OldWeak) → Contains dying x → slice_index (buried words dying) (value_place x.at.0) ≡ 0
-buried_zero words [] x c = absurd (omega (arith, c.1))
-buried_zero words (y ∷ ys) x c = elim (contains_cases y ys x c) [
-  | inl same ↦ elim (buried_or (set words (value_place y.at.0) 0) ys (value_place x.at.0)) [
+pub cleared_zero : (words : List ℕ) (dying : List OldWeak) (x : OldWeak) → Contains dying x → slice_index (without_values words dying) (value_place x.at.0) ≡ 0
+cleared_zero words [] x c = absurd (omega (arith, c.1))
+cleared_zero words (y ∷ ys) x c = elim (contains_cases y ys x c) [
+  | inl same ↦ elim (cleared_or (set words (value_place y.at.0) 0) ys (value_place x.at.0)) [
     | inr none ↦ none
     | inl as_was ↦ as_was ∙ ap (λ (z : OldWeak). slice_index (set words (value_place z.at.0) 0) (value_place x.at.0)) same ∙ set_zero words (value_place x.at.0)
   ]
-  | inr d ↦ buried_zero (set words (value_place y.at.0) 0) ys x d
+  | inr d ↦ cleared_zero (set words (value_place y.at.0) 0) ys x d
 ]
 
 -- those that pass a test
@@ -208,7 +208,7 @@ module _ (layout : Layout) (earlier : List World) (places : List Place) (w : Wor
   end = closed w (names_of dying)
 
   abbrev us : List ℕ
-  us = buried words dying
+  us = without_values words dying
 
   stands : Represents layout earlier NoNode places end us
   stands = all_die layout earlier places w words dying world past o alive r
@@ -224,7 +224,7 @@ module _ (layout : Layout) (earlier : List World) (places : List Place) (w : Wor
             let p : Place = place_of y.0 in
             let same = r.one (place_of y.0) (place_of x) c_y l.0 (inl y.2) in
             let at : y.0.at.0 ≡ x.at.0 = ap (λ (q : Place). q.at) same in
-            absurd (word_alive us x e (ap (λ (i : ℕ). slice_index us (value_place i)) (sym at) ∙ buried_zero words dying y.0 y.1))
+            absurd (word_alive us x e (ap (λ (i : ℕ). slice_index us (value_place i)) (sym at) ∙ cleared_zero words dying y.0 y.1))
       ]
 
   pub lists_closed : ListsWeaks layout places end (places_of (alive_of us list))

@@ -39,7 +39,7 @@ may_resolve c o words s marker weaks sound m pushed empty marking spoken ready l
       once = (once_runs (opening c.snapshot) m.events c.rows o.core m.runs m.open_yet (once_opening c.snapshot)).once;
       gone = λ weak parts c_fin alive. finalised_dead c.snapshot c.rows sound.world sound.rows weak parts (subst (λ (w : World). IsAlive w weak parts) k.world alive) (subst (λ (l : List Name). Contains l weak) k.finalised c_fin);
       can_close = (m.open_yet, empty, m.nothing_owed, pushed);
-      spoken = spoken;
+      earlier_are = spoken;
       listed = listed;
     }
 

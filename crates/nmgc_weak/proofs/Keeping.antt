@@ -58,7 +58,7 @@ module _ (o : Opening) (words : List ℕ) (s : Segments) (marker : MarkerSeen) (
   can_mark : (target : Name) → IsKeptBy weak parts target → CanMark o o.core.opened (Some target)
   can_mark target kept = (
     λ there. kept_live o.core h.can.facts weak target parts ((h.can.facts.base.weaks weak parts alive).old h.known) parts.key refl (h.shown parts alive) kept,
-    λ there. may_queue o words target h.can.marking h.can.ready.opens h.can.spoken (of_weak_tracked o weak target parts alive (of_weak weak target parts kept)) there,
+    λ there. may_queue o words target h.can.marking h.can.ready.opens h.can.earlier_are (of_weak_tracked o weak target parts alive (of_weak weak target parts kept)) there,
   )
 
   value_marks : (v : Value) → ((target : Name) → v ≡ value.Ref target → IsKeptBy weak parts target) → CanMark o o.core.opened (ref_in v)

@@ -11,7 +11,7 @@ pub mod Telling
 pub mod Counting
 pub mod Passing
 pub mod Finding
-pub mod Burying
+pub mod Clearing
 pub mod Leaving
 pub mod Merging
 pub mod Joining
@@ -23,4 +23,3 @@ pub mod Ends
 pub mod Lists
 pub mod Closed
 pub mod Room
-pub mod Stops

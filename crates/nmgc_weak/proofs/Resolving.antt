@@ -1,5 +1,5 @@
 -- The steps of a closing together.
-use Rattle.std.proofs.Common.{true, ◌≡◌, ◌+◌, ◌-◌, ◌*◌, ◌≤◌, ◌<◌, ◌^◌, ℕ, zero, suc, List, [], ◌∷◌, refl, sym, ap, subst, ◌∙◌, arith, Some, inl, inr}
+use Rattle.std.proofs.Common.{true, map, ◌≡◌, ◌+◌, ◌-◌, ◌*◌, ◌≤◌, ◌<◌, ◌^◌, ℕ, zero, suc, List, [], ◌∷◌, refl, sym, ap, subst, ◌∙◌, arith, Some, inl, inr}
 use Rattle.std.specs.Prelude.{Contains, slice_index}
 use Rattle.nmgc_graph.specs.declared.value.Name.{Name}
 use Rattle.nmgc_graph.specs.declared.value.Value.{Value}
@@ -26,9 +26,10 @@ use Rattle.nmgc_round.specs.View.{Opening}
 use Rattle.nmgc_run.specs.Seen.{MarkerSeen}
 use Rattle.nmgc_mark.specs.Tie.{IsTied}
 use Rattle.nmgc_weak.specs.declared.weaks.OldWeak.{OldWeak}
+use Rattle.nmgc_weak.specs.declared.weaks.Death.{Death}
 use Rattle.nmgc_weak.specs.Resolve.{CanResolve, AreDeaths, HasResolved}
 use Rattle.nmgc_weak.specs.Steps.{AreLost, MarksOn, HasSaved}
-use Rattle.nmgc_weak.specs.Weaks.{place_of, places_of, names_of, deaths_of, buried, alive_of, IsWithin, AreWithin}
+use Rattle.nmgc_weak.specs.Weaks.{place_of, places_of, names_of, deaths_of, without_values, alive_of, IsWithin, AreWithin, HaveLostValues}
 use Rattle.nmgc_weak.proofs.Parts.{HasParts, has_parts, of_weak_tracked}
 use Rattle.nmgc_weak.proofs.Closing.{closes, closed_dead, closed_kept}
 use Rattle.nmgc_weak.proofs.Dying.{AreAlive, all_die, lists_closed}
@@ -87,6 +88,27 @@ lost_within o words list dying h l x c =
     let at : y.0.at.0 ≡ x.at.0 = ap (λ (p : Place). p.at) y.2 in
     subst (λ (i : ℕ). IsWithin words i) at (h y.0 y.1)
 
+-- the one of the list at a place
+at_place : (list : List OldWeak) (x : OldWeak) → Contains (places_of list) (place_of x) → Contains list x
+at_place list x c =
+    let y = of_place list (place_of x) c in
+    let one : Place → OldWeak = λ (p : Place). record { weak = p.name; at = record { 0 = p.at } } in
+    let same : y.0 ≡ x = ap one y.2 in
+    subst (λ (w : OldWeak). Contains list w) same y.1
+
+death_names : (words : List ℕ) (dying : List OldWeak) → names_of dying ≡ map (λ (death : Death). death.weak) (deaths_of words dying)
+death_names words [] = refl
+death_names words (x ∷ xs) = ap (λ (l : List Name). x.weak ∷ l) (death_names words xs)
+
+-- the lost ones are of the list, and lose their values
+pub lost_values : (o : Opening) (words now : List ℕ) (list dying : List OldWeak) (deaths : List Death) → AreLost o (places_of list) dying → deaths ≡ deaths_of words dying → now ≡ without_values words dying → HaveLostValues list deaths words now
+lost_values o words now list dying deaths l d e = record {
+  dying = dying;
+  listed = λ x c. at_place list x (l.sound (place_of x) (has_place dying x c)).0;
+  dead = death_names words dying ∙ ap (λ (ds : List Death). map (λ (death : Death). death.weak) ds) (sym d);
+  words = e;
+}
+
 -- with other marks
 abbrev marking : Opening → List Name → Opening
 marking o marked = record o { core = record o.core { marked = marked } }
@@ -111,23 +133,23 @@ deaths_told o words s k list (x ∷ xs) h sub =
 -- all steps
 module _ (o : Opening) (words : List ℕ) (s t u : Segments) (k l n : MarkerSeen) (list dying : List OldWeak) (h : CanResolve o words s k (places_of list)) where
   -- from the marks of the revived on
-  from_marks : (m : List Name) → CanResolve (marking o m) words t l (places_of list) → AreLost (marking o m) (places_of list) dying → HasSaved (marking o m) u n dying → HasResolved o (buried words dying) u n (alive_of (buried words dying) list) (deaths_of words dying)
+  from_marks : (m : List Name) → CanResolve (marking o m) words t l (places_of list) → AreLost (marking o m) (places_of list) dying → HasSaved (marking o m) u n dying → HasResolved o (without_values words dying) u n (alive_of (without_values words dying) list) (deaths_of words dying)
   from_marks m g lost saved =
       let c = closing_back o m words s t k l (places_of list) h g saved.next saved.closing in
       let dead : c.0.dead ≡ names_of dying = c.1 ∙ saved.dead in
       let world : saved.next.world ≡ closed o.core.world (names_of dying) = ap (λ (x : State). x.world) c.0.rest ∙ ap (λ (x : List Name). closed o.core.world x) dead in
       let opens = h.ready.opens in
       let alive : AreAlive o.places o.core.world dying = λ x d. let y = h.listed.sound (place_of x) (lost.sound (place_of x) (has_place dying x d)).0 in (y.0, y.1) in
-      let repr = all_die o.layout (earlier o) o.places o.core.world words dying opens.world h.spoken lost.ordered alive opens.represents in
-      let lists = lists_closed o.layout (earlier o) o.places o.core.world words list dying opens.world h.spoken h.listed lost.ordered alive opens.represents in
+      let repr = all_die o.layout (earlier o) o.places o.core.world words dying opens.world h.earlier_are lost.ordered alive opens.represents in
+      let lists = lists_closed o.layout (earlier o) o.places o.core.world words list dying opens.world h.earlier_are h.listed lost.ordered alive opens.represents in
       record {
         next = saved.next;
         closing = c.0;
         once = saved.once;
         tied = tied_back m (marks_of saved.next) saved.tied;
         deaths_are = subst (λ (x : List Name). AreDeaths o x (deaths_of words dying)) (sym dead) (deaths_told o words s k list dying h (λ x d. (lost.sound (place_of x) (has_place dying x d)).0));
-        represents = subst (λ (w : World). Represents o.layout (earlier o) NoNode o.places w (buried words dying)) (sym world) repr;
-        listed = subst (λ (w : World). ListsWeaks o.layout o.places w (places_of (alive_of (buried words dying) list))) (sym world) lists;
+        represents = subst (λ (w : World). Represents o.layout (earlier o) NoNode o.places w (without_values words dying)) (sym world) repr;
+        listed = subst (λ (w : World). ListsWeaks o.layout o.places w (places_of (alive_of (without_values words dying) list))) (sym world) lists;
       }
     where
       tied_back : (m : List Name) (marks : Marks) → IsTied (marking o m) marks u n → IsTied o marks u n
@@ -139,7 +161,7 @@ module _ (o : Opening) (words : List ℕ) (s t u : Segments) (k l n : MarkerSeen
         count = x.count;
       }
 
-  pub resolved : (p : Opening) → MarksOn o p → CanResolve p words t l (places_of list) → AreLost p (places_of list) dying → HasSaved p u n dying → HasResolved o (buried words dying) u n (alive_of (buried words dying) list) (deaths_of words dying)
+  pub resolved : (p : Opening) → MarksOn o p → CanResolve p words t l (places_of list) → AreLost p (places_of list) dying → HasSaved p u n dying → HasResolved o (without_values words dying) u n (alive_of (without_values words dying) list) (deaths_of words dying)
   resolved p on =
-      let P : Opening → Type 0 = λ x. CanResolve x words t l (places_of list) → AreLost x (places_of list) dying → HasSaved x u n dying → HasResolved o (buried words dying) u n (alive_of (buried words dying) list) (deaths_of words dying) in
+      let P : Opening → Type 0 = λ x. CanResolve x words t l (places_of list) → AreLost x (places_of list) dying → HasSaved x u n dying → HasResolved o (without_values words dying) u n (alive_of (without_values words dying) list) (deaths_of words dying) in
       subst P (sym on.rest) (from_marks p.core.marked)

@@ -190,7 +190,7 @@ module _ (o : Opening) (words : List ℕ) (s0 : Segments) (marker0 : MarkerSeen)
       by_value dead alive (value.Number n) e tied = plain dead alive (λ target x. let bad : value.Number n ≡ value.Ref target = sym e ∙ x in cc) tied
       by_value dead alive (value.Ref target) e tied =
           let there : IsSome (node_of o.core.snapshot target) = part_there o.core.snapshot f.base.snapshot w.weak target dead.parts dead.alive (inr (inr e)) in
-          let may : IsQueued o (entry_of target) = may_queue o words target h.can.marking h.can.ready.opens h.can.spoken (of_weak_tracked o w.weak target dead.parts alive (inr (inr (inr e)))) there in
+          let may : IsQueued o (entry_of target) = may_queue o words target h.can.marking h.can.ready.opens h.can.earlier_are (of_weak_tracked o w.weak target dead.parts alive (inr (inr (inr e)))) there in
           let x : Marks = with_name o.core.snapshot b.m (Some target) in
           record {
             opened = b.opened ++ target ∷ [];

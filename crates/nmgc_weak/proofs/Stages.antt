@@ -205,7 +205,7 @@ done_goes o words s t marker later weaks marked can h =
         once = h.once;
         gone = can.gone;
         can_close = (c.0, refl, c.2, c.3);
-        spoken = can.spoken;
+        earlier_are = can.earlier_are;
         listed = can.listed;
       };
     }

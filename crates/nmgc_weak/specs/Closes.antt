@@ -1,5 +1,5 @@
 -- A cycle that closes with weak pointers, in the words of a run: when it may, what it keeps, and what the mutators' queues and the list are then.
-use Rattle.std.specs.Prelude.{Option, ℕ, ◌≡◌, ◌↔◌, ◌≤◌, true, List, [], ◌∷◌, length, map, Some, slice_get, All, Contains, IsSome}
+use Rattle.std.specs.Prelude.{Option, ℕ, ◌≡◌, ◌↔◌, ◌≤◌, true, List, [], ◌∷◌, length, map, Some, slice_get, Contains, IsSome}
 use Rattle.nmgc_graph.specs.declared.value.Name.{Name}
 use Rattle.nmgc_graph.specs.declared.node.Parts.{Parts}
 use Rattle.nmgc_graph.specs.declared.node.Node.TheVariants.{Weak}
@@ -11,7 +11,7 @@ use Rattle.nmgc_object.specs.declared.layout.Layout.{Layout}
 use Rattle.nmgc_reach.specs.Reachable.{IsSound}
 use Rattle.nmgc_segment.specs.Segment.{IsMarked}
 use Rattle.nmgc_core.specs.Machine.{AreEmpty}
-use Rattle.nmgc_alloc.specs.AllocState.{LiesIn, StandsFor}
+use Rattle.nmgc_alloc.specs.AllocState.{LiesIn}
 use Rattle.nmgc_alloc.specs.Search.{nth}
 use Rattle.nmgc_alloc.specs.Segments.{Segments}
 use Rattle.nmgc_heap.specs.Changes.{AreEarlier}
@@ -23,9 +23,7 @@ use Rattle.nmgc_round.specs.View.{Opening}
 use Rattle.nmgc_run.specs.Census.{IsDeadIn, IsKeptIn, IsKeptObject, interval_of}
 use Rattle.nmgc_run.specs.Closing.{Closes}
 use Rattle.nmgc_run.specs.Collector.{weaks_of}
-use Rattle.nmgc_run.specs.Heap.{HoldsAtStop, HasAllRegisters, registers_of, queues_of, serials_of, snapshots}
 use Rattle.nmgc_run.specs.Listing.{Counts}
-use Rattle.nmgc_journal.specs.declared.report.MutatorEnd.{MutatorEnd}
 use Rattle.nmgc_run.specs.Marker.{IsCoreOf}
 use Rattle.nmgc_run.specs.Marks.{epoch_of}
 use Rattle.nmgc_run.specs.Seen.{MarkerSeen}
@@ -70,8 +68,3 @@ pub record OldStayOld (layout : Layout) (places : List Place) (began w : World) 
 -- what is left of the list once those with no value have left: the weak pointers alive after a round that have a block
 abbrev pub LeavingLists : Type 0
 LeavingLists = (layout : Layout) (past : List World) (places : List Place) (began w : World) (words : List ℕ) (list : List OldWeak) → IsWorld began → IsWorld w → Represents layout (began ∷ past) NoNode places w words → ListsWeaks layout places began (places_of list) → OldStayOld layout places began w → ListsWeaks layout places w (places_of (alive_of words list))
-
--- words, segments and list stand for the heap of the stop still, now with the closed world; once the cycle marks no more, its snapshot may be forgotten
-abbrev pub StopCloses : Type 0
-StopCloses = (layout : Layout) (s : State) (before words : List ℕ) (old new : Segments) (ends later : List MutatorEnd) (weaks : List Place) (o : Opening) (marker : MarkerSeen) (list : List OldWeak) (deaths : List Death) → (h : HoldsAtStop layout s before old ends weaks) → IsWorld s.world → o.layout ≡ layout → o.places ≡ h.places → o.core.world ≡ s.world → earlier o ≡ snapshots s.progress → (r : HasResolved o words new marker list deaths) → new.layout ≡ layout → StandsFor new before s.allocation → All HasAllRegisters later → RepresentsRoots o.places (closed o.core.world r.closing.dead) (registers_of later) (queues_of later) (serials_of later) →
-    (k : HoldsAtStop layout (record s { world = closed s.world r.closing.dead }) words new later (places_of list)) × (k.places ≡ h.places)

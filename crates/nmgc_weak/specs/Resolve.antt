@@ -36,7 +36,7 @@ pub record CanResolve (o : Opening) (words : List ℕ) (s : Segments) (marker : 
   pub once : AreOnce o.core.marked
   pub gone : (weak : Name) (parts : Parts) → Contains o.core.finalised weak → IsAlive o.core.world weak parts → ⊥
   pub can_close : IsPossible o.core event.Close
-  pub spoken : AreEarlier (earlier o) o.core.world
+  pub earlier_are : AreEarlier (earlier o) o.core.world
   pub listed : ListsWeaks o.layout o.places o.core.world weaks
 
 -- each of the dead with the word of its finaliser, in order

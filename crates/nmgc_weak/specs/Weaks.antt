@@ -58,6 +58,13 @@ abbrev pub deaths_of : List ℕ → List OldWeak → List Death
 deaths_of words dying = map (λ (weak : OldWeak). let death : Death = record { weak = weak.weak; finaliser = slice_index words (finaliser_place weak.at.0) } in death) dying
 
 -- the words where the value words of these are 0
-abbrev pub buried : List ℕ → List OldWeak → List ℕ
-buried words [] = words
-buried words (weak ∷ dying) = buried (set words (value_place weak.at.0) 0) dying
+abbrev pub without_values : List ℕ → List OldWeak → List ℕ
+without_values words [] = words
+without_values words (weak ∷ dying) = without_values (set words (value_place weak.at.0) 0) dying
+
+-- of the words only the value words changed of those of the list that died: they are 0
+pub record HaveLostValues (list : List OldWeak) (deaths : List Death) (old new : List ℕ) : Type 0 where
+  pub dying : List OldWeak
+  pub listed : (weak : OldWeak) → Contains dying weak → Contains list weak
+  pub dead : names_of dying ≡ map (λ (death : Death). death.weak) deaths
+  pub words : new ≡ without_values old dying

@@ -1,7 +1,7 @@
 //! A cycle that closes with weak pointers, in the words of a run.
 //!
 //! Each function here does nothing; its contract is the law, over what the calls of this crate ensure.
-ghost use Rattle.nmgc_weak.specs.Closes.{CycleMayResolve, CycleCloses, DeathsHaveRoom, QueuesClose, StopCloses, LeavingLists};
+ghost use Rattle.nmgc_weak.specs.Closes.{CycleMayResolve, CycleCloses, DeathsHaveRoom, QueuesClose, LeavingLists};
 
 use nmgc_mark::laws::ties_agree;
 
@@ -26,10 +26,4 @@ pub fn queues_close()
 /// and have a block.
 pub fn the_list_is_left()
     ensures { LeavingLists }
-{}
-
-/// After the closing, words, segments, what the mutators have in hand and the list stand for the heap of the stop, with the
-/// closed world.
-pub fn a_stop_closes()
-    ensures { StopCloses }
 {}

@@ -19,7 +19,7 @@ ghost use Rattle.nmgc_mark.specs.Marker.{HasMarked};
 ghost use Rattle.nmgc_mark.specs.Tie.{IsTied};
 ghost use Rattle.nmgc_weak.specs.Resolve.{CanResolve};
 ghost use Rattle.nmgc_weak.specs.Steps.{IsShownWord, IsLostAt, CanKeep, HasKept, HasPassed, HasRevived, CanSave, AreLost, HasSaved};
-ghost use Rattle.nmgc_weak.specs.Weaks.{IsWithin, AreWithin, key_place, place_of, places_of, names_of, deaths_of, buried};
+ghost use Rattle.nmgc_weak.specs.Weaks.{IsWithin, AreWithin, key_place, place_of, places_of, names_of, deaths_of, without_values};
 
 use crate::weaks::{Death, FINALISER, OldWeak, VALUE};
 use nmgc_alloc::Segments;
@@ -224,9 +224,9 @@ pub(crate) fn save_finalisers<W: HeapWords>(
 }
 
 /// The value words of those that die become 0, and no other word changes.
-pub(crate) fn bury<W: HeapWords>(dying: &[OldWeak], words: &mut W)
+pub(crate) fn clear_values<W: HeapWords>(dying: &[OldWeak], words: &mut W)
     requires { AreWithin (W.words words.old) dying.now }
-    ensures { W.words words.new ≡ buried (W.words words.old) dying.now }
+    ensures { W.words words.new ≡ without_values (W.words words.old) dying.now }
 {
     for weak in dying {
         words.store(weak.at.0 as usize + VALUE, 0);

@@ -121,5 +121,4 @@ fn laws_ask_nothing(rt: HostRuntime) {
     laws::a_cycle_closes();
     laws::queues_close();
     laws::the_list_is_left();
-    laws::a_stop_closes();
 }

@@ -15,9 +15,9 @@ ghost use Rattle.nmgc_run.specs.Marker.{HasRoomToMark};
 ghost use Rattle.nmgc_mark.specs.Marker.{HasMarked};
 ghost use Rattle.nmgc_weak.specs.declared.weaks.OldWeak.{OldWeak as Old};
 ghost use Rattle.nmgc_weak.specs.Resolve.{CanResolve, HasResolved};
-ghost use Rattle.nmgc_weak.specs.Weaks.{AreInside, alive_of, names_of, places_of};
+ghost use Rattle.nmgc_weak.specs.Weaks.{AreInside, HaveLostValues, alive_of, names_of, places_of};
 
-use crate::resolve::{bury, find_dying, revive, save_finalisers};
+use crate::resolve::{clear_values, find_dying, revive, save_finalisers};
 use nmgc_alloc::Segments;
 use nmgc_graph::{List, Name, NoMemory};
 use nmgc_heap::HeapWords;
@@ -179,6 +179,7 @@ impl Weaks {
         requires room { 0 < self.old.spare }
         requires new { (other : Old) → Contains self.old.list other → other.weak ≢ weak }
         ensures list { (other : Old) → Contains self.new.list other ↔ (Contains self.old.list other ⊎ (other ≡ record { weak = weak; at = at })) }
+        ensures ordered { IsInOrder (names_of self.new.list) }
         ensures spare { self.new.spare + 1 ≡ self.old.spare }
         ensures deaths { self.new.deaths ≡ self.old.deaths }
     {
@@ -199,6 +200,7 @@ impl Weaks {
         requires ordered { IsInOrder (names_of fresh.now) }
         requires new { (one other : Old) → Contains fresh.now one → Contains self.old.list other → other.weak ≢ one.weak }
         ensures list { (other : Old) → Contains self.new.list other ↔ (Contains self.old.list other ⊎ Contains fresh.now other) }
+        ensures ordered { IsInOrder (names_of self.new.list) }
         ensures spare { self.new.spare + length fresh.now ≡ self.old.spare }
         ensures deaths { self.new.deaths ≡ self.old.deaths }
     {
@@ -260,7 +262,7 @@ impl Weaks {
     /// finaliser marked, with all that strong fields reach from these, until no key is left that was marked in
     /// this way. The other weak pointers of the snapshot die: their value words become 0, their finalisers are
     /// marked with all that they reach, and they leave the list and are the deaths. It is the closing of the core
-    /// machine. Those made since the snapshot stay as they are. Takes no memory.
+    /// machine. Those made since the snapshot stay as they are, and no other word changes. Takes no memory.
     ///
     /// A pass over the list revives all keys that come up in the order of the list, so there are no more passes
     /// than rounds of revived keys, and one that finds none.
@@ -275,6 +277,7 @@ impl Weaks {
         ensures marked { (count : ℕ) × HasMarked segments.old segments.new marker.old marker.new count }
         ensures empty { marker.new.queue ≡ [] }
         ensures spare { self.new.spare + length self.new.list ≡ self.old.spare + length self.old.list }
+        ensures values { HaveLostValues self.old.list self.new.deaths (W.words words.old) (W.words words.new) }
         ensures resolved { (o : Opening) → CanResolve o (W.words words.old) segments.old marker.old (places_of self.old.list) → HasResolved o (W.words words.new) segments.new marker.new self.new.list self.new.deaths }
     {
         self.dying.clear();
@@ -294,7 +297,7 @@ impl Weaks {
             words,
             segments,
         );
-        bury(self.dying.as_slice(), words);
+        clear_values(self.dying.as_slice(), words);
         self.leave(words);
     }
 }

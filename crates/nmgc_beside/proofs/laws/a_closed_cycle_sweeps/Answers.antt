@@ -1,8 +1,5 @@
-use Rattle.nmgc_beside.proofs.Sweeping.{carry_settles, marked_wait, placed_wait, sweeping_stays, settled_stays}
+use Rattle.nmgc_beside.proofs.Sweeping.{marked_wait, placed_wait, sweeping_stays, settled_stays}
 use Rattle.nmgc_beside.proofs.laws.a_closed_cycle_sweeps.Goals as goal
-
-pub returns-clause-carries : goal.returns-clause-carries
-returns-clause-carries c = carry_settles
 
 pub returns-clause-marked : goal.returns-clause-marked
 returns-clause-marked c = marked_wait

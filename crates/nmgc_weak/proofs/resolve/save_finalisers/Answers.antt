@@ -4,7 +4,7 @@ use Rattle.nmgc_mark.specs.Stopped.{IsReady}
 use Rattle.nmgc_weak.specs.declared.weaks.OldWeak.{OldWeak}
 use Rattle.nmgc_weak.specs.declared.weaks.Death.{Death}
 use Rattle.nmgc_weak.specs.Weaks.{finaliser_place, deaths_of}
-use Rattle.nmgc_weak.proofs.Burying.{deaths_more}
+use Rattle.nmgc_weak.proofs.Clearing.{deaths_more}
 use Rattle.nmgc_weak.proofs.Counting.{marked_none, marked_sum}
 use Rattle.nmgc_weak.proofs.Finding.{at_contains}
 use Rattle.nmgc_weak.proofs.Joining.{get_default}

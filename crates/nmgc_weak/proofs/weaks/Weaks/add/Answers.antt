@@ -42,3 +42,6 @@ invariant_of-self c =
       inv.6,
       inv.7,
     )
+
+pub returns-clause-ordered : goal.returns-clause-ordered
+returns-clause-ordered c = (invariant_of-self c).0

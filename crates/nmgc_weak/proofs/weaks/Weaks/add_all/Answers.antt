@@ -1,7 +1,8 @@
 use Rattle.std.proofs.Common.{◌≡◌, ◌⊎◌, ◌↔◌, List, sym, ap, subst, ◌∙◌}
 use Rattle.std.specs.Prelude.{Contains}
+use Rattle.nmgc_graph.specs.Reach.{IsInOrder}
 use Rattle.nmgc_weak.specs.declared.weaks.OldWeak.{OldWeak}
-use Rattle.nmgc_weak.specs.Weaks.{Weaks}
+use Rattle.nmgc_weak.specs.Weaks.{Weaks, names_of}
 use Rattle.nmgc_weak.proofs.weaks.Weaks.add_all.Goals as goal
 
 pub merge-requires-clause-new : goal.merge-requires-clause-new
@@ -15,3 +16,8 @@ returns-clause-list c = λ other.
     let items : c.swap.new.x.items ≡ c.merge.new.all.items = ap (λ v. v.items) c.swap.ensures.x_after in
     subst (λ (l : List OldWeak). Contains l other ↔ (Contains c.args.self.now.list other ⊎ Contains c.args.fresh.now other)) (sym items)
     (subst (λ (l : List OldWeak). Contains c.merge.new.all.items other ↔ (Contains l other ⊎ Contains c.args.fresh.now other)) list (c.merge.ensures.both other))
+
+pub returns-clause-ordered : goal.returns-clause-ordered
+returns-clause-ordered c =
+    let items : c.swap.new.x.items ≡ c.merge.new.all.items = ap (λ v. v.items) c.swap.ensures.x_after in
+    subst (λ (l : List OldWeak). IsInOrder (names_of l)) (sym items) c.merge.ensures.ordered

@@ -1,9 +1,9 @@
 use Rattle.std.proofs.Common.{ℕ, List, set, take, get_or, sym, ap, ◌∙◌, arith, length}
 use Rattle.nmgc_weak.specs.declared.weaks.OldWeak.{OldWeak}
 use Rattle.nmgc_weak.specs.Weaks.{value_place}
-use Rattle.nmgc_weak.proofs.Burying.{buried_length, buried_more}
+use Rattle.nmgc_weak.proofs.Clearing.{cleared_length, cleared_more}
 use Rattle.nmgc_weak.proofs.Finding.{at_contains}
-use Rattle.nmgc_weak.proofs.resolve.bury.Goals as goal
+use Rattle.nmgc_weak.proofs.resolve.clear_values.Goals as goal
 
 abbrev nobody : OldWeak
 nobody = record { weak = record { maker = 0; serial = 0 }; at = record { 0 = 0 } }
@@ -13,10 +13,10 @@ store-requires g c =
     let ws = g.W.HeapWords.words c.args.words.now in
     let x = get_or c.args.dying.now c.loop-weak.weak-index nobody in
     let inside = (c.requires x (at_contains c.args.dying.now c.loop-weak.weak-index nobody c.loop-weak-test.true)).inside in
-    let l = ap length c.loop-weak.invariant ∙ buried_length ws (take c.loop-weak.weak-index c.args.dying.now) in
+    let l = ap length c.loop-weak.invariant ∙ cleared_length ws (take c.loop-weak.weak-index c.args.dying.now) in
     omega (arith, inside, l)
 
 pub loop-weak-preserved : goal.loop-weak-preserved
 loop-weak-preserved g c =
     let ws = g.W.HeapWords.words c.args.words.now in
-    c.store.ensures ∙ ap (λ (l : List ℕ). set l (value_place (get_or c.args.dying.now c.loop-weak.weak-index nobody).at.0) 0) c.loop-weak.invariant ∙ sym (buried_more ws c.args.dying.now c.loop-weak.weak-index nobody c.loop-weak-test.true)
+    c.store.ensures ∙ ap (λ (l : List ℕ). set l (value_place (get_or c.args.dying.now c.loop-weak.weak-index nobody).at.0) 0) c.loop-weak.invariant ∙ sym (cleared_more ws c.args.dying.now c.loop-weak.weak-index nobody c.loop-weak-test.true)

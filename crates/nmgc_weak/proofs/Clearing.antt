@@ -3,18 +3,18 @@ use Rattle.std.proofs.Common.{◌≡◌, ◌+◌, ◌<◌, ℕ, zero, suc, List,
 use Rattle.std.specs.Prelude.{slice_index}
 use Rattle.nmgc_weak.specs.declared.weaks.OldWeak.{OldWeak}
 use Rattle.nmgc_weak.specs.declared.weaks.Death.{Death}
-use Rattle.nmgc_weak.specs.Weaks.{value_place, finaliser_place, buried, deaths_of}
+use Rattle.nmgc_weak.specs.Weaks.{value_place, finaliser_place, without_values, deaths_of}
 
-pub buried_length : (words : List ℕ) (dying : List OldWeak) → length (buried words dying) ≡ length words
-buried_length words [] = refl
-buried_length words (w ∷ ws) = buried_length (set words (value_place w.at.0) 0) ws ∙ length-set words (value_place w.at.0) 0
+pub cleared_length : (words : List ℕ) (dying : List OldWeak) → length (without_values words dying) ≡ length words
+cleared_length words [] = refl
+cleared_length words (w ∷ ws) = cleared_length (set words (value_place w.at.0) 0) ws ∙ length-set words (value_place w.at.0) 0
 
-pub buried_more : (words : List ℕ) (dying : List OldWeak) (i : ℕ) (d : OldWeak) → i < length dying → buried words (take (i + 1) dying) ≡ set (buried words (take i dying)) (value_place (get_or dying i d).at.0) 0
-buried_more words [] i d lt = absurd (omega arith)
-buried_more words (x ∷ xs) zero d lt = refl
-buried_more words (x ∷ xs) (suc i) d lt =
+pub cleared_more : (words : List ℕ) (dying : List OldWeak) (i : ℕ) (d : OldWeak) → i < length dying → without_values words (take (i + 1) dying) ≡ set (without_values words (take i dying)) (value_place (get_or dying i d).at.0) 0
+cleared_more words [] i d lt = absurd (omega arith)
+cleared_more words (x ∷ xs) zero d lt = refl
+cleared_more words (x ∷ xs) (suc i) d lt =
     let z : suc i + 1 ≡ suc (i + 1) = omega arith in
-    ap (λ n. buried words (take n (x ∷ xs))) z ∙ buried_more (set words (value_place x.at.0) 0) xs i d (omega arith)
+    ap (λ n. without_values words (take n (x ∷ xs))) z ∙ cleared_more (set words (value_place x.at.0) 0) xs i d (omega arith)
 
 -- the death of one
 abbrev pub death_of : List ℕ → OldWeak → Death

@@ -1,0 +1,6 @@
+use Rattle.std.proofs.Common.{◌≡◌, take}
+use Rattle.nmgc_weak.specs.Weaks.{without_values}
+use Rattle.nmgc_weak.proofs.resolve.clear_values.Given as goal
+
+abbrev pub invariant-loop-weak : goal.invariant-loop-weak
+invariant-loop-weak g l = g.W.HeapWords.words l.words ≡ without_values (g.W.HeapWords.words l.fn.words) (take l.weak-index l.dying)
