@@ -2,7 +2,6 @@
 use Rattle.std.proofs.Common.{◌≡◌, ◌≤◌, ◌<◌, ◌∙◌, ℕ, List, [], ◌∷◌, length, get_or, sym, subst, arith, Option, codes, decimal}
 use Rattle.std.specs.Prelude.{IfSome, IfNone}
 use Rattle.std.proofs.lemmas.Fmt.{decimal_injective}
-use Rattle.nmgc_script.specs.Bench.{most_batches}
 use Rattle.nmgc_cli.specs.Task.{IsBench, Asks, IsWrong}
 use Rattle.nmgc_cli.specs.declared.task.Task.{Task}
 use Rattle.nmgc_cli.specs.declared.task.Task.TheVariants.{Run, Bench}

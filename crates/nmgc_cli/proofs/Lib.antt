@@ -1,5 +1,4 @@
 pub mod Asking
-pub mod Crowding
 pub mod FewAnswers
 pub mod Passing
 pub mod Single

@@ -10,8 +10,8 @@ use Rattle.nmgc_script.specs.Bench.{bench_script}
 use Rattle.nmgc_script.specs.Spelling.{Spells}
 use Rattle.nmgc_script.specs.declared.script.Script.{Script}
 use Rattle.nmgc_cli.specs.Answer.{Answer, refusal_status, answer_status, answer_report, answer_text, task_text, text_bytes, IsToldAs}
-use Rattle.nmgc_cli.specs.Bench.{AnswersBench, CanBeWritten}
-use Rattle.nmgc_cli.specs.Crowded.{IsRunOf, IsHeapFull}
+use Rattle.nmgc_cli.specs.Bench.{AnswersBench}
+use Rattle.nmgc_run.specs.Crowded.{IsRunOf, IsHeapFull}
 use Rattle.nmgc_cli.specs.Status.{status_of}
 use Rattle.nmgc_cli.specs.Task.{Asks, CanBeDone}
 use Rattle.nmgc_cli.specs.Told.{IsRead, Answers, AnswersScript, IsTold, IsWritten, Ends, IsReport, IsRunThrough, IsComplete, IsBenchComplete}
@@ -39,14 +39,6 @@ read_for (Bench batches) old new rose report h = (h.0, tt)
 pub unwritten : (words : List (List ℕ)) (old new : Option (List ℕ)) (rose : Type 0) (outcome : Outcome) → IsTold words old new rose (Ok outcome) → IsTold words old new rose (Err no.NoMemory)
 unwritten words old new rose outcome h = (outcome.task, h.0, read_for outcome.task old new rose outcome.report h.1)
 
--- what a task writes of its report can be written
-can_be_written : (task : Task) (old new : Option (List ℕ)) (rose : Type 0) (report : Report) → Answers task old new rose (Ok report) → CanBeWritten task report
-can_be_written Run old new rose report h = tt
-can_be_written (Bench batches) old new rose report h = h.1.count
-
-pub told_can : (words : List (List ℕ)) (old new : Option (List ℕ)) (rose : Type 0) (outcome : Outcome) → IsTold words old new rose (Ok outcome) → CanBeWritten outcome.task outcome.report
-told_can words old new rose outcome h = can_be_written outcome.task old new rose outcome.report h.1
-
 -- a task that words ask for can be done
 pub asked_can : (words : List (List ℕ)) (task : Task) → Asks words task → CanBeDone task
 asked_can words Run h = tt
@@ -69,7 +61,7 @@ of_report : (task : Task) (words : List (List ℕ)) (left left' taken taken' : O
 of_report Run words left left' taken taken' read_fault write_fault status report asks h text =
     inl (record { asked = asks; bytes = h.0; read = h.1; script = h.2.0; spells = h.2.1; run = h.2.2; written = text })
 of_report (Bench batches) words left left' taken taken' read_fault write_fault status report asks h text =
-    inr (record { batches = batches; asked = asks; unread = h.0; run = h.1.run; written = text })
+    inr (record { batches = batches; asked = asks; unread = h.0; run = h.1; written = text })
 
 of_answer : (words : List (List ℕ)) (left left' taken taken' : Option (List ℕ)) (read_fault write_fault : Type 0) (answer : Answer) (status : Status) → IsTold words left left' read_fault answer → IsWritten taken taken' write_fault (answer_status answer) (answer_text answer) status → IfSome (answer_report answer) (λ report. IsReport words left left' taken taken' write_fault status report)
 of_answer words left left' taken taken' read_fault write_fault (Ok outcome) status told text = of_report outcome.task words left left' taken taken' read_fault write_fault status outcome.report told.0 told.1 text
@@ -129,7 +121,7 @@ bench_done : (task : Task) (words : List (List ℕ)) (batches : ℕ) (old new : 
 bench_done Run words batches old new rose report bench asks h = absurd (other_task words batches asks bench)
 bench_done (Bench n) words batches old new rose report bench asks h =
     let same : n ≡ batches = same_batches words n batches asks bench in
-    of_end report.end (bench_script batches) report refl (subst (λ (k : ℕ). IsRunOf (bench_script k) report) same h.1.run)
+    of_end report.end (bench_script batches) report refl (subst (λ (k : ℕ). IsRunOf (bench_script k) report) same h.1)
 
 bench_refusal : (batches n : ℕ) (refusal : Refusal) → AnswersBench n (Err refusal) → IsRunThrough (bench_script batches) (refusal_status refusal) None
 bench_refusal batches n no.Usage h = absurd h

@@ -4,25 +4,20 @@ use Rattle.nmgc_script.specs.Bench.{bench_script}
 use Rattle.nmgc_journal.specs.declared.report.Report.{Report}
 use Rattle.nmgc_journal.specs.Summary.{command_count}
 use Rattle.nmgc_cli.specs.Answer.{Reported}
-use Rattle.nmgc_cli.specs.Crowded.{IsRunOf}
+use Rattle.nmgc_run.specs.Crowded.{IsRunOf}
 use Rattle.nmgc_cli.specs.declared.answer.Refusal.TheVariants as no
 use Rattle.nmgc_cli.specs.declared.task.Task.{Task}
 use Rattle.nmgc_cli.specs.declared.task.Task.TheVariants.{Run, Bench}
 
--- the commands of the report can be counted in a summary
-abbrev pub HasCount : Report → Type 0
-HasCount report = command_count report.rounds < 2 ^ 64
-
--- the report is one of a run of the bench's script
-pub record IsBenchOf (batches : ℕ) (report : Report) : Type 0 where
-  pub run : IsRunOf (bench_script batches) report
-  pub count : HasCount report
-
--- the answer to a bench of so many batches
+-- the answer to a bench of so many batches: the report is one of a run of the bench's script
 abbrev pub AnswersBench : ℕ → Reported → Type 0
-AnswersBench batches (Ok report) = IsBenchOf batches report
+AnswersBench batches (Ok report) = IsRunOf (bench_script batches) report
 AnswersBench batches (Err no.NoMemory) = Unit {0}
 AnswersBench batches (Err _) = ⊥
+
+-- the report answers few enough commands to be counted in a summary
+abbrev pub HasCount : Report → Type 0
+HasCount report = command_count report.rounds < 2 ^ 64
 
 -- what the task writes of the report can be written
 abbrev pub CanBeWritten : Task → Report → Type 0

@@ -1,6 +1,5 @@
 pub mod Answer
 pub mod Bench
-pub mod Crowded
 pub mod Program
 pub mod Status
 pub mod Task

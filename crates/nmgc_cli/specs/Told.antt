@@ -9,11 +9,11 @@ use Rattle.nmgc_script.specs.declared.script.Script.{Script}
 use Rattle.nmgc_script.specs.declared.fault.Cause.{Cause}
 use Rattle.nmgc_journal.specs.declared.report.Report.{Report}
 use Rattle.nmgc_cli.specs.Answer.{Answer, Reported, answer_status, answer_report, answer_text}
-use Rattle.nmgc_cli.specs.Bench.{IsBenchOf, AnswersBench}
+use Rattle.nmgc_cli.specs.Bench.{AnswersBench}
 use Rattle.nmgc_journal.specs.Text.{report_text}
 use Rattle.nmgc_journal.specs.Summary.{summary_text}
 use Rattle.nmgc_script.specs.Bench.{bench_script}
-use Rattle.nmgc_cli.specs.Crowded.{IsRunOf, IsHeapFull}
+use Rattle.nmgc_run.specs.Crowded.{IsRunOf, IsHeapFull}
 use Rattle.nmgc_cli.specs.Status.{status_of}
 use Rattle.nmgc_cli.specs.Task.{Asks, IsWrong}
 use Rattle.nmgc_cli.specs.declared.answer.Refusal.TheVariants as no
@@ -92,11 +92,11 @@ pub record IsReportOfBench (words : List (List ℕ)) (left left' taken taken' : 
   pub run : IsRunOf (bench_script batches) report
   pub written : IsWritten taken taken' rose (status_of report.end) (summary_text batches report) status
 
--- what a report is
+-- what a report is: it follows from what is told (`IsTold`, `Ends`), and is said in one piece for readers
 abbrev pub IsReport : List (List ℕ) → Option (List ℕ) → Option (List ℕ) → Option (List ℕ) → Option (List ℕ) → Type 0 → Status → Report → Type 0
 IsReport words left left' taken taken' rose status report = IsReportOfRun words left left' taken taken' rose status report ⊎ IsReportOfBench words left left' taken taken' rose status report
 
--- the report tells a run that ended as heap full: so its last stop is full, and some stop is crowded
+-- the report tells a run that ended as heap full, by the cause that `IsRunOf` tells
 abbrev pub IsFullOf : Script → Option Report → Type 0
 IsFullOf script None = ⊥
 IsFullOf script (Some report) = IsRunOf script report × IsHeapFull report.end

@@ -5,7 +5,7 @@
 //! Easy to get wrong: `bench 0` and `bench 01` are wrong words, as `bench 101` is.
 ghost use Rattle.std.specs.Prelude.{◌≡◌, ℕ, [], ◌∷◌, decimal, map, string_bytes, IfOk, IfSome, IfNone};
 ghost use Rattle.nmgc_cli.specs.Bench.{AnswersBench, HasCount};
-ghost use Rattle.nmgc_cli.specs.Crowded.{IsRunOf};
+ghost use Rattle.nmgc_run.specs.Crowded.{IsRunOf};
 ghost use Rattle.nmgc_cli.specs.Task.{Asks, IsBench};
 ghost use Rattle.nmgc_cli.specs.declared.task.Task.TheVariants.{Bench};
 ghost use Rattle.nmgc_script.specs.Bench.{bench_script};
@@ -54,10 +54,11 @@ fn batches_in(word: &[u8]) -> Option<u32>
     Some(number as u32)
 }
 
-/// The answer to a bench of so many batches.
+/// The answer to a bench of so many batches. A report answers few enough commands to be counted.
 pub fn bench<R: Threads + Sync>(alloc: Global, rt: &R, batches: u32) -> Result<Report, Refusal>
     requires { IsBench batches }
-    ensures { AnswersBench batches result }
+    ensures answer { AnswersBench batches result }
+    ensures count { IfOk result (λ report. HasCount report) }
 {
     Ok(bench_report(alloc, rt, batches)?)
 }

@@ -5,9 +5,10 @@
 //! a sink that fails replaces the status and nothing else.
 ghost use Rattle.std.specs.Prelude.{◌≡◌, ◌≤◌, ◌⊎◌, map, string_bytes, length, IfOk, IfSome};
 ghost use Rattle.nmgc_io.specs.Causes.{Rose};
+ghost use Rattle.nmgc_run.specs.Crowded.{IsRunOf};
 ghost use Rattle.nmgc_cycle.specs.Limits.{IsInLimits};
 ghost use Rattle.nmgc_cli.specs.Answer.{Answer, IsToldAs};
-ghost use Rattle.nmgc_cli.specs.Crowded.{IsRunOf};
+ghost use Rattle.nmgc_cli.specs.Bench.{CanBeWritten};
 ghost use Rattle.nmgc_cli.specs.Task.{CanBeDone};
 ghost use Rattle.nmgc_limits.specs.Limits.{most_script_bytes};
 ghost use Rattle.nmgc_cli.specs.Told.{IsTold, Answers, AnswersScript, AnswersBytes, IsWritten, Ends, IsReport, IsComplete, IsBenchComplete, ReadsNothing};
@@ -96,7 +97,7 @@ fn told<R: Threads + Sync, S: Source>(
     }
 }
 
-// The answer to the words.
+// The answer to the words. Of a task that was done the report can be written.
 #[tactic(auto, using(crate::proofs::Telling::undone, crate::proofs::Telling::asked_can))]
 fn answer<R: Threads + Sync, S: Source>(
     alloc: Global,
@@ -105,6 +106,7 @@ fn answer<R: Threads + Sync, S: Source>(
     source: &mut S,
 ) -> Result<Outcome, Refusal>
     ensures told { IsTold (map string_bytes words.now) (S.left source.old) (S.left source.new) (Rose (S.faults source.old) (S.faults source.new)) result }
+    ensures written { IfOk result (λ outcome. CanBeWritten outcome.task outcome.report) }
     ensures unread { ReadsNothing (map string_bytes words.now) → source.new ≡ source.old }
 {
     let Some(task) = task_of(words) else {
@@ -116,7 +118,7 @@ fn answer<R: Threads + Sync, S: Source>(
     }
 }
 
-// The answer to a task.
+// The answer to a task, and that its report can be written.
 fn report_of<R: Threads + Sync, S: Source>(
     alloc: Global,
     rt: &R,
@@ -125,6 +127,7 @@ fn report_of<R: Threads + Sync, S: Source>(
 ) -> Result<Report, Refusal>
     requires { CanBeDone task }
     ensures told { Answers task (S.left source.old) (S.left source.new) (Rose (S.faults source.old) (S.faults source.new)) result }
+    ensures written { IfOk result (λ report. CanBeWritten task report) }
     ensures unread { (task ≡ Task.Run → ⊥) → source.new ≡ source.old }
 {
     match task {

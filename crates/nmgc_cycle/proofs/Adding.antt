@@ -1,6 +1,5 @@
 -- What mutators remember is added to the marker, one mutator after the other, and forgotten.
-use Rattle.std.proofs.Common.{ℕ, ◌≡◌, ◌+◌, ◌<◌, List, [], ◌∷◌, ◌++◌, length, map, take, drop, set, get_or, refl, sym, ap, append-nil, subst, ◌∙◌, arith}
-use Rattle.std.proofs.lemmas.Grind.{flat_map-append}
+use Rattle.std.proofs.Common.{ℕ, ◌≡◌, ◌+◌, ◌<◌, List, [], ◌∷◌, ◌++◌, length, map, take, drop, set, get_or, refl, sym, ap, append-nil, append_assoc, subst, ◌∙◌, arith}
 use Rattle.std.proofs.lemmas.List.{get_or_default, take_more}
 use Rattle.std.proofs.lemmas.List.Edits.{map_over_more}
 use Rattle.nmgc_alloc.specs.Segments.{Segments}
@@ -12,7 +11,7 @@ use Rattle.nmgc_round.specs.View.{Opening}
 use Rattle.nmgc_run.specs.Marker.{HasRoomToMark}
 use Rattle.nmgc_run.specs.Seen.{MarkerSeen}
 use Rattle.nmgc_round.specs.Marking.{name_at}
-use Rattle.nmgc_cycle.specs.Cycles.{HasAdded, remembered_by, forgetting}
+use Rattle.nmgc_cycle.specs.Cycles.{HasAdded, remembered_by, remembering_nothing}
 
 -- one list of places after another
 places_after : (o : Opening) (m : Marks) (a b : List ℕ) → with_places o m (a ++ b) ≡ with_places o (with_places o m a) b
@@ -53,16 +52,15 @@ added_then a b s t u m n k x y =
 
 -- one mutator more
 pub remembered_more : (ms : List Mutator) (i : ℕ) (d : Mutator) → i < length ms → remembered_by (take i ms) ++ numbers (get_or ms i d).updrem.items ≡ remembered_by (take (i + 1) ms)
-remembered_more ms i d lt =
-    let own : Mutator → List ℕ = λ (m : Mutator). numbers m.updrem.items in
-    let more : remembered_by (take (i + 1) ms) ≡ remembered_by (take i ms ++ get_or ms i d ∷ []) = ap remembered_by (take_more ms i d lt) in
-    let apart : remembered_by (take i ms ++ get_or ms i d ∷ []) ≡ remembered_by (take i ms) ++ (own (get_or ms i d) ++ []) = flat_map-append own (take i ms) (get_or ms i d ∷ []) in
-    let last : own (get_or ms i d) ++ [] ≡ own (get_or ms i d) = append-nil (own (get_or ms i d)) in
-    sym (more ∙ apart ∙ ap (λ (l : List ℕ). remembered_by (take i ms) ++ l) last)
+remembered_more ms i d lt = sym (ap remembered_by (take_more ms i d lt) ∙ and_then (take i ms) (get_or ms i d))
+  where
+    and_then : (xs : List Mutator) (m : Mutator) → remembered_by (xs ++ m ∷ []) ≡ remembered_by xs ++ numbers m.updrem.items
+    and_then [] m = append-nil (numbers m.updrem.items)
+    and_then (x ∷ xs) m = ap (λ (l : List ℕ). numbers x.updrem.items ++ l) (and_then xs m) ∙ sym (append_assoc (numbers x.updrem.items) (remembered_by xs) (numbers m.updrem.items))
 
 -- one more forgets
-pub forgets_more : (was now : List Mutator) (i : ℕ) (d : Mutator) → i < length was → length now ≡ length was → now ≡ map forgetting (take i was) ++ drop i was → set now i (forgetting (get_or now i d)) ≡ map forgetting (take (i + 1) was) ++ drop (i + 1) was
+pub forgets_more : (was now : List Mutator) (i : ℕ) (d : Mutator) → i < length was → length now ≡ length was → now ≡ map remembering_nothing (take i was) ++ drop i was → set now i (remembering_nothing (get_or now i d)) ≡ map remembering_nothing (take (i + 1) was) ++ drop (i + 1) was
 forgets_more was now i d lt count e =
     let m = get_or now i d in
     let is : m ≡ get_or now i m = get_or_default now i d m (omega arith) in
-    map_over_more forgetting was now i m lt e is
+    map_over_more remembering_nothing was now i m lt e is

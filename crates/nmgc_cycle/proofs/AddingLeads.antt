@@ -1,5 +1,5 @@
 -- Once what was remembered was added, the collector stands for the same state, and nothing is remembered.
-use Rattle.std.proofs.Common.{ℕ, ◌≡◌, List, [], ◌∷◌, ◌++◌, length, map, refl, sym, ap, subst, ◌∙◌, Some, Global, ◌≤◌, vec_capacity}
+use Rattle.std.proofs.Common.{ℕ, ◌≡◌, List, [], ◌∷◌, length, map, refl, sym, ap, subst, ◌∙◌, Some, Global, ◌≤◌, vec_capacity}
 use Rattle.std.specs.Prelude.{All, slice_get}
 use Rattle.std.specs.declared.vec.Vec.{Vec}
 use Rattle.std.proofs.lemmas.List.{length-map}
@@ -13,19 +13,15 @@ use Rattle.nmgc_heap.specs.laws.Kinds.{map_item}
 use Rattle.nmgc_blocks.specs.Nurseries.{AreEmpty}
 use Rattle.nmgc_journal.specs.declared.report.MutatorEnd.{MutatorEnd}
 use Rattle.nmgc_journal.specs.declared.report.Phase.TheVariants as phase
-use Rattle.nmgc_mark.specs.Tie.{IsTied, with_places}
 use Rattle.nmgc_minor.specs.Promotion.{IsFor}
-use Rattle.nmgc_mutator.specs.Records.{numbers}
 use Rattle.nmgc_mutator.specs.declared.mutator.Mutator.{Mutator}
-use Rattle.nmgc_round.specs.Marking.{Marks}
-use Rattle.nmgc_round.specs.View.{Opening}
 use Rattle.nmgc_script.specs.declared.script.Script.{Script}
 use Rattle.nmgc_run.specs.Collector.{AreNurseries, EachMutator, HoldsInCycle, IsAtRest, IsMarking, weaks_of}
 use Rattle.nmgc_run.specs.Heap.{HoldsAtStop, HasAllRegisters, registers_of, queues_of, serials_of}
 use Rattle.nmgc_run.specs.Marker.{HasRoomToMark}
 use Rattle.nmgc_run.specs.Seen.{MarkerSeen, MutatorSeen, end_of, ends_of, nurseries_of}
 use Rattle.nmgc_run.specs.State.{State, Cycle, Progress, idle, marking, sweeping, phase_of, plan_of, layout_of}
-use Rattle.nmgc_beside.specs.Calls.{all_entries, AddIsMarking}
+use Rattle.nmgc_beside.specs.Calls.{AddIsMarking}
 use Rattle.nmgc_beside.specs.Closes.{ClosingIsSoon, ClosingIsPaced}
 use Rattle.nmgc_beside.specs.Keeps.{HasLeft, PaceAtStop}
 use Rattle.nmgc_beside.specs.Sweeps.{MarkedWait}
@@ -34,7 +30,7 @@ use Rattle.nmgc_cycle.specs.declared.collector.Collector.{Collector}
 use Rattle.nmgc_cycle.specs.declared.progress.Marking.{Marking}
 use Rattle.nmgc_cycle.specs.declared.progress.Progress.{Progress as Doing}
 use Rattle.nmgc_cycle.specs.declared.progress.Progress.TheVariants as doing
-use Rattle.nmgc_cycle.specs.Cycles.{AddsTo, CanAdd, HasAdded, HasTaken, forgetting, remembered_by}
+use Rattle.nmgc_cycle.specs.Cycles.{AddsTo, CanAdd, HasAdded, HasTaken, remembering_nothing, remembered_by}
 use Rattle.nmgc_cycle.specs.Keeps.{HasClosingRoom, IsKept, IsOwn, Sweeps}
 use Rattle.nmgc_cycle.specs.Shown.{seen, seen_mutator, marker_in, phase_in}
 use Rattle.nmgc_cycle.specs.Steps.{StandsPromoted, StandsWithin, IsPacedPromoted, IsPacedWithin, AddingLeads}
@@ -51,21 +47,17 @@ pub record HasAddingLaws : Type 0 where
   pub left : LeftStays
 
 -- of mutators that forgot, contracts see the same but for what they remembered
-forgot_ends : (ms : List Mutator) → map end_of (map seen_mutator (map forgetting ms)) ≡ map end_of (map seen_mutator ms)
+forgot_ends : (ms : List Mutator) → map end_of (map seen_mutator (map remembering_nothing ms)) ≡ map end_of (map seen_mutator ms)
 forgot_ends [] = refl
 forgot_ends (m ∷ ms) = ap (λ (l : List MutatorEnd). end_of (seen_mutator m) ∷ l) (forgot_ends ms)
 
-forgot_nurseries : (ms : List Mutator) → map (λ (m : MutatorSeen). m.nursery) (map seen_mutator (map forgetting ms)) ≡ map (λ (m : MutatorSeen). m.nursery) (map seen_mutator ms)
+forgot_nurseries : (ms : List Mutator) → map (λ (m : MutatorSeen). m.nursery) (map seen_mutator (map remembering_nothing ms)) ≡ map (λ (m : MutatorSeen). m.nursery) (map seen_mutator ms)
 forgot_nurseries [] = refl
 forgot_nurseries (m ∷ ms) = ap (λ (l : List Nursery). m.nursery ∷ l) (forgot_nurseries ms)
 
-entries_are : (ms : List Mutator) → remembered_by ms ≡ all_entries (map seen_mutator ms)
-entries_are [] = refl
-entries_are (m ∷ ms) = ap (λ (l : List ℕ). numbers m.updrem.items ++ l) (entries_are ms)
-
 -- whatever was added, but for the cycle
 module _ (script : Script) (old : Collector) (s : State) (h : StandsPromoted script old s) (segments : Segments) (p : Doing) (mutators : Vec Mutator Global)
-    (forgot : mutators.items ≡ map forgetting old.mutators.items)
+    (forgot : mutators.items ≡ map remembering_nothing old.mutators.items)
     (phases : phase_in p ≡ phase_in old.progress)
     (layout : segments.layout ≡ old.segments.layout)
     (sound : IsSegments segments)
@@ -80,8 +72,8 @@ module _ (script : Script) (old : Collector) (s : State) (h : StandsPromoted scr
   nurseries_are = ap (λ (l : List Mutator). map (λ (m : MutatorSeen). m.nursery) (map seen_mutator l)) forgot ∙ forgot_nurseries old.mutators.items
 
   -- a mutator is one that forgot
-  one_forgot : (k : ℕ) (m : Mutator) → slice_get mutators.items k ≡ Some m → (was : Mutator) × (slice_get old.mutators.items k ≡ Some was) × (m ≡ forgetting was)
-  one_forgot k m e = map_item forgetting old.mutators.items k m (ap (λ (l : List Mutator). slice_get l k) (sym forgot) ∙ e)
+  one_forgot : (k : ℕ) (m : Mutator) → slice_get mutators.items k ≡ Some m → (was : Mutator) × (slice_get old.mutators.items k ≡ Some was) × (m ≡ remembering_nothing was)
+  one_forgot k m e = map_item remembering_nothing old.mutators.items k m (ap (λ (l : List Mutator). slice_get l k) (sym forgot) ∙ e)
 
   pub at_rest : (k : ℕ) (m : MutatorSeen) → slice_get (seen then).mutators k ≡ Some m → IsAtRest m
   at_rest k m e =
@@ -100,7 +92,7 @@ module _ (script : Script) (old : Collector) (s : State) (h : StandsPromoted scr
 
   -- there are as many
   pub many : length mutators.items ≡ length old.mutators.items
-  many = ap (λ (l : List Mutator). length l) forgot ∙ length-map old.mutators.items forgetting
+  many = ap (λ (l : List Mutator). length l) forgot ∙ length-map old.mutators.items remembering_nothing
 
   own : (k : ℕ) (m : Mutator) → slice_get mutators.items k ≡ Some m → IsOwn then k m
   own k m e =
@@ -188,7 +180,7 @@ module _ (script : Script) (old new : Collector) (s : State) (h : StandsPromoted
 module _ (laws : HasAddingLaws) (script : Script) (was : Collector) (r : State) (m : Marking) (k : Cycle)
     (h : StandsPromoted script (record was { progress = doing.Marking m }) (record r { progress = marking k }))
     (segments : Segments) (marker : MarkerSeen) (mutators : Vec Mutator Global)
-    (forgot : mutators.items ≡ map forgetting was.mutators.items)
+    (forgot : mutators.items ≡ map remembering_nothing was.mutators.items)
     (added : HasAdded (remembered_by was.mutators.items) was.segments segments m.marker marker)
     (sound : IsSegments segments) where
   abbrev old : Collector
@@ -207,8 +199,7 @@ module _ (laws : HasAddingLaws) (script : Script) (was : Collector) (r : State) 
   marks =
       let left : HasLeft k (seen old) (seen c) = record { cycle = refl; sweeper = refl; queue_room = room_left script old s h segments (doing.Marking (record m { marker = marker })) mutators forgot refl added.marked.layout sound stands k.snapshot h.cycle.0.queue_room } in
       let count : length (seen old).mutators ≡ length s.world.mutators = length-map was.mutators.items seen_mutator ∙ h.kept.count ∙ sym h.sound.able.mutators in
-      let tied : (o : Opening) (l : Marks) → IsTied o l was.segments m.marker → IsTied o (with_places o l (all_entries (seen old).mutators)) segments marker = λ o l x. subst (λ (entries : List ℕ). IsTied o (with_places o l entries) segments marker) (entries_are was.mutators.items) (added.tied o l x) in
-      laws.marking (layout_of (plan_of script)) k s (seen old) (seen c) (seen old).words (ends_of (seen old)) (seen old).weaks h.heap h.kept.sound sound h.sound.cycle.0 count h.cycle.0 added.marked tied left (λ n mutator e. (at_rest script old s h segments (doing.Marking (record m { marker = marker })) mutators forgot refl added.marked.layout sound stands n mutator e).entries)
+      laws.marking (layout_of (plan_of script)) k s (seen old) (seen c) (seen old).words (ends_of (seen old)) (seen old).weaks h.heap h.kept.sound sound h.sound.cycle.0 count h.cycle.0 added.marked added.tied left (λ n mutator e. (at_rest script old s h segments (doing.Marking (record m { marker = marker })) mutators forgot refl added.marked.layout sound stands n mutator e).entries)
 
   paced : IsPacedWithin script.config.quota k s (seen c)
   paced = paced_within laws.soon laws.paced laws.pace script.config.quota k s (seen old) (seen c) s.allocation h.heap.places h.cycle.0.core h.sound.cycle.0 h.cycle.0.machine h.cycle.0.tied h.cycle.1.later h.cycle.1.paced added.marked.scanned.pace added.marked.scanned.grows refl

@@ -35,7 +35,7 @@ use Rattle.nmgc_cycle.specs.declared.collector.Collector.{Collector}
 use Rattle.nmgc_cycle.specs.Keeps.{CanStop, IsKept, IsOwn}
 use Rattle.nmgc_cycle.specs.Roots.{HasRegisters, own_registers, no_queue, given_back}
 use Rattle.nmgc_cycle.specs.Shown.{seen, seen_mutator, words_in}
-use Rattle.nmgc_cycle.specs.Steps.{HasPromotedAll}
+use Rattle.nmgc_cycle.specs.Steps.{HasOnlyEntries}
 use Rattle.nmgc_cycle.specs.Stopping.{HasListed, HasPromoted, moves_of, moved_names}
 use Rattle.nmgc_cycle.proofs.Begins.{Begins}
 use Rattle.nmgc_cycle.proofs.GivenBack.{HaveGiven, have_given, one_given, own_count}
@@ -125,13 +125,13 @@ module _ (script : Script) (old new : Collector) (kept : IsKept script old) (b :
   lists = have_given p.registers p.queues old.mutators.items new.mutators.items p.given registers_many queues_many
 
   -- each mutator is whole, and nothing is left but what it remembers
-  pub own : (k : ℕ) (m : Mutator) → slice_get new.mutators.items k ≡ Some m → IsOwn new k m × HasPromotedAll (seen_mutator m)
+  pub own : (k : ℕ) (m : Mutator) → slice_get new.mutators.items k ≡ Some m → IsOwn new k m × HasOnlyEntries (seen_mutator m)
   own k m e =
       let was = one_given p.registers p.queues old.mutators.items new.mutators.items p.given k m e in
       let before = kept.own k was.0 was.2 in
       let back : Mutator = given_back (own_registers p.registers k) (slice_index_or p.queues k no_queue) was.0 in
       let size : length (own_registers p.registers k) ≡ REGISTERS = own_count p.registers (length old.mutators.items) k registers_many was.1 in
-      subst (λ (x : Mutator). IsOwn new k x × HasPromotedAll (seen_mutator x)) (sym was.3) (
+      subst (λ (x : Mutator). IsOwn new k x × HasOnlyEntries (seen_mutator x)) (sym was.3) (
         record {
           number = before.number;
           layout = before.layout ∙ sym p.layout;
@@ -144,8 +144,8 @@ module _ (script : Script) (old new : Collector) (kept : IsKept script old) (b :
   -- the heap: words, segments and roots, and what the mutators have in hand
 
   -- each mutator as contracts see it
-  pub rest : (k : ℕ) (m : MutatorSeen) → slice_get (seen new).mutators k ≡ Some m → HasPromotedAll m
-  rest k m e = let x = map_item seen_mutator new.mutators.items k m e in subst HasPromotedAll (sym x.2) (own k x.0 x.1).1
+  pub rest : (k : ℕ) (m : MutatorSeen) → slice_get (seen new).mutators k ≡ Some m → HasOnlyEntries m
+  rest k m e = let x = map_item seen_mutator new.mutators.items k m e in subst HasOnlyEntries (sym x.2) (own k x.0 x.1).1
 
   -- what it remembers is what it remembered
   pub remembers : (k : ℕ) (m : MutatorSeen) → slice_get (seen new).mutators k ≡ Some m → (before : MutatorSeen) × (slice_get (seen old).mutators k ≡ Some before) × (m.entries ≡ before.entries)

@@ -12,7 +12,7 @@ use Rattle.nmgc_graph.specs.declared.node.Node.TheVariants.{Con, Var, Arr, Thunk
 use Rattle.nmgc_graph.specs.declared.node.Parts.{Parts}
 use Rattle.nmgc_graph.specs.laws.Orders.{contains_head}
 use Rattle.nmgc_graph.specs.laws.Worlds.{is_some_of}
-use Rattle.nmgc_reach.specs.laws.NewWorlds.{new_is_world}
+use Rattle.nmgc_graph.specs.laws.NewWorlds.{new_is_world}
 use Rattle.nmgc_reach.specs.laws.ItemLaws.{nothing_in}
 use Rattle.nmgc_object.specs.declared.layout.Layout.{Layout}
 use Rattle.nmgc_object.specs.declared.words.Header.{Header}

@@ -9,7 +9,7 @@ use Rattle.nmgc_graph.specs.declared.node.Parts.{Parts}
 use Rattle.nmgc_graph.specs.World.{World, new_world, node_of}
 use Rattle.nmgc_graph.specs.Reach.{IsAliveWeak}
 use Rattle.nmgc_graph.specs.laws.Orders.{contains_head, contains_cases}
-use Rattle.nmgc_reach.specs.laws.NewWorlds.{new_nodes}
+use Rattle.nmgc_graph.specs.laws.NewWorlds.{new_nodes}
 use Rattle.nmgc_object.specs.declared.layout.Layout.{Layout}
 use Rattle.nmgc_segment.specs.Segment.{Segment, mark_of, free_segment}
 use Rattle.nmgc_alloc.specs.Segments.{all_free}

@@ -10,7 +10,7 @@ use Rattle.nmgc_graph.specs.declared.value.Value.{Value}
 use Rattle.nmgc_graph.specs.declared.value.Value.TheVariants.{Nil}
 use Rattle.nmgc_graph.specs.declared.mutator_state.MutatorState.{MutatorState}
 use Rattle.nmgc_graph.specs.World.{new_world, new_mutator, state_of}
-use Rattle.nmgc_reach.specs.laws.NewWorlds.{each_new}
+use Rattle.nmgc_graph.specs.laws.NewWorlds.{each_new}
 use Rattle.nmgc_object.specs.declared.words.TheConstants.{NIL_WORD}
 use Rattle.nmgc_object.specs.declared.layout.Layout.{Layout}
 use Rattle.nmgc_heap.specs.Places.{Place, Means, ListMeans}

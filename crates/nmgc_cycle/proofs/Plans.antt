@@ -1,9 +1,5 @@
 -- What a script within the limits gives: its plan is runnable, and the states of its runs are sound.
-use Rattle.std.proofs.Common.{ℕ, ◌≡◌, ◌≤◌, List, [], length, ap, inl, inr, arith}
-use Rattle.std.proofs.lemmas.Bool.{cases_lt}
-use Rattle.std.proofs.lemmas.List.{get_or_past}
-use Rattle.std.proofs.lemmas.List.Elements.{All-get_or}
-use Rattle.nmgc_graph.specs.declared.command.Command.{Command}
+use Rattle.std.proofs.Common.{ℕ, ◌≤◌, length}
 use Rattle.nmgc_limits.specs.Limits.{most_script_bytes}
 use Rattle.nmgc_object.specs.Places.{IsLayout}
 use Rattle.nmgc_script.specs.declared.script.Script.{Script}
@@ -12,6 +8,7 @@ use Rattle.nmgc_run.specs.Run.{Run, last_state}
 use Rattle.nmgc_run.specs.Slice.{program_of}
 use Rattle.nmgc_run.specs.Sound.{IsRunnable, IsSoundState}
 use Rattle.nmgc_run.specs.State.{plan_of, layout_of}
+use Rattle.nmgc_run.specs.laws.Crowding.{few_in_each, runnable_of}
 use Rattle.nmgc_run.specs.laws.Limits.{scripts_have_good_plans, states_are_within}
 use Rattle.nmgc_run.specs.laws.Runs.{states_are_sound}
 use Rattle.nmgc_cycle.specs.declared.collector.Collector.{Collector}
@@ -23,13 +20,10 @@ good_plan script limits = scripts_have_good_plans script limits.fits
 
 -- a program has no more commands than the source has bytes
 pub program_few : (script : Script) → IsInLimits script → (m : ℕ) → length (program_of script.threads m) ≤ most_script_bytes
-program_few script limits m = elim (cases_lt m (length script.threads)) [
-  | inl lt ↦ All-get_or (λ (program : List Command). length program ≤ most_script_bytes) script.threads m [] lt limits.few
-  | inr past ↦ let none : length (program_of script.threads m) ≡ 0 = ap length (get_or_past script.threads m [] past) in omega arith
-]
+program_few script limits m = few_in_each script limits.few m
 
 pub is_runnable : (script : Script) → IsInLimits script → IsRunnable (plan_of script)
-is_runnable script limits = (good_plan script limits).runnable (λ m. let few = program_few script limits m in omega (arith, few))
+is_runnable script limits = runnable_of script limits.fits limits.few
 
 pub is_layout : (script : Script) → IsInLimits script → IsLayout (layout_of (plan_of script))
 is_layout script limits = (good_plan script limits).layout

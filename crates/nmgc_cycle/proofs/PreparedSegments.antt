@@ -9,7 +9,7 @@ use Rattle.nmgc_alloc.specs.Search.{nth}
 use Rattle.nmgc_alloc.specs.Segments.{Segments, IsMember, IsSegments, IsCurrent, IsOwn}
 use Rattle.nmgc_alloc.specs.Turns.{prepared, prepared_state, prepared_snap}
 use Rattle.nmgc_alloc.specs.laws.Numbers.{nth-map}
-use Rattle.nmgc_beside.specs.Begins.{all_prepared}
+use Rattle.nmgc_beside.specs.Prepares.{all_prepared}
 
 -- a segment in a state that isn't free, with the snapshot of all that is in use
 restated : (s : Segment) (state : State) → IsSegment s → (state ≡ Free → ⊥) → IsSegment (record s { state = state; snap = s.next_free })

@@ -155,7 +155,7 @@ module _ (script : Script) (c new : Collector) (o : Opening) (x : IsOver script 
       began = x.op.world_is;
       left = x.did.leaves;
       world_is = refl;
-      spoken = sym spoken;
+      earlier_is = sym spoken;
       allocation_is = refl;
       new_layout = same;
       stands = stands;

@@ -15,11 +15,10 @@ use Rattle.nmgc_segment.specs.declared.state.State.TheVariants as stands
 use Rattle.nmgc_alloc.specs.AllocState.{StandsFor, HasBlock, NoneIs, IsIn, cycle_begun}
 use Rattle.nmgc_alloc.specs.Segments.{Segments}
 use Rattle.nmgc_alloc.specs.laws.Cells.{begun_names}
-use Rattle.nmgc_beside.specs.Begins.{all_prepared}
 use Rattle.nmgc_beside.specs.Calls.{SnapshotIsMarking}
 use Rattle.nmgc_beside.specs.Heaps.{MarkedHolds}
 use Rattle.nmgc_beside.specs.Keeps.{PaceBegins}
-use Rattle.nmgc_beside.specs.Prepares.{StopIsPrepared, StopBegins}
+use Rattle.nmgc_beside.specs.Prepares.{StopIsPrepared, StopBegins, all_prepared}
 use Rattle.nmgc_beside.specs.Sweeps.{MarkedWait}
 use Rattle.nmgc_blocks.specs.Nurseries.{AreEmpty}
 use Rattle.nmgc_heap.specs.Places.{Place}
@@ -62,7 +61,7 @@ use Rattle.nmgc_cycle.proofs.MutatorLists.{given_without}
 use Rattle.nmgc_cycle.proofs.QueueRoom.{counted, one_room, room_ends, room_nurseries}
 use Rattle.nmgc_cycle.proofs.RootLists.{seen_at}
 use Rattle.nmgc_cycle.proofs.SameSeen.{IsQuiet, same_seen}
-use Rattle.nmgc_cycle.proofs.StepReady.{PreparedBegins, none, settled, snapshot_opening, beginning, prepared_shown}
+use Rattle.nmgc_cycle.proofs.StepReady.{PreparedBegins, none, snapshot_opening, beginning, prepared_shown}
 
 -- the laws on which a beginning rests
 pub record BeginningLaws : Type 0 where
@@ -245,7 +244,7 @@ module _ (laws : BeginningLaws) (script : Script) (c : Collector) (s : State) (h
   is_marking places same_places =
       let o : Opening = snapshot_opening laws.prepares laws.begins script c s h at in
       let tied = st.tied o (beginning laws.prepares laws.begins script c s h at) in
-      let m = laws.marks plan s words c.segments (seen next) (ends_of (seen c)) (seen c).weaks o (most_blocks c.segments.layout) h.heap h.sound.world h.kept.sound st.sound h.sound.known h.sound.filed.shared no_wait (settled laws.prepares laws.begins script c s h at) refl refl refl marked_then tied
+      let m = laws.marks plan s words c.segments (seen next) (ends_of (seen c)) (seen c).weaks o (most_blocks c.segments.layout) h.heap h.sound.world st.sound refl refl refl marked_then tied
       queue_room_then (λ n mutator e. (rest_then n mutator e).entries) st.from_is notes.noted in
       subst (λ (l : List Place). IsMarking k t (seen next) l) (sym same_places) (record { core = m.core; machine = m.machine; tied = m.tied; remembered = m.remembered; low = m.low; room = m.room; queue_room = m.queue_room; from_is = m.from_is; noted = m.noted })
 
@@ -270,9 +269,9 @@ module _ (laws : BeginningLaws) (script : Script) (c : Collector) (s : State) (h
 pub starting_leads : BeginningLaws → StartingLeads
 starting_leads laws script old new s limits h idle started =
     let st = started.starts in
-    let words : started.before.words ≡ old.words = words_same started.before.words old.words st.words.1 h.kept.has_words st.words.0 in
-    let before : started.before ≡ record old { segments = started.before.segments; mutators = started.before.mutators } =
-    st.rest ∙ ap (λ (x : Option (List ℕ)). record old { words = x; segments = started.before.segments; mutators = started.before.mutators }) words in
-    let next : new ≡ record old { segments = started.before.segments; mutators = started.before.mutators; progress = doing.Marking started.marking; begun = old.begun + 1; collect = false } =
+    let words : started.marked.words ≡ old.words = words_same started.marked.words old.words st.words.1 h.kept.has_words st.words.0 in
+    let before : started.marked ≡ record old { segments = started.marked.segments; mutators = started.marked.mutators } =
+    st.rest ∙ ap (λ (x : Option (List ℕ)). record old { words = x; segments = started.marked.segments; mutators = started.marked.mutators }) words in
+    let next : new ≡ record old { segments = started.marked.segments; mutators = started.marked.mutators; progress = doing.Marking started.marking; begun = old.begun + 1; collect = false } =
     started.is ∙ ap (λ (x : Collector). record x { progress = doing.Marking started.marking; begun = old.begun + 1; collect = false }) before in
-    subst (λ (x : Collector). StandsAt script x (record (cycle_started s) { collect = false })) (sym next) (leads laws script old s h idle started.before started.marking st)
+    subst (λ (x : Collector). StandsAt script x (record (cycle_started s) { collect = false })) (sym next) (leads laws script old s h idle started.marked started.marking st)

@@ -21,9 +21,8 @@ use Rattle.nmgc_alloc.specs.AllocState.{AllocState, StandsFor, NoneIs, IsIn, cyc
 use Rattle.nmgc_alloc.specs.Segments.{Segments, HasNone}
 use Rattle.nmgc_alloc.specs.declared.search.Wanted.TheVariants as wanted
 use Rattle.nmgc_alloc.specs.laws.Turning.{prepared_stands}
-use Rattle.nmgc_beside.specs.Begins.{all_prepared}
 use Rattle.nmgc_beside.specs.Heaps.{AreShown, HeapRests}
-use Rattle.nmgc_beside.specs.Prepares.{StopIsPrepared}
+use Rattle.nmgc_beside.specs.Prepares.{StopIsPrepared, all_prepared}
 use Rattle.nmgc_beside.specs.Rest.{IsAtRest as RestsBeside, opening_beside}
 use Rattle.nmgc_core.specs.State.{unmarked}
 use Rattle.nmgc_journal.specs.declared.report.Phase.TheVariants as phase

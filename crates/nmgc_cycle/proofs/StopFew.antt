@@ -247,7 +247,7 @@ module _ (script : Script) (old new : Collector) (stops stop : ℕ) (layout : ol
       ∙ ap (λ (n : ℕ). n + script.config.segments + 2) all
 
   began_fresh : new.segments.fresh ≡ 0
-  began_fresh = ap (λ (c : Collector). c.segments.fresh) started.is ∙ fresh_before (all_prepared old.segments) started.before.segments (words_in old.words) stood.0 stood.1 started.starts.marked.stands
+  began_fresh = ap (λ (c : Collector). c.segments.fresh) started.is ∙ fresh_before (all_prepared old.segments) started.marked.segments (words_in old.words) stood.0 stood.1 started.starts.marked.stands
 
   none_due : NoneIsDue script.config.trigger new
   none_due = record { not_asked = ap (λ (c : Collector). c.collect) started.is; not_filled = λ some. omega (arith, began_fresh, some) }

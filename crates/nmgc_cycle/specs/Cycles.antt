@@ -1,10 +1,10 @@
 -- The collector beside the mutators, and the steps of a stop that lead a cycle on.
 use Rattle.std.specs.Prelude.{ℕ, ◌≡◌, ◌⊎◌, ◌↔◌, ◌+◌, ◌≤◌, ◌<◌, ◌++◌, ◌∷◌, List, [], length, map, true, false, IsSome, vec_capacity}
-use Rattle.std.specs.List.{flat_map}
 use Rattle.nmgc_alloc.specs.declared.search.Wanted.TheVariants as wanted
 use Rattle.nmgc_alloc.specs.Segments.{Segments, HasNone, IsSegments}
 use Rattle.nmgc_alloc.specs.Turns.{carried_over}
-pub use Rattle.nmgc_beside.specs.Begins.{all_prepared}
+use Rattle.nmgc_beside.specs.Calls.{all_entries}
+pub use Rattle.nmgc_beside.specs.Prepares.{all_prepared}
 use Rattle.nmgc_journal.specs.declared.report.CycleRow.{CycleRow}
 use Rattle.nmgc_mark.specs.Beginning.{IsBeginning, most_blocks}
 use Rattle.nmgc_mark.specs.Marker.{HasMarked, blank}
@@ -12,7 +12,6 @@ use Rattle.nmgc_mark.specs.Stopped.{IsReady, HasFinished}
 use Rattle.nmgc_mark.specs.Tie.{IsTied, with_places}
 use Rattle.nmgc_mark.specs.Work.{IsCollector, HasWorked, marks_seen}
 use Rattle.nmgc_mutator.specs.declared.mutator.Mutator.{Mutator}
-use Rattle.nmgc_mutator.specs.Records.{numbers}
 use Rattle.nmgc_round.specs.declared.table.Round.{Round}
 use Rattle.nmgc_round.specs.Marking.{Marks, marks_of}
 use Rattle.nmgc_round.specs.Seat.{RoundSeat, seen as seat_seen}
@@ -31,7 +30,7 @@ use Rattle.nmgc_core.specs.State.{opening}
 use Rattle.nmgc_turn.specs.Worked.{registers_of}
 use Rattle.nmgc_cycle.specs.Roots.{cleared, queues_in, without_queue, AreGivenBack}
 use Rattle.nmgc_cycle.specs.Listed.{HaveJoined, HaveQueueRoom}
-use Rattle.nmgc_cycle.specs.Shown.{died, words_in}
+use Rattle.nmgc_cycle.specs.Shown.{died, seen_mutator, words_in}
 use Rattle.nmgc_graph.specs.declared.value.Name.{Name}
 use Rattle.nmgc_object.specs.FinQueue.{FinQueue}
 use Rattle.nmgc_beside.specs.Resolves.{finished_on}
@@ -75,11 +74,11 @@ HasHelped round quota from seat old new (progress.Sweeping w) after = (v : Sweep
 
 -- the places that mutators remember, one mutator after the other
 abbrev pub remembered_by : List Mutator → List ℕ
-remembered_by mutators = flat_map (λ (m : Mutator). numbers m.updrem.items) mutators
+remembered_by mutators = all_entries (map seen_mutator mutators)
 
 -- the mutator remembers nothing
-abbrev pub forgetting : Mutator → Mutator
-forgetting m = record m { updrem = cleared m.updrem }
+abbrev pub remembering_nothing : Mutator → Mutator
+remembering_nothing m = record m { updrem = cleared m.updrem }
 
 -- a marker may be given more
 abbrev pub CanAdd : Segments → Progress → Type 0
@@ -99,7 +98,7 @@ AddsTo entries old new p after = (after ≡ p) × (new ≡ old)
 -- what the mutators remember was added to the marker, and they remember nothing
 pub record HasTaken (old new : Collector) : Type 0 where
   pub rest : new ≡ record old { segments = new.segments; progress = new.progress; mutators = new.mutators }
-  pub mutators : new.mutators.items ≡ map forgetting old.mutators.items
+  pub mutators : new.mutators.items ≡ map remembering_nothing old.mutators.items
   pub adds : AddsTo (remembered_by old.mutators.items) old.segments new.segments old.progress new.progress
 
 -- a marker may finish: it has room, and its marks and its queue are those of a state that opens a round on these words. After that the weak pointers of the list may be resolved, and the finalisers of those that die have room in the queues; and there is room for the queues themselves
@@ -190,12 +189,12 @@ pub record StartsMarking (stop : ℕ) (old new : Collector) (marking : Marking) 
   pub marked : HasMarked (all_prepared old.segments) new.segments (blank (next_epoch old) (most_blocks old.segments.layout)) marking.marker 0
   pub tied : (o : Opening) → IsBeginning o (all_prepared old.segments) (next_epoch old) (words_in old.words) (registers_of old.mutators.items) (queues_in old.mutators.items) → IsTied o (marks_of (opening o.core.snapshot)) new.segments marking.marker
 
--- so a cycle began
+-- so a cycle began: the roots were marked, and then the collector's progress set
 pub record HasStarted (stop : ℕ) (old new : Collector) : Type 0 where
   pub marking : Marking
-  pub before : Collector
-  pub starts : StartsMarking stop old before marking
-  pub is : new ≡ record before { progress = progress.Marking marking; begun = old.begun + 1; collect = false }
+  pub marked : Collector
+  pub starts : StartsMarking stop old marked marking
+  pub is : new ≡ record marked { progress = progress.Marking marking; begun = old.begun + 1; collect = false }
 
 -- a cycle begins where one is due
 abbrev pub Begins : ℕ → ℕ → Collector → Collector → Type 0

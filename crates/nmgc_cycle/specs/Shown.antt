@@ -1,12 +1,11 @@
 -- What contracts see of a collector.
 use Rattle.std.specs.Prelude.{ℕ, List, [], map, Bool, true, false, Option, Some, None}
-use Rattle.nmgc_mutator.specs.declared.mutator.Mutator.{Mutator}
-use Rattle.nmgc_mutator.specs.Records.{numbers}
 use Rattle.nmgc_journal.specs.declared.report.Phase.{Phase}
 use Rattle.nmgc_journal.specs.declared.report.Phase.TheVariants as phase
 use Rattle.nmgc_journal.specs.declared.report.Report.{Report}
 use Rattle.nmgc_journal.specs.declared.report.End.{End}
-use Rattle.nmgc_run.specs.Seen.{Seen, MutatorSeen, MarkerSeen, WorkSeen, CycleSeen, ends_of}
+use Rattle.nmgc_run.specs.Seen.{Seen, MarkerSeen, WorkSeen, CycleSeen, ends_of}
+pub use Rattle.nmgc_beside.specs.Heaps.{seen_mutator}
 use Rattle.nmgc_sweep.specs.Sweeper.{Sweeper}
 use Rattle.nmgc_graph.specs.declared.value.Name.{Name}
 use Rattle.nmgc_weak.specs.declared.weaks.Death.{Death}
@@ -14,18 +13,6 @@ use Rattle.nmgc_weak.specs.Weaks.{names_of, places_of}
 use Rattle.nmgc_cycle.specs.declared.collector.Collector.{Collector}
 use Rattle.nmgc_cycle.specs.declared.progress.Progress.{Progress}
 use Rattle.nmgc_cycle.specs.declared.progress.Progress.TheVariants as progress
-
--- a mutator, with what its round left for the stop
-abbrev pub seen_mutator : Mutator → MutatorSeen
-seen_mutator m = record {
-  registers = m.registers;
-  queue = m.queue;
-  serial = m.serial;
-  nursery = m.nursery;
-  recorded = numbers m.recorded.items;
-  young_weaks = numbers m.young_weaks.items;
-  entries = numbers m.updrem.items;
-}
 
 -- the words, which a collector has between two calls
 abbrev pub words_in : Option (List ℕ) → List ℕ

@@ -37,7 +37,7 @@ pub record IsPacedPromoted (quota : ℕ) (c : Cycle) (s : State) (seen : Seen) :
   pub later : c.from + 1 ≤ s.number
 
 -- of the mutator nothing is left but what it remembers
-pub record HasPromotedAll (mutator : MutatorSeen) : Type 0 where
+pub record HasOnlyEntries (mutator : MutatorSeen) : Type 0 where
   pub recorded : mutator.recorded ≡ []
   pub young_weaks : mutator.young_weaks ≡ []
 
@@ -57,7 +57,7 @@ pub record Stands (Paced : Cycle → State → Seen → Type 0) (Rests : Mutator
 
 -- after the promotion; once what was remembered was added; and from the closing on
 abbrev pub StandsPromoted : Script → Collector → State → Type 0
-StandsPromoted script c s = Stands (IsPacedPromoted script.config.quota) HasPromotedAll script c s
+StandsPromoted script c s = Stands (IsPacedPromoted script.config.quota) HasOnlyEntries script c s
 
 abbrev pub StandsWithin : Script → Collector → State → Type 0
 StandsWithin script c s = Stands (IsPacedWithin script.config.quota) IsAtRest script c s

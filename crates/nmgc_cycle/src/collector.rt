@@ -26,7 +26,9 @@ ghost use Rattle.nmgc_script.specs.declared.script.Script.{Script as ScriptSeen}
 ghost use Rattle.nmgc_script.specs.Limits.{FitsScript};
 ghost use Rattle.nmgc_run.specs.State.{plan_of, layout_of as planned_layout};
 ghost use Rattle.nmgc_run.specs.Seen.{end_of as told_end};
-ghost use Rattle.nmgc_cycle.specs.Shown.{seen_mutator, report_of};
+ghost use Rattle.nmgc_beside.specs.Heaps.{seen_mutator};
+ghost use Rattle.nmgc_cycle.specs.Shown.{report_of};
+ghost use Rattle.nmgc_run.specs.Crowded.{IsRunOf};
 ghost use Rattle.nmgc_run.specs.Lawful.{IsLawful};
 ghost use Rattle.nmgc_cycle.specs.Limits.{IsInLimits};
 ghost use Rattle.nmgc_cycle.specs.Keeps.{IsFresh, HasEnded};
@@ -182,8 +184,9 @@ impl Collector {
     /// In a round each mutator works in a thread of its own, and passes `gate` before each command that it tries, and
     /// so does the collector before each object that it scans and each segment that it sweeps; where a thread can't be
     /// started, its work is done by this one. The report is lawful, to its end: `Done`, where every command was answered, or
-    /// `HeapFull`, where a full cycle at the last stop left fewer segments free than the reserve. Asks what `new` asks.
-    /// After `NoMemory` nothing of the run is left.
+    /// `HeapFull`, exactly where a full cycle at the last stop left fewer segments free than the reserve, and commands are
+    /// left. Then the last cycle, and the world with which that full cycle began, kept more objects than there are segments
+    /// above the reserve. Asks what `new` asks. After `NoMemory` nothing of the run is left.
     pub fn run<R: Threads + Sync, G: Gate>(
         alloc: Global,
         rt: &R,
@@ -191,7 +194,7 @@ impl Collector {
         gate: &G,
     ) -> Result<Report, NoMemory>
         requires { IsInLimits script.now }
-        ensures { IfOk result (λ report. IsLawful script.now report) }
+        ensures { IfOk result (λ report. IsRunOf script.now report) }
     {
         let mut collector = Collector::new(alloc, script)?;
         'stops: loop {

@@ -15,7 +15,7 @@ ghost use Rattle.nmgc_run.specs.Marks.{epoch_of as epoch_by};
 ghost use Rattle.nmgc_segment.specs.Marks.{IsEpoch};
 ghost use Rattle.nmgc_cycle.specs.Roots.{HasRegisters, queues_in};
 ghost use Rattle.nmgc_cycle.specs.Shown.{words_in};
-ghost use Rattle.nmgc_cycle.specs.Cycles.{remembered_by, forgetting, CanAdd, HasAdded, HasTaken, CanClose, HasClosed, IsClosed, IsReadyToClose, row_of as row_shown, Ends, IsDue, CanBegin, StartsMarking, HasStarted, Begins};
+ghost use Rattle.nmgc_cycle.specs.Cycles.{remembered_by, remembering_nothing, CanAdd, HasAdded, HasTaken, CanClose, HasClosed, IsClosed, IsReadyToClose, row_of as row_shown, Ends, IsDue, CanBegin, StartsMarking, HasStarted, Begins};
 
 use crate::progress::{Marking, Progress, Sweeping};
 use crate::{Collector, roots, weaks};
@@ -51,14 +51,14 @@ fn add_all(marker: &mut Marker, segments: &mut Segments, mutators: &[Mutator])
 
 // The mutator remembers nothing.
 fn forget(mutator: &mut Mutator)
-    ensures { mutator.new ≡ forgetting mutator.old }
+    ensures { mutator.new ≡ remembering_nothing mutator.old }
 {
     mutator.updrem.clear();
 }
 
 // The mutators remember nothing.
 fn forget_all(mutators: &mut [Mutator])
-    ensures { mutators.new ≡ map forgetting mutators.old }
+    ensures { mutators.new ≡ map remembering_nothing mutators.old }
 {
     for mutator in mutators {
         forget(mutator);

@@ -74,7 +74,8 @@ impl Progress {
     }
 
     /// The collector's part of a round: scans at most `quota` objects, or sweeps at most `quota` segments. What the
-    /// marker answers is kept for the stop. Takes no memory, and waits for nobody but the gate.
+    /// marker answers is kept for the stop. Takes no memory but, with the last segment, a buffer to sort the names,
+    /// without which it is only slower; and waits for nobody but the gate.
     pub fn work<G: Gate>(
         &mut self,
         round: &Round,

@@ -75,8 +75,6 @@ fn join_all(weaks: &mut Weaks, fresh: &[OldWeak])
     ensures deaths { weaks.new.deaths ≡ weaks.old.deaths }
 {
     weaks.add_all(fresh);
-    // What is true of each list is true of this one: it is in order.
-    let _ = weaks.list();
 }
 
 impl Collector {

@@ -127,7 +127,11 @@ pub fn seated(mutators: Vec<Mutator>, seats: List<MutatorSeat>, workers: &mut Ve
     requires room { (workers.old.items ≡ []) × (vec_len mutators ≤ vec_capacity workers.old) }
     ensures { workers.new.items ≡ workers_of mutators.items seats }
 {
-    for (mutator, seat) in mutators.into_iter().zip(seats.into_vec()) {
+    let mut seats = seats;
+    for mutator in mutators {
+        let Some(seat) = seats.take_first() else {
+            unreachable!();
+        };
         workers.push_reserved(Worker {
             mutator,
             seat,

@@ -2,6 +2,7 @@ pub mod Census
 pub mod Closing
 pub mod Collector
 pub mod Course
+pub mod Crowded
 pub mod Heap
 pub mod Lawful
 pub mod Leaving

@@ -1,4 +1,5 @@
 pub mod Course
+pub mod Crowding
 pub mod Crowds
 pub mod CycleCounts
 pub mod Filing

@@ -5,6 +5,7 @@
 //! nothing meets them.
 ghost use Rattle.nmgc_run.specs.Samples.{NothingIsTold, ObjectIsTold, CycleIsTold, MarkingIsTold, ObjectIsLawful, ObjectIsSeen, HaveTexts, HaveReserves};
 ghost use Rattle.nmgc_run.specs.Sound.{StatesAreSound, RoundsAreSound, TrackedHaveBlocks};
+ghost use Rattle.nmgc_run.specs.Crowded.{LawfulAreOfRuns};
 ghost use Rattle.nmgc_run.specs.Course.{RunsAreInCourse, RoundsStayInCourse, PromotionsStayInCourse, CyclesBeginInCourse};
 ghost use Rattle.nmgc_run.specs.Places.{BlocksAtStop, BlocksAfterRound, BlocksArePlaces};
 ghost use Rattle.nmgc_run.specs.Life.{LifeIsSeen};
@@ -151,4 +152,10 @@ pub fn limits_stay()
 /// are segments above the reserve.
 pub fn full_heap_is_crowded()
     ensures { FullHeapIsCrowded }
+{}
+
+/// Every lawful report of a script within the limits is one of its run: it ends as heap full exactly where
+/// its last stop leaves the heap full, and then that stop is crowded.
+pub fn lawful_are_of_runs()
+    ensures { LawfulAreOfRuns }
 {}

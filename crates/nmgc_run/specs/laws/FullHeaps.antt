@@ -89,7 +89,8 @@ turns_told plan s (turn ∷ turns) before i able h told =
     let rest : Told plan (state_after turn.stop.state turns) ((before ++ turn.stop.cycles) ++ flat_map (λ (t : Turn). t.stop.cycles) turns) = turns_told plan turn.stop.state turns (before ++ turn.stop.cycles) i.1 next.0 next.1 (more_told plan turn.stop.state before turn.stop.cycles stop) in
     subst (λ (rows : List CycleRow). Told plan (state_after turn.stop.state turns) rows) (append_assoc before turn.stop.cycles (flat_map (λ (t : Turn). t.stop.cycles) turns)) rest
 
-kept_last : (before : List CycleRow) (first : ℕ) (row : CycleRow) → fold (λ (kept : ℕ) (c : CycleRow). c.kept) first (before ++ row ∷ []) ≡ row.kept
+-- the last row tells what the last cycle kept
+pub kept_last : (before : List CycleRow) (first : ℕ) (row : CycleRow) → fold (λ (kept : ℕ) (c : CycleRow). c.kept) first (before ++ row ∷ []) ≡ row.kept
 kept_last [] first row = refl
 kept_last (c ∷ before) first row = kept_last before c.kept row
 

@@ -11,7 +11,7 @@ use Rattle.nmgc_graph.specs.History.{Row}
 use Rattle.nmgc_graph.specs.laws.Worlds.{at_some, is_some_of}
 use Rattle.nmgc_reach.specs.laws.HeldSteps.{absent}
 use Rattle.nmgc_reach.specs.laws.ItemLaws.{nothing_in}
-use Rattle.nmgc_reach.specs.laws.NewWorlds.{each_new, new_nodes, new_is_world}
+use Rattle.nmgc_graph.specs.laws.NewWorlds.{each_new, new_nodes, new_is_world}
 use Rattle.nmgc_alloc.specs.AllocState.{cells, name_in, all_empty}
 use Rattle.nmgc_alloc.specs.laws.Cells.{none_some}
 use Rattle.nmgc_alloc.specs.laws.OneState.{first_cells}

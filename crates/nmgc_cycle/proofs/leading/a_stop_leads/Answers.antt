@@ -4,7 +4,7 @@ pub returns : goal.returns
 returns c = record {
   promotion = record {
     back = c.places_are_blocks.ensures.back;
-    marking = c.marking_goes_on.ensures.promotion;
+    marking = c.marking_goes_on.ensures;
     fewer = c.the_list_is_joined.ensures.fewer;
     sweeping = c.a_closed_cycle_sweeps.ensures.stays;
     settled = c.a_closed_cycle_sweeps.ensures.settled;

@@ -1,5 +1,6 @@
 use Rattle.std.proofs.Common.{◌∷◌, [], List, length, length-append, arith, ap, subst}
 use Rattle.nmgc_journal.specs.declared.report.StopRow.{StopRow}
+use Rattle.nmgc_run.specs.laws.Crowding.{lawful_are_of_runs}
 use Rattle.nmgc_cycle.specs.Keeps.{HasAnswered}
 use Rattle.nmgc_cycle.proofs.Few.{stop_fits}
 use Rattle.nmgc_cycle.proofs.collector.Collector.run.Goals as goal
@@ -24,7 +25,11 @@ pub into_report-requires-in-HeapFull : goal.into_report-requires-in-HeapFull
 into_report-requires-in-HeapFull g c = (c.args.script.now, subst (HasAnswered c.args.script.now c.stop.new.self) c.in-HeapFull.is c.in_ok-stop.ensures.answered)
 
 pub returns-in-Done : goal.returns-in-Done
-returns-in-Done g c = c.into_report.ensures.told c.args.script.now (subst (HasAnswered c.args.script.now c.stop.new.self) c.in-Done.is c.in_ok-stop.ensures.answered)
+returns-in-Done g c =
+    let lawful = c.into_report.ensures.told c.args.script.now (subst (HasAnswered c.args.script.now c.stop.new.self) c.in-Done.is c.in_ok-stop.ensures.answered) in
+    lawful_are_of_runs c.args.script.now c.into_report.result c.requires.fits c.requires.few lawful
 
 pub returns-in-HeapFull : goal.returns-in-HeapFull
-returns-in-HeapFull g c = c.into_report-in-HeapFull.ensures.told c.args.script.now (subst (HasAnswered c.args.script.now c.stop.new.self) c.in-HeapFull.is c.in_ok-stop.ensures.answered)
+returns-in-HeapFull g c =
+    let lawful = c.into_report-in-HeapFull.ensures.told c.args.script.now (subst (HasAnswered c.args.script.now c.stop.new.self) c.in-HeapFull.is c.in_ok-stop.ensures.answered) in
+    lawful_are_of_runs c.args.script.now c.into_report-in-HeapFull.result c.requires.fits c.requires.few lawful

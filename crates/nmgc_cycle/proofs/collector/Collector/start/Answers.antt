@@ -11,7 +11,7 @@ returns c =
     let begun : before.begun ≡ c.args.self.now.begun = ap (λ (x : Collector). x.begun) starts.rest in
     record {
       marking = c.in_ok-marking.marking;
-      before = before;
+      marked = before;
       starts = starts;
       is = ap (λ (n : ℕ). record before { progress = progress.Marking c.in_ok-marking.marking; begun = n + 1; collect = false }) begun;
     }

@@ -4,7 +4,7 @@ use Rattle.std.specs.Prelude.{All}
 use Rattle.std.specs.Vec.{with_items}
 use Rattle.std.proofs.lemmas.List.{length-map}
 use Rattle.nmgc_alloc.specs.Segments.{Segments}
-use Rattle.nmgc_beside.specs.Begins.{all_prepared}
+use Rattle.nmgc_beside.specs.Prepares.{all_prepared}
 use Rattle.nmgc_graph.specs.declared.value.TheConstants.{REGISTERS}
 use Rattle.nmgc_mark.specs.Beginning.{IsBeginning, most_blocks}
 use Rattle.nmgc_mark.specs.Marker.{HasMarked, blank}

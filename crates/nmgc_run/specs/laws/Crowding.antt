@@ -1,22 +1,23 @@
 -- A run that ends as heap full: its last stop did a full cycle, and is crowded.
-use Rattle.std.proofs.Common.{ℕ, ◌≡◌, ◌+◌, ◌<◌, ◌≤◌, List, [], ◌∷◌, ◌++◌, length, arith, refl, sym, ap, subst, ◌∙◌, suc, Bool, true, Some, None, inl, inr}
-use Rattle.std.specs.Prelude.{Any, fold, nat_lt, ◌&&◌, if◌then◌else◌, Result, Ok, Err, IfOk}
+use Rattle.std.proofs.Common.{ℕ, ◌≡◌, ◌+◌, ◌<◌, ◌≤◌, List, [], ◌∷◌, ◌++◌, length, arith, refl, sym, ap, subst, ◌∙◌, Bool, true, Some, None, inl, inr}
+use Rattle.std.specs.Prelude.{nat_lt, ◌&&◌, if◌then◌else◌}
 use Rattle.std.proofs.lemmas.Bool.{ltb-true, cases_lt}
 use Rattle.std.proofs.lemmas.List.{get_or_past}
 use Rattle.std.proofs.lemmas.List.Elements.{All-get_or}
 use Rattle.nmgc_graph.specs.declared.command.Command.{Command}
-use Rattle.nmgc_graph.specs.declared.memory.NoMemory.{NoMemory}
 use Rattle.nmgc_graph.specs.World.{World}
 use Rattle.nmgc_alloc.specs.laws.Cells.{all_swept}
 use Rattle.nmgc_journal.specs.declared.report.CycleRow.{CycleRow}
 use Rattle.nmgc_journal.specs.declared.report.Report.{Report}
 use Rattle.nmgc_journal.specs.declared.report.End.{End}
 use Rattle.nmgc_journal.specs.declared.report.End.TheVariants.{Done, HeapFull}
-use Rattle.nmgc_script.specs.declared.script.Script.{Script}
 use Rattle.nmgc_limits.specs.Limits.{most_script_bytes}
-use Rattle.nmgc_cycle.specs.Limits.{IsInLimits}
+use Rattle.nmgc_script.specs.Bench.{HasFewCommands}
+use Rattle.nmgc_script.specs.Limits.{FitsScript}
+use Rattle.nmgc_script.specs.declared.script.Script.{Script}
 use Rattle.nmgc_run.specs.Census.{IsKeptIn}
-use Rattle.nmgc_run.specs.Lawful.{IsLawfulFor, IsLawful}
+use Rattle.nmgc_run.specs.Crowded.{StopInRun, opening_stop, next_stop, last_after, last_stop, IsKeptOf, IsCrowded, LeavesHeapFull, IsHeapFull, IsRunOf, LawfulAreOfRuns}
+use Rattle.nmgc_run.specs.Lawful.{IsLawfulFor}
 use Rattle.nmgc_run.specs.Listing.{Counts}
 use Rattle.nmgc_run.specs.Run.{Run, Turn, IsRun, AreTurns, state_after, last_state}
 use Rattle.nmgc_run.specs.Slice.{has_left, program_of}
@@ -26,13 +27,12 @@ use Rattle.nmgc_run.specs.Statements.{last_kept}
 use Rattle.nmgc_run.specs.Stop.{EndsOrWaits, Finishes, DoesFullCycle, Proceeds, all_filed, is_short, is_done, answer_of}
 use Rattle.nmgc_run.specs.Sweep.{SweepsRest}
 use Rattle.nmgc_run.specs.laws.CycleCounts.{free_kept}
-use Rattle.nmgc_run.specs.laws.FullHeaps.{full_crowded, full_short, short_free, full_heap_is_crowded}
+use Rattle.nmgc_run.specs.laws.FullHeaps.{full_crowded, full_short, short_free, kept_last, full_heap_is_crowded}
 use Rattle.nmgc_run.specs.laws.Limits.{scripts_have_good_plans}
 use Rattle.nmgc_run.specs.laws.Programs.{HasPrograms}
 use Rattle.nmgc_run.specs.laws.Runs.{round_holds, turn_holds, opening_worked, opening_holds}
 use Rattle.nmgc_run.specs.laws.States.{Holds, Worked, lefts}
 use Rattle.nmgc_run.specs.laws.Stops.{stop_holds}
-use Rattle.nmgc_cli.specs.Crowded.{StopOf, opening_stop, turn_stops, last_stop, IsKeptOf, IsCrowded, IsFull, IsHeapFull, IsRunOf}
 
 -- what a full cycle keeps
 
@@ -46,11 +46,6 @@ ended_world (sweeping c number) s t cycles (inr e) = ap (λ (x : State). x.world
 -- a finished cycle leaves the world of its closing
 finished_world : (s t : State) (cycles : List CycleRow) (f : Finishes s t cycles) → t.world ≡ f.closed.world
 finished_world s t cycles f = ended_world f.swept.progress f.swept t cycles f.ends ∙ ap (λ (x : State). x.world) f.others
-
--- the last row tells what the last cycle kept
-kept_of_last : (before : List CycleRow) (first : ℕ) (row : CycleRow) → fold (λ (kept : ℕ) (c : CycleRow). c.kept) first (before ++ row ∷ []) ≡ row.kept
-kept_of_last [] first row = refl
-kept_of_last (c ∷ before) first row = kept_of_last before c.kept row
 
 -- of a full cycle that leaves too few segments free: the world with which it began keeps more objects than there are segments above the reserve
 record KeepsMuch (plan : Plan) (w : World) : Type 0 where
@@ -71,7 +66,7 @@ full_keeps plan s t cycles f h few =
     elim ends [
       | inl e ↦
           let told : cycles ≡ f.before ++ e.1.row ∷ [] = f.told ∙ ap (λ (rows : List CycleRow). f.before ++ rows) e.1.told in
-          let same : crowd.1.kept ≡ e.1.row.kept = sym (kept_of_last crowd.0 0 crowd.1) ∙ ap last_kept (sym crowd.2 ∙ told) ∙ kept_of_last f.before 0 e.1.row in
+          let same : crowd.1.kept ≡ e.1.row.kept = sym (kept_last crowd.0 0 crowd.1) ∙ ap last_kept (sym crowd.2 ∙ told) ∙ kept_last f.before 0 e.1.row in
           let many : plan.config.segments ≤ crowd.1.kept + free_count t = crowd.3 in
           record { kept = e.1.row.kept; counts = e.1.census.kept; more = omega (arith, many, same, few) }
       | inr waits ↦ absurd (waits.0 none)
@@ -80,10 +75,10 @@ full_keeps plan s t cycles f h few =
 -- a stop: where the heap is short after it, it did a full cycle
 
 -- what is claimed of a stop
-abbrev Claim : (plan : Plan) → StopOf plan → Type 0
-Claim plan stop = is_short plan stop.stop.state ≡ true → IsFull plan stop × IsCrowded plan stop
+abbrev Claim : (plan : Plan) → StopInRun plan → Type 0
+Claim plan stop = is_short plan stop.stop.state ≡ true → LeavesHeapFull plan stop × IsCrowded plan stop
 
-proceeds_claim : (plan : Plan) (stop : StopOf plan) → Holds plan stop.is.ended → Proceeds plan stop.is.ended stop.stop.state stop.is.more → Claim plan stop
+proceeds_claim : (plan : Plan) (stop : StopInRun plan) → Holds plan stop.is.ended → Proceeds plan stop.is.ended stop.stop.state stop.is.more → Claim plan stop
 proceeds_claim plan stop h (inl f) short =
     let s : State = stop.is.ended in
     let t : State = stop.stop.state in
@@ -105,42 +100,33 @@ proceeds_claim plan stop h (inr (not, inl b, none)) short =
     let same : is_short plan t ≡ is_short plan s = ap (λ (x : State). is_short plan x) b.1 ∙ ap (λ (count : ℕ). has_left s.left && nat_lt count (reserve_of plan)) (free_kept s.allocation.segments) in
     absurd (not (inr (sym same ∙ short)))
 
-stop_claim : (plan : Plan) (stop : StopOf plan) → Worked plan (lefts stop.worked) stop.began stop.worked.world stop.worked.allocation stop.worked.progress → Claim plan stop
+stop_claim : (plan : Plan) (stop : StopInRun plan) → Worked plan (lefts stop.worked) stop.began stop.worked.world stop.worked.allocation stop.worked.progress → Claim plan stop
 stop_claim plan stop h = proceeds_claim plan stop (stop_holds plan stop.began stop.worked stop.stop.state stop.stop.row stop.stop.cycles stop.is h).ended stop.is.proceeds
 
 -- the run
 
-abbrev last_of : (plan : Plan) → StopOf plan → List (StopOf plan) → StopOf plan
-last_of plan first stops = fold (λ (before next : StopOf plan). next) first stops
-
-turns_claim : (plan : Plan) (s : State) (turns : List Turn) (i : AreTurns plan s turns) (first : StopOf plan) → HasPrograms plan s → Holds plan s → Claim plan first → Claim plan (last_of plan first (turn_stops plan s turns i))
-turns_claim plan s [] i first able h claim = claim
-turns_claim plan s (turn ∷ turns) i first able h claim =
+turns_claim : (plan : Plan) (before : StopInRun plan) (turns : List Turn) (i : AreTurns plan before.stop.state turns) → HasPrograms plan before.stop.state → Holds plan before.stop.state → Claim plan before → Claim plan (last_after plan before turns i)
+turns_claim plan before [] i able h claim = claim
+turns_claim plan before (turn ∷ turns) i able h claim =
+    let s : State = before.stop.state in
     let next = turn_holds plan s turn i.0 able h in
     let worked = round_holds plan s turn.worked turn.replies.replies turn.history i.0.round able h in
-    let stop : StopOf plan = record { began = s.world; worked = turn.worked; stop = turn.stop; is = i.0.stop } in
-    turns_claim plan turn.stop.state turns i.1 stop next.0 next.1 (stop_claim plan stop worked)
+    let stop : StopInRun plan = next_stop plan before turn i.0 in
+    turns_claim plan stop turns i.1 next.0 next.1 (stop_claim plan stop worked)
 
 run_claim : (plan : Plan) (run : Run) (i : IsRun plan run) → IsRunnable plan → Claim plan (last_stop plan run i)
 run_claim plan run i runnable =
     let opened = opening_holds plan run runnable i in
-    turns_claim plan run.opening.state run.turns i.turns (opening_stop plan run i) opened.0 opened.1 (stop_claim plan (opening_stop plan run i) (opening_worked plan runnable))
+    let first : StopInRun plan = opening_stop plan run i in
+    turns_claim plan first run.turns i.turns opened.0 opened.1 (stop_claim plan first (opening_worked plan runnable))
 
 -- the last stop leaves the last state
-turns_last : (plan : Plan) (s : State) (turns : List Turn) (i : AreTurns plan s turns) (first : StopOf plan) → first.stop.state ≡ s → (last_of plan first (turn_stops plan s turns i)).stop.state ≡ state_after s turns
-turns_last plan s [] i first e = e
-turns_last plan s (turn ∷ turns) i first e = turns_last plan turn.stop.state turns i.1 (record { began = s.world; worked = turn.worked; stop = turn.stop; is = i.0.stop }) refl
+turns_last : (plan : Plan) (before : StopInRun plan) (turns : List Turn) (i : AreTurns plan before.stop.state turns) → (last_after plan before turns i).stop.state ≡ state_after before.stop.state turns
+turns_last plan before [] i = refl
+turns_last plan before (turn ∷ turns) i = turns_last plan (next_stop plan before turn i.0) turns i.1
 
 run_last : (plan : Plan) (run : Run) (i : IsRun plan run) → (last_stop plan run i).stop.state ≡ last_state run
-run_last plan run i = turns_last plan run.opening.state run.turns i.turns (opening_stop plan run i) refl
-
--- the last of some items is one of them
-last_is_one : {A : Type 0} (P : A → Type 0) (first : A) (items : List A) → P (fold (λ (before next : A). next) first items) → Any P (first ∷ items)
-last_is_one P first [] p = (0, first, omega arith, refl, p)
-last_is_one P first (next ∷ items) p =
-    let later = last_is_one P next items p in
-    let within : later.0 < length (next ∷ items) = later.2 in
-    (suc later.0, later.1, omega (arith, within), later.3, later.4)
+run_last plan run i = turns_last plan (opening_stop plan run i) run.turns i.turns
 
 -- the end
 
@@ -164,21 +150,21 @@ kept_many plan report Done lawful runnable e full = absurd full
 kept_many plan report (HeapFull free reserve) lawful runnable e full = full_heap_is_crowded plan lawful.run report.rounds report.stops report.cycles free reserve runnable lawful.is_run lawful.tells e
 
 -- a program has no more commands than a script may have bytes, and so it is short enough for serials
-program_few : (script : Script) → IsInLimits script → (m : ℕ) → length (program_of script.threads m) ≤ most_script_bytes
-program_few script limits m = elim (cases_lt m (length script.threads)) [
-  | inl lt ↦ All-get_or (λ (program : List Command). length program ≤ most_script_bytes) script.threads m [] lt limits.few
+pub few_in_each : (script : Script) → HasFewCommands script → (m : ℕ) → length (program_of script.threads m) ≤ most_script_bytes
+few_in_each script few m = elim (cases_lt m (length script.threads)) [
+  | inl lt ↦ All-get_or (λ (program : List Command). length program ≤ most_script_bytes) script.threads m [] lt few
   | inr past ↦ let none : length (program_of script.threads m) ≡ 0 = ap length (get_or_past script.threads m [] past) in omega arith
 ]
 
-runnable_of : (script : Script) → IsInLimits script → IsRunnable (plan_of script)
-runnable_of script limits = (scripts_have_good_plans script limits.fits).runnable (λ m. let few = program_few script limits m in omega (arith, few))
+pub runnable_of : (script : Script) → FitsScript script → HasFewCommands script → IsRunnable (plan_of script)
+runnable_of script fits few = (scripts_have_good_plans script fits).runnable (λ m. let short = few_in_each script few m in omega (arith, short))
 
 -- a lawful report of a script within the limits is one of its run
-run_of : (script : Script) (report : Report) → IsInLimits script → IsLawful script report → IsRunOf script report
-run_of script report limits lawful =
+pub lawful_are_of_runs : LawfulAreOfRuns
+lawful_are_of_runs script report fits few lawful =
     let plan : Plan = plan_of script in
     let run : Run = lawful.run in
-    let runnable : IsRunnable plan = runnable_of script limits in
+    let runnable : IsRunnable plan = runnable_of script fits few in
     let last : (last_stop plan run lawful.is_run).stop.state ≡ last_state run = run_last plan run lawful.is_run in
     let claim : Claim plan (last_stop plan run lawful.is_run) = run_claim plan run lawful.is_run runnable in
     let short : IsHeapFull report.end → is_short plan (last_stop plan run lawful.is_run).stop.state ≡ true = λ full. ap (λ (s : State). is_short plan s) last ∙ end_short plan (last_state run) report.end lawful.end_is full in
@@ -186,10 +172,5 @@ run_of script report limits lawful =
       lawful = lawful;
       full = (λ full. (claim (short full)).0, λ is. short_end plan (last_state run) report.end lawful.end_is (sym (ap (λ (s : State). is_short plan s) last) ∙ is.short));
       kept = λ full. kept_many plan report report.end lawful runnable lawful.end_is full;
-      crowded = λ full. last_is_one (IsCrowded plan) (opening_stop plan run lawful.is_run) (turn_stops plan run.opening.state run.turns lawful.is_run.turns) (claim (short full)).1;
+      crowded = λ full. (claim (short full)).1;
     }
-
--- so is the report that a run answers, if it answers one
-pub answers_run : (script : Script) (result : Result Report NoMemory) → IsInLimits script → IfOk result (λ report. IsLawful script report) → IfOk result (λ report. IsRunOf script report)
-answers_run script (Ok report) limits lawful = run_of script report limits lawful
-answers_run script (Err refused) limits lawful = tt
