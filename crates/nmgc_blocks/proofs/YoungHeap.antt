@@ -19,7 +19,7 @@ use Rattle.nmgc_graph.specs.Step.{CanApply, shared_name, step}
 use Rattle.nmgc_graph.specs.Reach.{strong_fields, RefersTo}
 use Rattle.nmgc_graph.specs.laws.Orders.{contains_head, contains_tail, contains_cases}
 use Rattle.nmgc_reach.specs.laws.ItemLaws.{place_of, nothing_in, one_is}
-use Rattle.nmgc_reach.specs.laws.NewWorlds.{new_is_world}
+use Rattle.nmgc_graph.specs.laws.NewWorlds.{new_is_world}
 use Rattle.nmgc_reach.specs.laws.WorldSteps.{step_keeps_world}
 use Rattle.nmgc_object.specs.Places.{nursery_place}
 use Rattle.nmgc_segment.specs.Segment.{Segment, free_segment}

@@ -24,7 +24,7 @@ use Rattle.nmgc_graph.specs.declared.node.Kind.TheVariants as kind
 use Rattle.nmgc_object.specs.declared.words.Header.{Header}
 use Rattle.nmgc_object.specs.Places.{nursery_place}
 use Rattle.nmgc_round.specs.Making.{header_made}
-use Rattle.nmgc_mutator.specs.Records.{numbers, recorded_at, recorded_by, noted_by, weaks_by, all_weaks, all_pushed}
+use Rattle.nmgc_mutator.specs.Records.{numbers, recorded_at, recorded_by, noted_by, weaks_by, all_pushed}
 use Rattle.nmgc_mutator.specs.Does.{Does, Went, HasReplied, HasUsed, HasDone, with_recorded, with_updrem}
 use Rattle.nmgc_mutator.specs.Acts.{IsPlain, weaks_of, with_weaks, most_pushed, most_weaks, HasNoted, Acts, HasActed, StepsTo}
 use Rattle.nmgc_mutator.specs.declared.mutator.Step.TheVariants.{Replied}

@@ -18,7 +18,7 @@ use Rattle.nmgc_object.specs.Places.{IsLayout}
 use Rattle.nmgc_object.specs.declared.layout.Layout.{Layout}
 use Rattle.nmgc_reach.specs.Wide.{IsWide}
 use Rattle.nmgc_reach.specs.laws.ItemLaws.{nothing_in}
-use Rattle.nmgc_reach.specs.laws.NewWorlds.{new_is_world}
+use Rattle.nmgc_graph.specs.laws.NewWorlds.{new_is_world}
 use Rattle.nmgc_reach.specs.laws.WorldSteps.{step_keeps_world}
 use Rattle.nmgc_core.specs.declared.event.Entry.{Entry}
 use Rattle.nmgc_core.specs.State.{names_of, entry_of}

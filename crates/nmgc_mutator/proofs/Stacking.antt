@@ -1,6 +1,6 @@
 -- Own stacks: their depth, and what a push and a pop do.
-use Rattle.std.proofs.Common.{◌≡◌, ◌≢◌, inl, inr, ℕ, ◌+◌, ◌-◌, ◌*◌, ◌/◌, ◌%◌, ◌<◌, ◌≤◌, ◌^◌, List, [], ◌∷◌, ◌++◌, Bool, true, false, cond, eqb, eq-eqb, ne_eqb, ◌&&◌, refl, sym, ap, subst, ◌∙◌, arith, length, slice_set, Some, None}
-use Rattle.std.specs.Prelude.{Contains, slice_get}
+use Rattle.std.proofs.Common.{◌≡◌, ◌≢◌, inl, inr, ℕ, ◌+◌, ◌-◌, ◌*◌, ◌/◌, ◌%◌, ◌<◌, ◌≤◌, ◌^◌, List, [], ◌∷◌, ◌++◌, Bool, false, cond, eq-eqb, ◌&&◌, refl, sym, ap, subst, ◌∙◌, arith, length, Some}
+use Rattle.std.specs.Prelude.{Contains}
 use Rattle.std.proofs.lemmas.Bool.{cases_lt}
 use Rattle.std.proofs.lemmas.List.{get_or_past}
 use Rattle.nmgc_graph.specs.declared.value.Name.{Name}
@@ -17,14 +17,13 @@ use Rattle.nmgc_object.specs.declared.layout.Layout.{Layout}
 use Rattle.nmgc_object.specs.Words.{header_word, name_word, kind_number, IsName}
 use Rattle.nmgc_object.specs.declared.words.Header.{Header}
 use Rattle.nmgc_graph.specs.laws.Orders.{contains_head, contains_tail}
-use Rattle.nmgc_object.specs.declared.size.TheConstants.{HEADER_WORDS}
 use Rattle.nmgc_round.specs.declared.table.Round.{Round}
-use Rattle.nmgc_round.specs.View.{Answer, plain, word, FixedWord, Slots, Hand, Row, Opening, Part, Seen, doing, finding, knowing, loaded, answered, owed_word, word_of, leaves, hand_now}
+use Rattle.nmgc_round.specs.View.{Answer, plain, word, FixedWord, Slots, Row, Opening, Part, Seen, doing, finding, knowing, loaded, answered, owed_word, word_of, leaves, hand_now}
 use Rattle.nmgc_round.specs.Own.{slots_at}
 use Rattle.nmgc_round.specs.Ready.{IsMutator, Mutates, Names, CanGive}
 use Rattle.nmgc_round.specs.Told.{CanTell, IsTold, IsSafe, header_at, refused, owner_refusal}
 use Rattle.nmgc_round.specs.Naming.{IsNamed}
-use Rattle.nmgc_round.specs.Stacks.{IsOwn, CanPeek, TellsSlot, CanSlot, CanPush, CanPop, slot_swapped, IsRefusedSlot, IsFull, IsEmpty, slot_refused, slot_refusal_reply}
+use Rattle.nmgc_round.specs.Stacks.{IsOwn, CanPeek, TellsSlot, CanSlot, slot_swapped, IsRefusedSlot, slot_refused, slot_refusal_reply}
 use Rattle.nmgc_round.specs.Seat.{RoundSeat, IsAt, Knows, seen, opening_of}
 use Rattle.nmgc_mutator.specs.declared.mutator.Mutator.{Mutator}
 use Rattle.nmgc_mutator.specs.Ready.{IsReady, Holds, first_part, part_of, hand_in, rows_of, with_register}

@@ -12,7 +12,7 @@ use Rattle.nmgc_mutator.specs.Ready.{IsReady, hand_in}
 use Rattle.nmgc_mutator.specs.Records.{numbers, recorded_by, recorded_at, all_pushed}
 use Rattle.nmgc_mutator.specs.Does.{Does, Went, with_recorded, with_updrem}
 use Rattle.nmgc_mutator.specs.Slice.{turned}
-use Rattle.nmgc_mutator.proofs.Readies.{went_changing, hand_after, ready_same, does_later, kept_items}
+use Rattle.nmgc_mutator.proofs.Readies.{went_changing, hand_after, ready_same, does_later}
 use Rattle.nmgc_graph.specs.declared.command.Operand.{Operand}
 use Rattle.nmgc_graph.specs.declared.command.Command.TheVariants.{Set}
 use Rattle.nmgc_graph.specs.declared.command.Reply.TheVariants.{Fine}

@@ -2,7 +2,6 @@
 use Rattle.std.proofs.Common.{◌≡◌, ℕ, ◌+◌, ◌-◌, ◌<◌, ◌≤◌, ◌^◌, List, [], ◌∷◌, ◌++◌, refl, sym, ap, subst, ◌∙◌, arith, length, length-set, slice_set, drop, Some, None}
 use Rattle.std.specs.Prelude.{slice_get}
 use Rattle.nmgc_graph.specs.declared.value.Value.{Value}
-use Rattle.nmgc_graph.specs.declared.command.Operand.{Operand}
 use Rattle.nmgc_graph.specs.declared.command.Operand.TheVariants.{Register}
 use Rattle.nmgc_graph.specs.declared.command.Command.{Command}
 use Rattle.nmgc_graph.specs.declared.command.Command.TheVariants.{NextFin}
@@ -12,11 +11,11 @@ use Rattle.nmgc_object.specs.declared.words.TheConstants.{NIL_WORD}
 use Rattle.nmgc_object.specs.declared.layout.Layout.{Layout}
 use Rattle.nmgc_object.specs.FinQueue.{FinQueue}
 use Rattle.nmgc_round.specs.declared.table.Round.{Round}
-use Rattle.nmgc_round.specs.View.{Answer, plain, word, FixedWord, Hand, Opening, Part, Row, Seen, loaded, word_of, leaves, hand_now}
-use Rattle.nmgc_round.specs.Ready.{Mutates, CanGive}
+use Rattle.nmgc_round.specs.View.{plain, word, Hand, Part, Seen, loaded, word_of, leaves, hand_now}
+use Rattle.nmgc_round.specs.Ready.{Mutates}
 use Rattle.nmgc_round.specs.Told.{CanTell, IsTold, IsSafe, TellsQueue, first_told, told, told_by}
-use Rattle.nmgc_round.specs.Naming.{IsNamed, Replies}
-use Rattle.nmgc_round.specs.Seat.{RoundSeat, IsAt, Knows, seen}
+use Rattle.nmgc_round.specs.Naming.{IsNamed}
+use Rattle.nmgc_round.specs.Seat.{RoundSeat, Knows, seen}
 use Rattle.nmgc_mutator.specs.declared.mutator.Mutator.{Mutator}
 use Rattle.nmgc_mutator.specs.Ready.{IsReady, Holds, first_part, part_of, hand_in, with_register}
 use Rattle.nmgc_mutator.specs.Records.{numbers, noted_by, weaks_by}

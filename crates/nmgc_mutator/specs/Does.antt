@@ -1,11 +1,10 @@
 -- What a command does to its mutator and to what the seat knows.
-use Rattle.std.specs.Prelude.{◌≡◌, ℕ, ◌+◌, ◌-◌, ◌<◌, ◌≤◌, ◌*◌, false, List, [], ◌∷◌, ◌++◌, map, length, slice_get, Some, Contains}
+use Rattle.std.specs.Prelude.{◌≡◌, ℕ, ◌+◌, ◌<◌, ◌≤◌, ◌*◌, false, List, [], ◌∷◌, ◌++◌, map, length, slice_get, Some, Contains}
 use Rattle.nmgc_graph.specs.declared.value.Name.{Name}
 use Rattle.nmgc_graph.specs.declared.command.Operand.{Operand}
 use Rattle.nmgc_graph.specs.declared.command.Command.{Command}
 use Rattle.nmgc_graph.specs.declared.command.Command.TheVariants.{Con, Var, Arr, Thunk, Weak, Stack, Yield, Collect, Full}
 use Rattle.nmgc_graph.specs.declared.command.Reply.{Reply}
-use Rattle.nmgc_graph.specs.Command.{IsMaking, words_made}
 use Rattle.nmgc_graph.specs.Room.{Room}
 use Rattle.nmgc_object.specs.declared.size.TheConstants.{HEADER_WORDS}
 use Rattle.nmgc_object.specs.declared.words.Address.{Address}

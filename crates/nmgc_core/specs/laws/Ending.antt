@@ -13,7 +13,7 @@ use Rattle.nmgc_graph.specs.Reach.{IsLive, IsAlive, IsKeptBy, IsDead, IsKept, Li
 use Rattle.nmgc_graph.specs.Reach as reach
 use Rattle.nmgc_core.specs.State.{State, names_of, is_listed}
 use Rattle.nmgc_core.specs.Machine.{AreEmpty}
-use Rattle.nmgc_core.specs.Closing.{IsWaiting, IsUnmarked, IsRevived, IsMarkedFirst, IsDying, IsRescued, IsMarkedLast, IsClosing}
+use Rattle.nmgc_core.specs.Closing.{IsWaiting, IsUnmarked, IsRevived, IsMarkedFirst, IsDying, IsRescued, IsMarkedLast}
 use Rattle.nmgc_core.specs.Closing as closing
 use Rattle.nmgc_reach.specs.laws.ItemLaws.{nothing_in}
 use Rattle.nmgc_core.specs.laws.Listed.{contains_listed, not_listed}

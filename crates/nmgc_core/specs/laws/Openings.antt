@@ -24,7 +24,7 @@ use Rattle.nmgc_core.specs.laws.Listed.{all_from_contains}
 use Rattle.nmgc_core.specs.laws.Lives.{target_there, refers, root_there}
 use Rattle.nmgc_reach.specs.Holds.{Names, Stands}
 use Rattle.nmgc_core.specs.laws.Marking.{mark_cases, mark_base, marked_then, still_marked, kept_then}
-use Rattle.nmgc_core.specs.Facts.{MayHold, IsLiveIn, IsSafe, IsAhead, Kept, Base, Facts, marked}
+use Rattle.nmgc_core.specs.Facts.{MayHold, IsLiveIn, Kept, Base, Facts, marked}
 use Rattle.nmgc_core.specs.Facts as facts
 
 no_names : (n m : ℕ) → names_of (replicate n []) m ≡ []

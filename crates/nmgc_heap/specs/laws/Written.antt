@@ -1,18 +1,17 @@
 -- What is within the limits of a script has words: a valid header, and an object that fits a segment. And
 -- the parts of an object lie where parts lie.
 use Rattle.std.specs.Prelude.{Contains, slice_index}
-use Rattle.std.proofs.Common.{◌≡◌, ◌≢◌, ℕ, ◌+◌, ◌<◌, ◌≤◌, length, refl, sym, ap, subst, ◌∙◌, arith, inl, inr, Some}
+use Rattle.std.proofs.Common.{◌≡◌, ℕ, ◌+◌, ◌≤◌, length, refl, sym, ap, subst, ◌∙◌, arith, inl, inr, Some}
 use Rattle.nmgc_graph.specs.declared.value.Name.{Name}
 use Rattle.nmgc_graph.specs.declared.node.Node.{Node}
 use Rattle.nmgc_graph.specs.declared.node.Node.TheVariants.{Con, Var, Arr, Thunk, Weak, Stack}
-use Rattle.nmgc_graph.specs.World.{World, node_of, IsWorld, IsShared}
+use Rattle.nmgc_graph.specs.World.{node_of, IsShared}
 use Rattle.nmgc_graph.specs.Step.{shared_name}
 use Rattle.nmgc_graph.specs.laws.Rows.{name_cases}
 use Rattle.nmgc_graph.specs.laws.Worlds.{at_some}
-use Rattle.nmgc_object.specs.Places.{IsSegmentSize}
 use Rattle.nmgc_object.specs.Words.{header_word, IsHeader}
 use Rattle.nmgc_object.specs.declared.size.TheConstants.{HEADER_WORDS}
-use Rattle.nmgc_reach.specs.Limits.{IsNodeWithin, IsWithin}
+use Rattle.nmgc_reach.specs.Limits.{IsNodeWithin}
 use Rattle.nmgc_reach.specs.Shape.{words_of}
 use Rattle.nmgc_heap.specs.Shape.{header_of, size_of, slots_of}
 use Rattle.nmgc_heap.specs.Places.{HasSlots, LiesWell}

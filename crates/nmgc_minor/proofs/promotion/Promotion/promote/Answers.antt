@@ -1,12 +1,9 @@
-use Rattle.std.proofs.Common.{◌≡◌, ◌∷◌, [], ℕ, List, map, refl, sym, ap, subst, ◌∙◌, arith}
-use Rattle.std.specs.Prelude.{slice_index, Contains}
+use Rattle.std.proofs.Common.{◌≡◌, ◌∷◌, [], ℕ, List, map, refl, ap, ◌∙◌, arith}
 use Rattle.nmgc_object.specs.FinQueue.{FinQueue}
-use Rattle.nmgc_heap.specs.Moves.{Moved}
-use Rattle.nmgc_blocks.specs.Stopped.{Stopped, IsSettled, young_base}
-use Rattle.nmgc_minor.specs.Start.{inputs_of, words_of, places_of, forwarded_queue}
+use Rattle.nmgc_blocks.specs.Stopped.{young_base}
+use Rattle.nmgc_minor.specs.Start.{inputs_of, words_of, forwarded_queue}
 use Rattle.nmgc_minor.specs.Forwarding.{forward_word}
 use Rattle.nmgc_minor.specs.Promotion.{Promotion}
-use Rattle.nmgc_minor.specs.Placing.{moved_of}
 use Rattle.nmgc_minor.proofs.Stops.{stop_allows, stop_settles, stop_places, stop_fields}
 use Rattle.nmgc_minor.proofs.promotion.Promotion.promote.Goals as goal
 
