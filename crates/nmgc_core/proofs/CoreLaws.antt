@@ -19,7 +19,7 @@ use Rattle.std.proofs.lemmas.List.Elements.{Contains-append_left}
 use Rattle.nmgc_reach.specs.Holds.{Names}
 use Rattle.nmgc_core.specs.laws.Turns.{step_alive}
 use Rattle.nmgc_core.specs.declared.event.Entry.{Entry}
-use Rattle.nmgc_graph.specs.declared.memory.NoMemory.{NoMemory}
+use Rattle.nmgc_lists.specs.declared.memory.NoMemory.{NoMemory}
 use Rattle.nmgc_graph.specs.declared.value.Value.{Value}
 use Rattle.nmgc_graph.specs.declared.value.Value.TheVariants as value
 use Rattle.nmgc_core.specs.State.{State, is_listed, is_new, names_of, mark_name, mark_value, mark_values, mark_read, entry_of}

@@ -4,7 +4,7 @@ use Rattle.std.specs.Prelude.{Contains, OnOk}
 use Rattle.std.proofs.lemmas.Bool.{cases_Bool}
 use Rattle.std.proofs.lemmas.Grind.{flat_map-append}
 use Rattle.std.proofs.lemmas.List.{take_more, append-nil}
-use Rattle.nmgc_graph.specs.declared.memory.NoMemory.{NoMemory}
+use Rattle.nmgc_lists.specs.declared.memory.NoMemory.{NoMemory}
 use Rattle.nmgc_graph.specs.declared.value.Name.{Name}
 use Rattle.nmgc_graph.specs.declared.value.Value.{Value}
 use Rattle.nmgc_graph.specs.declared.value.Value.TheVariants as value

@@ -5,7 +5,7 @@ use Rattle.std.specs.List.{refill}
 use Rattle.std.proofs.lemmas.List.{take-append-le, take_all}
 use Rattle.std.proofs.lemmas.Bool.{ne_eqb}
 use Rattle.std.proofs.lemmas.Option.{get_or_from_slice_get}
-use Rattle.nmgc_graph.specs.declared.memory.NoMemory.{NoMemory}
+use Rattle.nmgc_lists.specs.declared.memory.NoMemory.{NoMemory}
 use Rattle.nmgc_graph.specs.declared.command.Operand.{Operand}
 use Rattle.nmgc_graph.specs.declared.command.Reply.{Reply}
 use Rattle.nmgc_graph.specs.declared.command.Reply.TheVariants.{Yes, StackEmpty}

@@ -3,6 +3,5 @@ pub mod Follows
 pub mod Kepts
 pub mod Lent
 pub mod Lives
-pub mod Queues
 pub mod Searches
 pub mod Weaks

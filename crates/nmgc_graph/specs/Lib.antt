@@ -2,15 +2,10 @@ pub mod Change
 pub mod Closing
 pub mod Command
 pub mod History
-pub mod Items
-pub mod ItemsLends
-pub mod Lends
 pub mod Marks
 pub mod Order
 pub mod Reach
 pub mod Replay
-pub mod Room
-pub mod RoomLends
 pub mod Search
 pub mod Step
 pub mod World

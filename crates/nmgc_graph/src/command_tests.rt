@@ -439,65 +439,6 @@ fn thunks_and_weak_pointers(rt: HostRuntime) -> Result<(), Fail> {
 }
 
 #[test]
-fn queues_and_lists(rt: HostRuntime) -> Result<(), Fail> {
-    let mut queue = Queue::new(rt.alloc());
-    queue.push(3)?;
-    queue.push(4)?;
-    assert_eq!(rt; queue.take_first(), Some(3));
-    assert_eq!(rt; queue.items(), [4].as_slice());
-    assert_eq!(rt; queue.take_first(), Some(4));
-    assert_eq!(rt; queue.take_first(), None);
-    let mut list = List::new(rt.alloc());
-    list.push(1)?;
-    list.push(2)?;
-    if let Some(first) = list.items_mut().first_mut() {
-        *first = 7;
-    }
-    let copy = list.copy(rt.alloc())?;
-    assert_eq!(rt; copy.items(), [7, 2].as_slice());
-    assert_eq!(rt; list.pop(), Some(2));
-    assert_eq!(rt; list.items(), [7].as_slice());
-    Ok(())
-}
-
-#[test]
-fn a_pair_is_a_list(rt: HostRuntime) -> Result<(), Fail> {
-    let mut list = List::pair(rt.alloc(), 1, 2);
-    if let Some(first) = list.items_mut().first_mut() {
-        *first = 7;
-    }
-    assert_eq!(rt; list.items(), [7, 2].as_slice());
-    list.push(3)?;
-    assert_eq!(rt; list.items(), [7, 2, 3].as_slice());
-    assert_eq!(rt; list.take_first(), Some(7));
-    let mut list = List::pair(rt.alloc(), 4, 5);
-    assert_eq!(rt; list.pop(), Some(5));
-    assert_eq!(rt; list.items(), [4].as_slice());
-    list.push(6)?;
-    assert_eq!(rt; list.take_first(), Some(4));
-    assert_eq!(rt; list.items(), [6].as_slice());
-    let mut list = List::pair(rt.alloc(), 8, 9);
-    assert_eq!(rt; list.take_first(), Some(8));
-    assert_eq!(rt; list.take_first(), Some(9));
-    assert_eq!(rt; list.take_first(), None);
-    Ok(())
-}
-
-#[test]
-fn a_queue_changes_in_place(rt: HostRuntime) -> Result<(), Fail> {
-    let mut queue = Queue::new(rt.alloc());
-    assert!(rt; queue.is_empty());
-    queue.extend([3, 4, 5].as_slice())?;
-    assert!(rt; queue.items().len() == 3);
-    queue.truncate(2);
-    assert_eq!(rt; queue.items(), [3, 4].as_slice());
-    queue.set_first(7);
-    assert_eq!(rt; queue.first(), Some(7));
-    assert!(rt; !queue.is_empty());
-    Ok(())
-}
-
-#[test]
 fn looking_at_a_world(rt: HostRuntime) -> Result<(), Fail> {
     let mut world = World::new(rt.alloc(), 1)?;
     let five = Command::Num { dest: 1, number: 5 };

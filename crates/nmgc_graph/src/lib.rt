@@ -5,35 +5,27 @@
 //! finaliser queue of each mutator. Every other crate stands on this one, and cites its definitions
 //! (`specs/`) for what a command does.
 //!
-//! It also has the small types that all crates share: `List` and `Queue`, which contracts see as
-//! lists, `Marks`, a set of names, and `NoMemory`, the one answer for want of memory.
+//! `Marks` is a set of names. Lists and the answer for want of memory are those of `nmgc_lists`, named here again.
 #![tactic(auto)]
 
 pub mod change;
 mod closing;
 pub mod command;
 mod giving;
-pub mod list;
 pub mod marks;
-pub mod memory;
 pub mod mutator_state;
 pub mod node;
-pub mod queue;
 mod reach;
 mod readers;
-pub mod room;
 mod search;
 pub mod value;
 pub mod world;
 
 pub use command::{Command, Operand, Reply};
-pub use list::List;
 pub use marks::Marks;
-pub use memory::NoMemory;
 pub use mutator_state::MutatorState;
+pub use nmgc_lists::{List, NoMemory, Queue, Room};
 pub use node::{Kind, Node, Parts};
-pub use queue::Queue;
-pub use room::Room;
 pub use value::{MAKERS, Name, REGISTERS, SHARED_MAKER, SHARED_SLOTS, Value, constants_are_these};
 pub use world::World;
 

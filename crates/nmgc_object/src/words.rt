@@ -153,6 +153,16 @@ pub fn decode_header(word: u64) -> Option<Header>
     }
 }
 
+/// The number of fields in the word of a valid header: that of `decode_header`, where the caller knows that there is
+/// a header, by one shift. Takes no memory.
+#[inline]
+pub fn fields_of(word: u64) -> u32
+    requires { (header : Header) × IsHeader header × (header_word header ≡ word) }
+    ensures { (header : Header) → IsHeader header → header_word header ≡ word → result ≡ header.fields }
+{
+    (word / FIELDS_UNIT) as u32
+}
+
 /// The word of a name. The maker is at most `SHARED_MAKER`, whose one serial is 0. Takes no memory.
 pub fn encode_name(name: Name) -> u64
     requires { IsName name }

@@ -13,7 +13,7 @@ pub struct UpdRem {
 }
 
 impl Model for UpdRem {
-    ghost use Rattle.nmgc_graph.specs.Room.{Room};
+    ghost use Rattle.nmgc_lists.specs.Room.{Room};
     ghost use Rattle.nmgc_object.specs.declared.words.Address.{Address};
 
     ghost Value = { Room Address };

@@ -17,7 +17,7 @@ pub struct Room<T> {
 
 impl<T> Model for Room<T> {
     ghost use Rattle.std.specs.Prelude.{◌-◌, vec_len, vec_capacity};
-    ghost use Rattle.nmgc_graph.specs.Room.{Room, room_code};
+    ghost use Rattle.nmgc_lists.specs.Room.{Room, room_code};
 
     ghost Value = { Room T };
 
@@ -31,7 +31,7 @@ impl<T> Model for Room<T> {
 
 impl<T> Room<T> {
     ghost use Rattle.std.specs.Borrow.{sem};
-    ghost use Rattle.nmgc_graph.specs.RoomLends.{LendsItems};
+    ghost use Rattle.nmgc_lists.specs.RoomLends.{LendsItems};
 
     /// An empty room, with no room for any item. Takes no memory.
     pub fn new(alloc: Global) -> Self

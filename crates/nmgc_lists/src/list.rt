@@ -5,7 +5,7 @@
 //! `pair` spares a long script an allocation for each. Only `push` and `copy` take memory; after a refusal the
 //! list is unchanged. Where the items lie is not part of the list's value: contracts never see it.
 ghost use Rattle.std.specs.Prelude.{◌≡◌, ◌≤◌, [], ◌∷◌, ◌++◌, IfSome, IfNone, IfOk, OnOk, OnErr, vec_capacity};
-ghost use Rattle.nmgc_graph.specs.Items.{items_of, IsFull};
+ghost use Rattle.nmgc_lists.specs.Items.{items_of, IsFull};
 
 use crate::NoMemory;
 use arrayvec::ArrayVec;
@@ -21,7 +21,7 @@ pub struct List<T> {
 
 impl<T> Model for List<T> {
     ghost use Rattle.std.specs.Prelude.{List};
-    ghost use Rattle.nmgc_graph.specs.Items.{items_of, IsFull};
+    ghost use Rattle.nmgc_lists.specs.Items.{items_of, IsFull};
 
     ghost Value = { List T };
 
@@ -40,7 +40,7 @@ enum Items<T> {
 
 impl<T> Items<T> {
     ghost use Rattle.std.specs.Borrow.{sem};
-    ghost use Rattle.nmgc_graph.specs.ItemsLends.{LendsThem};
+    ghost use Rattle.nmgc_lists.specs.ItemsLends.{LendsThem};
 
     fn alloc(&self) -> Global {
         match self {
@@ -211,7 +211,7 @@ impl<T: Drop> Items<T> {
 
 impl<T> List<T> {
     ghost use Rattle.std.specs.Borrow.{sem};
-    ghost use Rattle.nmgc_graph.specs.Lends.{LendsItems};
+    ghost use Rattle.nmgc_lists.specs.Lends.{LendsItems};
 
     /// An empty list. Takes no memory.
     pub fn new(alloc: Global) -> Self

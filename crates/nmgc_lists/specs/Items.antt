@@ -1,7 +1,7 @@
 -- Where the items of a list lie.
 use Rattle.std.specs.Prelude.{◌≡◌, List, length}
-use Rattle.nmgc_graph.specs.declared.list.Items.{Items}
-use Rattle.nmgc_graph.specs.declared.list.Items.TheVariants.{Pair, Single, Many}
+use Rattle.nmgc_lists.specs.declared.list.Items.{Items}
+use Rattle.nmgc_lists.specs.declared.list.Items.TheVariants.{Pair, Single, Many}
 
 module _ {T : Type 0} where
   -- the items in order, wherever they lie

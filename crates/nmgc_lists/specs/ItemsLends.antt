@@ -3,9 +3,9 @@ use Rattle.std.specs.Prelude.{List}
 use Rattle.std.specs.Borrow.{Lends, Fml, RattleType, MutBor, Array}
 use Rattle.std.specs.Vec as vec
 use Rattle.arrayvec.specs.ArrayVec as inline
-use Rattle.nmgc_graph.specs.declared.list.Items.{Items}
-use Rattle.nmgc_graph.specs.declared.list.Items.TheVariants.{Pair, Single, Many}
-use Rattle.nmgc_graph.specs.contracts.list.Items.{the_row}
+use Rattle.nmgc_lists.specs.declared.list.Items.{Items}
+use Rattle.nmgc_lists.specs.declared.list.Items.TheVariants.{Pair, Single, Many}
+use Rattle.nmgc_lists.specs.contracts.list.Items.{the_row}
 
 -- the items that were written, where the old ones lay
 abbrev pub refilled : {T : Type 0} → Items T → List T → Items T

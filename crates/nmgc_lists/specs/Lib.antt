@@ -1,0 +1,5 @@
+pub mod Items
+pub mod ItemsLends
+pub mod Lends
+pub mod Room
+pub mod RoomLends

@@ -1,0 +1,18 @@
+//! Growing lists with one answer for want of memory: `NoMemory`.
+//!
+//! These are the small types that all crates share. `List` and `Queue` are lists to contracts; a `Room` has items and
+//! room for more, so that what mustn't fail in a round can't.
+#![tactic(auto)]
+
+pub mod list;
+pub mod memory;
+pub mod queue;
+pub mod room;
+
+pub use list::List;
+pub use memory::NoMemory;
+pub use queue::Queue;
+pub use room::Room;
+
+#[cfg(test)]
+mod tests;
