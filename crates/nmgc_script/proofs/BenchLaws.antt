@@ -9,8 +9,8 @@ use Rattle.nmgc_graph.specs.Command.{Fits, IsOperand}
 use Rattle.nmgc_graph.specs.declared.command.Command.{Command}
 use Rattle.nmgc_graph.specs.declared.command.Command.TheVariants.{Nil, Set}
 use Rattle.nmgc_graph.specs.declared.command.Operand.TheVariants.{Register, Shared}
-use Rattle.nmgc_script.specs.Limits.{FitsConfig, FitsScript}
-use Rattle.nmgc_script.specs.Bench.{most_batches, list_cells, cell, batch, repeated, bench_program, bench_config, bench_script, HasFewCommands}
+use Rattle.nmgc_script.specs.Limits.{FitsConfig, FitsScript, HasFewCommands}
+use Rattle.nmgc_script.specs.Bench.{most_batches, list_cells, cell, batch, repeated, bench_program, bench_config, bench_script}
 
 -- a list once more
 pub once_more : {A : Type 0} (n : ℕ) (xs : List A) → repeated (n + 1) xs ≡ repeated n xs ++ xs

@@ -40,3 +40,19 @@ fails view f xs i front total d (fault.Bad c) lt h so_far = ends view f xs i fro
 pub fails_bind : {A B : Type 0} (r : Result A Cause) (f : A → Result B Cause) (e : LineFault) → Fails e r → Fails e (r >>= f)
 fails_bind r f fault.NoMemory h = tt
 fails_bind r f (fault.Bad c) h = rw h refl
+
+-- two items are read one after the other
+module _ {A B : Type 0} (f : A → Result B Cause) (x y : A) where
+  pub both_read : (a b : B) → f x ≡ Ok a → f y ≡ Ok b → each_at f (x ∷ y ∷ []) ≡ Ok (a ∷ b ∷ [])
+  unfolding each_at
+  both_read a b p q = rw (p, q) refl
+
+  pub first_fails : (e : LineFault) → Fails e (f x) → Fails e (each_at f (x ∷ y ∷ []))
+  unfolding each_at
+  first_fails fault.NoMemory h = tt
+  first_fails (fault.Bad c) h = rw h refl
+
+  pub second_fails : (a : B) (e : LineFault) → f x ≡ Ok a → Fails e (f y) → Fails e (each_at f (x ∷ y ∷ []))
+  unfolding each_at
+  second_fails a fault.NoMemory p h = tt
+  second_fails a (fault.Bad c) p h = rw (p, h) refl

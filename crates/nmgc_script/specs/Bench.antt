@@ -1,6 +1,5 @@
 -- The bench's script: each of four mutators makes lists, and keeps the last one in a slot of its own.
-use Rattle.std.specs.Prelude.{ℕ, zero, suc, ◌≤◌, List, [], ◌∷◌, ◌++◌, replicate, length, All}
-use Rattle.nmgc_limits.specs.Limits.{most_script_bytes}
+use Rattle.std.specs.Prelude.{ℕ, zero, suc, List, [], ◌∷◌, ◌++◌, replicate}
 use Rattle.nmgc_graph.specs.declared.command.Operand.TheVariants.{Register, Shared}
 use Rattle.nmgc_graph.specs.declared.command.Command.{Command}
 use Rattle.nmgc_graph.specs.declared.command.Command.TheVariants.{Nil, Con, Set}
@@ -44,7 +43,3 @@ bench_script batches = record {
   config = bench_config;
   threads = bench_program batches 0 ∷ bench_program batches 1 ∷ bench_program batches 2 ∷ bench_program batches 3 ∷ [];
 }
-
--- each program has no more commands than a script may have bytes
-abbrev pub HasFewCommands : Script → Type 0
-HasFewCommands script = All (λ (program : List Command). length program ≤ most_script_bytes) script.threads

@@ -1,7 +1,8 @@
 -- The limits of a script.
-use Rattle.std.specs.Prelude.{◌≡◌, ℕ, ◌+◌, ◌*◌, ◌≤◌, length, All}
-use Rattle.nmgc_limits.specs.Limits.{IsSegmentSize, most_heap_words, most_nursery_words, most_quota, most_segments, most_slice, most_trigger}
+use Rattle.std.specs.Prelude.{◌≡◌, ℕ, ◌+◌, ◌*◌, ◌≤◌, List, length, All}
+use Rattle.nmgc_limits.specs.Limits.{IsSegmentSize, most_heap_words, most_nursery_words, most_quota, most_script_bytes, most_segments, most_slice, most_trigger}
 use Rattle.nmgc_graph.specs.Command.{Fits}
+use Rattle.nmgc_graph.specs.declared.command.Command.{Command}
 use Rattle.nmgc_script.specs.declared.script.Config.{Config}
 use Rattle.nmgc_script.specs.declared.script.Script.{Script}
 use Rattle.nmgc_script.specs.declared.version.Version.{Version}
@@ -35,3 +36,7 @@ pub record FitsScript (s : Script) : Type 0 where
   pub threads : length s.threads ≤ version_1.threads
   pub total : total_words s.config (length s.threads) ≤ most_heap_words
   pub commands : All (λ program. All (Fits s.config.words) program) s.threads
+
+-- each program has no more commands than a script may have bytes
+abbrev pub HasFewCommands : Script → Type 0
+HasFewCommands script = All (λ (program : List Command). length program ≤ most_script_bytes) script.threads

@@ -4,7 +4,7 @@
 //! the version's choice, so it reads the words of a command. Easy to get wrong: the empty word, which
 //! two spaces in a row make, is none of these.
 ghost use Rattle.nmgc_script.specs.Reading.{Gives, number_at, register_at, operand_at, long_at, short_at, tag_at, each_at};
-ghost use Rattle.std.specs.Prelude.{◌≤◌, map, IfOk};
+ghost use Rattle.std.specs.Prelude.{[], ◌∷◌, ◌≤◌, map, IfOk};
 
 use crate::version::Version;
 use crate::{Cause, LineFault};
@@ -87,10 +87,22 @@ impl Version {
         Ok(Operand::Register(self.register(word)?))
     }
 
-    /// As many operands as there are words.
+    // Two operands. They lie in the list itself, so no memory is taken.
+    fn pair(self, alloc: Global, first: &[u8], second: &[u8]) -> Result<List<Operand>, LineFault>
+        ensures { Gives result (each_at (operand_at self) (first.now ∷ second.now ∷ [])) }
+    {
+        let first = self.operand(first)?;
+        let second = self.operand(second)?;
+        Ok(List::pair(alloc, first, second))
+    }
+
+    /// As many operands as there are words. Two take no memory.
     pub fn operands(self, alloc: Global, words: &[&[u8]]) -> Result<List<Operand>, LineFault>
         ensures { Gives result (each_at (operand_at self) (map (λ w. w.now) words.now)) }
     {
+        if let [first, second] = words {
+            return self.pair(alloc, first, second);
+        }
         let mut operands = List::new(alloc);
         for word in words {
             operands.push(self.operand(word)?)?;

@@ -1,7 +1,7 @@
 use Rattle.std.proofs.Common.{◌≡◌, ◌∙◌, List, sym, subst}
 use Rattle.nmgc_graph.specs.declared.command.Command.{Command}
-use Rattle.nmgc_script.specs.Limits.{FitsScript}
-use Rattle.nmgc_script.specs.Bench.{bench_config, bench_script, HasFewCommands}
+use Rattle.nmgc_script.specs.Limits.{FitsScript, HasFewCommands}
+use Rattle.nmgc_script.specs.Bench.{bench_config, bench_script}
 use Rattle.nmgc_script.proofs.BenchLaws.{bench_fits, bench_is_short, same_four}
 use Rattle.nmgc_script.proofs.bench.generate.Goals as goal
 
