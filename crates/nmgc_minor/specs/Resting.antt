@@ -1,6 +1,6 @@
 -- The working lists between two promotions.
 use Rattle.std.specs.Prelude.{ℕ, ◌≡◌, ◌≢◌, ◌+◌, ◌<◌, ◌≤◌, [], length, slice_index}
-use Rattle.nmgc_graph.specs.Room.{Room}
+use Rattle.nmgc_lists.specs.Room.{Room}
 use Rattle.nmgc_minor.specs.declared.placing.Move.{Move}
 use Rattle.nmgc_minor.specs.declared.young.Young.{Young}
 use Rattle.nmgc_minor.specs.Young.{IsIn}

@@ -14,7 +14,7 @@ use crate::placing::Move;
 use nmgc_graph::SHARED_SLOTS;
 use nmgc_heap::HeapWords;
 use nmgc_object::laws::words_differ;
-use nmgc_object::{Address, HEADER_WORDS, SHARED_PLACE, decode_header};
+use nmgc_object::{Address, HEADER_WORDS, SHARED_PLACE, fields_of};
 
 /// The word once what it points to has moved: a pointer to an object with a new place points there,
 /// and every other word is left.
@@ -43,8 +43,18 @@ pub fn forward_words(table: &[u32], base: u32, words: &mut [u64])
     }
 }
 
-// Forwards the word at a place. A word that stays is not stored: in the table of a run a store costs
-// several loads.
+// Stores a word at a place. One that stands there is not stored again: in the table of a run a store costs several
+// loads, and a block that is used again is often given words that it had.
+fn put<W: HeapWords>(words: &mut W, at: usize, word: u64)
+    requires { at < length (W.words words.old) }
+    ensures { W.words words.new ≡ set (W.words words.old) at word }
+{
+    if words.load(at) != word {
+        words.store(at, word);
+    }
+}
+
+// Forwards the word at a place. One that stays is not stored, for the same reason.
 fn forward_at<W: HeapWords>(table: &[u32], base: u32, words: &mut W, at: usize)
     requires { at < length (W.words words.old) }
     ensures { W.words words.new ≡ set (W.words words.old) at (forward_word table.now base (slice_index (W.words words.old) at)) }
@@ -95,7 +105,7 @@ fn copy_fields<W: HeapWords>(
     let target = to as usize + HEADER_WORDS as usize;
     for i in 0..count as usize {
         let word = words.load(source + i);
-        words.store(target + i, forwarded(table, base, word));
+        put(words, target + i, forwarded(table, base, word));
     }
 }
 
@@ -105,12 +115,7 @@ fn field_count<W: HeapWords>(words: &mut W, from: u32) -> u32
     ensures count { (header : Header) → HasHeaderWord (W.words words.old) from header → result ≡ header.fields }
     ensures same { W.words words.new ≡ W.words words.old }
 {
-    words_differ();
-    let word = words.load(from as usize);
-    match decode_header(word) {
-        None => unreachable!(),
-        Some(header) => header.fields,
-    }
+    fields_of(words.load(from as usize))
 }
 
 // Copies a word to another place.
@@ -120,7 +125,7 @@ fn copy_word<W: HeapWords>(words: &mut W, from: usize, to: usize)
     ensures { W.words words.new ≡ set (W.words words.old) to (slice_index (W.words words.old) from) }
 {
     let word = words.load(from);
-    words.store(to, word);
+    put(words, to, word);
 }
 
 // Copies an object, its fields forwarded.

@@ -17,7 +17,7 @@ use nmgc_alloc::Segments;
 use nmgc_graph::{Name, Room};
 use nmgc_heap::HeapWords;
 use nmgc_object::laws::words_differ;
-use nmgc_object::{Address, HEADER_WORDS, class_of, decode_header, decode_name};
+use nmgc_object::{Address, HEADER_WORDS, class_of, decode_name, fields_of};
 
 /// An object that was moved: its name, the place in the nursery, and the place in a segment.
 #[derive(Clone, Copy, Debug, PartialEq, Eq)]
@@ -35,12 +35,7 @@ fn object_words<W: HeapWords>(words: &mut W, from: u32) -> u32
     ensures most { result ≤ 4096 }
     ensures same { W.words words.new ≡ W.words words.old }
 {
-    words_differ();
-    let word = words.load(from as usize);
-    match decode_header(word) {
-        None => unreachable!(),
-        Some(header) => HEADER_WORDS + header.fields,
-    }
+    HEADER_WORDS + fields_of(words.load(from as usize))
 }
 
 /// Gives an object a block of the least class that holds it.

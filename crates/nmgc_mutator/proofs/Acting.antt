@@ -7,7 +7,7 @@ use Rattle.nmgc_graph.specs.declared.command.Operand.{Operand}
 use Rattle.nmgc_graph.specs.declared.command.Reply.{Reply}
 use Rattle.nmgc_graph.specs.declared.command.Reply.TheVariants as reply
 use Rattle.nmgc_graph.specs.World.{given}
-use Rattle.nmgc_graph.specs.Room.{Room}
+use Rattle.nmgc_lists.specs.Room.{Room}
 use Rattle.nmgc_graph.specs.Command.{IsMaking, words_made}
 use Rattle.nmgc_object.specs.declared.layout.Layout.{Layout}
 use Rattle.nmgc_object.specs.declared.words.Address.{Address}

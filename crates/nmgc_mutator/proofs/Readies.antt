@@ -17,7 +17,7 @@ use Rattle.nmgc_object.specs.declared.words.TheConstants.{TAG_UNIT}
 use Rattle.nmgc_round.specs.Seat.{RoundSeat, IsAt, Knows, seen, word_count}
 use Rattle.std.specs.Prelude.{Contains}
 use Rattle.nmgc_graph.specs.laws.Orders.{contains_head, contains_tail}
-use Rattle.nmgc_graph.specs.Room.{Room}
+use Rattle.nmgc_lists.specs.Room.{Room}
 use Rattle.nmgc_object.specs.declared.words.Address.{Address}
 use Rattle.nmgc_object.specs.FinQueue.{FinQueue}
 use Rattle.nmgc_graph.specs.declared.value.Name.{Name}

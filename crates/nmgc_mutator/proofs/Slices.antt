@@ -23,7 +23,8 @@ use Rattle.std.proofs.lemmas.List.Elements.{All-get_or}
 use Rattle.nmgc_graph.specs.Command.{Fits}
 use Rattle.nmgc_mutator.specs.Records.{numbers, noted_by, all_recorded, weaks_by, all_weaks, pushed_at, all_pushed}
 use Rattle.nmgc_mutator.specs.Does.{HasDone, IsYield}
-use Rattle.nmgc_mutator.specs.Slice.{IsRunning, HasRoom, HasRun, GoesOn, IsEnd, Ended, tried, next_turn, passed, turned}
+use Rattle.nmgc_round.specs.Gate.{next_turn, passed}
+use Rattle.nmgc_mutator.specs.Slice.{IsRunning, HasRoom, HasRun, GoesOn, IsEnd, Ended, tried, turned}
 use Rattle.nmgc_mutator.proofs.Readies.{went_both, hand_along, kept_items}
 use Rattle.nmgc_mutator.proofs.Births.{last_case}
 use Rattle.nmgc_mutator.proofs.Steps.{ready_turned}

@@ -1,7 +1,7 @@
 -- What a step comes to.
 use Rattle.std.proofs.Common.{◌≡◌, ◌+◌, ◌≤◌, ℕ, sym, subst, ap, refl, ◌∙◌, arith, List, [], ◌∷◌, ◌++◌, Bool, ◌*◌}
 use Rattle.nmgc_graph.specs.Command.{IsMaking, words_made}
-use Rattle.nmgc_graph.specs.Room.{Room}
+use Rattle.nmgc_lists.specs.Room.{Room}
 use Rattle.nmgc_graph.specs.declared.command.Command.{Command}
 use Rattle.nmgc_graph.specs.declared.command.Reply.{Reply}
 use Rattle.nmgc_round.specs.declared.table.Round.{Round}

@@ -5,7 +5,7 @@
 use Rattle.std.specs.Prelude.{◌≡◌, ℕ, ◌+◌, ◌-◌, ◌<◌, ◌≤◌, List, [], ◌∷◌, ◌++◌}
 use Rattle.nmgc_graph.specs.declared.node.Kind.{Kind}
 use Rattle.nmgc_graph.specs.declared.node.Kind.TheVariants as kind
-use Rattle.nmgc_graph.specs.Room.{Room}
+use Rattle.nmgc_lists.specs.Room.{Room}
 use Rattle.nmgc_object.specs.declared.words.Address.{Address}
 use Rattle.nmgc_graph.specs.declared.command.Command.{Command}
 use Rattle.nmgc_graph.specs.declared.command.Command.TheVariants.{Num, Nil, Mov, Get, Set, Weak, Update, Finalise, Show, Same, Yield, Collect, Full}

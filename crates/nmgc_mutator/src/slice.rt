@@ -7,7 +7,8 @@ ghost use Rattle.nmgc_graph.specs.Command.{Fits};
 ghost use Rattle.nmgc_round.specs.Seat.{seen};
 ghost use Rattle.nmgc_mutator.specs.Ready.{IsReady};
 ghost use Rattle.nmgc_mutator.specs.Does.{IsYield};
-ghost use Rattle.nmgc_mutator.specs.Slice.{HasRoom, HasRun, IsEnd, Ended, next_turn, passed, tried, turned};
+ghost use Rattle.nmgc_round.specs.Gate.{next_turn, passed};
+ghost use Rattle.nmgc_mutator.specs.Slice.{HasRoom, HasRun, IsEnd, Ended, tried, turned};
 
 use crate::mutator::{Mutator, Slice, SliceEnd, Step};
 use nmgc_graph::Command;

@@ -1,10 +1,11 @@
 -- The steps of a round with one opening, at a seat that holds no slot.
-use Rattle.std.proofs.Common.{◌≡◌, ℕ, zero, suc, ◌+◌, inr, List, [], ◌∷◌, set, refl, sym, ap, subst}
+use Rattle.std.proofs.Common.{◌≡◌, ℕ, zero, suc, ◌+◌, inr, Bool, true, false, eqb, List, [], ◌∷◌, set, refl, sym, ap, subst}
+use Rattle.std.proofs.lemmas.Bool.{eqb-true}
 use Rattle.std.specs.Prelude.{slice_index}
 use Rattle.atomic_table.specs.Table.{State, Me, Allows, keeps}
 use Rattle.nmgc_graph.specs.declared.command.Command.{Command}
 use Rattle.nmgc_object.specs.declared.size.TheConstants.{HEADER_WORDS}
-use Rattle.nmgc_round.specs.View.{word, Opening, Seen, loaded, answered, swapped, stored, gave_birth}
+use Rattle.nmgc_round.specs.View.{word, Opening, Seen, loaded, answered, swapped, met, met_at_birth, stored, gave_birth}
 use Rattle.nmgc_core.specs.declared.event.Entry.{Entry}
 use Rattle.nmgc_round.specs.Marking.{marks_after}
 use Rattle.nmgc_round.specs.Rule.{Keeps}
@@ -13,7 +14,7 @@ use Rattle.nmgc_round.specs.Told.{CanFix, CanTake, taken, Tells, TellsField, Tel
 use Rattle.nmgc_round.proofs.Fixes.{fix_keeps, fix_room, take_keeps, take_safe, queue_safe, load_safe, swap_safe}
 use Rattle.nmgc_round.proofs.Scans.{scan_keeps, scan_tells}
 use Rattle.nmgc_round.proofs.Moves.{load_keeps, swap_keeps, store_keeps, birth_keeps}
-use Rattle.nmgc_round.proofs.Keeping.{acts}
+use Rattle.nmgc_round.proofs.Keeping.{acts, same_law}
 
 pub set_again : (ws : List ℕ) (i : ℕ) → set ws i (slice_index ws i) ≡ ws
 set_again [] i = refl
@@ -60,6 +61,32 @@ module _ (o : Opening) where
     birth_allows at header c can s h len here small =
         let is = (h.agrees id me.0 here).opening (acts me.0 can.0 can.1) in
         (gave_birth me.0 at header c, keeps, tt, (birth_keeps o s.words s.views h id me.0 here can.0 can.1 at header c (subst (λ (y : Opening). CanBear y can.0 at header c) is can.2)).1, (refl, bare))
+
+    pub meet_allows : (i wanted : ℕ) → Mutates (λ o p. CanStore o p i) me.0 → Steps i (λ n. n) (λ n w. w ≡ met me.0 i wanted (eqb n wanted))
+    meet_allows i wanted can s h len here small = (met me.0 i wanted (eqb n wanted), keeps, tt, kept (eqb n wanted) refl, (refl, bare))
+      where
+        n : ℕ
+        n = slice_index s.words i
+
+        is : me.0.opening ≡ o
+        is = (h.agrees id me.0 here).opening (acts me.0 can.0 can.1)
+
+        kept : (hit : Bool) → eqb n wanted ≡ hit → Keeps o (set s.words i n) (set s.views id (met me.0 i wanted hit))
+        kept true e = subst (λ (w : ℕ). Keeps o (set s.words i w) (set s.views id (stored me.0 i wanted))) (sym (eqb-true n wanted e)) (store_keeps o s.words s.views h id me.0 here can.0 can.1 i wanted (subst (λ (y : Opening). CanStore y can.0 i) is can.2)).0
+        kept false e = unchanged s.words (set s.views id me.0) i (same_law o s.words s.views h id me.0 here me.0 (h.agrees id me.0 here)).0
+
+    pub meet_birth_allows : (at header : ℕ) (c : Command) → Mutates (λ o p. CanBear o p at header c) me.0 → Steps at (λ n. n) (λ n w. w ≡ met_at_birth me.0 at header c (eqb n header))
+    meet_birth_allows at header c can s h len here small = (met_at_birth me.0 at header c (eqb n header), keeps, tt, kept (eqb n header) refl, (refl, bare))
+      where
+        n : ℕ
+        n = slice_index s.words at
+
+        is : me.0.opening ≡ o
+        is = (h.agrees id me.0 here).opening (acts me.0 can.0 can.1)
+
+        kept : (hit : Bool) → eqb n header ≡ hit → Keeps o (set s.words at n) (set s.views id (met_at_birth me.0 at header c hit))
+        kept true e = subst (λ (w : ℕ). Keeps o (set s.words at w) (set s.views id (gave_birth me.0 at header c))) (sym (eqb-true n header e)) (birth_keeps o s.words s.views h id me.0 here can.0 can.1 at header c (subst (λ (y : Opening). CanBear y can.0 at header c) is can.2)).1
+        kept false e = unchanged s.words (set s.views id me.0) at (same_law o s.words s.views h id me.0 here me.0 (h.agrees id me.0 here)).0
 
     pub fix_allows : (at offset : ℕ) → Mutates (λ o p. CanFix o p at offset) me.0 → Steps (at + offset) (λ n. n) (λ n w. (w ≡ loaded me.0 at offset n) × Tells me.0.opening at offset n)
     fix_allows at offset can s h len here small =

@@ -1,12 +1,12 @@
 -- The rule in its two modes: a step of a round finds the round, a step at a stop finds the stop.
-use Rattle.std.proofs.Common.{◌≡◌, ℕ, zero, suc, ◌+◌, Bool, true, false, cond, ◌||◌, ◌≢◌, ◌⊎◌, inl, inr, ⊎_elim, List, [], ◌∷◌, ◌++◌, refl, sym, ap, ◌∙◌, subst, set, slice_index, true≢false, append-nil}
+use Rattle.std.proofs.Common.{◌≡◌, ℕ, zero, suc, ◌+◌, Bool, true, false, cond, ◌||◌, ◌≢◌, ◌⊎◌, inl, inr, ⊎_elim, List, [], ◌∷◌, ◌++◌, refl, sym, ap, ◌∙◌, subst, set, slice_index, eqb, true≢false, append-nil}
 use mathlib.Core.Option.{some, some-injective, some-ne-none}
 use lib.ListN.{get_elem?}
 use Rattle.atomic_table.specs.Table.{State, Me, Allows, Splits, Joins, Final, Seen as SeenIn, keeps}
 use Rattle.atomic_table.proofs.Lists.{at_set}
 use Rattle.nmgc_graph.specs.declared.command.Command.{Command}
 use Rattle.nmgc_object.specs.declared.size.TheConstants.{HEADER_WORDS}
-use Rattle.nmgc_round.specs.View.{word, Opening, Part, Seen, exclusive, whole, nobody, loaded, answered, swapped, stored, gave_birth}
+use Rattle.nmgc_round.specs.View.{word, Opening, Part, Seen, exclusive, whole, nobody, loaded, answered, swapped, met, met_at_birth, stored, gave_birth}
 use Rattle.nmgc_round.specs.Seating.{CanSplit, keeps_rest, gives_first, mutates, collecting, together}
 use Rattle.nmgc_round.specs.Rule.{IsActive, IsIdle, Keeps, Stopped, Holding}
 use Rattle.nmgc_round.specs.Starting.{CanOpen}
@@ -92,6 +92,12 @@ module _ (slots id : ℕ) (me : Me (Unit {0}) Seen) (bare : me.1 ≡ []) where
 
   pub birth_allows : (at header : ℕ) (c : Command) → Mutates (λ o p. CanBear o p at header c) me.0 → Steps at (λ _. header) (λ n w. w ≡ gave_birth me.0 at header c)
   birth_allows at header c can = within at (λ _. header) (λ n w. w ≡ gave_birth me.0 at header c) (acts me.0 can.0 can.1) (λ o. allows.birth_allows o slots id me bare at header c can)
+
+  pub meet_allows : (i wanted : ℕ) → Mutates (λ o p. CanStore o p i) me.0 → Steps i (λ n. n) (λ n w. w ≡ met me.0 i wanted (eqb n wanted))
+  meet_allows i wanted can = within i (λ n. n) (λ n w. w ≡ met me.0 i wanted (eqb n wanted)) (acts me.0 can.0 can.1) (λ o. allows.meet_allows o slots id me bare i wanted can)
+
+  pub meet_birth_allows : (at header : ℕ) (c : Command) → Mutates (λ o p. CanBear o p at header c) me.0 → Steps at (λ n. n) (λ n w. w ≡ met_at_birth me.0 at header c (eqb n header))
+  meet_birth_allows at header c can = within at (λ n. n) (λ n w. w ≡ met_at_birth me.0 at header c (eqb n header)) (acts me.0 can.0 can.1) (λ o. allows.meet_birth_allows o slots id me bare at header c can)
 
   pub fix_allows : (at offset : ℕ) → Mutates (λ o p. CanFix o p at offset) me.0 → Steps (at + offset) (λ n. n) (λ n w. (w ≡ loaded me.0 at offset n) × Tells me.0.opening at offset n)
   fix_allows at offset can = within (at + offset) (λ n. n) (λ n w. (w ≡ loaded me.0 at offset n) × Tells me.0.opening at offset n) (acts me.0 can.0 can.1) (λ o. allows.fix_allows o slots id me bare at offset can)

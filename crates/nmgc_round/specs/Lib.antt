@@ -3,6 +3,7 @@ pub mod Compare
 pub mod Empty
 pub mod Events
 pub mod Finishing
+pub mod Gate
 pub mod Making
 pub mod Marking
 pub mod Naming

@@ -198,6 +198,11 @@ loaded v at offset w = changing (λ p. knowing p at offset w) v
 abbrev pub stored : Seen → ℕ → ℕ → Seen
 stored v at w = changing (λ p. storing p at w) v
 
+-- the view after a load where no object is yet: it names the word that was to be stored there, if that is the one found
+abbrev pub met : Seen → ℕ → ℕ → Bool → Seen
+met v at w true = stored v at w
+met v at w false = v
+
 -- the view after a command with its answer
 abbrev pub answered : Seen → Command → Answer → Seen
 answered v c a = changing (λ p. doing p c a []) v
@@ -222,6 +227,11 @@ next_of o p = record { maker = p.number; serial = (hand_now o p).serial }
 -- the view after a birth at a place
 abbrev pub gave_birth : Seen → ℕ → ℕ → Command → Seen
 gave_birth v at header c = changing (λ p. doing (bearing_object p at (words_made c) header (name_word (next_of v.opening p))) c (word (2 * at)) []) v
+
+-- the view after a load at the place of a birth: it is that after the birth, if the header is the one found
+abbrev pub met_at_birth : Seen → ℕ → ℕ → Command → Bool → Seen
+met_at_birth v at header c true = gave_birth v at header c
+met_at_birth v at header c false = v
 
 -- the view of a collector after one more scan
 abbrev pub scanning : Seen → Scan → Seen

@@ -4,10 +4,10 @@
 //! type a kind, and nothing else: that the rule holds after the step is asked where the step is taken. A kind has
 //! no place for a command or a place in the heap, so those come by a type parameter, which each public step
 //! picks from its own arguments.
-ghost use Rattle.std.specs.Prelude.{◌≡◌, ℕ, [], set, slice_index};
+ghost use Rattle.std.specs.Prelude.{◌≡◌, ◌==◌, ℕ, [], set, slice_index};
 ghost use Rattle.nmgc_graph.specs.declared.command.Command.{Command};
 ghost use Rattle.nmgc_graph.specs.declared.command.Command.TheVariants.{Yield};
-ghost use Rattle.nmgc_round.specs.View.{Opening, no_opening, word, answered, swapped, stored, loaded, gave_birth, whole, exclusive, nobody};
+ghost use Rattle.nmgc_round.specs.View.{Opening, no_opening, word, answered, swapped, met, met_at_birth, stored, loaded, gave_birth, whole, exclusive, nobody};
 ghost use Rattle.nmgc_round.specs.Ready.{Mutates, scanned_by};
 ghost use Rattle.nmgc_round.specs.Told.{taken, Tells, TellsField, TellsQueue, TellsScan, IsSafe};
 ghost use Rattle.nmgc_round.specs.Seating.{keeps_rest, gives_first, mutates, collecting, together};
@@ -39,6 +39,15 @@ impl Located for Brand {
     ghost at = { 0 };
 
     ghost offset = { 0 };
+}
+
+/// The word that a load hopes to find.
+pub trait Hoped {
+    ghost word: { ℕ };
+}
+
+impl Hoped for Brand {
+    ghost word = { 0 };
 }
 
 /// The opening with which a round begins.
@@ -134,11 +143,30 @@ impl<C: Asked> Play<(), View> for Swaps<C> {
     ghost then = { λ s m n w. ((w.0 ≡ swapped m.0 C.command n) × IsSafe m.0.opening n) × (w.1 ≡ []) };
 }
 
+/// A word is loaded where no object is yet.
+pub struct Meets<H> {
+    hoped: PhantomData<H>,
+}
+
+impl<H: Hoped> Play<(), View> for Meets<H> {
+    ghost then = { λ s m n w. (w.0 ≡ met m.0 s.word H.word (n == H.word)) × (w.1 ≡ []) };
+}
+
 /// A word is stored where no object is yet.
 pub struct Stores;
 
 impl Play<(), View> for Stores {
     ghost then = { λ s m n w. (w.0 ≡ stored m.0 s.word s.first) × (w.1 ≡ []) };
+}
+
+/// A word is loaded where an object is to begin.
+pub struct MeetsHeader<H, C> {
+    hoped: PhantomData<H>,
+    asked: PhantomData<C>,
+}
+
+impl<H: Hoped, C: Asked> Play<(), View> for MeetsHeader<H, C> {
+    ghost then = { λ s m n w. (w.0 ≡ met_at_birth m.0 s.word H.word C.command (n == H.word)) × (w.1 ≡ []) };
 }
 
 /// A header is stored last.

@@ -16,12 +16,14 @@
 //! any object, so nobody can come across it half made.
 ghost use Rattle.std.specs.Prelude.{◌≡◌, ◌+◌, ◌<◌, MatchOption, IfNone, IfSome};
 ghost use Rattle.nmgc_object.specs.declared.size.TheConstants.{HEADER_WORDS};
-ghost use Rattle.nmgc_round.specs.View.{word, loaded, answered, swapped, stored, gave_birth};
+ghost use Rattle.nmgc_round.specs.View.{word, loaded, answered, swapped, met, met_at_birth, stored, gave_birth};
 ghost use Rattle.nmgc_round.specs.Ready.{Mutates, CanScan, scanned_by, CanLoad, CanSwap, CanStore, CanBear};
 ghost use Rattle.nmgc_round.specs.Told.{CanFix, CanTake, taken, Tells, TellsField, TellsQueue, TellsScan, IsSafe};
 ghost use Rattle.nmgc_round.specs.Seat.{IsAt, Knows, seen, word_count};
 
-use crate::plays::{Asked, Births, Fixes, Loads, Located, Scans, Stores, Swaps, Takes};
+use crate::plays::{
+    Asked, Births, Fixes, Hoped, Loads, Located, Meets, MeetsHeader, Scans, Stores, Swaps, Takes,
+};
 use crate::table::{CollectorSeat, MutatorSeat, Round};
 use nmgc_graph::Command;
 use nmgc_object::{Address, HEADER_WORDS};
@@ -192,9 +194,22 @@ impl Round {
         self.swap_asked::<Brand>(seat, at, field, word, command)
     }
 
-    /// Stores a word of the own nursery that is in no born object, where none was stored yet. The seat's view
-    /// names it until an object is born there.
-    pub fn store_unborn(&self, seat: &mut MutatorSeat, at: Address, offset: u32, word: u64)
+    // Whether a word where no object is yet is this one. If so, the seat's view names it.
+    fn meets<H: Hoped>(&self, seat: &mut MutatorSeat, at: Address, offset: u32, word: u64) -> bool
+        requires seat { IsAt self.now seat.old }
+        requires hoped { H.word ≡ word }
+        requires ready { Mutates (λ o p. CanStore o p (at.0 + offset)) (seen seat.old) }
+        requires within { at.0 + offset < word_count self.now }
+        ensures { Knows self.now seat.old seat.new (met (seen seat.old) (at.0 + offset) word result) }
+    {
+        self.table
+            .shared
+            .load::<Meets<H>>(seat, at.0 as usize + offset as usize)
+            == word
+    }
+
+    // Stores a word where no object is yet.
+    fn store_there(&self, seat: &mut MutatorSeat, at: Address, offset: u32, word: u64)
         requires seat { IsAt self.now seat.old }
         requires ready { Mutates (λ o p. CanStore o p (at.0 + offset)) (seen seat.old) }
         requires within { at.0 + offset < word_count self.now }
@@ -203,6 +218,42 @@ impl Round {
         self.table
             .shared
             .store::<Stores>(seat, at.0 as usize + offset as usize, word)
+    }
+
+    /// Stores a word of the own nursery that is in no born object, where none was stored yet. The seat's view
+    /// names it until an object is born there. A nursery is filled again in every round, often with the same words,
+    /// and a store of the table costs several loads: so the word is looked at first, and one that is there stays.
+    pub fn store_unborn(&self, seat: &mut MutatorSeat, at: Address, offset: u32, word: u64)
+        requires seat { IsAt self.now seat.old }
+        requires ready { Mutates (λ o p. CanStore o p (at.0 + offset)) (seen seat.old) }
+        requires within { at.0 + offset < word_count self.now }
+        ensures { Knows self.now seat.old seat.new (stored (seen seat.old) (at.0 + offset) word) }
+    {
+        if !self.meets::<Brand>(seat, at, offset, word) {
+            self.store_there(seat, at, offset, word);
+        }
+    }
+
+    // Whether the word where an object is to begin is its header. If so, this is its birth.
+    fn meets_header<H: Hoped, C: Asked>(
+        &self,
+        seat: &mut MutatorSeat,
+        at: Address,
+        header: u64,
+        command: &Command,
+    ) -> bool
+        requires seat { IsAt self.now seat.old }
+        requires hoped { H.word ≡ header }
+        requires asked { C.command ≡ command.now }
+        requires ready { Mutates (λ o p. CanBear o p at.0 header command.now) (seen seat.old) }
+        requires within { at.0 < word_count self.now }
+        ensures { Knows self.now seat.old seat.new (met_at_birth (seen seat.old) at.0 header command.now result) }
+    {
+        let _ = command;
+        self.table
+            .shared
+            .load::<MeetsHeader<H, C>>(seat, at.0 as usize)
+            == header
     }
 
     fn birth_asked<C: Asked>(
@@ -226,13 +277,17 @@ impl Round {
 
     /// Stores the header of a new object, where the rest of the own nursery begins. Its name and fields were
     /// stored there before. The command that makes it takes its place here, and its row has the object's
-    /// place as its answer. From then on the view names header and name, and no unborn word.
+    /// place as its answer. From then on the view names header and name, and no unborn word. As in `store_unborn`
+    /// a header that stands there stays, from an object of an earlier round, to which nothing refers; the look that
+    /// finds it is the birth.
     pub fn give_birth(&self, seat: &mut MutatorSeat, at: Address, header: u64, command: &Command)
         requires seat { IsAt self.now seat.old }
         requires ready { Mutates (λ o p. CanBear o p at.0 header command.now) (seen seat.old) }
         requires within { at.0 < word_count self.now }
         ensures { Knows self.now seat.old seat.new (gave_birth (seen seat.old) at.0 header command.now) }
     {
-        self.birth_asked::<Brand>(seat, at, header, command)
+        if !self.meets_header::<Brand, Brand>(seat, at, header, command) {
+            self.birth_asked::<Brand>(seat, at, header, command);
+        }
     }
 }

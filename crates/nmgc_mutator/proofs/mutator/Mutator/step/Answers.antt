@@ -1,5 +1,5 @@
 use Rattle.std.proofs.Common.{refl, sym, subst, arith, ap, ◌∙◌}
-use Rattle.nmgc_graph.specs.Room.{Room}
+use Rattle.nmgc_lists.specs.Room.{Room}
 use Rattle.nmgc_object.specs.declared.words.Address.{Address}
 use Rattle.nmgc_object.specs.declared.words.Header.{Header}
 use Rattle.nmgc_mutator.specs.declared.mutator.Step.{Step}
