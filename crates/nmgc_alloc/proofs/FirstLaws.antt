@@ -1,20 +1,25 @@
 -- All segments before their first use.
-use Rattle.std.proofs.Common.{ℕ, ◌≡◌, ◌+◌, ◌-◌, ◌*◌, ◌/◌, ◌^◌, ◌<◌, ◌≤◌, ◌∙◌, inl, inr, refl, ap, subst, sym, arith, List, length, replicate, slice_index}
-use Rattle.std.proofs.Math.ListN.{length-replicate}
+use Rattle.std.proofs.Common.{ℕ, ◌≡◌, ◌≢◌, ◌+◌, ◌-◌, ◌*◌, ◌/◌, ◌^◌, ◌<◌, ◌≤◌, ◌∙◌, inl, inr, refl, ap, subst, sym, arith, List, length, set, replicate, false}
+use Rattle.std.proofs.Math.ListN.{length-replicate, length-set}
 use Rattle.std.proofs.Math.Pow.{pow-lt}
 use Rattle.std.proofs.lemmas.Nat.{pow-add}
 use Rattle.std.proofs.lemmas.List.{get_or-replicate}
+use Rattle.std.proofs.lemmas.List.Folds.{sum_by-replicate}
 use Rattle.std.proofs.lemmas.Bool.{cases_lt}
 use Rattle.nmgc_object.specs.declared.layout.Layout.{Layout}
 use Rattle.nmgc_object.specs.Places.{IsLayout, IsSegmentSize}
 use Rattle.nmgc_object.specs.laws.Classes.{power_from_test}
 use Rattle.nmgc_segment.specs.Segment.{Segment, free_segment}
 use Rattle.nmgc_alloc.specs.declared.search.Wanted.TheVariants as wanted
-use Rattle.nmgc_alloc.specs.declared.tables.TheConstants.{CLASSES, PAIRS}
-use Rattle.nmgc_alloc.specs.Search.{nth, Is}
+use Rattle.nmgc_alloc.specs.declared.search.Wanted.{Wanted}
+use Rattle.nmgc_alloc.specs.declared.tables.TheConstants.{KINDS, PAIRS}
+use Rattle.nmgc_alloc.specs.declared.tally.Tally.{Tally}
+use Rattle.nmgc_alloc.specs.Search.{nth, is_wanted, wanted_count, IsTally, IsKind, tally_from, tally_of, tally_place}
 use Rattle.nmgc_alloc.specs.laws.Numbers.{nth_free, unmarked}
-use Rattle.nmgc_alloc.specs.Segments.{Segments, HasNumber, IsMember, IsSegments, IsCurrent, Leads}
+use Rattle.nmgc_alloc.specs.Segments.{Segments, HasNumber, IsMember, IsSegments, IsCurrent, Leads, Tells, filled_count}
+use Rattle.nmgc_alloc.specs.laws.Counts.{one_if, one_filled}
 use Rattle.nmgc_alloc.proofs.OneLaws.{one_of_leads}
+use Rattle.nmgc_alloc.proofs.TallyLaws.{count-replicate, empty_tally, whole_tally, tallies-set, kind_place}
 
 -- four divides the words of a segment
 pub quarters : (words : ℕ) → IsSegmentSize words → 4 * (words / 4) ≡ words
@@ -57,36 +62,59 @@ free_member layout h =
 never_current : (m c : ℕ) (layout : Layout) → IsCurrent m c (free_segment layout.words) → ⊥
 never_current m c layout h = let e = h.0 in cc
 
-never_active : (c : ℕ) (layout : Layout) → Is (wanted.Active c) (free_segment layout.words) → ⊥
-never_active c layout h = let e = h.0 in cc
+-- and is searched for as a free one alone
+not_wanted : (w : Wanted) (words : ℕ) → w ≢ wanted.Free → is_wanted w (free_segment words) ≡ false
+not_wanted wanted.Free words ne = absurd (ne refl)
+not_wanted (wanted.Active c) words ne = refl
+not_wanted wanted.Sweeping words ne = refl
 
-never_sweeping : (layout : Layout) → Is wanted.Sweeping (free_segment layout.words) → ⊥
-never_sweeping layout h = cc
+-- what the tallies tell before the first use
+first_tells : (words n : ℕ) (segments : List Segment) (tallies : List Tally) → segments ≡ replicate n (free_segment words) → tallies ≡ set (replicate KINDS (tally_from 0 n)) 0 (tally_from n 0) → Tells segments tallies 0
+first_tells words n segments tallies is tallies_are =
+    let x = free_segment words in
+    let P : List Segment → Type 0 = λ xs. Tells xs tallies 0 in
+    let xs = replicate n x in
+    let blank = replicate KINDS (tally_from 0 n) in
+    let many : length blank ≡ KINDS = length-replicate {A = Tally} KINDS (tally_from 0 n) in
+    let size : length xs ≡ n = length-replicate {A = Segment} n x in
+    let counted = λ (w : Wanted). count-replicate w n x in
+    let all = counted wanted.Free in
+    let free : IsTally wanted.Free xs (tally_from n 0) = whole_tally wanted.Free xs n (omega (arith, all)) in
+    let others = λ (w : Wanted) (k : IsKind w) (ne : w ≢ wanted.Free).
+    let count = counted w in
+    let one : one_if (is_wanted w x) ≡ 0 = ap one_if (not_wanted w words ne) in
+    let times = ap (λ (v : ℕ). n * v) one in
+    let none : wanted_count w xs ≡ 0 = omega (arith, count, times) in
+    let found : tally_of blank w ≡ tally_from 0 n = get_or-replicate KINDS (tally_place w) (tally_from 0 n) (tally_from 0 0) (kind_place w k) in
+    subst (λ (t : Tally). IsTally w xs t) (sym found) (empty_tally w xs n (sym size) none) in
+    let each = tallies-set (λ w t. IsTally w xs t) wanted.Free blank 0 (tally_from n 0) refl (omega (arith, many)) free others in
+    let filled = sum_by-replicate (λ (t : Segment). one_filled t.state) n x in
+    let tells : Tells xs tallies 0 = record {
+      kinds = ap length tallies_are ∙ length-set blank 0 (tally_from n 0) ∙ many;
+      tally = λ w k. subst (λ (ts : List Tally). IsTally w xs (tally_of ts w)) (sym tallies_are) (each w k);
+      all_filled = sym (let none : filled_count xs ≡ 0 = omega (arith, filled) in none);
+    } in
+    subst P (sym is) tells
 
 -- the invariant of the code before the first use
-pub first_invariant : (layout : Layout) (segments : List Segment) (current active_from : List ℕ) → IsLayout layout → segments ≡ replicate layout.segments (free_segment layout.words) → current ≡ replicate PAIRS 0 → active_from ≡ replicate CLASSES layout.segments → IsSegments (record { layout = layout; segments = segments; fresh = 0 }) × Leads segments current active_from 0 layout.segments
-first_invariant layout segments current active_from h is current_is active_is =
+pub first_invariant : (layout : Layout) (segments : List Segment) (current : List ℕ) (tallies : List Tally) → IsLayout layout → segments ≡ replicate layout.segments (free_segment layout.words) → current ≡ replicate PAIRS 0 → tallies ≡ set (replicate KINDS (tally_from 0 layout.segments)) 0 (tally_from layout.segments 0) → IsSegments (record { layout = layout; segments = segments; fresh = 0 }) × Leads segments current × Tells segments tallies 0
+first_invariant layout segments current tallies h is current_is tallies_are =
     let n = layout.segments in
     let size : length segments ≡ n = ap length is ∙ length-replicate n (free_segment layout.words) in
     let at = λ (i : ℕ) (lt : i < n). ap (λ (xs : List Segment). nth xs i) is ∙ nth_free layout n i lt in
     let first : Segments = record { layout = layout; segments = segments; fresh = 0 } in
     let members = λ (i : ℕ) (exists : HasNumber first i). subst (λ (s : Segment). IsMember layout s) (sym (at i (omega arith))) (free_member layout h) in
-    let leads : Leads segments current active_from 0 n = record {
+    let leads : Leads segments current = record {
       pairs = ap length current_is ∙ length-replicate {A = ℕ} PAIRS 0;
-      classes = ap length active_is ∙ length-replicate CLASSES n;
       owned = λ m c i lm lc exists e. absurd (never_current m c layout (subst (λ (s : Segment). IsCurrent m c s) (at i (omega arith)) e));
-      active = λ c lc.
-          let from : slice_index active_from c ≡ n = ap (λ (xs : List ℕ). slice_index xs c) active_is ∙ get_or-replicate CLASSES c n 0 lc in
-          (omega arith, λ i below e. never_active c layout (subst (λ (s : Segment). Is (wanted.Active c) s) (at i (omega arith)) e));
-      free = (omega arith, λ i below e. absurd (omega arith));
-      sweep = (omega arith, λ i below e. never_sweeping layout (subst (λ (s : Segment). Is wanted.Sweeping s) (at i (omega arith)) e));
     } in (
       record {
         layout = h;
         count = size;
         members = members;
-        one_current = one_of_leads first current active_from 0 n members leads;
+        one_current = one_of_leads first current members leads;
         fresh = omega arith;
       },
       leads,
+      first_tells layout.words n segments tallies is tallies_are,
     )

@@ -10,18 +10,19 @@ use Rattle.nmgc_graph.specs.declared.value.TheConstants.{MAKERS}
 use Rattle.nmgc_object.specs.declared.layout.Layout.{Layout}
 use Rattle.nmgc_segment.specs.Segment.{Segment, IsSegment, HasFree, free_segment, segment_words}
 use Rattle.nmgc_segment.specs.declared.state.State.{State}
-use Rattle.nmgc_segment.specs.declared.state.State.TheVariants.{Free, Current, Active, Filled, Sweeping}
+use Rattle.nmgc_segment.specs.declared.state.State.TheVariants.{Current, Active, Filled}
 use Rattle.nmgc_alloc.specs.declared.tables.TheConstants.{CLASSES, PAIRS}
 use Rattle.nmgc_alloc.specs.declared.search.Wanted.{Wanted}
-use Rattle.nmgc_alloc.specs.declared.search.Wanted.TheVariants as wanted
-use Rattle.nmgc_alloc.specs.Search.{nth, Is, NoneBelow}
+use Rattle.nmgc_alloc.specs.declared.tally.Tally.{Tally}
+use Rattle.nmgc_alloc.specs.Search.{nth, Is, IsTally, IsKind, Leaves, tally_of, tally_place}
 use Rattle.nmgc_alloc.specs.laws.Numbers.{nth-set_same, nth-set_other, each_set}
-use Rattle.nmgc_alloc.specs.Segments.{Segments, IsMember, IsSegments, IsCurrent, IsOpen, HasNoCurrent, SearchesFrom, TakesBlock, CountsFilled, HasNumber, IsOwn, Leads, as_current, filled_count, table_index}
-use Rattle.nmgc_alloc.specs.laws.Counts.{filled_stays, filled_rises}
+use Rattle.nmgc_alloc.proofs.TallyLaws.{current_is_none, filled_is_none, one_kind, other_tally, some_counted, tallies-set, tally_read}
+use Rattle.nmgc_alloc.specs.Segments.{Segments, IsMember, IsSegments, IsCurrent, IsLeast, IsOpen, HasNoCurrent, TakesBlock, CountsFilled, HasNumber, IsOwn, Leads, Tells, as_current, filled_count, table_index}
+use Rattle.nmgc_alloc.specs.laws.Counts.{one_not, filled_same, filled_stays, filled_rises}
 
 -- a mutator has one current segment of a class at most, since the table leads to it
-pub one_of_leads : (s : Segments) (current active : List ℕ) (free_from sweep_from : ℕ) → ((number : ℕ) → HasNumber s number → IsMember s.layout (nth s.segments number)) → Leads s.segments current active free_from sweep_from → (m c a b : ℕ) → IsOwn s m c a → IsOwn s m c b → a ≡ b
-one_of_leads s current active free_from sweep_from members leads m c a b own other =
+pub one_of_leads : (s : Segments) (current : List ℕ) → ((number : ℕ) → HasNumber s number → IsMember s.layout (nth s.segments number)) → Leads s.segments current → (m c a b : ℕ) → IsOwn s m c a → IsOwn s m c b → a ≡ b
+one_of_leads s current members leads m c a b own other =
     let member = members a own.exists in
     let low : m < MAKERS = member.owner m own.is.0 in
     let most = member.sound.class in
@@ -30,33 +31,20 @@ one_of_leads s current active free_from sweep_from members leads m c a b own oth
     sym (leads.owned m c a low few own.exists own.is) ∙ leads.owned m c b low few other.exists other.is
 
 -- the invariant of the code after one segment changed
-pub one_both : (s : Segments) (n fresh : ℕ) (y : Segment) (current active : List ℕ) (free_from sweep_from : ℕ) → IsSegments s → n < length s.segments → IsMember s.layout y → fresh ≤ filled_count (set s.segments n y) → Leads (set s.segments n y) current active free_from sweep_from → IsSegments (record s { segments = set s.segments n y; fresh = fresh }) × Leads (set s.segments n y) current active free_from sweep_from
-one_both s n fresh y current active free_from sweep_from h exists member few leads =
+pub one_both : (s : Segments) (n fresh filled : ℕ) (y : Segment) (current : List ℕ) (tallies : List Tally) → IsSegments s → n < length s.segments → IsMember s.layout y → fresh ≤ filled_count (set s.segments n y) → Leads (set s.segments n y) current → Tells (set s.segments n y) tallies filled → IsSegments (record s { segments = set s.segments n y; fresh = fresh }) × Leads (set s.segments n y) current × Tells (set s.segments n y) tallies filled
+one_both s n fresh filled y current tallies h exists member few leads tells =
     let new : Segments = record s { segments = set s.segments n y; fresh = fresh } in
     let members = λ (i : ℕ) (there : HasNumber new i). each_set (λ _ t. IsMember s.layout t) s.segments n y exists member i (h.members i (rw length-set at there)) in (
       record {
         layout = h.layout;
         count = length-set s.segments n y ∙ h.count;
         members = members;
-        one_current = one_of_leads new current active free_from sweep_from members leads;
+        one_current = one_of_leads new current members leads;
         fresh = few;
       },
       leads,
+      tells,
     )
-
--- no such segment below: the new one isn't such, or lies above
-pub none_below_set : (w : Wanted) (xs : List Segment) (n k : ℕ) (y : Segment) → n < length xs → (n < k → Is w y → ⊥) → NoneBelow w xs k → NoneBelow w (set xs n y) k
-none_below_set w xs n k y exists here none i below = each_set (λ j t. j < k → Is w t → ⊥) xs n y exists here i (none i) below
-
--- a segment in one state isn't in another
-not_active : (m d : ℕ) (y : Segment) → y.state ≡ Current m → Is (wanted.Active d) y → ⊥
-not_active m d y is e = let other = e.0 in cc
-
-not_free : (m : ℕ) (y : Segment) → y.state ≡ Current m → Is wanted.Free y → ⊥
-not_free m y is e = cc
-
-not_sweeping : (m : ℕ) (y : Segment) → y.state ≡ Current m → Is wanted.Sweeping y → ⊥
-not_sweeping m y is e = cc
 
 same_current : (m c m2 c2 : ℕ) (y : Segment) → IsCurrent m c y → IsCurrent m2 c2 y → (m2 ≡ m) × (c2 ≡ c)
 same_current m c m2 c2 y a b =
@@ -72,8 +60,8 @@ pub in_table : (m c : ℕ) → m < MAKERS → c < CLASSES → table_index m c < 
 in_table m c lm lc = omega arith
 
 -- the table of current segments after a segment became current
-open_owned : (xs : List Segment) (n m c index : ℕ) (y : Segment) (current active : List ℕ) (free_from sweep_from : ℕ) → Leads xs current active free_from sweep_from → n < length xs → m < MAKERS → c < CLASSES → index ≡ table_index m c → IsCurrent m c y → HasNone m c xs → (m2 c2 i : ℕ) → m2 < MAKERS → c2 < CLASSES → i < length xs → IsCurrent m2 c2 (nth (set xs n y) i) → slice_index (set current index n) (table_index m2 c2) ≡ i
-open_owned xs n m c index y current active free_from sweep_from h exists lm lc at is none m2 c2 i lm2 lc2 there own =
+open_owned : (xs : List Segment) (n m c index : ℕ) (y : Segment) (current : List ℕ) → Leads xs current → n < length xs → m < MAKERS → c < CLASSES → index ≡ table_index m c → IsCurrent m c y → HasNone m c xs → (m2 c2 i : ℕ) → m2 < MAKERS → c2 < CLASSES → i < length xs → IsCurrent m2 c2 (nth (set xs n y) i) → slice_index (set current index n) (table_index m2 c2) ≡ i
+open_owned xs n m c index y current h exists lm lc at is none m2 c2 i lm2 lc2 there own =
     let inside : index < length current = omega (arith, h.pairs, in_table m c lm lc) in
     elim (cases_eq i n) [
       | inl e ↦
@@ -91,29 +79,35 @@ open_owned xs n m c index y current active free_from sweep_from h exists lm lc a
           ]
     ]
 
--- the tables after a segment became current
-pub open_leads : (xs : List Segment) (n m c index ci a f : ℕ) (y : Segment) (current active : List ℕ) (free_from sweep_from : ℕ) → Leads xs current active free_from sweep_from → n < length xs → m < MAKERS → c < CLASSES → index ≡ table_index m c → ci ≡ c → IsCurrent m c y → HasNone m c xs → (a ≤ length xs) × NoneBelow (wanted.Active c) xs a → (f ≤ length xs) × NoneBelow wanted.Free xs f → Leads (set xs n y) (set current index n) (set active ci a) f sweep_from
-open_leads xs n m c index ci a f y current active free_from sweep_from h exists lm lc at is_class is none act free =
-    let size = length-set xs n y in
+-- the table after a segment became current
+open_leads : (xs : List Segment) (n m c index : ℕ) (y : Segment) (current : List ℕ) → Leads xs current → n < length xs → m < MAKERS → c < CLASSES → index ≡ table_index m c → IsCurrent m c y → HasNone m c xs → Leads (set xs n y) (set current index n)
+open_leads xs n m c index y current h exists lm lc at is none = record {
+  pairs = length-set current index n ∙ h.pairs;
+  owned = λ m2 c2 i lm2 lc2 there own. open_owned xs n m c index y current h exists lm lc at is none m2 c2 i lm2 lc2 (rw length-set at there) own;
+}
+
+-- a current segment isn't filled
+pub current_not_filled : (m : ℕ) (state : State) → state ≡ Current m → state ≡ Filled → ⊥
+current_not_filled m state is e = cc
+
+-- an open segment isn't filled
+open_not_filled : (c : ℕ) (x : Segment) → IsOpen c x → x.state ≡ Filled → ⊥
+open_not_filled c x (inl active) e = let other = active.0 in cc
+open_not_filled c x (inr free) e = cc
+
+-- the tallies after a segment of a kind became current
+open_tells : (v : Wanted) (xs : List Segment) (n m c at segments filled : ℕ) (y : Segment) (tallies : List Tally) (t to : Tally) → Tells xs tallies filled → n < length xs → IsKind v → Is v (nth xs n) → IsOpen c (nth xs n) → ((i : ℕ) → i < n → Is v (nth xs i) → ⊥) → y.state ≡ Current m → at ≡ tally_place v → t ≡ slice_index_or tallies at t → segments ≡ length xs → Leaves n segments t to → Tells (set xs n y) (set tallies at to) filled
+open_tells v xs n m c at segments filled y tallies t to h exists kind was opens none is place read size leaves =
+    let found = tally_read v tallies at t kind h.kinds place read in
+    let before : IsTally v xs t = subst (λ (k : Tally). IsTally v xs k) found.1 (h.tally v kind) in
+    let now = leaves v xs y (sym size) before was none (current_is_none v m y is) in
     record {
-      pairs = length-set current index n ∙ h.pairs;
-      classes = length-set active ci a ∙ h.classes;
-      owned = λ m2 c2 i lm2 lc2 there own. open_owned xs n m c index y current active free_from sweep_from h exists lm lc at is none m2 c2 i lm2 lc2 (rw length-set at there) own;
-      active = λ d ld.
-          let P : ℕ → Type 0 = λ k. (k ≤ length (set xs n y)) × NoneBelow (wanted.Active d) (set xs n y) k in
-          elim (cases_eq d ci) [
-            | inl e ↦
-                let inside : d < length active = omega (arith, h.classes) in
-                let found : slice_index (set active ci a) d ≡ a = ap (λ (k : ℕ). slice_index (set active k a) d) (sym e) ∙ get_or-set_same active d a 0 inside in
-                let same : c ≡ d = omega arith in
-                let there = subst (λ (k : ℕ). (a ≤ length xs) × NoneBelow (wanted.Active k) xs a) same act in
-                subst P (sym found) (omega (arith, there.0), none_below_set (wanted.Active d) xs n a y exists (λ _. not_active m d y is.0) there.1)
-            | inr ne ↦
-                let old = h.active d ld in
-                subst P (sym (get_or-set_other active ci d a 0 ne)) (omega (arith, old.0), none_below_set (wanted.Active d) xs n _ y exists (λ _. not_active m d y is.0) old.1)
-          ];
-      free = (omega (arith, free.0), none_below_set wanted.Free xs n f y exists (λ _. not_free m y is.0) free.1);
-      sweep = (omega (arith, h.sweep.0), none_below_set wanted.Sweeping xs n sweep_from y exists (λ _. not_sweeping m y is.0) h.sweep.1);
+      kinds = length-set tallies at to ∙ h.kinds;
+      tally = tallies-set (λ w k. IsTally w (set xs n y) k) v tallies at to place found.0 now
+          (λ w k ne. other_tally w xs n y (tally_of tallies w) exists (λ e. ne (one_kind v w (nth xs n) was e)) (current_is_none w m y is) (h.tally w k));
+      all_filled =
+          let same = filled_same xs n y exists (one_not y.state (current_not_filled m y.state is) ∙ sym (one_not (nth xs n).state (open_not_filled c (nth xs n) opens))) in
+          h.all_filled ∙ sym same;
     }
 
 -- there is a block
@@ -135,30 +129,6 @@ open_member layout m c s lm h opens sound =
       current_room = λ k e. room;
       owner = λ k e. let same : m ≡ k = cc in omega arith;
     }
-
--- a current segment isn't filled
-current_not_filled : (m : ℕ) (state : State) → state ≡ Current m → state ≡ Filled → ⊥
-current_not_filled m state is e = cc
-
--- an open segment isn't filled
-open_not_filled : (c : ℕ) (x : Segment) → IsOpen c x → x.state ≡ Filled → ⊥
-open_not_filled c x (inl active) e = let other = active.0 in cc
-open_not_filled c x (inr free) e = cc
-
--- both, of what the code has
-pub open_invariant : (s now : Segments) (n m c index ci a f : ℕ) (y : Segment) (current active : List ℕ) (free_from sweep_from : ℕ) → s ≡ now → IsSegments s × Leads s.segments current active free_from sweep_from → n < length now.segments → m < MAKERS → c < CLASSES → index ≡ table_index m c → ci ≡ c → y ≡ as_current m c (nth s.segments n) → IsSegment y → IsOpen c (nth now.segments n) → HasNoCurrent now m c → SearchesFrom (wanted.Active c) now a → SearchesFrom wanted.Free now f → IsSegments (record s { segments = set s.segments n y }) × Leads (set s.segments n y) (set current index n) (set active ci a) f sweep_from
-open_invariant s now n m c index ci a f y current active free_from sweep_from seen h exists lm lc at is_class is sound opens none act free =
-    let back = sym seen in
-    let there = subst (λ (t : Segments). n < length t.segments) back exists in
-    let open_here = subst (λ (t : Segments). IsOpen c (nth t.segments n)) back opens in
-    let none_here = subst (λ (t : Segments). HasNoCurrent t m c) back none in
-    let act_here = subst (λ (t : Segments). SearchesFrom (wanted.Active c) t a) back act in
-    let free_here = subst (λ (t : Segments). SearchesFrom wanted.Free t f) back free in
-    let sound_here = subst (λ (t : Segment). IsSegment t) is sound in
-    let member = subst (λ (t : Segment). IsMember s.layout t) (sym is) (open_member s.layout m c (nth s.segments n) lm (h.0.members n there) open_here sound_here) in
-    one_both s n s.fresh y _ _ f sweep_from h.0 there member
-    (let h_fresh = h.0.fresh in let stays = filled_stays s.segments n y there (λ e. absurd (open_not_filled c (nth s.segments n) open_here e)) in omega (arith, h_fresh, stays))
-    (open_leads s.segments n m c index ci a f y current active free_from sweep_from h.1 there lm lc at is_class (ap (λ (t : Segment). t.state) is, ap (λ (t : Segment). t.class) is) none_here act_here free_here)
 
 -- what a taken block leaves of the segment
 taken_class : (x y : Segment) (block : ℕ) → TakesBlock x y block → y.class ≡ x.class
@@ -188,21 +158,46 @@ taken_member layout x y m block is h sound member = record {
   owner = λ k e. member.owner k (taken_current x y m block k is h e).1;
 }
 
--- the tables after a block was taken in a current segment
-taken_leads : (xs : List Segment) (n m block : ℕ) (y : Segment) (current active : List ℕ) (free_from sweep_from : ℕ) → Leads xs current active free_from sweep_from → n < length xs → (nth xs n).state ≡ Current m → TakesBlock (nth xs n) y block → Leads (set xs n y) current active free_from sweep_from
-taken_leads xs n m block y current active free_from sweep_from h exists is takes =
+-- a taken block leaves the segment current or filled
+taken_is_none : (w : Wanted) (x y : Segment) (m block : ℕ) → x.state ≡ Current m → TakesBlock x y block → Is w y → ⊥
+taken_is_none w x y m block is h e = elim h.state [
+  | inl stays ↦ current_is_none w m y (stays.1 ∙ is) e
+  | inr filled ↦ filled_is_none w y filled.1 e
+]
+
+-- the table after a block was taken in a current segment
+taken_leads : (xs : List Segment) (n m block : ℕ) (y : Segment) (current : List ℕ) → Leads xs current → n < length xs → (nth xs n).state ≡ Current m → TakesBlock (nth xs n) y block → Leads (set xs n y) current
+taken_leads xs n m block y current h exists is takes =
     let x = nth xs n in
-    let size = length-set xs n y in
     record {
       pairs = h.pairs;
-      classes = h.classes;
       owned = λ m2 c2 i lm lc there own. each_set (λ j t. IsCurrent m2 c2 t → slice_index current (table_index m2 c2) ≡ j) xs n y exists
           (λ e. h.owned m2 c2 n lm lc exists ((taken_current x y m block m2 is takes e.0).1, sym (taken_class x y block takes) ∙ e.1))
           i (λ e. h.owned m2 c2 i lm lc (rw length-set at there) e) own;
-      active = λ d ld. (omega (arith, (h.active d ld).0), none_below_set (wanted.Active d) xs n _ y exists (λ _ e. taken_not x y m block Active is takes (λ k. cc) (λ k. cc) e.0) (h.active d ld).1);
-      free = (omega (arith, h.free.0), none_below_set wanted.Free xs n free_from y exists (λ _ e. taken_not x y m block Free is takes (λ k. cc) (λ k. cc) e) h.free.1);
-      sweep = (omega (arith, h.sweep.0), none_below_set wanted.Sweeping xs n sweep_from y exists (λ _ e. taken_not x y m block Sweeping is takes (λ k. cc) (λ k. cc) e) h.sweep.1);
     }
+
+-- the number of filled segments after a block was taken
+taken_filled : (xs : List Segment) (n m block old new : ℕ) (y : Segment) → n < length xs → (nth xs n).state ≡ Current m → TakesBlock (nth xs n) y block → old ≡ filled_count xs → CountsFilled y old new → new ≡ filled_count (set xs n y)
+taken_filled xs n m block old new y exists is takes all counts = elim counts [
+  | inl free ↦
+      let still : y.state ≡ Current m = elim takes.state [ inl stays ↦ stays.1 ∙ is | inr f ↦ absurd (f.0 free.0) ] in
+      let count = filled_same xs n y exists (one_not y.state (current_not_filled m y.state still) ∙ sym (one_not (nth xs n).state (current_not_filled m (nth xs n).state is))) in
+      let same = free.1 in
+      omega (arith, all, count, same)
+  | inr full ↦
+      let filled : y.state ≡ Filled = elim takes.state [ inl stays ↦ absurd (full.0 stays.0) | inr f ↦ f.1 ] in
+      let rises = filled_rises xs n y exists (λ e. current_not_filled m (nth xs n).state is e) filled in
+      let more = full.1 in
+      omega (arith, all, rises, more)
+]
+
+-- the tallies after a block was taken in a current segment
+taken_tells : (xs : List Segment) (n m block filled to : ℕ) (y : Segment) (tallies : List Tally) → Tells xs tallies filled → n < length xs → (nth xs n).state ≡ Current m → TakesBlock (nth xs n) y block → CountsFilled y filled to → Tells (set xs n y) tallies to
+taken_tells xs n m block filled to y tallies h exists is takes counts = record {
+  kinds = h.kinds;
+  tally = λ w k. other_tally w xs n y (tally_of tallies w) exists (current_is_none w m (nth xs n) is) (taken_is_none w (nth xs n) y m block is takes) (h.tally w k);
+  all_filled = taken_filled xs n m block filled to y exists is takes h.all_filled counts;
+}
 
 -- the count of filled segments after a block was taken
 taken_fresh : (xs : List Segment) (n m block old new : ℕ) (y : Segment) → n < length xs → (nth xs n).state ≡ Current m → TakesBlock (nth xs n) y block → old ≤ filled_count xs → CountsFilled y old new → new ≤ filled_count (set xs n y)
@@ -219,19 +214,43 @@ taken_fresh xs n m block old new y exists is takes few counts = elim counts [
 ]
 
 -- both, of what the code has
-pub taken_invariant : (s now : Segments) (n block fresh : ℕ) (x y : Segment) (current active : List ℕ) (free_from sweep_from : ℕ) → s ≡ now → IsSegments s × Leads s.segments current active free_from sweep_from → n < length now.segments → ((m : ℕ) × ((nth now.segments n).state ≡ Current m)) → x ≡ slice_index_or s.segments n x → TakesBlock x y block → IsSegment y → CountsFilled y s.fresh fresh → IsSegments (record s { segments = set s.segments n y; fresh = fresh }) × Leads (set s.segments n y) current active free_from sweep_from
-taken_invariant s now n block fresh x y current active free_from sweep_from seen h exists owner read takes sound counts =
+pub taken_invariant : (s now : Segments) (n block fresh filled to : ℕ) (x y : Segment) (current : List ℕ) (tallies : List Tally) → s ≡ now → IsSegments s × Leads s.segments current × Tells s.segments tallies filled → n < length now.segments → ((m : ℕ) × ((nth now.segments n).state ≡ Current m)) → x ≡ slice_index_or s.segments n x → TakesBlock x y block → IsSegment y → CountsFilled y s.fresh fresh → CountsFilled y filled to → IsSegments (record s { segments = set s.segments n y; fresh = fresh }) × Leads (set s.segments n y) current × Tells (set s.segments n y) tallies to
+taken_invariant s now n block fresh filled to x y current tallies seen h exists owner read takes sound counts counts_filled =
     let back = sym seen in
     let there = subst (λ (t : Segments). n < length t.segments) back exists in
     let own = subst (λ (t : Segments). (nth t.segments n).state ≡ Current owner.0) back owner.1 in
     let is : x ≡ nth s.segments n = read ∙ get_or_default s.segments n x (free_segment 0) there in
     let takes_here = subst (λ (t : Segment). TakesBlock t y block) is takes in
-    one_both s n fresh y current active free_from sweep_from h.0 there (taken_member s.layout (nth s.segments n) y owner.0 block own takes_here sound (h.0.members n there))
+    one_both s n fresh to y current tallies h.0 there (taken_member s.layout (nth s.segments n) y owner.0 block own takes_here sound (h.0.members n there))
     (taken_fresh s.segments n owner.0 block s.fresh fresh y there own takes_here h.0.fresh counts)
-    (taken_leads s.segments n owner.0 block y current active free_from sweep_from h.1 there own takes_here)
+    (taken_leads s.segments n owner.0 block y current h.1 there own takes_here)
+    (taken_tells s.segments n owner.0 block filled to y tallies h.2 there own takes_here counts_filled)
 
-pub opened_invariant : (s now : Segments) (n m c index ci a f : ℕ) (x y : Segment) (current active : List ℕ) (free_from sweep_from : ℕ) → s ≡ now → IsSegments s × Leads s.segments current active free_from sweep_from → n < length now.segments → m < MAKERS → c < CLASSES → index ≡ table_index m c → ci ≡ c → x ≡ slice_index_or s.segments n x → y ≡ as_current m c x → IsSegment y → IsOpen c (nth now.segments n) → HasNoCurrent now m c → SearchesFrom (wanted.Active c) now a → SearchesFrom wanted.Free now f → IsSegments (record s { segments = set s.segments n y }) × Leads (set s.segments n y) (set current index n) (set active ci a) f sweep_from
-opened_invariant s now n m c index ci a f x y current active free_from sweep_from seen h exists lm lc at is_class read is sound opens none act free =
-    let there = subst (λ (t : Segments). n < length t.segments) (sym seen) exists in
-    let is_nth : x ≡ nth s.segments n = read ∙ get_or_default s.segments n x (free_segment 0) there in
-    open_invariant s now n m c index ci a f y current active free_from sweep_from seen h exists lm lc at is_class (is ∙ ap (as_current m c) is_nth) sound opens none act free
+-- all, of what the code has
+pub opened_invariant : (v : Wanted) (s now : Segments) (n m c index at segments filled : ℕ) (x y : Segment) (t to : Tally) (current : List ℕ) (tallies : List Tally) → s ≡ now → IsSegments s × Leads s.segments current × Tells s.segments tallies filled → m < MAKERS → c < CLASSES → IsKind v → IsLeast v now n → IsOpen c (nth now.segments n) → HasNoCurrent now m c → index ≡ table_index m c → x ≡ slice_index_or s.segments n x → y ≡ as_current m c x → IsSegment y → at ≡ tally_place v → t ≡ slice_index_or tallies at t → segments ≡ s.layout.segments → Leaves n segments t to → IsSegments (record s { segments = set s.segments n y }) × Leads (set s.segments n y) (set current index n) × Tells (set s.segments n y) (set tallies at to) filled
+opened_invariant v s now n m c index at segments filled x y t to current tallies seen h lm lc kind least opens none index_is read is sound place tally_read size leaves =
+    let back = sym seen in
+    let here = subst (λ (k : Segments). IsLeast v k n) back least in
+    let there : n < length s.segments = here.exists in
+    let open_here = subst (λ (k : Segments). IsOpen c (nth k.segments n)) back opens in
+    let none_here = subst (λ (k : Segments). HasNoCurrent k m c) back none in
+    let x_is : x ≡ nth s.segments n = read ∙ get_or_default s.segments n x (free_segment 0) there in
+    let y_is : y ≡ as_current m c (nth s.segments n) = is ∙ ap (as_current m c) x_is in
+    let sound_here = subst (λ (k : Segment). IsSegment k) y_is sound in
+    let member = subst (λ (k : Segment). IsMember s.layout k) (sym y_is) (open_member s.layout m c (nth s.segments n) lm (h.0.members n there) open_here sound_here) in
+    let current_is : y.state ≡ Current m = ap (λ (k : Segment). k.state) y_is in
+    let class_is : y.class ≡ c = ap (λ (k : Segment). k.class) y_is in
+    one_both s n s.fresh filled y (set current index n) (set tallies at to) h.0 there member
+    (let few = h.0.fresh in let stays = filled_stays s.segments n y there (λ e. absurd (open_not_filled c (nth s.segments n) open_here e)) in omega (arith, few, stays))
+    (open_leads s.segments n m c index y current h.1 there lm lc index_is (current_is, class_is) none_here)
+    (open_tells v s.segments n m c at segments filled y tallies t to h.2 there kind here.is open_here here.none_below current_is place tally_read (size ∙ sym h.0.count) leaves)
+
+-- the tally of the kind of a segment counts it
+pub some_told : (v : Wanted) (s now : Segments) (n at filled : ℕ) (t : Tally) (current : List ℕ) (tallies : List Tally) → s ≡ now → IsSegments s × Leads s.segments current × Tells s.segments tallies filled → IsKind v → IsLeast v now n → at ≡ tally_place v → t ≡ slice_index_or tallies at t → 1 ≤ t.count
+some_told v s now n at filled t current tallies seen h kind least place read =
+    let here = subst (λ (k : Segments). IsLeast v k n) (sym seen) least in
+    let found = tally_read v tallies at t kind h.2.kinds place read in
+    let before : IsTally v s.segments t = subst (λ (k : Tally). IsTally v s.segments k) found.1 (h.2.tally v kind) in
+    let counted = before.counted in
+    let some = some_counted v s.segments n here.exists here.is in
+    omega (arith, counted, some)

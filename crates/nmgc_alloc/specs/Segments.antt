@@ -6,11 +6,13 @@ use Rattle.nmgc_object.specs.Size.{block_size}
 use Rattle.nmgc_object.specs.Places.{IsLayout, segment_place}
 use Rattle.nmgc_segment.specs.Marks.{swept}
 use Rattle.nmgc_segment.specs.Segment.{Segment, InUse, InSnapshot, HasFree, IsMarked, IsFirstUnused, IsSegment, segment_words, block_count, free_segment}
+use Rattle.nmgc_segment.specs.declared.state.State.{State}
 use Rattle.nmgc_segment.specs.declared.state.State.TheVariants as state
 use Rattle.nmgc_alloc.specs.declared.search.Wanted.{Wanted}
 use Rattle.nmgc_alloc.specs.declared.search.Wanted.TheVariants.{Free, Active, Sweeping}
-use Rattle.nmgc_alloc.specs.declared.tables.TheConstants.{CLASSES, PAIRS}
-use Rattle.nmgc_alloc.specs.Search.{nth, is, Is, NoneBelow}
+use Rattle.nmgc_alloc.specs.declared.tables.TheConstants.{CLASSES, KINDS, PAIRS}
+use Rattle.nmgc_alloc.specs.declared.tally.Tally.{Tally}
+use Rattle.nmgc_alloc.specs.Search.{nth, is, Is, NoneBelow, IsKind, IsTally, tally_of}
 
 -- the layout, the segments by number, and how many were filled since the last cycle began
 pub record Segments : Type 0 where
@@ -50,13 +52,13 @@ HasRoom s mutator class = (number : ℕ) × HasNumber s number × CanTake mutato
 abbrev pub HasNone : Wanted → Segments → Type 0
 HasNone wanted s = NoneBelow wanted s.segments (length s.segments)
 
+-- no segment is in the state
+abbrev pub HasNoneIn : State → Segments → Type 0
+HasNoneIn in_state s = (number : ℕ) → HasNumber s number → (nth s.segments number).state ≡ in_state → ⊥
+
 -- the mutator has no current segment of the class
 abbrev pub HasNoCurrent : Segments → ℕ → ℕ → Type 0
 HasNoCurrent s mutator class = (number : ℕ) → HasNumber s number → IsCurrent mutator class (nth s.segments number) → ⊥
-
--- no segment below the number is such a one
-abbrev pub SearchesFrom : Wanted → Segments → ℕ → Type 0
-SearchesFrom wanted s number = (number ≤ length s.segments) × NoneBelow wanted s.segments number
 
 -- the first segment that is such a one
 pub record IsLeast (wanted : Wanted) (s : Segments) (number : ℕ) : Type 0 where
@@ -180,11 +182,14 @@ pub record IsSegments (s : Segments) : Type 0 where
 abbrev pub table_index : ℕ → ℕ → ℕ
 table_index mutator class = mutator * CLASSES + class
 
--- the tables lead to the current segments, and past those that aren't active, free or sweeping
-pub record Leads (segments : List Segment) (current active_from : List ℕ) (free_from sweep_from : ℕ) : Type 0 where
+-- the table leads to the current segments
+pub record Leads (segments : List Segment) (current : List ℕ) : Type 0 where
   pub pairs : length current ≡ PAIRS
-  pub classes : length active_from ≡ CLASSES
   pub owned : (mutator class number : ℕ) → mutator < MAKERS → class < CLASSES → number < length segments → IsCurrent mutator class (nth segments number) → slice_index current (table_index mutator class) ≡ number
-  pub active : (class : ℕ) → class < CLASSES → (slice_index active_from class ≤ length segments) × NoneBelow (Active class) segments (slice_index active_from class)
-  pub free : (free_from ≤ length segments) × NoneBelow Free segments free_from
-  pub sweep : (sweep_from ≤ length segments) × NoneBelow Sweeping segments sweep_from
+
+-- the tallies tell how many segments are free, active of each class and sweeping, and where none of them
+-- lies; and so many are filled
+pub record Tells (segments : List Segment) (tallies : List Tally) (filled : ℕ) : Type 0 where
+  pub kinds : length tallies ≡ KINDS
+  pub tally : (wanted : Wanted) → IsKind wanted → IsTally wanted segments (tally_of tallies wanted)
+  pub all_filled : filled ≡ filled_count segments

@@ -23,12 +23,11 @@ ghost use Rattle.nmgc_segment.specs.Marks.{IsEpoch};
 ghost use Rattle.nmgc_segment.specs.Segment.{IsMarked, Segment};
 ghost use Rattle.nmgc_alloc.specs.Search.{is, nth};
 ghost use Rattle.nmgc_alloc.specs.Turns.{prepared, carried_over, retired};
-ghost use Rattle.nmgc_alloc.specs.Segments.{Segments, IsClass, HasNone, HasRoom, IsBlockAt, IsSegments, all_free, Allocates, SweepsNext, Marks, block_place};
+ghost use Rattle.nmgc_alloc.specs.Segments.{Segments, IsClass, HasNoneIn, HasRoom, IsBlockAt, IsSegments, all_free, Allocates, SweepsNext, Marks, block_place};
 ghost use Rattle.nmgc_alloc.specs.AllocState.{AllocState, StandsFor, IsAllocState, HoldsKept, IsIn, IsTarget, NoneIs, all_empty, Places, Writes, Sweeps, cycle_begun, all_retired, count_in};
 ghost use Rattle.nmgc_alloc.specs.Blocks.{IsUsedAt};
 ghost use Rattle.nmgc_alloc.specs.Reserve.{KeepsReserve, free_count};
 
-use crate::search::Wanted;
 use nmgc_segment::State;
 
 /// Blocks that begin somewhere are the same block, or share no word.
@@ -72,7 +71,7 @@ pub fn allocate()
 /// `Segments::sweep_next` sweeps a segment of the allocation state: it keeps the names in the blocks
 /// that were marked with the epoch. Where it finds none to sweep, the allocation state has none.
 pub fn sweep_next()
-    ensures none { (s : Segments) (words : List ℕ) (allocation : AllocState) → StandsFor s words allocation → HasNone Wanted.Sweeping s → NoneIs (IsIn State.Sweeping) allocation }
+    ensures none { (s : Segments) (words : List ℕ) (allocation : AllocState) → StandsFor s words allocation → HasNoneIn State.Sweeping s → NoneIs (IsIn State.Sweeping) allocation }
     ensures some { (s new : Segments) (words : List ℕ) (allocation : AllocState) (epoch number : ℕ) → IsEpoch epoch → StandsFor s words allocation → SweepsNext s new epoch number → (swept : AllocState) × Sweeps allocation swept number (IsMarked (nth s.segments number) epoch) × StandsFor new words swept }
 {}
 
@@ -128,6 +127,6 @@ pub fn other_words()
 
 /// A count of 0 says that no segment is to be swept; where one is free there is room for every class.
 pub fn counts_tell()
-    ensures sweeping { (s : Segments) → (count_by (λ segment. is segment.state State.Sweeping) s.segments ≡ 0) ↔ HasNone Wanted.Sweeping s }
+    ensures sweeping { (s : Segments) → (count_by (λ segment. is segment.state State.Sweeping) s.segments ≡ 0) ↔ HasNoneIn State.Sweeping s }
     ensures free { (s : Segments) (mutator class : ℕ) → 0 < count_by (λ segment. is segment.state State.Free) s.segments → HasRoom s mutator class }
 {}

@@ -14,6 +14,7 @@ pub mod names;
 mod search;
 pub mod segments;
 mod tables;
+mod tally;
 mod turns;
 
 pub use segments::Segments;

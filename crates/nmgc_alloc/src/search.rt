@@ -1,9 +1,9 @@
-//! The search for the first segment in a state, and the counts of states.
-ghost use Rattle.std.specs.Prelude.{◌≡◌, ◌≤◌, ◌↔◌, IsTrue, length, count_by};
-ghost use Rattle.nmgc_alloc.specs.Search.{Is, is, IsFirstFrom};
+//! The search for the least segment of a kind.
+ghost use Rattle.std.specs.Prelude.{◌≡◌, ◌≤◌, ◌↔◌, IsTrue, length};
+ghost use Rattle.nmgc_alloc.specs.Search.{Is, IsFirstBetween, IsTally, tally_place};
 ghost use Rattle.nmgc_limits.specs.Limits.{most_segments};
-ghost use Rattle.nmgc_segment.specs.declared.state.State.{State as Shown};
 
+use crate::tally::Tally;
 use nmgc_segment::{Segment, State};
 
 /// What a segment is searched for.
@@ -12,6 +12,19 @@ pub enum Wanted {
     Free,
     Active { class: u8 },
     Sweeping,
+}
+
+impl Wanted {
+    /// The place of its tally in the table.
+    pub fn place(self) -> usize
+        ensures { result ≡ tally_place self }
+    {
+        match self {
+            Wanted::Free => 0,
+            Wanted::Sweeping => 1,
+            Wanted::Active { class } => 2 + usize::from(class),
+        }
+    }
 }
 
 // Whether the segment is such a one.
@@ -25,31 +38,34 @@ fn is_wanted(segment: &Segment, wanted: Wanted) -> bool
     }
 }
 
-/// The first such segment from `from` on, or the number of segments where there is none.
-pub fn first(segments: &[Segment], from: u32, wanted: Wanted) -> u32
-    requires from { from ≤ length segments.now }
-    requires few { length segments.now ≤ most_segments }
-    ensures { IsFirstFrom wanted segments.now from result }
+// The first such segment from `from` on and below `to`, or `to` where there is none.
+fn first(segments: &[Segment], from: u32, to: u32, wanted: Wanted) -> u32
+    requires from { from ≤ to }
+    requires to { to ≤ length segments.now }
+    ensures { IsFirstBetween wanted segments.now from to result }
 {
-    let count = segments.len() as u32;
-    for number in from..count {
+    for number in from..to {
         if is_wanted(&segments[number as usize], wanted) {
             return number;
         }
     }
-    count
+    to
 }
 
-/// How many segments are in the state.
-pub fn count(segments: &[Segment], state: State) -> u32
+/// The least such segment, or the number of segments where there is none. No segment is looked at that
+/// the tally rules out.
+pub fn least(segments: &[Segment], tally: Tally, wanted: Wanted) -> u32
     requires few { length segments.now ≤ most_segments }
-    ensures { result ≡ count_by (λ segment. is segment.state state) segments.now }
+    requires tally { IsTally wanted segments.now tally }
+    ensures { IsFirstBetween wanted segments.now 0 (length segments.now) result }
 {
-    let mut count = 0;
-    for segment in segments {
-        if segment.state() == state {
-            count += 1;
-        }
+    let count = segments.len() as u32;
+    if tally.count == 0 {
+        return count;
     }
-    count
+    let near = first(segments, tally.from, tally.past, wanted);
+    if near < tally.past {
+        return near;
+    }
+    first(segments, tally.until, count, wanted)
 }

@@ -2,24 +2,24 @@
 //!
 //! Placing must take constant time but for the search within one segment, so nothing here looks
 //! through all segments for each object. A table has the number of each mutator's current segment of
-//! each class. For the active segments of a class, the free ones and the ones to be swept there is a
-//! number below which none lies, and a search begins there. What a search found moves it on, and a
-//! sweep that makes a segment free or active moves it back to that segment. So between two cycles the
-//! searches for one class go over the segments once in all. Only the counts look at every segment;
-//! a stop asks for them once.
+//! each class. Another has a tally of each kind of segment that is searched for: the free ones, the
+//! ones to be swept, and the active ones of a class. It tells how many there are and where none lies,
+//! so a search that would find nothing isn't made, and another one goes on where the last one stopped.
+//! The counts take constant time, since each is kept where a segment changes its state.
 //!
-//! Easy to get wrong: a table's number may be of a segment that was filled or retired since, so its
-//! state is looked at; and the table is right about the absence of a current segment only because it
-//! is written each time that one becomes current.
+//! Easy to get wrong: the number of a current segment may be of one that was filled or retired since,
+//! so its state is looked at; and the table is right about the absence of a current segment only
+//! because it is written each time that one becomes current.
 ghost use Rattle.std.specs.Prelude.{ℕ, ◌≡◌, ◌≢◌, ◌↔◌, ◌<◌, ◌≤◌, map, replicate, count_by, slice_set, IsTrue, IfOk, IfSome, IfNone};
 ghost use Rattle.nmgc_object.specs.Places.{IsLayout};
 ghost use Rattle.nmgc_segment.specs.Marks.{IsEpoch};
 ghost use Rattle.nmgc_segment.specs.Segment.{free_segment, block_count};
 ghost use Rattle.nmgc_alloc.specs.Turns.{prepared, carried_over, retired};
-ghost use Rattle.nmgc_alloc.specs.Search.{is, nth};
+ghost use Rattle.nmgc_alloc.specs.Search.{is, nth, IsKind, tally_from};
 
 use crate::search::{self, Wanted};
-use crate::tables::{CLASSES, PAIRS};
+use crate::tables::{CLASSES, KINDS, PAIRS};
+use crate::tally::Tally;
 use crate::turns;
 use nmgc_graph::{MAKERS, NoMemory};
 use nmgc_object::{Address, FIRST_PLACE, Layout, block_words};
@@ -34,13 +34,12 @@ pub struct Segments {
     segments: Vec<Segment>,
     fresh: u32,
     current: Vec<u32>,
-    active_from: Vec<u32>,
-    free_from: u32,
-    sweep_from: u32,
+    tallies: Vec<Tally>,
+    filled: u32,
 }
 
 impl Model for Segments {
-    ghost use Rattle.nmgc_alloc.specs.Segments.{Segments as Shown, IsSegments, Leads};
+    ghost use Rattle.nmgc_alloc.specs.Segments.{Segments as Shown, IsSegments, Leads, Tells};
 
     ghost Value = { Shown };
 
@@ -54,7 +53,7 @@ impl Model for Segments {
       layout = s.layout;
       segments = s.segments.items;
       fresh = s.fresh;
-    } in IsSegments shown × Leads s.segments.items s.current.items s.active_from.items s.free_from s.sweep_from };
+    } in IsSegments shown × Leads s.segments.items s.current.items × Tells s.segments.items s.tallies.items s.filled };
 }
 
 // So many free segments.
@@ -69,15 +68,24 @@ fn free_segments(alloc: Global, layout: Layout) -> Result<Vec<Segment>, NoMemory
     Ok(segments)
 }
 
-// A table of one number.
-fn table(alloc: Global, length: usize, number: u32) -> Result<Vec<u32>, NoMemory>
-    ensures { IfOk result (λ table. table.items ≡ replicate length number) }
+// A table of zeroes.
+fn zeroes(alloc: Global, length: usize) -> Result<Vec<u32>, NoMemory>
+    ensures { IfOk result (λ table. table.items ≡ replicate length 0) }
 {
-    Ok(vec![in alloc; number; length]?)
+    Ok(vec![in alloc; 0; length]?)
+}
+
+// The tallies of so many free segments.
+fn first_tallies(alloc: Global, segments: u32) -> Result<Vec<Tally>, NoMemory>
+    ensures { IfOk result (λ tallies. tallies.items ≡ slice_set (replicate KINDS (tally_from 0 segments)) 0 (tally_from segments 0)) }
+{
+    let mut tallies = vec![in alloc; Tally::starting(0, segments); KINDS]?;
+    tallies[Wanted::Free.place()] = Tally::starting(segments, 0);
+    Ok(tallies)
 }
 
 impl Segments {
-    ghost use Rattle.nmgc_alloc.specs.Segments.{all_free, IsMutator, IsClass, IsCurrent, HasNumber, HasRoom, HasNone, HasNoCurrent, Allocates, SweepsNext, IsBlockAt, IsSegments, IsOwn, IsLeast, IsOpen, SearchesFrom, CountsFilled, TakesBlock, IsChosen, SweepsSegment, Marks, IsToMark, as_current, block_place, marked_if};
+    ghost use Rattle.nmgc_alloc.specs.Segments.{all_free, IsMutator, IsClass, IsCurrent, HasNumber, HasRoom, HasNone, HasNoneIn, HasNoCurrent, Allocates, SweepsNext, IsBlockAt, IsSegments, IsOwn, IsLeast, IsOpen, CountsFilled, TakesBlock, IsChosen, SweepsSegment, Marks, IsToMark, as_current, block_place, marked_if};
 
     /// All segments of a layout, free.
     pub fn new(alloc: Global, layout: Layout) -> Result<Self, NoMemory>
@@ -86,16 +94,15 @@ impl Segments {
         ensures sound { IfOk result IsSegments }
     {
         let segments = free_segments(alloc, layout)?;
-        let current = table(alloc, PAIRS, 0)?;
-        let active_from = table(alloc, CLASSES, layout.segments)?;
+        let current = zeroes(alloc, PAIRS)?;
+        let tallies = first_tallies(alloc, layout.segments)?;
         Ok(Segments {
             layout,
             segments,
             fresh: 0,
             current,
-            active_from,
-            free_from: 0,
-            sweep_from: layout.segments,
+            tallies,
+            filled: 0,
         })
     }
 
@@ -124,25 +131,25 @@ impl Segments {
         &self.segments[number as usize]
     }
 
-    /// How many segments are free.
+    /// How many segments are free. Constant time.
     pub fn free_count(&self) -> u32
         ensures { result ≡ count_by (λ segment. is segment.state State.Free) self.now.segments }
     {
-        search::count(self.segments.as_slice(), State::Free)
+        self.tallies[Wanted::Free.place()].count
     }
 
-    /// How many segments are filled.
+    /// How many segments are filled. Constant time.
     pub fn filled_count(&self) -> u32
         ensures { result ≡ count_by (λ segment. is segment.state State.Filled) self.now.segments }
     {
-        search::count(self.segments.as_slice(), State::Filled)
+        self.filled
     }
 
-    /// How many segments are to be swept.
+    /// How many segments are to be swept. Constant time.
     pub fn sweep_count(&self) -> u32
         ensures { result ≡ count_by (λ segment. is segment.state State.Sweeping) self.now.segments }
     {
-        search::count(self.segments.as_slice(), State::Sweeping)
+        self.tallies[Wanted::Sweeping.place()].count
     }
 
     // The number that the table has for the mutator and the class.
@@ -175,41 +182,15 @@ impl Segments {
         }
     }
 
-    // The active segment of the class of least number.
-    fn least_active(&self, class: u8) -> Option<u32>
-        requires { class < CLASSES }
-        ensures some { IfSome result (λ number. IsLeast (Wanted.Active class) self.now number) }
-        ensures none { IfNone result (HasNone (Wanted.Active class) self.now) }
-    {
-        let from = self.active_from[usize::from(class)];
-        let number = search::first(self.segments.as_slice(), from, Wanted::Active { class });
-        if (number as usize) < self.segments.len() {
-            Some(number)
-        } else {
-            None
-        }
-    }
-
-    // The free segment of least number.
-    fn least_free(&self) -> Option<u32>
-        ensures some { IfSome result (λ number. IsLeast Wanted.Free self.now number) }
-        ensures none { IfNone result (HasNone Wanted.Free self.now) }
-    {
-        let number = search::first(self.segments.as_slice(), self.free_from, Wanted::Free);
-        if (number as usize) < self.segments.len() {
-            Some(number)
-        } else {
-            None
-        }
-    }
-
-    // The segment to be swept of least number.
-    fn least_sweeping(&self) -> Option<u32>
-        ensures some { IfSome result (λ number. IsLeast Wanted.Sweeping self.now number) }
-        ensures none { IfNone result (HasNone Wanted.Sweeping self.now) }
+    // The segment of this kind of least number.
+    fn least(&self, wanted: Wanted) -> Option<u32>
+        requires { IsKind wanted }
+        ensures some { IfSome result (λ number. IsLeast wanted self.now number) }
+        ensures none { IfNone result (HasNone wanted self.now) }
         ensures sound { IsSegments self.now }
     {
-        let number = search::first(self.segments.as_slice(), self.sweep_from, Wanted::Sweeping);
+        let tally = self.tallies[wanted.place()];
+        let number = search::least(self.segments.as_slice(), tally, wanted);
         if (number as usize) < self.segments.len() {
             Some(number)
         } else {
@@ -217,31 +198,21 @@ impl Segments {
         }
     }
 
-    // Makes the segment the mutator's current one of the class, and notes below which numbers the
-    // search found no active one of the class and no free one.
-    fn make_current(
-        &mut self,
-        number: u32,
-        mutator: u8,
-        class: u8,
-        active_from: u32,
-        free_from: u32,
-    )
+    // Makes the active or free segment of least number the mutator's current one of the class.
+    fn make_current(&mut self, number: u32, mutator: u8, class: u8, wanted: Wanted)
         requires mutator { mutator < MAKERS }
         requires class { class < CLASSES }
         requires fits { IsClass self.old.layout class }
-        requires exists { HasNumber self.old number }
-        requires no_current { HasNoCurrent self.old mutator class }
+        requires kind { IsKind wanted }
+        requires least { IsLeast wanted self.old number }
         requires open { IsOpen class (nth self.old.segments number) }
-        requires active_from { SearchesFrom (Wanted.Active class) self.old active_from }
-        requires free_from { SearchesFrom Wanted.Free self.old free_from }
+        requires no_current { HasNoCurrent self.old mutator class }
         ensures { self.new ≡ record self.old { segments = slice_set self.old.segments number (as_current mutator class (nth self.old.segments number)) } }
     {
         let segment = &mut self.segments[number as usize];
         turns::open(segment, mutator, class);
         self.current[usize::from(mutator) * CLASSES + usize::from(class)] = number;
-        self.active_from[usize::from(class)] = active_from;
-        self.free_from = free_from;
+        self.tallies[wanted.place()].leave(number, self.layout.segments);
     }
 
     // Takes the first unused block of a current segment, which is filled where it was the last.
@@ -258,6 +229,7 @@ impl Segments {
         let block = turns::take_block(segment);
         if !segment.has_free() {
             self.fresh += 1;
+            self.filled += 1;
         }
         block
     }
@@ -277,15 +249,14 @@ impl Segments {
         if let Some(number) = self.current_of(mutator, class) {
             return number;
         }
-        let count = self.segments.len() as u32;
-        let free_from = self.free_from;
-        if let Some(number) = self.least_active(class) {
-            self.make_current(number, mutator, class, number, free_from);
+        let active = Wanted::Active { class };
+        if let Some(number) = self.least(active) {
+            self.make_current(number, mutator, class, active);
             return number;
         }
-        match self.least_free() {
+        match self.least(Wanted::Free) {
             Some(number) => {
-                self.make_current(number, mutator, class, count, number);
+                self.make_current(number, mutator, class, Wanted::Free);
                 number
             }
             None => unreachable!(),
@@ -301,8 +272,8 @@ impl Segments {
     {
         let _ = &self.segments;
         self.current_of(mutator, class).is_some()
-            || self.least_active(class).is_some()
-            || self.least_free().is_some()
+            || self.least(Wanted::Active { class }).is_some()
+            || self.least(Wanted::Free).is_some()
     }
 
     /// Places an object of the class for the mutator, and answers where. Constant time but for the
@@ -401,13 +372,14 @@ impl Segments {
     /// Begins a cycle: takes the snapshot of every segment that isn't free, and turns the filled ones
     /// into ones to be swept.
     pub fn prepare(&mut self)
-        requires { HasNone Wanted.Sweeping self.old }
+        requires { HasNoneIn State.Sweeping self.old }
         ensures value { self.new ≡ record self.old { segments = map prepared self.old.segments; fresh = 0 } }
         ensures sound { IsSegments self.new }
     {
         turns::prepare_all(self.segments.as_mut_slice());
         self.fresh = 0;
-        self.sweep_from = 0;
+        self.tallies[Wanted::Sweeping.place()] = Tally::starting(self.filled, 0);
+        self.filled = 0;
     }
 
     /// Carries the marks of every segment that is neither free nor to be swept.
@@ -423,16 +395,16 @@ impl Segments {
     /// where there is none. Constant time but for the search of that segment and the sweep.
     pub fn sweep_next(&mut self, epoch: u8) -> Option<u32>
         requires { IsEpoch epoch }
-        ensures none { IfNone result (HasNone Wanted.Sweeping self.old × (self.new ≡ self.old)) }
+        ensures none { IfNone result (HasNoneIn State.Sweeping self.old × (self.new ≡ self.old)) }
         ensures some { IfSome result (λ number. SweepsNext self.old self.new epoch number) }
         ensures sound { IsSegments self.new }
     {
-        let number = self.least_sweeping()?;
+        let number = self.least(Wanted::Sweeping)?;
         self.sweep(number, epoch);
         Some(number)
     }
 
-    // Sweeps a segment, and notes where it can be found again.
+    // Sweeps a segment, and notes in which state it is now.
     fn sweep(&mut self, number: u32, epoch: u8)
         requires epoch { IsEpoch epoch }
         requires least { IsLeast Wanted.Sweeping self.old number }
@@ -441,13 +413,13 @@ impl Segments {
         ensures sound { IsSegments self.new }
     {
         let segment = &mut self.segments[number as usize];
-        let class = usize::from(segment.class());
+        let class = segment.class();
         let swept = turns::sweep(segment, epoch);
-        self.sweep_from = number;
+        self.tallies[Wanted::Sweeping.place()].leave(number, self.layout.segments);
         match swept {
-            Swept::Free => self.free_from = self.free_from.min(number),
-            Swept::Active => self.active_from[class] = self.active_from[class].min(number),
-            Swept::Filled => {}
+            Swept::Free => self.tallies[Wanted::Free.place()].enter(number),
+            Swept::Active => self.tallies[Wanted::Active { class }.place()].enter(number),
+            Swept::Filled => self.filled += 1,
         }
     }
 
@@ -457,5 +429,11 @@ impl Segments {
         ensures sound { IsSegments self.new }
     {
         turns::retire_all(self.segments.as_mut_slice());
+        let free = self.tallies[Wanted::Free.place()];
+        let sweeping = self.tallies[Wanted::Sweeping.place()];
+        self.filled = self.layout.segments - free.count - sweeping.count;
+        self.tallies.fill(Tally::starting(0, self.layout.segments));
+        self.tallies[Wanted::Free.place()] = free;
+        self.tallies[Wanted::Sweeping.place()] = sweeping;
     }
 }

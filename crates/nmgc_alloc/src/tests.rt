@@ -92,7 +92,7 @@ fn a_cycle(rt: HostRuntime) -> Result<(), Fail> {
 }
 
 // Each placing fills a segment and each sweep frees one, so a search through all segments for each
-// would take minutes.
+// would take minutes, in each of the cycles.
 #[test]
 fn one_block_segments(rt: HostRuntime) -> Result<(), Fail> {
     let layout = Layout {
@@ -107,11 +107,48 @@ fn one_block_segments(rt: HostRuntime) -> Result<(), Fail> {
         assert_eq!(rt; place(&rt, &mut segments, 0, 2), 32 + 16 * number);
     }
     counts(&rt, &segments, 0, 65_536, 0, 65_536);
+    for _ in 0..4 {
+        begin(&rt, &mut segments);
+        counts(&rt, &segments, 0, 0, 65_536, 0);
+        for number in 0..65_536u32 {
+            assert_eq!(rt; segments.sweep_next(1), Some(number));
+            assert_eq!(rt; place(&rt, &mut segments, 0, 2), 32 + 16 * number);
+        }
+        counts(&rt, &segments, 0, 65_536, 0, 65_536);
+    }
     begin(&rt, &mut segments);
     for number in 0..65_536u32 {
         assert_eq!(rt; segments.sweep_next(1), Some(number));
     }
     counts(&rt, &segments, 65_536, 0, 0, 0);
+    Ok(())
+}
+
+// Each sweep frees a segment below the free ones. The first placing after it fills that segment, and the
+// others go on above.
+#[test]
+fn sweeps_and_placings_by_turns(rt: HostRuntime) -> Result<(), Fail> {
+    let layout = Layout {
+        segments: 65_536,
+        words: 16,
+        nursery: 16,
+        mutators: 1,
+    };
+    assert!(rt; layout.words.is_power_of_two());
+    let mut segments = Segments::new(rt.alloc(), layout)?;
+    for number in 0..8_192u32 {
+        assert_eq!(rt; place(&rt, &mut segments, 0, 2), 32 + 16 * number);
+    }
+    begin(&rt, &mut segments);
+    for number in 0..8_192u32 {
+        assert_eq!(rt; segments.sweep_next(1), Some(number));
+        assert_eq!(rt; place(&rt, &mut segments, 0, 2), 32 + 16 * number);
+        for above in 0..6u32 {
+            let next = 8_192 + 6 * number + above;
+            assert_eq!(rt; place(&rt, &mut segments, 0, 2), 32 + 16 * next);
+        }
+    }
+    counts(&rt, &segments, 8_192, 57_344, 0, 57_344);
     Ok(())
 }
 

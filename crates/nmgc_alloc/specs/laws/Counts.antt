@@ -35,8 +35,12 @@ one_not Active ne = refl
 one_not Filled ne = absurd (ne refl)
 one_not Sweeping ne = refl
 
-filled-set : (xs : List Segment) (n : ℕ) (y : Segment) → n < length xs → filled_count (set xs n y) + one_filled (nth xs n).state ≡ filled_count xs + one_filled y.state
+pub filled-set : (xs : List Segment) (n : ℕ) (y : Segment) → n < length xs → filled_count (set xs n y) + one_filled (nth xs n).state ≡ filled_count xs + one_filled y.state
 filled-set xs n y h = sum_by-set (λ (t : Segment). one_filled t.state) xs n y (free_segment 0) h
+
+-- the count stays where the segment is filled or isn't as before
+pub filled_same : (xs : List Segment) (n : ℕ) (y : Segment) → n < length xs → one_filled y.state ≡ one_filled (nth xs n).state → filled_count (set xs n y) ≡ filled_count xs
+filled_same xs n y h same = let e = filled-set xs n y h in omega (arith, e, same)
 
 -- the count doesn't fall where a filled segment stays filled
 pub filled_stays : (xs : List Segment) (n : ℕ) (y : Segment) → n < length xs → ((nth xs n).state ≡ Filled → y.state ≡ Filled) → filled_count xs ≤ filled_count (set xs n y)

@@ -1,36 +1,59 @@
-use Rattle.std.proofs.Common.{ℕ, ◌<◌, length, min, ap, sym, ◌∙◌, rules}
-use Rattle.std.proofs.lemmas.List.{get_or_default}
-use Rattle.nmgc_alloc.proofs.SweepLaws.{swept_invariant, low_free, low_filled, low_active, swept_class}
+use Rattle.std.proofs.Common.{arith, refl, sym, ◌<◌, ◌∙◌}
+use Rattle.nmgc_alloc.specs.declared.search.Wanted.TheVariants as wanted
+use Rattle.nmgc_alloc.specs.declared.tables.TheConstants.{CLASSES}
+use Rattle.nmgc_alloc.proofs.OneLaws.{some_told}
+use Rattle.nmgc_alloc.proofs.SweepLaws.{was_swept, swept_free, swept_active, swept_filled, swept_class, few_told}
 use Rattle.nmgc_alloc.proofs.segments.Segments.sweep.Goals as goal
+
+pub leave-requires-clause-count : goal.leave-requires-clause-count
+leave-requires-clause-count c = some_told wanted.Sweeping _ _ _ _ _ _ _ _ c.self.view_is c.self.invariant tt c.requires.least c.place.ensures c.index_mut.ensures.value
+
+pub enter-requires-clause-count : goal.enter-requires-clause-count
+enter-requires-clause-count c =
+    few_told wanted.Free _ _ _ _ _ _ _ _ _ _
+    (was_swept _ _ _ c.args.epoch _ _ _ _ _ _ _ _ _ c.self.view_is c.self.invariant c.requires.least c.index_mut-segment.ensures.value c.in-Free.ensures.sweeps c.in-Free.ensures.sound c.place.ensures c.index_mut.ensures.value refl c.leave.ensures)
+    tt (λ e. absurd (cc)) c.in-Free.ensures.state c.place-in-Free.ensures c.index_mut-in-Free.ensures.value
+
+pub enter-requires-in-Active-clause-count : goal.enter-requires-in-Active-clause-count
+enter-requires-in-Active-clause-count c =
+    let class_is = c.class-class.ensures ∙ sym (swept_class _ _ c.args.epoch c.in-Active.ensures.sweeps) in
+    let small : c.class-class.result < CLASSES = let most = c.in-Active.ensures.sound.class in omega (arith, most, class_is) in
+    few_told (wanted.Active c.class-class.result) _ _ _ _ _ _ _ _ _ _
+    (was_swept _ _ _ c.args.epoch _ _ _ _ _ _ _ _ _ c.self.view_is c.self.invariant c.requires.least c.index_mut-segment.ensures.value c.in-Active.ensures.sweeps c.in-Active.ensures.sound c.place.ensures c.index_mut.ensures.value refl c.leave.ensures)
+    small (λ e. absurd (cc)) (c.in-Active.ensures.state, sym class_is) c.place-in-Active.ensures c.index_mut-in-Active.ensures.value
 
 pub invariant_of-self : goal.invariant_of-self
 invariant_of-self c =
-    swept_invariant _ _ _ c.args.epoch _ _ _ _ _ _ _ _ c.self.view_is c.self.invariant c.requires.least c.index_mut-segment.ensures.value c.in-Free.ensures.sweeps c.in-Free.ensures.sound
-    (low_free _ _ _ _ _ c.in-Free.ensures.state c.min-self-inside.ensures)
+    swept_free _ _ _ _ _ _ _ _ _ _ _
+    (was_swept _ _ _ c.args.epoch _ _ _ _ _ _ _ _ _ c.self.view_is c.self.invariant c.requires.least c.index_mut-segment.ensures.value c.in-Free.ensures.sweeps c.in-Free.ensures.sound c.place.ensures c.index_mut.ensures.value refl c.leave.ensures)
+    c.in-Free.ensures.state c.place-in-Free.ensures c.index_mut-in-Free.ensures.value c.enter.ensures
 
 pub invariant_of-self-in-Active : goal.invariant_of-self-in-Active
 invariant_of-self-in-Active c =
-    let inside : c.from-class.result < length c.self.inside.active_from.items = search rules in
-    swept_invariant _ _ _ c.args.epoch _ _ _ _ _ _ _ _ c.self.view_is c.self.invariant c.requires.least c.index_mut-segment.ensures.value c.in-Active.ensures.sweeps c.in-Active.ensures.sound
-    (low_active _ _ _ _ _ _ c.in-Active.ensures.state (swept_class _ _ c.args.epoch c.in-Active.ensures.sweeps ∙ sym (c.from-class.ensures ∙ c.class.ensures)) inside (c.min.ensures ∙ ap (λ (k : ℕ). min k c.args.number) (c.index.ensures ∙ get_or_default _ _ _ 0 inside)))
+    swept_active _ _ _ _ _ _ _ _ _ _ _ _
+    (was_swept _ _ _ c.args.epoch _ _ _ _ _ _ _ _ _ c.self.view_is c.self.invariant c.requires.least c.index_mut-segment.ensures.value c.in-Active.ensures.sweeps c.in-Active.ensures.sound c.place.ensures c.index_mut.ensures.value refl c.leave.ensures)
+    c.in-Active.ensures.state (c.class-class.ensures ∙ sym (swept_class _ _ c.args.epoch c.in-Active.ensures.sweeps)) c.place-in-Active.ensures c.index_mut-in-Active.ensures.value c.enter-in-Active.ensures
 
 pub invariant_of-self-in-Filled : goal.invariant_of-self-in-Filled
 invariant_of-self-in-Filled c =
-    swept_invariant _ _ _ c.args.epoch _ _ _ _ _ _ _ _ c.self.view_is c.self.invariant c.requires.least c.index_mut-segment.ensures.value c.in-Filled.ensures.sweeps c.in-Filled.ensures.sound
-    (low_filled _ _ _ _ c.in-Filled.ensures.state)
+    swept_filled _ _ _ _ _ _ _ _
+    (was_swept _ _ _ c.args.epoch _ _ _ _ _ _ _ _ _ c.self.view_is c.self.invariant c.requires.least c.index_mut-segment.ensures.value c.in-Filled.ensures.sweeps c.in-Filled.ensures.sound c.place.ensures c.index_mut.ensures.value refl c.leave.ensures)
+    c.in-Filled.ensures.state
 
 pub returns-in-Free-clause-sound : goal.returns-in-Free-clause-sound
 returns-in-Free-clause-sound c =
-    (swept_invariant _ _ _ c.args.epoch _ _ _ _ _ _ _ _ c.self.view_is c.self.invariant c.requires.least c.index_mut-segment.ensures.value c.in-Free.ensures.sweeps c.in-Free.ensures.sound
-    (low_free _ _ _ _ _ c.in-Free.ensures.state c.min-self-inside.ensures)).0
+    (swept_free _ _ _ _ _ _ _ _ _ _ _
+    (was_swept _ _ _ c.args.epoch _ _ _ _ _ _ _ _ _ c.self.view_is c.self.invariant c.requires.least c.index_mut-segment.ensures.value c.in-Free.ensures.sweeps c.in-Free.ensures.sound c.place.ensures c.index_mut.ensures.value refl c.leave.ensures)
+    c.in-Free.ensures.state c.place-in-Free.ensures c.index_mut-in-Free.ensures.value c.enter.ensures).0
 
 pub returns-in-Active-clause-sound : goal.returns-in-Active-clause-sound
 returns-in-Active-clause-sound c =
-    let inside : c.from-class.result < length c.self.inside.active_from.items = search rules in
-    (swept_invariant _ _ _ c.args.epoch _ _ _ _ _ _ _ _ c.self.view_is c.self.invariant c.requires.least c.index_mut-segment.ensures.value c.in-Active.ensures.sweeps c.in-Active.ensures.sound
-    (low_active _ _ _ _ _ _ c.in-Active.ensures.state (swept_class _ _ c.args.epoch c.in-Active.ensures.sweeps ∙ sym (c.from-class.ensures ∙ c.class.ensures)) inside (c.min.ensures ∙ ap (λ (k : ℕ). min k c.args.number) (c.index.ensures ∙ get_or_default _ _ _ 0 inside)))).0
+    (swept_active _ _ _ _ _ _ _ _ _ _ _ _
+    (was_swept _ _ _ c.args.epoch _ _ _ _ _ _ _ _ _ c.self.view_is c.self.invariant c.requires.least c.index_mut-segment.ensures.value c.in-Active.ensures.sweeps c.in-Active.ensures.sound c.place.ensures c.index_mut.ensures.value refl c.leave.ensures)
+    c.in-Active.ensures.state (c.class-class.ensures ∙ sym (swept_class _ _ c.args.epoch c.in-Active.ensures.sweeps)) c.place-in-Active.ensures c.index_mut-in-Active.ensures.value c.enter-in-Active.ensures).0
 
 pub returns-in-Filled-clause-sound : goal.returns-in-Filled-clause-sound
 returns-in-Filled-clause-sound c =
-    (swept_invariant _ _ _ c.args.epoch _ _ _ _ _ _ _ _ c.self.view_is c.self.invariant c.requires.least c.index_mut-segment.ensures.value c.in-Filled.ensures.sweeps c.in-Filled.ensures.sound
-    (low_filled _ _ _ _ c.in-Filled.ensures.state)).0
+    (swept_filled _ _ _ _ _ _ _ _
+    (was_swept _ _ _ c.args.epoch _ _ _ _ _ _ _ _ _ c.self.view_is c.self.invariant c.requires.least c.index_mut-segment.ensures.value c.in-Filled.ensures.sweeps c.in-Filled.ensures.sound c.place.ensures c.index_mut.ensures.value refl c.leave.ensures)
+    c.in-Filled.ensures.state).0
