@@ -21,7 +21,7 @@ use Rattle.nmgc_round.specs.View.{Opening, Seen as View}
 use Rattle.nmgc_mutator.specs.declared.mutator.Mutator.{Mutator}
 use Rattle.nmgc_turn.specs.laws.Reading.{item}
 use Rattle.nmgc_run.specs.Census.{interval_of}
-use Rattle.nmgc_run.specs.Collector.{IsMarking, EachMutator, weaks_of}
+use Rattle.nmgc_run.specs.Collector.{IsMarking, EachMutator, weak_count}
 use Rattle.nmgc_run.specs.Listing.{ListsNumbers}
 use Rattle.nmgc_run.specs.Marker.{AreAt, AreRemembered, IsCoreOf, IsTied, HasRoomToMark}
 use Rattle.nmgc_run.specs.Marks.{HasNoted, epoch_of}
@@ -54,7 +54,7 @@ none_low seen nothing k mutator there at d = absurd (nothing_in at (subst (λ (l
 
 -- a cycle begins: the marker has marked what the machine marks of the roots, and the sweeper has noted what it is to sweep
 pub cycle_is_marking : (s : State) (seen : Seen) (places : List Place) → IsWorld s.world → IsTied (next_cycle s) (cycle_begun s.allocation) seen.segments places seen.marker (opening s.world) → HasRoomToMark seen.segments seen.marker
-    → EachMutator seen (λ m mutator. weaks_of s.world m seen.weaks ≤ mutator.queue.spare) → NoneRemember seen → seen.cycle.from ≡ s.number → HasNoted (next_cycle s) seen.sweeper
+    → EachMutator seen (λ m mutator. weak_count s.world m seen.weaks ≤ mutator.queue.spare) → NoneRemember seen → seen.cycle.from ≡ s.number → HasNoted (next_cycle s) seen.sweeper
     → IsMarking (next_cycle s) (cycle_started s) seen places
 cycle_is_marking s seen places world tied room queue_room nothing from noted =
     let core : Core = opening s.world in

@@ -42,7 +42,7 @@ use Rattle.nmgc_weak.specs.declared.weaks.OldWeak.{OldWeak}
 use Rattle.nmgc_weak.specs.Closes.{CycleMayResolve, CycleCloses, HasClosed, QueuesClose}
 use Rattle.nmgc_weak.specs.Resolve.{CanResolve}
 use Rattle.nmgc_weak.specs.Weaks.{places_of}
-use Rattle.nmgc_beside.specs.Resolves.{FinishMayResolve, ResolveCloses, ClosedHolds, IsStopOf, IsClosingOf, HaveJoined, stop_opening, finished_on, closed_state}
+use Rattle.nmgc_beside.specs.Resolves.{FinishMayResolve, ResolveCloses, ClosedHolds, IsStopOf, IsClosingOf, FinalisersInHand, stop_opening, finished_on, closed_state}
 use Rattle.nmgc_beside.specs.Rest.{IsAtRest, IsMachineAtRest}
 use Rattle.nmgc_beside.proofs.Closing.{machine_scans}
 use Rattle.nmgc_beside.proofs.Opens.{rest_opens}
@@ -219,7 +219,7 @@ module _ (layout : Layout) (c : Cycle) (s : State) (seen : Seen) (mutators : Lis
             };
       }
 
-  roots_then : QueuesClose → (queues : List FinQueue) (ends : List MutatorEnd) → HaveJoined seen deaths queues ends → RepresentsRoots stood w (registers_of ends) (queues_of ends) (serials_of ends)
+  roots_then : QueuesClose → (queues : List FinQueue) (ends : List MutatorEnd) → FinalisersInHand seen deaths queues ends → RepresentsRoots stood w (registers_of ends) (queues_of ends) (serials_of ends)
   roots_then close queues ends j =
       let before : RepresentsRoots stood machine.world (registers_of ends) (map (λ (q : FinQueue). q.words) j.old) (serials_of ends) = subst (λ (y : World × List ℕ × List (List ℕ) × List ℕ). RepresentsRoots stood y.0 y.1 y.2 y.3) (λ i. (sym rest_then.machine.world_is i, sym j.registers i, j.old_are i, sym j.serials i)) k.stop.heap.holds.roots in
       let after = close o dead deaths (registers_of ends) j.old queues (serials_of ends) is_world k.resolved.deaths_are k.resolved.closing.lists.ordered before j.joined in
@@ -228,7 +228,7 @@ module _ (layout : Layout) (c : Cycle) (s : State) (seen : Seen) (mutators : Lis
   listed_then : ListsWeaks layout stood w (places_of list)
   listed_then = subst (λ (y : Layout × World). ListsWeaks y.0 stood y.1 (places_of list)) (λ i. (k.stop.heap.holds.layout_is i, world_is i)) k.resolved.listed
 
-  heap_then : QueuesClose → (queues : List FinQueue) (ends : List MutatorEnd) → HaveJoined seen deaths queues ends → (g : HoldsAtStop layout t words marked ends (places_of list)) × (g.places ≡ stood)
+  heap_then : QueuesClose → (queues : List FinQueue) (ends : List MutatorEnd) → FinalisersInHand seen deaths queues ends → (g : HoldsAtStop layout t words marked ends (places_of list)) × (g.places ≡ stood)
   heap_then close queues ends j = (
     record {
       places = stood;

@@ -3,7 +3,6 @@ use Rattle.std.specs.Prelude.{ℕ, ◌≡◌, ◌+◌, ◌≤◌, List, length}
 use Rattle.std.specs.List.{flat_map}
 use Rattle.nmgc_graph.specs.World.{IsWorld}
 use Rattle.nmgc_reach.specs.Reachable.{IsSound}
-use Rattle.nmgc_segment.specs.declared.state.State.TheVariants as stands
 use Rattle.nmgc_object.specs.declared.layout.Layout.{Layout}
 use Rattle.nmgc_core.specs.State.{State as Core, opening}
 use Rattle.nmgc_alloc.specs.Segments.{Segments, IsSegments}
@@ -18,7 +17,7 @@ use Rattle.nmgc_round.specs.Marking.{Marks, marks_of, marks_after}
 use Rattle.nmgc_mutator.specs.declared.mutator.Mutator.{Mutator}
 use Rattle.nmgc_turn.specs.Worked.{Done}
 use Rattle.nmgc_run.specs.Census.{interval_of}
-use Rattle.nmgc_run.specs.Collector.{EachMutator, IsMarking, weaks_of}
+use Rattle.nmgc_run.specs.Collector.{EachMutator, IsMarking, weak_count}
 use Rattle.nmgc_run.specs.Heap.{HoldsAtStop}
 use Rattle.nmgc_run.specs.Marks.{HasNoted, epoch_of}
 use Rattle.nmgc_run.specs.Seen.{Seen, MutatorSeen}
@@ -39,7 +38,7 @@ abbrev pub SnapshotIsMarking : Type 0
 SnapshotIsMarking = (layout : Layout) (s : State) (words : List ℕ) (old : Segments) (new : Seen) (ends : List MutatorEnd) (weaks : List Place) (o : Opening) (spare : ℕ) → (h : HoldsAtStop layout s words old ends weaks) → IsWorld s.world → IsSegments new.segments
     → o.layout ≡ layout → o.places ≡ h.places → o.core.snapshot ≡ s.world
     → HasMarked (all_prepared old) new.segments (blank (epoch_of (s.begun + 1)) spare) new.marker 0 → IsTiedByPlaces o (marks_of (opening o.core.snapshot)) new.segments new.marker
-    → EachMutator new (λ m mutator. weaks_of s.world m new.weaks ≤ mutator.queue.spare) → NoneRemember new → new.cycle.from ≡ s.number → HasNoted (next_cycle s) new.sweeper
+    → EachMutator new (λ m mutator. weak_count s.world m new.weaks ≤ mutator.queue.spare) → NoneRemember new → new.cycle.from ≡ s.number → HasNoted (next_cycle s) new.sweeper
     → IsMarking (next_cycle s) (cycle_started s) new h.places
 
 -- it worked beside the slices of a round, after which its marks are those of the collector's scans: it marks on, with the rows of the round and what the mutators remember of it

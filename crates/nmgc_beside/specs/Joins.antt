@@ -12,7 +12,7 @@ use Rattle.nmgc_heap.specs.Moves.{Moved, Copies, Forwards, new_place}
 use Rattle.nmgc_heap.specs.Places.{Place}
 use Rattle.nmgc_heap.specs.Roots.{ListsWeaks}
 use Rattle.nmgc_blocks.specs.Stopped.{Stopped, IsStopped, IsSettled, young_base}
-use Rattle.nmgc_run.specs.Collector.{weaks_of}
+use Rattle.nmgc_run.specs.Collector.{weak_count}
 use Rattle.nmgc_beside.specs.Stays.{places_after}
 
 -- the header of a weak pointer
@@ -50,4 +50,4 @@ JoinersAreNew = (t : Stopped) (s new : Segments) (words after : List ℕ) (nurse
 
 -- of the weak pointers of a snapshot no more are listed where none was added
 abbrev pub FewerListed : Type 0
-FewerListed = (snapshot : World) (m : ℕ) (old list : List Place) → IsInOrder (map (λ (p : Place). p.name) list) → ((p : Place) → Contains list p → IsSome (node_of snapshot p.name) → Contains old p) → weaks_of snapshot m list ≤ weaks_of snapshot m old
+FewerListed = (snapshot : World) (m : ℕ) (old list : List Place) → IsInOrder (map (λ (p : Place). p.name) list) → ((p : Place) → Contains list p → IsSome (node_of snapshot p.name) → Contains old p) → weak_count snapshot m list ≤ weak_count snapshot m old

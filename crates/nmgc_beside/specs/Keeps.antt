@@ -7,7 +7,7 @@ use Rattle.nmgc_blocks.specs.Stopped.{Stopped}
 use Rattle.nmgc_mutator.specs.declared.mutator.Mutator.{Mutator}
 use Rattle.nmgc_mutator.specs.Records.{numbers}
 use Rattle.nmgc_run.specs.Census.{interval_of}
-use Rattle.nmgc_run.specs.Collector.{IsMarking, EachMutator, IsPacedAtStop, IsPacedAfterRound, weaks_of}
+use Rattle.nmgc_run.specs.Collector.{IsMarking, EachMutator, IsPacedAtStop, IsPacedAfterRound, weak_count}
 use Rattle.nmgc_run.specs.Seen.{Seen, MarkerSeen, MutatorSeen}
 use Rattle.nmgc_run.specs.State.{Cycle, State}
 use Rattle.nmgc_beside.specs.Stays.{HasPromoted, places_after}
@@ -20,7 +20,7 @@ NoneRemember seen = EachMutator seen (λ m mutator. mutator.entries ≡ [])
 pub record HasLeft (c : Cycle) (old new : Seen) : Type 0 where
   pub cycle : new.cycle ≡ old.cycle
   pub sweeper : new.sweeper ≡ old.sweeper
-  pub queue_room : EachMutator new (λ m mutator. weaks_of c.snapshot m new.weaks ≤ mutator.queue.spare)
+  pub queue_room : EachMutator new (λ m mutator. weak_count c.snapshot m new.weaks ≤ mutator.queue.spare)
 
 -- what contracts see of the mutators: their remembered places
 abbrev pub ShowEntries : Seen → List Mutator → Type 0

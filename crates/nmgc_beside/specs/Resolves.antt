@@ -67,7 +67,7 @@ abbrev pub closed_state : Cycle → State → List Name → State
 closed_state c s dead = record s { world = closed s.world dead; progress = sweeping c s.number }
 
 -- what the mutators have in hand once the finalisers have joined: the queues are longer, and registers and serials as they were
-pub record HaveJoined (seen : Seen) (deaths : List Death) (queues : List FinQueue) (ends : List MutatorEnd) : Type 0 where
+pub record FinalisersInHand (seen : Seen) (deaths : List Death) (queues : List FinQueue) (ends : List MutatorEnd) : Type 0 where
   pub old : List FinQueue
   pub old_are : queues_of (ends_of seen) ≡ map (λ (q : FinQueue). q.words) old
   pub joined : AllJoin deaths old queues
@@ -78,7 +78,7 @@ pub record HaveJoined (seen : Seen) (deaths : List Death) (queues : List FinQueu
 
 -- words, roots and list then stand for the closed world, at the same places; no snapshot is tracked any more
 abbrev pub ClosedHolds : Type 0
-ClosedHolds = (layout : Layout) (c : Cycle) (s : State) (seen : Seen) (mutators : List Mutator) (words : List ℕ) (marked : Segments) (marker : MarkerSeen) (list : List OldWeak) (deaths : List Death) (queues : List FinQueue) (ends : List MutatorEnd) → (k : IsClosingOf layout c s seen mutators words marked marker list deaths) → HaveJoined seen deaths queues ends →
+ClosedHolds = (layout : Layout) (c : Cycle) (s : State) (seen : Seen) (mutators : List Mutator) (words : List ℕ) (marked : Segments) (marker : MarkerSeen) (list : List OldWeak) (deaths : List Death) (queues : List FinQueue) (ends : List MutatorEnd) → (k : IsClosingOf layout c s seen mutators words marked marker list deaths) → FinalisersInHand seen deaths queues ends →
     (g : HoldsAtStop layout (closed_state c s k.resolved.closing.dead) words marked ends (places_of list)) × (g.places ≡ k.stop.heap.places)
 
 -- what contracts see of a cycle that was closed at this stop, where these died

@@ -8,7 +8,7 @@ use Rattle.nmgc_graph.specs.declared.command.Command.{Command}
 use Rattle.nmgc_graph.specs.declared.command.Reply.{Reply}
 use Rattle.nmgc_graph.specs.Command.{words_made}
 use Rattle.nmgc_graph.specs.History.{Row}
-use Rattle.nmgc_script.specs.Bench.{HasFewCommands}
+use Rattle.nmgc_script.specs.Limits.{HasFewCommands}
 use Rattle.nmgc_script.specs.declared.script.Config.{Config}
 use Rattle.nmgc_script.specs.declared.script.Script.{Script}
 use Rattle.nmgc_journal.specs.declared.report.Report.{Report}

@@ -20,7 +20,7 @@ pub enum Status {
     /// There are more bytes than a script may have. Number 5.
     TooLong,
     /// The run ended at a stop where commands were left, and where even a full cycle left fewer segments free
-    /// than the reserve; the report's text was written. Number 6.
+    /// than the reserve; the report's text or the summary was written. Number 6.
     HeapFull,
     /// There was no memory. Number 7.
     NoMemory,
@@ -54,7 +54,7 @@ impl Status {
 }
 
 /// The status, and the report where a script was run, whether to its end or until its heap was full. Where
-/// the sink failed, the report is there if it was its text that was to be written.
+/// the sink failed, the report is there if it was its text or its summary that was to be written.
 #[derive(Drop)]
 pub struct Ended {
     pub status: Status,

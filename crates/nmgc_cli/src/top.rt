@@ -157,7 +157,7 @@ fn run_bytes<R: Threads + Sync>(alloc: Global, rt: &R, bytes: &[u8]) -> Result<R
     Ok(run_script(alloc, rt, &script)?)
 }
 
-/// The report of a script's run, whose threads pass no gate.
+/// The report of a script's run, under a gate that holds nobody back. Asks that the script is within the limits.
 pub fn run_script<R: Threads + Sync>(
     alloc: Global,
     rt: &R,

@@ -27,6 +27,7 @@ added_none s m room = record {
     stands = λ words a h. h;
   };
   tied = λ o k h. h;
+  turns = refl;
 }
 
 pub added_then : (a b : List ℕ) (s t u : Segments) (m n k : MarkerSeen) → HasAdded a s t m n → HasAdded b t u n k → HasAdded (a ++ b) s u m k
@@ -48,6 +49,7 @@ added_then a b s t u m n k x y =
         stands = λ words l h. y.marked.stands words l (x.marked.stands words l h);
       };
       tied = λ o l h. subst (λ (p : Marks). IsTied o p u k) (sym (places_after o l a b)) (y.tied o (with_places o l a) (x.tied o l h));
+      turns = y.turns ∙ x.turns;
     }
 
 -- one mutator more

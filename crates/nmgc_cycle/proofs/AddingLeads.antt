@@ -16,7 +16,7 @@ use Rattle.nmgc_journal.specs.declared.report.Phase.TheVariants as phase
 use Rattle.nmgc_minor.specs.Promotion.{IsFor}
 use Rattle.nmgc_mutator.specs.declared.mutator.Mutator.{Mutator}
 use Rattle.nmgc_script.specs.declared.script.Script.{Script}
-use Rattle.nmgc_run.specs.Collector.{AreNurseries, EachMutator, HoldsInCycle, IsAtRest, IsMarking, weaks_of}
+use Rattle.nmgc_run.specs.Collector.{AreNurseries, EachMutator, HoldsInCycle, IsAtRest, IsMarking, weak_count}
 use Rattle.nmgc_run.specs.Heap.{HoldsAtStop, HasAllRegisters, registers_of, queues_of, serials_of}
 use Rattle.nmgc_run.specs.Marker.{HasRoomToMark}
 use Rattle.nmgc_run.specs.Seen.{MarkerSeen, MutatorSeen, end_of, ends_of, nurseries_of}
@@ -31,7 +31,7 @@ use Rattle.nmgc_cycle.specs.declared.progress.Marking.{Marking}
 use Rattle.nmgc_cycle.specs.declared.progress.Progress.{Progress as Doing}
 use Rattle.nmgc_cycle.specs.declared.progress.Progress.TheVariants as doing
 use Rattle.nmgc_cycle.specs.Cycles.{AddsTo, CanAdd, HasAdded, HasTaken, remembering_nothing, remembered_by}
-use Rattle.nmgc_cycle.specs.Keeps.{HasClosingRoom, IsKept, IsOwn, Sweeps}
+use Rattle.nmgc_cycle.specs.Keeps.{HasClosingRoom, IsWellFormed, IsOwn, Sweeps}
 use Rattle.nmgc_cycle.specs.Shown.{seen, seen_mutator, marker_in, phase_in}
 use Rattle.nmgc_cycle.specs.Steps.{StandsPromoted, StandsWithin, IsPacedPromoted, IsPacedWithin, AddingLeads}
 use Rattle.nmgc_cycle.proofs.Pacing.{paced_within}
@@ -83,12 +83,12 @@ module _ (script : Script) (old : Collector) (s : State) (h : StandsPromoted scr
       subst IsAtRest (sym (x.2 ∙ ap seen_mutator was.2)) (record { recorded = left.recorded; young_weaks = left.young_weaks; entries = refl })
 
   -- the queues have room as before
-  pub room_left : (snapshot : World) → EachMutator (seen old) (λ m mutator. weaks_of snapshot m (seen old).weaks ≤ mutator.queue.spare) → EachMutator (seen then) (λ m mutator. weaks_of snapshot m (seen then).weaks ≤ mutator.queue.spare)
+  pub room_left : (snapshot : World) → EachMutator (seen old) (λ m mutator. weak_count snapshot m (seen old).weaks ≤ mutator.queue.spare) → EachMutator (seen then) (λ m mutator. weak_count snapshot m (seen then).weaks ≤ mutator.queue.spare)
   room_left snapshot room k m e =
       let x = map_item seen_mutator mutators.items k m e in
       let was = one_forgot k x.0 x.1 in
-      let had : weaks_of snapshot k (seen old).weaks ≤ was.0.queue.spare = room k (seen_mutator was.0) (seen_at old.mutators.items k was.0 was.1) in
-      subst (λ (n : MutatorSeen). weaks_of snapshot k (seen old).weaks ≤ n.queue.spare) (sym (x.2 ∙ ap seen_mutator was.2)) had
+      let had : weak_count snapshot k (seen old).weaks ≤ was.0.queue.spare = room k (seen_mutator was.0) (seen_at old.mutators.items k was.0 was.1) in
+      subst (λ (n : MutatorSeen). weak_count snapshot k (seen old).weaks ≤ n.queue.spare) (sym (x.2 ∙ ap seen_mutator was.2)) had
 
   -- there are as many
   pub many : length mutators.items ≡ length old.mutators.items
@@ -105,7 +105,7 @@ module _ (script : Script) (old : Collector) (s : State) (h : StandsPromoted scr
         no_replies = o.no_replies;
       })
 
-  kept : IsKept script then
+  kept : IsWellFormed script then
   kept = record {
     layout = layout ∙ h.kept.layout;
     sound = sound;

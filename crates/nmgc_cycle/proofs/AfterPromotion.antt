@@ -32,7 +32,7 @@ use Rattle.nmgc_run.specs.Promotion.{Promotes}
 use Rattle.nmgc_run.specs.Seen.{MutatorSeen, ends_of, nurseries_of}
 use Rattle.nmgc_run.specs.State.{Plan, State, plan_of, layout_of}
 use Rattle.nmgc_cycle.specs.declared.collector.Collector.{Collector}
-use Rattle.nmgc_cycle.specs.Keeps.{CanStop, IsKept, IsOwn}
+use Rattle.nmgc_cycle.specs.Keeps.{CanStop, IsWellFormed, IsOwn}
 use Rattle.nmgc_cycle.specs.Roots.{HasRegisters, own_registers, no_queue, given_back}
 use Rattle.nmgc_cycle.specs.Shown.{seen, seen_mutator, words_in}
 use Rattle.nmgc_cycle.specs.Steps.{HasOnlyEntries}
@@ -45,15 +45,15 @@ use Rattle.nmgc_cycle.proofs.RootLists.{seen_at}
 use Rattle.nmgc_cycle.proofs.Views.{registers_seen, queues_seen, serials_seen, nurseries_seen, whole_seen}
 
 -- the mutators of a collector have all their registers
-pub all_whole : (script : Script) (c : Collector) → IsKept script c → All HasRegisters c.mutators.items
+pub all_whole : (script : Script) (c : Collector) → IsWellFormed script c → All HasRegisters c.mutators.items
 all_whole script c kept k d lt = (kept.own k (slice_index_or c.mutators.items k d) (slice_get-get_or c.mutators.items k d lt)).whole.size
 
 -- a stop may follow, so the collector is kept
-pub kept_of : (script : Script) (c : Collector) → CanStop script c → IsKept script c
+pub kept_of : (script : Script) (c : Collector) → CanStop script c → IsWellFormed script c
 kept_of script c (inl fresh) = fresh.kept
 kept_of script c (inr worked) = worked.kept
 
-module _ (script : Script) (old new : Collector) (kept : IsKept script old) (b : Begins script old) (p : HasPromoted old new) where
+module _ (script : Script) (old new : Collector) (kept : IsWellFormed script old) (b : Begins script old) (p : HasPromoted old new) where
   abbrev pub plan : Plan
   plan = plan_of script
 

@@ -27,7 +27,7 @@ use Rattle.nmgc_cycle.specs.declared.progress.Progress.{Progress as Doing}
 use Rattle.nmgc_cycle.specs.declared.progress.Progress.TheVariants as doing
 use Rattle.nmgc_cycle.specs.declared.progress.Sweeping.{Sweeping}
 use Rattle.nmgc_cycle.specs.Cycles.{row_of, Ends}
-use Rattle.nmgc_cycle.specs.Keeps.{IsKept, Sweeps}
+use Rattle.nmgc_cycle.specs.Keeps.{IsWellFormed, Sweeps}
 use Rattle.nmgc_cycle.specs.Shown.{seen, sweeper_in, cycle_in, phase_in, died}
 use Rattle.nmgc_cycle.specs.Steps.{StandsAt, EndLeads}
 use Rattle.nmgc_reach.specs.laws.ItemLaws.{nothing_in}
@@ -39,7 +39,7 @@ ended c turns row = record c { progress = doing.Idle; turns = turns; cycles = c.
 abbrev pub idled : State → State
 idled s = record s { progress = idle }
 
-still_kept : (script : Script) (c : Collector) (turns : ℕ) (row : CycleRow) → IsKept script c → IsKept script (ended c turns row)
+still_kept : (script : Script) (c : Collector) (turns : ℕ) (row : CycleRow) → IsWellFormed script c → IsWellFormed script (ended c turns row)
 still_kept script c turns row k = record {
   layout = k.layout;
   sound = k.sound;
@@ -134,14 +134,14 @@ module _ (script : Script) (c : Collector) (s : State) (h : StandsAt script c s)
   }
 
   -- the cycle ended
-  pub ends_now : EndTellsCensus → (new : Collector) → HasNone wanted.Sweeping c.segments → new ≡ ended c new.turns row → (t : State) × (rows : List CycleRow) × EndsOrWaits s.progress s t rows × (new.cycles ≡ c.cycles ++ rows) × StandsAt script new t
+  pub ends_now : EndTellsCensus → (new : Collector) → HasNone wanted.Sweeping c.segments → new ≡ ended c w.sweeper.turns row → (t : State) × (rows : List CycleRow) × EndsOrWaits s.progress s t rows × (new.cycles ≡ c.cycles ++ rows) × StandsAt script new t
   ends_now law new waits new_is =
       let swept : IsSwept s = none_to_sweep c.segments (seen c).words s.allocation h.heap.holds.stands waits in (
         idled s,
         row ∷ [],
         subst (λ (q : Progress). EndsOrWaits q s (idled s) (row ∷ [])) (sym is) (inl (swept, record { row = row; census = census law swept; told = refl; rest = refl })),
         ap (λ (x : Collector). x.cycles) new_is,
-        subst (λ (x : Collector). StandsAt script x (idled s)) (sym new_is) (stands_then new.turns swept),
+        subst (λ (x : Collector). StandsAt script x (idled s)) (sym new_is) (stands_then w.sweeper.turns swept),
       )
 
 -- where no segment waits by the allocation state, none does

@@ -15,7 +15,7 @@ use Rattle.nmgc_run.specs.Slice.{has_left, program_of}
 use Rattle.nmgc_run.specs.State.{Plan, State, is_idle, free_count, reserve_of, layout_of, plan_of}
 use Rattle.nmgc_run.specs.Stop.{answer_of}
 use Rattle.nmgc_cycle.specs.declared.collector.Collector.{Collector}
-use Rattle.nmgc_cycle.specs.Keeps.{IsStill}
+use Rattle.nmgc_cycle.specs.Keeps.{IsAfterStop}
 use Rattle.nmgc_cycle.specs.Shown.{seen}
 
 -- it gave no end: where commands are left, it isn't short of segments
@@ -37,7 +37,7 @@ enough plan s e = elim (not_less (has_left s.left) (nat_lt (free_count s) (reser
   | inr less ↦ inr (ltb-false (free_count s) (reserve_of plan) less)
 ]
 
-module _ (script : Script) (c : Collector) (run : Run) (still : IsStill script c run) (goes_on : c.answered ≡ None) where
+module _ (script : Script) (c : Collector) (run : Run) (still : IsAfterStop script c run) (goes_on : c.answered ≡ None) where
   -- the stop gave no end
   pub went_on : answer_of (plan_of script) (last_state run) ≡ None
   went_on = sym still.at_stop.answered ∙ goes_on

@@ -28,7 +28,7 @@ use Rattle.nmgc_cycle.specs.declared.progress.Progress.{Progress as Doing}
 use Rattle.nmgc_cycle.specs.declared.progress.Progress.TheVariants as doing
 use Rattle.nmgc_cycle.specs.Full.{all_filed as filed_by}
 use Rattle.nmgc_cycle.specs.FullLaws.{FilingLeads}
-use Rattle.nmgc_cycle.specs.Keeps.{IsKept}
+use Rattle.nmgc_cycle.specs.Keeps.{IsWellFormed}
 use Rattle.nmgc_cycle.specs.Shown.{seen, words_in, phase_in}
 use Rattle.nmgc_cycle.specs.Steps.{StandsAt}
 use Rattle.nmgc_cycle.proofs.StepReady.{idle_state}
@@ -123,7 +123,7 @@ module _ (script : Script) (c : Collector) (st : State) (h : StandsAt script (re
     blocks = λ n tracked other. let has = h.sound.blocks n tracked other in (has.0, has.1, (retired_names st.allocation has.0 has.1 n).1 has.2);
   }
 
-  still_kept : IsKept script next
+  still_kept : IsWellFormed script next
   still_kept = record {
     layout = h.kept.layout;
     sound = sound;

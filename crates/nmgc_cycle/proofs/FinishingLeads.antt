@@ -6,7 +6,7 @@ use Rattle.nmgc_alloc.specs.AllocState.{StandsFor}
 use Rattle.nmgc_alloc.specs.Segments.{Segments, IsSegments}
 use Rattle.nmgc_alloc.specs.laws.Keeping.{carried_stands}
 use Rattle.nmgc_beside.specs.Heaps.{HeapRests, MarkedHolds}
-use Rattle.nmgc_beside.specs.Resolves.{FinishMayResolve, ResolveCloses, ClosedHolds, ClosedCycleSweeps, IsStopOf, IsClosingOf, HaveJoined as HaveJoinedInRun, TellsDeaths, closed_state, finished_on, stop_opening}
+use Rattle.nmgc_beside.specs.Resolves.{FinishMayResolve, ResolveCloses, ClosedHolds, ClosedCycleSweeps, IsStopOf, IsClosingOf, FinalisersInHand as HaveJoinedInRun, TellsDeaths, closed_state, finished_on, stop_opening}
 use Rattle.nmgc_beside.specs.Sweeps.{MarkedWait, all_carried}
 use Rattle.nmgc_blocks.specs.Nurseries.{AreEmpty}
 use Rattle.nmgc_graph.specs.declared.value.Name.{Name}
@@ -43,7 +43,7 @@ use Rattle.nmgc_journal.specs.declared.report.Phase.TheVariants as phase
 use Rattle.nmgc_script.specs.declared.script.Script.{Script}
 use Rattle.nmgc_segment.specs.Marks.{IsEpoch}
 use Rattle.nmgc_sweep.specs.Statements.{ClosingBeginsWork, IsClosedNow, LeftStays}
-use Rattle.nmgc_sweep.specs.Sweeper.{AreLeft}
+use Rattle.nmgc_sweep.specs.Sweeper.{AreLeft, HasNotes, turned}
 use Rattle.nmgc_sweep.specs.Work.{IsAtWork}
 use Rattle.nmgc_weak.specs.declared.weaks.Death.{Death}
 use Rattle.nmgc_weak.specs.Closes.{HasClosed as IsClosedBy}
@@ -57,7 +57,7 @@ use Rattle.nmgc_cycle.specs.declared.progress.Sweeping.{Sweeping}
 use Rattle.nmgc_cycle.specs.Cycles.{IsClosed}
 use Rattle.nmgc_cycle.specs.Full.{ClosesNow as ClosesNowBy, HasClosedNow}
 use Rattle.nmgc_cycle.specs.FullLaws.{FinishingNowLeads}
-use Rattle.nmgc_cycle.specs.Keeps.{IsKept}
+use Rattle.nmgc_cycle.specs.Keeps.{IsWellFormed}
 use Rattle.nmgc_cycle.specs.Roots.{queues_in}
 use Rattle.nmgc_cycle.specs.Shown.{died, phase_in, seen, seen_mutator, words_in}
 use Rattle.nmgc_cycle.specs.Steps.{StandsAt, IsPacedWithin, FinishingLeads}
@@ -119,7 +119,7 @@ module _ (Paced : Cycle → State → Seen → Type 0) (laws : ClosingLaws) (scr
   segments = all_carried cl.marker.epoch cl.marked
 
   abbrev work : Sweeping
-  work = record { from = m.from; closed = st.number; kept = cl.marker.marked; sweeper = m.sweeper }
+  work = record { from = m.from; closed = st.number; kept = cl.marker.marked; sweeper = turned m.sweeper m.marker.turns }
 
   -- the cycle as it marked, and what the calls did
 
@@ -231,15 +231,18 @@ module _ (Paced : Cycle → State → Seen → Type 0) (laws : ClosingLaws) (scr
     begun = h.course.0.some;
   }
 
-  at_work : IsAtWork k st.number words st.allocation segments (seen next).cycle m.sweeper
-  at_work = laws.works k st.number words st.allocation segments (seen next).cycle m.sweeper stands_then h.sweeper.0.notes left_then h.sweeper.1 h.sweeper.2 closed_now
+  notes_then : HasNotes k (turned m.sweeper m.marker.turns)
+  notes_then = let was = h.sweeper.0.notes in record { noted = was.noted; notes = was.notes; once = was.once }
+
+  at_work : IsAtWork k st.number words st.allocation segments (seen next).cycle (turned m.sweeper m.marker.turns)
+  at_work = laws.works k st.number words st.allocation segments (seen next).cycle (turned m.sweeper m.marker.turns) stands_then notes_then left_then h.sweeper.1 h.sweeper.2 closed_now
 
   -- the collector keeps what it keeps, and the state is sound
 
   same_total : length words ≡ length before
   same_total = heap.0.holds.represents.total ∙ sym h.heap.holds.represents.total
 
-  still_kept : IsKept script next
+  still_kept : IsWellFormed script next
   still_kept = record {
     layout = layout_is;
     sound = subst (λ (g : Segments). IsSegments g) cl.carried cl.sound.1;
@@ -332,7 +335,7 @@ module _ (Paced : Cycle → State → Seen → Type 0) (laws : ClosingLaws) (scr
       rest = rest_then;
       cycle = sweeps_then;
       closing = tt;
-      sweeper = (record { notes = h.sweeper.0.notes; left = left_then }, at_work);
+      sweeper = (record { notes = notes_then; left = left_then }, at_work);
     },
   )
 
@@ -362,7 +365,7 @@ module _ (Paced : Cycle → State → Seen → Type 0) (laws : ClosingLaws) (scr
       let all = leads Paced laws script old s k m stood new some w cl in
       let t : State = closed_state k s (resolved Paced laws script old s k m stood new some w cl).closing.dead in
       let carried : Segments = all_carried cl.marker.epoch cl.marked in
-      let next : new ≡ record old { words = new.words; segments = carried; progress = doing.Sweeping (record { from = m.from; closed = s.number; kept = cl.marker.marked; sweeper = m.sweeper }); weaks = new.weaks; mutators = new.mutators } =
+      let next : new ≡ record old { words = new.words; segments = carried; progress = doing.Sweeping (record { from = m.from; closed = s.number; kept = cl.marker.marked; sweeper = turned m.sweeper m.marker.turns }); weaks = new.weaks; mutators = new.mutators } =
       rest
       ∙ ap (λ (g : Segments). record old { words = new.words; segments = g; progress = new.progress; weaks = new.weaks; mutators = new.mutators }) cl.carried
       ∙ ap (λ (p : Doing). record old { words = new.words; segments = carried; progress = p; weaks = new.weaks; mutators = new.mutators }) (progress ∙ ap doing.Sweeping cl.is) in (

@@ -27,7 +27,7 @@ use Rattle.nmgc_heap.specs.Roots.{ListsWeaks, RepresentsRoots}
 use Rattle.nmgc_weak.specs.declared.weaks.OldWeak.{OldWeak}
 use Rattle.nmgc_weak.specs.Weaks.{places_of}
 use Rattle.nmgc_cycle.specs.declared.collector.Collector.{Collector}
-use Rattle.nmgc_cycle.specs.Keeps.{IsOwn, IsKept, IsFresh}
+use Rattle.nmgc_cycle.specs.Keeps.{IsOwn, IsWellFormed, IsFresh}
 use Rattle.nmgc_cycle.specs.declared.progress.Progress.TheVariants as progress
 use Rattle.nmgc_cycle.specs.Shown.{seen, seen_mutator, phase_in}
 use Rattle.nmgc_cycle.proofs.Empty.{fit_blocks, place_of_g, g_has_place, lists_no_weaks, no_marks}
@@ -85,7 +85,7 @@ module _ (script : Script) (c : Collector) (made : IsMade (layout_of (plan_of sc
         no_replies = is.replies;
       }
 
-  kept : IsKept script c
+  kept : IsWellFormed script c
   kept = record {
     layout = same_layout;
     sound = made.sound;

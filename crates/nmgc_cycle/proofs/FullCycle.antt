@@ -18,7 +18,6 @@ use Rattle.nmgc_run.specs.Slice.{has_left}
 use Rattle.nmgc_run.specs.Sound.{IsSoundState}
 use Rattle.nmgc_run.specs.State.{Plan, State, Cycle, Progress, idle, marking, sweeping, cycle_started, free_count, plan_of}
 use Rattle.nmgc_run.specs.Stop.{Finishes, DoesFullCycle, EndsOrWaits, IsFullDue, Proceeds, is_short, all_filed}
-use Rattle.nmgc_run.specs.Sweep.{SweepsRest}
 use Rattle.nmgc_script.specs.declared.script.Script.{Script}
 use Rattle.nmgc_sweep.specs.declared.notes.Section.{Section}
 use Rattle.nmgc_cycle.specs.declared.collector.Collector.{Collector}
@@ -30,7 +29,7 @@ use Rattle.nmgc_cycle.specs.Cycles.{Begins, Ends, CanBegin, HasStarted}
 use Rattle.nmgc_cycle.specs.Full as full
 use Rattle.nmgc_cycle.specs.Full.{HasClosedNow, HasFinished}
 use Rattle.nmgc_cycle.specs.FullLaws.{StandsAtStop, FinishingNowLeads, SweepingRestLeads, FinishLeads, FilingLeads, FullLeads, ProceedingLeads}
-use Rattle.nmgc_cycle.specs.Keeps.{IsKept, Sweeps}
+use Rattle.nmgc_cycle.specs.Keeps.{IsWellFormed, Sweeps}
 use Rattle.nmgc_cycle.specs.Roots.{HasRegisters}
 use Rattle.nmgc_cycle.specs.Shown.{seen, words_in}
 use Rattle.nmgc_cycle.specs.Limits.{IsInLimits}
@@ -158,7 +157,7 @@ module _ (script : Script) (c : Collector) (s : State) (a b : Bool) where
   abbrev then_state : State
   then_state = record s { collect = a; full = b }
 
-  kept_asked : IsKept script c → IsKept script told
+  kept_asked : IsWellFormed script c → IsWellFormed script told
   kept_asked k = record {
     layout = k.layout;
     sound = k.sound;

@@ -18,7 +18,7 @@ use Rattle.nmgc_script.specs.declared.script.Script.{Script}
 use Rattle.nmgc_run.specs.Run.{Run}
 use Rattle.nmgc_cycle.specs.declared.collector.Collector.{Collector}
 use Rattle.nmgc_cycle.specs.declared.worker.Worker.{Worker}
-use Rattle.nmgc_cycle.specs.Keeps.{IsStill}
+use Rattle.nmgc_cycle.specs.Keeps.{IsAfterStop}
 use Rattle.nmgc_cycle.specs.Limits.{IsInLimits}
 use Rattle.nmgc_cycle.specs.Working.{left_at, HaveAllWorked, HasWorkedOn, worker_of, workers_of, mutator_of, seat_of}
 use Rattle.nmgc_cycle.proofs.Items.{item, chosen}
@@ -46,7 +46,7 @@ mapped f xs k y e =
     let there : slice_get (map f xs) k ≡ Some (f x.0) = slice_get-map f xs k ∙ ap (option_map f) x.1 in
     (x.0, x.1, cc (e, there))
 
-module _ (script : Script) (c : Collector) (run : Run) (limits : IsInLimits script) (still : IsStill script c run) (o : Opening) (op : IsOpened script c run still o) (round : Round) (seats : List RoundSeat) (has : HasSeats o round seats) (new : List Worker) (worked : HaveAllWorked round script c.positions.items (workers_of c.mutators.items seats) new) where
+module _ (script : Script) (c : Collector) (run : Run) (limits : IsInLimits script) (still : IsAfterStop script c run) (o : Opening) (op : IsOpened script c run still o) (round : Round) (seats : List RoundSeat) (has : HasSeats o round seats) (new : List Worker) (worked : HaveAllWorked round script c.positions.items (workers_of c.mutators.items seats) new) where
   old_count : length (workers_of c.mutators.items seats) ≡ length c.mutators.items
   old_count = workers_count c.mutators.items seats (seats_counted c.mutators.items o op.hands_are round seats has)
 

@@ -17,14 +17,14 @@ use Rattle.nmgc_sweep.specs.Sweeper.{Sweeper, AreLeft}
 use Rattle.nmgc_cycle.specs.declared.collector.Collector.{Collector}
 use Rattle.nmgc_cycle.specs.declared.progress.Progress.TheVariants as doing
 use Rattle.nmgc_cycle.specs.Cycles.{CanHelp}
-use Rattle.nmgc_cycle.specs.Keeps.{IsStill, Sweeps}
+use Rattle.nmgc_cycle.specs.Keeps.{IsAfterStop, Sweeps}
 use Rattle.nmgc_cycle.specs.Shown.{seen, marker_in, sweeper_in}
 use Rattle.nmgc_cycle.specs.Limits.{IsInLimits}
 use Rattle.nmgc_cycle.specs.Working.{OpensIn}
 use Rattle.nmgc_cycle.proofs.Opened.{CanOpenRounds, in_cycle}
 use Rattle.nmgc_cycle.proofs.Phases.{when_idle, when_marking, when_sweeping}
 
-module _ (laws : CanOpenRounds) (begins : RoundBeginsTied) (script : Script) (c : Collector) (run : Run) (limits : IsInLimits script) (still : IsStill script c run) (round : Round) (seat : RoundSeat) (at : IsAt round seat) where
+module _ (laws : CanOpenRounds) (begins : RoundBeginsTied) (script : Script) (c : Collector) (run : Run) (limits : IsInLimits script) (still : IsAfterStop script c run) (round : Round) (seat : RoundSeat) (at : IsAt round seat) where
   -- the marker is tied to the opening's marks
   tied : (k : Cycle) → (last_state run).progress ≡ marking k → (h : IsMarking k (last_state run) (seen c) still.at_stop.heap.places) → seat_seen seat ≡ collecting (whole (opening_beside c.segments.layout h.core still.at_stop.heap.places c.mutators.items)) → IsTied (seat_seen seat).opening (marks_seen (seat_seen seat)) c.segments (seen c).marker
   tied k e h knows =

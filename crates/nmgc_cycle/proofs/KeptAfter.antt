@@ -28,7 +28,7 @@ use Rattle.nmgc_cycle.specs.declared.progress.Marking.{Marking}
 use Rattle.nmgc_cycle.specs.declared.progress.Progress.{Progress as Doing}
 use Rattle.nmgc_cycle.specs.declared.progress.Progress.TheVariants as doing
 use Rattle.nmgc_cycle.specs.Cycles.{HasHelped}
-use Rattle.nmgc_cycle.specs.Keeps.{HasClosingRoom, IsKept, IsOwn, DidRound}
+use Rattle.nmgc_cycle.specs.Keeps.{HasClosingRoom, IsWellFormed, IsOwn, DidRound}
 use Rattle.nmgc_cycle.specs.Shown.{seen, seen_mutator}
 use Rattle.nmgc_cycle.specs.Working.{cleared}
 use Rattle.nmgc_cycle.proofs.AfterRound.{gone_on, is_after}
@@ -105,7 +105,7 @@ module _ (laws : HasLaws) (script : Script) (c new : Collector) (o : Opening) (x
       let more = answered_more c.rounds row k in
       omega (arith, many, before, now, more)
 
-  kept : IsKept script after
+  kept : IsWellFormed script after
   kept = record {
     layout = same_layout ∙ x.still.kept.layout;
     sound = x.did.sound;

@@ -11,6 +11,7 @@ pub mod Asking
 pub mod Beginning
 pub mod Begins
 pub mod Closing
+pub mod Counted
 pub mod Empty
 pub mod Ending
 pub mod EnoughFree

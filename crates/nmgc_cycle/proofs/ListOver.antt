@@ -39,7 +39,7 @@ use Rattle.nmgc_weak.specs.Closes.{LeavingLists}
 use Rattle.nmgc_weak.specs.Weaks.{AreInside, Weaks, is_alive, names_of, place_of, places_of, value_place}
 use Rattle.nmgc_turn.specs.Worked.{registers_of, queues_of, nurseries_of, recorded_of}
 use Rattle.nmgc_cycle.specs.declared.collector.Collector.{Collector}
-use Rattle.nmgc_cycle.specs.Listed.{CanJoin, HasLeft, HasJoined, is_alive_at, listed_move, moved_weaks}
+use Rattle.nmgc_cycle.specs.Listed.{CanJoin, FinalisedLeft, MovedJoined, is_alive_at, listed_move, moved_weaks}
 use Rattle.nmgc_cycle.specs.Shown.{words_in}
 use Rattle.nmgc_cycle.specs.Stopping.{CanList, HasListed, HasPromoted, StandsStopped, moves_of, young_weaks_of}
 
@@ -148,7 +148,7 @@ moved_new words list moves can one other c d =
     let m = one_moved words moves one c in
     λ e. can.new m.0 other m.1 d (e ∙ sym (ap (λ (w : OldWeak). w.weak) m.2))
 
-module _ (old a : Collector) (l : HasLeft old a) where
+module _ (old a : Collector) (l : FinalisedLeft old a) where
   -- those that leave change nothing of the heap
   pub stopped_then : (t : Stopped) → StandsStopped t old → StandsStopped t a
   stopped_then t h =
@@ -158,7 +158,7 @@ module _ (old a : Collector) (l : HasLeft old a) where
   pub segments_same : a.segments ≡ old.segments
   segments_same = ap (λ (x : Collector). x.segments) l.rest
 
-module _ (left : LeavingLists) (joining : JoiningLists) (fresh : JoinersAreNew) (old a b new : Collector) (l : HasLeft old a) (p : HasPromoted a b) (same : b.weaks ≡ a.weaks) where
+module _ (left : LeavingLists) (joining : JoiningLists) (fresh : JoinersAreNew) (old a b new : Collector) (l : FinalisedLeft old a) (p : HasPromoted a b) (same : b.weaks ≡ a.weaks) where
   module _ (t : Stopped) (h : StandsStopped t old) (can : CanList t old) where
     -- the list once some have left
     left_listed : ListsWeaks a.segments.layout t.places t.world (places_of a.weaks.list)
@@ -209,7 +209,7 @@ module _ (left : LeavingLists) (joining : JoiningLists) (fresh : JoinersAreNew) 
       few = few;
     }
 
-  module _ (j : HasJoined b new) where
+  module _ (j : MovedJoined b new) where
     old_list : (weak : OldWeak) → Contains b.weaks.list weak → Contains a.weaks.list weak
     old_list weak c = subst (λ (w : Weaks). Contains w.list weak) same c
 

@@ -19,7 +19,7 @@ use Rattle.nmgc_beside.specs.Heaps.{HeapRests, AreShown}
 use Rattle.nmgc_beside.specs.Rest as beside
 use Rattle.nmgc_beside.specs.Tie.{CoreHasSnapshot}
 use Rattle.nmgc_cycle.specs.declared.collector.Collector.{Collector}
-use Rattle.nmgc_cycle.specs.Keeps.{IsStill, HasStopped}
+use Rattle.nmgc_cycle.specs.Keeps.{IsAfterStop, HasStopped}
 use Rattle.nmgc_cycle.specs.Shown.{seen, words_in, is_marking_in}
 use Rattle.nmgc_cycle.specs.Limits.{IsInLimits}
 use Rattle.nmgc_cycle.specs.Working.{OpensIn, OpensAt}
@@ -35,7 +35,7 @@ pub record CanOpenRounds : Type 0 where
   pub snapshot : CoreHasSnapshot
 
 -- what all these openings have: layout, places, mutators and world are those of the stop, and the collector speaks of the snapshot while a cycle marks; and the round may begin
-pub record IsOpened (script : Script) (c : Collector) (run : Run) (still : IsStill script c run) (o : Opening) : Type 0 where
+pub record IsOpened (script : Script) (c : Collector) (run : Run) (still : IsAfterStop script c run) (o : Opening) : Type 0 where
   pub layout_is : o.layout ≡ c.segments.layout
   pub marks : o.marking ≡ is_marking_in c.progress
   pub world_is : o.core.world ≡ (last_state run).world
@@ -56,7 +56,7 @@ opening_there script c (run, still) =
     let h = some_opening _ (last_state run).progress (last_state run) c still.at_stop.heap.places still.at_stop.cycle in
     (h.0, (run, still, h.1))
 
-module _ (laws : CanOpenRounds) (script : Script) (c : Collector) (run : Run) (limits : IsInLimits script) (still : IsStill script c run) where
+module _ (laws : CanOpenRounds) (script : Script) (c : Collector) (run : Run) (limits : IsInLimits script) (still : IsAfterStop script c run) where
   -- whether it is marking
   marks_with : (p : Progress) → (last_state run).progress ≡ p → is_marking_phase (phase_of p) ≡ is_marking_in c.progress
   marks_with p e = sym (marks_by_phase c.progress ∙ ap is_marking_phase (still.at_stop.matches.phase ∙ ap phase_of e))

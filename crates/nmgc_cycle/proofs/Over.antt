@@ -23,7 +23,7 @@ use Rattle.nmgc_run.specs.Seen as run
 use Rattle.nmgc_run.specs.Slice.{slices, rest_of, some_asks, is_collect, is_full}
 use Rattle.nmgc_run.specs.State.{State, Plan, plan_of}
 use Rattle.nmgc_cycle.specs.declared.collector.Collector.{Collector}
-use Rattle.nmgc_cycle.specs.Keeps.{IsStill}
+use Rattle.nmgc_cycle.specs.Keeps.{IsAfterStop}
 use Rattle.nmgc_cycle.specs.Shown.{seen, seen_mutator}
 use Rattle.nmgc_cycle.specs.Limits.{IsInLimits}
 use Rattle.nmgc_cycle.specs.Working.{OpensIn, DidSlice, DidSlices, replies_of}
@@ -36,7 +36,7 @@ use Rattle.nmgc_cycle.proofs.RootLists.{seen_at}
 pub record IsOver (script : Script) (c new : Collector) (o : Opening) : Type 0 where
   pub limits : IsInLimits script
   pub run : Run
-  pub still : IsStill script c run
+  pub still : IsAfterStop script c run
   pub goes_on : c.answered ≡ None
   pub opens : OpensIn (last_state run).progress (last_state run) c still.at_stop.heap.places o
   pub op : IsOpened script c run still o

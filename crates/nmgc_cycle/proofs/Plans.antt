@@ -12,7 +12,7 @@ use Rattle.nmgc_run.specs.laws.Crowding.{few_in_each, runnable_of}
 use Rattle.nmgc_run.specs.laws.Limits.{scripts_have_good_plans, states_are_within}
 use Rattle.nmgc_run.specs.laws.Runs.{states_are_sound}
 use Rattle.nmgc_cycle.specs.declared.collector.Collector.{Collector}
-use Rattle.nmgc_cycle.specs.Keeps.{IsStill}
+use Rattle.nmgc_cycle.specs.Keeps.{IsAfterStop}
 use Rattle.nmgc_cycle.specs.Limits.{IsInLimits}
 
 pub good_plan : (script : Script) → IsInLimits script → HasGoodPlan script
@@ -28,7 +28,7 @@ is_runnable script limits = runnable_of script limits.fits limits.few
 pub is_layout : (script : Script) → IsInLimits script → IsLayout (layout_of (plan_of script))
 is_layout script limits = (good_plan script limits).layout
 
-module _ (script : Script) (c : Collector) (run : Run) (limits : IsInLimits script) (still : IsStill script c run) where
+module _ (script : Script) (c : Collector) (run : Run) (limits : IsInLimits script) (still : IsAfterStop script c run) where
   -- the state of the last stop is sound, and within the limits
   pub sound_state : IsSoundState (plan_of script) (last_state run)
   sound_state = states_are_sound (plan_of script) run (is_runnable script limits) still.at_stop.is_run

@@ -14,7 +14,7 @@ use Rattle.nmgc_run.specs.State.{State, Plan, plan_of, start}
 use Rattle.nmgc_run.specs.Statements.{answered_count}
 use Rattle.nmgc_run.specs.laws.Lefts.{left_is_told, slice_count, round_left, stop_left}
 use Rattle.nmgc_cycle.specs.declared.collector.Collector.{Collector}
-use Rattle.nmgc_cycle.specs.Keeps.{IsStill}
+use Rattle.nmgc_cycle.specs.Keeps.{IsAfterStop}
 use Rattle.nmgc_cycle.specs.Limits.{IsInLimits}
 use Rattle.nmgc_cycle.specs.Working.{left_at}
 use Rattle.nmgc_cycle.proofs.Plans.{sound_state}
@@ -48,7 +48,7 @@ turns_count plan s (turn ∷ turns) m h =
     let few = slice_few plan.config.slice plan.config.nursery (program_of s.left m) in
     omega (arith, rest, stopped, worked, many, few)
 
-module _ (script : Script) (c : Collector) (run : Run) (still : IsStill script c run) (k : ℕ) (exists : k < length script.threads) where
+module _ (script : Script) (c : Collector) (run : Run) (still : IsAfterStop script c run) (k : ℕ) (exists : k < length script.threads) where
   -- what is left of a program in the run
   pub left_is : program_of (last_state run).left k ≡ left_at script c.positions.items k
   left_is = left_is_told (plan_of script) run c.rounds c.stops c.cycles still.at_stop.is_run still.at_stop.tells k ∙ ap (λ (n : ℕ). drop n (program_of script.threads k)) (sym (still.kept.positions k exists))

@@ -18,7 +18,7 @@ use Rattle.nmgc_heap.specs.laws.Moving.{contains_map}
 use Rattle.nmgc_minor.specs.Promotion.{IsFor}
 use Rattle.nmgc_minor.specs.Start.{words_of}
 use Rattle.nmgc_script.specs.declared.script.Script.{Script}
-use Rattle.nmgc_run.specs.Collector.{EachMutator, HoldsInCycle, IsPacedAfterRound, weaks_of}
+use Rattle.nmgc_run.specs.Collector.{EachMutator, HoldsInCycle, IsPacedAfterRound, weak_count}
 use Rattle.nmgc_run.specs.Heap.{HoldsAtStop, snapshots}
 use Rattle.nmgc_run.specs.Marks.{IsSweeping}
 use Rattle.nmgc_run.specs.Seen.{CycleSeen, ends_of}
@@ -36,7 +36,7 @@ use Rattle.nmgc_sweep.specs.Work.{IsAtWork}
 use Rattle.nmgc_weak.specs.Weaks.{place_of, places_of}
 use Rattle.nmgc_weak.specs.declared.weaks.Death.{Death}
 use Rattle.nmgc_cycle.specs.declared.collector.Collector.{Collector}
-use Rattle.nmgc_cycle.specs.Keeps.{HasClosingRoom, IsKept, Sweeps}
+use Rattle.nmgc_cycle.specs.Keeps.{HasClosingRoom, IsWellFormed, Sweeps}
 use Rattle.nmgc_cycle.specs.Shown.{seen, words_in, sweeper_in, cycle_in, died}
 use Rattle.nmgc_cycle.specs.Steps.{StandsPromoted, IsPacedPromoted}
 use Rattle.nmgc_cycle.specs.StopLaws.{HasPromotionLaws}
@@ -63,7 +63,7 @@ cycle_then idle w a b same h = tt
 cycle_then (marking c) w a b same h = (h.0, h.1, still_known c a b same h.2)
 cycle_then (sweeping c closed) w a b same h = (h.0, still_known c a b same h.1)
 
-module _ (laws : HasPromotionLaws) (script : Script) (old new : Collector) (kept : IsKept script old) (b : Begins script old) (p : HasPromoted old new) where
+module _ (laws : HasPromotionLaws) (script : Script) (old new : Collector) (kept : IsWellFormed script old) (b : Begins script old) (p : HasPromoted old new) where
   abbrev plan : Plan
   plan = plan_of script
 
@@ -184,7 +184,7 @@ module _ (laws : HasPromotionLaws) (script : Script) (old new : Collector) (kept
         ]
 
     -- so the queues have room for what may die
-    left_of : (c : Cycle) → snapshots s.progress ≡ c.snapshot ∷ [] → EachMutator (seen old) (λ m mutator. weaks_of c.snapshot m (seen old).weaks ≤ mutator.queue.spare) → HasLeft c (seen old) (seen mid)
+    left_of : (c : Cycle) → snapshots s.progress ≡ c.snapshot ∷ [] → EachMutator (seen old) (λ m mutator. weak_count c.snapshot m (seen old).weaks ≤ mutator.queue.spare) → HasLeft c (seen old) (seen mid)
     left_of c spoken room = record {
       cycle = cycle_same;
       sweeper = refl;
@@ -223,7 +223,7 @@ module _ (laws : HasPromotionLaws) (script : Script) (old new : Collector) (kept
 
     -- what is kept
 
-    still_kept : IsKept script mid
+    still_kept : IsWellFormed script mid
     still_kept = record {
       layout = after.layout_is script old new kept b p;
       sound = p.sound;

@@ -7,7 +7,7 @@ use Rattle.std.proofs.lemmas.List.{take_more, get_or_at, get_or_default, drop_mo
 use Rattle.nmgc_mutator.specs.declared.mutator.Mutator.{Mutator}
 use Rattle.nmgc_object.specs.FinQueue.{FinQueue}
 use Rattle.nmgc_weak.specs.declared.weaks.OldWeak.{OldWeak}
-use Rattle.nmgc_cycle.specs.Listed.{HasQueueRoom, HaveQueues, made_by}
+use Rattle.nmgc_cycle.specs.Listed.{HasQueueRoom, HaveQueues, count_made_by}
 use Rattle.nmgc_cycle.specs.Roots.{queues_in, no_queue, without_queue}
 use Rattle.nmgc_cycle.proofs.Reserving.{up_to}
 
@@ -29,11 +29,11 @@ pub no_queue_is : (q : FinQueue) → q.words ≡ [] → q.spare ≡ 0 → no_que
 no_queue_is q words spare = sym (ap (λ (w : List ℕ). record { words = w; spare = q.spare }) words ∙ ap (λ (n : ℕ). record { words = []; spare = n }) spare)
 
 -- one queue more has room
-pub room_more : (list : List OldWeak) (was now : List Mutator) (n : ℕ) (m next : Mutator) → n < length was → length now ≡ length was → m ≡ get_or now n m → ((k : ℕ) (d : Mutator) → k < n → HasQueueRoom (made_by (slice_index_or was k d).number list) (slice_index_or was k d) (slice_index_or now k d)) → ((k : ℕ) (d : Mutator) → n ≤ k → slice_index_or now k d ≡ slice_index_or was k d) → HasQueueRoom (made_by m.number list) m next → (k : ℕ) (d : Mutator) → k < n + 1 → HasQueueRoom (made_by (slice_index_or was k d).number list) (slice_index_or was k d) (slice_index_or (slice_set now n next) k d)
+pub room_more : (list : List OldWeak) (was now : List Mutator) (n : ℕ) (m next : Mutator) → n < length was → length now ≡ length was → m ≡ get_or now n m → ((k : ℕ) (d : Mutator) → k < n → HasQueueRoom (count_made_by (slice_index_or was k d).number list) (slice_index_or was k d) (slice_index_or now k d)) → ((k : ℕ) (d : Mutator) → n ≤ k → slice_index_or now k d ≡ slice_index_or was k d) → HasQueueRoom (count_made_by m.number list) m next → (k : ℕ) (d : Mutator) → k < n + 1 → HasQueueRoom (count_made_by (slice_index_or was k d).number list) (slice_index_or was k d) (slice_index_or (slice_set now n next) k d)
 room_more list was now n m next lt count read before after own k d le =
     let there : n < length now = omega (arith, lt, count) in
     let old : m ≡ slice_index_or was n d = read ∙ get_or_default now n m d there ∙ after n d (omega arith) in
-    up_to (λ (i : ℕ) (x : Mutator). HasQueueRoom (made_by (slice_index_or was i d).number list) (slice_index_or was i d) x) now n next d there k le (λ less. before k d less) (subst (λ (x : Mutator). HasQueueRoom (made_by x.number list) x next) old own)
+    up_to (λ (i : ℕ) (x : Mutator). HasQueueRoom (count_made_by (slice_index_or was i d).number list) (slice_index_or was i d) x) now n next d there k le (λ less. before k d less) (subst (λ (x : Mutator). HasQueueRoom (count_made_by x.number list) x next) old own)
 
 -- the mutators get the queues for those that were taken off them
 pub have_without : (queues : List FinQueue) (old new : List Mutator) → HaveQueues queues (map without_queue old) new → HaveQueues queues old new

@@ -10,7 +10,7 @@ use Rattle.nmgc_script.specs.declared.script.Script.{Script}
 use Rattle.nmgc_run.specs.Run.{Run, last_state}
 use Rattle.nmgc_cycle.specs.declared.collector.Collector.{Collector}
 use Rattle.nmgc_cycle.specs.declared.worker.Worker.{Worker}
-use Rattle.nmgc_cycle.specs.Keeps.{IsStill}
+use Rattle.nmgc_cycle.specs.Keeps.{IsAfterStop}
 use Rattle.nmgc_cycle.specs.Limits.{IsInLimits}
 use Rattle.nmgc_cycle.specs.Working.{OpensAt, OpensIn, HaveSliceRoom, CanAllWork, HaveAllWorked, workers_of, mutator_of, seat_of}
 use Rattle.nmgc_cycle.proofs.Gathering.{AllDid, all_did, slices_done}
@@ -21,7 +21,7 @@ use Rattle.nmgc_cycle.proofs.Readiness.{BeginReady, HasSeats, can_all_work, seat
 pub record MayBegin (script : Script) (c : Collector) (o : Opening) : Type 0 where
   pub limits : IsInLimits script
   pub run : Run
-  pub still : IsStill script c run
+  pub still : IsAfterStop script c run
   pub opens : OpensIn (last_state run).progress (last_state run) c still.at_stop.heap.places o
   pub op : IsOpened script c run still o
   pub words : List ℕ

@@ -19,7 +19,7 @@ use Rattle.nmgc_run.specs.Run.{Run}
 use Rattle.nmgc_run.specs.Slice.{program_of}
 use Rattle.nmgc_cycle.specs.declared.collector.Collector.{Collector}
 use Rattle.nmgc_cycle.specs.declared.worker.Worker.{Worker}
-use Rattle.nmgc_cycle.specs.Keeps.{IsStill}
+use Rattle.nmgc_cycle.specs.Keeps.{IsAfterStop}
 use Rattle.nmgc_cycle.specs.Limits.{IsInLimits}
 use Rattle.nmgc_cycle.specs.Working.{left_at, CanWork, CanAllWork, worker_of, workers_of, HaveSliceRoom}
 use Rattle.nmgc_cycle.proofs.Items.{item, of_item}
@@ -79,7 +79,7 @@ module _ (ms : List Mutator) (o : Opening) (hands_are : o.hands ≡ map (rest.ha
       let same : seen seat ≡ alone o (0 + k) = cc (here, there) in
       same ∙ ap (alone o) zero_first
 
-module _ (begin : BeginReady) (script : Script) (c : Collector) (run : Run) (limits : IsInLimits script) (still : IsStill script c run) (o : Opening) (op : IsOpened script c run still o) (words : List ℕ) (can : CanOpen o words) (round : Round) (seats : List RoundSeat) (has : HasSeats o round seats) where
+module _ (begin : BeginReady) (script : Script) (c : Collector) (run : Run) (limits : IsInLimits script) (still : IsAfterStop script c run) (o : Opening) (op : IsOpened script c run still o) (words : List ℕ) (can : CanOpen o words) (round : Round) (seats : List RoundSeat) (has : HasSeats o round seats) where
   -- what a mutator has as the round begins
   abbrev own_hand : Mutator → Hand
   own_hand = rest.hand_of o.core.world o.places

@@ -17,7 +17,7 @@ use Rattle.nmgc_run.specs.Seen.{MutatorSeen}
 use Rattle.nmgc_run.specs.State.{State, Progress, idle, marking, sweeping, plan_of}
 use Rattle.nmgc_cycle.specs.declared.collector.Collector.{Collector}
 use Rattle.nmgc_cycle.specs.Bound.{MayFollow, commands, one_cycle, no_cycle, AreFewAtStop}
-use Rattle.nmgc_cycle.specs.Keeps.{HasClosingRoom, IsKept, IsOwn, IsStill, HasStopped, Sweeps}
+use Rattle.nmgc_cycle.specs.Keeps.{HasClosingRoom, IsWellFormed, IsOwn, IsAfterStop, HasStopped, Sweeps}
 use Rattle.nmgc_cycle.specs.Shown.{seen, seen_mutator}
 use Rattle.nmgc_cycle.specs.Working.{AreReserved}
 use Rattle.nmgc_cycle.proofs.Items.{item}
@@ -81,7 +81,7 @@ few_on script c mutators h = record {
   more = h.more;
 }
 
-module _ (script : Script) (c : Collector) (run : Run) (still : IsStill script c run) (mutators : Vec Mutator Global) (reserved : AreReserved c.mutators.items mutators.items) where
+module _ (script : Script) (c : Collector) (run : Run) (still : IsAfterStop script c run) (mutators : Vec Mutator Global) (reserved : AreReserved c.mutators.items mutators.items) where
   abbrev roomy : Collector
   roomy = record c { mutators = mutators }
 
@@ -104,7 +104,7 @@ module _ (script : Script) (c : Collector) (run : Run) (still : IsStill script c
         no_replies = h.2.replies.items ∙ before.no_replies;
       }
 
-  kept : IsKept script roomy
+  kept : IsWellFormed script roomy
   kept = record {
     layout = still.kept.layout;
     sound = still.kept.sound;
@@ -119,7 +119,7 @@ module _ (script : Script) (c : Collector) (run : Run) (still : IsStill script c
     room = still.kept.room;
   }
 
-  pub still_reserved : IsStill script roomy run
+  pub still_reserved : IsAfterStop script roomy run
   still_reserved = record {
     kept = kept;
     at_stop = subst (λ (l : List MutatorSeen). IsAtStop (plan_of script) run (record (seen c) { mutators = l })) (sym (reserved_seen c.mutators.items mutators.items reserved)) still.at_stop;
@@ -129,7 +129,7 @@ module _ (script : Script) (c : Collector) (run : Run) (still : IsStill script c
   }
 
 -- and so is the other way round
-pub still_before : (script : Script) (old new : Collector) (run : Run) → IsKept script old → new ≡ record old { mutators = new.mutators } → AreReserved old.mutators.items new.mutators.items → IsStill script new run → IsStill script old run
+pub still_before : (script : Script) (old new : Collector) (run : Run) → IsWellFormed script old → new ≡ record old { mutators = new.mutators } → AreReserved old.mutators.items new.mutators.items → IsAfterStop script new run → IsAfterStop script old run
 still_before script old new run kept rest reserved still =
     let same : seen new ≡ seen old = ap seen rest ∙ ap (λ (l : List MutatorSeen). record (seen old) { mutators = l }) (reserved_seen old.mutators.items new.mutators.items reserved) in
     record {
@@ -141,4 +141,4 @@ still_before script old new run kept rest reserved still =
     }
 
 pub reserved_stopped : (script : Script) (old new : Collector) → HasStopped script old → new ≡ record old { mutators = new.mutators } → AreReserved old.mutators.items new.mutators.items → HasStopped script new
-reserved_stopped script old new (run, still) rest reserved = (run, subst (λ (x : Collector). IsStill script x run) (sym rest) (still_reserved script old run still new.mutators reserved))
+reserved_stopped script old new (run, still) rest reserved = (run, subst (λ (x : Collector). IsAfterStop script x run) (sym rest) (still_reserved script old run still new.mutators reserved))

@@ -30,7 +30,7 @@ use Rattle.nmgc_run.specs.Seen.{MutatorSeen, end_of, ends_of, nurseries_of}
 use Rattle.nmgc_run.specs.State.{plan_of, layout_of}
 use Rattle.nmgc_run.specs.laws.Places.{blocks_at_stop, block_used}
 use Rattle.nmgc_cycle.specs.declared.collector.Collector.{Collector}
-use Rattle.nmgc_cycle.specs.Keeps.{IsStill}
+use Rattle.nmgc_cycle.specs.Keeps.{IsAfterStop}
 use Rattle.nmgc_cycle.specs.Shown.{seen, words_in, seen_mutator}
 use Rattle.nmgc_cycle.specs.Limits.{IsInLimits}
 use Rattle.nmgc_cycle.proofs.Plans.{sound_state}
@@ -53,7 +53,7 @@ same_roots places w ms r = subst (λ (l : List ℕ). RepresentsRoots places w l 
 pub nursery_seen : (ms : List Mutator) (k : ℕ) (m : Mutator) → slice_get ms k ≡ Some m → slice_get (map (λ (n : MutatorSeen). n.nursery) (map seen_mutator ms)) k ≡ Some m.nursery
 nursery_seen ms k m e = slice_get-map (λ (n : MutatorSeen). n.nursery) (map seen_mutator ms) k ∙ ap (option_map (λ (n : MutatorSeen). n.nursery)) (seen_at ms k m e)
 
-module _ (script : Script) (c : Collector) (run : Run) (limits : IsInLimits script) (still : IsStill script c run) where
+module _ (script : Script) (c : Collector) (run : Run) (limits : IsInLimits script) (still : IsAfterStop script c run) where
   -- a place lies below the nurseries
   pub rest_low : (p : Place) → Contains still.at_stop.heap.places p → p.at < young_base c.segments
   rest_low p held = elim ((still.at_stop.heap.all p).0 held) [

@@ -28,7 +28,7 @@ use Rattle.nmgc_cycle.specs.declared.progress.Progress.TheVariants as doing
 use Rattle.nmgc_cycle.specs.declared.progress.Sweeping.{Sweeping}
 use Rattle.nmgc_cycle.specs.Bound.{commands_left, cycle_most, heap_of, most_stops, phase_left, MayFollow, AreFewBeforeStop, HasMore, NoneIsDue, commands, one_cycle, no_cycle}
 use Rattle.nmgc_cycle.specs.Cycles.{HasHelped, HasScanned, HasSweptSome}
-use Rattle.nmgc_cycle.specs.Keeps.{IsStill}
+use Rattle.nmgc_cycle.specs.Keeps.{IsAfterStop}
 use Rattle.nmgc_cycle.specs.Shown.{seen, phase_in}
 use Rattle.nmgc_cycle.specs.Limits.{IsInLimits}
 use Rattle.nmgc_cycle.proofs.Measures.{AreLeft, nothing_left, round_falls, left_then, left_less, left_is}
@@ -85,7 +85,7 @@ not_idle p idle e not is = let bad : true ≡ false = not in cc
 not_idle p (marking k) e not is = let bad : phase.Idle ≡ phase.Marking = ap phase_in (sym is) ∙ e in cc
 not_idle p (sweeping k closed) e not is = let bad : phase.Idle ≡ phase.Sweeping = ap phase_in (sym is) ∙ e in cc
 
-module _ (script : Script) (old new : Collector) (run : Run) (replies : List (List Reply)) (history : List Row) (worked : State) (limits : IsInLimits script) (still : IsStill script old run) (after : IsAfterRound (plan_of script) run replies history worked (seen new)) (round : Round) (from seat : RoundSeat) (help : HasHelped round script.config.quota from seat old.segments new.segments old.progress new.progress) where
+module _ (script : Script) (old new : Collector) (run : Run) (replies : List (List Reply)) (history : List Row) (worked : State) (limits : IsInLimits script) (still : IsAfterStop script old run) (after : IsAfterRound (plan_of script) run replies history worked (seen new)) (round : Round) (from seat : RoundSeat) (help : HasHelped round script.config.quota from seat old.segments new.segments old.progress new.progress) where
   abbrev s : State
   s = last_state run
 

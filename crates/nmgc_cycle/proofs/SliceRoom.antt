@@ -8,7 +8,7 @@ use Rattle.nmgc_mutator.specs.Slice.{HasRoom}
 use Rattle.nmgc_script.specs.declared.script.Script.{Script}
 use Rattle.nmgc_run.specs.Run.{Run}
 use Rattle.nmgc_cycle.specs.declared.collector.Collector.{Collector}
-use Rattle.nmgc_cycle.specs.Keeps.{IsStill}
+use Rattle.nmgc_cycle.specs.Keeps.{IsAfterStop}
 use Rattle.nmgc_cycle.specs.Limits.{IsInLimits}
 use Rattle.nmgc_cycle.specs.Working.{left_at, HasLists, AreReserved, HaveSliceRoom}
 use Rattle.nmgc_cycle.proofs.Items.{item}
@@ -23,7 +23,7 @@ on_both (Err e) f p q = p
 min_few : (slice left : ℕ) → min slice left ≤ left
 min_few slice left = omega arith
 
-pub reserved_room : (script : Script) (c d : Collector) (run : Run) → IsInLimits script → IsStill script c run → d ≡ record c { mutators = d.mutators } → AreReserved c.mutators.items d.mutators.items → ((k : ℕ) (x : Mutator) → k < length c.mutators.items → HasLists (min script.config.slice (length (left_at script c.positions.items k))) (slice_index_or d.mutators.items k x)) → HaveSliceRoom script d
+pub reserved_room : (script : Script) (c d : Collector) (run : Run) → IsInLimits script → IsAfterStop script c run → d ≡ record c { mutators = d.mutators } → AreReserved c.mutators.items d.mutators.items → ((k : ℕ) (x : Mutator) → k < length c.mutators.items → HasLists (min script.config.slice (length (left_at script c.positions.items k))) (slice_index_or d.mutators.items k x)) → HaveSliceRoom script d
 reserved_room script c d run limits still same reserved lists k m e =
     let within = slice_get_within d.mutators.items k m e in
     let count = reserved.count in

@@ -17,7 +17,7 @@ use Rattle.nmgc_run.specs.Slice.{program_of, some_asks, is_collect, is_full}
 use Rattle.nmgc_cycle.specs.declared.collector.Collector.{Collector}
 use Rattle.nmgc_cycle.specs.declared.progress.Progress as held
 use Rattle.nmgc_cycle.specs.declared.worker.Worker.{Worker}
-use Rattle.nmgc_cycle.specs.Keeps.{IsStill}
+use Rattle.nmgc_cycle.specs.Keeps.{IsAfterStop}
 use Rattle.nmgc_cycle.specs.Limits.{IsInLimits}
 use Rattle.nmgc_cycle.specs.Working.{asks_of, asks_full_of, left_at, commands_in, mutator_of, done_by, DidSlice}
 use Rattle.nmgc_cycle.proofs.Asking.{same_any, any_mapped}
@@ -36,7 +36,7 @@ overwritten n (x ∷ xs) [] l e = absurd (omega arith)
 overwritten zero (x ∷ xs) (y ∷ ys) l e = absurd (omega arith)
 overwritten (suc n) (x ∷ xs) (y ∷ ys) l e = ap (λ rest. y ∷ rest) (overwritten n xs ys (omega arith) (omega arith))
 
-module _ (script : Script) (c : Collector) (run : Run) (limits : IsInLimits script) (still : IsStill script c run) (o : Opening) (round : Round) (new : List Worker) (count : length new ≡ length c.mutators.items) (did : AllDid script c round o new) where
+module _ (script : Script) (c : Collector) (run : Run) (limits : IsInLimits script) (still : IsAfterStop script c run) (o : Opening) (round : Round) (new : List Worker) (count : length new ≡ length c.mutators.items) (did : AllDid script c round o new) where
   positions_counted : length c.positions.items ≡ length new
   positions_counted = still.kept.positions_are ∙ sym (count ∙ still.kept.count)
 

@@ -32,7 +32,7 @@ use Rattle.nmgc_mark.specs.Marker.{HasMarked, blank}
 use Rattle.nmgc_minor.specs.Promotion.{IsFor}
 use Rattle.nmgc_mutator.specs.declared.mutator.Mutator.{Mutator}
 use Rattle.nmgc_round.specs.View.{Opening}
-use Rattle.nmgc_run.specs.Collector.{AreNurseries, EachMutator, IsAtRest, IsMarking, IsPacedAtStop, weaks_of}
+use Rattle.nmgc_run.specs.Collector.{AreNurseries, EachMutator, IsAtRest, IsMarking, IsPacedAtStop, weak_count}
 use Rattle.nmgc_run.specs.Course.{CyclesBeginInCourse}
 use Rattle.nmgc_run.specs.Heap.{HoldsAtStop, snapshots}
 use Rattle.nmgc_run.specs.Marks.{epoch_of}
@@ -50,8 +50,8 @@ use Rattle.nmgc_cycle.specs.declared.collector.Collector.{Collector}
 use Rattle.nmgc_cycle.specs.declared.progress.Marking.{Marking}
 use Rattle.nmgc_cycle.specs.declared.progress.Progress.TheVariants as doing
 use Rattle.nmgc_cycle.specs.Cycles.{StartsMarking, next_epoch}
-use Rattle.nmgc_cycle.specs.Keeps.{IsKept, IsOwn}
-use Rattle.nmgc_cycle.specs.Listed.{HasQueueRoom, made_by}
+use Rattle.nmgc_cycle.specs.Keeps.{IsWellFormed, IsOwn}
+use Rattle.nmgc_cycle.specs.Listed.{HasQueueRoom, count_made_by}
 use Rattle.nmgc_cycle.specs.Roots.{AreGivenBack, given_back, no_queue, own_registers, queues_in}
 use Rattle.nmgc_cycle.specs.Shown.{seen, seen_mutator, words_in}
 use Rattle.nmgc_cycle.specs.Steps.{StandsAt, StartingLeads}
@@ -136,7 +136,7 @@ module _ (laws : BeginningLaws) (script : Script) (c : Collector) (s : State) (h
   nurseries_same = room_nurseries c.weaks.list st.between before.mutators.items st.queue_room ∙ ap (λ (l : List MutatorSeen). map (λ (m : MutatorSeen). m.nursery) l) between_same
 
   -- one of them, without the room
-  was : (n : ℕ) (m : Mutator) → slice_get before.mutators.items n ≡ Some m → (b : Mutator) × (slice_get st.between n ≡ Some b) × HasQueueRoom (made_by b.number c.weaks.list) b m
+  was : (n : ℕ) (m : Mutator) → slice_get before.mutators.items n ≡ Some m → (b : Mutator) × (slice_get st.between n ≡ Some b) × HasQueueRoom (count_made_by b.number c.weaks.list) b m
   was n m e = one_room c.weaks.list st.between before.mutators.items st.queue_room n m e
 
   layout_is : segments.layout ≡ c.segments.layout
@@ -164,18 +164,18 @@ module _ (laws : BeginningLaws) (script : Script) (c : Collector) (s : State) (h
       let left : IsAtRest (seen_mutator b.0) = h.rest n (seen_mutator b.0) there in
       subst IsAtRest (sym (x.2 ∙ ap seen_mutator b.2.rest)) (record { recorded = left.recorded; young_weaks = left.young_weaks; entries = left.entries })
 
-  queue_room_then : EachMutator (seen next) (λ n mutator. weaks_of s.world n (seen next).weaks ≤ mutator.queue.spare)
+  queue_room_then : EachMutator (seen next) (λ n mutator. weak_count s.world n (seen next).weaks ≤ mutator.queue.spare)
   queue_room_then n mutator e =
       let x = map_item seen_mutator before.mutators.items n mutator e in
       let b = was n x.0 x.1 in
       let own = own_then n x.0 x.1 in
       let number : b.0.number ≡ n = sym (ap (λ (y : Mutator). y.number) b.2.rest) ∙ own.number in
-      let room : made_by n c.weaks.list ≤ x.0.queue.spare = subst (λ (i : ℕ). made_by i c.weaks.list ≤ x.0.queue.spare) number b.2.room in
-      let few : weaks_of s.world n (seen c).weaks ≤ made_by n c.weaks.list = counted s.world n c.weaks.list in
-      let enough : weaks_of s.world n (seen c).weaks ≤ x.0.queue.spare = omega (arith, few, room) in
-      subst (λ (y : MutatorSeen). weaks_of s.world n (seen c).weaks ≤ y.queue.spare) (sym x.2) enough
+      let room : count_made_by n c.weaks.list ≤ x.0.queue.spare = subst (λ (i : ℕ). count_made_by i c.weaks.list ≤ x.0.queue.spare) number b.2.room in
+      let few : weak_count s.world n (seen c).weaks ≤ count_made_by n c.weaks.list = counted s.world n c.weaks.list in
+      let enough : weak_count s.world n (seen c).weaks ≤ x.0.queue.spare = omega (arith, few, room) in
+      subst (λ (y : MutatorSeen). weak_count s.world n (seen c).weaks ≤ y.queue.spare) (sym x.2) enough
 
-  still_kept : IsKept script next
+  still_kept : IsWellFormed script next
   still_kept = record {
     layout = layout_is ∙ h.kept.layout;
     sound = st.sound;

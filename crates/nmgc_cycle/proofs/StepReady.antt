@@ -9,7 +9,7 @@ use Rattle.nmgc_graph.specs.World.{World}
 use Rattle.nmgc_heap.specs.laws.Kinds.{map_item, item_map}
 use Rattle.nmgc_journal.specs.declared.report.MutatorEnd.{MutatorEnd}
 use Rattle.nmgc_mutator.specs.declared.mutator.Mutator.{Mutator}
-use Rattle.nmgc_run.specs.Collector.{weaks_of}
+use Rattle.nmgc_run.specs.Collector.{weak_count}
 use Rattle.nmgc_run.specs.Marker.{HasRoomToMark}
 use Rattle.nmgc_run.specs.Seen.{MarkerSeen, end_of}
 use Rattle.nmgc_weak.specs.Closes.{DeathsHaveRoom}
@@ -47,7 +47,7 @@ use Rattle.nmgc_cycle.specs.Roots.{queues_in}
 use Rattle.nmgc_cycle.specs.Shown.{seen, words_in, phase_in, marker_in}
 use Rattle.nmgc_cycle.specs.Full.{CanCloseNow}
 use Rattle.nmgc_cycle.specs.FullLaws.{CloseNowReady}
-use Rattle.nmgc_cycle.specs.Steps.{Stands, StandsAt, IsPacedWithin, CloseReady, BeginReady}
+use Rattle.nmgc_cycle.specs.Steps.{StandsForState, StandsAt, IsPacedWithin, CloseReady, BeginReady}
 use Rattle.nmgc_cycle.proofs.MutatorLists.{words_of_queues}
 use Rattle.nmgc_cycle.proofs.PreparedSegments.{prepared_sound}
 use Rattle.nmgc_cycle.proofs.Views.{registers_seen, queues_seen}
@@ -56,7 +56,7 @@ use Rattle.nmgc_cycle.proofs.Views.{registers_seen, queues_seen}
 
 -- what is known of the pace doesn't matter
 abbrev pub StandsInPace : (Cycle → State → Seen → Type 0) → Script → Collector → State → Type 0
-StandsInPace Paced script c s = Stands Paced IsAtRest script c s
+StandsInPace Paced script c s = StandsForState Paced IsAtRest script c s
 
 -- the mutators are shown as the collector has them
 pub are_shown : (Paced : Cycle → State → Seen → Type 0) (script : Script) (c : Collector) (s : State) → StandsInPace Paced script c s → AreShown c.segments.layout (seen c) c.mutators.items
@@ -91,11 +91,11 @@ module _ (Paced : Cycle → State → Seen → Type 0) (rests : HeapRests) (core
   here = stop Paced rests script c s h k is
 
   -- each queue has room for the listed weak pointers of the snapshot that its mutator made
-  own_room : (m : ℕ) (queue : FinQueue) → slice_get (queues_in c.mutators.items) m ≡ Some queue → weaks_of now.0.core.snapshot m (seen c).weaks ≤ queue.spare
+  own_room : (m : ℕ) (queue : FinQueue) → slice_get (queues_in c.mutators.items) m ≡ Some queue → weak_count now.0.core.snapshot m (seen c).weaks ≤ queue.spare
   own_room m queue is =
       let own = map_item (λ (x : Mutator). x.queue) c.mutators.items m queue is in
       let same = core_snapshot k s.world now.0.core there.0.machine.sound now.0.machine in
-      subst (λ (y : World × FinQueue). weaks_of y.0 m (seen c).weaks ≤ y.1.spare) (λ i. (sym same i, sym own.2 i)) (now.0.queue_room m (seen_mutator own.0) (item_map seen_mutator c.mutators.items m own.0 own.1))
+      subst (λ (y : World × FinQueue). weak_count y.0 m (seen c).weaks ≤ y.1.spare) (λ i. (sym same i, sym own.2 i)) (now.0.queue_room m (seen_mutator own.0) (item_map seen_mutator c.mutators.items m own.0 own.1))
 
   many_queues : length (queues_in c.mutators.items) ≡ length now.0.core.world.mutators
   many_queues = length-map c.mutators.items (λ (x : Mutator). x.queue) ∙ sym (length-map c.mutators.items seen_mutator) ∙ sym (length-map (map seen_mutator c.mutators.items) end_of) ∙ sym (length-map (ends_of (seen c)) (λ (m : MutatorEnd). m.queue)) ∙ h.heap.holds.roots.mutators.0 ∙ ap (λ (w : World). length w.mutators) (sym now.0.machine.world_is)
@@ -109,7 +109,7 @@ module _ (Paced : Cycle → State → Seen → Type 0) (rests : HeapRests) (core
     queue_room = λ between marked finisher then after list deaths f r. deaths_room (finished_on (stop_opening (layout_of (plan_of script)) k s (seen c) c.mutators.items here) between finisher f) after (words_in c.words) between marked finisher then (seen c).weaks list deaths (queues_in c.mutators.items)
         (may (layout_of (plan_of script)) k s (seen c) c.mutators.items between finisher here f) r
         (many_queues ∙ ap (λ (x : Core). length x.world.mutators) (sym f.rest))
-        (λ m queue is. subst (λ (w : World). weaks_of w m (seen c).weaks ≤ queue.spare) (ap (λ (x : Core). x.snapshot) (sym f.rest)) (own_room m queue is));
+        (λ m queue is. subst (λ (w : World). weak_count w m (seen c).weaks ≤ queue.spare) (ap (λ (x : Core). x.snapshot) (sym f.rest)) (own_room m queue is));
     none_held = closing.0;
     holds_all = subst (λ (n : ℕ). n ≤ vec_capacity m.queues) (sym (length-map c.mutators.items (λ (x : Mutator). x.queue))) closing.1;
   }

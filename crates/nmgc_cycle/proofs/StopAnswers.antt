@@ -14,7 +14,7 @@ use Rattle.nmgc_run.specs.State.{Plan, State, Cycle, Progress, idle, marking, sw
 use Rattle.nmgc_run.specs.Stop.{IsStop, stop_row, answer_of}
 use Rattle.nmgc_cycle.specs.declared.collector.Collector.{Collector}
 use Rattle.nmgc_cycle.specs.Bound.{AreFewAtStop}
-use Rattle.nmgc_cycle.specs.Keeps.{IsKept, IsStill, Sweeps}
+use Rattle.nmgc_cycle.specs.Keeps.{IsWellFormed, IsAfterStop, Sweeps}
 use Rattle.nmgc_cycle.specs.Shown.{seen}
 use Rattle.nmgc_cycle.specs.Steps.{StandsAt}
 use Rattle.nmgc_cycle.proofs.Begins.{Begins, IsToldBut}
@@ -51,7 +51,7 @@ module _ (script : Script) (c : Collector) (stops : List StopRow) (answered : Op
   told_sweeper (marking k) h = (record { notes = h.0.notes; left = h.0.left }, h.1, h.2)
   told_sweeper (sweeping k closed) h = (record { notes = h.0.notes; left = h.0.left }, h.1)
 
-  told_kept : IsKept script c → IsKept script told
+  told_kept : IsWellFormed script c → IsWellFormed script told
   told_kept k = record {
     layout = k.layout;
     sound = k.sound;
@@ -82,7 +82,7 @@ module _ (script : Script) (c : Collector) (stops : List StopRow) (answered : Op
   }
 
 -- with a run that came to a state for which it stands, a collector is still
-still : (script : Script) (c : Collector) (rounds : List RoundRows) (stops : List StopRow) (cycles : List CycleRow) (row : StopRow) (t : State) → c.rounds ≡ rounds → c.stops ≡ stops ++ row ∷ [] → c.cycles ≡ cycles → (told : IsToldBut (plan_of script) rounds stops cycles row t) → StandsAt script c t → AreFewAtStop script c → c.answered ≡ answer_of (plan_of script) t → IsStill script c told.run
+still : (script : Script) (c : Collector) (rounds : List RoundRows) (stops : List StopRow) (cycles : List CycleRow) (row : StopRow) (t : State) → c.rounds ≡ rounds → c.stops ≡ stops ++ row ∷ [] → c.cycles ≡ cycles → (told : IsToldBut (plan_of script) rounds stops cycles row t) → StandsAt script c t → AreFewAtStop script c → c.answered ≡ answer_of (plan_of script) t → IsAfterStop script c told.run
 still script c rounds stops cycles row t rounds_are stops_are cycles_are told stands few answers =
     let at : StandsAt script c (last_state told.run) = subst (λ (s : State). StandsAt script c s) (sym told.last) stands in
     record {
@@ -128,7 +128,7 @@ module _ (script : Script) (old new : Collector) (b : Begins script old) (many :
 
   -- the stop is one of the run, and for the run with it the collector stands
   abbrev pub Goes : Type 0
-  Goes = (rows : List CycleRow) × (stop : IsStop plan b.began b.state t row rows) × IsStill script last (b.goes_on t row rows stop).run
+  Goes = (rows : List CycleRow) × (stop : IsStop plan b.began b.state t row rows) × IsAfterStop script last (b.goes_on t row rows stop).run
 
   goes : answered ≡ answer_of plan t → Goes
   goes answers =

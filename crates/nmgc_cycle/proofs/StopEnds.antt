@@ -25,11 +25,11 @@ use Rattle.nmgc_cycle.specs.declared.stop.StopEnd.{StopEnd}
 use Rattle.nmgc_cycle.specs.declared.stop.StopEnd.TheVariants as answer
 use Rattle.nmgc_cycle.specs.Cycles.{HasTaken, HasClosed, Ends}
 use Rattle.nmgc_cycle.specs.Full.{Proceeds as ProceedsThen}
-use Rattle.nmgc_cycle.specs.Keeps.{CanStop, IsStill, HasStopped, HasAnswered, HasWorked, StopsAfter}
+use Rattle.nmgc_cycle.specs.Keeps.{CanStop, IsAfterStop, HasStopped, HasAnswered, HasWorked, StopsAfter}
 use Rattle.nmgc_cycle.specs.Shown.{phase_in, words_in}
 use Rattle.nmgc_cycle.specs.Limits.{IsInLimits}
 use Rattle.nmgc_cycle.specs.StopLaws.{HasStopLaws}
-use Rattle.nmgc_cycle.specs.Stopping.{HasPromoted, HasListed, SomeIsLeft, IsDone, IsFull, ended_by}
+use Rattle.nmgc_cycle.specs.Stopping.{HasPromoted, HasListed, SomeIsLeft, IsDone, IsHeapFullAt, ended_by}
 use Rattle.nmgc_cycle.proofs.Begins.{Begins, begins, one_turn}
 use Rattle.nmgc_cycle.proofs.StopAnswers.{Goes, done, on, goes_on, full}
 use Rattle.nmgc_cycle.proofs.StopSteps as steps
@@ -97,7 +97,7 @@ module _ (script : Script) (c : Collector) (r : IsRead script c) where
   some_left some none = none (r.left_is.0 some)
 
   -- it isn't full unless that was read
-  not_full : (free reserve : ℕ) → r.reserve ≤ r.free → IsFull script c free reserve → ⊥
+  not_full : (free reserve : ℕ) → r.reserve ≤ r.free → IsHeapFullAt script c free reserve → ⊥
   not_full free reserve more h =
       let free_is = h.free_is in
       let reserve_is = h.reserve_is in
@@ -112,11 +112,11 @@ module _ (script : Script) (c : Collector) (r : IsRead script c) where
   done_where answer.GoOn (inl why) = ((λ e. absurd (let bad : answer.GoOn ≡ answer.Done = e in cc)), λ d. absurd (some_left why.0 d.0))
   done_where answer.GoOn (inr why) = ((λ e. absurd (let bad : answer.GoOn ≡ answer.Done = e in cc)), λ d. absurd (why.1 (ap phase_in d.1)))
 
-  pub full_where : (e : StopEnd) → Why script c r e → (free reserve : ℕ) → (e ≡ answer.HeapFull free reserve) ↔ IsFull script c free reserve
+  pub full_where : (e : StopEnd) → Why script c r e → (free reserve : ℕ) → (e ≡ answer.HeapFull free reserve) ↔ IsHeapFullAt script c free reserve
   full_where answer.Done why free reserve = ((λ e. absurd (let bad : answer.Done ≡ answer.HeapFull free reserve = e in cc)), λ h. absurd (none_left why.0 h.left))
   full_where (answer.HeapFull f g) why free reserve = (to, back)
     where
-      to : answer.HeapFull f g ≡ answer.HeapFull free reserve → IsFull script c free reserve
+      to : answer.HeapFull f g ≡ answer.HeapFull free reserve → IsHeapFullAt script c free reserve
       to e =
           let free_is : f ≡ free = cc in
           let reserve_is : g ≡ reserve = cc in
@@ -130,7 +130,7 @@ module _ (script : Script) (c : Collector) (r : IsRead script c) where
             less = omega (arith, free_is, reserve_is, less, own, kept);
           }
 
-      back : IsFull script c free reserve → answer.HeapFull f g ≡ answer.HeapFull free reserve
+      back : IsHeapFullAt script c free reserve → answer.HeapFull f g ≡ answer.HeapFull free reserve
       back h = ap (λ (n : ℕ). answer.HeapFull n g) (why.0 ∙ r.free_is ∙ sym h.free_is) ∙ ap (λ (n : ℕ). answer.HeapFull free n) (why.1 ∙ r.reserve_is ∙ sym h.reserve_is)
   full_where answer.GoOn (inl why) free reserve = ((λ e. absurd (let bad : answer.GoOn ≡ answer.HeapFull free reserve = e in cc)), λ h. absurd (not_full free reserve why.1 h))
   full_where answer.GoOn (inr why) free reserve = ((λ e. absurd (let bad : answer.GoOn ≡ answer.HeapFull free reserve = e in cc)), λ h. absurd (none_left why.0 h.left))
@@ -191,10 +191,10 @@ module _ (laws : HasStopLaws) (script : Script) (old new : Collector) (limits : 
 
     -- after a round, the run is that of before with one turn more
 
-    one_more : (w : HasWorked script old) (rows : List CycleRow) (stop : _) → IsStill script after ((begins script old limits (inr w)).goes_on (led (inr w)).state row rows stop).run → (turn : Turn) × (turn.replies ≡ record { replies = w.replies }) × (turn.worked ≡ w.worked) × (turn.history ≡ w.history) × IsStill script after (with_turn w.run turn)
+    one_more : (w : HasWorked script old) (rows : List CycleRow) (stop : _) → IsAfterStop script after ((begins script old limits (inr w)).goes_on (led (inr w)).state row rows stop).run → (turn : Turn) × (turn.replies ≡ record { replies = w.replies }) × (turn.worked ≡ w.worked) × (turn.history ≡ w.history) × IsAfterStop script after (with_turn w.run turn)
     one_more w rows stop still =
         let turn = one_turn script old limits w (led (inr w)).state row rows stop in
-        (turn.0, turn.1, turn.2, turn.3, subst (λ (run : Run). IsStill script after run) turn.4 still)
+        (turn.0, turn.1, turn.2, turn.3, subst (λ (run : Run). IsAfterStop script after run) turn.4 still)
 
     pub stops_after : (e : StopEnd) → Why script new r e → answered ≡ ended_by e → StopsAfter script old after
     stops_after e why is = λ w. let h = result (inr w) e why is in one_more w h.0 h.1 h.2

@@ -24,7 +24,7 @@ use Rattle.nmgc_cycle.specs.Cycles.{HasTaken, HasClosed, Ends, Begins as BeginsT
 use Rattle.nmgc_cycle.specs.Bound.{AreFew, HasMore}
 use Rattle.nmgc_cycle.specs.Full.{HasFinished, Proceeds as ProceedsThen}
 use Rattle.nmgc_cycle.specs.FullLaws.{StandsAtStop}
-use Rattle.nmgc_cycle.specs.Keeps.{CanStop, IsKept, Sweeps}
+use Rattle.nmgc_cycle.specs.Keeps.{CanStop, IsWellFormed, Sweeps}
 use Rattle.nmgc_cycle.specs.Shown.{seen, words_in, phase_in, sweeper_in}
 use Rattle.nmgc_cycle.specs.Limits.{IsInLimits}
 use Rattle.nmgc_cycle.specs.Steps.{StandsPromoted, StandsWithin, StandsAt}
@@ -100,7 +100,7 @@ module _ (laws : HasStopLaws) (script : Script) (old p : Collector) (limits : Is
   abbrev b : Begins script old
   b = begins script old limits can
 
-  abbrev kept : IsKept script old
+  abbrev kept : IsWellFormed script old
   kept = after.kept_of script old can
 
   -- the state that the promotion left

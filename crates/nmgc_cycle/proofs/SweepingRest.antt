@@ -37,7 +37,7 @@ use Rattle.nmgc_cycle.specs.declared.progress.Progress.TheVariants as doing
 use Rattle.nmgc_cycle.specs.declared.progress.Sweeping.{Sweeping}
 use Rattle.nmgc_cycle.specs.Full.{CanSweepRest, HasSweptAll, SweepsRest as SweepsRestBy}
 use Rattle.nmgc_cycle.specs.FullLaws.{SweepingRestLeads, SweepRestReady}
-use Rattle.nmgc_cycle.specs.Keeps.{IsKept, Sweeps}
+use Rattle.nmgc_cycle.specs.Keeps.{IsWellFormed, Sweeps}
 use Rattle.nmgc_cycle.specs.Shown.{died, seen, words_in, sweeper_in, cycle_in, phase_in}
 use Rattle.nmgc_cycle.specs.Steps.{StandsAt}
 
@@ -131,7 +131,7 @@ module _ (laws : SweepingLaws) (script : Script) (c : Collector) (st : State) (k
     blocks = λ n tracked other. sweeps_keep k st.world st.allocation b (waiting_count st.allocation) rest h.sound.cycle.0 h.sound.cycle.1 n (tracked_wide st.world n tracked) (h.sound.blocks n tracked other);
   }
 
-  still_kept : IsKept script next
+  still_kept : IsWellFormed script next
   still_kept = record {
     layout = layout_is;
     sound = sw.sound;

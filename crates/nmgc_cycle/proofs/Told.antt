@@ -13,14 +13,14 @@ use Rattle.nmgc_script.specs.declared.script.Script.{Script}
 use Rattle.nmgc_weak.specs.declared.weaks.OldWeak.{OldWeak}
 use Rattle.nmgc_weak.specs.Weaks.{names_of, places_of}
 use Rattle.nmgc_cycle.specs.declared.collector.Collector.{Collector}
-use Rattle.nmgc_cycle.specs.Keeps.{IsKept, HasStopped, HasEnded}
+use Rattle.nmgc_cycle.specs.Keeps.{IsWellFormed, HasStopped, HasEnded}
 use Rattle.nmgc_cycle.specs.Shown.{seen, words_in, report_of}
 
 pub stopped_by : (script : Script) (c : Collector) (end : End) → HasEnded script c end → HasStopped script c × (c.answered ≡ Some end)
 stopped_by script c Done h = h
 stopped_by script c (HeapFull free reserve) h = h
 
-pub kept_of : (script : Script) (c : Collector) (end : End) → HasEnded script c end → IsKept script c
+pub kept_of : (script : Script) (c : Collector) (end : End) → HasEnded script c end → IsWellFormed script c
 kept_of script c end h = (stopped_by script c end h).0.1.kept
 
 -- the names of the list are those of its places

@@ -1,5 +1,5 @@
 -- The collector beside the mutators, and the steps of a stop that lead a cycle on.
-use Rattle.std.specs.Prelude.{ℕ, ◌≡◌, ◌⊎◌, ◌↔◌, ◌+◌, ◌≤◌, ◌<◌, ◌++◌, ◌∷◌, List, [], length, map, true, false, IsSome, vec_capacity}
+use Rattle.std.specs.Prelude.{ℕ, ◌≡◌, ◌⊎◌, ◌↔◌, ◌+◌, ◌-◌, ◌≤◌, ◌<◌, ◌++◌, ◌∷◌, List, [], length, map, true, false, IsSome, vec_capacity}
 use Rattle.nmgc_alloc.specs.declared.search.Wanted.TheVariants as wanted
 use Rattle.nmgc_alloc.specs.Segments.{Segments, HasNone, IsSegments}
 use Rattle.nmgc_alloc.specs.Turns.{carried_over}
@@ -13,13 +13,14 @@ use Rattle.nmgc_mark.specs.Tie.{IsTied, with_places}
 use Rattle.nmgc_mark.specs.Work.{IsCollector, HasWorked, marks_seen}
 use Rattle.nmgc_mutator.specs.declared.mutator.Mutator.{Mutator}
 use Rattle.nmgc_round.specs.declared.table.Round.{Round}
+use Rattle.nmgc_round.specs.Gate.{passed}
 use Rattle.nmgc_round.specs.Marking.{Marks, marks_of}
 use Rattle.nmgc_round.specs.Seat.{RoundSeat, seen as seat_seen}
 use Rattle.nmgc_round.specs.View.{Opening}
 use Rattle.nmgc_run.specs.Marker.{HasRoomToMark}
 use Rattle.nmgc_run.specs.Marks.{epoch_of}
 use Rattle.nmgc_run.specs.Seen.{MarkerSeen}
-use Rattle.nmgc_sweep.specs.Sweeper.{AreLeft, HasStood}
+use Rattle.nmgc_sweep.specs.Sweeper.{AreLeft, HasStood, turned}
 use Rattle.nmgc_sweep.specs.Work.{HasBegun, HasSwept}
 use Rattle.nmgc_cycle.specs.declared.collector.Collector.{Collector}
 use Rattle.nmgc_cycle.specs.declared.progress.Marking.{Marking}
@@ -29,7 +30,7 @@ use Rattle.nmgc_cycle.specs.declared.progress.Sweeping.{Sweeping}
 use Rattle.nmgc_core.specs.State.{opening}
 use Rattle.nmgc_turn.specs.Worked.{registers_of}
 use Rattle.nmgc_cycle.specs.Roots.{cleared, queues_in, without_queue, AreGivenBack}
-use Rattle.nmgc_cycle.specs.Listed.{HaveJoined, HaveQueueRoom}
+use Rattle.nmgc_cycle.specs.Listed.{FinalisersQueued, HaveQueueRoom}
 use Rattle.nmgc_cycle.specs.Shown.{died, seen_mutator, words_in}
 use Rattle.nmgc_graph.specs.declared.value.Name.{Name}
 use Rattle.nmgc_object.specs.FinQueue.{FinQueue}
@@ -48,27 +49,35 @@ CanHelp round seat segments progress.Idle = IsCollector round seat
 CanHelp round seat segments (progress.Marking m) = IsCollector round seat × HasRoomToMark segments m.marker × IsTied (seat_seen seat).opening (marks_seen (seat_seen seat)) segments m.marker
 CanHelp round seat segments (progress.Sweeping w) = IsCollector round seat × AreLeft segments w.sweeper.left
 
--- it scanned as much as its last work tells, of at most so many objects
+-- it scanned as much as its last work tells, of at most so many objects, and passed the gate before each
 pub record HasScanned (round : Round) (quota : ℕ) (from seat : RoundSeat) (old new : Segments) (m n : Marking) : Type 0 where
   pub rest : n ≡ record m { marker = n.marker; last = n.last }
   pub worked : HasWorked round from seat old new m.marker n.marker n.last.scanned
   pub most : n.last.scanned ≤ quota
   pub least : n.last.scanned < quota → n.marker.queue ≡ []
   pub empty : (n.last.empty ≡ true) ↔ (n.marker.queue ≡ [])
+  pub turns : n.marker.turns ≡ passed m.marker.turns n.last.scanned
 
--- it swept the lesser of so many segments and those that were left
+-- it swept the lesser of so many segments and those that were left, and passed the gate before each
 pub record HasSweptSome (quota : ℕ) (old new : Segments) (w v : Sweeping) : Type 0 where
   pub rest : v ≡ record w { sweeper = v.sweeper }
   pub count : ℕ
   pub swept : HasSwept old new w.sweeper v.sweeper count
   pub most : count ≤ quota
   pub least : count < quota → v.sweeper.left ≡ []
+  pub turns : v.sweeper.turns ≡ passed w.sweeper.turns count
 
 -- it did its part
 abbrev pub HasHelped : Round → ℕ → RoundSeat → RoundSeat → Segments → Segments → Progress → Progress → Type 0
 HasHelped round quota from seat old new progress.Idle after = (seat ≡ from) × (new ≡ old) × (after ≡ progress.Idle)
 HasHelped round quota from seat old new (progress.Marking m) after = (n : Marking) × (after ≡ progress.Marking n) × HasScanned round quota from seat old new m n
 HasHelped round quota from seat old new (progress.Sweeping w) after = (v : Sweeping) × (after ≡ progress.Sweeping v) × (seat ≡ from) × HasSweptSome quota old new w v
+
+-- on how many objects or segments it worked beside a round, from one progress to the next
+abbrev pub worked_on : Progress → Progress → ℕ
+worked_on (progress.Marking m) (progress.Marking n) = n.last.scanned
+worked_on (progress.Sweeping w) (progress.Sweeping v) = length w.sweeper.left - length v.sweeper.left
+worked_on _ _ = 0
 
 -- At a stop
 
@@ -89,6 +98,7 @@ CanAdd segments _ = Unit {0}
 pub record HasAdded (entries : List ℕ) (old new : Segments) (before after : MarkerSeen) : Type 0 where
   pub marked : HasMarked old new before after 0
   pub tied : (o : Opening) (m : Marks) → IsTied o m old before → IsTied o (with_places o m entries) new after
+  pub turns : after.turns ≡ before.turns
 
 -- where a marker marks they were, and the segments are sound still
 abbrev pub AddsTo : List ℕ → Segments → Segments → Progress → Progress → Type 0
@@ -116,7 +126,7 @@ abbrev pub CanClose : List ℕ → Segments → List OldWeak → List FinQueue �
 CanClose words segments weaks queues (progress.Marking m) = m.last.empty ≡ true → IsReadyToClose words segments weaks queues m
 CanClose words segments weaks queues _ = Unit {0}
 
--- the marker finished, the weak pointers were resolved, the finalisers of the deaths joined the queues, the marks of segments that don't wait were carried, and the cycle sweeps from this stop on
+-- the marker finished, the weak pointers were resolved, the finalisers of the deaths joined the queues, the marks of segments that don't wait were carried, and the cycle sweeps from this stop on; the sweeper has the marker's count of the gate's passes
 pub record IsClosed (stop : ℕ) (words after : List ℕ) (old new : Segments) (weaks list : Weaks) (mutators then : List Mutator) (m : Marking) (sweeping : Sweeping) : Type 0 where
   pub between : Segments
   pub finisher : MarkerSeen
@@ -126,16 +136,17 @@ pub record IsClosed (stop : ℕ) (words after : List ℕ) (old new : Segments) (
   pub second : (scanned : ℕ) × HasMarked between marked finisher marker scanned
   pub finished : (o : Opening) → IsReady o words old m.marker → HasFinished o between finisher
   pub resolved : (o : Opening) → CanResolve o words between finisher (places_of weaks.list) → HasResolved o after marked marker list.list list.deaths
-  pub joined : HaveJoined list.deaths mutators then
+  pub joined : FinalisersQueued list.deaths mutators then
   pub carried : new ≡ record marked { segments = map (carried_over marker.epoch) marked.segments }
   pub sound : IsSegments marked × IsSegments new
-  pub is : sweeping ≡ record { from = m.from; closed = stop; kept = marker.marked; sweeper = m.sweeper }
+  pub is : sweeping ≡ record { from = m.from; closed = stop; kept = marker.marked; sweeper = turned m.sweeper m.marker.turns }
 
 -- a cycle is closed where the marker's last work left nothing
 abbrev pub Closes : ℕ → Progress → Collector → Collector → Type 0
 Closes stop (progress.Marking m) old new = ((m.last.empty ≡ true) × ((w : Sweeping) × (new.progress ≡ progress.Sweeping w) × IsClosed stop (words_in old.words) (words_in new.words) old.segments new.segments old.weaks new.weaks old.mutators.items new.mutators.items m w)) ⊎ ((m.last.empty ≡ false) × (new ≡ old))
 Closes stop p old new = new ≡ old
 
+-- of the collector words, segments, list and queues are those that this left
 pub record HasClosed (stop : ℕ) (old new : Collector) : Type 0 where
   pub rest : new ≡ record old { words = new.words; segments = new.segments; progress = new.progress; weaks = new.weaks; mutators = new.mutators }
   pub has_words : IsSome new.words
@@ -155,9 +166,9 @@ row_of number stop w dead = record {
   kept = w.kept;
 }
 
--- a cycle that sweeps ends where no segment waits
+-- a cycle that sweeps ends where no segment waits; the collector keeps the sweeper's count of the gate's passes
 abbrev pub Ends : ℕ → Progress → Collector → Collector → Type 0
-Ends stop (progress.Sweeping w) old new = (HasNone wanted.Sweeping old.segments × (new ≡ record old { progress = progress.Idle; turns = new.turns; cycles = old.cycles ++ row_of old.begun stop w (died old.weaks.deaths) ∷ [] })) ⊎ ((HasNone wanted.Sweeping old.segments → ⊥) × (new ≡ old))
+Ends stop (progress.Sweeping w) old new = (HasNone wanted.Sweeping old.segments × (new ≡ record old { progress = progress.Idle; turns = w.sweeper.turns; cycles = old.cycles ++ row_of old.begun stop w (died old.weaks.deaths) ∷ [] })) ⊎ ((HasNone wanted.Sweeping old.segments → ⊥) × (new ≡ old))
 Ends stop _ old new = new ≡ old
 
 -- a cycle is due: none is in progress, and one was asked for, or enough segments were filled since the last one began
@@ -174,7 +185,7 @@ pub record CanBegin (c : Collector) : Type 0 where
   pub stood : HasStood (all_prepared c.segments) (words_in c.words)
   pub begins : (o : Opening) × IsBeginning o (all_prepared c.segments) (next_epoch c) (words_in c.words) (registers_of c.mutators.items) (queues_in c.mutators.items)
 
--- a marking cycle was started at this stop: the segments were prepared, the sweeper noted what waits, and the marker marked what the roots refer to; the mutators have their roots again, and their queues have room for what the closing adds
+-- a marking cycle was started at this stop: the segments were prepared, the sweeper noted what waits, and the marker marked what the roots refer to, both with the collector's count of the gate's passes; the mutators have their roots again, and their queues have room for what the closing adds
 pub record StartsMarking (stop : ℕ) (old new : Collector) (marking : Marking) : Type 0 where
   pub rest : new ≡ record old { words = new.words; segments = new.segments; mutators = new.mutators }
   pub from_is : marking.from ≡ stop
@@ -186,6 +197,7 @@ pub record StartsMarking (stop : ℕ) (old new : Collector) (marking : Marking) 
   pub queue_room : HaveQueueRoom old.weaks.list between new.mutators.items
   pub closing_room : (marking.queues.items ≡ []) × (length new.mutators.items ≤ vec_capacity marking.queues)
   pub sweeper : HasBegun (all_prepared old.segments) (words_in old.words) (next_epoch old) marking.sweeper
+  pub turns : (marking.marker.turns ≡ old.turns) × (marking.sweeper.turns ≡ old.turns)
   pub marked : HasMarked (all_prepared old.segments) new.segments (blank (next_epoch old) (most_blocks old.segments.layout)) marking.marker 0
   pub tied : (o : Opening) → IsBeginning o (all_prepared old.segments) (next_epoch old) (words_in old.words) (registers_of old.mutators.items) (queues_in old.mutators.items) → IsTied o (marks_of (opening o.core.snapshot)) new.segments marking.marker
 

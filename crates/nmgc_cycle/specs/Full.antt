@@ -44,11 +44,12 @@ abbrev pub CanSweepRest : Segments → Progress → Type 0
 CanSweepRest segments (progress.Sweeping w) = AreLeft segments w.sweeper.left
 CanSweepRest segments _ = Unit {0}
 
--- all that waited were swept
+-- all that waited were swept, and the gate wasn't passed
 pub record HasSweptAll (old new : Segments) (w v : Sweeping) : Type 0 where
   pub rest : v ≡ record w { sweeper = v.sweeper }
   pub swept : HasSwept old new w.sweeper v.sweeper (length w.sweeper.left)
   pub none : v.sweeper.left ≡ []
+  pub turns : v.sweeper.turns ≡ w.sweeper.turns
   pub sound : IsSegments new
 
 -- a cycle that sweeps was swept to its end, and any other is as it was

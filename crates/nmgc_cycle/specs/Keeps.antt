@@ -47,7 +47,7 @@ pub record IsOwn (c : Collector) (k : ℕ) (m : Mutator) : Type 0 where
   pub no_replies : m.replies.items ≡ []
 
 -- what is true of a collector whatever its run: its parts are for one layout, and it knows how many commands of each program were answered
-pub record IsKept (script : Script) (c : Collector) : Type 0 where
+pub record IsWellFormed (script : Script) (c : Collector) : Type 0 where
   pub layout : c.segments.layout ≡ layout_of (plan_of script)
   pub sound : IsSegments c.segments
   pub lists : IsFor c.segments.layout c.promotion
@@ -62,13 +62,13 @@ pub record IsKept (script : Script) (c : Collector) : Type 0 where
 
 -- a new collector
 pub record IsFresh (script : Script) (c : Collector) : Type 0 where
-  pub kept : IsKept script c
+  pub kept : IsWellFormed script c
   pub goes_on : c.answered ≡ None
   pub new : IsNew (plan_of script) (seen c)
 
 -- after a stop of this run
-pub record IsStill (script : Script) (c : Collector) (run : Run) : Type 0 where
-  pub kept : IsKept script c
+pub record IsAfterStop (script : Script) (c : Collector) (run : Run) : Type 0 where
+  pub kept : IsWellFormed script c
   pub at_stop : IsAtStop (plan_of script) run (seen c)
   pub closing : HasClosingRoom c.progress (length c.mutators.items)
   pub sweeper : Sweeps (last_state run).progress (last_state run) c
@@ -76,11 +76,11 @@ pub record IsStill (script : Script) (c : Collector) (run : Run) : Type 0 where
 
 -- after a stop
 abbrev pub HasStopped : Script → Collector → Type 0
-HasStopped script c = (run : Run) × IsStill script c run
+HasStopped script c = (run : Run) × IsAfterStop script c run
 
 -- after a round
 pub record HasWorked (script : Script) (c : Collector) : Type 0 where
-  pub kept : IsKept script c
+  pub kept : IsWellFormed script c
   pub goes_on : c.answered ≡ None
   pub run : Run
   pub replies : List (List Reply)
@@ -93,7 +93,7 @@ pub record HasWorked (script : Script) (c : Collector) : Type 0 where
 
 -- the collector after did a round, and the one before stood after the last stop of the same run
 abbrev pub DidRound : Script → Collector → Collector → Type 0
-DidRound script old new = (worked : HasWorked script new) × IsStill script old worked.run
+DidRound script old new = (worked : HasWorked script new) × IsAfterStop script old worked.run
 
 -- a stop may follow: the collector is new, or did a round
 abbrev pub CanStop : Script → Collector → Type 0
@@ -107,7 +107,7 @@ HasAnswered script c (answer.HeapFull free reserve) = HasStopped script c × (c.
 
 -- a stop after a round: the run before the round, with the round and this stop as one turn more, is the run for which the collector stands. Of a new collector's first stop `answered` says all: the run has no turn yet
 abbrev pub StopsAfter : Script → Collector → Collector → Type 0
-StopsAfter script old new = (w : HasWorked script old) → (turn : Turn) × (turn.replies ≡ record { replies = w.replies }) × (turn.worked ≡ w.worked) × (turn.history ≡ w.history) × IsStill script new (with_turn w.run turn)
+StopsAfter script old new = (w : HasWorked script old) → (turn : Turn) × (turn.replies ≡ record { replies = w.replies }) × (turn.worked ≡ w.worked) × (turn.history ≡ w.history) × IsAfterStop script new (with_turn w.run turn)
 
 -- the run has ended so
 abbrev pub HasEnded : Script → Collector → End → Type 0

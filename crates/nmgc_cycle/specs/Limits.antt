@@ -1,6 +1,5 @@
 -- Which scripts a collector runs.
-use Rattle.nmgc_script.specs.Bench.{HasFewCommands}
-use Rattle.nmgc_script.specs.Limits.{FitsScript}
+use Rattle.nmgc_script.specs.Limits.{FitsScript, HasFewCommands}
 use Rattle.nmgc_script.specs.declared.script.Script.{Script}
 
 -- the script is within the limits, and so is the number of commands of each program

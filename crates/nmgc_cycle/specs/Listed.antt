@@ -38,27 +38,27 @@ pub record CanJoin (words : List ℕ) (list : List OldWeak) (moves : List Move) 
   pub few : length moves < 2 ^ 32
 
 -- the list with these, in order
-pub record Joins (old fresh new : List OldWeak) : Type 0 where
+pub record IsMergeOf (old fresh new : List OldWeak) : Type 0 where
   pub ordered : IsInOrder (names_of new)
   pub list : (other : OldWeak) → Contains new other ↔ (Contains old other ⊎ Contains fresh other)
 
 -- those that are dead by now have left the list
-pub record HasLeft (old new : Collector) : Type 0 where
+pub record FinalisedLeft (old new : Collector) : Type 0 where
   pub rest : new ≡ record old { words = new.words; weaks = new.weaks }
   pub words : (words_in new.words ≡ words_in old.words) × IsSome new.words
   pub list : new.weaks.list ≡ alive_of (words_in old.words) old.weaks.list
   pub deaths : new.weaks.deaths ≡ old.weaks.deaths
 
 -- those that moved and are alive have joined it
-pub record HasJoined (old new : Collector) : Type 0 where
+pub record MovedJoined (old new : Collector) : Type 0 where
   pub rest : new ≡ record old { words = new.words; weaks = new.weaks }
   pub words : (words_in new.words ≡ words_in old.words) × IsSome new.words
-  pub joins : Joins old.weaks.list (moved_weaks (words_in old.words) old.promotion.moves) new.weaks.list
+  pub joins : IsMergeOf old.weaks.list (moved_weaks (words_in old.words) old.promotion.moves) new.weaks.list
   pub deaths : new.weaks.deaths ≡ old.weaks.deaths
 
 -- how many weak pointers of the list a mutator made
-abbrev pub made_by : ℕ → List OldWeak → ℕ
-made_by maker list = count_by (λ (weak : OldWeak). weak.weak.maker == maker) list
+abbrev pub count_made_by : ℕ → List OldWeak → ℕ
+count_made_by maker list = count_by (λ (weak : OldWeak). weak.weak.maker == maker) list
 
 -- the same mutator, whose queue has room for so many
 pub record HasQueueRoom (count : ℕ) (old new : Mutator) : Type 0 where
@@ -69,7 +69,7 @@ pub record HasQueueRoom (count : ℕ) (old new : Mutator) : Type 0 where
 -- each mutator's queue has room for a finaliser of each weak pointer of the list that it made
 pub record HaveQueueRoom (list : List OldWeak) (old new : List Mutator) : Type 0 where
   pub count : length new ≡ length old
-  pub each : (k : ℕ) (d : Mutator) → k < length old → HasQueueRoom (made_by (slice_index_or old k d).number list) (slice_index_or old k d) (slice_index_or new k d)
+  pub each : (k : ℕ) (d : Mutator) → k < length old → HasQueueRoom (count_made_by (slice_index_or old k d).number list) (slice_index_or old k d) (slice_index_or new k d)
 
 -- the same mutators, with these queues
 pub record HaveQueues (queues : List FinQueue) (old new : List Mutator) : Type 0 where
@@ -77,7 +77,7 @@ pub record HaveQueues (queues : List FinQueue) (old new : List Mutator) : Type 0
   pub each : (k : ℕ) (m : Mutator) → slice_get old k ≡ Some m → slice_get new k ≡ Some (record m { queue = slice_index_or queues k no_queue })
 
 -- the finalisers of the deaths have joined the queues
-pub record HaveJoined (deaths : List Death) (old new : List Mutator) : Type 0 where
+pub record FinalisersQueued (deaths : List Death) (old new : List Mutator) : Type 0 where
   pub queues : List FinQueue
   pub joined : AllJoin deaths (queues_in old) queues
   pub have : HaveQueues queues old new

@@ -2,7 +2,7 @@
 use Rattle.std.specs.Prelude.{ℕ, ◌≡◌, ◌+◌, ◌*◌, List, [], map, length, slice_get, slice_range, slice_index_or, Some}
 use Rattle.std.specs.List.{flat_map}
 use Rattle.nmgc_graph.specs.declared.value.TheConstants.{REGISTERS}
-use Rattle.nmgc_graph.specs.Room.{Room}
+use Rattle.nmgc_lists.specs.Room.{Room}
 use Rattle.nmgc_object.specs.FinQueue.{FinQueue}
 use Rattle.nmgc_object.specs.declared.words.Address.{Address}
 use Rattle.nmgc_minor.specs.Promotes.{emptied}

@@ -37,14 +37,14 @@ died deaths = map (λ (death : Death). death.weak) deaths
 -- what there is of marker, work, sweeper and cycle, and what stands in its place where there is none
 abbrev pub marker_in : Progress → MarkerSeen
 marker_in (progress.Marking m) = m.marker
-marker_in _ = record { epoch = 0; queue = []; spare = 0; marked = 0 }
+marker_in _ = record { epoch = 0; queue = []; spare = 0; marked = 0; turns = 0 }
 
 abbrev pub work_in : Progress → WorkSeen
 work_in (progress.Marking m) = record { scanned = m.last.scanned; empty = m.last.empty }
 work_in _ = record { scanned = 0; empty = false }
 
 abbrev pub no_sweeper : Sweeper
-no_sweeper = record { seen = record { epoch = 0; swept = []; had = []; freed = [] }; left = [] }
+no_sweeper = record { seen = record { epoch = 0; swept = []; had = []; freed = [] }; left = []; turns = 0 }
 
 abbrev pub sweeper_in : Progress → Sweeper
 sweeper_in progress.Idle = no_sweeper
@@ -55,6 +55,15 @@ abbrev pub cycle_in : Progress → List Name → CycleSeen
 cycle_in progress.Idle dead = record { from = 0; closed = 0; dead = []; kept = 0 }
 cycle_in (progress.Marking m) dead = record { from = m.from; closed = 0; dead = []; kept = 0 }
 cycle_in (progress.Sweeping w) dead = record { from = w.from; closed = w.closed; dead = dead; kept = w.kept }
+
+-- how often the collector passed the gate in the whole run: the marker or the sweeper of a cycle in progress counts it
+abbrev pub turns_by : Progress → ℕ → ℕ
+turns_by progress.Idle turns = turns
+turns_by (progress.Marking m) turns = m.marker.turns
+turns_by (progress.Sweeping w) turns = w.sweeper.turns
+
+abbrev pub turns_of : Collector → ℕ
+turns_of c = turns_by c.progress c.turns
 
 -- the collector, as `IsAtStop` and `IsAfterRound` speak of it
 abbrev pub seen : Collector → Seen

@@ -21,7 +21,7 @@ use Rattle.nmgc_cycle.specs.declared.progress.Marking.{Marking}
 use Rattle.nmgc_cycle.specs.declared.progress.Progress.TheVariants as doing
 use Rattle.nmgc_cycle.specs.declared.progress.Sweeping.{Sweeping}
 use Rattle.nmgc_cycle.specs.Cycles.{HasTaken, CanClose, HasClosed, IsClosed, Ends, CanBegin, HasStarted, Begins}
-use Rattle.nmgc_cycle.specs.Keeps.{IsKept, HasClosingRoom, Sweeps}
+use Rattle.nmgc_cycle.specs.Keeps.{IsWellFormed, HasClosingRoom, Sweeps}
 use Rattle.nmgc_cycle.specs.Roots.{queues_in}
 use Rattle.nmgc_cycle.specs.Shown.{seen, words_in}
 use Rattle.nmgc_cycle.specs.Limits.{IsInLimits}
@@ -42,8 +42,8 @@ pub record HasOnlyEntries (mutator : MutatorSeen) : Type 0 where
   pub young_weaks : mutator.young_weaks ≡ []
 
 -- words, segments, mutators, marker and sweeper of the collector stand for a state at a stop
-pub record Stands (Paced : Cycle → State → Seen → Type 0) (Rests : MutatorSeen → Type 0) (script : Script) (c : Collector) (s : State) : Type 0 where
-  pub kept : IsKept script c
+pub record StandsForState (Paced : Cycle → State → Seen → Type 0) (Rests : MutatorSeen → Type 0) (script : Script) (c : Collector) (s : State) : Type 0 where
+  pub kept : IsWellFormed script c
   pub sound : IsSoundState (plan_of script) s
   pub course : IsStateInCourse s
   pub matches : Matches (seen c) s
@@ -57,13 +57,13 @@ pub record Stands (Paced : Cycle → State → Seen → Type 0) (Rests : Mutator
 
 -- after the promotion; once what was remembered was added; and from the closing on
 abbrev pub StandsPromoted : Script → Collector → State → Type 0
-StandsPromoted script c s = Stands (IsPacedPromoted script.config.quota) HasOnlyEntries script c s
+StandsPromoted script c s = StandsForState (IsPacedPromoted script.config.quota) HasOnlyEntries script c s
 
 abbrev pub StandsWithin : Script → Collector → State → Type 0
-StandsWithin script c s = Stands (IsPacedWithin script.config.quota) IsAtRest script c s
+StandsWithin script c s = StandsForState (IsPacedWithin script.config.quota) IsAtRest script c s
 
 abbrev pub StandsAt : Script → Collector → State → Type 0
-StandsAt script c s = Stands (IsPacedAtStop script.config.quota) IsAtRest script c s
+StandsAt script c s = StandsForState (IsPacedAtStop script.config.quota) IsAtRest script c s
 
 -- Each step leads from one to the next, by the rule of the run
 

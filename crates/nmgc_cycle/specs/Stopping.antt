@@ -9,7 +9,7 @@ use Rattle.nmgc_graph.specs.World.{IsWorld}
 use Rattle.nmgc_heap.specs.Moves.{Moved, settled}
 use Rattle.nmgc_heap.specs.Roots.{ListsWeaks}
 use Rattle.nmgc_weak.specs.declared.weaks.OldWeak.{OldWeak}
-use Rattle.nmgc_weak.specs.Closes.{OldStayOld}
+use Rattle.nmgc_weak.specs.Closes.{KeepsOldWeaks}
 use Rattle.nmgc_weak.specs.Weaks.{places_of}
 use Rattle.nmgc_blocks.specs.Occupied.{KeepsMarks}
 use Rattle.nmgc_blocks.specs.Promoted.{PlacesEach}
@@ -64,7 +64,7 @@ pub record HasPromoted (old new : Collector) : Type 0 where
 pub record CanList (t : Stopped) (c : Collector) : Type 0 where
   pub began : IsWorld t.began
   pub listed : ListsWeaks c.segments.layout t.places t.began (places_of c.weaks.list)
-  pub old : OldStayOld c.segments.layout t.places t.began t.world
+  pub old : KeepsOldWeaks c.segments.layout t.places t.began t.world
 
 -- those that were finalised have left the list, and those that moved and are alive have joined it
 pub record HasListed (old new : Collector) : Type 0 where
@@ -81,7 +81,7 @@ abbrev pub IsDone : Script → Collector → Type 0
 IsDone script c = (SomeIsLeft script.threads c.positions.items → ⊥) × (c.progress ≡ doing.Idle)
 
 -- commands are left, and so many segments are free, fewer than the reserve
-pub record IsFull (script : Script) (c : Collector) (free reserve : ℕ) : Type 0 where
+pub record IsHeapFullAt (script : Script) (c : Collector) (free reserve : ℕ) : Type 0 where
   pub left : SomeIsLeft script.threads c.positions.items
   pub free_is : free ≡ free_count c.segments.segments
   pub reserve_is : reserve ≡ reserve_count c.segments.layout

@@ -29,7 +29,7 @@ use Rattle.nmgc_cycle.specs.declared.collector.Collector.{Collector}
 use Rattle.nmgc_cycle.specs.declared.round.Lists.{Lists}
 use Rattle.nmgc_cycle.specs.declared.worker.Worker.{Worker}
 use Rattle.nmgc_cycle.specs.Cycles.{HasHelped}
-use Rattle.nmgc_cycle.specs.Keeps.{IsStill}
+use Rattle.nmgc_cycle.specs.Keeps.{IsAfterStop}
 use Rattle.nmgc_cycle.specs.Shown.{seen as collector_seen}
 
 -- what a mutator has left of its program
@@ -119,7 +119,7 @@ OpensIn _ s c places o = o ≡ opening_at c.segments.layout s.world places c.mut
 
 -- the round that begins after a stop opens with the state of that stop
 abbrev pub OpensAt : Script → Collector → Opening → Type 0
-OpensAt script c o = (run : Run) × (h : IsStill script c run) × OpensIn (last_state run).progress (last_state run) c h.at_stop.heap.places o
+OpensAt script c o = (run : Run) × (h : IsAfterStop script c run) × OpensIn (last_state run).progress (last_state run) c h.at_stop.heap.places o
 
 -- what mutator k did in a round: its slice of what was left, with these replies; its finaliser queue has no less room
 pub record DidSlice (script : Script) (old new : Collector) (k : ℕ) (m n : Mutator) (done : List Done) : Type 0 where

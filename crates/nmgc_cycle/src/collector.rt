@@ -27,7 +27,7 @@ ghost use Rattle.nmgc_script.specs.Limits.{FitsScript};
 ghost use Rattle.nmgc_run.specs.State.{plan_of, layout_of as planned_layout};
 ghost use Rattle.nmgc_run.specs.Seen.{end_of as told_end};
 ghost use Rattle.nmgc_beside.specs.Heaps.{seen_mutator};
-ghost use Rattle.nmgc_cycle.specs.Shown.{report_of};
+ghost use Rattle.nmgc_cycle.specs.Shown.{report_of, turns_of};
 ghost use Rattle.nmgc_run.specs.Crowded.{IsRunOf};
 ghost use Rattle.nmgc_run.specs.Lawful.{IsLawful};
 ghost use Rattle.nmgc_cycle.specs.Limits.{IsInLimits};
@@ -139,13 +139,14 @@ fn new_mutators(alloc: Global, layout: Layout) -> Result<Vec<Mutator>, NoMemory>
 
 impl Collector {
     /// The collector of a script's run, before its first stop: no command was answered, the registers and g are
-    /// full of nil, and every segment is free.
+    /// full of nil, every segment is free, and the collector passed no gate.
     ///
     /// Asks that the script is within the limits. Takes memory for the words, twice, for the segments with their marks,
     /// and for what the promotion of full nurseries needs; what a cycle needs is taken as it begins.
     pub fn new(alloc: Global, script: &Script) -> Result<Collector, NoMemory>
         requires { IsInLimits script.now }
-        ensures { IfOk result (λ collector. IsFresh script.now collector) }
+        ensures fresh { IfOk result (λ collector. IsFresh script.now collector) }
+        ensures turns { IfOk result (λ collector. turns_of collector ≡ 0) }
     {
         empty_heap_opens();
         let layout = layout_of(script);

@@ -12,14 +12,19 @@
 //! Whatever the collector does, commands, replies and worlds of the round are those of the mutators alone: what it
 //! writes are marks and segments that wait. What it leaves of its cycle is told phase by phase (`DidSlices`,
 //! `HasHelped`): the marker's marks are those of its scans, and of a segment that was swept only freed names are gone.
+//!
+//! Easy to get wrong: a request for a cycle or a full one that an earlier round made stands until a stop grants it, so
+//! a round may only add to the requests.
 ghost use Rattle.std.specs.Prelude.{ℕ, ◌≡◌, ◌||◌, ◌<◌, ◌≤◌, ◌+◌, ◌^◌, [], ◌∷◌, ◌++◌, None, IfOk, OnOk, length, map, min, slice_index, slice_index_or};
 ghost use Rattle.std.specs.List.{list_any};
 ghost use Rattle.nmgc_alloc.specs.Segments.{IsSegments};
+ghost use Rattle.nmgc_round.specs.Gate.{passed};
 ghost use Rattle.nmgc_mutator.specs.declared.mutator.Mutator.{Mutator as MutatorSeen};
 ghost use Rattle.nmgc_run.specs.Slice.{program_of};
 ghost use Rattle.nmgc_cycle.specs.Limits.{IsInLimits};
 ghost use Rattle.nmgc_cycle.specs.Keeps.{HasStopped, DidRound};
-ghost use Rattle.nmgc_cycle.specs.Cycles.{CanHelp, HasHelped};
+ghost use Rattle.nmgc_cycle.specs.Cycles.{CanHelp, HasHelped, worked_on};
+ghost use Rattle.nmgc_cycle.specs.Shown.{turns_of};
 ghost use Rattle.nmgc_cycle.specs.Working.{left_at, HaveRoom, HasLists, HaveSliceRoom, AreReserved, CanAllWork, HaveAllWorked, OpensAt, DidSlices, asks_of, asks_full_of, cleared, replies_of};
 
 use crate::Collector;
@@ -89,7 +94,8 @@ fn opening_of(script: &Script, collector: &Collector) -> Chosen<Opened>
 impl Collector {
     /// One round: each mutator with commands left does a slice, in a thread of its own, and passes `gate` before each
     /// command that it tries. Beside them the collector scans as many objects as the quota says while a cycle marks, or
-    /// sweeps as many segments of a closed one, or fewer where no more are left; it passes `gate` before each. Where a
+    /// sweeps as many segments of a closed one, or fewer where no more are left; it passes `gate` before each, and counts
+    /// this through the whole run: the clause `turns` tells the count. Where a
     /// slice asks for a cycle, one is due at the next stop that finds none in progress, and where it asks for a full cycle,
     /// that is due at the next stop. The replies of the round are told after those of the rounds before.
     ///
@@ -106,6 +112,7 @@ impl Collector {
         ensures worked { OnOk result (DidRound script.now self.old self.new) }
         ensures told { OnOk result ((rows : RoundRows) × (self.new.rounds ≡ self.old.rounds ++ rows ∷ [])) }
         ensures stops { OnOk result (self.new.stops ≡ self.old.stops) }
+        ensures turns { OnOk result (turns_of self.new ≡ passed (turns_of self.old) (worked_on self.old.progress self.new.progress)) }
     {
         a_rest_opens_a_round();
         opens_beside();

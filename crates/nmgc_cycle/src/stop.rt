@@ -18,9 +18,10 @@ ghost use Rattle.nmgc_blocks.specs.Stopped.{Stopped};
 ghost use Rattle.nmgc_minor.specs.Promotion.{IsFor};
 ghost use Rattle.nmgc_cycle.specs.Limits.{IsInLimits};
 ghost use Rattle.nmgc_cycle.specs.Roots.{HasRegisters};
+ghost use Rattle.nmgc_cycle.specs.Shown.{turns_of};
 ghost use Rattle.nmgc_cycle.specs.declared.stop.StopEnd.TheVariants as answer;
 ghost use Rattle.nmgc_cycle.specs.Keeps.{CanStop, HasAnswered, StopsAfter};
-ghost use Rattle.nmgc_cycle.specs.Stopping.{StandsStopped, CanList, HasListed, HasPromoted, SomeIsLeft, IsDone, IsFull, ended_by};
+ghost use Rattle.nmgc_cycle.specs.Stopping.{StandsStopped, CanList, HasListed, HasPromoted, SomeIsLeft, IsDone, IsHeapFullAt, ended_by};
 
 use crate::leading::a_stop_leads;
 use crate::{Collector, roots};
@@ -50,12 +51,12 @@ impl Collector {
     ///
     /// Asks that no stop was done yet, or a round since the last one. Afterwards words, segments, mutators and list of weak
     /// pointers stand for the state of the same run after this stop: the world is as it was but for weak pointers that
-    /// died, where a cycle was closed.
+    /// died, where a cycle was closed. The collector passes no gate here, and hands on how often it did.
     ///
     /// Takes memory for the roots and the recorded fields, for weak pointers that join the list, for the row of a cycle that
     /// ends, and where one begins for its marker's queue, its sweeper's notes and room in the finaliser queues. Takes time
     /// for what is promoted, the roots, the list of weak pointers, the recorded and the remembered fields and the number of
-    /// segments; at a closing for what is left to scan, and for the list as often as finalisers are saved; where a cycle
+    /// segments; at a closing for what is left to scan, and for the list once for each pass over it; where a cycle
     /// begins for the blocks of the segments that it will sweep, and where one ends for the names of its row; a full cycle
     /// takes time for all that is reached and for every block. After `NoMemory` nothing is known of the collector.
     pub fn stop(&mut self, script: &Script) -> Result<StopEnd, NoMemory>
@@ -64,9 +65,10 @@ impl Collector {
         ensures answered { IfOk result (λ end. HasAnswered script.now self.new end) }
         ensures after { OnOk result (StopsAfter script.now self.old self.new) }
         ensures done { IfOk result (λ end. (end ≡ answer.Done) ↔ IsDone script.now self.new) }
-        ensures full { IfOk result (λ end. (free reserve : ℕ) → (end ≡ answer.HeapFull free reserve) ↔ IsFull script.now self.new free reserve) }
+        ensures full { IfOk result (λ end. (free reserve : ℕ) → (end ≡ answer.HeapFull free reserve) ↔ IsHeapFullAt script.now self.new free reserve) }
         ensures rounds { OnOk result (self.new.rounds ≡ self.old.rounds) }
         ensures stops { OnOk result ((row : StopRow) × (self.new.stops ≡ self.old.stops ++ row ∷ [])) }
+        ensures turns { OnOk result (turns_of self.new ≡ turns_of self.old) }
     {
         a_stop_leads();
         let number = self.stops.items().len() as u32;

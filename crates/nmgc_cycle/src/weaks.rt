@@ -15,7 +15,7 @@ ghost use Rattle.nmgc_weak.specs.Weaks.{AreInside, names_of};
 ghost use Rattle.nmgc_weak.specs.declared.weaks.OldWeak.{OldWeak as Old};
 ghost use Rattle.nmgc_cycle.specs.Roots.{queues_in, without_queue};
 ghost use Rattle.nmgc_cycle.specs.Shown.{died, words_in};
-ghost use Rattle.nmgc_cycle.specs.Listed.{is_alive_at, moved_weaks, AreMovedInside, CanJoin, Joins, HasLeft, HasJoined, made_by, HasQueueRoom, HaveQueueRoom, HaveQueues, HaveJoined};
+ghost use Rattle.nmgc_cycle.specs.Listed.{is_alive_at, moved_weaks, AreMovedInside, CanJoin, IsMergeOf, FinalisedLeft, MovedJoined, count_made_by, HasQueueRoom, HaveQueueRoom, HaveQueues, FinalisersQueued};
 
 use crate::Collector;
 use nmgc_graph::{Kind, List, Name, NoMemory};
@@ -71,7 +71,7 @@ fn join_all(weaks: &mut Weaks, fresh: &[OldWeak])
     requires room { length fresh.now ≤ weaks.old.spare }
     requires ordered { IsInOrder (names_of fresh.now) }
     requires new { (one other : Old) → Contains fresh.now one → Contains weaks.old.list other → other.weak ≢ one.weak }
-    ensures joins { Joins weaks.old.list fresh.now weaks.new.list }
+    ensures joins { IsMergeOf weaks.old.list fresh.now weaks.new.list }
     ensures deaths { weaks.new.deaths ≡ weaks.old.deaths }
 {
     weaks.add_all(fresh);
@@ -82,7 +82,7 @@ impl Collector {
     pub(crate) fn leave(&mut self)
         requires words { IsSome self.old.words }
         requires inside { AreInside (words_in self.old.words) self.old.weaks.list }
-        ensures { HasLeft self.old self.new }
+        ensures { FinalisedLeft self.old self.new }
     {
         let Some(words) = &mut self.words else {
             unreachable!()
@@ -94,7 +94,7 @@ impl Collector {
     pub(crate) fn join(&mut self) -> Result<(), NoMemory>
         requires words { IsSome self.old.words }
         requires can { CanJoin (words_in self.old.words) self.old.weaks.list self.old.promotion.moves }
-        ensures { OnOk result (HasJoined self.old self.new) }
+        ensures { OnOk result (MovedJoined self.old self.new) }
     {
         let Some(words) = &mut self.words else {
             unreachable!()
@@ -108,14 +108,14 @@ impl Collector {
 
 // How many weak pointers of a list a mutator made.
 fn count_of(maker: u8, list: &[OldWeak]) -> usize
-    ensures { result ≡ made_by maker list.now }
+    ensures { result ≡ count_made_by maker list.now }
 {
     list.iter().filter(|weak| weak.weak.maker == maker).count()
 }
 
 // The queue of a mutator gets room for a finaliser of each weak pointer of the list that it made.
 fn reserve_queue(mutator: &mut Mutator, list: &[OldWeak]) -> Result<(), NoMemory>
-    ensures { OnOk result (HasQueueRoom (made_by mutator.old.number list.now) mutator.old mutator.new) }
+    ensures { OnOk result (HasQueueRoom (count_made_by mutator.old.number list.now) mutator.old mutator.new) }
 {
     // No heap has so many that this fails.
     let Ok(own) = u32::try_from(count_of(mutator.number, list)) else {
@@ -171,7 +171,7 @@ pub fn queue_all(alloc: Global, deaths: &[Death], mutators: &mut [Mutator], room
     requires empty { room.items ≡ [] }
     requires room { length mutators.old ≤ vec_capacity room }
     requires queues { HaveRoom deaths.now (queues_in mutators.old) }
-    ensures { HaveJoined deaths.now mutators.old mutators.new }
+    ensures { FinalisersQueued deaths.now mutators.old mutators.new }
 {
     let mut queues = take_queues(alloc, mutators, room);
     queue_finalisers(deaths, queues.as_mut_slice());

@@ -2,6 +2,9 @@
 //!
 //! A worker is a mutator with its seat. It reads its program from where it stands, and no other's, and notes how many
 //! commands it did; so the workers share the round alone, and what each did is told by its own contract.
+//!
+//! Easy to get wrong: where no thread can be started the caller does the work, one worker after the other. So nothing
+//! here may rest on two that run side by side.
 ghost use Rattle.std.specs.Prelude.{◌≡◌, ◌<◌, ◌≤◌, [], length, map, slice_index, vec_len, vec_capacity};
 ghost use Rattle.nmgc_run.specs.Slice.{program_of};
 ghost use Rattle.std.specs.Thread.{IsSync};

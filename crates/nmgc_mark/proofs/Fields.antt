@@ -11,16 +11,17 @@ use Rattle.nmgc_object.specs.declared.layout.Layout.{Layout}
 use Rattle.nmgc_core.specs.Scan.{fields_of}
 use Rattle.nmgc_alloc.specs.Segments.{Segments}
 use Rattle.nmgc_round.specs.declared.table.Round.{Round}
+use Rattle.nmgc_round.specs.Gate.{next_turn, passed}
 use Rattle.nmgc_round.specs.View.{Opening, Seen, Scan}
 use Rattle.nmgc_round.specs.Marking.{Marks, name_meant, name_read, with_name, is_last_word}
 use Rattle.nmgc_round.specs.Ready.{scanned_by}
 use Rattle.nmgc_round.specs.Seat.{RoundSeat, IsAt, Knows, seen, word_count}
 use Rattle.nmgc_run.specs.Seen.{MarkerSeen}
 use Rattle.nmgc_run.specs.Marker.{HasRoomToMark}
-use Rattle.nmgc_mark.specs.Marker.{HasScanned, HasMarked}
+use Rattle.nmgc_mark.specs.Marker.{HasScanned, HasMarked, turned}
 use Rattle.nmgc_mark.specs.Tie.{IsTied}
 use Rattle.nmgc_mark.specs.Work.{IsScanning, IsCollector, IsLaterSeat, IsAtField, entry_now, marks_seen, rest_of, fields_scanned, is_result}
-use Rattle.nmgc_mark.proofs.Scanning.{IsNode, goes_on, ends, not_last, header_more, field_last, result_last, fields_are}
+use Rattle.nmgc_mark.proofs.Scanning.{IsNode, IsTaken, goes_on, ends, not_last, header_more, field_last, result_last, fields_are}
 
 pub few : (k : Kind) (n : ℕ) → fields_scanned k n ≤ n
 few kind.Con n = omega arith
@@ -111,11 +112,11 @@ module _ (from v : Seen) (s t : Segments) (m n : MarkerSeen) (at w fields field 
   with_result set = done (result_last node.node field w (ap (λ (h : Header). is_result h.kind field w) node.is ∙ set))
 
 -- the first of the queue was taken
-pub room_taken : (s : Segments) (old new : MarkerSeen) → HasRoomToMark s old → new ≡ record old { queue = new.queue } → HasRoomToMark s new
+pub room_taken : (s : Segments) (old new : MarkerSeen) → HasRoomToMark s old → IsTaken old new → HasRoomToMark s new
 room_taken s old new h e = subst (λ (m : MarkerSeen). HasRoomToMark s m) (sym e) (record { places = h.places; all = h.all; room = h.room })
 
 -- an object was taken off the queue, and scanned
-pub object_marked : (s t u : Segments) (before m taken n : MarkerSeen) (at count : ℕ) → HasMarked s t before m count → m.queue ≡ at ∷ taken.queue → taken ≡ record m { queue = taken.queue } → HasMarked t u taken n 0 → HasMarked s u before n (count + 1)
+pub object_marked : (s t u : Segments) (before m taken n : MarkerSeen) (at count : ℕ) → HasMarked s t before m count → m.queue ≡ at ∷ taken.queue → IsTaken m taken → HasMarked t u taken n 0 → HasMarked s u before n (count + 1)
 object_marked s t u before m taken n at count inv q e done = record {
   room = done.room;
   scanned = record {
@@ -174,6 +175,14 @@ words_in round seat h = ap (λ (o : Opening). word_total o.layout) h.2 ∙ round
 pub total_small : (layout : Layout) → IsLayout layout → word_total layout < 2 ^ 32
 total_small layout h = let heap = h.heap in omega arith
 
--- the same marker, whose queue's first was taken, after a pass of the gate
-pub passed_taken : (old taken new : MarkerSeen) → taken ≡ record old { queue = taken.queue } → new ≡ taken → new ≡ record old { queue = new.queue }
-passed_taken old taken new e same = same ∙ e ∙ ap (λ (m : MarkerSeen). let k : MarkerSeen = record old { queue = m.queue } in k) (sym same)
+-- the same marker, whose queue's first was taken
+pub queue_taken : (old new : MarkerSeen) → new ≡ record old { queue = new.queue } → IsTaken old new
+queue_taken old new e = e ∙ ap (λ (n : ℕ). let k : MarkerSeen = record old { queue = new.queue; turns = n } in k) (sym (ap (λ (m : MarkerSeen). m.turns) e))
+
+-- so it is after a pass of the gate
+pub passed_taken : (old taken new : MarkerSeen) (turns : ℕ) → taken ≡ record old { queue = taken.queue } → new ≡ turned taken turns → IsTaken old new
+passed_taken old taken new turns e same = same ∙ ap (λ (m : MarkerSeen). turned m turns) e ∙ ap (λ (m : MarkerSeen). let k : MarkerSeen = record old { queue = m.queue; turns = m.turns } in k) (sym same)
+
+-- one pass more
+pub passed_more : (turns count : ℕ) → next_turn (passed turns count) ≡ passed turns (count + 1)
+passed_more turns count = let e : suc count ≡ count + 1 = omega arith in ap (λ n. passed turns n) e

@@ -120,8 +120,12 @@ ends v w at s new before later position h node there last tied =
     let is = after_last v w h.first node there (subst (λ p. is_last_word node p w ≡ true) (sym h.stands) last) in
     subst (λ (m : Marks). IsTied v.opening m new later) (sym (is ∙ ap (λ p. with_name v.opening.core.snapshot (rest_of (marks_seen v)) (name_read v.opening.places p w)) h.stands)) tied
 
+-- the same marker, but for its queue and how often the gate was passed
+abbrev pub IsTaken : MarkerSeen → MarkerSeen → Type 0
+IsTaken old new = new ≡ record old { queue = new.queue; turns = new.turns }
+
 -- the first of the queue is scanned next
-pub begins : (v : Seen) (s : Segments) (before later : MarkerSeen) (at : ℕ) → IsTied v.opening (marks_seen v) s before → before.queue ≡ at ∷ later.queue → later ≡ record before { queue = later.queue } → IsScanning v s later at 0
+pub begins : (v : Seen) (s : Segments) (before later : MarkerSeen) (at : ℕ) → IsTied v.opening (marks_seen v) s before → before.queue ≡ at ∷ later.queue → IsTaken before later → IsScanning v s later at 0
 begins v s before later at h e same = by_queue before.queue (marks_seen v).queue e refl h.queue
   where
     by_queue : (ats : List ℕ) (entries : List Entry) → ats ≡ at ∷ later.queue → (marks_seen v).queue ≡ entries → AreQueued v.opening.places ats entries → IsScanning v s later at 0

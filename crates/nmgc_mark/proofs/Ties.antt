@@ -93,6 +93,14 @@ place_marked old new before later at h r = record {
   stands = r.stands;
 }
 
+-- how often the gate was passed stays
+noted_turns : (answer : Bool) (at : ℕ) (m : MarkerSeen) → (noted answer at m).turns ≡ m.turns
+noted_turns true at m = refl
+noted_turns false at m = refl
+
+pub place_turns : (old new : Segments) (before later : MarkerSeen) (at : ℕ) → MarksAt old new before later at → later.turns ≡ before.turns
+place_turns old new before later at r = ap (λ (m : MarkerSeen). m.turns) r.marker ∙ noted_turns r.answer at before
+
 queued_more : (places : List Place) (ats : List ℕ) (entries : List Entry) (at : ℕ) (name : Name) → AreQueued places ats entries → Contains places (record { at = at; name = name }) → AreQueued places (ats ++ at ∷ []) (entries ++ entry_of name ∷ [])
 queued_more places [] [] at name q c = ((c, refl), tt)
 queued_more places (a ∷ ats) (e ∷ es) at name q c = (q.0, queued_more places ats es at name q.1 c)

@@ -13,7 +13,11 @@ places entries = map (λ (at : Address). at.0) entries
 
 -- a marker that marked nothing yet
 abbrev pub blank : ℕ → ℕ → MarkerSeen
-blank epoch spare = record { epoch = epoch; queue = []; spare = spare; marked = 0 }
+blank epoch spare = record { epoch = epoch; queue = []; spare = spare; marked = 0; turns = 0 }
+
+-- the marker once the collector passed the gate so often
+abbrev pub turned : MarkerSeen → ℕ → MarkerSeen
+turned m turns = record m { turns = turns }
 
 -- the segments stand for what they stood for
 abbrev pub StandAsBefore : Segments → Segments → Type 0

@@ -29,6 +29,7 @@ impl Marker {
         requires scanning { (o : Opening) × (v : Seen) × IsAlone o (W.words words.old) v × IsScanning v segments.old self.old at.0 0 }
         ensures words { W.words words.new ≡ W.words words.old }
         ensures marked { HasMarked segments.old segments.new self.old self.new 0 }
+        ensures turns { self.new.turns ≡ self.old.turns }
         ensures tied { (o : Opening) (v : Seen) → IsAlone o (W.words words.old) v → IsScanning v segments.old self.old at.0 0 → (w : Seen) × IsAlone o (W.words words.old) w × IsTied o (marks_seen w) segments.new self.new }
     {
         words_differ();
@@ -50,12 +51,13 @@ impl Marker {
 
     /// Scans until the queue is empty, with the mutators stopped. The words represent the world of a core state
     /// that could open a round, and marks and queue are that state's: so they are the machine's afterwards, once
-    /// it has scanned all that was left. No word changes. Takes no memory.
+    /// it has scanned all that was left. No word changes. The gate isn't passed, and its count stays. Takes no memory.
     pub fn finish<W: HeapWords>(&mut self, words: &mut W, segments: &mut Segments)
         requires room { HasRoomToMark segments.old self.old }
         requires ready { (o : Opening) × IsReady o (W.words words.old) segments.old self.old }
         ensures words { W.words words.new ≡ W.words words.old }
         ensures marked { (count : ℕ) × HasMarked segments.old segments.new self.old self.new count }
+        ensures turns { self.new.turns ≡ self.old.turns }
         ensures empty { self.new.queue ≡ [] }
         ensures finished { (o : Opening) → IsReady o (W.words words.old) segments.old self.old → HasFinished o segments.new self.new }
     {

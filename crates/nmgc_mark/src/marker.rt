@@ -3,6 +3,9 @@
 //! All marked places stand in one list in the order of marking, of which those before an index were scanned;
 //! the rest is the queue. So a place is queued at most once in a cycle, and the list never needs more room
 //! than there are blocks.
+//!
+//! Easy to get wrong: a pointer may lead to g, or to an object that was born in a round, and there no block
+//! begins. `Segments::mark_at` asks for one, so `block_at` is asked first.
 ghost use Rattle.std.specs.Prelude.{ℕ, ◌≡◌, ◌+◌, ◌-◌, ◌*◌, ◌^◌, ◌<◌, ◌≤◌, [], ◌∷◌, ◌++◌, ◌↔◌, length, Contains, IsTrue, IfSome, IfNone, IfOk};
 ghost use Rattle.nmgc_segment.specs.Marks.{IsEpoch};
 ghost use Rattle.nmgc_object.specs.declared.layout.TheConstants.{FIRST_PLACE};
@@ -30,8 +33,8 @@ pub struct Work {
     pub empty: bool,
 }
 
-/// The marker of a cycle. Contracts see its epoch, its queue of places, for how many more there is room, and
-/// how many blocks it marked.
+/// The marker of a cycle. Contracts see its epoch, its queue of places, for how many more there is room, how
+/// many blocks it marked, and how often the gate was passed.
 #[derive(Drop)]
 pub struct Marker {
     /// How often the collector passed the gate in the whole run. Stands still at 2^64 - 1.
@@ -55,6 +58,7 @@ impl Model for Marker {
       queue = drop m.first (places m.found.items);
       spare = m.limit - length m.found.items;
       marked = length m.found.items;
+      turns = m.turns;
     } };
 
     ghost invariant = { λ m. IsEpoch m.epoch × (m.first ≤ length m.found.items) × (length m.found.items ≤ m.limit) × (m.limit ≤ length m.found.items + m.found.spare) };
@@ -88,7 +92,7 @@ impl Marker {
     /// Begins to mark: what registers, finaliser queues and the slots of g refer to is marked and queued, in
     /// this order. `Segments::prepare` was just called, and no mark byte is the epoch. Marks and queue are those
     /// with which the core machine opens. There is room for every block, which is the only memory that a marker
-    /// takes; after `NoMemory` no block was marked.
+    /// takes; after `NoMemory` no block was marked. `turns` is 0 then.
     pub fn snapshot<W: HeapWords>(
         alloc: Global,
         words: &mut W,
@@ -102,6 +106,7 @@ impl Marker {
         requires begins { (o : Opening) × IsBeginning o segments.old epoch (W.words words.old) registers.now queues.now }
         ensures words { W.words words.new ≡ W.words words.old }
         ensures marked { IfOk result (λ marker. HasMarked segments.old segments.new (blank epoch (most_blocks segments.old.layout)) marker 0) }
+        ensures turns { IfOk result (λ marker. marker.turns ≡ 0) }
         ensures tied { IfOk result (λ marker. (o : Opening) → IsBeginning o segments.old epoch (W.words words.old) registers.now queues.now → IsTied o (marks_of (opening o.core.snapshot)) segments.new marker) }
     {
         let blocks = most_blocks(segments.layout());
@@ -117,6 +122,7 @@ impl Marker {
         requires room { HasRoomToMark segments.old self.old }
         requires small { (w at : ℕ) → Contains words.now w → w ≡ 2 * at → at < 2 ^ 32 }
         ensures marked { HasMarked segments.old segments.new self.old self.new 0 }
+        ensures turns { self.new.turns ≡ self.old.turns }
         ensures tied { (o : Opening) (m : Marks) → IsTied o m segments.old self.old → IsTied o (with_words o m words.now) segments.new self.new }
     {
         for word in words {
@@ -129,6 +135,7 @@ impl Marker {
         requires room { HasRoomToMark segments.old self.old }
         requires small { (queue : Queue) (w at : ℕ) → Contains queues.now queue → Contains queue.words w → w ≡ 2 * at → at < 2 ^ 32 }
         ensures marked { HasMarked segments.old segments.new self.old self.new 0 }
+        ensures turns { self.new.turns ≡ self.old.turns }
         ensures tied { (o : Opening) (m : Marks) → IsTied o m segments.old self.old → IsTied o (with_queues o m queues.now) segments.new self.new }
     {
         for queue in queues {
@@ -143,6 +150,7 @@ impl Marker {
         requires small { (w at : ℕ) → Contains (slots_of (W.words words.old)) w → w ≡ 2 * at → at < 2 ^ 32 }
         ensures words { W.words words.new ≡ W.words words.old }
         ensures marked { HasMarked segments.old segments.new self.old self.new 0 }
+        ensures turns { self.new.turns ≡ self.old.turns }
         ensures tied { (o : Opening) (m : Marks) → IsTied o m segments.old self.old → IsTied o (with_words o m (slots_of (W.words words.old))) segments.new self.new }
     {
         let first = (SHARED_PLACE + HEADER_WORDS) as usize;
@@ -153,10 +161,12 @@ impl Marker {
     }
 
     /// Marks and queues the remembered places that are blocks of the snapshot and weren't marked, in their
-    /// order: the machine takes what the mutator pushed. A place at which no block begins is passed over.
+    /// order: the machine takes what the mutator pushed. A place at which no block begins is passed over. The count
+    /// of the gate's passes stays.
     pub fn add(&mut self, segments: &mut Segments, entries: &[Address])
         requires { HasRoomToMark segments.old self.old }
         ensures marked { HasMarked segments.old segments.new self.old self.new 0 }
+        ensures turns { self.new.turns ≡ self.old.turns }
         ensures tied { (o : Opening) (m : Marks) → IsTied o m segments.old self.old → IsTied o (with_places o m (places entries.now)) segments.new self.new }
     {
         for at in entries {
@@ -226,6 +236,7 @@ impl Marker {
         requires room { HasRoomToMark segments.old self.old }
         requires small { (at : ℕ) → word ≡ 2 * at → at < 2 ^ 32 }
         ensures marked { HasMarked segments.old segments.new self.old self.new 0 }
+        ensures turns { self.new.turns ≡ self.old.turns }
         ensures tied { (o : Opening) (m : Marks) → IsTied o m segments.old self.old → IsTied o (with_name o.core.snapshot m (name_meant o.places word)) segments.new self.new }
     {
         if word == 0 || word % 2 != 0 {

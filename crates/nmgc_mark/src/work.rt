@@ -3,13 +3,17 @@
 //! Each word of an object is one load of the round, and one scan of the core machine: first the header, then
 //! field after field. What a field refers to is marked before the next one is read. An object is scanned to its
 //! end once it was begun, so between two calls every queued object is still to be scanned from its header on.
+//!
+//! Easy to get wrong: whether anything is left is told by the queue on return, and not by the quota: a round that
+//! scans its whole quota may leave nothing.
 ghost use Rattle.std.specs.Prelude.{◌≡◌, ◌+◌, ◌<◌, ◌≤◌, [], ◌↔◌, IsTrue};
 ghost use Rattle.nmgc_object.specs.declared.size.TheConstants.{HEADER_WORDS};
+ghost use Rattle.nmgc_round.specs.Gate.{next_turn, passed};
 ghost use Rattle.nmgc_round.specs.Marking.{with_name, name_meant};
 ghost use Rattle.nmgc_round.specs.Ready.{scanned_by};
 ghost use Rattle.nmgc_round.specs.Seat.{Knows, seen, word_count};
 ghost use Rattle.nmgc_run.specs.Marker.{HasRoomToMark};
-ghost use Rattle.nmgc_mark.specs.Marker.{HasMarked};
+ghost use Rattle.nmgc_mark.specs.Marker.{HasMarked, turned};
 ghost use Rattle.nmgc_mark.specs.Tie.{IsTied};
 ghost use Rattle.nmgc_mark.specs.Work.{IsCollector, IsScanning, HasWorked, marks_seen, rest_of, fields_scanned, is_result};
 
@@ -43,7 +47,7 @@ pub(crate) fn is_result(header: Header, field: u32, word: u64) -> bool
 impl Marker {
     // Passes the gate.
     fn pass<G: Gate>(&mut self, gate: &G)
-        ensures { self.new ≡ self.old }
+        ensures { self.new ≡ turned self.old (next_turn self.old.turns) }
     {
         self.turns = self.turns.saturating_add(1);
         gate.pass(MAKERS, self.turns);
@@ -64,6 +68,7 @@ impl Marker {
         requires within { at.0 + HEADER_WORDS + field < word_count round.now }
         ensures view { Knows round.now seat.old seat.new (scanned_by (seen seat.old) result) }
         ensures marked { HasMarked segments.old segments.new self.old self.new 0 }
+        ensures turns { self.new.turns ≡ self.old.turns }
         ensures tied { IsTied (seen seat.old).opening (with_name (seen seat.old).opening.core.snapshot (rest_of (marks_seen (seen seat.old))) (name_meant (seen seat.old).opening.places result)) segments.new self.new }
     {
         let _ = segments.layout();
@@ -84,7 +89,8 @@ impl Marker {
         requires collector { IsCollector round.now seat.old }
         requires room { HasRoomToMark segments.old self.old }
         requires scanning { IsScanning (seen seat.old) segments.old self.old at.0 0 }
-        ensures { HasWorked round.now seat.old seat.new segments.old segments.new self.old self.new 0 }
+        ensures worked { HasWorked round.now seat.old seat.new segments.old segments.new self.old self.new 0 }
+        ensures turns { self.new.turns ≡ self.old.turns }
     {
         words_differ();
         let Some(header) = decode_header(round.scan_load(seat, at, 0)) else {
@@ -100,7 +106,7 @@ impl Marker {
     }
 
     /// Scans objects from the queue's front beside the mutators, at most so many, each to its end and each word
-    /// by the scan load. Before each the gate is passed and counted.
+    /// by the scan load. Before each the gate is passed and counted: the clause `turns` tells the count.
     ///
     /// Marks and queue are the machine's before and after, as the collector's view tells them. Each object is
     /// scanned once in a cycle: what was marked and doesn't wait was scanned. `empty` is false exactly where
@@ -117,6 +123,7 @@ impl Marker {
         requires room { HasRoomToMark segments.old self.old }
         requires tied { IsTied (seen seat.old).opening (marks_seen (seen seat.old)) segments.old self.old }
         ensures worked { HasWorked round.now seat.old seat.new segments.old segments.new self.old self.new result.scanned }
+        ensures turns { self.new.turns ≡ passed self.old.turns result.scanned }
         ensures most { result.scanned ≤ quota }
         ensures least { result.scanned < quota → self.new.queue ≡ [] }
         ensures empty { IsTrue result.empty ↔ (self.new.queue ≡ []) }

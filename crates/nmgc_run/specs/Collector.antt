@@ -16,8 +16,7 @@ use Rattle.nmgc_blocks.specs.Nurseries.{AreUsed, LieInOrder, AreEmpty, nursery_a
 use Rattle.nmgc_blocks.specs.Remembers.{Remembers}
 use Rattle.nmgc_core.specs.State.{State as Core, names_of}
 use Rattle.nmgc_journal.specs.declared.report.RoundRows.{RoundRows}
-use Rattle.nmgc_script.specs.declared.script.Script.{Script}
-use Rattle.nmgc_run.specs.State.{Plan, plan_of, State, Cycle, Progress, idle, marking, sweeping, phase_of, layout_of, start}
+use Rattle.nmgc_run.specs.State.{Plan, State, Cycle, Progress, idle, marking, sweeping, phase_of, layout_of, start}
 use Rattle.nmgc_run.specs.Round.{IsRound}
 use Rattle.nmgc_run.specs.Stop.{answer_of}
 use Rattle.nmgc_run.specs.Run.{Run, IsRun, Tells, last_state}
@@ -55,14 +54,14 @@ pub record AreAtRest (layout : Layout) (places : List Place) (w : World) (seen :
   pub nothing : EachMutator seen (λ m mutator. IsAtRest mutator)
 
 -- how many of the listed weak pointers the mutator made, and the snapshot has
-abbrev pub weaks_of : World → ℕ → List Place → ℕ
-weaks_of snapshot m weaks = count_by (λ (p : Place). (p.name.maker == m) && is_some (node_of snapshot p.name)) weaks
+abbrev pub weak_count : World → ℕ → List Place → ℕ
+weak_count snapshot m weaks = count_by (λ (p : Place). (p.name.maker == m) && is_some (node_of snapshot p.name)) weaks
 
 -- so many objects were scanned: those that are marked, without those that wait
 abbrev pub HasScanned : MarkerSeen → ℕ → Type 0
 HasScanned marker count = marker.marked ≡ count + length marker.queue
 
--- a cycle that is marking: its marker is a core machine's, with the entries, which are places in segments, as what was pushed, and there is room for what the closing needs
+-- a cycle that is marking: its marker is a core machine's, with the entries, which are places below the nurseries, as what was pushed, and there is room for what the closing needs
 pub record IsMarking (c : Cycle) (s : State) (seen : Seen) (places : List Place) : Type 0 where
   pub core : Core
   pub machine : IsCoreOf c s.world core
@@ -70,7 +69,7 @@ pub record IsMarking (c : Cycle) (s : State) (seen : Seen) (places : List Place)
   pub remembered : EachMutator seen (λ m mutator. AreRemembered c places mutator.entries (names_of core.pushed m))
   pub low : EachMutator seen (λ m mutator. (at : ℕ) → Contains mutator.entries at → at < nursery_place seen.segments.layout 0)
   pub room : HasRoomToMark seen.segments seen.marker
-  pub queue_room : EachMutator seen (λ m mutator. weaks_of c.snapshot m seen.weaks ≤ mutator.queue.spare)
+  pub queue_room : EachMutator seen (λ m mutator. weak_count c.snapshot m seen.weaks ≤ mutator.queue.spare)
   pub from_is : seen.cycle.from ≡ c.from
   pub noted : HasNoted c seen.sweeper
 
@@ -131,15 +130,3 @@ pub record IsNew (plan : Plan) (seen : Seen) : Type 0 where
   pub heap : HoldsAtStop (layout_of plan) (start plan) seen.words seen.segments (ends_of seen) seen.weaks
   pub at_rest : AreAtRest (layout_of plan) heap.places (start plan).world seen
   pub settled : AreSettled 0 seen.segments
-
--- what `round` keeps
-abbrev pub HasWorked : Script → Seen → Type 0
-HasWorked script seen = (run : Run) × (replies : List (List Reply)) × (history : List Row) × (t : State) × IsAfterRound (plan_of script) run replies history t seen
-
--- what `stop` asks: a new collector, or a round was done since the last stop
-abbrev pub CanStop : Script → Seen → Type 0
-CanStop script seen = IsNew (plan_of script) seen ⊎ HasWorked script seen
-
--- what `stop` keeps; `round` asks it, and that the last stop answered no end
-abbrev pub HasStopped : Script → Seen → Type 0
-HasStopped script seen = (run : Run) × IsAtStop (plan_of script) run seen

@@ -31,6 +31,7 @@ IsInCourse idle number begun allocation = NoneIs (IsIn stands.Sweeping) allocati
 IsInCourse (marking c) number begun allocation = IsLastBegun c number begun × WaitsWhole c allocation
 IsInCourse (sweeping c closed) number begun allocation = IsLastBegun c number begun × AreAsNoted c allocation
 
+-- so it is with the cycle that a state has in progress
 abbrev pub IsStateInCourse : State → Type 0
 IsStateInCourse s = IsInCourse s.progress s.number s.begun s.allocation
 

@@ -12,15 +12,14 @@ use Rattle.nmgc_graph.specs.Reach.{IsKept}
 use Rattle.nmgc_journal.specs.declared.report.Report.{Report}
 use Rattle.nmgc_journal.specs.declared.report.End.{End}
 use Rattle.nmgc_journal.specs.declared.report.End.TheVariants.{Done, HeapFull}
-use Rattle.nmgc_script.specs.Bench.{HasFewCommands}
-use Rattle.nmgc_script.specs.Limits.{FitsScript}
+use Rattle.nmgc_script.specs.Limits.{FitsScript, HasFewCommands}
 use Rattle.nmgc_script.specs.declared.script.Script.{Script}
 use Rattle.nmgc_run.specs.Closing.{ClosesNow}
 use Rattle.nmgc_run.specs.Lawful.{IsLawful}
 use Rattle.nmgc_run.specs.Listing.{Counts}
 use Rattle.nmgc_run.specs.Run.{Run, Stop, Turn, IsRun, IsTurn, AreTurns}
 use Rattle.nmgc_run.specs.State.{Plan, State, plan_of, reserve_of, start}
-use Rattle.nmgc_run.specs.Statements.{last_kept}
+use Rattle.nmgc_journal.specs.Summary.{kept_count}
 use Rattle.nmgc_run.specs.Stop.{IsStop, DoesFullCycle, is_short}
 
 -- a stop in a run: the world as the round before it began, the state after that round, and what the stop did
@@ -77,7 +76,7 @@ IsHeapFull (HeapFull free reserve) = Unit {0}
 pub record IsRunOf (script : Script) (report : Report) : Type 0 where
   pub lawful : IsLawful script report
   pub full : IsHeapFull report.end ↔ LeavesHeapFull (plan_of script) (last_stop (plan_of script) lawful.run lawful.is_run)
-  pub kept : IsHeapFull report.end → script.config.segments < last_kept report.cycles + reserve_of (plan_of script)
+  pub kept : IsHeapFull report.end → script.config.segments < kept_count report.cycles + reserve_of (plan_of script)
   pub crowded : IsHeapFull report.end → IsCrowded (plan_of script) (last_stop (plan_of script) lawful.run lawful.is_run)
 
 -- every lawful report of a script within the limits is one of its run

@@ -8,6 +8,7 @@ use Rattle.nmgc_graph.specs.declared.value.Value.TheVariants.{Ref}
 use Rattle.nmgc_graph.specs.declared.command.Command.TheVariants.{Arr, Collect}
 use Rattle.nmgc_graph.specs.declared.command.Operand.TheVariants.{Register}
 use Rattle.nmgc_graph.specs.declared.command.Reply.{Reply}
+use Rattle.nmgc_graph.specs.History.{Row}
 use Rattle.nmgc_graph.specs.declared.command.Reply.TheVariants.{Fine, Given}
 use Rattle.nmgc_object.specs.declared.layout.Layout.{Layout}
 use Rattle.nmgc_segment.specs.Segment.{Segment, free_segment}
@@ -20,10 +21,11 @@ use Rattle.nmgc_journal.specs.declared.report.Phase.{Phase}
 use Rattle.nmgc_journal.specs.declared.report.Phase.TheVariants.{Idle, Marking, Sweeping}
 use Rattle.nmgc_journal.specs.declared.report.End.TheVariants.{Done}
 use Rattle.nmgc_script.specs.declared.script.Script.{Script}
-use Rattle.nmgc_run.specs.State.{Plan, plan_of, layout_of}
+use Rattle.nmgc_run.specs.State.{Plan, State, plan_of, layout_of}
+use Rattle.nmgc_run.specs.Run.{Run}
 use Rattle.nmgc_run.specs.Samples.{object_name}
 use Rattle.nmgc_run.specs.Seen.{Seen, MutatorSeen}
-use Rattle.nmgc_run.specs.Collector.{IsNew, HasWorked, HasStopped}
+use Rattle.nmgc_run.specs.Collector.{IsNew, IsAtStop, IsAfterRound}
 
 -- 8 segments of 16 words, and a nursery as large as a segment; an array of seven fields fills a segment's only block
 abbrev pub array_script : Script
@@ -98,7 +100,7 @@ new_seen = record {
   full = false;
   answered = None;
   work = record { scanned = 0; empty = false };
-  marker = record { epoch = 1; queue = []; spare = 0; marked = 0 };
+  marker = record { epoch = 1; queue = []; spare = 0; marked = 0; turns = 0 };
   sweeper = record { epoch = 1; swept = []; had = []; freed = [] };
   cycle = record { from = 0; closed = 0; dead = []; kept = 0 };
 }
@@ -121,7 +123,7 @@ marking_seen = record born_seen {
   phase = Marking;
   begun = 1;
   collect = false;
-  marker = record { epoch = 1; queue = 32 ∷ []; spare = 0; marked = 1 };
+  marker = record { epoch = 1; queue = 32 ∷ []; spare = 0; marked = 1; turns = 0 };
   sweeper = record { epoch = 1; swept = 0 ∷ []; had = object_name ∷ []; freed = [] };
   cycle = record { from = 1; closed = 0; dead = []; kept = 0 };
 }
@@ -131,7 +133,7 @@ abbrev pub scanned_seen : Seen
 scanned_seen = record marking_seen {
   rounds = replied array_replies ∷ replied [] ∷ [];
   work = record { scanned = 1; empty = true };
-  marker = record { epoch = 1; queue = []; spare = 0; marked = 1 };
+  marker = record { epoch = 1; queue = []; spare = 0; marked = 1; turns = 1 };
 }
 
 -- after the second stop: the cycle was closed, and keeps the array
@@ -159,13 +161,20 @@ ended_seen = record swept_seen {
   answered = Some Done;
 }
 
+-- what it is to have after a stop, and after a round, of some run of the script
+abbrev pub IsAtSomeStop : Seen → Type 0
+IsAtSomeStop seen = (run : Run) × IsAtStop array_plan run seen
+
+abbrev pub IsAfterSomeRound : Seen → Type 0
+IsAfterSomeRound seen = (run : Run) × (replies : List (List Reply)) × (history : List Row) × (t : State) × IsAfterRound array_plan run replies history t seen
+
 -- at each of its stops, and after each of its rounds, the collector has what it is to have
 pub record LifeIsSeen : Type 0 where
   pub new : IsNew array_plan new_seen
-  pub opened : HasStopped array_script opened_seen
-  pub born : HasWorked array_script born_seen
-  pub marking : HasStopped array_script marking_seen
-  pub scanned : HasWorked array_script scanned_seen
-  pub closed : HasStopped array_script closed_seen
-  pub swept : HasWorked array_script swept_seen
-  pub ended : HasStopped array_script ended_seen
+  pub opened : IsAtSomeStop opened_seen
+  pub born : IsAfterSomeRound born_seen
+  pub marking : IsAtSomeStop marking_seen
+  pub scanned : IsAfterSomeRound scanned_seen
+  pub closed : IsAtSomeStop closed_seen
+  pub swept : IsAfterSomeRound swept_seen
+  pub ended : IsAtSomeStop ended_seen

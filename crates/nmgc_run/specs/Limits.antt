@@ -29,6 +29,7 @@ pub record HasGoodPlan (script : Script) : Type 0 where
   pub fit : AreFitting (plan_of script) script.threads
   pub runnable : ((m : ℕ) → length (program_of script.threads m) < 2 ^ 32 - 1) → IsRunnable (plan_of script)
 
+-- each script within the limits has one
 abbrev pub ScriptsHaveGoodPlans : Type 0
 ScriptsHaveGoodPlans = (script : Script) → FitsScript script → HasGoodPlan script
 

@@ -21,9 +21,9 @@ use Rattle.nmgc_segment.specs.declared.state.State.TheVariants.{Current}
 use Rattle.nmgc_alloc.specs.Segments.{Segments}
 use Rattle.nmgc_journal.specs.declared.report.MutatorEnd.{MutatorEnd}
 use Rattle.nmgc_journal.specs.declared.report.Report.{Report}
-use Rattle.nmgc_run.specs.State.{Plan, layout_of, reserve_of}
+use Rattle.nmgc_run.specs.State.{Plan, plan_of, layout_of, reserve_of}
 use Rattle.nmgc_run.specs.Seen.{Seen}
-use Rattle.nmgc_run.specs.Collector.{HasStopped}
+use Rattle.nmgc_run.specs.Collector.{IsAtStop}
 use Rattle.nmgc_run.specs.Lawful.{IsLawful}
 use Rattle.nmgc_journal.specs.Text.{report_text, stop_line, cycle_text, end_text}
 use Rattle.nmgc_run.specs.Stop.{answer_of}
@@ -110,14 +110,14 @@ object_seen = record {
   full = false;
   answered = Some Done;
   work = record { scanned = 0; empty = false };
-  marker = record { epoch = 1; queue = []; spare = 0; marked = 0 };
+  marker = record { epoch = 1; queue = []; spare = 0; marked = 0; turns = 0 };
   sweeper = record { epoch = 1; swept = []; had = []; freed = [] };
   cycle = record { from = 0; closed = 0; dead = []; kept = 0 };
 }
 
 -- the collector has what it is to have after its last stop
 abbrev pub ObjectIsSeen : Type 0
-ObjectIsSeen = HasStopped (small_script object_program) object_seen
+ObjectIsSeen = (run : Run) × IsAtStop (plan_of (small_script object_program)) run object_seen
 
 -- a run of no commands is one stop
 abbrev pub NothingIsTold : Type 0

@@ -23,12 +23,13 @@ pub record MutatorSeen : Type 0 where
   pub young_weaks : List ℕ
   pub entries : List ℕ
 
--- the marker of a cycle that is marking: its epoch, the places that wait to be scanned, for how many more there is room, and how many blocks it marked
+-- the marker of a cycle that is marking: its epoch, the places that wait to be scanned, for how many more there is room, how many blocks it marked, and how often the collector passed the gate in the whole run
 pub record MarkerSeen : Type 0 where
   pub epoch : ℕ
   pub queue : List ℕ
   pub spare : ℕ
   pub marked : ℕ
+  pub turns : ℕ
 
 -- what the last work of the marker answered
 pub record WorkSeen : Type 0 where

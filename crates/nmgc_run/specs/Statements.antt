@@ -1,5 +1,5 @@
 -- Laws of runs, as statements. Each is proved where a function of `laws` has it.
-use Rattle.std.specs.Prelude.{ℕ, ◌≡◌, ◌↔◌, ◌+◌, List, [], ◌∷◌, ◌++◌, length, drop, slice_index_or, count_by, Some, ◌<◌, fold}
+use Rattle.std.specs.Prelude.{ℕ, ◌≡◌, ◌↔◌, ◌+◌, List, [], ◌∷◌, ◌++◌, length, drop, slice_index_or, count_by, Some}
 use Rattle.nmgc_segment.specs.declared.state.State.TheVariants as stands
 use Rattle.nmgc_segment.specs.Segment.{Segment}
 use Rattle.nmgc_alloc.specs.Search.{is}
@@ -9,10 +9,8 @@ use Rattle.nmgc_journal.specs.declared.report.Report.{Report}
 use Rattle.nmgc_journal.specs.declared.report.StopRow.{StopRow}
 use Rattle.nmgc_journal.specs.declared.report.CycleRow.{CycleRow}
 use Rattle.nmgc_run.specs.Slice.{program_of}
-use Rattle.nmgc_run.specs.State.{Plan, reserve_of}
+use Rattle.nmgc_run.specs.State.{Plan}
 use Rattle.nmgc_journal.specs.declared.report.End.{End}
-use Rattle.nmgc_journal.specs.declared.report.End.TheVariants.{HeapFull}
-use Rattle.nmgc_run.specs.Sound.{IsRunnable}
 use Rattle.nmgc_run.specs.Stop.{answer_of}
 use Rattle.nmgc_run.specs.Run.{Run, Turn, IsRun, IsTurn, Tells, last_state, with_turn}
 use Rattle.nmgc_run.specs.Lawful.{IsLawful, IsLawfulFor}
@@ -43,14 +41,6 @@ VersionIsNothing = (script : Script) (version : ℕ) (report : Report) → IsLaw
 -- once a run has ended, there is a row for each cycle that was begun
 abbrev pub EachCycleHasItsRow : Type 0
 EachCycleHasItsRow = (plan : Plan) (run : Run) (rounds : List RoundRows) (stops : List StopRow) (cycles : List CycleRow) (end : End) → IsRun plan run → Tells run rounds stops cycles → answer_of plan (last_state run) ≡ Some end → length cycles ≡ (last_state run).begun
-
--- how many objects the last of the cycles kept, or 0 where there was none
-abbrev pub last_kept : List CycleRow → ℕ
-last_kept cycles = fold (λ (kept : ℕ) (c : CycleRow). c.kept) 0 cycles
-
--- a run that ends as heap full is crowded: its last cycle kept more objects than there are segments above the reserve
-abbrev pub FullHeapIsCrowded : Type 0
-FullHeapIsCrowded = (plan : Plan) (run : Run) (rounds : List RoundRows) (stops : List StopRow) (cycles : List CycleRow) (free reserve : ℕ) → IsRunnable plan → IsRun plan run → Tells run rounds stops cycles → answer_of plan (last_state run) ≡ Some (HeapFull free reserve) → plan.config.segments < last_kept cycles + reserve_of plan
 
 -- a run with one turn more at its end is a run
 abbrev pub RunGoesOn : Type 0

@@ -11,7 +11,7 @@ ghost use Rattle.nmgc_run.specs.Places.{BlocksAtStop, BlocksAfterRound, BlocksAr
 ghost use Rattle.nmgc_run.specs.Life.{LifeIsSeen};
 ghost use Rattle.nmgc_run.specs.Limits.{ScriptsHaveGoodPlans, StatesAreWithin, RoundsAreWithin};
 ghost use Rattle.nmgc_run.specs.Leaving.{RoundIsRemembered, RoundIsForgotten, RowsKeepHeaders};
-ghost use Rattle.nmgc_run.specs.Statements.{LeftIsTold, FreeIsReal, VersionIsNothing, EachCycleHasItsRow, FullHeapIsCrowded, RunGoesOn, TellsOneMore, LastIsOfTurn};
+ghost use Rattle.nmgc_run.specs.Statements.{LeftIsTold, FreeIsReal, VersionIsNothing, EachCycleHasItsRow, RunGoesOn, TellsOneMore, LastIsOfTurn};
 
 use nmgc_alloc::laws::{self, counts};
 use nmgc_object::laws::words_differ;
@@ -146,12 +146,6 @@ pub fn limits_stay()
     ensures scripts { ScriptsHaveGoodPlans }
     ensures states { StatesAreWithin }
     ensures rounds { RoundsAreWithin }
-{}
-
-/// A run that ends as heap full did a full cycle at its last stop, which kept more objects than there
-/// are segments above the reserve.
-pub fn full_heap_is_crowded()
-    ensures { FullHeapIsCrowded }
 {}
 
 /// Every lawful report of a script within the limits is one of its run: it ends as heap full exactly where

@@ -8,7 +8,7 @@
 //!   the programs. `Slice`, `Round`: what a mutator does of its program, and how a round leads on.
 //! - `Promotion`, `Census`, `Closing`, `Sweep`, `Stop`: the rules of a stop, and what a cycle found.
 //! - `Run`, `Heap`, `Lawful`: a whole run and what is told of it; when words, segments and roots stand for
-//!   a state; and the lawful report, of which the headline theorem speaks.
+//!   a state; and the lawful report, of which the headline theorem speaks. `Crowded`: when a run ends as heap full.
 //! - `Seen`, `Marks`, `Marker`, `Collector`: what contracts see of a running collector, and what it keeps:
 //!   one run tells all that it has told, and what it has stands for the last state of that run.
 //! - `Sound`, `Limits`, `Places`, `Leaving`, `Statements`: what holds of every run.

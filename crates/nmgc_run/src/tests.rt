@@ -24,6 +24,5 @@ fn laws_ask_nothing(rt: HostRuntime) {
     laws::tracked_names_have_blocks();
     laws::cycles_are_in_course();
     laws::limits_stay();
-    laws::full_heap_is_crowded();
     laws::lawful_are_of_runs();
 }

@@ -215,8 +215,8 @@ below_more s words number numbers numbers_after sections sections_after names na
     }
 
 -- all segments
-pub below_all : (s : Segments) (words : List ℕ) (number epoch : ℕ) (numbers : List ℕ) (sections : List Section) (names : List Name) → length s.segments ≤ number → HasNotedBelow s words number numbers sections names → HasBegun s words epoch (record { seen = record { epoch = epoch; swept = numbers; had = names; freed = [] }; left = sections })
-below_all s words number epoch numbers sections names past h = record {
+pub below_all : (s : Segments) (words : List ℕ) (number turns epoch : ℕ) (numbers : List ℕ) (sections : List Section) (names : List Name) → length s.segments ≤ number → HasNotedBelow s words number numbers sections names → HasBegun s words epoch (record { seen = record { epoch = epoch; swept = numbers; had = names; freed = [] }; left = sections; turns = turns })
+below_all s words number turns epoch numbers sections names past h = record {
   epoch_is = refl;
   swept = h.numbers_are;
   had = h.names_are;

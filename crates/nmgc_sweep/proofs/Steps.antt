@@ -1,5 +1,5 @@
 -- One segment is swept: what was lost in it is freed, and the sweeper is at work still.
-use Rattle.std.proofs.Common.{ℕ, ◌≡◌, ◌≢◌, ◌↔◌, ◌+◌, ◌<◌, ◌∙◌, inl, inr, refl, sym, ap, subst, arith, List, [], ◌∷◌, ◌++◌, length, Option, Some, length-set, length-append}
+use Rattle.std.proofs.Common.{ℕ, suc, ◌≡◌, ◌≢◌, ◌↔◌, ◌+◌, ◌<◌, ◌∙◌, inl, inr, refl, sym, ap, subst, arith, List, [], ◌∷◌, ◌++◌, length, Option, Some, length-set, length-append}
 use Rattle.std.specs.Prelude.{Contains}
 use Rattle.std.specs.List.Sorted.{IsPermutation}
 use Rattle.std.proofs.lemmas.Bool.{cases_eq}
@@ -17,12 +17,13 @@ use Rattle.nmgc_alloc.specs.AllocState.{AllocState, Cells, StandsFor, Sweeps, Sw
 use Rattle.nmgc_alloc.specs.laws.Cells.{swept_by_names, swept_other, swept_state}
 use Rattle.nmgc_alloc.specs.laws.Numbers.{nth-set_other}
 use Rattle.nmgc_alloc.specs.laws.Sweeping.{swept_stands}
+use Rattle.nmgc_round.specs.Gate.{next_turn, passed}
 use Rattle.nmgc_run.specs.Census.{IsKeptIn, IsSweptIn}
 use Rattle.nmgc_run.specs.Marks.{HasNoted, IsFreedSoFar, IsSettledByte, epoch_of}
 use Rattle.nmgc_run.specs.Seen.{CycleSeen}
 use Rattle.nmgc_run.specs.State.{Cycle}
 use Rattle.nmgc_sweep.specs.declared.notes.Section.{Section}
-use Rattle.nmgc_sweep.specs.Sweeper.{Sweeper, AreLeft, AreSorted, IsNotesOf, IsWaiting, lost, numbers_of}
+use Rattle.nmgc_sweep.specs.Sweeper.{Sweeper, AreLeft, AreSorted, IsNotesOf, IsWaiting, lost, numbers_of, turned}
 use Rattle.nmgc_sweep.specs.Work.{HasSwept, IsAtWork}
 use Rattle.nmgc_sweep.proofs.Lists.{AreDistinct, ascends_first, ascends_rest, distinct_append, distinct_once, once_distinct}
 use Rattle.nmgc_sweep.proofs.Noting.{lost_distinct, lost_from, lost_has}
@@ -44,8 +45,8 @@ swept_byte begun epoch mark some e = elim (cases_eq mark epoch) [
 ]
 
 -- a sweeper by its parts
-abbrev pub made : ℕ → List ℕ → List Name → List Name → List Section → Sweeper
-made epoch numbers had freed left = record { seen = record { epoch = epoch; swept = numbers; had = had; freed = freed }; left = left }
+abbrev pub made : ℕ → ℕ → List ℕ → List Name → List Name → List Section → Sweeper
+made turns epoch numbers had freed left = record { seen = record { epoch = epoch; swept = numbers; had = had; freed = freed }; left = left; turns = turns }
 
 module _ (old new : Segments) (epoch number : ℕ) (section : Section) (rest : List Section) (left : AreLeft old (section ∷ rest)) (next : SweepsNext old new epoch number) where
   -- the segment that was swept is the first that was left
@@ -84,12 +85,12 @@ module _ (old new : Segments) (epoch number : ℕ) (section : Section) (rest : L
         ];
   }
 
-  module _ (e : IsEpoch epoch) (numbers : List ℕ) (had had_after freed freed_after : List Name)
+  module _ (e : IsEpoch epoch) (turns : ℕ) (numbers : List ℕ) (had had_after freed freed_after : List Name)
       (same_had : IsPermutation had had_after)
       (same_freed : IsPermutation (freed ++ lost (nth new.segments number) section.notes) freed_after)
       (ordered : rest ≡ [] → AreSorted had_after × AreSorted freed_after)
       (c : Cycle) (closed : ℕ) (words : List ℕ) (a : AllocState) (cycle : CycleSeen)
-      (work : IsAtWork c closed words a old cycle (made epoch numbers had freed (section ∷ rest))) where
+      (work : IsAtWork c closed words a old cycle (made turns epoch numbers had freed (section ∷ rest))) where
     pub stood : (b : AllocState) × Sweeps a b number (IsMarked (nth old.segments number) epoch) × StandsFor new words b
     stood = swept_stands old new words a epoch number e work.stands next
 
@@ -161,7 +162,7 @@ module _ (old new : Segments) (epoch number : ℕ) (section : Section) (rest : L
         let same : f.0 ≡ section.number = (work.notes.once f.0 f.1 section.number g.0.block n f.4 lies).0 in
         f.3 (subst (λ (k : ℕ). IsIn Sweeping (cells a k)) (sym (same ∙ first_is)) waits))
 
-    has_noted : HasNoted c (made epoch numbers had_after freed_after rest).seen
+    has_noted : HasNoted c (made turns epoch numbers had_after freed_after rest).seen
     has_noted =
         let was = work.notes.noted in
         record {
@@ -186,7 +187,7 @@ module _ (old new : Segments) (epoch number : ℕ) (section : Section) (rest : L
           (work.settled i block there_before (λ is. not_waiting (ap (λ (s : Segment). s.state) stays ∙ is)))
     ]
 
-    pub works_still : IsAtWork c closed words stood.0 new cycle (made epoch numbers had_after freed_after rest)
+    pub works_still : IsAtWork c closed words stood.0 new cycle (made turns epoch numbers had_after freed_after rest)
     works_still = record {
       stands = stood.2;
       notes = record {
@@ -215,19 +216,45 @@ module _ (old new : Segments) (epoch number : ℕ) (section : Section) (rest : L
       ordered = ordered;
     }
 
-    pub one_works : (b : AllocState) × SweepsSome (IsKeptIn c) 1 a b × IsAtWork c closed words b new cycle (made epoch numbers had_after freed_after rest)
+    pub one_works : (b : AllocState) × SweepsSome (IsKeptIn c) 1 a b × IsAtWork c closed words b new cycle (made turns epoch numbers had_after freed_after rest)
     one_works = (stood.0, record { numbers = number ∷ []; sweeps = (stood.0, by_names, refl); many = refl }, works_still)
 
 -- one segment was swept
-pub one_swept : (old new : Segments) (epoch number : ℕ) (section : Section) (rest : List Section) → AreLeft old (section ∷ rest) → SweepsNext old new epoch number → IsEpoch epoch → (numbers : List ℕ) (had had_after freed freed_after : List Name) → IsPermutation had had_after → IsPermutation (freed ++ lost (nth new.segments number) section.notes) freed_after → (rest ≡ [] → AreSorted had_after × AreSorted freed_after) → HasSwept old new (made epoch numbers had freed (section ∷ rest)) (made epoch numbers had_after freed_after rest) 1
-one_swept old new epoch number section rest left next e numbers had had_after freed freed_after p q ordered = record {
+pub one_swept : (old new : Segments) (epoch number : ℕ) (section : Section) (rest : List Section) → AreLeft old (section ∷ rest) → SweepsNext old new epoch number → IsEpoch epoch → (turns : ℕ) (numbers : List ℕ) (had had_after freed freed_after : List Name) → IsPermutation had had_after → IsPermutation (freed ++ lost (nth new.segments number) section.notes) freed_after → (rest ≡ [] → AreSorted had_after × AreSorted freed_after) → HasSwept old new (made turns epoch numbers had freed (section ∷ rest)) (made turns epoch numbers had_after freed_after rest) 1
+one_swept old new epoch number section rest left next e turns numbers had had_after freed freed_after p q ordered = record {
   left = others_left old new epoch number section rest left next;
   fewer = omega arith;
   layout = ap (λ (t : Segments). t.layout) next.others;
   epoch = refl;
   swept = refl;
-  sweeps = λ c closed words a cycle work. one_works old new epoch number section rest left next e numbers had had_after freed freed_after p q ordered c closed words a cycle work;
+  sweeps = λ c closed words a cycle work. one_works old new epoch number section rest left next e turns numbers had had_after freed freed_after p q ordered c closed words a cycle work;
 }
+
+-- the gate was passed before
+
+works_turned : (c : Cycle) (closed : ℕ) (words : List ℕ) (a : AllocState) (s : Segments) (cycle : CycleSeen) (sweeper : Sweeper) (turns : ℕ) → IsAtWork c closed words a s cycle sweeper → IsAtWork c closed words a s cycle (turned sweeper turns)
+works_turned c closed words a s cycle sweeper turns h = record {
+  stands = h.stands;
+  notes = record { noted = h.notes.noted; notes = h.notes.notes; once = h.notes.once };
+  sweeping = h.sweeping;
+  settled = h.settled;
+  begun = h.begun;
+  ordered = h.ordered;
+}
+
+pub swept_turned : (s t : Segments) (x y : Sweeper) (turns n : ℕ) → HasSwept s t (turned x turns) y n → HasSwept s t x y n
+swept_turned s t x y turns n h = record {
+  left = h.left;
+  fewer = h.fewer;
+  layout = h.layout;
+  epoch = h.epoch;
+  swept = h.swept;
+  sweeps = λ c closed words a cycle work. h.sweeps c closed words a cycle (works_turned c closed words a s cycle x turns work);
+}
+
+-- one pass more
+pub passed_more : (turns count : ℕ) → next_turn (passed turns count) ≡ passed turns (count + 1)
+passed_more turns count = let e : suc count ≡ count + 1 = omega arith in ap (λ n. passed turns n) e
 
 -- none, and more
 

@@ -46,6 +46,7 @@ pub record TellsCensus (c : Cycle) (sweeper : Sweeper) : Type 0 where
   pub had : Lists (IsHadIn c) sweeper.seen.had
   pub freed : Lists (IsFreedIn c) sweeper.seen.freed
 
+-- so it is with a sweeper at work, once no segment waits
 abbrev pub EndTellsCensus : Type 0
 EndTellsCensus = (c : Cycle) (closed : ℕ) (words : List ℕ) (a : AllocState) (segments : Segments) (cycle : CycleSeen) (sweeper : Sweeper) → IsAtWork c closed words a segments cycle sweeper → AreLeft segments sweeper.left → NoneIs (IsIn stands.Sweeping) a → TellsCensus c sweeper
 

@@ -16,10 +16,15 @@ use Rattle.nmgc_run.specs.State.{Cycle}
 use Rattle.nmgc_sweep.specs.declared.notes.Note.{Note}
 use Rattle.nmgc_sweep.specs.declared.notes.Section.{Section}
 
--- what every collector's sweeper shows, and the notes of the segments that it hasn't swept, in order
+-- what every collector's sweeper shows, the notes of the segments that it hasn't swept, in order, and how often the collector passed the gate in the whole run
 pub record Sweeper : Type 0 where
   pub seen : SweeperSeen
   pub left : List Section
+  pub turns : ℕ
+
+-- the sweeper once the collector passed the gate so often
+abbrev pub turned : Sweeper → ℕ → Sweeper
+turned sweeper turns = record sweeper { turns = turns }
 
 -- the names in notes
 abbrev pub names_of : List Note → List Name

@@ -12,7 +12,8 @@
 ghost use Rattle.std.specs.Prelude.{ℕ, ◌≡◌, ◌≢◌, ◌+◌, ◌≤◌, [], length, min, IsTrue, IfOk, OnOk, ◌↔◌};
 ghost use Rattle.nmgc_segment.specs.Marks.{IsEpoch};
 ghost use Rattle.nmgc_alloc.specs.Segments.{HasNumber};
-ghost use Rattle.nmgc_sweep.specs.Sweeper.{HasStood, IsWaiting, AreLeft};
+ghost use Rattle.nmgc_round.specs.Gate.{next_turn, passed};
+ghost use Rattle.nmgc_sweep.specs.Sweeper.{HasStood, IsWaiting, AreLeft, turned};
 ghost use Rattle.nmgc_sweep.specs.Work.{AddsSection, HasBegun, HasSwept};
 
 use crate::notes::{self, Section};
@@ -34,7 +35,7 @@ pub struct SweepWork {
 }
 
 /// The sweeper of a cycle. Contracts see its epoch, the segments that it noted, whose objects were in them and
-/// which of these it freed, and the notes of the segments that it hasn't swept.
+/// which of these it freed, the notes of the segments that it hasn't swept, and how often the gate was passed.
 #[derive(Drop)]
 pub struct Sweeper {
     /// How often the collector passed the gate in the whole run. Stands still at 2^64 - 1.
@@ -56,6 +57,7 @@ impl Model for Sweeper {
     ghost view = { λ s. record {
       seen = record { epoch = s.epoch; swept = s.swept.items; had = s.had.items; freed = s.freed.items };
       left = s.left.items;
+      turns = s.turns;
     } };
 
     ghost invariant = { λ s. IsEpoch s.epoch × (vec_len s.freed + note_count s.left.items ≤ vec_capacity s.freed) };
@@ -102,6 +104,7 @@ impl Sweeper {
         requires stands { HasStood segments.now (W.words words.old) }
         ensures words { W.words words.new ≡ W.words words.old }
         ensures begun { IfOk result (λ sweeper. HasBegun segments.now (W.words words.old) epoch sweeper) }
+        ensures turns { IfOk result (λ sweeper. sweeper.turns ≡ 0) }
     {
         let mut swept = Vec::new(alloc);
         let mut left = VecDeque::new(alloc);
@@ -158,7 +161,7 @@ impl Sweeper {
 
     // Passes the gate.
     fn pass<G: Gate>(&mut self, gate: &G)
-        ensures { self.new ≡ self.old }
+        ensures { self.new ≡ turned self.old (next_turn self.old.turns) }
     {
         self.turns = self.turns.saturating_add(1);
         gate.pass(MAKERS, self.turns);
@@ -169,7 +172,8 @@ impl Sweeper {
     fn sweep_one(&mut self, segments: &mut Segments)
         requires left { AreLeft segments.old self.old.left }
         requires some { self.old.left ≢ [] }
-        ensures { HasSwept segments.old segments.new self.old self.new 1 }
+        ensures swept { HasSwept segments.old segments.new self.old self.new 1 }
+        ensures turns { self.new.turns ≡ self.old.turns }
     {
         let Some(number) = segments.sweep_next(self.epoch) else {
             unreachable!();
@@ -187,7 +191,7 @@ impl Sweeper {
     }
 
     /// Sweeps beside the mutators, once the cycle was closed: at most `quota` segments, those of least number
-    /// first. Before each the gate is passed and counted.
+    /// first. Before each the gate is passed and counted: the clause `turns` tells the count.
     ///
     /// `swept` is the lesser of `quota` and the number of those that waited. `finished` is false exactly where one
     /// is left. The segments that wait are exactly those that this sweeper noted and hasn't swept. Takes no
@@ -196,6 +200,7 @@ impl Sweeper {
     pub fn work<G: Gate>(&mut self, segments: &mut Segments, quota: u32, gate: &G) -> SweepWork
         requires left { AreLeft segments.old self.old.left }
         ensures swept { HasSwept segments.old segments.new self.old self.new result.swept }
+        ensures turns { self.new.turns ≡ passed self.old.turns result.swept }
         ensures many { result.swept ≡ min quota (length self.old.left) }
         ensures finished { IsTrue result.finished ↔ (self.new.left ≡ []) }
     {
@@ -211,10 +216,12 @@ impl Sweeper {
         }
     }
 
-    /// Sweeps all segments that are left, as `work` does, with the mutators stopped.
+    /// Sweeps all segments that are left, as `work` does, with the mutators stopped. The gate isn't passed, and its
+    /// count stays.
     pub fn finish(&mut self, segments: &mut Segments)
         requires left { AreLeft segments.old self.old.left }
         ensures swept { HasSwept segments.old segments.new self.old self.new (length self.old.left) }
+        ensures turns { self.new.turns ≡ self.old.turns }
         ensures finished { self.new.left ≡ [] }
     {
         while self.has_left() {

@@ -15,14 +15,14 @@ use Rattle.nmgc_heap.specs.Roots.{ListsWeaks, IsListedWeak}
 use Rattle.nmgc_heap.specs.Shape.{holds, unset}
 use Rattle.nmgc_heap.specs.Tracked.{IsTracked}
 use Rattle.nmgc_weak.specs.declared.weaks.OldWeak.{OldWeak}
-use Rattle.nmgc_weak.specs.Closes.{OldStayOld, LeavingLists}
+use Rattle.nmgc_weak.specs.Closes.{KeepsOldWeaks, LeavingLists}
 use Rattle.nmgc_weak.specs.Weaks.{place_of, places_of, value_place, alive_of, is_alive}
 use Rattle.nmgc_weak.proofs.Dying.{alive_word, word_alive, set_word, filter_keeps, filter_had}
 use Rattle.nmgc_weak.proofs.Finding.{names_same}
 use Rattle.nmgc_weak.proofs.Leaving.{filter_ordered}
 use Rattle.nmgc_weak.proofs.Saving.{has_place, of_place}
 
-module _ (layout : Layout) (past : List World) (places : List Place) (began w : World) (words : List ℕ) (list : List OldWeak) (r : Represents layout (began ∷ past) NoNode places w words) (listed : ListsWeaks layout places began (places_of list)) (old : OldStayOld layout places began w) where
+module _ (layout : Layout) (past : List World) (places : List Place) (began w : World) (words : List ℕ) (list : List OldWeak) (r : Represents layout (began ∷ past) NoNode places w words) (listed : ListsWeaks layout places began (places_of list)) (old : KeepsOldWeaks layout places began w) where
   -- a weak pointer that was alive as the round began is tracked
   was_tracked : (weak : Name) (parts : Parts) → IsAlive began weak parts → IsTracked w (began ∷ past) weak
   was_tracked weak parts alive = IsReached.start weak (began, contains_tail w (began ∷ past) began (contains_head began past), IsReached.start weak (inr (weak, parts, alive, inl refl)))

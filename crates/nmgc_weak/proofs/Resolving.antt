@@ -28,7 +28,7 @@ use Rattle.nmgc_mark.specs.Tie.{IsTied}
 use Rattle.nmgc_weak.specs.declared.weaks.OldWeak.{OldWeak}
 use Rattle.nmgc_weak.specs.declared.weaks.Death.{Death}
 use Rattle.nmgc_weak.specs.Resolve.{CanResolve, AreDeaths, HasResolved}
-use Rattle.nmgc_weak.specs.Steps.{AreLost, MarksOn, HasSaved}
+use Rattle.nmgc_weak.specs.Steps.{AreLost, MarksOn, HasRescued}
 use Rattle.nmgc_weak.specs.Weaks.{place_of, places_of, names_of, deaths_of, without_values, alive_of, IsWithin, AreWithin, HaveLostValues}
 use Rattle.nmgc_weak.proofs.Parts.{HasParts, has_parts, of_weak_tracked}
 use Rattle.nmgc_weak.proofs.Closing.{closes, closed_dead, closed_kept}
@@ -133,7 +133,7 @@ deaths_told o words s k list (x ∷ xs) h sub =
 -- all steps
 module _ (o : Opening) (words : List ℕ) (s t u : Segments) (k l n : MarkerSeen) (list dying : List OldWeak) (h : CanResolve o words s k (places_of list)) where
   -- from the marks of the revived on
-  from_marks : (m : List Name) → CanResolve (marking o m) words t l (places_of list) → AreLost (marking o m) (places_of list) dying → HasSaved (marking o m) u n dying → HasResolved o (without_values words dying) u n (alive_of (without_values words dying) list) (deaths_of words dying)
+  from_marks : (m : List Name) → CanResolve (marking o m) words t l (places_of list) → AreLost (marking o m) (places_of list) dying → HasRescued (marking o m) u n dying → HasResolved o (without_values words dying) u n (alive_of (without_values words dying) list) (deaths_of words dying)
   from_marks m g lost saved =
       let c = closing_back o m words s t k l (places_of list) h g saved.next saved.closing in
       let dead : c.0.dead ≡ names_of dying = c.1 ∙ saved.dead in
@@ -161,7 +161,7 @@ module _ (o : Opening) (words : List ℕ) (s t u : Segments) (k l n : MarkerSeen
         count = x.count;
       }
 
-  pub resolved : (p : Opening) → MarksOn o p → CanResolve p words t l (places_of list) → AreLost p (places_of list) dying → HasSaved p u n dying → HasResolved o (without_values words dying) u n (alive_of (without_values words dying) list) (deaths_of words dying)
+  pub resolved : (p : Opening) → MarksOn o p → CanResolve p words t l (places_of list) → AreLost p (places_of list) dying → HasRescued p u n dying → HasResolved o (without_values words dying) u n (alive_of (without_values words dying) list) (deaths_of words dying)
   resolved p on =
-      let P : Opening → Type 0 = λ x. CanResolve x words t l (places_of list) → AreLost x (places_of list) dying → HasSaved x u n dying → HasResolved o (without_values words dying) u n (alive_of (without_values words dying) list) (deaths_of words dying) in
+      let P : Opening → Type 0 = λ x. CanResolve x words t l (places_of list) → AreLost x (places_of list) dying → HasRescued x u n dying → HasResolved o (without_values words dying) u n (alive_of (without_values words dying) list) (deaths_of words dying) in
       subst P (sym on.rest) (from_marks p.core.marked)

@@ -30,7 +30,7 @@ use Rattle.nmgc_mark.specs.Stopped.{IsReady, HasFinished}
 use Rattle.nmgc_mark.specs.Tie.{IsTied, AreQueued}
 use Rattle.nmgc_weak.specs.declared.weaks.OldWeak.{OldWeak}
 use Rattle.nmgc_weak.specs.Resolve.{CanResolve}
-use Rattle.nmgc_weak.specs.Steps.{IsLost, CanSave, HasSaved}
+use Rattle.nmgc_weak.specs.Steps.{IsLost, CanRescue, HasRescued}
 use Rattle.nmgc_weak.specs.Weaks.{place_of as place_at, places_of, names_of, finaliser_place}
 use Rattle.nmgc_weak.proofs.Parts.{ref_in, meant, has_parts, of_weak_tracked, may_queue}
 use Rattle.nmgc_weak.proofs.Keeping.{one_parts}
@@ -103,7 +103,7 @@ fresh places (at ∷ ats) (e ∷ es) q entry c = elim (contains_cases e es entry
 fresh places [] (e ∷ es) q entry c = absurd q
 fresh places (at ∷ ats) [] q entry c = absurd q
 
-module _ (o : Opening) (words : List ℕ) (s0 : Segments) (marker0 : MarkerSeen) (weaks : List Place) (dying : List OldWeak) (h : CanSave o words s0 marker0 weaks dying) where
+module _ (o : Opening) (words : List ℕ) (s0 : Segments) (marker0 : MarkerSeen) (weaks : List Place) (dying : List OldWeak) (h : CanRescue o words s0 marker0 weaks dying) where
   abbrev f : Facts o.core
   f = h.can.facts
 
@@ -233,7 +233,7 @@ module _ (o : Opening) (words : List ℕ) (s0 : Segments) (marker0 : MarkerSeen)
           let c = h.lost.complete p.0 p.1 (subst (IsLost o.core) (sym p.2) lost) in
           subst (λ (n : Name). Contains (names_of dying) n) p.2 (place_has_name dying p.0 c)
 
-  pub saving_done : (s t : Segments) (k l : MarkerSeen) → IsSaving s k (length dying) → ((p : Opening) → IsReady p words s k → HasFinished p t l) → HasSaved o t l dying
+  pub saving_done : (s t : Segments) (k l : MarkerSeen) → IsSaving s k (length dying) → ((p : Opening) → IsReady p words s k → HasFinished p t l) → HasRescued o t l dying
   saving_done s t k l b fin =
       let ready = stage_ready o b.opened b.m words s k h.can.marking h.can.ready.opens b.stage in
       let x : HasFinished (remade o b.opened b.m) t l = fin (remade o b.opened b.m) ready in

@@ -22,7 +22,7 @@ use Rattle.nmgc_round.specs.Objects.{earlier}
 use Rattle.nmgc_round.specs.View.{Opening}
 use Rattle.nmgc_run.specs.Census.{IsDeadIn, IsKeptIn, IsKeptObject, interval_of}
 use Rattle.nmgc_run.specs.Closing.{Closes}
-use Rattle.nmgc_run.specs.Collector.{weaks_of}
+use Rattle.nmgc_run.specs.Collector.{weak_count}
 use Rattle.nmgc_run.specs.Listing.{Counts}
 use Rattle.nmgc_run.specs.Marker.{IsCoreOf}
 use Rattle.nmgc_run.specs.Marks.{epoch_of}
@@ -53,18 +53,18 @@ CycleCloses = (c : Cycle) (s : State) (o : Opening) (before words : List ℕ) (s
 
 -- the deaths have room in the queues of their makers, where each queue has room for the listed weak pointers of the snapshot that its mutator made
 abbrev pub DeathsHaveRoom : Type 0
-DeathsHaveRoom = (o : Opening) (words before : List ℕ) (s t : Segments) (marker after : MarkerSeen) (weaks : List Place) (list : List OldWeak) (deaths : List Death) (queues : List FinQueue) → CanResolve o before s marker weaks → HasResolved o words t after list deaths → length queues ≡ length o.core.world.mutators → ((m : ℕ) (queue : FinQueue) → slice_get queues m ≡ Some queue → weaks_of o.core.snapshot m weaks ≤ queue.spare) → HaveRoom deaths queues
+DeathsHaveRoom = (o : Opening) (words before : List ℕ) (s t : Segments) (marker after : MarkerSeen) (weaks : List Place) (list : List OldWeak) (deaths : List Death) (queues : List FinQueue) → CanResolve o before s marker weaks → HasResolved o words t after list deaths → length queues ≡ length o.core.world.mutators → ((m : ℕ) (queue : FinQueue) → slice_get queues m ≡ Some queue → weak_count o.core.snapshot m weaks ≤ queue.spare) → HaveRoom deaths queues
 
 -- once they have joined, registers and queues stand for the closed world
 abbrev pub QueuesClose : Type 0
 QueuesClose = (o : Opening) (dead : List Name) (deaths : List Death) (registers : List ℕ) (old new : List FinQueue) (serials : List ℕ) → IsWorld o.core.world → AreDeaths o dead deaths → IsInOrder dead → RepresentsRoots o.places o.core.world registers (map (λ (q : FinQueue). q.words) old) serials → AllJoin deaths old new → RepresentsRoots o.places (closed o.core.world dead) registers (map (λ (q : FinQueue). q.words) new) serials
 
 -- what has a block was there before, and a weak pointer that is alive was alive with the same parts; one that was alive has its header still
-pub record OldStayOld (layout : Layout) (places : List Place) (began w : World) : Type 0 where
+pub record KeepsOldWeaks (layout : Layout) (places : List Place) (began w : World) : Type 0 where
   pub blocks : (p : Place) → Contains places p → (segment : ℕ) × InSegment layout segment p.at → IsSome (node_of began p.name)
   pub alive : (weak : Name) (parts : Parts) → IsAlive w weak parts → IsSome (node_of began weak) → IsAlive began weak parts
   pub weak : (weak : Name) (parts : Parts) → IsAlive began weak parts → (parts_now : Option Parts) × (node_of w weak ≡ Some (Weak parts_now))
 
 -- what is left of the list once those with no value have left: the weak pointers alive after a round that have a block
 abbrev pub LeavingLists : Type 0
-LeavingLists = (layout : Layout) (past : List World) (places : List Place) (began w : World) (words : List ℕ) (list : List OldWeak) → IsWorld began → IsWorld w → Represents layout (began ∷ past) NoNode places w words → ListsWeaks layout places began (places_of list) → OldStayOld layout places began w → ListsWeaks layout places w (places_of (alive_of words list))
+LeavingLists = (layout : Layout) (past : List World) (places : List Place) (began w : World) (words : List ℕ) (list : List OldWeak) → IsWorld began → IsWorld w → Represents layout (began ∷ past) NoNode places w words → ListsWeaks layout places began (places_of list) → KeepsOldWeaks layout places began w → ListsWeaks layout places w (places_of (alive_of words list))

@@ -66,7 +66,7 @@ pub record AreLost (o : Opening) (weaks : List Place) (dying : List OldWeak) : T
   pub complete : (place : Place) → Contains weaks place → IsLost o.core place.name → Contains (places_of dying) place
 
 -- what those that die keep last is marked too: the machine has closed but for the world
-pub record HasSaved (o : Opening) (s : Segments) (marker : MarkerSeen) (dying : List OldWeak) : Type 0 where
+pub record HasRescued (o : Opening) (s : Segments) (marker : MarkerSeen) (dying : List OldWeak) : Type 0 where
   pub next : Core
   pub closing : IsClosing o.core next
   pub dead : closing.dead ≡ names_of dying
@@ -99,7 +99,7 @@ pub record HasRevived (o : Opening) (words : List ℕ) (s : Segments) (marker : 
   pub saturated : IsSaturated next weaks
 
 -- all that is revived is marked, and these are the ones that die
-pub record CanSave (o : Opening) (words : List ℕ) (s : Segments) (marker : MarkerSeen) (weaks : List Place) (dying : List OldWeak) : Type 0 where
+pub record CanRescue (o : Opening) (words : List ℕ) (s : Segments) (marker : MarkerSeen) (weaks : List Place) (dying : List OldWeak) : Type 0 where
   pub can : CanResolve o words s marker weaks
   pub saturated : IsSaturated o weaks
   pub lost : AreLost o weaks dying

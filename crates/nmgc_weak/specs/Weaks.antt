@@ -16,6 +16,7 @@ pub record Weaks : Type 0 where
 abbrev pub place_of : OldWeak → Place
 place_of weak = record { at = weak.at.0; name = weak.weak }
 
+-- where those of a list lie, and their names
 abbrev pub places_of : List OldWeak → List Place
 places_of list = map place_of list
 

@@ -18,7 +18,7 @@ ghost use Rattle.nmgc_run.specs.Marker.{HasRoomToMark};
 ghost use Rattle.nmgc_mark.specs.Marker.{HasMarked};
 ghost use Rattle.nmgc_mark.specs.Tie.{IsTied};
 ghost use Rattle.nmgc_weak.specs.Resolve.{CanResolve};
-ghost use Rattle.nmgc_weak.specs.Steps.{IsShownWord, IsLostAt, CanKeep, HasKept, HasPassed, HasRevived, CanSave, AreLost, HasSaved};
+ghost use Rattle.nmgc_weak.specs.Steps.{IsShownWord, IsLostAt, CanKeep, HasKept, HasPassed, HasRevived, CanRescue, AreLost, HasRescued};
 ghost use Rattle.nmgc_weak.specs.Weaks.{IsWithin, AreWithin, key_place, place_of, places_of, names_of, deaths_of, without_values};
 
 use crate::weaks::{Death, FINALISER, OldWeak, VALUE};
@@ -81,6 +81,7 @@ fn mark_word(marker: &mut Marker, segments: &mut Segments, word: u64)
     requires room { HasRoomToMark segments.old marker.old }
     requires small { (to : ℕ) → word ≡ 2 * to → to < 2 ^ 32 }
     ensures marked { HasMarked segments.old segments.new marker.old marker.new 0 }
+    ensures turns { marker.new.turns ≡ marker.old.turns }
     ensures tied { (o : Opening) (m : Marks) → IsTied o m segments.old marker.old → IsTied o (with_name o.core.snapshot m (name_meant o.places word)) segments.new marker.new }
 {
     if word == 0 || word % 2 != 0 {
@@ -96,6 +97,7 @@ fn keep<W: HeapWords>(marker: &mut Marker, words: &mut W, segments: &mut Segment
     requires can { (o : Opening) × (weaks : List Place) × (weak : Name) × CanKeep o (W.words words.old) segments.old marker.old weaks at.0 weak }
     ensures words { W.words words.new ≡ W.words words.old }
     ensures marked { (count : ℕ) × HasMarked segments.old segments.new marker.old marker.new count }
+    ensures turns { marker.new.turns ≡ marker.old.turns }
     ensures kept { (o : Opening) (weaks : List Place) (weak : Name) → CanKeep o (W.words words.old) segments.old marker.old weaks at.0 weak → HasKept o (W.words words.old) segments.new marker.new weaks weak }
 {
     let first = at.0 as usize;
@@ -119,6 +121,7 @@ fn keep_if_shown<W: HeapWords>(
     requires can { (o : Opening) × (weaks : List Place) × CanResolve o (W.words words.old) segments.old marker.old weaks × Contains weaks (place_of weak) }
     ensures words { W.words words.new ≡ W.words words.old }
     ensures marked { (count : ℕ) × HasMarked segments.old segments.new marker.old marker.new count }
+    ensures turns { marker.new.turns ≡ marker.old.turns }
     ensures passed { (o : Opening) (weaks : List Place) → CanResolve o (W.words words.old) segments.old marker.old weaks → Contains weaks (place_of weak) → HasPassed o (W.words words.old) segments.new marker.new weaks (weak.weak ∷ []) }
 {
     if !is_of_snapshot(segments, weak.at) {
@@ -137,6 +140,7 @@ fn pass<W: HeapWords>(list: &[OldWeak], marker: &mut Marker, words: &mut W, segm
     requires can { (o : Opening) × CanResolve o (W.words words.old) segments.old marker.old (places_of list.now) }
     ensures words { W.words words.new ≡ W.words words.old }
     ensures marked { (count : ℕ) × HasMarked segments.old segments.new marker.old marker.new count }
+    ensures turns { marker.new.turns ≡ marker.old.turns }
     ensures passed { (o : Opening) → CanResolve o (W.words words.old) segments.old marker.old (places_of list.now) → HasPassed o (W.words words.old) segments.new marker.new (places_of list.now) (names_of list.now) }
 {
     for weak in list {
@@ -157,6 +161,7 @@ pub(crate) fn revive<W: HeapWords>(
     requires can { (o : Opening) × CanResolve o (W.words words.old) segments.old marker.old (places_of list.now) }
     ensures words { W.words words.new ≡ W.words words.old }
     ensures marked { (count : ℕ) × HasMarked segments.old segments.new marker.old marker.new count }
+    ensures turns { marker.new.turns ≡ marker.old.turns }
     ensures revived { (o : Opening) → CanResolve o (W.words words.old) segments.old marker.old (places_of list.now) → HasRevived o (W.words words.old) segments.new marker.new (places_of list.now) }
 {
     loop {
@@ -204,13 +209,14 @@ pub(crate) fn save_finalisers<W: HeapWords>(
     requires few { length dying.now ≤ vec_capacity deaths.old }
     requires room { HasRoomToMark segments.old marker.old }
     requires within { AreWithin (W.words words.old) dying.now }
-    requires can { (o : Opening) × (weaks : List Place) × CanSave o (W.words words.old) segments.old marker.old weaks dying.now }
+    requires can { (o : Opening) × (weaks : List Place) × CanRescue o (W.words words.old) segments.old marker.old weaks dying.now }
     ensures words { W.words words.new ≡ W.words words.old }
     ensures deaths { deaths.new.items ≡ deaths_of (W.words words.old) dying.now }
     ensures capacity { vec_capacity deaths.new ≡ vec_capacity deaths.old }
     ensures marked { (count : ℕ) × HasMarked segments.old segments.new marker.old marker.new count }
+    ensures turns { marker.new.turns ≡ marker.old.turns }
     ensures empty { marker.new.queue ≡ [] }
-    ensures saved { (o : Opening) (weaks : List Place) → CanSave o (W.words words.old) segments.old marker.old weaks dying.now → HasSaved o segments.new marker.new dying.now }
+    ensures saved { (o : Opening) (weaks : List Place) → CanRescue o (W.words words.old) segments.old marker.old weaks dying.now → HasRescued o segments.new marker.new dying.now }
 {
     for weak in dying {
         let finaliser = words.load(weak.at.0 as usize + FINALISER);

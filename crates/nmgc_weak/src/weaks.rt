@@ -5,8 +5,10 @@
 //! order in which their finalisers are queued.
 //!
 //! A stop may not run out of memory half way: room for new weak pointers, and for a death of each, is made
-//! before. So beside the list there are two more of the same room: one of the deaths, and one of those that die,
-//! in which the list is gathered anew as some leave it or several join it.
+//! before. So beside the list there are three more of the same room: one of the deaths, one of the names for the
+//! report, and one of those that die, in which the list is gathered anew as some leave it or several join it.
+//!
+//! Easy to get wrong: what lies in that last one means nothing between two calls, so each call clears it first.
 ghost use Rattle.std.specs.Prelude.{ℕ, ◌≡◌, ◌≢◌, ◌⊎◌, ◌↔◌, ◌+◌, ◌<◌, ◌≤◌, List, [], length, vec_len, vec_capacity, Contains, IsTrue, IsFalse, OnOk, OnErr, slice_get, Some};
 ghost use Rattle.nmgc_graph.specs.Reach.{IsBefore, IsInOrder};
 ghost use Rattle.nmgc_object.specs.declared.size.TheConstants.{HEADER_WORDS};
@@ -262,7 +264,8 @@ impl Weaks {
     /// finaliser marked, with all that strong fields reach from these, until no key is left that was marked in
     /// this way. The other weak pointers of the snapshot die: their value words become 0, their finalisers are
     /// marked with all that they reach, and they leave the list and are the deaths. It is the closing of the core
-    /// machine. Those made since the snapshot stay as they are, and no other word changes. Takes no memory.
+    /// machine. Those made since the snapshot stay as they are, and no other word changes. The gate isn't passed.
+    /// Takes no memory.
     ///
     /// A pass over the list revives all keys that come up in the order of the list, so there are no more passes
     /// than rounds of revived keys, and one that finds none.
@@ -275,6 +278,7 @@ impl Weaks {
         requires room { HasRoomToMark segments.old marker.old }
         requires can { (o : Opening) × CanResolve o (W.words words.old) segments.old marker.old (places_of self.old.list) }
         ensures marked { (count : ℕ) × HasMarked segments.old segments.new marker.old marker.new count }
+        ensures turns { marker.new.turns ≡ marker.old.turns }
         ensures empty { marker.new.queue ≡ [] }
         ensures spare { self.new.spare + length self.new.list ≡ self.old.spare + length self.old.list }
         ensures values { HaveLostValues self.old.list self.new.deaths (W.words words.old) (W.words words.new) }

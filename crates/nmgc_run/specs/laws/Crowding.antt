@@ -12,18 +12,17 @@ use Rattle.nmgc_journal.specs.declared.report.Report.{Report}
 use Rattle.nmgc_journal.specs.declared.report.End.{End}
 use Rattle.nmgc_journal.specs.declared.report.End.TheVariants.{Done, HeapFull}
 use Rattle.nmgc_limits.specs.Limits.{most_script_bytes}
-use Rattle.nmgc_script.specs.Bench.{HasFewCommands}
-use Rattle.nmgc_script.specs.Limits.{FitsScript}
+use Rattle.nmgc_script.specs.Limits.{FitsScript, HasFewCommands}
 use Rattle.nmgc_script.specs.declared.script.Script.{Script}
 use Rattle.nmgc_run.specs.Census.{IsKeptIn}
-use Rattle.nmgc_run.specs.Crowded.{StopInRun, opening_stop, next_stop, last_after, last_stop, IsKeptOf, IsCrowded, LeavesHeapFull, IsHeapFull, IsRunOf, LawfulAreOfRuns}
+use Rattle.nmgc_run.specs.Crowded.{StopInRun, opening_stop, next_stop, last_after, last_stop, IsKeptOf, IsCrowded, LeavesHeapFull, IsHeapFull, LawfulAreOfRuns}
 use Rattle.nmgc_run.specs.Lawful.{IsLawfulFor}
 use Rattle.nmgc_run.specs.Listing.{Counts}
 use Rattle.nmgc_run.specs.Run.{Run, Turn, IsRun, AreTurns, state_after, last_state}
 use Rattle.nmgc_run.specs.Slice.{has_left, program_of}
 use Rattle.nmgc_run.specs.Sound.{IsRunnable}
 use Rattle.nmgc_run.specs.State.{State, Plan, Cycle, Progress, idle, marking, sweeping, free_count, reserve_of, cycle_started, next_cycle, plan_of}
-use Rattle.nmgc_run.specs.Statements.{last_kept}
+use Rattle.nmgc_journal.specs.Summary.{kept_count}
 use Rattle.nmgc_run.specs.Stop.{EndsOrWaits, Finishes, DoesFullCycle, Proceeds, all_filed, is_short, is_done, answer_of}
 use Rattle.nmgc_run.specs.Sweep.{SweepsRest}
 use Rattle.nmgc_run.specs.laws.CycleCounts.{free_kept}
@@ -66,7 +65,7 @@ full_keeps plan s t cycles f h few =
     elim ends [
       | inl e ↦
           let told : cycles ≡ f.before ++ e.1.row ∷ [] = f.told ∙ ap (λ (rows : List CycleRow). f.before ++ rows) e.1.told in
-          let same : crowd.1.kept ≡ e.1.row.kept = sym (kept_last crowd.0 0 crowd.1) ∙ ap last_kept (sym crowd.2 ∙ told) ∙ kept_last f.before 0 e.1.row in
+          let same : crowd.1.kept ≡ e.1.row.kept = sym (kept_last crowd.0 crowd.1) ∙ ap kept_count (sym crowd.2 ∙ told) ∙ kept_last f.before e.1.row in
           let many : plan.config.segments ≤ crowd.1.kept + free_count t = crowd.3 in
           record { kept = e.1.row.kept; counts = e.1.census.kept; more = omega (arith, many, same, few) }
       | inr waits ↦ absurd (waits.0 none)
@@ -145,7 +144,7 @@ short_end plan s end e short =
     of_some Done e = absurd cc
     of_some (HeapFull free reserve) e = tt
 
-kept_many : (plan : Plan) (report : Report) (end : End) (lawful : IsLawfulFor plan report) → IsRunnable plan → answer_of plan (last_state lawful.run) ≡ Some end → IsHeapFull end → plan.config.segments < last_kept report.cycles + reserve_of plan
+kept_many : (plan : Plan) (report : Report) (end : End) (lawful : IsLawfulFor plan report) → IsRunnable plan → answer_of plan (last_state lawful.run) ≡ Some end → IsHeapFull end → plan.config.segments < kept_count report.cycles + reserve_of plan
 kept_many plan report Done lawful runnable e full = absurd full
 kept_many plan report (HeapFull free reserve) lawful runnable e full = full_heap_is_crowded plan lawful.run report.rounds report.stops report.cycles free reserve runnable lawful.is_run lawful.tells e
 

@@ -1,22 +1,24 @@
 -- A run that ends as heap full is crowded: its last stop did a full cycle.
-use Rattle.std.proofs.Common.{ℕ, ◌≡◌, ◌+◌, ◌<◌, ◌≤◌, List, [], ◌∷◌, ◌++◌, length, arith, refl, sym, ap, subst, ◌∙◌, Some, None, Bool, true, false, inl, inr, append_assoc, append-nil}
-use Rattle.std.specs.Prelude.{sum_by, fold, nat_lt, ◌&&◌, flat_map, if◌then◌else◌}
+use Rattle.std.proofs.Common.{ℕ, ◌≡◌, ◌+◌, ◌-◌, ◌<◌, ◌≤◌, List, [], ◌∷◌, ◌++◌, length, length-append, arith, refl, sym, ap, subst, ◌∙◌, Some, None, Bool, true, false, inl, inr, append_assoc, append-nil}
+use Rattle.std.specs.Prelude.{Option, slice_get, sum_by, nat_lt, ◌&&◌, flat_map, if◌then◌else◌}
+use Rattle.std.specs.Option.{option_map_or}
 use Rattle.std.proofs.lemmas.Bool.{ltb-true}
 use Rattle.nmgc_graph.specs.World.{World, new_world}
 use Rattle.nmgc_segment.specs.declared.state.State.TheVariants as stands
 use Rattle.nmgc_alloc.specs.AllocState.{AllocState, IsIn, NoneIs}
 use Rattle.nmgc_alloc.specs.laws.Cells.{all_swept}
 use Rattle.nmgc_journal.specs.declared.report.CycleRow.{CycleRow}
+use Rattle.nmgc_journal.specs.Summary.{kept_count}
 use Rattle.nmgc_journal.specs.declared.report.End.{End}
 use Rattle.nmgc_journal.specs.declared.report.End.TheVariants.{Done, HeapFull}
+use Rattle.nmgc_journal.specs.declared.report.RoundRows.{RoundRows}
 use Rattle.nmgc_journal.specs.declared.report.StopRow.{StopRow}
 use Rattle.nmgc_run.specs.Census.{IsKeptIn}
-use Rattle.nmgc_run.specs.Run.{Turn, AreTurns, state_after, last_state}
+use Rattle.nmgc_run.specs.Run.{Run, Turn, IsRun, AreTurns, Tells, state_after, last_state}
 use Rattle.nmgc_run.specs.Slice.{has_left}
-use Rattle.nmgc_run.specs.Sound.{AreSoundBlocks}
+use Rattle.nmgc_run.specs.Sound.{AreSoundBlocks, IsRunnable}
 use Rattle.nmgc_run.specs.State.{State, Plan, Cycle, Progress, sweeping, free_count, reserve_of, start, cycle_started, layout_of, next_cycle}
-use Rattle.nmgc_run.specs.Statements.{FullHeapIsCrowded, last_kept}
-use Rattle.nmgc_run.specs.Stop.{IsStop, EndsOrWaits, DoesFullCycle, Proceeds, all_filed, is_short, is_done}
+use Rattle.nmgc_run.specs.Stop.{IsStop, EndsOrWaits, DoesFullCycle, Proceeds, all_filed, answer_of, is_short, is_done}
 use Rattle.nmgc_run.specs.Sweep.{SweepsRest}
 use Rattle.nmgc_run.specs.laws.Crowds.{IsJudged, each_judged, begun_judged, crowded, free}
 use Rattle.nmgc_run.specs.laws.CycleCounts.{free_kept}
@@ -90,9 +92,14 @@ turns_told plan s (turn ∷ turns) before i able h told =
     subst (λ (rows : List CycleRow). Told plan (state_after turn.stop.state turns) rows) (append_assoc before turn.stop.cycles (flat_map (λ (t : Turn). t.stop.cycles) turns)) rest
 
 -- the last row tells what the last cycle kept
-pub kept_last : (before : List CycleRow) (first : ℕ) (row : CycleRow) → fold (λ (kept : ℕ) (c : CycleRow). c.kept) first (before ++ row ∷ []) ≡ row.kept
-kept_last [] first row = refl
-kept_last (c ∷ before) first row = kept_last before c.kept row
+pub kept_last : (before : List CycleRow) (row : CycleRow) → kept_count (before ++ row ∷ []) ≡ row.kept
+kept_last before row =
+    let size : length (before ++ row ∷ []) - 1 ≡ length before = let sum = length-append before (row ∷ []) in omega arith in
+    ap (λ n. option_map_or (λ (cycle : CycleRow). cycle.kept) (slice_get (before ++ row ∷ []) n) 0) size ∙ ap (λ (o : Option CycleRow). option_map_or (λ (cycle : CycleRow). cycle.kept) o 0) (last_is before)
+  where
+    last_is : (rows : List CycleRow) → slice_get (rows ++ row ∷ []) (length rows) ≡ Some row
+    last_is [] = refl
+    last_is (c ∷ rows) = last_is rows
 
 -- the answer heap full comes from a short heap
 pub full_short : (short quiet : Bool) (full : End) (free_segments reserve : ℕ) → (if short then Some full else (if quiet then Some Done else None)) ≡ Some (HeapFull free_segments reserve) → short ≡ true
@@ -105,7 +112,7 @@ pub short_free : (left less : Bool) → (left && less) ≡ true → less ≡ tru
 short_free true less e = e
 short_free false less e = absurd cc
 
-pub full_heap_is_crowded : FullHeapIsCrowded
+pub full_heap_is_crowded : (plan : Plan) (run : Run) (rounds : List RoundRows) (stops : List StopRow) (cycles : List CycleRow) (free reserve : ℕ) → IsRunnable plan → IsRun plan run → Tells run rounds stops cycles → answer_of plan (last_state run) ≡ Some (HeapFull free reserve) → plan.config.segments < kept_count cycles + reserve_of plan
 full_heap_is_crowded plan run rounds stops cycles free_segments reserve runnable i tells e =
     let opened = opening_holds plan run runnable i in
     let first : Told plan run.opening.state run.opening.cycles = stop_told plan (new_world (length plan.threads)) (start plan) run.opening.state run.opening.row run.opening.cycles i.opening (opening_worked plan runnable) in
@@ -114,6 +121,6 @@ full_heap_is_crowded plan run rounds stops cycles free_segments reserve runnable
     let short : is_short plan last ≡ true = full_short (is_short plan last) (is_done last) _ free_segments reserve e in
     let crowd = told short in
     let few : free_count last < reserve_of plan = ltb-true (free_count last) (reserve_of plan) (short_free (has_left last.left) (nat_lt (free_count last) (reserve_of plan)) short) in
-    let kept : last_kept cycles ≡ crowd.1.kept = ap last_kept (tells.cycles_are ∙ crowd.2) ∙ kept_last crowd.0 0 crowd.1 in
+    let kept : kept_count cycles ≡ crowd.1.kept = ap kept_count (tells.cycles_are ∙ crowd.2) ∙ kept_last crowd.0 crowd.1 in
     let most : plan.config.segments ≤ crowd.1.kept + free_count last = crowd.3 in
     omega (arith, few, kept, most)

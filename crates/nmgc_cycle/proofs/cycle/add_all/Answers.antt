@@ -20,7 +20,7 @@ loop-mutator-preserved c =
     let lt = c.loop-mutator-test.true in
     let is : d ≡ get_or ms l.mutator-index d = grind (arith, common_steps, at, lt) in
     let are : c.entries.result.now ≡ entries = c.entries.ensures ∙ ap (λ (m : Mutator). m.updrem.items) is in
-    let was : HasAdded (numbers c.entries.result.now) l.segments c.add.new.segments l.marker c.add.new.self = record { marked = c.add.ensures.marked; tied = c.add.ensures.tied } in
+    let was : HasAdded (numbers c.entries.result.now) l.segments c.add.new.segments l.marker c.add.new.self = record { marked = c.add.ensures.marked; tied = c.add.ensures.tied; turns = c.add.ensures.turns } in
     let one : HasAdded (numbers entries) l.segments c.add.new.segments l.marker c.add.new.self = subst (λ (own : List Address). HasAdded (numbers own) l.segments c.add.new.segments l.marker c.add.new.self) are was in
     subst (λ (all : List ℕ). HasAdded all c.args.segments.now c.add.new.segments c.args.marker.now c.add.new.self) (remembered_more ms l.mutator-index d c.loop-mutator-test.true)
     (added_then (remembered_by (take l.mutator-index ms)) (numbers entries) c.args.segments.now l.segments c.add.new.segments c.args.marker.now l.marker c.add.new.self l.invariant one)

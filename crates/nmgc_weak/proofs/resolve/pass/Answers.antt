@@ -17,6 +17,7 @@ pub loop-weak-init : goal.loop-weak-init
 loop-weak-init g c = record {
   words = refl;
   marked = (0, marked_none c.args.segments.now c.args.marker.now c.requires.room);
+  turns = refl;
   each = λ o h. pass_none o (g.W.HeapWords.words c.args.words.now) c.args.segments.now c.args.marker.now (places_of c.args.list.now) h;
 }
 
@@ -47,6 +48,7 @@ loop-weak-preserved g c =
     record {
       words = c.keep_if_shown.ensures.words ∙ inv.words;
       marked = marked_sum c.args.segments.now c.loop-weak.segments c.keep_if_shown.new.segments c.args.marker.now c.loop-weak.marker c.keep_if_shown.new.marker inv.marked c.keep_if_shown.ensures.marked;
+      turns = c.keep_if_shown.ensures.turns ∙ inv.turns;
       each = λ o h.
           let p = inv.each o h in
           let here = has_place c.args.list.now x (at_contains c.args.list.now c.loop-weak.weak-index nobody c.loop-weak-test.true) in

@@ -10,6 +10,7 @@ pub loop-before-init : goal.loop-before-init
 loop-before-init g c = record {
   words = refl;
   marked = (0, marked_none c.args.segments.now c.args.marker.now c.requires.room);
+  turns = refl;
   each = λ o h. (o, stays o (g.W.HeapWords.words c.args.words.now) c.args.segments.now c.args.marker.now (places_of c.args.list.now) h);
 }
 
@@ -32,6 +33,7 @@ loop-before-preserved g c =
     record {
       words = c.pass.ensures.words ∙ inv.words;
       marked = marked_sum c.args.segments.now c.loop-before.segments c.pass.new.segments c.args.marker.now c.loop-before.marker c.pass.new.marker inv.marked c.pass.ensures.marked;
+      turns = c.pass.ensures.turns ∙ inv.turns;
       each = λ o h.
           let p = inv.each o h in
           let can = subst (λ (l : List ℕ). CanResolve p.0 l c.loop-before.segments c.loop-before.marker (places_of c.args.list.now)) (sym inv.words) p.1.can in

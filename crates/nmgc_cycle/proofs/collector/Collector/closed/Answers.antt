@@ -5,22 +5,23 @@ use Rattle.nmgc_alloc.specs.Turns.{carried_over}
 use Rattle.nmgc_beside.specs.Resolves.{finished_on}
 use Rattle.nmgc_mark.specs.Stopped.{IsReady}
 use Rattle.nmgc_mutator.specs.declared.mutator.Mutator.{Mutator}
-use Rattle.nmgc_sweep.specs.Sweeper.{Sweeper}
+use Rattle.nmgc_run.specs.Seen.{MarkerSeen}
+use Rattle.nmgc_sweep.specs.Sweeper.{Sweeper, turned}
 use Rattle.nmgc_weak.specs.declared.weaks.Death.{Death}
 use Rattle.nmgc_weak.specs.Queues.{HaveRoom}
 use Rattle.nmgc_weak.specs.Resolve.{CanResolve}
 use Rattle.nmgc_weak.specs.Weaks.{places_of}
 use Rattle.nmgc_cycle.specs.declared.progress.Marking.{Marking}
 use Rattle.nmgc_cycle.specs.declared.progress.Sweeping.{Sweeping}
-use Rattle.nmgc_cycle.specs.Listed.{HaveJoined}
+use Rattle.nmgc_cycle.specs.Listed.{FinalisersQueued}
 use Rattle.nmgc_cycle.specs.Roots.{queues_in}
 use Rattle.nmgc_cycle.specs.Shown.{words_in}
 use Rattle.nmgc_cycle.proofs.MutatorLists.{vec_back}
 use Rattle.nmgc_cycle.proofs.collector.Collector.closed.Goals as goal
 
 -- what a closed cycle has, by what it keeps and its sweeper
-same_sweeping : (m : Marking) (stop a b : ℕ) (x : Sweeper) → a ≡ b → x ≡ m.sweeper → ◌≡◌ {A = Sweeping} (record { from = m.from; closed = stop; kept = a; sweeper = x }) (record { from = m.from; closed = stop; kept = b; sweeper = m.sweeper })
-same_sweeping m stop a b x kept sweeper =
+same_sweeping : (m : Marking) (stop a b : ℕ) (x z : Sweeper) → a ≡ b → x ≡ z → ◌≡◌ {A = Sweeping} (record { from = m.from; closed = stop; kept = a; sweeper = x }) (record { from = m.from; closed = stop; kept = b; sweeper = z })
+same_sweeping m stop a b x z kept sweeper =
     ap (λ (n : ℕ). let w : Sweeping = record { from = m.from; closed = stop; kept = n; sweeper = x } in w) kept
     ∙ ap (λ (y : Sweeper). let w : Sweeping = record { from = m.from; closed = stop; kept = b; sweeper = y } in w) sweeper
 
@@ -69,7 +70,8 @@ returns-clause-closed c =
     let was = c.as_mut_slice.ensures.value in
     let later : List Mutator = c.queue_all.new.mutators in
     let count : length later ≡ length v.items = c.queue_all.ensures.have.count ∙ ap (λ (ms : List Mutator). length ms) was in
-    let joined : HaveJoined c.resolve.new.self.deaths v.items later = subst (λ (y : List Death × List Mutator). HaveJoined y.0 y.1 later) (λ i. (c.deaths.ensures i, was i)) c.queue_all.ensures in
+    let turns : c.marker.inside.turns ≡ c.args.marking.marker.turns = ap (λ (m : MarkerSeen). m.turns) c.marker.view_is ∙ c.resolve.ensures.turns ∙ c.finish.ensures.turns in
+    let joined : FinalisersQueued c.resolve.new.self.deaths v.items later = subst (λ (y : List Death × List Mutator). FinalisersQueued y.0 y.1 later) (λ i. (c.deaths.ensures i, was i)) c.queue_all.ensures in
     record {
       between = c.finish.new.segments;
       finisher = c.finish.new.self;
@@ -79,8 +81,9 @@ returns-clause-closed c =
       second = c.resolve.ensures.marked;
       finished = λ o ready. c.finish.ensures.finished o (subst (λ (l : List ℕ). IsReady o l c.args.self.now.segments c.args.marking.marker) held ready);
       resolved = λ o can. c.resolve.ensures.resolved o (subst (λ (l : List ℕ). CanResolve o l c.finish.new.segments c.finish.new.self (places_of c.args.self.now.weaks.list)) (sym words) can);
-      joined = subst (λ (ms : List Mutator). HaveJoined c.resolve.new.self.deaths v.items ms) (sym (vec_back v later count)) joined;
+      joined = subst (λ (ms : List Mutator). FinalisersQueued c.resolve.new.self.deaths v.items ms) (sym (vec_back v later count)) joined;
       carried = c.carry.ensures.value ∙ ap (λ (epoch : ℕ). let s : Segments = record marked { segments = map (carried_over epoch) marked.segments } in s) c.epoch.ensures.epoch;
       sound = (c.layout.ensures.sound, c.carry.ensures.sound);
-      is = same_sweeping c.args.marking c.args.stop c.marked.result c.resolve.new.marker.marked _ c.marked.ensures c.sweeper.view_is;
+      is = same_sweeping c.args.marking c.args.stop c.marked.result c.resolve.new.marker.marked _ (turned c.args.marking.sweeper c.args.marking.marker.turns) c.marked.ensures
+          (ap (λ (s : Sweeper). turned s c.marker.inside.turns) c.sweeper.view_is ∙ ap (λ (n : ℕ). turned c.args.marking.sweeper n) turns);
     }

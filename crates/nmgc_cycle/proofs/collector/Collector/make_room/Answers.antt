@@ -6,7 +6,7 @@ use Rattle.nmgc_run.specs.Slice.{program_of}
 use Rattle.nmgc_run.specs.Run.{Run}
 use Rattle.nmgc_script.specs.declared.script.Script.{Script}
 use Rattle.nmgc_cycle.specs.declared.collector.Collector.{Collector}
-use Rattle.nmgc_cycle.specs.Keeps.{IsStill}
+use Rattle.nmgc_cycle.specs.Keeps.{IsAfterStop}
 use Rattle.nmgc_cycle.specs.Limits.{IsInLimits}
 use Rattle.nmgc_cycle.specs.Working.{left_at, HasLists, AreReserved, HaveSliceRoom}
 use Rattle.nmgc_cycle.proofs.Positions.{position_within}
@@ -31,7 +31,7 @@ returns-clause-room c =
     let positions : c.as_slice.result.now ≡ own.positions.items = c.as_slice.ensures.value in
     on_both c.reserve_all.result (room_after script own new still c.requires.limits old positions) c.reserve_all.ensures.kept c.reserve_all.ensures.room
   where
-    room_after : (script : Script) (own : Collector) (new : List Mutator) {run : Run} → IsStill script own run → IsInLimits script → {lent : List Mutator} {told : List ℕ} → lent ≡ own.mutators.items → told ≡ own.positions.items → AreReserved lent new → ((k : ℕ) (d : Mutator) → k < length lent → HasLists (min script.config.slice (length (left_at script told k))) (slice_index_or new k d)) → HaveSliceRoom script (record own { mutators = with_items own.mutators new })
+    room_after : (script : Script) (own : Collector) (new : List Mutator) {run : Run} → IsAfterStop script own run → IsInLimits script → {lent : List Mutator} {told : List ℕ} → lent ≡ own.mutators.items → told ≡ own.positions.items → AreReserved lent new → ((k : ℕ) (d : Mutator) → k < length lent → HasLists (min script.config.slice (length (left_at script told k))) (slice_index_or new k d)) → HaveSliceRoom script (record own { mutators = with_items own.mutators new })
     room_after script own new {run} still limits {lent} {told} old positions kept room =
         let reserved : AreReserved own.mutators.items new = subst (λ (l : List Mutator). AreReserved l new) old kept in
         let back : (with_items own.mutators new).items ≡ new = with_items_is own.mutators new (reserved.count ∙ sym own.mutators.ok.0) in

@@ -4,8 +4,8 @@ use Rattle.nmgc_round.specs.Starting.{CanOpen}
 use Rattle.nmgc_cycle.proofs.Fresh.{is_fresh}
 use Rattle.nmgc_cycle.proofs.collector.Collector.new.Goals as goal
 
-pub returns : goal.returns
-returns c = is_fresh c.layout_of-layout.result c.args.script.now _ c.layout_of-layout.ensures.value (record {
+pub returns-clause-fresh : goal.returns-clause-fresh
+returns-clause-fresh c = is_fresh c.layout_of-layout.result c.args.script.now _ c.layout_of-layout.ensures.value (record {
   lawful = c.layout_of-layout.ensures.lawful;
   nothing = (c.new-4.ensures, c.new-5.ensures, c.new-6.ensures);
   idle = (refl, refl, refl, refl);

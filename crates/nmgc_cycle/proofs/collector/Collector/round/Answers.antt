@@ -4,10 +4,14 @@ use Rattle.std.proofs.lemmas.List.{length-map}
 use Rattle.nmgc_journal.specs.declared.report.RoundRows.{RoundRows}
 use Rattle.nmgc_mutator.specs.declared.mutator.Mutator.{Mutator}
 use Rattle.nmgc_cycle.specs.declared.collector.Collector.{Collector}
+use Rattle.nmgc_round.specs.Gate.{passed}
+use Rattle.nmgc_cycle.specs.Cycles.{worked_on}
 use Rattle.nmgc_cycle.specs.Keeps.{DidRound}
+use Rattle.nmgc_cycle.specs.Shown.{turns_of}
 use Rattle.nmgc_cycle.specs.Working.{cleared, replies_of}
 use Rattle.nmgc_cycle.proofs.MutatorLists.{vec_back}
 use Rattle.nmgc_cycle.proofs.Reserved.{reserved_stopped, still_before}
+use Rattle.nmgc_cycle.proofs.Counted.{round_counts}
 use Rattle.nmgc_cycle.proofs.GoneOn.{HasLaws}
 use Rattle.nmgc_cycle.proofs.RoundWorked.{on_ok, worked_after}
 use Rattle.nmgc_cycle.proofs.collector.Collector.round.Goals as goal
@@ -47,3 +51,10 @@ returns-clause-worked g c =
     let before : (x : Collector) → DidRound script roomy x → DidRound script own x = λ x d. (d.0, still_before script own roomy d.0.run c.requires.stopped.0.1.kept c.in_ok-make_room.ensures.rest c.in_ok-make_room.ensures.mutators d.1) in
     let worked : DidRound script roomy (record did { mutators = with_items did.mutators new; rounds = did.rounds ++ rows ∷ [] }) = worked_after laws script roomy did c.opening_of-opening.result.value c.requires.limits goes_on c.opening_of-opening.ensures c.do_slices.ensures (with_items did.mutators new) (vec_back did.mutators new many ∙ left) rows told in
     on_ok c.push.result c.push.ensures.ok (λ pushed. subst (λ (l : List RoundRows). DidRound script own (record did { mutators = with_items did.mutators new; rounds = l })) (sym pushed) (before (record did { mutators = with_items did.mutators new; rounds = did.rounds ++ rows ∷ [] }) worked))
+
+pub returns-clause-turns : goal.returns-clause-turns
+returns-clause-turns g c =
+    let own : Collector = c.args.self.now in
+    let did : Collector = c.do_slices.new.self in
+    let counts = round_counts c.args.script.now c.opening_of-opening.result.value c.make_room.new.self did c.do_slices.ensures in
+    on_ok c.push.result c.push.ensures.ok (λ pushed. subst (λ (x : Collector). turns_of did ≡ passed (turns_of x) (worked_on x.progress did.progress)) c.in_ok-make_room.ensures.rest counts)

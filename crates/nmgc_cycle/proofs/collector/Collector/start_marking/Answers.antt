@@ -8,9 +8,14 @@ use Rattle.nmgc_beside.specs.Prepares.{all_prepared}
 use Rattle.nmgc_graph.specs.declared.value.TheConstants.{REGISTERS}
 use Rattle.nmgc_mark.specs.Beginning.{IsBeginning, most_blocks}
 use Rattle.nmgc_mark.specs.Marker.{HasMarked, blank}
+use Rattle.nmgc_mark.specs.Marker as after
+use Rattle.nmgc_mark.specs.Tie.{IsTied}
 use Rattle.nmgc_object.specs.FinQueue.{FinQueue}
 use Rattle.nmgc_run.specs.Seen.{MarkerSeen}
-use Rattle.nmgc_sweep.specs.Sweeper.{Sweeper}
+use Rattle.nmgc_round.specs.Marking.{Marks, marks_of}
+use Rattle.nmgc_round.specs.View.{Opening}
+use Rattle.nmgc_core.specs.State.{opening}
+use Rattle.nmgc_sweep.specs.Sweeper.{Sweeper, turned}
 use Rattle.nmgc_sweep.specs.Work.{HasBegun}
 use Rattle.nmgc_mutator.specs.declared.mutator.Mutator.{Mutator}
 use Rattle.nmgc_turn.specs.Worked.{registers_of}
@@ -26,6 +31,24 @@ use Rattle.nmgc_cycle.proofs.collector.Collector.start_marking.Goals as goal
 -- the same marking, by what is seen of its marker and its sweeper
 by_view : (stop : ℕ) (old new : Collector) (marker m : MarkerSeen) (sweeper s : Sweeper) (queues : Vec FinQueue Global) → marker ≡ m → sweeper ≡ s → StartsMarking stop old new (record { from = stop; marker = m; last = record { scanned = 0; empty = false }; sweeper = s; queues = queues }) → StartsMarking stop old new (record { from = stop; marker = marker; last = record { scanned = 0; empty = false }; sweeper = sweeper; queues = queues })
 by_view stop old new marker m sweeper s queues first second h = subst (λ (y : MarkerSeen × Sweeper). StartsMarking stop old new (record { from = stop; marker = y.0; last = record { scanned = 0; empty = false }; sweeper = y.1; queues = queues })) (λ i. (sym first i, sym second i)) h
+
+-- a marker and a sweeper that begin with another count of the gate's passes
+turned_marker : (old new : Segments) (before marker : MarkerSeen) (turns : ℕ) → HasMarked old new before marker 0 → HasMarked old new before (after.turned marker turns) 0
+turned_marker old new before marker turns h =
+    let room = h.room in
+    let scanned = h.scanned in
+    record {
+      room = record { places = room.places; all = room.all; room = room.room };
+      scanned = record { epoch = scanned.epoch; grows = scanned.grows; pace = scanned.pace; room = scanned.room };
+      layout = h.layout;
+      stands = h.stands;
+    }
+
+turned_tied : (o : Opening) (m : Marks) (s : Segments) (marker : MarkerSeen) (turns : ℕ) → IsTied o m s marker → IsTied o m s (after.turned marker turns)
+turned_tied o m s marker turns h = record { snapshot = h.snapshot; shared = h.shared; marks = h.marks; queue = h.queue; count = h.count }
+
+turned_sweeper : (segments : Segments) (words : List ℕ) (epoch : ℕ) (sweeper : Sweeper) (turns : ℕ) → HasBegun segments words epoch sweeper → HasBegun segments words epoch (turned sweeper turns)
+turned_sweeper segments words epoch sweeper turns h = record { epoch_is = h.epoch_is; swept = h.swept; had = h.had; freed = h.freed; left = h.left; notes = h.notes }
 
 pub give_back-requires-clause-whole : goal.give_back-requires-clause-whole
 give_back-requires-clause-whole c =
@@ -64,7 +87,11 @@ returns c =
     let now : (with_items (with_items (with_items v c.taken.new.mutators) between) new).items ≡ new = vec_back (with_items (with_items v c.taken.new.mutators) between) new more in
     let many : length new ≡ length v.items = room.count ∙ c.give_back.ensures.count ∙ ap (λ (ms : List Mutator). length ms) read ∙ length-map v.items without_queue in
     let most : length new ≤ vec_capacity c.in_ok-queues.queues = (let len = c.len.ensures in let capacity = c.in_ok-queues.ensures.capacity in let exact = c.in_ok-queues.ensures.exact in let whole = v.ok.0 in omega (arith, many, len, capacity, exact, whole)) in
-    by_view c.args.stop old _ _ c.in_ok-marker.marker _ c.in_ok-sweeper.sweeper c.in_ok-queues.queues c.marker.view_is c.sweeper.view_is (record {
+    let marker : MarkerSeen = c.in_ok-marker.marker in
+    let sweeper : Sweeper = c.in_ok-sweeper.sweeper in
+    let marked : HasMarked (all_prepared old.segments) c.snapshot.new.segments (blank (next_epoch old) (most_blocks old.segments.layout)) marker 0 = subst (λ (y : Segments × ℕ). HasMarked y.0 c.snapshot.new.segments (blank y.1 (most_blocks y.0.layout)) marker 0) (λ i. (prepared_is i, epoch_is i)) c.in_ok-marker.ensures.marked in
+    let begun : HasBegun (all_prepared old.segments) (words_in old.words) (next_epoch old) sweeper = subst (λ (y : Segments × List ℕ × ℕ). HasBegun y.0 y.1 y.2 sweeper) (λ i. (prepared_is i, held i, epoch_is i)) c.in_ok-sweeper.ensures.begun in
+    by_view c.args.stop old _ _ (after.turned marker old.turns) _ (turned sweeper old.turns) c.in_ok-queues.queues (ap (λ (m : MarkerSeen). after.turned m old.turns) c.marker.view_is) (ap (λ (s : Sweeper). turned s old.turns) c.sweeper.view_is) (record {
       rest = refl;
       from_is = refl;
       last = refl;
@@ -74,7 +101,8 @@ returns c =
       given = given;
       queue_room = subst (λ (ms : List Mutator). HaveQueueRoom old.weaks.list between ms) (sym now) room;
       closing_room = (c.in_ok-queues.ensures.items, subst (λ (ms : List Mutator). length ms ≤ vec_capacity c.in_ok-queues.queues) (sym now) most);
-      sweeper = subst (λ (y : Segments × List ℕ × ℕ). HasBegun y.0 y.1 y.2 c.in_ok-sweeper.sweeper) (λ i. (prepared_is i, held i, epoch_is i)) c.in_ok-sweeper.ensures.begun;
-      marked = subst (λ (y : Segments × ℕ). HasMarked y.0 c.snapshot.new.segments (blank y.1 (most_blocks y.0.layout)) c.in_ok-marker.marker 0) (λ i. (prepared_is i, epoch_is i)) c.in_ok-marker.ensures.marked;
-      tied = λ o begins. c.in_ok-marker.ensures.tied o (subst (λ (y : Segments × ℕ × List ℕ × List ℕ × List FinQueue). IsBeginning o y.0 y.1 y.2 y.3 y.4) (λ i. (sym prepared_is i, sym epoch_is i, sym started i, sym (c.items.ensures ∙ registers) i, sym (c.items-2.ensures ∙ queues) i)) begins);
+      sweeper = turned_sweeper (all_prepared old.segments) (words_in old.words) (next_epoch old) sweeper old.turns begun;
+      turns = (refl, refl);
+      marked = turned_marker (all_prepared old.segments) c.snapshot.new.segments (blank (next_epoch old) (most_blocks old.segments.layout)) marker old.turns marked;
+      tied = λ o begins. turned_tied o (marks_of (opening o.core.snapshot)) c.snapshot.new.segments marker old.turns (c.in_ok-marker.ensures.tied o (subst (λ (y : Segments × ℕ × List ℕ × List ℕ × List FinQueue). IsBeginning o y.0 y.1 y.2 y.3 y.4) (λ i. (sym prepared_is i, sym epoch_is i, sym started i, sym (c.items.ensures ∙ registers) i, sym (c.items-2.ensures ∙ queues) i)) begins));
     })

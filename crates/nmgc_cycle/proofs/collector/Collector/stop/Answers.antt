@@ -10,6 +10,7 @@ use Rattle.nmgc_cycle.specs.Shown.{seen}
 use Rattle.nmgc_cycle.proofs.AddingLeads.{can_add}
 use Rattle.nmgc_cycle.proofs.AfterPromotion as after
 use Rattle.nmgc_cycle.proofs.Begins.{begins}
+use Rattle.nmgc_cycle.proofs.Counted.{stop_counts}
 use Rattle.nmgc_cycle.proofs.Few.{stop_fits}
 use Rattle.nmgc_cycle.proofs.NewStops.{stopped_in}
 use Rattle.nmgc_cycle.proofs.StopEnds.{IsStepped, IsRead, Why, row, some_left_then, rounds_are, stops_are, has_answered, stops_after, done_where, full_where}
@@ -142,3 +143,7 @@ returns-clause-rounds c = rounds_are c.a_stop_leads.ensures c.args.script.now c.
 pub returns-clause-stops : goal.returns-clause-stops
 unfolding stepped read
 returns-clause-stops c = (row c.a_stop_leads.ensures c.args.script.now c.args.self.now c.proceed.new.self c.requires.limits (stepped c) (read c) c.in_ok-promoted.promoted c.in_ok-promoted.ensures.many, stops_are c.a_stop_leads.ensures c.args.script.now c.args.self.now c.proceed.new.self c.requires.limits (stepped c) (read c) c.in_ok-promoted.promoted c.in_ok-promoted.ensures.many c.push.new.self c.ended-self.result c.in_ok-push.ensures.ok c.requires.can)
+
+pub returns-clause-turns : goal.returns-clause-turns
+unfolding stepped
+returns-clause-turns c = stop_counts c.args.script.now c.args.self.now c.proceed.new.self (stepped c)

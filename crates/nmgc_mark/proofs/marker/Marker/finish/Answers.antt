@@ -1,4 +1,4 @@
-use Rattle.std.proofs.Common.{ℕ, ◌≡◌, ◌+◌, ◌∙◌, List, refl, sym, subst}
+use Rattle.std.proofs.Common.{ℕ, ◌≡◌, ◌+◌, ◌∙◌, List, refl, sym, ap, subst}
 use Rattle.nmgc_round.specs.View.{Opening, Seen, whole}
 use Rattle.nmgc_alloc.specs.Segments.{Segments}
 use Rattle.nmgc_run.specs.Seen.{MarkerSeen}
@@ -6,7 +6,7 @@ use Rattle.nmgc_mark.specs.Stopped.{IsAlone, HasFinished}
 use Rattle.nmgc_mark.specs.Tie.{IsTied}
 use Rattle.nmgc_mark.specs.Work.{marks_seen}
 use Rattle.nmgc_mark.proofs.Scanning.{begins}
-use Rattle.nmgc_mark.proofs.Fields.{marked_none, object_marked, room_taken}
+use Rattle.nmgc_mark.proofs.Fields.{marked_none, object_marked, room_taken, queue_taken}
 use Rattle.nmgc_mark.proofs.Alone.{alone_opens, alone_ends}
 use Rattle.nmgc_mark.proofs.marker.Marker.finish.Goals as goal
 
@@ -15,11 +15,12 @@ loop-at-init g c = record {
   words = refl;
   count = 0;
   marked = marked_none c.args.segments.now c.args.self.now c.requires.room;
+  turns = refl;
   each = λ o r. (whole o, alone_opens c.words_open.ensures o (g.W.HeapWords.words c.args.words.now) r.opens, r.tied);
 }
 
 pub scan_stopped-requires-clause-room : goal.scan_stopped-requires-clause-room
-scan_stopped-requires-clause-room g c = room_taken c.loop-at.segments c.loop-at.self c.take_first.new.self c.loop-at.invariant.marked.room c.in-Some.ensures.some.1
+scan_stopped-requires-clause-room g c = room_taken c.loop-at.segments c.loop-at.self c.take_first.new.self c.loop-at.invariant.marked.room (queue_taken c.loop-at.self c.take_first.new.self c.in-Some.ensures.some.1)
 
 -- the collector alone, at the words as they still are
 at_words : (o : Opening) (ws now : List ℕ) (u : Seen) → now ≡ ws → IsAlone o ws u → IsAlone o now u
@@ -35,7 +36,7 @@ scan_stopped-requires-clause-scanning g c =
     let r = c.requires.ready in
     let u = c.loop-at.invariant.each r.0 r.1 in
     let s = c.in-Some.ensures.some in
-    (r.0, u.0, at_words r.0 ws now u.0 c.loop-at.invariant.words u.1, begins u.0 c.loop-at.segments c.loop-at.self c.take_first.new.self c.in-Some.at.0 (tied_as r.0 ws u.0 c.loop-at.segments c.loop-at.self u.1 u.2) s.0 s.1)
+    (r.0, u.0, at_words r.0 ws now u.0 c.loop-at.invariant.words u.1, begins u.0 c.loop-at.segments c.loop-at.self c.take_first.new.self c.in-Some.at.0 (tied_as r.0 ws u.0 c.loop-at.segments c.loop-at.self u.1 u.2) s.0 (queue_taken c.loop-at.self c.take_first.new.self s.1))
 
 pub loop-at-preserved : goal.loop-at-preserved
 loop-at-preserved g c =
@@ -46,12 +47,16 @@ loop-at-preserved g c =
     record {
       words = c.scan_stopped.ensures.words ∙ inv.words;
       count = inv.count + 1;
-      marked = object_marked c.args.segments.now c.loop-at.segments c.scan_stopped.new.segments c.args.self.now c.loop-at.self c.take_first.new.self c.scan_stopped.new.self c.in-Some.at.0 inv.count inv.marked s.0 s.1 c.scan_stopped.ensures.marked;
+      marked = object_marked c.args.segments.now c.loop-at.segments c.scan_stopped.new.segments c.args.self.now c.loop-at.self c.take_first.new.self c.scan_stopped.new.self c.in-Some.at.0 inv.count inv.marked s.0 (queue_taken c.loop-at.self c.take_first.new.self s.1) c.scan_stopped.ensures.marked;
+      turns = c.scan_stopped.ensures.turns ∙ ap (λ (m : MarkerSeen). m.turns) s.1 ∙ inv.turns;
       each = λ o r.
           let u = inv.each o r in
-          let next = c.scan_stopped.ensures.tied o u.0 (at_words o ws now u.0 inv.words u.1) (begins u.0 c.loop-at.segments c.loop-at.self c.take_first.new.self c.in-Some.at.0 (tied_as o ws u.0 c.loop-at.segments c.loop-at.self u.1 u.2) s.0 s.1) in
+          let next = c.scan_stopped.ensures.tied o u.0 (at_words o ws now u.0 inv.words u.1) (begins u.0 c.loop-at.segments c.loop-at.self c.take_first.new.self c.in-Some.at.0 (tied_as o ws u.0 c.loop-at.segments c.loop-at.self u.1 u.2) s.0 (queue_taken c.loop-at.self c.take_first.new.self s.1)) in
           (next.0, subst (λ (l : List ℕ). IsAlone o l next.0) inv.words next.1, next.2);
     }
+
+pub returns-clause-turns : goal.returns-clause-turns
+returns-clause-turns g c = ap (λ (m : MarkerSeen). m.turns) c.in_default.ensures.none.1 ∙ c.loop-at.invariant.turns
 
 pub returns-clause-finished : goal.returns-clause-finished
 returns-clause-finished g c = λ o r.

@@ -11,6 +11,7 @@ invariant-loop-at g l = record {
   words : g.W.HeapWords.words l.words ≡ g.W.HeapWords.words l.fn.words;
   count : ℕ;
   marked : HasMarked l.fn.segments l.segments l.fn.self l.self count;
+  turns : l.self.turns ≡ l.fn.self.turns;
   each : (o : Opening) → IsReady o (g.W.HeapWords.words l.fn.words) l.fn.segments l.fn.self → (u : Seen) × IsAlone o (g.W.HeapWords.words l.fn.words) u × IsTied o (marks_seen u) l.segments l.self;
 }
 

@@ -1,4 +1,4 @@
-use Rattle.std.proofs.Common.{take}
+use Rattle.std.proofs.Common.{◌≡◌, take}
 use Rattle.nmgc_round.specs.View.{Opening}
 use Rattle.nmgc_round.specs.Marking.{Marks}
 use Rattle.nmgc_mark.specs.Marker.{HasMarked}
@@ -8,5 +8,6 @@ use Rattle.nmgc_mark.proofs.marker.Marker.mark_all.Given as goal
 abbrev pub invariant-loop-word : goal.invariant-loop-word
 invariant-loop-word l = record {
   marked : HasMarked l.initial.segments l.segments l.initial.self l.self 0;
+  turns : l.self.turns ≡ l.initial.self.turns;
   tied : (o : Opening) (m : Marks) → IsTied o m l.initial.segments l.initial.self → IsTied o (with_words o m (take l.word-index l.words)) l.segments l.self;
 }

@@ -1,4 +1,4 @@
-use Rattle.std.proofs.Common.{take}
+use Rattle.std.proofs.Common.{◌≡◌, take}
 use Rattle.nmgc_round.specs.View.{Opening}
 use Rattle.nmgc_round.specs.Marking.{Marks}
 use Rattle.nmgc_mark.specs.Marker.{HasMarked}
@@ -8,5 +8,6 @@ use Rattle.nmgc_mark.proofs.marker.Marker.mark_queues.Given as goal
 abbrev pub invariant-loop-queue : goal.invariant-loop-queue
 invariant-loop-queue l = record {
   marked : HasMarked l.initial.segments l.segments l.initial.self l.self 0;
+  turns : l.self.turns ≡ l.initial.self.turns;
   tied : (o : Opening) (m : Marks) → IsTied o m l.initial.segments l.initial.self → IsTied o (with_queues o m (take l.queue-index l.queues)) l.segments l.self;
 }

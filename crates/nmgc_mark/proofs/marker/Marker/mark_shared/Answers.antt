@@ -10,7 +10,7 @@ use Rattle.nmgc_mark.proofs.Fields.{marked_none, marked_more}
 use Rattle.nmgc_mark.proofs.marker.Marker.mark_shared.Goals as goal
 
 pub loop-slot-init : goal.loop-slot-init
-loop-slot-init g c = record { words = refl; marked = marked_none c.args.segments.now c.args.self.now c.requires.room; tied = λ o m h. h }
+loop-slot-init g c = record { words = refl; marked = marked_none c.args.segments.now c.args.self.now c.requires.room; turns = refl; tied = λ o m h. h }
 
 pub load-word-requires : goal.load-word-requires
 load-word-requires g c =
@@ -38,6 +38,7 @@ loop-slot-preserved g c =
     record {
       words = c.load-word.ensures.same ∙ c.loop-slot.invariant.words;
       marked = marked_more c.args.segments.now c.loop-slot.segments c.mark_word.new.segments c.args.self.now c.loop-slot.self c.mark_word.new.self c.loop-slot.invariant.marked c.mark_word.ensures.marked;
+      turns = c.mark_word.ensures.turns ∙ c.loop-slot.invariant.turns;
       tied = λ o m h. subst (λ (k : Marks). IsTied o k c.mark_word.new.segments c.mark_word.new.self)
           (ap (λ (w : ℕ). with_name o.core.snapshot (with_words o m (take c.loop-slot.slot (slots_of ws))) (name_meant o.places w)) is ∙ sym (words_more o m (slots_of ws) c.loop-slot.slot (omega arith)))
           (c.mark_word.ensures.tied o (with_words o m (take c.loop-slot.slot (slots_of ws))) (c.loop-slot.invariant.tied o m h));

@@ -1,4 +1,4 @@
-use Rattle.std.proofs.Common.{◌+◌, ◌∙◌, sym, subst, arith}
+use Rattle.std.proofs.Common.{◌+◌, ◌∙◌, refl, sym, subst, arith}
 use Rattle.nmgc_round.specs.Seat.{seen}
 use Rattle.nmgc_round.specs.View.{Seen}
 use Rattle.nmgc_mark.specs.Tie.{IsTied}
@@ -22,6 +22,7 @@ loop-field-init c =
       collector = still_collector c.args.round.now c.args.seat.now c.scan_load.new.seat c.scan_load.result c.requires.collector c.scan_load.ensures.view;
       later = one_scan c.args.round.now c.args.seat.now c.args.seat.now c.scan_load.new.seat c.scan_load.result (same_seat c.args.seat.now) c.scan_load.ensures.view;
       marked = marked_none c.args.segments.now c.args.self.now c.requires.room;
+      turns = refl;
       at_field = subst (λ (u : Seen). IsAtField v u c.args.segments.now c.args.self.now c.args.at.0 c.fields_scanned-fields.result 0) (sym c.scan_load.ensures.view.2)
           (first_field v c.args.segments.now c.args.self.now c.args.at.0 c.scan_load.result c.fields_scanned-fields.result c.in-Some.header c.requires.scanning n c.fields_scanned-fields.ensures);
     }
@@ -54,12 +55,13 @@ loop-field-preserved c =
       collector = still_collector c.args.round.now c.loop-field.seat c.scan_field-word.new.seat w inv.collector done.view;
       later = one_scan c.args.round.now c.args.seat.now c.loop-field.seat c.scan_field-word.new.seat w inv.later done.view;
       marked = marked_more c.args.segments.now c.loop-field.segments c.scan_field-word.new.segments c.args.self.now c.loop-field.self c.scan_field-word.new.self inv.marked done.marked;
+      turns = done.turns ∙ inv.turns;
       at_field = subst (λ (u : Seen). IsAtField v u c.scan_field-word.new.segments c.scan_field-word.new.self c.args.at.0 c.fields_scanned-fields.result (c.loop-field.field + 1)) (sym done.view.2)
           (next_field v (seen c.loop-field.seat) c.loop-field.segments c.scan_field-word.new.segments c.loop-field.self c.scan_field-word.new.self c.args.at.0 w c.fields_scanned-fields.result c.loop-field.field c.in-Some.header n inv.at_field c.loop-field-test.true c.fields_scanned-fields.ensures done.tied (sym c.is_result.ensures ∙ c.if-is_result.false));
     }
 
-pub returns-then-is_result : goal.returns-then-is_result
-returns-then-is_result c =
+pub returns-then-is_result-clause-worked : goal.returns-then-is_result-clause-worked
+returns-then-is_result-clause-worked c =
     let h = c.in-Some.ensures.some in
     let v : Seen = seen c.args.seat.now in
     let n = node_told c.words_differ.ensures.headers v c.args.segments.now c.args.self.now c.args.at.0 c.scan_load.result c.in-Some.header c.requires.scanning c.scan_load.ensures.told h.0 h.1 in

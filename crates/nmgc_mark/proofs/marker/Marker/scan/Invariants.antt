@@ -1,3 +1,4 @@
+use Rattle.std.proofs.Common.{◌≡◌}
 use Rattle.nmgc_round.specs.Seat.{seen}
 use Rattle.nmgc_mark.specs.Marker.{HasMarked}
 use Rattle.nmgc_mark.specs.Work.{IsCollector, IsLaterSeat, IsAtField}
@@ -8,5 +9,6 @@ invariant-loop-field l = record {
   collector : IsCollector l.round l.seat;
   later : IsLaterSeat l.fn.seat l.seat;
   marked : HasMarked l.initial.segments l.segments l.initial.self l.self 0;
+  turns : l.self.turns ≡ l.initial.self.turns;
   at_field : IsAtField (seen l.fn.seat) (seen l.seat) l.segments l.self l.at.0 l.fields l.field;
 }

@@ -26,6 +26,7 @@ loop-field-init g c =
     record {
       words = c.load.ensures.same;
       marked = marked_none s m c.requires.room;
+      turns = refl;
       each = λ o v a h.
           let n = header_alone c.scan.ensures o ws v s m c.args.at.0 c.load.result a h c.load.ensures.word in
           let node = node_told c.words_differ.ensures.headers v s m c.args.at.0 c.load.result c.in-Some.header h n.1 k.0 k.1 in
@@ -71,6 +72,7 @@ loop-field-preserved g c =
     record {
       words = c.load-word.ensures.same ∙ c.loop-field.invariant.words;
       marked = marked_more s c.loop-field.segments c.mark_word.new.segments m c.loop-field.self c.mark_word.new.self c.loop-field.invariant.marked c.mark_word.ensures.marked;
+      turns = c.mark_word.ensures.turns ∙ c.loop-field.invariant.turns;
       each = λ o v a h.
           let u = c.loop-field.invariant.each o v a h in
           let n = header_alone c.scan.ensures o ws v s m c.args.at.0 c.load.result a h c.load.ensures.word in

@@ -38,6 +38,9 @@ mark_shared-requires-clause-small g c = λ w at k e.
     let t = total_small b.0.layout (subst IsLayout b.1.right.layout c.layout.ensures.sound.layout) in
     omega (arith, l, t)
 
+pub returns-clause-turns : goal.returns-clause-turns
+returns-clause-turns g c = c.mark_shared.ensures.turns ∙ c.mark_queues.ensures.turns ∙ c.mark_all.ensures.turns ∙ ap (λ (m : MarkerSeen). m.turns) c.in_ok-marker.ensures
+
 pub returns-clause-tied : goal.returns-clause-tied
 returns-clause-tied g c = λ o b.
     let ws = g.W.HeapWords.words c.args.words.now in

@@ -41,5 +41,5 @@ returns-clause-begun g c =
     let e : c.layout-count.result.segments ≡ c.args.segments.now.layout.segments = ap (λ (l : Layout). l.segments) c.layout-count.ensures.layout in
     let k = c.layout-count.ensures.sound.count in omega (arith, e, k) in
     let none : c.reserve.new.self.items ≡ [] = ◌∙◌ {A = List Name} c.in_ok-reserve.ensures.items c.new-freed.ensures.items in
-    subst (λ (f : List Name). HasBegun c.args.segments.now (g.W.HeapWords.words c.args.words.now) c.args.epoch (made c.args.epoch c.loop-number.swept.items c.loop-number.had.items f c.loop-number.left.items)) (sym none)
-    (below_all c.args.segments.now (g.W.HeapWords.words c.args.words.now) c.loop-number.number c.args.epoch c.loop-number.swept.items c.loop-number.left.items c.loop-number.had.items past c.loop-number.invariant.below)
+    subst (λ (f : List Name). HasBegun c.args.segments.now (g.W.HeapWords.words c.args.words.now) c.args.epoch (made 0 c.args.epoch c.loop-number.swept.items c.loop-number.had.items f c.loop-number.left.items)) (sym none)
+    (below_all c.args.segments.now (g.W.HeapWords.words c.args.words.now) c.loop-number.number 0 c.args.epoch c.loop-number.swept.items c.loop-number.left.items c.loop-number.had.items past c.loop-number.invariant.below)

@@ -6,7 +6,7 @@ use Rattle.nmgc_run.specs.Seen.{MarkerSeen}
 use Rattle.nmgc_weak.specs.declared.weaks.OldWeak.{OldWeak}
 use Rattle.nmgc_weak.specs.declared.weaks.Death.{Death}
 use Rattle.nmgc_weak.specs.Resolve.{CanResolve, HasResolved}
-use Rattle.nmgc_weak.specs.Steps.{AreLost, HasRevived, CanSave, HasSaved}
+use Rattle.nmgc_weak.specs.Steps.{AreLost, HasRevived, CanRescue, HasRescued}
 use Rattle.nmgc_weak.specs.Weaks.{Weaks, AreWithin, places_of, alive_of, without_values, deaths_of}
 use Rattle.nmgc_weak.proofs.Clearing.{cleared_length}
 use Rattle.nmgc_weak.proofs.Counting.{marked_sum}
@@ -39,7 +39,7 @@ found o words w1 s t k l list l1 l2 dying h e1 e2 e revive find =
       lost = subst (λ (y : List OldWeak). AreLost rev.next (places_of y) dying) e2 (find rev.next (can_at rev.next words w1 list l2 t l e e2 rev.goes.can));
     }
 
-can_save : (o : Opening) (words now : List ℕ) (s : Segments) (k : MarkerSeen) (list dying d1 : List OldWeak) → now ≡ words → d1 ≡ dying → (f : AreFound o words s k list dying) → CanSave f.revived.next now s k (places_of list) d1
+can_save : (o : Opening) (words now : List ℕ) (s : Segments) (k : MarkerSeen) (list dying d1 : List OldWeak) → now ≡ words → d1 ≡ dying → (f : AreFound o words s k list dying) → CanRescue f.revived.next now s k (places_of list) d1
 can_save o words now s k list dying d1 e g f = record {
   can = can_at f.revived.next words now list list s k e refl f.revived.goes.can;
   saturated = f.revived.saturated;
@@ -109,7 +109,7 @@ returns-clause-resolved g c = λ o h.
     let w2 = c.find_dying.ensures.words ∙ c.revive.ensures.words in
     let w3 = c.save_finalisers.ensures.words ∙ w2 in
     let can = can_save o ws (g.W.HeapWords.words c.find_dying.new.words) c.revive.new.segments c.revive.new.marker c.args.self.now.list dying c.as_slice-3.result.now w2 c.as_slice-3.ensures.value f in
-    let saved = subst (λ (y : List OldWeak). HasSaved p c.save_finalisers.new.segments c.save_finalisers.new.marker y) c.as_slice-3.ensures.value (c.save_finalisers.ensures.saved p (places_of c.args.self.now.list) can) in
+    let saved = subst (λ (y : List OldWeak). HasRescued p c.save_finalisers.new.segments c.save_finalisers.new.marker y) c.as_slice-3.ensures.value (c.save_finalisers.ensures.saved p (places_of c.args.self.now.list) can) in
     let done = resolved o ws c.args.segments.now c.revive.new.segments c.save_finalisers.new.segments c.args.marker.now c.revive.new.marker c.save_finalisers.new.marker c.args.self.now.list dying h p f.revived.goes.later f.revived.goes.can f.lost saved in
     let us = c.clear_values.ensures ∙ ap (λ (x : List ℕ). without_values x c.as_slice-4.result.now) w3 ∙ ap (λ (y : List OldWeak). without_values ws y) c.as_slice-4.ensures.value in
     let lists = c.leave.ensures.list ∙ ap (λ (x : List ℕ). alive_of x c.self.inside.list.items) us ∙ ap (λ (y : List OldWeak). alive_of (without_values ws dying) y) list in
