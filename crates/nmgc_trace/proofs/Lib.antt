@@ -1,0 +1,4 @@
+mod Drains
+mod Kepts
+mod Takes
+mod Traces
