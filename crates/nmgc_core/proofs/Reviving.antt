@@ -11,7 +11,7 @@ use Rattle.nmgc_graph.specs.declared.node.Parts.{Parts}
 use Rattle.nmgc_graph.specs.World.{World, node_of}
 use Rattle.nmgc_graph.specs.Marks.{IsMarked, mark_of}
 use Rattle.nmgc_graph.specs.Reach.{IsAlive, IsKeptBy, IsPlain, Lists}
-use Rattle.nmgc_graph.specs.Search.{IsSetOf, parts_of, is_shown}
+use Rattle.nmgc_graph.specs.Search.{IsSetOf, parts_of, is_key_marked}
 use Rattle.nmgc_graph.specs.laws.Orders.{contains_head, contains_tail, contains_cases}
 use Rattle.nmgc_core.specs.declared.closing.Finding.{Finding}
 use Rattle.nmgc_core.specs.State.{State}
@@ -77,17 +77,17 @@ hits_weak weak target parts c = elim (contains_cases (value.Ref weak) (parts.val
   ]
 ]
 
-kept_hits : (marks : List (List Bool)) (weak target : Name) (parts : Parts) → is_shown marks parts.key ≡ true → IsKeptBy weak parts target → Contains (values_kept marks weak (Some parts)) (value.Ref target)
+kept_hits : (marks : List (List Bool)) (weak target : Name) (parts : Parts) → is_key_marked marks parts.key ≡ true → IsKeptBy weak parts target → Contains (values_kept marks weak (Some parts)) (value.Ref target)
 kept_hits marks weak target parts shown kept = rw shown (weak_hits weak target parts kept)
 
-hits_kept : (marks : List (List Bool)) (weak target : Name) (parts : Parts) → Contains (values_kept marks weak (Some parts)) (value.Ref target) → (is_shown marks parts.key ≡ true) × IsKeptBy weak parts target
-hits_kept marks weak target parts c = elim (cases_Bool (is_shown marks parts.key)) [
+hits_kept : (marks : List (List Bool)) (weak target : Name) (parts : Parts) → Contains (values_kept marks weak (Some parts)) (value.Ref target) → (is_key_marked marks parts.key ≡ true) × IsKeptBy weak parts target
+hits_kept marks weak target parts c = elim (cases_Bool (is_key_marked marks parts.key)) [
   | inl shown ↦ (shown, hits_weak weak target parts (rw shown at c))
   | inr hidden ↦ absurd (nothing_in (value.Ref target) (rw hidden at c))
 ]
 
--- a key that is shown in the end was shown at the start, or waits
-key_cases : (snapshot : World) (f t : Finding) (values : List Value) → Adds snapshot f t values → (key : Value) → is_shown t.marks key ≡ true → (is_shown f.marks key ≡ true) ⊎ ((name : Name) × (key ≡ value.Ref name) × Contains t.work name)
+-- a key that is marked in the end was marked at the start, or waits
+key_cases : (snapshot : World) (f t : Finding) (values : List Value) → Adds snapshot f t values → (key : Value) → is_key_marked t.marks key ≡ true → (is_key_marked f.marks key ≡ true) ⊎ ((name : Name) × (key ≡ value.Ref name) × Contains t.work name)
 key_cases snapshot f t values a value.Nil shown = inl refl
 key_cases snapshot f t values a (value.Number n) shown = inl refl
 key_cases snapshot f t values a (value.Ref name) shown = elim (a.fresh name shown) [
@@ -95,8 +95,8 @@ key_cases snapshot f t values a (value.Ref name) shown = elim (a.fresh name show
   | inr new ↦ inr (name, refl, new.2)
 ]
 
--- a key that is shown revives what its weak pointer keeps
-key_revives : (s : State) (f : Finding) → IsReviving s f → (weak target : Name) (parts : Parts) → IsWaiting s weak parts → (key : Value) → parts.key ≡ key → is_shown f.marks key ≡ true → IsKeptBy weak parts target → IsUnmarked s target → IsRevived s target
+-- a key that is marked revives what its weak pointer keeps
+key_revives : (s : State) (f : Finding) → IsReviving s f → (weak target : Name) (parts : Parts) → IsWaiting s weak parts → (key : Value) → parts.key ≡ key → is_key_marked f.marks key ≡ true → IsKeptBy weak parts target → IsUnmarked s target → IsRevived s target
 key_revives s f h weak target parts w value.Nil is shown kept u = IsRevived.plain_key weak target parts w (rw is tt) kept u
 key_revives s f h weak target parts w (value.Number n) is shown kept u = IsRevived.plain_key weak target parts w (rw is tt) kept u
 key_revives s f h weak target parts w (value.Ref key) is shown kept u = elim (h.sound key shown) [
@@ -122,7 +122,7 @@ module _ (s : State) (done : List Name) (old f t : Finding) (weak : Name) (p : I
     ]
   ]
 
-  now_hit : (other target : Name) (parts : Parts) → weak ≡ other → IsAlive s.snapshot other parts → is_shown f.marks parts.key ≡ true → IsKeptBy other parts target → IsSome (node_of s.snapshot target) → IsMarked t.marks target
+  now_hit : (other target : Name) (parts : Parts) → weak ≡ other → IsAlive s.snapshot other parts → is_key_marked f.marks parts.key ≡ true → IsKeptBy other parts target → IsSome (node_of s.snapshot target) → IsMarked t.marks target
   now_hit other target parts e alive shown kept there =
       let c : Contains (values_kept f.marks other (parts_of s.snapshot other)) (value.Ref target) = subst (λ (o : Option Parts). Contains (values_kept f.marks other o) (value.Ref target)) (sym (parts_from_alive s.snapshot other parts alive)) (kept_hits f.marks other target parts shown kept) in
       a.hit target there (subst (λ (n : Name). Contains (values_kept f.marks n (parts_of s.snapshot n)) (value.Ref target)) (sym e) c)
@@ -171,12 +171,12 @@ module _ (s : State) (weaks : List Name) (l : Lists (IsWaitingWeak s) weaks) (f 
   none_waits : (n : Name) → Contains f.work n → ⊥
   none_waits n c = nothing_in n (rw empty at c)
 
-  plain_shown : (v : Value) → IsPlain v → is_shown f.marks v ≡ true
+  plain_shown : (v : Value) → IsPlain v → is_key_marked f.marks v ≡ true
   plain_shown value.Nil p = refl
   plain_shown (value.Number n) p = refl
   plain_shown (value.Ref name) p = absurd p
 
-  by_key : (weak target : Name) (parts : Parts) → IsWaiting s weak parts → is_shown f.marks parts.key ≡ true → IsKeptBy weak parts target → IsUnmarked s target → IsMarked f.marks target
+  by_key : (weak target : Name) (parts : Parts) → IsWaiting s weak parts → is_key_marked f.marks parts.key ≡ true → IsKeptBy weak parts target → IsUnmarked s target → IsMarked f.marks target
   by_key weak target parts w shown kept u = elim (r weak target parts (l.complete weak (parts, w)) w.alive shown kept u.there) [
     | inl x ↦ absurd (none_waits x.0 x.2)
     | inr m ↦ m

@@ -10,7 +10,7 @@ use Rattle.nmgc_graph.specs.declared.node.Node.{Node}
 use Rattle.nmgc_graph.specs.World.{World}
 use Rattle.nmgc_graph.specs.Marks.{mark_of}
 use Rattle.nmgc_graph.specs.Reach.{IsAlive, IsAliveWeak, Lists}
-use Rattle.nmgc_graph.specs.Search.{IsSetOf, parts_in, parts_of, is_shown}
+use Rattle.nmgc_graph.specs.Search.{IsSetOf, parts_in, parts_of, is_key_marked}
 use Rattle.nmgc_graph.specs.laws.Orders.{contains_filter, filter_contains, in_order_filter}
 use Rattle.nmgc_core.specs.declared.closing.Finding.{Finding}
 use Rattle.nmgc_core.specs.State.{State}
@@ -36,13 +36,13 @@ module _ (s : State) (ended : List (List Bool)) (set : IsSetOf s.snapshot s.fina
     complete = λ weak w. contains_filter (λ weak. not (mark_of ended weak)) alive weak (l.complete weak (w.0, w.1.alive)) (waits_test weak w);
   }
 
--- a key that isn't shown is a reference to a name that isn't marked
-hidden_key : (marks : List (List Bool)) (v : Value) → not (is_shown marks v) ≡ true → (key : Name) × (v ≡ value.Ref key) × (mark_of marks key ≡ false)
+-- a key that isn't marked is a reference to a name that isn't marked
+hidden_key : (marks : List (List Bool)) (v : Value) → not (is_key_marked marks v) ≡ true → (key : Name) × (v ≡ value.Ref key) × (mark_of marks key ≡ false)
 hidden_key marks value.Nil e = absurd (false≢true e)
 hidden_key marks (value.Number n) e = absurd (false≢true e)
 hidden_key marks (value.Ref key) e = (key, refl, not-true (mark_of marks key) e)
 
--- the waiting weak pointers whose keys aren't shown are those that die
+-- the waiting weak pointers whose keys aren't marked are those that die
 module _ (s : State) (f : Finding) (h : IsFirstFound s f) where
   hidden_dies : (weak : Name) → IsWaitingWeak s weak → is_hidden f.marks (parts_of s.snapshot weak) ≡ true → IsDying s weak
   hidden_dies weak w t =

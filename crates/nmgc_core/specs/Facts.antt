@@ -16,7 +16,7 @@ use Rattle.nmgc_graph.specs.World.{World, node_of, serial_of, IsWorld}
 use Rattle.nmgc_graph.specs.Reach.{IsLive, IsRoot, IsAlive, IsKeptBy, RefersTo}
 use Rattle.nmgc_core.specs.declared.event.Entry.{Entry}
 use Rattle.nmgc_core.specs.State.{State, names_of}
-use Rattle.nmgc_reach.specs.Holds.{Holds, OfParts, Stands, StillThere, has_result}
+use Rattle.nmgc_reach.specs.Holds.{CoversReach, OfParts, HasStrongField, StillThere, has_result}
 
 -- live in the snapshot
 abbrev pub IsLiveIn : State → Name → Type 0
@@ -44,7 +44,7 @@ pub data IsAhead (s : State) (name : Name) (i : ℕ) : Type 0 where
 
 -- the strong field is looked after
 abbrev pub Kept : State → Name → ℕ → Name → Type 0
-Kept s name i target = IsSafe s target ⊎ (Stands s.world name i (value.Ref target) × IsAhead s name i)
+Kept s name i target = IsSafe s target ⊎ (HasStrongField s.world name i (value.Ref target) × IsAhead s name i)
 
 -- an entry whose scan went past a thunk's result found none, so there was none at the snapshot
 abbrev pub IsPassed : State → Entry → Type 0
@@ -57,7 +57,7 @@ pub record Base (s : State) : Type 0 where
   pub serials : (k : ℕ) → serial_of s.snapshot k ≤ serial_of s.world k
   pub owed_lists : length s.owed ≡ length s.world.mutators
   pub pushed_lists : length s.pushed ≡ length s.world.mutators
-  pub holds : Holds (MayHold s) s.world
+  pub holds : CoversReach (MayHold s) s.world
   pub fields : (name target : Name) → RefersTo s.world name target → MayHold s target ⊎ RefersTo s.snapshot name target
   pub weaks : (weak : Name) (parts : Parts) → IsAlive s.world weak parts → AsThen s.snapshot (MayHold s) weak parts
   pub alive : (weak : Name) (parts : Parts) → IsAlive s.snapshot weak parts → (Contains s.finalised weak → ⊥) → IsAlive s.world weak parts
@@ -73,7 +73,7 @@ pub record Base (s : State) : Type 0 where
 pub record Facts (s : State) : Type 0 where
   pub base : Base s
   pub roots : (name : Name) → IsRoot s.snapshot name → Contains s.marked name
-  pub kept : (name : Name) (i : ℕ) (target : Name) → Stands s.snapshot name i (value.Ref target) → Kept s name i target
+  pub kept : (name : Name) (i : ℕ) (target : Name) → HasStrongField s.snapshot name i (value.Ref target) → Kept s name i target
   pub opened : (name : Name) → Contains s.opened name → IsSome (node_of s.snapshot name) → IsSafe s name
   pub ended : (weak : Name) → Contains s.finalised weak → IsSome (node_of s.snapshot weak) → IsSafe s weak
   pub finalised : (weak target : Name) (parts : Parts) → Contains s.finalised weak → IsAlive s.snapshot weak parts → IsKeptBy weak parts target → IsSafe s target

@@ -7,7 +7,7 @@ use Rattle.nmgc_graph.specs.declared.node.Parts.{Parts}
 use Rattle.nmgc_graph.specs.World.{World, node_of}
 use Rattle.nmgc_graph.specs.Marks.{IsMarked, HasPlaces, unmarked_count}
 use Rattle.nmgc_graph.specs.Reach.{RefersTo, IsAlive, IsKeptBy}
-use Rattle.nmgc_graph.specs.Search.{is_shown}
+use Rattle.nmgc_graph.specs.Search.{is_key_marked}
 use Rattle.nmgc_core.specs.declared.closing.Finding.{Finding}
 use Rattle.nmgc_core.specs.State.{State}
 use Rattle.nmgc_core.specs.Closing.{IsUnmarked, IsWaiting, IsMarkedFirst, IsMarkedLast}
@@ -46,19 +46,19 @@ pub record IsFollowed (s : State) (old new : Finding) : Type 0 where
 abbrev pub IsWaitingWeak : State → Name → Type 0
 IsWaitingWeak s weak = (parts : Parts) × IsWaiting s weak parts
 
--- the values that a weak pointer marks: itself, its value and its finaliser, where its key is shown
+-- the values that a weak pointer marks: itself, its value and its finaliser, where its key is marked
 abbrev pub values_kept : List (List Bool) → Name → Option Parts → List Value
 values_kept marks weak None = []
-values_kept marks weak (Some parts) = if is_shown marks parts.key then value.Ref weak ∷ parts.value ∷ parts.finaliser ∷ [] else []
+values_kept marks weak (Some parts) = if is_key_marked marks parts.key then value.Ref weak ∷ parts.value ∷ parts.finaliser ∷ [] else []
 
 -- the search has marked only what is marked first
 pub record IsReviving (s : State) (f : Finding) : Type 0 where
   pub search : IsSearch s f
   pub sound : (n : Name) → IsMarked f.marks n → IsMarkedFirst s n
 
--- each of the weak pointers whose key is shown has marked what it keeps, unless the key still waits
+-- each of the weak pointers whose key is marked has marked what it keeps, unless the key still waits
 abbrev pub AreRevived : State → List Name → Finding → Type 0
-AreRevived s weaks f = (weak target : Name) (parts : Parts) → Contains weaks weak → IsAlive s.snapshot weak parts → is_shown f.marks parts.key ≡ true → IsKeptBy weak parts target → IsSome (node_of s.snapshot target) → ((key : Name) × (parts.key ≡ value.Ref key) × Contains f.work key) ⊎ IsMarked f.marks target
+AreRevived s weaks f = (weak target : Name) (parts : Parts) → Contains weaks weak → IsAlive s.snapshot weak parts → is_key_marked f.marks parts.key ≡ true → IsKeptBy weak parts target → IsSome (node_of s.snapshot target) → ((key : Name) × (parts.key ≡ value.Ref key) × Contains f.work key) ⊎ IsMarked f.marks target
 
 -- a pass over the weak pointers
 pub record IsPass (s : State) (weaks : List Name) (old new : Finding) : Type 0 where
@@ -73,10 +73,10 @@ pub record IsFirstFound (s : State) (f : Finding) : Type 0 where
   pub sound : (n : Name) → IsMarked f.marks n → IsMarkedFirst s n
   pub complete : (n : Name) → IsMarkedFirst s n → IsMarked f.marks n
 
--- the weak pointer's key isn't shown, as a test
+-- the weak pointer's key isn't marked, as a test
 abbrev pub is_hidden : List (List Bool) → Option Parts → Bool
 is_hidden marks None = false
-is_hidden marks (Some parts) = not (is_shown marks parts.key)
+is_hidden marks (Some parts) = not (is_key_marked marks parts.key)
 
 -- exactly what is marked last is marked
 pub record IsLastFound (s : State) (f : Finding) : Type 0 where

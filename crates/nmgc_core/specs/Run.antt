@@ -79,6 +79,7 @@ pub record IsExactClosing (s next : State) (closing : IsClosing s next) : Type 0
   pub dead : Lists (IsDead s.snapshot s.opened s.finalised) closing.dead
   pub kept : (name : Name) → Contains next.marked name ↔ IsKept s.snapshot s.opened s.finalised name
 
+-- so it is with every closing from a state that has the facts
 abbrev pub ClosingIsExact : Type 0
 ClosingIsExact = (s next : State) → Facts s → IsPossible s event.Close → (closing : IsClosing s next) → IsExactClosing s next closing
 

@@ -11,7 +11,7 @@
 ghost use Rattle.std.specs.Prelude.{◌≡◌, IfOk, OnOk, ◌∷◌, [], All};
 ghost use Rattle.nmgc_graph.specs.Marks.{HasPlaces};
 ghost use Rattle.nmgc_graph.specs.Reach.{Lists, strong_fields};
-ghost use Rattle.nmgc_graph.specs.Search.{parts_of, is_shown, finaliser_in, finalisers_of};
+ghost use Rattle.nmgc_graph.specs.Search.{parts_of, is_key_marked, finaliser_in, finalisers_of};
 ghost use Rattle.nmgc_core.specs.Closing.{IsDying};
 ghost use Rattle.nmgc_core.specs.Sound.{IsFound};
 ghost use Rattle.nmgc_core.specs.Finding.{Adds, IsSearch, IsFollowed, IsWaitingWeak, IsReviving, IsPass, IsFirstFound, IsLastFound, values_kept, is_hidden};
@@ -143,9 +143,9 @@ impl Finding {
         Ok(())
     }
 
-    // Whether a value is nil, a number, or a reference to a marked name.
-    fn shows(&self, value: Value) -> bool
-        ensures { result ≡ is_shown self.now.marks value }
+    // Whether a key is nil, a number, or a reference to a marked name.
+    fn is_key_marked(&self, value: Value) -> bool
+        ensures { result ≡ is_key_marked self.now.marks value }
     {
         match value {
             Value::Ref(name) => self.marks.contains(name),
@@ -153,13 +153,13 @@ impl Finding {
         }
     }
 
-    // A weak pointer marks itself, its value and its finaliser, where its key is shown.
+    // A weak pointer marks itself, its value and its finaliser, where its key is marked.
     fn mark_weak(&mut self, snapshot: &World, weak: Name) -> Result<(), NoMemory>
         requires { HasPlaces snapshot.now self.old.marks }
         ensures { OnOk result (Adds snapshot.now self.old self.new (values_kept self.old.marks weak (parts_of snapshot.now weak))) }
     {
         match snapshot.parts(weak) {
-            Some(parts) if self.shows(parts.key) => self.mark_values(
+            Some(parts) if self.is_key_marked(parts.key) => self.mark_values(
                 snapshot,
                 &[Value::Ref(weak), parts.value, parts.finaliser],
             ),
@@ -193,7 +193,7 @@ impl Finding {
         Ok(())
     }
 
-    // The weak pointers whose key isn't shown, in order.
+    // The weak pointers whose key isn't marked, in order.
     fn lost(&self, core: &Core, weaks: &[Name]) -> Result<List<Name>, NoMemory>
         requires found { IsFirstFound core.now self.now }
         requires waiting { Lists (IsWaitingWeak core.now) weaks.now }
@@ -209,12 +209,12 @@ impl Finding {
         Ok(names)
     }
 
-    // Whether a weak pointer is alive and its key isn't shown.
+    // Whether a weak pointer is alive and its key isn't marked.
     fn is_hidden(&self, snapshot: &World, weak: Name) -> bool
         ensures { result ≡ is_hidden self.now.marks (parts_of snapshot.now weak) }
     {
         match snapshot.parts(weak) {
-            Some(parts) => !self.shows(parts.key),
+            Some(parts) => !self.is_key_marked(parts.key),
             None => false,
         }
     }

@@ -42,7 +42,7 @@ use crate::lists::{
 };
 use crate::opened::{finalised_by, opened_by};
 use crate::owed::owed_by;
-use crate::roots::{SHARED, root_values};
+use crate::roots::root_values;
 use crate::scan::{moved_on, read};
 use crate::{Entry, Event};
 use nmgc_graph::{Command, List, Marks, Name, NoMemory, Queue, Reply, Value, World};
@@ -454,7 +454,7 @@ impl Core {
 fn pushed_of<'a>(snapshot: &World, name: &'a Name) -> &'a [Name]
     ensures { result.now ≡ (if is_pushed_in snapshot.now name.now then name.now ∷ [] else []) }
 {
-    if snapshot.node(*name).is_some() && *name != SHARED {
+    if snapshot.node(*name).is_some() && *name != Name::SHARED {
         slice::from_ref(name)
     } else {
         &[]
@@ -466,7 +466,7 @@ fn only_shared(alloc: Global) -> Result<List<Name>, NoMemory>
     ensures { IfOk result (λ names. names ≡ shared_name ∷ []) }
 {
     let mut names = List::new(alloc);
-    names.push(SHARED)?;
+    names.push(Name::SHARED)?;
     Ok(names)
 }
 
@@ -476,6 +476,6 @@ fn set_of_shared(world: &World) -> Result<Marks, NoMemory>
     ensures marks { IfOk result (λ marks. (name : NameAt) → mark_of marks name ≡ is_listed name (shared_name ∷ [])) }
 {
     let mut marks = world.no_names()?;
-    marks.insert(SHARED);
+    marks.insert(Name::SHARED);
     Ok(marks)
 }

@@ -1,8 +1,6 @@
 //! Small cycles with weak pointers, as a table: what one mutator did before marking began, what it does while
 //! marking runs, and what is marked, queued and answered in the end.
 
-use crate::answers::answer;
-use crate::roots::SHARED;
 use crate::tests::{begin, drain, feed, give, marks, marks_kept, name};
 use crate::{Core, Event};
 use nmgc_graph::{Command, List, Name, Operand, Reply, Value, World};
@@ -126,7 +124,7 @@ fn marks_serials(core: &Core, serials: &[u32]) -> Result<bool, Fail> {
     for serial in serials {
         names.push(name(*serial))?;
     }
-    names.push(SHARED)?;
+    names.push(Name::SHARED)?;
     marks(core, names.items())
 }
 
@@ -134,7 +132,7 @@ fn marks_serials(core: &Core, serials: &[u32]) -> Result<bool, Fail> {
 fn takes(alloc: Global, world: &mut World, commands: &[(Do, Reply)]) -> Result<bool, Fail> {
     for (what, reply) in commands {
         let command = command(alloc, *what)?;
-        if !world.can_apply(0, &command) || answer(world, 0, &command) != *reply {
+        if !world.can_apply(0, &command) || world.reply(0, &command) != *reply {
             return Ok(false);
         }
         give(world, 0, &command)?;

@@ -12,7 +12,7 @@ use Rattle.nmgc_graph.specs.World.{World, node_of, serial_of, IsKnown, AreKnown,
 use Rattle.nmgc_graph.specs.Marks.{mark_of, IsMarked, IsPlaced, HasPlaces, with_mark}
 use Rattle.nmgc_graph.specs.Reach.{IsReached, IsAliveWeak, IsDead, IsKept, Lists}
 use Rattle.nmgc_graph.specs.Order.{ListsBefore}
-use Rattle.nmgc_graph.specs.Search.{with_values, parts_of, is_shown, is_lost, IsLost, IsSetOf, finaliser_in, finalisers_of, IsSearch, IsFollowed, IsLiveFound, IsKeptFound}
+use Rattle.nmgc_graph.specs.Search.{with_values, parts_of, is_key_marked, is_lost, IsLost, IsSetOf, finaliser_in, finalisers_of, IsSearch, IsFollowed, IsLiveFound, IsKeptFound}
 use Rattle.nmgc_graph.specs.laws.Orders.{contains_head, contains_tail, contains_cases, contains_filter, filter_contains, in_order_filter, lists_maker, lists_all}
 use Rattle.nmgc_graph.specs.laws.Rows.{added, kept_others, name_cases, places_kept, makers_kept, name_placed}
 use Rattle.nmgc_graph.specs.laws.Weaks.{weak_within, weak_maker}
@@ -108,19 +108,19 @@ module _ (w : World) (marks set : List (List Bool)) (finalised : List Name) (s :
   lost_parts : (weak : Name) (o : Option Parts) → parts_of w weak ≡ o → is_lost marks set weak o ≡ true → IsLost w marks finalised weak
   lost_parts weak None e t = absurd (false≢true t)
   lost_parts weak (Some parts) e t =
-      let both = and_parts (not (is_shown marks parts.key)) (not (mark_of set weak)) t in
+      let both = and_parts (not (is_key_marked marks parts.key)) (not (mark_of set weak)) t in
       let alive = alive_from_parts w weak parts e in
       record {
         parts = parts;
         alive = alive;
         not_finalised = λ c. false≢true (sym (not-true (mark_of set weak) both.1) ∙ s.complete weak c (rw alive refl));
-        hidden = not-true (is_shown marks parts.key) both.0;
+        hidden = not-true (is_key_marked marks parts.key) both.0;
       }
 
   parts_lost : (weak : Name) (l : IsLost w marks finalised weak) → is_lost marks set weak (Some l.parts) ≡ true
   parts_lost weak l =
       let absent : mark_of set weak ≡ false = false_from_ne_true (mark_of set weak) (λ m. l.not_finalised (s.sound weak m)) in
-      and_from (not (is_shown marks l.parts.key)) (not (mark_of set weak)) (not_from_false (is_shown marks l.parts.key) l.hidden) (not_from_false (mark_of set weak) absent)
+      and_from (not (is_key_marked marks l.parts.key)) (not (mark_of set weak)) (not_from_false (is_key_marked marks l.parts.key) l.hidden) (not_from_false (mark_of set weak) absent)
 
   pub lost_listed : (weaks : List Name) → Lists (IsAliveWeak w) weaks → Lists (IsLost w marks finalised) (filter (λ weak. is_lost marks set weak (parts_of w weak)) weaks)
   lost_listed weaks l = record {
@@ -131,7 +131,7 @@ module _ (w : World) (marks set : List (List Bool)) (finalised : List Name) (s :
 
 -- the lost weak pointers are the dead ones, where the marked names are the live ones
 module _ (w : World) (extra finalised : List Name) (s : Search) (f : IsLiveFound w extra s) where
-  hidden_key : (marks : List (List Bool)) (v : Value) → is_shown marks v ≡ false → (key : Name) × (v ≡ Ref key) × (mark_of marks key ≡ false)
+  hidden_key : (marks : List (List Bool)) (v : Value) → is_key_marked marks v ≡ false → (key : Name) × (v ≡ Ref key) × (mark_of marks key ≡ false)
   hidden_key marks Nil e = absurd (false≢true (sym e))
   hidden_key marks (Number n) e = absurd (false≢true (sym e))
   hidden_key marks (Ref key) e = (key, refl, e)

@@ -1,24 +1,21 @@
 -- What a part that was lent and changed leaves, where the change may want memory.
-use Rattle.std.proofs.Common.{◌≡◌, ◌≢◌, ◌<◌, ◌-◌, ◌+◌, ℕ, List, [], ◌∷◌, ◌++◌, map, length, get_or, set, take, refl, sym, ap, subst, ◌∙◌, arith, length-append, length-set, Option, Some, None, Result, Ok, Err, true}
-use Rattle.std.specs.Prelude.{IsSome, IfSome, IfNone, IfOk, OnOk, OnErr, slice_get, All}
+use Rattle.std.proofs.Common.{◌≡◌, ◌≢◌, ◌<◌, ◌-◌, ℕ, List, map, length, get_or, set, refl, sym, ap, subst, ◌∙◌, length-set, Some, Result, Ok, Err}
+use Rattle.std.specs.Prelude.{IsSome, IfOk, OnOk, OnErr, slice_get, All}
 use Rattle.std.specs.List.{refill}
-use Rattle.std.proofs.lemmas.List.{take-append-le, take_all}
 use Rattle.std.proofs.lemmas.Bool.{ne_eqb}
 use Rattle.std.proofs.lemmas.Option.{get_or_from_slice_get}
 use Rattle.nmgc_lists.specs.declared.memory.NoMemory.{NoMemory}
 use Rattle.nmgc_graph.specs.declared.command.Operand.{Operand}
 use Rattle.nmgc_graph.specs.declared.command.Reply.{Reply}
-use Rattle.nmgc_graph.specs.declared.command.Reply.TheVariants.{Yes, StackEmpty}
 use Rattle.nmgc_graph.specs.declared.value.TheConstants.{SHARED_MAKER}
 use Rattle.nmgc_graph.specs.declared.value.Name.{Name}
 use Rattle.nmgc_graph.specs.declared.value.Value.{Value}
 use Rattle.nmgc_graph.specs.declared.node.Node.{Node}
-use Rattle.nmgc_graph.specs.declared.node.Node.TheVariants.{Arr, Stack}
 use Rattle.nmgc_graph.specs.declared.change.Change.{Change}
 use Rattle.nmgc_graph.specs.declared.mutator_state.MutatorState.{MutatorState}
 use Rattle.nmgc_graph.specs.World.{World, state_of, node_of, AreKnown, IsKnownReply, IsKnownChange, IsWorld}
 use Rattle.nmgc_graph.specs.Command.{IsOperand}
-use Rattle.nmgc_graph.specs.Change.{is_same, field_exchanged, without_last, last_of, given_or, changed}
+use Rattle.nmgc_graph.specs.Change.{changed}
 use Rattle.nmgc_graph.specs.Step.{with_state, with_nth, with_node, value_of, change_node}
 use Rattle.nmgc_graph.specs.laws.Worlds.{refill_whole, operands_known, replaced, lent, is_shared, shared_changed, shared_reply, within, maker_exists, nth_changed, nth_reply, is_some_of, in_state, same_state}
 
@@ -26,31 +23,6 @@ use Rattle.nmgc_graph.specs.laws.Worlds.{refill_whole, operands_known, replaced,
 pub values_known : (w : World) (m : ℕ) → IsWorld w → m < length w.mutators → (os : List Operand) → All IsOperand os → (registers : List Value) → registers ≡ (state_of w m).registers → (r : Result (List Value) NoMemory) → IfOk r (λ values. values ≡ map (value_of registers) os) → IfOk r (AreKnown w)
 values_known w m h lt os fits registers e (Ok values) is = let P : List Value → Type 0 = AreKnown w in subst P (sym (is ∙ ap (λ (l : List Value). map (value_of l) os) e)) (operands_known w m h lt os fits)
 values_known w m h lt os fits registers e (Err f) is = tt
-
-take_front : (xs : List Value) (x : Value) → take (length (xs ++ x ∷ []) - 1) (xs ++ x ∷ []) ≡ xs
-take_front xs x =
-    let count : length (xs ++ x ∷ []) ≡ length xs + 1 = length-append xs (x ∷ []) in
-    let less : length (xs ++ x ∷ []) - 1 ≡ length xs = omega arith in
-    rw less (take-append-le (length xs) xs (x ∷ []) (omega arith) ∙ take_all (length xs) xs (omega arith))
-
-get_last : (xs : List Value) (x : Value) → slice_get (xs ++ x ∷ []) (length xs) ≡ Some x
-get_last [] x = refl
-get_last (y ∷ xs) x = get_last xs x
-
-last_there : (xs : List Value) (x : Value) → last_of (xs ++ x ∷ []) ≡ Some x
-last_there xs x =
-    let count : length (xs ++ x ∷ []) ≡ length xs + 1 = length-append xs (x ∷ []) in
-    let less : length (xs ++ x ∷ []) - 1 ≡ length xs = omega arith in
-    rw less (get_last xs x)
-
--- `pop` of a list is `pop` of a stack
-pub popped : (size : ℕ) (values rest : List Value) (r : Option Value) → IfSome r (λ item. values ≡ rest ++ item ∷ []) → IfNone r ((values ≡ []) × (rest ≡ [])) → ◌≡◌ {A = Node × Reply} (Stack size (without_last values), given_or StackEmpty (last_of values)) (Stack size rest, given_or StackEmpty r)
-popped size values rest (Some x) last none = rw (last, take_front rest x, last_there rest x) refl
-popped size values rest None last none = rw (none.0, none.1) refl
-
--- a write to an array that was lent, where the field held the expected value
-pub exchanged_array : (values ys : List Value) (index : ℕ) (old expected v : Value) → ys ≡ values → slice_get values index ≡ Some old → is_same old expected ≡ true → ◌≡◌ {A = Node × Reply} (field_exchanged (Arr values) index expected v) (Arr (refill (length values) values (set ys index v)), Yes)
-exchanged_array values ys index old expected v e there same = rw (there, same, refill_whole values (set ys index v) (length-set ys index v ∙ ap length e), e) refl
 
 -- an object that was lent and changed
 module _ (state : MutatorState) (name : Name) (c : Change) (old made d : Node) (ys : List Node) (e : ys ≡ state.nodes) (there : slice_get state.nodes name.serial ≡ Some old) (r : Result Reply NoMemory) (ok : IfOk r (λ reply. ◌≡◌ {A = Node × Reply} (changed c name.maker (get_or ys name.serial d)) (made, reply))) where

@@ -1,3 +1,4 @@
+pub mod Changes
 pub mod Closings
 pub mod Follows
 pub mod Kepts

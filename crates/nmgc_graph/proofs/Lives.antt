@@ -11,7 +11,7 @@ use Rattle.nmgc_graph.specs.World.{World, node_of, state_of, no_mutator, IsKnown
 use Rattle.nmgc_graph.specs.Step.{shared_name}
 use Rattle.nmgc_graph.specs.Marks.{mark_of, IsMarked, HasPlace, unmarked_count, HasPlaces}
 use Rattle.nmgc_graph.specs.Reach.{IsReached, IsRoot, IsLive, IsAliveWeak, IsPlain}
-use Rattle.nmgc_graph.specs.Search.{with_name, with_values, with_weaks, values_held, starts_of, is_shown, IsFollowed, IsLiveSearch, AreRevived, IsLiveFound}
+use Rattle.nmgc_graph.specs.Search.{with_name, with_values, with_weaks, values_held, starts_of, is_key_marked, IsFollowed, IsLiveSearch, AreRevived, IsLiveFound}
 use Rattle.nmgc_graph.specs.laws.Orders.{contains_head, contains_tail, contains_cases}
 use Rattle.nmgc_graph.specs.laws.Rows.{name_placed}
 use Rattle.nmgc_graph.proofs.Searches.{Marks, same_ref, values_mark, name_marks, are_placed}
@@ -157,7 +157,7 @@ module _ (w : World) (h : IsWorld w) (extra : List Name) where
     none_waits : (n : Name) → Contains s.work n → ⊥
     none_waits n c = let bad = rw empty at c in omega (arith, bad.1)
 
-    plain_shown : (v : Value) → IsPlain v → is_shown s.marks v ≡ true
+    plain_shown : (v : Value) → IsPlain v → is_key_marked s.marks v ≡ true
     plain_shown Nil p = refl
     plain_shown (Number n) p = refl
     plain_shown (Ref name) p = absurd p
@@ -174,7 +174,7 @@ module _ (w : World) (h : IsWorld w) (extra : List Name) where
       | inr m ↦ m
     ]
     all_marked n (IsLive.live_key weak _ key parts alive is from kept) =
-        let shown : is_shown s.marks parts.key ≡ true = rw is (all_marked key from) in
+        let shown : is_key_marked s.marks parts.key ≡ true = rw is (all_marked key from) in
         elim (r weak n parts alive shown kept) [
           | inl x ↦ absurd (none_waits x.0 x.2)
           | inr m ↦ m

@@ -13,7 +13,7 @@ use Rattle.nmgc_graph.specs.declared.search.Search.{Search}
 use Rattle.nmgc_graph.specs.World.{World, node_of, AreKnown, IsNodeOf, IsWorld, parts_held}
 use Rattle.nmgc_graph.specs.Marks.{IsMarked, IsPlaced, HasPlaces}
 use Rattle.nmgc_graph.specs.Reach.{IsAlive, IsAliveWeak, IsKeptBy, IsLive}
-use Rattle.nmgc_graph.specs.Search.{with_weak, with_weaks, parts_in, parts_of, is_shown, AreRevived}
+use Rattle.nmgc_graph.specs.Search.{with_weak, with_weaks, parts_in, parts_of, is_key_marked, AreRevived}
 use Rattle.nmgc_graph.specs.laws.Orders.{contains_head, contains_tail, contains_cases}
 use Rattle.nmgc_graph.specs.laws.Rows.{name_placed}
 use Rattle.nmgc_graph.proofs.Searches.{same_ref, Marks, no_marks, then_marks, values_mark, are_placed}
@@ -69,7 +69,7 @@ hits_weak weak target parts c = elim (contains_cases (Ref weak) (parts.value ∷
 ]
 
 -- the key of a weak pointer lets it live
-pub shown_live : (w : World) (extra : List Name) (marks : List (List Bool)) (weak target : Name) (parts : Parts) (key : Value) → parts.key ≡ key → ((n : Name) → IsMarked marks n → IsLive w extra n) → IsAlive w weak parts → is_shown marks key ≡ true → IsKeptBy weak parts target → IsLive w extra target
+pub shown_live : (w : World) (extra : List Name) (marks : List (List Bool)) (weak target : Name) (parts : Parts) (key : Value) → parts.key ≡ key → ((n : Name) → IsMarked marks n → IsLive w extra n) → IsAlive w weak parts → is_key_marked marks key ≡ true → IsKeptBy weak parts target → IsLive w extra target
 shown_live w extra marks weak target parts Nil is sound alive shown kept = IsLive.plain_key weak target parts alive (rw is tt) kept
 shown_live w extra marks weak target parts (Number n) is sound alive shown kept = IsLive.plain_key weak target parts alive (rw is tt) kept
 shown_live w extra marks weak target parts (Ref key) is sound alive shown kept = IsLive.live_key weak target key parts alive is (sound key shown) kept
@@ -83,10 +83,10 @@ module _ (w : World) (h : IsWorld w) where
         All-cons (IsPlaced s.marks) (Ref weak) (parts.value ∷ parts.finaliser ∷ []) (name_placed w s.marks places weak there)
         (All-tail (IsPlaced s.marks) parts.key (parts.value ∷ parts.finaliser ∷ []) (are_placed w s.marks places (parts_held (Some parts)) (parts_known w (node_of w weak) (h.nodes weak) parts e)))
 
-    -- what a weak pointer marks: what it keeps, where its key is shown
-    step : (o : Option Parts) → parts_of w weak ≡ o → (values : List Value) × Marks s (with_weak s weak o) values × ((n : Name) → Contains values (Ref n) → (parts : Parts) × IsAlive w weak parts × (is_shown s.marks parts.key ≡ true) × IsKeptBy weak parts n)
+    -- what a weak pointer marks: what it keeps, where its key is marked
+    step : (o : Option Parts) → parts_of w weak ≡ o → (values : List Value) × Marks s (with_weak s weak o) values × ((n : Name) → Contains values (Ref n) → (parts : Parts) × IsAlive w weak parts × (is_key_marked s.marks parts.key ≡ true) × IsKeptBy weak parts n)
     step None e = ([], no_marks s, λ n c. absurd (omega (arith, c.1)))
-    step (Some parts) e = elim (cases_Bool (is_shown s.marks parts.key)) [
+    step (Some parts) e = elim (cases_Bool (is_key_marked s.marks parts.key)) [
       | inl shown ↦ rw shown (weak_values weak parts, values_mark (weak_values weak parts) s (weak_placed parts e), λ n c. (parts, alive_from_parts w weak parts e, shown, hits_weak weak n parts c))
       | inr fails ↦ rw fails ([], no_marks s, λ n c. absurd (omega (arith, c.1)))
     ]
@@ -102,7 +102,7 @@ module _ (w : World) (h : IsWorld w) where
           | inr new ↦ let p = t.2 n new.0 in shown_live w extra s.marks weak n p.0 p.0.key refl sound p.1 p.2 p.3
         ]
 
-    pub weak_done : (parts : Parts) (target : Name) → IsAlive w weak parts → is_shown s.marks parts.key ≡ true → IsKeptBy weak parts target → IsMarked (with_weak s weak (parts_of w weak)).marks target
+    pub weak_done : (parts : Parts) (target : Name) → IsAlive w weak parts → is_key_marked s.marks parts.key ≡ true → IsKeptBy weak parts target → IsMarked (with_weak s weak (parts_of w weak)).marks target
     weak_done parts target alive shown kept =
         let e = parts_from_alive w weak parts alive in
         rw (e, shown) ((values_mark (weak_values weak parts) s (weak_placed parts e)).hit target (weak_hits weak target parts kept))
@@ -122,8 +122,8 @@ module _ (w : World) (h : IsWorld w) where
       let t = with_weak s weak (parts_of w weak) in
       weaks_sound extra weaks t (places_stay w s t one.0 one.1 places) (weak_sound s places weak extra sound)
 
-  -- a key that is shown in the end was shown at the start, or waits
-  key_cases : (s t : Search) (values : List Value) → Marks s t values → (key : Value) → is_shown t.marks key ≡ true → (is_shown s.marks key ≡ true) ⊎ ((name : Name) × (key ≡ Ref name) × Contains t.work name)
+  -- a key that is marked in the end was marked at the start, or waits
+  key_cases : (s t : Search) (values : List Value) → Marks s t values → (key : Value) → is_key_marked t.marks key ≡ true → (is_key_marked s.marks key ≡ true) ⊎ ((name : Name) × (key ≡ Ref name) × Contains t.work name)
   key_cases s t values m Nil shown = inl refl
   key_cases s t values m (Number n) shown = inl refl
   key_cases s t values m (Ref name) shown = elim (m.fresh name shown) [
@@ -131,7 +131,7 @@ module _ (w : World) (h : IsWorld w) where
     | inr new ↦ inr (name, refl, new.1)
   ]
 
-  pub weaks_done : (weaks : List Name) (s : Search) → HasPlaces w s.marks → (weak target : Name) (parts : Parts) → Contains weaks weak → IsAlive w weak parts → is_shown (with_weaks w s weaks).marks parts.key ≡ true → IsKeptBy weak parts target → ((key : Name) × (parts.key ≡ Ref key) × Contains (with_weaks w s weaks).work key) ⊎ IsMarked (with_weaks w s weaks).marks target
+  pub weaks_done : (weaks : List Name) (s : Search) → HasPlaces w s.marks → (weak target : Name) (parts : Parts) → Contains weaks weak → IsAlive w weak parts → is_key_marked (with_weaks w s weaks).marks parts.key ≡ true → IsKeptBy weak parts target → ((key : Name) × (parts.key ≡ Ref key) × Contains (with_weaks w s weaks).work key) ⊎ IsMarked (with_weaks w s weaks).marks target
   weaks_done [] s places weak target parts c alive shown kept = absurd (omega (arith, c.1))
   weaks_done (x ∷ xs) s places weak target parts c alive shown kept =
       let one = weak_marks s places x in

@@ -1,5 +1,6 @@
 -- What a change does to a node, and what it answers. Refusals come in the order of the cases, and
--- leave the node as it is.
+-- leave the node as it is. Below `changed` the same stands in two halves: which answers say that a
+-- change is done, and what one that is done leaves.
 use Rattle.std.specs.Prelude.{ℕ, ◌-◌, List, [], ◌∷◌, ◌++◌, length, slice_get, slice_set, take, Option, Some, None, Bool, true, false, ◌==◌, ◌&&◌, nat_lt, if◌then◌else◌}
 use Rattle.nmgc_graph.specs.declared.value.Name.{Name}
 use Rattle.nmgc_graph.specs.declared.value.Value.{Value}
@@ -26,6 +27,15 @@ is_same _ _ = false
 abbrev pub given_or : Reply → Option Value → Reply
 given_or refusal None = refusal
 given_or refusal (Some v) = Given v
+
+-- the field at an index of a constructor, a variable or an array
+abbrev pub field_in : Node → ℕ → Option Value
+field_in (Con tag values) index = slice_get values index
+field_in (Var v) index = slice_get (v ∷ []) index
+field_in (Arr values) index = slice_get values index
+field_in (Thunk free result) index = None
+field_in (Weak parts) index = None
+field_in (Stack size values) index = None
 
 -- `get`: the field of a constructor, a variable or an array
 abbrev pub field_read : Node → ℕ → Reply
@@ -114,3 +124,49 @@ changed (change.Update v) maker node = thunk_updated node v
 changed (change.Push m v) maker node = stack_pushed (maker == m) node v
 changed (change.Pop m) maker node = stack_popped (maker == m) node
 changed change.Finalise maker node = weak_finalised node
+
+-- whether a change that is answered so is done
+abbrev pub is_done : Reply → Bool
+is_done Fine = true
+is_done Yes = true
+is_done Updated = true
+is_done (Given v) = true
+is_done _ = false
+
+-- the node with another value in a field, if it is an array that has the field, or a variable, which has only one
+abbrev pub field_written : Node → ℕ → Value → Node
+field_written (Con tag values) index v = Con tag values
+field_written (Var old) index v = Var v
+field_written (Arr values) index v = if nat_lt index (length values) then Arr (slice_set values index v) else Arr values
+field_written (Thunk free result) index v = Thunk free result
+field_written (Weak parts) index v = Weak parts
+field_written (Stack size values) index v = Stack size values
+
+-- the node with a result, if it is a thunk
+abbrev pub result_written : Node → Value → Node
+result_written (Thunk free result) v = Thunk free (Some v)
+result_written node v = node
+
+-- the node with a value on top, if it is a stack, whatever its size
+abbrev pub value_pushed : Node → Value → Node
+value_pushed (Stack size values) v = Stack size (values ++ v ∷ [])
+value_pushed node v = node
+
+-- the node without its top, if it is a stack
+abbrev pub top_dropped : Node → Node
+top_dropped (Stack size values) = Stack size (without_last values)
+top_dropped node = node
+
+-- the node, dead if it is a weak pointer
+abbrev pub killed : Node → Node
+killed (Weak parts) = Weak None
+killed node = node
+
+-- what a change that is done leaves of a node
+abbrev pub written : Change → Node → Node
+written (change.Set index v) node = field_written node index v
+written (change.Exchange index expected v) node = field_written node index v
+written (change.Update v) node = result_written node v
+written (change.Push m v) node = value_pushed node v
+written (change.Pop m) node = top_dropped node
+written change.Finalise node = killed node

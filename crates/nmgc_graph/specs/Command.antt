@@ -82,18 +82,3 @@ IsMaking (Thunk dest free) = Unit {0}
 IsMaking (Weak dest key value finaliser) = Unit {0}
 IsMaking (Stack dest size) = Unit {0}
 IsMaking _ = ⊥
-
--- the command reads an object and leaves it
-abbrev pub IsReading : Command → Type 0
-IsReading (Get dest object index) = Unit {0}
-IsReading (Force dest object) = Unit {0}
-IsReading (Deref dest object) = Unit {0}
-IsReading _ = ⊥
-
--- the command may change an object, and takes no value from it
-abbrev pub IsChanging : Command → Type 0
-IsChanging (Set object index value) = Unit {0}
-IsChanging (Cas object index expected value) = Unit {0}
-IsChanging (Update object value) = Unit {0}
-IsChanging (Push object value) = Unit {0}
-IsChanging _ = ⊥

@@ -55,32 +55,32 @@ parts_in _ = None
 abbrev pub parts_of : World → Name → Option Parts
 parts_of w weak = option_and_then parts_in (node_of w weak)
 
--- the value is nil, a number, or a reference to a marked name
-abbrev pub is_shown : List (List Bool) → Value → Bool
-is_shown marks value.Nil = true
-is_shown marks (value.Number n) = true
-is_shown marks (value.Ref name) = mark_of marks name
+-- the key is nil, a number, or a reference to a marked name: any of these counts as marked
+abbrev pub is_key_marked : List (List Bool) → Value → Bool
+is_key_marked marks value.Nil = true
+is_key_marked marks (value.Number n) = true
+is_key_marked marks (value.Ref name) = mark_of marks name
 
--- a weak pointer marks itself, its value and its finaliser, where its key is shown
+-- a weak pointer marks itself, its value and its finaliser, where its key is marked
 abbrev pub with_weak : Search → Name → Option Parts → Search
 with_weak s weak None = s
-with_weak s weak (Some parts) = if is_shown s.marks parts.key then with_values s (value.Ref weak ∷ parts.value ∷ parts.finaliser ∷ []) else s
+with_weak s weak (Some parts) = if is_key_marked s.marks parts.key then with_values s (value.Ref weak ∷ parts.value ∷ parts.finaliser ∷ []) else s
 
 -- each of the weak pointers does that, one after the other
 abbrev pub with_weaks : World → Search → List Name → Search
 with_weaks w s weaks = fold (λ t weak. with_weak t weak (parts_of w weak)) s weaks
 
--- an alive weak pointer that isn't finalised and whose key isn't shown, as a test
+-- an alive weak pointer that isn't finalised and whose key isn't marked, as a test
 abbrev pub is_lost : List (List Bool) → List (List Bool) → Name → Option Parts → Bool
 is_lost marks finalised weak None = false
-is_lost marks finalised weak (Some parts) = not (is_shown marks parts.key) && not (mark_of finalised weak)
+is_lost marks finalised weak (Some parts) = not (is_key_marked marks parts.key) && not (mark_of finalised weak)
 
--- an alive weak pointer that isn't finalised and whose key isn't shown
+-- an alive weak pointer that isn't finalised and whose key isn't marked
 pub record IsLost (w : World) (marks : List (List Bool)) (finalised : List Name) (weak : Name) : Type 0 where
   pub parts : Parts
   pub alive : IsAlive w weak parts
   pub not_finalised : Contains finalised weak → ⊥
-  pub hidden : is_shown marks parts.key ≡ false
+  pub hidden : is_key_marked marks parts.key ≡ false
 
 -- the set has those of the names that are in the map
 pub record IsSetOf (w : World) (names : List Name) (marks : List (List Bool)) : Type 0 where
@@ -110,9 +110,9 @@ pub record IsLiveSearch (w : World) (extra : List Name) (s : Search) : Type 0 wh
   pub sound : (name : Name) → IsMarked s.marks name → IsLive w extra name
   pub begun : (name : Name) → Contains (starts_of w extra) (value.Ref name) → IsMarked s.marks name
 
--- each weak pointer whose key is shown has marked itself, its value and its finaliser, unless the key still waits
+-- each weak pointer whose key is marked has marked itself, its value and its finaliser, unless the key still waits
 abbrev pub AreRevived : World → Search → Type 0
-AreRevived w s = (weak target : Name) (parts : Parts) → IsAlive w weak parts → is_shown s.marks parts.key ≡ true → IsKeptBy weak parts target → ((key : Name) × (parts.key ≡ value.Ref key) × Contains s.work key) ⊎ IsMarked s.marks target
+AreRevived w s = (weak target : Name) (parts : Parts) → IsAlive w weak parts → is_key_marked s.marks parts.key ≡ true → IsKeptBy weak parts target → ((key : Name) × (parts.key ≡ value.Ref key) × Contains s.work key) ⊎ IsMarked s.marks target
 
 -- the marked names are the live ones, and nothing waits
 pub record IsLiveFound (w : World) (extra : List Name) (s : Search) : Type 0 where

@@ -3,12 +3,19 @@
 //! `set`, `cas`, `update`, `push`, `pop` and `finalise` differ in the object they want and in what
 //! they write, and agree in all else: the object is looked up, refused by its kind, changed in
 //! place, and answers. So the world lends the object once, and a change is done here, on the node
-//! alone. The readers `get`, `force` and `deref` stand here too, since they refuse by kind alike.
-ghost use Rattle.std.specs.Prelude.{◌≡◌, IfOk, OnErr, slice_get};
-ghost use Rattle.nmgc_graph.specs.Change.{changed, field_read, result_read, value_read, field_set, field_exchanged, thunk_updated, stack_pushed, stack_popped, weak_finalised, is_same, given_or};
+//! alone, in two halves. `change_reply` reads: it says what a change is answered, and the answer
+//! tells whether it is done. `write` writes what a change that is done writes, and refuses nothing.
+//! `World::apply` asks both, and `World::reply`, which changes nothing, the first alone; so they
+//! can't differ. The readers `get`, `force` and `deref` stand here too, since they refuse by kind
+//! alike.
+//!
+//! Easy to get wrong: `write` asks for no refusal again, and writes a variable's field at whatever
+//! index. So it is for changes whose answer says that they are done.
+ghost use Rattle.std.specs.Prelude.{◌≡◌, IfOk, OnOk, OnErr};
+ghost use Rattle.nmgc_graph.specs.Change.{changed, field_read, result_read, value_read, field_set, field_exchanged, thunk_updated, stack_pushed, stack_popped, weak_finalised, is_same, given_or, is_done, written, field_written, result_written, value_pushed, top_dropped, killed};
+ghost use Rattle.nmgc_graph.specs.declared.value.Value.{Value as ValueAt};
 
 use crate::{NoMemory, Node, Reply, Value};
-use std::slice;
 
 /// A change of one object, with the values that the operands have.
 #[derive(Clone, Copy, Debug, PartialEq, Eq)]
@@ -41,26 +48,21 @@ pub enum Change {
     Finalise,
 }
 
-/// Reads a field of a constructor, a variable or an array.
+/// What `get` answers of an object: a field of a constructor, a variable or an array, or the
+/// refusal. Takes no memory, and constant time.
 pub fn read_field(node: &Node, index: u32) -> Reply
     ensures { result ≡ field_read node.now index }
 {
-    let fields = match node {
-        Node::Con { tag: _, values } | Node::Arr { values } => values.items(),
-        Node::Var { value } => slice::from_ref(value),
-        _ => return Reply::WrongKind,
-    };
-    given_or(Reply::NoField, field_at(fields, index))
+    match node {
+        Node::Con { tag: _, values: _ } | Node::Var { value: _ } | Node::Arr { values: _ } => {
+            given_or(Reply::NoField, node.field(index as usize))
+        }
+        _ => Reply::WrongKind,
+    }
 }
 
-// The field at an index, if there is one.
-fn field_at(fields: &[Value], index: u32) -> Option<Value>
-    ensures { result ≡ slice_get fields.now index }
-{
-    fields.get(index as usize).copied()
-}
-
-/// Reads the result of a thunk.
+/// What `force` answers of an object: the result of a thunk, or the refusal. Takes no memory, and
+/// constant time.
 pub fn read_result(node: &Node) -> Reply
     ensures { result ≡ result_read node.now }
 {
@@ -70,7 +72,8 @@ pub fn read_result(node: &Node) -> Reply
     }
 }
 
-/// Reads the value of an alive weak pointer.
+/// What `deref` answers of an object: the value of an alive weak pointer, or the refusal. Takes no
+/// memory, and constant time.
 pub fn read_value(node: &Node) -> Reply
     ensures { result ≡ value_read node.now }
 {
@@ -81,7 +84,7 @@ pub fn read_value(node: &Node) -> Reply
     }
 }
 
-/// The value, or this refusal where there is none.
+/// The reply that gives the value, or this refusal where there is none. Takes no memory.
 pub fn given_or(refusal: Reply, value: Option<Value>) -> Reply
     ensures { result ≡ given_or refusal value }
 {
@@ -91,81 +94,7 @@ pub fn given_or(refusal: Reply, value: Option<Value>) -> Reply
     }
 }
 
-/// Does a change on the node of an object that this mutator, or g's maker, made.
-/// After `NoMemory` the node is unchanged.
-pub fn change_in_place(node: &mut Node, maker: u8, change: Change) -> Result<Reply, NoMemory>
-    ensures ok { IfOk result (λ reply. changed change maker node.old ≡ (node.new, reply)) }
-    ensures err { OnErr result (node.new ≡ node.old) }
-{
-    match change {
-        Change::Set { index, value } => Ok(set_field(node, index, value)),
-        Change::Exchange {
-            index,
-            expected,
-            value,
-        } => Ok(exchange_field(node, index, expected, value)),
-        Change::Update { value } => Ok(update_thunk(node, value)),
-        Change::Push { mutator, value } => push_stack(node, maker == mutator, value),
-        Change::Pop { mutator } => Ok(pop_stack(node, maker == mutator)),
-        Change::Finalise => Ok(finalise_weak(node)),
-    }
-}
-
-// A field of a variable or an array takes a value.
-fn set_field(node: &mut Node, index: u32, value: Value) -> Reply
-    ensures { field_set node.old index value ≡ (node.new, result) }
-{
-    match node {
-        Node::Con { tag: _, values: _ } => Reply::Fixed,
-        Node::Var { value: field } => {
-            if index != 0 {
-                return Reply::NoField;
-            }
-            *field = value;
-            Reply::Fine
-        }
-        Node::Arr { values } => {
-            if index as usize >= values.items().len() {
-                return Reply::NoField;
-            }
-            values.items_mut()[index as usize] = value;
-            Reply::Fine
-        }
-        _ => Reply::WrongKind,
-    }
-}
-
-// A field of a variable or an array takes a value where it holds the expected one.
-fn exchange_field(node: &mut Node, index: u32, expected: Value, value: Value) -> Reply
-    ensures { field_exchanged node.old index expected value ≡ (node.new, result) }
-{
-    match node {
-        Node::Con { tag: _, values: _ } => Reply::Fixed,
-        Node::Var { value: field } => {
-            if index != 0 {
-                return Reply::NoField;
-            }
-            if !same(*field, expected) {
-                return Reply::No;
-            }
-            *field = value;
-            Reply::Yes
-        }
-        Node::Arr { values } => {
-            let Some(old) = field_at(values.items(), index) else {
-                return Reply::NoField;
-            };
-            if !same(old, expected) {
-                return Reply::No;
-            }
-            values.items_mut()[index as usize] = value;
-            Reply::Yes
-        }
-        _ => Reply::WrongKind,
-    }
-}
-
-/// Whether two values are the same nil, number or reference.
+/// Whether two values are the same nil, number or reference. Takes no memory.
 pub fn same(left: Value, right: Value) -> bool
     ensures { result ≡ is_same left right }
 {
@@ -179,69 +108,225 @@ pub fn same(left: Value, right: Value) -> bool
     }
 }
 
-// A thunk without a result gets one.
-fn update_thunk(node: &mut Node, value: Value) -> Reply
-    ensures { thunk_updated node.old value ≡ (node.new, result) }
+/// What a change of a node of this maker is answered. Nothing is changed. Takes no memory, and
+/// constant time.
+pub fn change_reply(node: &Node, maker: u8, change: Change) -> Reply
+    ensures { result ≡ (changed change maker node.now).1 }
+{
+    match change {
+        Change::Set { index, value: _ } => set_reply(node, index),
+        Change::Exchange {
+            index,
+            expected,
+            value: _,
+        } => exchange_reply(node, index, expected),
+        Change::Update { value: _ } => update_reply(node),
+        Change::Push { mutator, value: _ } => push_reply(node, maker == mutator),
+        Change::Pop { mutator } => pop_reply(node, maker == mutator),
+        Change::Finalise => finalise_reply(node),
+    }
+}
+
+// What a write of a field is answered.
+fn set_reply(node: &Node, index: u32) -> Reply
+    ensures { (v : ValueAt) → result ≡ (field_set node.now index v).1 }
+{
+    let fields = match node {
+        Node::Con { tag: _, values: _ } => return Reply::Fixed,
+        Node::Var { value: _ } => 1,
+        Node::Arr { values } => values.items().len(),
+        _ => return Reply::WrongKind,
+    };
+    if (index as usize) < fields {
+        Reply::Fine
+    } else {
+        Reply::NoField
+    }
+}
+
+// What a write of a field that wants an expected value there is answered.
+fn exchange_reply(node: &Node, index: u32, expected: Value) -> Reply
+    ensures { (v : ValueAt) → result ≡ (field_exchanged node.now index expected v).1 }
 {
     match node {
-        Node::Thunk { free: _, result } => {
-            if result.is_some() {
-                return Reply::Already;
-            }
-            *result = Some(value);
-            Reply::Updated
-        }
+        Node::Con { tag: _, values: _ } => return Reply::Fixed,
+        Node::Var { value: _ } | Node::Arr { values: _ } => {}
+        _ => return Reply::WrongKind,
+    }
+    match node.field(index as usize) {
+        Some(old) if same(old, expected) => Reply::Yes,
+        Some(_) => Reply::No,
+        None => Reply::NoField,
+    }
+}
+
+// What an update is answered.
+fn update_reply(node: &Node) -> Reply
+    ensures { (v : ValueAt) → result ≡ (thunk_updated node.now v).1 }
+{
+    match node {
+        Node::Thunk {
+            free: _,
+            result: None,
+        } => Reply::Updated,
+        Node::Thunk {
+            free: _,
+            result: Some(_),
+        } => Reply::Already,
         _ => Reply::WrongKind,
     }
 }
 
-// A value goes on top of an own stack.
-fn push_stack(node: &mut Node, own: bool, value: Value) -> Result<Reply, NoMemory>
-    ensures ok { IfOk result (λ reply. stack_pushed own node.old value ≡ (node.new, reply)) }
-    ensures err { OnErr result (node.new ≡ node.old) }
+// What a push is answered, by the stack's maker or another mutator.
+fn push_reply(node: &Node, own: bool) -> Reply
+    ensures { (v : ValueAt) → result ≡ (stack_pushed own node.now v).1 }
 {
     match node {
         Node::Stack { size, values } => {
             if !own {
-                return Ok(Reply::NotOwner);
+                Reply::NotOwner
+            } else if values.items().len() < *size as usize {
+                Reply::Fine
+            } else {
+                Reply::StackFull
             }
-            if values.items().len() >= *size as usize {
-                return Ok(Reply::StackFull);
-            }
-            values.push(value)?;
-            Ok(Reply::Fine)
         }
-        _ => Ok(Reply::WrongKind),
+        _ => Reply::WrongKind,
     }
 }
 
-// The top goes off an own stack.
-fn pop_stack(node: &mut Node, own: bool) -> Reply
-    ensures { stack_popped own node.old ≡ (node.new, result) }
+// What a pop is answered, by the stack's maker or another mutator.
+fn pop_reply(node: &Node, own: bool) -> Reply
+    ensures { result ≡ (stack_popped own node.now).1 }
 {
     match node {
         Node::Stack { size: _, values } => {
-            if !own {
-                return Reply::NotOwner;
+            if own {
+                given_or(Reply::StackEmpty, values.items().last().copied())
+            } else {
+                Reply::NotOwner
             }
-            given_or(Reply::StackEmpty, values.pop())
         }
         _ => Reply::WrongKind,
     }
 }
 
-// An alive weak pointer dies.
-fn finalise_weak(node: &mut Node) -> Reply
-    ensures { weak_finalised node.old ≡ (node.new, result) }
+// What a finalise is answered.
+fn finalise_reply(node: &Node) -> Reply
+    ensures { result ≡ (weak_finalised node.now).1 }
 {
     match node {
-        Node::Weak { parts } => {
-            let Some(alive) = *parts else {
-                return Reply::Dead;
-            };
-            *parts = None;
-            Reply::Given(alive.finaliser)
-        }
+        Node::Weak { parts: Some(parts) } => Reply::Given(parts.finaliser),
+        Node::Weak { parts: None } => Reply::Dead,
         _ => Reply::WrongKind,
+    }
+}
+
+// Whether a change that is answered so is done.
+fn is_done(reply: Reply) -> bool
+    ensures { result ≡ is_done reply }
+{
+    match reply {
+        Reply::Fine | Reply::Yes | Reply::Updated | Reply::Given(_) => true,
+        Reply::No
+        | Reply::Already
+        | Reply::NoPointer
+        | Reply::NoField
+        | Reply::WrongKind
+        | Reply::NotOwner
+        | Reply::Fixed
+        | Reply::Dead
+        | Reply::Nothing
+        | Reply::StackFull
+        | Reply::StackEmpty => false,
+    }
+}
+
+/// Does a change on the node of an object that this mutator, or g's maker, made, and gives its
+/// answer; where that is a refusal, or `No`, the node is left as it was. Only a push takes memory.
+/// After `NoMemory` the node is unchanged.
+#[tactic(auto, using(crate::proofs::Changes::done_is, crate::proofs::Changes::refused_is))]
+pub fn change_in_place(node: &mut Node, maker: u8, change: Change) -> Result<Reply, NoMemory>
+    ensures ok { IfOk result (λ reply. changed change maker node.old ≡ (node.new, reply)) }
+    ensures err { OnErr result (node.new ≡ node.old) }
+{
+    let reply = change_reply(node, maker, change);
+    if !is_done(reply) {
+        return Ok(reply);
+    }
+    write(node, change)?;
+    Ok(reply)
+}
+
+// Writes what a change that is done writes. After `NoMemory` the node is unchanged.
+fn write(node: &mut Node, change: Change) -> Result<(), NoMemory>
+    ensures ok { OnOk result (node.new ≡ written change node.old) }
+    ensures err { OnErr result (node.new ≡ node.old) }
+{
+    match change {
+        Change::Set { index, value } => write_field(node, index, value),
+        Change::Exchange {
+            index,
+            expected: _,
+            value,
+        } => write_field(node, index, value),
+        Change::Update { value } => write_result(node, value),
+        Change::Push { mutator: _, value } => push_value(node, value)?,
+        Change::Pop { mutator: _ } => drop_top(node),
+        Change::Finalise => kill(node),
+    }
+    Ok(())
+}
+
+// The field of a variable, or a field of an array, takes a value. Any other node is left.
+fn write_field(node: &mut Node, index: u32, value: Value)
+    ensures { node.new ≡ field_written node.old index value }
+{
+    match node {
+        Node::Var { value: field } => *field = value,
+        Node::Arr { values } => {
+            if (index as usize) < values.items().len() {
+                values.items_mut()[index as usize] = value;
+            }
+        }
+        _ => {}
+    }
+}
+
+// A thunk gets a result. Any other node is left.
+fn write_result(node: &mut Node, value: Value)
+    ensures { node.new ≡ result_written node.old value }
+{
+    if let Node::Thunk { free: _, result } = node {
+        *result = Some(value);
+    }
+}
+
+// A value goes on top of a stack, whatever its size. Any other node is left.
+fn push_value(node: &mut Node, value: Value) -> Result<(), NoMemory>
+    ensures ok { OnOk result (node.new ≡ value_pushed node.old value) }
+    ensures err { OnErr result (node.new ≡ node.old) }
+{
+    match node {
+        Node::Stack { size: _, values } => values.push(value),
+        _ => Ok(()),
+    }
+}
+
+// The top goes off a stack, if there is one. Any other node is left.
+fn drop_top(node: &mut Node)
+    ensures { node.new ≡ top_dropped node.old }
+{
+    if let Node::Stack { size: _, values } = node {
+        values.pop();
+    }
+}
+
+// A weak pointer dies. Any other node is left.
+fn kill(node: &mut Node)
+    ensures { node.new ≡ killed node.old }
+{
+    if let Node::Weak { parts } = node {
+        *parts = None;
     }
 }

@@ -27,6 +27,7 @@ impl World {
         ensures closed { IsWorld self.new }
     {
         let answer = self.close_all(dead);
+        // Reading a field tells the checker what holds of every world: that it is closed.
         let _ = &self.mutators;
         answer
     }

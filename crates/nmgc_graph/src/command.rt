@@ -1,4 +1,7 @@
 //! Commands, and what they answer.
+ghost use Rattle.std.specs.Prelude.{◌≡◌, ◌<◌};
+ghost use Rattle.nmgc_graph.specs.Command.{IsMaking, words_made};
+
 use crate::{List, Value};
 
 /// Where a command takes a value from: a register, or the reference to the shared array.
@@ -127,6 +130,42 @@ pub enum Command {
     Collect,
     /// Ends the slice and asks for a full cycle.
     Full,
+}
+
+impl Command {
+    /// How many words the object has that the command makes: a header, a name, and a word for each
+    /// part; none where it makes no object. Takes no memory, and constant time.
+    pub fn words_made(&self) -> usize
+        ensures words { result ≡ words_made self.now }
+        ensures making { 0 < result → IsMaking self.now }
+    {
+        match self {
+            Command::Con { fields, .. } => 2 + fields.items().len(),
+            Command::Var { .. } => 3,
+            Command::Arr { count, .. } => 2 + *count as usize,
+            Command::Thunk { free, .. } => 3 + free.items().len(),
+            Command::Weak { .. } => 5,
+            Command::Stack { size, .. } => 2 + *size as usize,
+            Command::Num { .. }
+            | Command::Nil { .. }
+            | Command::Mov { .. }
+            | Command::Get { .. }
+            | Command::Set { .. }
+            | Command::Cas { .. }
+            | Command::Update { .. }
+            | Command::Force { .. }
+            | Command::Push { .. }
+            | Command::Pop { .. }
+            | Command::Deref { .. }
+            | Command::Finalise { .. }
+            | Command::NextFin { .. }
+            | Command::Show { .. }
+            | Command::Same { .. }
+            | Command::Yield
+            | Command::Collect
+            | Command::Full => 0,
+        }
+    }
 }
 
 /// What a command answered. A refusal changed nothing.

@@ -47,77 +47,76 @@ fn expect(
     Ok(())
 }
 
+// The commands of the rows, each by its parts.
+
+fn num(dest: u8, number: u64) -> Command {
+    Command::Num { dest, number }
+}
+
+fn var(dest: u8, value: Operand) -> Command {
+    Command::Var { dest, value }
+}
+
+fn get(dest: u8, object: Operand, index: u32) -> Command {
+    Command::Get {
+        dest,
+        object,
+        index,
+    }
+}
+
+fn set(object: Operand, index: u32, value: Operand) -> Command {
+    Command::Set {
+        object,
+        index,
+        value,
+    }
+}
+
+fn push(object: Operand, value: Operand) -> Command {
+    Command::Push { object, value }
+}
+
+fn pop(dest: u8, object: Operand) -> Command {
+    Command::Pop { dest, object }
+}
+
+fn same(left: Operand, right: Operand) -> Command {
+    Command::Same { left, right }
+}
+
+fn update(object: Operand, value: Operand) -> Command {
+    Command::Update { object, value }
+}
+
+fn force(dest: u8, object: Operand) -> Command {
+    Command::Force { dest, object }
+}
+
+fn deref(dest: u8, object: Operand) -> Command {
+    Command::Deref { dest, object }
+}
+
+fn finalise(dest: u8, object: Operand) -> Command {
+    Command::Finalise { dest, object }
+}
+
 #[test]
 fn writing(rt: HostRuntime) -> Result<(), Fail> {
     let mut world = World::new(rt.alloc(), 1)?;
     let rows = [
-        (Command::Num { dest: 1, number: 5 }, Reply::Fine),
+        (num(1, 5), Reply::Fine),
         (con(rt.alloc(), 0, r(1))?, name(0, 0)),
-        (
-            Command::Set {
-                object: r(0),
-                index: 0,
-                value: r(1),
-            },
-            Reply::Fixed,
-        ),
-        (
-            Command::Var {
-                dest: 2,
-                value: r(1),
-            },
-            name(0, 1),
-        ),
-        (Command::Num { dest: 3, number: 9 }, Reply::Fine),
-        (
-            Command::Set {
-                object: r(2),
-                index: 0,
-                value: r(3),
-            },
-            Reply::Fine,
-        ),
-        (
-            Command::Get {
-                dest: 4,
-                object: r(2),
-                index: 0,
-            },
-            number(9),
-        ),
-        (
-            Command::Set {
-                object: r(2),
-                index: 1,
-                value: r(3),
-            },
-            Reply::NoField,
-        ),
-        (
-            Command::Get {
-                dest: 4,
-                object: r(3),
-                index: 0,
-            },
-            Reply::NoPointer,
-        ),
+        (set(r(0), 0, r(1)), Reply::Fixed),
+        (var(2, r(1)), name(0, 1)),
+        (num(3, 9), Reply::Fine),
+        (set(r(2), 0, r(3)), Reply::Fine),
+        (get(4, r(2), 0), number(9)),
+        (set(r(2), 1, r(3)), Reply::NoField),
+        (get(4, r(3), 0), Reply::NoPointer),
         (Command::Show { value: r(4) }, number(9)),
-        (
-            Command::Get {
-                dest: 4,
-                object: Operand::Shared,
-                index: 15,
-            },
-            Reply::Given(Value::Nil),
-        ),
-        (
-            Command::Get {
-                dest: 4,
-                object: Operand::Shared,
-                index: 16,
-            },
-            Reply::NoField,
-        ),
+        (get(4, Operand::Shared, 15), Reply::Given(Value::Nil)),
+        (get(4, Operand::Shared, 16), Reply::NoField),
         (
             Command::Arr {
                 dest: 5,
@@ -126,14 +125,7 @@ fn writing(rt: HostRuntime) -> Result<(), Fail> {
             },
             name(0, 2),
         ),
-        (
-            Command::Get {
-                dest: 6,
-                object: r(5),
-                index: 1,
-            },
-            name(0, 1),
-        ),
+        (get(6, r(5), 1), name(0, 1)),
     ];
     for (command, reply) in &rows {
         expect(&rt, &mut world, 0, command, *reply)?;
@@ -145,59 +137,16 @@ fn writing(rt: HostRuntime) -> Result<(), Fail> {
 fn a_stack(rt: HostRuntime) -> Result<(), Fail> {
     let mut world = World::new(rt.alloc(), 1)?;
     let rows = [
-        (Command::Num { dest: 1, number: 5 }, Reply::Fine),
+        (num(1, 5), Reply::Fine),
         (Command::Stack { dest: 0, size: 2 }, name(0, 0)),
-        (
-            Command::Push {
-                object: r(0),
-                value: r(1),
-            },
-            Reply::Fine,
-        ),
-        (
-            Command::Push {
-                object: r(0),
-                value: r(0),
-            },
-            Reply::Fine,
-        ),
-        (
-            Command::Push {
-                object: r(0),
-                value: r(1),
-            },
-            Reply::StackFull,
-        ),
-        (
-            Command::Pop {
-                dest: 2,
-                object: r(0),
-            },
-            name(0, 0),
-        ),
-        (
-            Command::Pop {
-                dest: 2,
-                object: r(0),
-            },
-            number(5),
-        ),
-        (
-            Command::Pop {
-                dest: 2,
-                object: r(0),
-            },
-            Reply::StackEmpty,
-        ),
+        (push(r(0), r(1)), Reply::Fine),
+        (push(r(0), r(0)), Reply::Fine),
+        (push(r(0), r(1)), Reply::StackFull),
+        (pop(2, r(0)), name(0, 0)),
+        (pop(2, r(0)), number(5)),
+        (pop(2, r(0)), Reply::StackEmpty),
         (Command::Show { value: r(2) }, number(5)),
-        (
-            Command::Get {
-                dest: 2,
-                object: r(0),
-                index: 0,
-            },
-            Reply::WrongKind,
-        ),
+        (get(2, r(0), 0), Reply::WrongKind),
     ];
     for (command, reply) in &rows {
         expect(&rt, &mut world, 0, command, *reply)?;
@@ -210,65 +159,14 @@ fn not_the_owner(rt: HostRuntime) -> Result<(), Fail> {
     let mut world = World::new(rt.alloc(), 2)?;
     let rows = [
         (0, Command::Stack { dest: 0, size: 2 }, name(0, 0)),
-        (
-            0,
-            Command::Set {
-                object: Operand::Shared,
-                index: 0,
-                value: r(0),
-            },
-            Reply::Fine,
-        ),
+        (0, set(Operand::Shared, 0, r(0)), Reply::Fine),
         (0, Command::Yield, Reply::Fine),
-        (
-            1,
-            Command::Get {
-                dest: 0,
-                object: Operand::Shared,
-                index: 0,
-            },
-            name(0, 0),
-        ),
-        (
-            1,
-            Command::Push {
-                object: r(0),
-                value: r(0),
-            },
-            Reply::NotOwner,
-        ),
-        (
-            1,
-            Command::Pop {
-                dest: 1,
-                object: r(0),
-            },
-            Reply::NotOwner,
-        ),
-        (
-            1,
-            Command::Push {
-                object: r(1),
-                value: r(0),
-            },
-            Reply::NoPointer,
-        ),
-        (
-            1,
-            Command::Var {
-                dest: 1,
-                value: r(0),
-            },
-            name(1, 0),
-        ),
-        (
-            1,
-            Command::Push {
-                object: r(1),
-                value: r(0),
-            },
-            Reply::WrongKind,
-        ),
+        (1, get(0, Operand::Shared, 0), name(0, 0)),
+        (1, push(r(0), r(0)), Reply::NotOwner),
+        (1, pop(1, r(0)), Reply::NotOwner),
+        (1, push(r(1), r(0)), Reply::NoPointer),
+        (1, var(1, r(0)), name(1, 0)),
+        (1, push(r(1), r(0)), Reply::WrongKind),
     ];
     for (mutator, command, reply) in &rows {
         expect(&rt, &mut world, *mutator, command, *reply)?;
@@ -286,46 +184,15 @@ fn compare_and_exchange(rt: HostRuntime) -> Result<(), Fail> {
         value: r(2),
     };
     let rows = [
-        (
-            Command::Var {
-                dest: 0,
-                value: r(1),
-            },
-            name(0, 0),
-        ),
-        (Command::Num { dest: 2, number: 4 }, Reply::Fine),
+        (var(0, r(1)), name(0, 0)),
+        (num(2, 4), Reply::Fine),
         (cas(0), Reply::Yes),
         (cas(0), Reply::No),
         (cas(1), Reply::NoField),
-        (
-            Command::Same {
-                left: r(2),
-                right: r(0),
-            },
-            Reply::No,
-        ),
-        (
-            Command::Get {
-                dest: 3,
-                object: r(0),
-                index: 0,
-            },
-            number(4),
-        ),
-        (
-            Command::Same {
-                left: r(2),
-                right: r(3),
-            },
-            Reply::Yes,
-        ),
-        (
-            Command::Same {
-                left: r(0),
-                right: r(0),
-            },
-            Reply::Yes,
-        ),
+        (same(r(2), r(0)), Reply::No),
+        (get(3, r(0), 0), number(4)),
+        (same(r(2), r(3)), Reply::Yes),
+        (same(r(0), r(0)), Reply::Yes),
     ];
     for (command, reply) in &rows {
         expect(&rt, &mut world, 0, command, *reply)?;
@@ -343,82 +210,19 @@ fn thunks_and_weak_pointers(rt: HostRuntime) -> Result<(), Fail> {
         finaliser: Operand::Shared,
     };
     let rows = [
-        (Command::Num { dest: 1, number: 5 }, Reply::Fine),
+        (num(1, 5), Reply::Fine),
         (thunk(rt.alloc(), 0, r(1))?, name(0, 0)),
-        (
-            Command::Force {
-                dest: 3,
-                object: r(0),
-            },
-            Reply::Nothing,
-        ),
-        (
-            Command::Update {
-                object: r(0),
-                value: r(1),
-            },
-            Reply::Updated,
-        ),
-        (
-            Command::Update {
-                object: r(0),
-                value: r(0),
-            },
-            Reply::Already,
-        ),
-        (
-            Command::Force {
-                dest: 3,
-                object: r(0),
-            },
-            number(5),
-        ),
+        (force(3, r(0)), Reply::Nothing),
+        (update(r(0), r(1)), Reply::Updated),
+        (update(r(0), r(0)), Reply::Already),
+        (force(3, r(0)), number(5)),
         (weak, name(0, 1)),
-        (
-            Command::Deref {
-                dest: 4,
-                object: r(2),
-            },
-            number(5),
-        ),
-        (
-            Command::Deref {
-                dest: 4,
-                object: r(0),
-            },
-            Reply::WrongKind,
-        ),
-        (
-            Command::Finalise {
-                dest: 4,
-                object: r(2),
-            },
-            Reply::Given(Value::Ref(Name {
-                maker: SHARED_MAKER,
-                serial: 0,
-            })),
-        ),
-        (
-            Command::Same {
-                left: r(4),
-                right: Operand::Shared,
-            },
-            Reply::Yes,
-        ),
-        (
-            Command::Finalise {
-                dest: 4,
-                object: r(2),
-            },
-            Reply::Dead,
-        ),
-        (
-            Command::Deref {
-                dest: 4,
-                object: r(2),
-            },
-            Reply::Dead,
-        ),
+        (deref(4, r(2)), number(5)),
+        (deref(4, r(0)), Reply::WrongKind),
+        (finalise(4, r(2)), Reply::Given(Value::Ref(Name::SHARED))),
+        (same(r(4), Operand::Shared), Reply::Yes),
+        (finalise(4, r(2)), Reply::Dead),
+        (deref(4, r(2)), Reply::Dead),
         (Command::NextFin { dest: 4 }, Reply::Nothing),
         (
             Command::Mov {
@@ -474,10 +278,7 @@ fn looking_at_a_world(rt: HostRuntime) -> Result<(), Fail> {
 #[test]
 fn a_set_of_names(rt: HostRuntime) -> Result<(), Fail> {
     let world = World::new(rt.alloc(), 1)?;
-    let shared = Name {
-        maker: SHARED_MAKER,
-        serial: 0,
-    };
+    let shared = Name::SHARED;
     let mut names = world.no_names()?;
     assert!(rt; !names.contains(shared));
     assert!(rt; names.insert(shared));

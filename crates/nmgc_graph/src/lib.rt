@@ -2,8 +2,8 @@
 //!
 //! This is the model that every reply of the collector is judged by. It has no words, no blocks and
 //! no marks: a world is a map from names to nodes that only grows, with the registers and the
-//! finaliser queue of each mutator. Every other crate stands on this one, and cites its definitions
-//! (`specs/`) for what a command does.
+//! finaliser queue of each mutator. All crates but `nmgc_lists`, `nmgc_limits` and `nmgc_io` stand
+//! on this one, and cite its definitions (`specs/`) for what a command does.
 //!
 //! `Marks` is a set of names. Lists and the answer for want of memory are those of `nmgc_lists`, named here again.
 #![tactic(auto)]
@@ -11,13 +11,14 @@
 pub mod change;
 mod closing;
 pub mod command;
-mod giving;
 pub mod marks;
 pub mod mutator_state;
 pub mod node;
 mod reach;
 mod readers;
+mod reply;
 mod search;
+mod validity;
 pub mod value;
 pub mod world;
 

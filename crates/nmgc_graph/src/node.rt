@@ -3,7 +3,10 @@
 //! The six kinds differ in what a mutator may do to them, and that decides what the collector has to
 //! watch: a constructor never changes, a variable and an array are written field by field, a thunk
 //! is updated once, a weak pointer dies once, and a stack belongs to the mutator that made it.
+ghost use Rattle.std.specs.Prelude.{◌≡◌};
+
 use crate::{List, Value};
+use std::slice;
 
 /// The kind of an object. It never changes.
 #[derive(Clone, Copy, Debug, PartialEq, Eq)]
@@ -54,4 +57,21 @@ pub enum Node {
         size: u32,
         values: List<Value>,
     },
+}
+
+impl Node {
+    ghost use Rattle.nmgc_graph.specs.Change.{field_in};
+
+    /// The field at an index of a constructor, a variable or an array. `None` comes exactly where the
+    /// object is of another kind or has no such field. Takes no memory, and constant time.
+    pub fn field(&self, index: usize) -> Option<Value>
+        ensures { result ≡ field_in self.now index }
+    {
+        let fields = match self {
+            Node::Con { tag: _, values } | Node::Arr { values } => values.items(),
+            Node::Var { value } => slice::from_ref(value),
+            _ => return None,
+        };
+        fields.get(index).copied()
+    }
 }

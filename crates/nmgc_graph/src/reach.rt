@@ -32,6 +32,7 @@ impl World {
         requires { All (λ name. IsSome (node_of self.now name)) extra.now }
         ensures { IfOk result (λ names. Lists (IsLive self.now extra.now) names) }
     {
+        // Reading a field tells the checker what holds of every world: that it is closed.
         let _ = &self.mutators;
         let weaks = self.alive_weaks()?;
         let search = self.find_live(extra, weaks.items())?;
@@ -128,7 +129,7 @@ impl World {
         ensures { result ≡ is_lost search.now.marks finalised.now weak (parts_of self.now weak) }
     {
         match self.parts(weak) {
-            Some(parts) => !search.shows(parts.key) && !finalised.contains(weak),
+            Some(parts) => !search.is_key_marked(parts.key) && !finalised.contains(weak),
             None => false,
         }
     }
@@ -194,7 +195,7 @@ impl World {
     {
         let _ = &self.mutators;
         match self.parts(weak) {
-            Some(parts) if search.shows(parts.key) => {
+            Some(parts) if search.is_key_marked(parts.key) => {
                 search.mark_values(&[Value::Ref(weak), parts.value, parts.finaliser])
             }
             _ => Ok(()),
@@ -245,11 +246,7 @@ impl World {
         requires places { HasPlaces self.now search.old.marks }
         ensures { OnOk result (search.new ≡ with_values search.old (starts_of self.now extra.now)) }
     {
-        let shared = Name {
-            maker: SHARED_MAKER,
-            serial: 0,
-        };
-        search.mark(shared)?;
+        search.mark(Name::SHARED)?;
         mark_states(self.mutators.items(), search)?;
         search.mark_names(extra)
     }

@@ -33,10 +33,7 @@ struct Row {
     kept: &'static [Name],
 }
 
-const G: Name = Name {
-    maker: SHARED_MAKER,
-    serial: 0,
-};
+const G: Name = Name::SHARED;
 
 // The objects of the first mutator.
 const A0: Name = Name {

@@ -20,7 +20,7 @@ pub(crate) struct Search {
 }
 
 impl Search {
-    ghost use Rattle.nmgc_graph.specs.Search.{with_name, with_value, with_values, is_shown};
+    ghost use Rattle.nmgc_graph.specs.Search.{with_name, with_value, with_values, is_key_marked};
 
     /// Marks a name, which then waits, unless it was marked before.
     pub(crate) fn mark(&mut self, name: Name) -> Result<(), NoMemory>
@@ -85,9 +85,9 @@ impl Search {
         }
     }
 
-    /// Whether a value is nil, a number, or a reference to a marked name.
-    pub(crate) fn shows(&self, value: Value) -> bool
-        ensures { result ≡ is_shown self.now.marks value }
+    /// Whether a key is nil, a number, or a reference to a marked name.
+    pub(crate) fn is_key_marked(&self, value: Value) -> bool
+        ensures { result ≡ is_key_marked self.now.marks value }
     {
         match value {
             Value::Ref(name) => self.marks.contains(name),

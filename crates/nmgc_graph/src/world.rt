@@ -8,7 +8,10 @@
 //! Each command works on one level at a time, the state of a mutator or a node, in a function of its
 //! own; a method here only lends the part. Nothing is ever taken off the map, so a reference that
 //! was known stays known, and that is all that closedness needs.
-ghost use Rattle.std.specs.Prelude.{replicate, ◌≡◌, ◌-◌, ◌<◌, ◌≤◌, ◌^◌, length, map, IfOk, IfSome, IsSome, OnOk, OnErr, slice_get, option_copied, All};
+//!
+//! Easy to get wrong: after want of memory nothing may have changed, so what takes memory is done
+//! before a register is written.
+ghost use Rattle.std.specs.Prelude.{replicate, Some, None, [], ◌≡◌, ◌-◌, ◌<◌, ◌≤◌, ◌^◌, length, map, IfOk, IfSome, IsSome, OnOk, OnErr, slice_get, option_copied, All};
 ghost use Rattle.nmgc_graph.specs.World.{new_mutator};
 ghost use Rattle.nmgc_graph.specs.Command.{IsOperand, IsRegister};
 ghost use Rattle.nmgc_graph.specs.Step.{value_of, with_new, next_name, holding, with_finaliser, with_nth};
@@ -43,8 +46,8 @@ impl Model for World {
 
 impl World {
     ghost use Rattle.nmgc_graph.specs.World.{node_of, new_world, IsKnown, IsKnownReply, IsKnownChange, AreKnown, IsNodeOf, IsWorld, serial_of, Grows};
-    ghost use Rattle.nmgc_graph.specs.Command.{HasRegisters, IsMaking, IsReading};
-    ghost use Rattle.nmgc_graph.specs.Step.{step, value_for, values_for, born, with_register, keeping, object_of, read_object, asked, asked_write, change_asked, change_into, change_object, change_node, next_finaliser, same_reply};
+    ghost use Rattle.nmgc_graph.specs.Command.{HasRegisters};
+    ghost use Rattle.nmgc_graph.specs.Step.{step, value_for, values_for, born, with_register, keeping, object_of, read_object, asked, change_asked, change_into, change_object, change_node, next_finaliser, same_reply};
 
     /// The world of 1 to `MAKERS` mutators before any command: registers are nil, queues are empty,
     /// g is full of nil, and no mutator has made anything.
@@ -76,6 +79,7 @@ impl World {
         ensures grows { Grows self.old self.new mutator }
     {
         let answer = self.answer(mutator, command);
+        // Reading a field tells the checker what holds of every world: that it is closed.
         let _ = &self.mutators;
         answer
     }
@@ -89,15 +93,44 @@ impl World {
         ensures err { OnErr result (self.new ≡ self.old) }
     {
         match command {
-            Command::Num { dest, number } => Ok(self.take(mutator, *dest, Value::Number(*number))),
-            Command::Nil { dest } => Ok(self.take(mutator, *dest, Value::Nil)),
-            Command::Mov { dest, value } => Ok(self.take_operand(mutator, *dest, *value)),
-            Command::Show { value } => Ok(Reply::Given(self.value(mutator, *value))),
-            Command::Same { left, right } => Ok(self.compare(mutator, *left, *right)),
-            Command::NextFin { dest } => Ok(self.next_finaliser(mutator, *dest)),
-            Command::Yield | Command::Collect | Command::Full => Ok(Reply::Fine),
-            Command::Get { .. } | Command::Force { .. } | Command::Deref { .. } => {
-                Ok(self.read(mutator, command))
+            Command::Num { dest, number } => Ok(self.set_register(
+                mutator,
+                *dest,
+                Value::Number(*number),
+            )),
+            Command::Nil { dest } => Ok(self.set_register(mutator, *dest, Value::Nil)),
+            Command::Mov { dest, value } => Ok(self.set_register_from(mutator, *dest, *value)),
+            Command::Con { dest, tag, fields } => {
+                self.make_con(mutator, *dest, *tag, fields.items())
+            }
+            Command::Var { dest, value } => self.make_var(mutator, *dest, *value),
+            Command::Arr { dest, count, value } => self.make_arr(mutator, *dest, *count, *value),
+            Command::Thunk { dest, free } => self.make_thunk(mutator, *dest, free.items()),
+            Command::Weak {
+                dest,
+                key,
+                value,
+                finaliser,
+            } => self.make_weak(mutator, *dest, *key, *value, *finaliser),
+            Command::Stack { dest, size } => self.make_stack(mutator, *dest, *size),
+            Command::Get {
+                dest,
+                object,
+                index,
+            } => Ok(self.keep(
+                mutator,
+                *dest,
+                self.field(self.value(mutator, *object), *index),
+            )),
+            Command::Force { dest, object } => {
+                Ok(self.keep(mutator, *dest, self.result_of(self.value(mutator, *object))))
+            }
+            Command::Deref { dest, object } => {
+                Ok(self.keep(
+                    mutator,
+                    *dest,
+                    self.weak_value(self.value(mutator, *object)),
+                ))
             }
             Command::Set { .. }
             | Command::Cas { .. }
@@ -106,91 +139,112 @@ impl World {
             Command::Pop { dest, object: _ } | Command::Finalise { dest, object: _ } => {
                 self.change_into(mutator, *dest, command)
             }
-            _ => self.make(mutator, command),
+            Command::NextFin { dest } => Ok(self.next_finaliser(mutator, *dest)),
+            Command::Show { value } => Ok(Reply::Given(self.value(mutator, *value))),
+            Command::Same { left, right } => Ok(self.compare(mutator, *left, *right)),
+            Command::Yield | Command::Collect | Command::Full => Ok(Reply::Fine),
         }
     }
 
-    // Does a command that makes an object.
-    fn make(&mut self, mutator: u8, command: &Command) -> Result<Reply, NoMemory>
+    // Makes a constructor.
+    fn make_con(
+        &mut self,
+        mutator: u8,
+        dest: u8,
+        tag: u8,
+        fields: &[Operand],
+    ) -> Result<Reply, NoMemory>
         requires mutator { mutator < length self.old.mutators }
-        requires registers { HasRegisters command.now }
         requires serial { serial_of self.old mutator < 2 ^ 32 - 1 }
-        requires making { IsMaking command.now }
-        ensures step { IfOk result (λ reply. step self.old mutator command.now ≡ (self.new, reply)) }
+        requires dest { IsRegister dest }
+        requires fields { All IsOperand fields.now }
+        ensures born { IfOk result (λ reply. born self.old mutator dest (Node.Con tag (values_for self.old mutator fields.now)) ≡ (self.new, reply)) }
         ensures err { OnErr result (self.new ≡ self.old) }
     {
-        match command {
-            Command::Con { dest, tag, fields } => {
-                let values = self.values(mutator, fields.items())?;
-                self.add(mutator, *dest, Node::Con { tag: *tag, values })
-            }
-            Command::Var { dest, value } => {
-                let value = self.value(mutator, *value);
-                self.add(mutator, *dest, Node::Var { value })
-            }
-            Command::Arr { dest, count, value } => {
-                let value = self.value(mutator, *value);
-                let values = copies(self.alloc, value, *count as usize)?;
-                self.add(mutator, *dest, Node::Arr { values })
-            }
-            Command::Thunk { dest, free } => {
-                let free = self.values(mutator, free.items())?;
-                self.add(mutator, *dest, Node::Thunk { free, result: None })
-            }
-            Command::Weak {
-                dest,
-                key,
-                value,
-                finaliser,
-            } => {
-                let parts = Parts {
-                    key: self.value(mutator, *key),
-                    value: self.value(mutator, *value),
-                    finaliser: self.value(mutator, *finaliser),
-                };
-                self.add(mutator, *dest, Node::Weak { parts: Some(parts) })
-            }
-            Command::Stack { dest, size } => {
-                let values = List::new(self.alloc);
-                self.add(
-                    mutator,
-                    *dest,
-                    Node::Stack {
-                        size: *size,
-                        values,
-                    },
-                )
-            }
-            _ => unreachable!(),
-        }
+        let values = self.values(mutator, fields)?;
+        self.add(mutator, dest, Node::Con { tag, values })
     }
 
-    // Does a command that reads an object and leaves it.
-    fn read(&mut self, mutator: u8, command: &Command) -> Reply
+    // Makes a variable.
+    fn make_var(&mut self, mutator: u8, dest: u8, value: Operand) -> Result<Reply, NoMemory>
         requires mutator { mutator < length self.old.mutators }
-        requires registers { HasRegisters command.now }
-        requires reading { IsReading command.now }
-        ensures { step self.old mutator command.now ≡ (self.new, result) }
+        requires serial { serial_of self.old mutator < 2 ^ 32 - 1 }
+        requires dest { IsRegister dest }
+        requires value { IsOperand value }
+        ensures born { IfOk result (λ reply. born self.old mutator dest (Node.Var (value_for self.old mutator value)) ≡ (self.new, reply)) }
+        ensures err { OnErr result (self.new ≡ self.old) }
     {
-        match command {
-            Command::Get {
-                dest,
-                object,
-                index,
-            } => {
-                let reply = self.field(self.value(mutator, *object), *index);
-                self.keep(mutator, *dest, reply)
-            }
-            Command::Force { dest, object } => {
-                let reply = self.result_of(self.value(mutator, *object));
-                self.keep(mutator, *dest, reply)
-            }
-            Command::Deref { dest, object } => {
-                let reply = self.weak_value(self.value(mutator, *object));
-                self.keep(mutator, *dest, reply)
-            }
-            _ => unreachable!(),
-        }
+        let value = self.value(mutator, value);
+        self.add(mutator, dest, Node::Var { value })
+    }
+
+    // Makes an array of so many copies of a value.
+    fn make_arr(
+        &mut self,
+        mutator: u8,
+        dest: u8,
+        count: u32,
+        value: Operand,
+    ) -> Result<Reply, NoMemory>
+        requires mutator { mutator < length self.old.mutators }
+        requires serial { serial_of self.old mutator < 2 ^ 32 - 1 }
+        requires dest { IsRegister dest }
+        requires value { IsOperand value }
+        ensures born { IfOk result (λ reply. born self.old mutator dest (Node.Arr (replicate count (value_for self.old mutator value))) ≡ (self.new, reply)) }
+        ensures err { OnErr result (self.new ≡ self.old) }
+    {
+        let value = self.value(mutator, value);
+        let values = copies(self.alloc, value, count as usize)?;
+        self.add(mutator, dest, Node::Arr { values })
+    }
+
+    // Makes a thunk without a result.
+    fn make_thunk(&mut self, mutator: u8, dest: u8, free: &[Operand]) -> Result<Reply, NoMemory>
+        requires mutator { mutator < length self.old.mutators }
+        requires serial { serial_of self.old mutator < 2 ^ 32 - 1 }
+        requires dest { IsRegister dest }
+        requires free { All IsOperand free.now }
+        ensures born { IfOk result (λ reply. born self.old mutator dest (Node.Thunk (values_for self.old mutator free.now) None) ≡ (self.new, reply)) }
+        ensures err { OnErr result (self.new ≡ self.old) }
+    {
+        let free = self.values(mutator, free)?;
+        self.add(mutator, dest, Node::Thunk { free, result: None })
+    }
+
+    // Makes a weak pointer, alive.
+    fn make_weak(
+        &mut self,
+        mutator: u8,
+        dest: u8,
+        key: Operand,
+        value: Operand,
+        finaliser: Operand,
+    ) -> Result<Reply, NoMemory>
+        requires mutator { mutator < length self.old.mutators }
+        requires serial { serial_of self.old mutator < 2 ^ 32 - 1 }
+        requires dest { IsRegister dest }
+        requires operands { IsOperand key × IsOperand value × IsOperand finaliser }
+        ensures born { IfOk result (λ reply. born self.old mutator dest (Node.Weak (Some (record { key = value_for self.old mutator key; value = value_for self.old mutator value; finaliser = value_for self.old mutator finaliser }))) ≡ (self.new, reply)) }
+        ensures err { OnErr result (self.new ≡ self.old) }
+    {
+        let parts = Parts {
+            key: self.value(mutator, key),
+            value: self.value(mutator, value),
+            finaliser: self.value(mutator, finaliser),
+        };
+        self.add(mutator, dest, Node::Weak { parts: Some(parts) })
+    }
+
+    // Makes an empty stack for at most `size` values.
+    fn make_stack(&mut self, mutator: u8, dest: u8, size: u32) -> Result<Reply, NoMemory>
+        requires mutator { mutator < length self.old.mutators }
+        requires serial { serial_of self.old mutator < 2 ^ 32 - 1 }
+        requires dest { IsRegister dest }
+        ensures born { IfOk result (λ reply. born self.old mutator dest (Node.Stack size []) ≡ (self.new, reply)) }
+        ensures err { OnErr result (self.new ≡ self.old) }
+    {
+        let values = List::new(self.alloc);
+        self.add(mutator, dest, Node::Stack { size, values })
     }
 
     /// What `get` answers: a field of the object that a value refers to. Takes no memory, and
@@ -269,63 +323,66 @@ impl World {
         ensures object { IfSome result (λ asked. IsKnown self.now asked.0) }
         ensures change { IfSome result (λ asked. IsKnownChange self.now asked.1) }
     {
-        match command {
-            Command::Update { object, value } => {
-                let value = self.value(mutator, *value);
-                Some((self.value(mutator, *object), Change::Update { value }))
-            }
-            Command::Push { object, value } => {
-                let value = self.value(mutator, *value);
-                Some((
-                    self.value(mutator, *object),
-                    Change::Push { mutator, value },
-                ))
-            }
-            Command::Pop { dest: _, object } => {
-                Some((self.value(mutator, *object), Change::Pop { mutator }))
-            }
-            Command::Finalise { dest: _, object } => {
-                Some((self.value(mutator, *object), Change::Finalise))
-            }
-            _ => self.asked_write(mutator, command),
-        }
-    }
-
-    // The same for the writes of a field.
-    fn asked_write(&self, mutator: u8, command: &Command) -> Option<(Value, Change)>
-        requires mutator { mutator < length self.now.mutators }
-        requires registers { HasRegisters command.now }
-        ensures asked { result ≡ asked_write self.now mutator command.now }
-        ensures object { IfSome result (λ asked. IsKnown self.now asked.0) }
-        ensures change { IfSome result (λ asked. IsKnownChange self.now asked.1) }
-    {
-        match command {
+        let (object, change) = match command {
             Command::Set {
                 object,
                 index,
                 value,
-            } => {
-                let change = Change::Set {
+            } => (
+                object,
+                Change::Set {
                     index: *index,
                     value: self.value(mutator, *value),
-                };
-                Some((self.value(mutator, *object), change))
-            }
+                },
+            ),
             Command::Cas {
                 object,
                 index,
                 expected,
                 value,
-            } => {
-                let change = Change::Exchange {
+            } => (
+                object,
+                Change::Exchange {
                     index: *index,
                     expected: self.value(mutator, *expected),
                     value: self.value(mutator, *value),
-                };
-                Some((self.value(mutator, *object), change))
-            }
-            _ => None,
-        }
+                },
+            ),
+            Command::Update { object, value } => (
+                object,
+                Change::Update {
+                    value: self.value(mutator, *value),
+                },
+            ),
+            Command::Push { object, value } => (
+                object,
+                Change::Push {
+                    mutator,
+                    value: self.value(mutator, *value),
+                },
+            ),
+            Command::Pop { dest: _, object } => (object, Change::Pop { mutator }),
+            Command::Finalise { dest: _, object } => (object, Change::Finalise),
+            Command::Num { .. }
+            | Command::Nil { .. }
+            | Command::Mov { .. }
+            | Command::Con { .. }
+            | Command::Var { .. }
+            | Command::Arr { .. }
+            | Command::Thunk { .. }
+            | Command::Weak { .. }
+            | Command::Stack { .. }
+            | Command::Get { .. }
+            | Command::Force { .. }
+            | Command::Deref { .. }
+            | Command::NextFin { .. }
+            | Command::Show { .. }
+            | Command::Same { .. }
+            | Command::Yield
+            | Command::Collect
+            | Command::Full => return None,
+        };
+        Some((self.value(mutator, *object), change))
     }
 
     /// The value that an operand has for a mutator. Takes no memory, and constant time.
@@ -385,7 +442,7 @@ impl World {
     }
 
     // A register takes a value.
-    fn take(&mut self, mutator: u8, register: u8, value: Value) -> Reply
+    fn set_register(&mut self, mutator: u8, register: u8, value: Value) -> Reply
         requires mutator { mutator < length self.old.mutators }
         requires register { IsRegister register }
         requires known { IsKnown self.old value }
@@ -401,7 +458,7 @@ impl World {
     }
 
     // A register takes an operand's value.
-    fn take_operand(&mut self, mutator: u8, register: u8, operand: Operand) -> Reply
+    fn set_register_from(&mut self, mutator: u8, register: u8, operand: Operand) -> Reply
         requires mutator { mutator < length self.old.mutators }
         requires register { IsRegister register }
         requires operand { IsOperand operand }
@@ -409,7 +466,7 @@ impl World {
         ensures reply { result ≡ Reply.Fine }
     {
         let value = self.value(mutator, operand);
-        self.take(mutator, register, value)
+        self.set_register(mutator, register, value)
     }
 
     /// What `same` answers: whether two operands have the same value. Takes no memory, and constant
@@ -436,7 +493,7 @@ impl World {
         ensures reply { result ≡ reply }
     {
         if let Reply::Given(value) = reply {
-            self.take(mutator, register, value);
+            self.set_register(mutator, register, value);
         }
         reply
     }
@@ -529,10 +586,7 @@ fn value_at(registers: &[Value], operand: Operand) -> Value
 {
     match operand {
         Operand::Register(register) => registers[register as usize],
-        Operand::Shared => Value::Ref(Name {
-            maker: SHARED_MAKER,
-            serial: 0,
-        }),
+        Operand::Shared => Value::Ref(Name::SHARED),
     }
 }
 

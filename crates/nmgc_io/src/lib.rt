@@ -12,7 +12,7 @@
 //! - `transfer`: `read_all` and `write_all`.
 //! - `numbers`: decimal text of numbers, written and read.
 //!
-//! It stands on `nmgc_graph` for `NoMemory` alone. The grammar, the report and the program stand on it.
+//! It stands on `nmgc_lists` for `NoMemory` alone. The grammar, the report and the program stand on it.
 #![tactic(auto)]
 
 pub mod ends;

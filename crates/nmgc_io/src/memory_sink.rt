@@ -9,7 +9,7 @@ ghost use Rattle.std.specs.Io.KnownBytes.{WriteAppends};
 ghost use Rattle.nmgc_io.specs.Causes.{HasCause, next};
 
 use crate::{Failed, Sink};
-use nmgc_graph::NoMemory;
+use nmgc_lists::NoMemory;
 use std::alloc::Global;
 use std::marker::Model;
 

@@ -9,7 +9,7 @@ ghost use Rattle.std.specs.Prelude.{◌≡◌, ◌≢◌, ℕ, ◌+◌, ◌-◌,
 ghost use Rattle.std.specs.Int.{IsInRange};
 
 use itoa::Buffer;
-use nmgc_graph::NoMemory;
+use nmgc_lists::NoMemory;
 
 /// Appends a number's decimal text. After `NoMemory` nothing was appended.
 pub fn push_number(out: &mut Vec<u8>, number: u64) -> Result<(), NoMemory>

@@ -11,7 +11,7 @@ module _ {T : Type 0} where
   items_of (Many items) = items.items
 
   -- a pair has two items, and a single one has one
-  abbrev pub IsFull : Items T → Type 0
-  IsFull (Pair pair) = length pair.items ≡ 2
-  IsFull (Single single) = length single.items ≡ 1
-  IsFull (Many items) = Unit {0}
+  abbrev pub HasExactLength : Items T → Type 0
+  HasExactLength (Pair pair) = length pair.items ≡ 2
+  HasExactLength (Single single) = length single.items ≡ 1
+  HasExactLength (Many items) = Unit {0}

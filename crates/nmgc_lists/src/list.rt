@@ -4,8 +4,11 @@
 //! constructors have one or two fields, and a script has a list of operands for every one that it makes, so
 //! `pair` spares a long script an allocation for each. Only `push` and `copy` take memory; after a refusal the
 //! list is unchanged. Where the items lie is not part of the list's value: contracts never see it.
+//!
+//! Easy to get wrong: a list that `pair` made has no vector, also once an item was taken off. So the next `push`
+//! onto it takes memory, even if the value itself would have room.
 ghost use Rattle.std.specs.Prelude.{◌≡◌, ◌≤◌, [], ◌∷◌, ◌++◌, IfSome, IfNone, IfOk, OnOk, OnErr, vec_capacity};
-ghost use Rattle.nmgc_lists.specs.Items.{items_of, IsFull};
+ghost use Rattle.nmgc_lists.specs.Items.{items_of, HasExactLength};
 
 use crate::NoMemory;
 use arrayvec::ArrayVec;
@@ -21,13 +24,13 @@ pub struct List<T> {
 
 impl<T> Model for List<T> {
     ghost use Rattle.std.specs.Prelude.{List};
-    ghost use Rattle.nmgc_lists.specs.Items.{items_of, IsFull};
+    ghost use Rattle.nmgc_lists.specs.Items.{items_of, HasExactLength};
 
     ghost Value = { List T };
 
     ghost view = { λ a. items_of a.items };
 
-    ghost invariant = { λ a. IsFull a.items };
+    ghost invariant = { λ a. HasExactLength a.items };
 }
 
 /// Where the items lie: one or two in the value itself, or any number in a vector.
@@ -75,14 +78,14 @@ impl<T> Items<T> {
 // An item that lies in the list itself.
 fn single<T>(alloc: Global, item: T) -> Items<T>
     ensures items { items_of result ≡ item ∷ [] }
-    ensures full { IsFull result }
+    ensures full { HasExactLength result }
 {
     Items::Single(ArrayVec::from_array_in(alloc, [item]))
 }
 
 // The items in a vector, which is the empty `room` if they lie in none yet. Takes no memory.
 fn gathered<T: Drop>(items: Items<T>, room: Vec<T>) -> Vec<T>
-    requires full { IsFull items }
+    requires full { HasExactLength items }
     requires empty { room.items ≡ [] }
     requires enough { 2 ≤ vec_capacity room }
     ensures { result.items ≡ items_of items }
@@ -106,8 +109,8 @@ fn gathered<T: Drop>(items: Items<T>, room: Vec<T>) -> Vec<T>
 
 // The items before the last, and the last. Takes no memory.
 fn last_of<T: Drop>(items: Items<T>) -> (Items<T>, Option<T>)
-    requires { IsFull items }
-    ensures full { IsFull result.0 }
+    requires { HasExactLength items }
+    ensures full { HasExactLength result.0 }
     ensures last { IfSome result.1 (λ item. items_of items ≡ items_of result.0 ++ item ∷ []) }
     ensures empty { IfNone result.1 ((items_of items ≡ []) × (items_of result.0 ≡ [])) }
 {
@@ -131,8 +134,8 @@ fn last_of<T: Drop>(items: Items<T>) -> (Items<T>, Option<T>)
 
 // The first item, and the items after it. Takes no memory.
 fn first_of<T: Drop>(items: Items<T>) -> (Option<T>, Items<T>)
-    requires { IsFull items }
-    ensures full { IsFull result.1 }
+    requires { HasExactLength items }
+    ensures full { HasExactLength result.1 }
     ensures first { IfSome result.0 (λ item. items_of items ≡ item ∷ items_of result.1) }
     ensures empty { IfNone result.0 ((items_of items ≡ []) × (items_of result.1 ≡ [])) }
 {
@@ -167,8 +170,8 @@ fn first_taken<T>(items: &mut Vec<T>) -> Option<T>
 // Each of these is for items that lie in the value itself. It is right for a vector's too, and slower.
 impl<T: Drop> Items<T> {
     fn add(&mut self, item: T) -> Result<(), NoMemory>
-        requires { IsFull self.old }
-        ensures full { IsFull self.new }
+        requires { HasExactLength self.old }
+        ensures full { HasExactLength self.new }
         ensures ok { OnOk result (items_of self.new ≡ items_of self.old ++ item ∷ []) }
         ensures err { OnErr result (items_of self.new ≡ items_of self.old) }
     {
@@ -183,8 +186,8 @@ impl<T: Drop> Items<T> {
     }
 
     fn take_last(&mut self) -> Option<T>
-        requires { IsFull self.old }
-        ensures full { IsFull self.new }
+        requires { HasExactLength self.old }
+        ensures full { HasExactLength self.new }
         ensures last { IfSome result (λ item. items_of self.old ≡ items_of self.new ++ item ∷ []) }
         ensures empty { IfNone result ((items_of self.old ≡ []) × (items_of self.new ≡ [])) }
     {
@@ -196,8 +199,8 @@ impl<T: Drop> Items<T> {
     }
 
     fn take_first(&mut self) -> Option<T>
-        requires { IsFull self.old }
-        ensures full { IsFull self.new }
+        requires { HasExactLength self.old }
+        ensures full { HasExactLength self.new }
         ensures first { IfSome result (λ item. items_of self.old ≡ item ∷ items_of self.new) }
         ensures empty { IfNone result ((items_of self.old ≡ []) × (items_of self.new ≡ [])) }
     {

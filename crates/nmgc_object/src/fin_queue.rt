@@ -6,6 +6,8 @@
 //! Deaths are queued at a stop that must not run out of memory, so room is made before: `add` only
 //! uses it. Taking the first word moves an index and no words. What was taken keeps its memory until
 //! the queue is empty, or until room is made while more words were taken than are left.
+//!
+//! Easy to get wrong: places count from the first word that is left, and not from the first that was ever added.
 ghost use Rattle.std.specs.Prelude.{◌≡◌, ◌+◌, ◌-◌, ◌<◌, ◌≤◌, [], ◌∷◌, ◌++◌, length, drop, slice_get, slice_set, OnOk, OnErr};
 
 use nmgc_graph::{List, NoMemory};

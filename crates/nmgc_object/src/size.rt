@@ -8,8 +8,9 @@ ghost use Rattle.nmgc_object.specs.Parts.{object_size};
 ghost use Rattle.nmgc_object.specs.Size.{word_count, block_size};
 ghost use Rattle.nmgc_object.specs.Words.{IsHeader};
 
-use crate::words::{Header, VAR_FIELDS, WEAK_FIELDS};
+use crate::words::{Header, MAX_FIELDS, VAR_FIELDS, WEAK_FIELDS};
 use nmgc_graph::Kind;
+use nmgc_limits::MAX_SEGMENT_WORDS;
 
 /// The words before an object's fields: the header and the name.
 pub const HEADER_WORDS: u32 = 2;
@@ -17,8 +18,8 @@ pub const HEADER_WORDS: u32 = 2;
 /// How far an object's name lies from its first word, which is the header.
 pub const NAME_OFFSET: u32 = 1;
 
-/// The most parts that `words_of` is asked for.
-pub const MAX_PARTS: u32 = 4094;
+/// The most parts that `words_of` is asked for: as many as an object may have fields.
+pub const MAX_PARTS: u32 = MAX_FIELDS;
 
 /// The words of a block of class 0.
 pub const MIN_BLOCK_WORDS: u32 = 4;
@@ -26,8 +27,12 @@ pub const MIN_BLOCK_WORDS: u32 = 4;
 /// The greatest class. Its block is the largest segment.
 pub const MAX_CLASS: u8 = 10;
 
-/// The words of a block of the greatest class.
-pub const MAX_BLOCK_WORDS: u32 = 4096;
+/// The words of a block of the greatest class: those of the largest segment.
+pub const MAX_BLOCK_WORDS: u32 = MAX_SEGMENT_WORDS;
+
+const _: () = prove!(MAX_BLOCK_WORDS == MIN_BLOCK_WORDS << MAX_CLASS);
+
+const _: () = prove!(MAX_BLOCK_WORDS == HEADER_WORDS + MAX_FIELDS);
 
 /// The words of an object of this kind with so many parts: the values of a constructor or an array,
 /// the free variables of a thunk, the slots of a stack. A thunk has one word more, for its result;
@@ -63,7 +68,8 @@ pub fn block_words(class: u8) -> u32
     MIN_BLOCK_WORDS << class
 }
 
-/// The least class whose block holds so many words. Takes no memory.
+/// The least class whose block holds so many words. A block of class c has 4 * 2^c words, so this is
+/// the number of binary digits of `(words - 1) / 4`. Takes no memory, and constant time.
 pub fn class_of(words: u32) -> u8
     requires least { 2 ≤ words }
     requires most { words ≤ MAX_BLOCK_WORDS }
@@ -71,10 +77,6 @@ pub fn class_of(words: u32) -> u8
     ensures least { (class : ℕ) → class < result → block_size class < words }
     ensures most { result ≤ MAX_CLASS }
 {
-    for class in 0..MAX_CLASS {
-        if words <= block_words(class) {
-            return class;
-        }
-    }
-    MAX_CLASS
+    let full = (words - 1) / MIN_BLOCK_WORDS;
+    (u32::BITS - full.leading_zeros()) as u8
 }

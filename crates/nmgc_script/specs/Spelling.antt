@@ -12,6 +12,7 @@ use Rattle.nmgc_script.specs.declared.verbs.Verb.TheVariants as verb
 use Rattle.nmgc_script.specs.Limits.{FitsScript}
 use Rattle.nmgc_script.specs.Text.{kept_lines}
 
+-- the word of a register, and of an operand
 abbrev pub register_word : ℕ → List ℕ
 register_word r = 114 ∷ decimal r
 

@@ -5,7 +5,6 @@
 //! large for a segment is a fault of its size and comes after all faults of words, while one above
 //! 65,535 is no count at all.
 ghost use Rattle.std.specs.Prelude.{◌≡◌, ◌<◌, map};
-ghost use Rattle.nmgc_graph.specs.Command.{words_made};
 ghost use Rattle.nmgc_script.specs.Reading.{Gives, none_at, operands_at, sized, command_at};
 
 use crate::verbs::{Verb, verb_of};
@@ -94,23 +93,8 @@ fn alone(command: Command, words: &[&[u8]]) -> Result<Command, LineFault>
 fn sized(command: Command, size: u32) -> Result<Command, LineFault>
     ensures { Gives result (sized size command) }
 {
-    if words_made(&command) > size as usize {
+    if command.words_made() > size as usize {
         return Err(LineFault::Bad(Cause::Size));
     }
     Ok(command)
-}
-
-// How many words the object has that a command makes: a header, a name, and a word for each part.
-fn words_made(command: &Command) -> usize
-    ensures { result ≡ words_made command.now }
-{
-    match command {
-        Command::Con { fields, .. } => 2 + fields.items().len(),
-        Command::Var { .. } => 3,
-        Command::Arr { count, .. } => 2 + *count as usize,
-        Command::Thunk { free, .. } => 3 + free.items().len(),
-        Command::Weak { .. } => 5,
-        Command::Stack { size, .. } => 2 + *size as usize,
-        _ => 0,
-    }
 }

@@ -51,7 +51,8 @@ fn total_words(config: &Config, threads: u8) -> u32
     config.segments * config.words + threads as u32 * config.nursery
 }
 
-// The line that begins the section of the next thread, where so many were begun before.
+/// Reads the line that begins the section of the next thread, where so many were begun before. `Bad`
+/// has the first cause by which it is none. Takes no memory.
 #[tactic(auto, unfolding(crate::specs::Reading::section_at))]
 pub fn section(
     version: Version,
@@ -82,7 +83,9 @@ fn is_section(words: &[&[u8]]) -> bool
     }
 }
 
-// A line after the first section line, where so many sections were begun before.
+/// Reads a line after the first section line, where so many sections were begun before: the next
+/// section's line, or a command. `Bad` has the line's first cause. Takes memory for a command's
+/// operands alone.
 #[tactic(auto, unfolding(crate::specs::Reading::entry_at))]
 pub fn read_entry(
     alloc: Global,

@@ -9,7 +9,7 @@ ghost use Rattle.nmgc_script.specs.Text.{lines_of, words_of, is_passed, kept_aft
 
 use nmgc_graph::NoMemory;
 
-/// A place in a text: at the begin of a line.
+/// A place in a text: the beginning of a line.
 #[derive(Drop)]
 pub struct Lines<'a> {
     rest: &'a [u8],
@@ -18,7 +18,7 @@ pub struct Lines<'a> {
 }
 
 impl<'a> Lines<'a> {
-    /// The begin of a text. Takes no memory.
+    /// The beginning of a text. Takes no memory.
     pub fn new(bytes: &'a [u8]) -> Self
         requires { length bytes.now ≤ 2 ^ 31 }
         ensures kept { kept_after result.number result.rest.now ≡ kept_lines bytes.now }

@@ -26,12 +26,12 @@ use Rattle.nmgc_graph.specs.laws.Worlds.{not_shared, at_some}
 use Rattle.nmgc_core.specs.State.{State, names_of}
 use Rattle.nmgc_reach.specs.Owed.{values_owed, owed_by}
 use Rattle.nmgc_core.specs.Machine.{after_command}
-use Rattle.nmgc_reach.specs.Holds.{Names, Fields, Holds, StillThere}
+use Rattle.nmgc_reach.specs.Holds.{Names, Fields, CoversReach, StillThere}
 use Rattle.nmgc_core.specs.Facts.{AsThen, MayHold, IsSafe, IsAhead, Kept, Base, Facts, owed, pushed, queued, marked, unmarked}
 use Rattle.nmgc_reach.specs.laws.Alive.{AliveOk, WeaksOk, step_weaks}
 use Rattle.nmgc_core.specs.laws.Listed.{each_names, names_same, names_other, names_among_have, name_among, all_from_contains}
 use Rattle.nmgc_core.specs.laws.Lives.{live_more}
-use Rattle.nmgc_reach.specs.laws.Moves.{Moves, operand_has}
+use Rattle.nmgc_reach.specs.laws.Moves.{RespectsBarrier, operand_has}
 use Rattle.nmgc_reach.specs.laws.NodeLaws.{own_node}
 use Rattle.nmgc_core.specs.laws.Turns.{step_adds, step_alive}
 use Rattle.nmgc_reach.specs.laws.WeakMoves.{all_moves, opened_owed, Ends, finalised_owed}
@@ -81,7 +81,7 @@ module _ (s : State) (f : Facts s) (w : IsWorld s.world) (m : ℕ) (c : Command)
   more_names : (names : List Name) → All (MayHold s) names → All (MayHold next) names
   more_names names h k d at = more (get_or names k d) (h k d at)
 
-  more_holds : Holds (MayHold next) s.world
+  more_holds : CoversReach (MayHold next) s.world
   more_holds = record {
     registers = λ k. more_values (state_of s.world k).registers (f.base.holds.registers k);
     queues = λ k. more_values (state_of s.world k).queue (f.base.holds.queues k);
@@ -107,7 +107,7 @@ module _ (s : State) (f : Facts s) (w : IsWorld s.world) (m : ℕ) (c : Command)
   opened_may : (name : Name) → Contains (opened_by s.world m c) name → MayHold next name
   opened_may name k there = further name (Contains-append_right s.opened (opened_by s.world m c) name k) there
 
-  moves : Moves (MayHold next) s.world (step s.world m c).0 (values_owed s.world m c)
+  moves : RespectsBarrier (MayHold next) s.world (step s.world m c).0 (values_owed s.world m c)
   moves = all_moves (MayHold next) s.world m c lt own shared_may next_may opened_may more_holds
 
   grows : Grows s.world (step s.world m c).0 m

@@ -19,7 +19,7 @@ use Rattle.nmgc_reach.specs.laws.ItemLaws.{nothing_in}
 use Rattle.nmgc_core.specs.laws.Listed.{contains_listed, not_listed}
 use Rattle.nmgc_core.specs.laws.Lives.{stands, refers, target_there, part_there}
 use Rattle.nmgc_core.specs.Facts.{IsLiveIn, IsSafe, IsAhead, Facts}
-use Rattle.nmgc_reach.specs.Holds.{Stands}
+use Rattle.nmgc_reach.specs.Holds.{HasStrongField}
 use Rattle.nmgc_core.specs.Facts as facts
 
 none_of : (lists : List (List Name)) → AreEmpty lists → (m : ℕ) → names_of lists m ≡ []
@@ -47,7 +47,7 @@ module _ (s : State) (f : Facts s) (queue : s.queue ≡ []) (owed : AreEmpty s.o
   -- what a field of the snapshot refers to is marked, or the field still stands, and then its object isn't marked
   marked_or_stands : (name target : Name) → RefersTo s.snapshot name target → Contains s.marked target ⊎ (RefersTo s.world name target × (Contains s.marked name → ⊥))
   marked_or_stands name target r =
-      let p : (i : ℕ) × Stands s.snapshot name i (value.Ref target) = stands s.snapshot name target r in
+      let p : (i : ℕ) × HasStrongField s.snapshot name i (value.Ref target) = stands s.snapshot name target r in
       elim (f.kept name p.0 target p.1) [
         | inl safe ↦ inl (safe_marked target safe)
         | inr ahead ↦ inr (refers s.world name target p.0 ahead.0, λ c. none_ahead name p.0 c ahead.1)

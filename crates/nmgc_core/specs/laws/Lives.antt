@@ -14,7 +14,7 @@ use Rattle.nmgc_reach.specs.Holds.{strong_at}
 use Rattle.nmgc_reach.specs.laws.Barrier.{place_of_field, field_at_place}
 use Rattle.nmgc_graph.specs.laws.Orders.{contains_head, contains_tail}
 use Rattle.nmgc_graph.specs.laws.Worlds.{at_some}
-use Rattle.nmgc_reach.specs.Holds.{Stands}
+use Rattle.nmgc_reach.specs.Holds.{HasStrongField}
 
 -- strong fields are among what a node holds
 strong_held : (Q : Value → Type 0) (node : Node) → All Q (held_by node) → All Q (strong_fields node)
@@ -33,10 +33,10 @@ target_there w h name target (node, is, c) =
     let mine : IsNodeOf w node = at_some (node_of w name) node (IsNodeOf w) is (h.nodes name) in
     All-contains P (strong_fields node) (value.Ref target) (strong_held P node mine.known) c
 
-pub refers : (w : World) (name target : Name) (i : ℕ) → Stands w name i (value.Ref target) → RefersTo w name target
+pub refers : (w : World) (name target : Name) (i : ℕ) → HasStrongField w name i (value.Ref target) → RefersTo w name target
 refers w name target i s = (s.node, s.node_is, field_at_place s.node i (value.Ref target) s.field)
 
-pub stands : (w : World) (name target : Name) → RefersTo w name target → (i : ℕ) × Stands w name i (value.Ref target)
+pub stands : (w : World) (name target : Name) → RefersTo w name target → (i : ℕ) × HasStrongField w name i (value.Ref target)
 stands w name target (node, is, c) = let p : (i : ℕ) × (strong_at node i ≡ Some (value.Ref target)) = place_of_field node (value.Ref target) c in (p.0, record { node = node; node_is = is; field = p.1 })
 
 pub root_there : (w : World) → IsWorld w → (name : Name) → IsRoot w name → IsSome (node_of w name)

@@ -12,7 +12,7 @@ use Rattle.nmgc_core.specs.declared.event.Entry.{Entry}
 use Rattle.nmgc_core.specs.State.{State, is_new, is_listed, with_mark, mark_name, entry_of}
 use Rattle.nmgc_core.specs.laws.Listed.{contains_listed}
 use Rattle.nmgc_graph.specs.laws.Rows.{name_cases}
-use Rattle.nmgc_reach.specs.Holds.{Stands}
+use Rattle.nmgc_reach.specs.Holds.{HasStrongField}
 use Rattle.nmgc_core.specs.Facts.{MayHold, IsLiveIn, IsSafe, IsAhead, Kept, Base, Facts, owed, pushed, queued, marked, unmarked}
 
 -- a name that is new is marked, and any other is left
@@ -85,7 +85,7 @@ pub mark_facts : (s : State) (name : Name) → Facts s → MayHold s name → Fa
 mark_facts s name f may = record {
   base = mark_base s name f.base may;
   roots = mark_cases (λ t. (n : Name) → IsRoot t.snapshot n → Contains t.marked n) s name (λ e n r. Contains-append_left s.marked (name ∷ []) n (f.roots n r)) (λ e n r. f.roots n r);
-  kept = mark_cases (λ t. (n : Name) (i : ℕ) (target : Name) → Stands t.snapshot n i (value.Ref target) → Kept t n i target) s name
+  kept = mark_cases (λ t. (n : Name) (i : ℕ) (target : Name) → HasStrongField t.snapshot n i (value.Ref target) → Kept t n i target) s name
       (λ e n i target h. elim (f.kept n i target h) [ inl a ↦ inl (safe_then s name target a) | inr b ↦ inr (b.0, ahead_then s name n i b.1) ])
       (λ e n i target h. f.kept n i target h);
   opened = mark_cases (λ t. (n : Name) → Contains t.opened n → IsSome (node_of t.snapshot n) → IsSafe t n) s name (λ e n c there. safe_then s name n (f.opened n c there)) (λ e n c there. f.opened n c there);

@@ -22,7 +22,7 @@ use Rattle.nmgc_reach.specs.laws.Barrier.{field_at_place, same_later}
 use Rattle.nmgc_reach.specs.Holds.{Fields}
 use Rattle.nmgc_core.specs.laws.Listed.{all_from_contains}
 use Rattle.nmgc_core.specs.laws.Lives.{target_there, refers, root_there}
-use Rattle.nmgc_reach.specs.Holds.{Names, Stands}
+use Rattle.nmgc_reach.specs.Holds.{Names, HasStrongField}
 use Rattle.nmgc_core.specs.laws.Marking.{mark_cases, mark_base, marked_then, still_marked, kept_then}
 use Rattle.nmgc_core.specs.Facts.{MayHold, IsLiveIn, Kept, Base, Facts, marked}
 use Rattle.nmgc_core.specs.Facts as facts
@@ -152,7 +152,7 @@ module _ (w : World) (h : IsWorld w) where
     | inr c ↦ values_marked (unmarked w) (root_values w) name (root_there w h name r) c
   ]
 
-  open_kept : (n : Name) (i : ℕ) (target : Name) → Stands w n i (value.Ref target) → Kept (opening w) n i target
+  open_kept : (n : Name) (i : ℕ) (target : Name) → HasStrongField w n i (value.Ref target) → Kept (opening w) n i target
   open_kept n i target st = elim (name_cases n shared_name) [
     | inl g ↦
         let same : Some st.node ≡ Some w.shared = sym st.node_is ∙ ap (λ a. node_of w a) g in
@@ -168,7 +168,7 @@ module _ (w : World) (h : IsWorld w) where
       record {
         base = values_base (unmarked w) (root_values w) (start_base w h) roots_held;
         roots = λ name r. root_marked name (subst (λ (v : World). IsRoot v name) e r);
-        kept = λ n i target st. open_kept n i target (subst (λ (v : World). Stands v n i (value.Ref target)) e st);
+        kept = λ n i target st. open_kept n i target (subst (λ (v : World). HasStrongField v n i (value.Ref target)) e st);
         opened = λ name c there. absurd (nothing_in name (rw (values_lists (unmarked w) (root_values w)).0 at c));
         ended = λ weak c there. absurd (nothing_in weak (rw (values_lists (unmarked w) (root_values w)).1 at c));
         finalised = λ weak target parts c alive kept. absurd (nothing_in weak (rw (values_lists (unmarked w) (root_values w)).1 at c));

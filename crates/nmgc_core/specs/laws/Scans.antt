@@ -24,7 +24,7 @@ use Rattle.nmgc_reach.specs.laws.Barrier.{field_at_place}
 use Rattle.nmgc_core.specs.laws.ScanReads.{read_at_place, within_fields, read_cases}
 use Rattle.nmgc_graph.specs.laws.Worlds.{at_some, is_some_of}
 use Rattle.nmgc_core.specs.laws.Lives.{live_there, target_there, refers}
-use Rattle.nmgc_reach.specs.Holds.{Names, Stands, StillThere}
+use Rattle.nmgc_reach.specs.Holds.{Names, HasStrongField, StillThere}
 use Rattle.nmgc_core.specs.laws.Marking.{mark_cases, mark_facts, marked_then}
 use Rattle.nmgc_core.specs.Facts.{MayHold, IsLiveIn, IsSafe, Kept, IsPassed, Base, Facts, owed, pushed, queued, marked, unmarked}
 
@@ -192,7 +192,7 @@ module _ (s : State) (f : Facts s) (w : IsWorld s.world) (entry : Entry) (rest :
   still_safe name (pushed k h) = pushed k h
 
   -- the field that is ahead of the first entry
-  first_kept : (name : Name) (i : ℕ) (target : Name) → IsSome (node_of s.snapshot target) → Stands s.world name i (value.Ref target) → entry.name ≡ name → entry.position ≤ i + 1 → Kept (stepped s node entry rest) name i target
+  first_kept : (name : Name) (i : ℕ) (target : Name) → IsSome (node_of s.snapshot target) → HasStrongField s.world name i (value.Ref target) → entry.name ≡ name → entry.position ≤ i + 1 → Kept (stepped s node entry rest) name i target
   first_kept name i target known st e le =
       let same : Some st.node ≡ Some node = sym st.node_is ∙ ap (λ n. node_of s.world n) (sym e) ∙ is in
       let node_is : st.node ≡ node = same_Some st.node node same in

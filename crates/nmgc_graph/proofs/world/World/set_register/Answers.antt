@@ -1,6 +1,6 @@
 use Rattle.nmgc_graph.specs.Step.{holding}
 use Rattle.nmgc_graph.specs.laws.Worlds.{replaced, holding_keeps}
-use Rattle.nmgc_graph.proofs.world.World.take.Goals as goal
+use Rattle.nmgc_graph.proofs.world.World.set_register.Goals as goal
 
 pub invariant_of-self : goal.invariant_of-self
 invariant_of-self c =

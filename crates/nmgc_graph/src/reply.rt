@@ -1,0 +1,93 @@
+//! What a command would be answered.
+//!
+//! A world that has stepped can't step back. So whoever wants an answer before anything changes asks
+//! here: an event of the core machine says how its command was answered, and happens only where that
+//! is the world's answer. What it says of an object, of a change and of two values comes from the very
+//! readers that `apply` asks.
+ghost use Rattle.std.specs.Prelude.{◌≡◌, ◌<◌, length};
+
+use crate::change::{Change, change_reply, given_or};
+use crate::{Command, Name, Reply, Value, World};
+
+impl World {
+    ghost use Rattle.nmgc_graph.specs.Command.{HasRegisters};
+    ghost use Rattle.nmgc_graph.specs.Step.{step, asked, change_asked, change_object, next_name};
+    ghost use Rattle.nmgc_graph.specs.World.{state_of};
+
+    /// What `apply` would answer to a command, if there is memory. Nothing is done. Takes no memory, and
+    /// constant time.
+    pub fn reply(&self, mutator: u8, command: &Command) -> Reply
+        requires mutator { mutator < length self.now.mutators }
+        requires registers { HasRegisters command.now }
+        ensures { result ≡ (step self.now mutator command.now).1 }
+    {
+        match command {
+            Command::Num { .. }
+            | Command::Nil { .. }
+            | Command::Mov { .. }
+            | Command::Yield
+            | Command::Collect
+            | Command::Full => Reply::Fine,
+            Command::Con { .. }
+            | Command::Var { .. }
+            | Command::Arr { .. }
+            | Command::Thunk { .. }
+            | Command::Weak { .. }
+            | Command::Stack { .. } => Reply::Given(Value::Ref(self.next_name(mutator))),
+            Command::Get {
+                dest: _,
+                object,
+                index,
+            } => self.field(self.value(mutator, *object), *index),
+            Command::Force { dest: _, object } => self.result_of(self.value(mutator, *object)),
+            Command::Deref { dest: _, object } => self.weak_value(self.value(mutator, *object)),
+            Command::Set { .. }
+            | Command::Cas { .. }
+            | Command::Update { .. }
+            | Command::Push { .. }
+            | Command::Pop { .. }
+            | Command::Finalise { .. } => self.asked_reply(mutator, command),
+            Command::NextFin { dest: _ } => {
+                given_or(Reply::Nothing, self.queue(mutator).first().copied())
+            }
+            Command::Show { value } => Reply::Given(self.value(mutator, *value)),
+            Command::Same { left, right } => self.compare(mutator, *left, *right),
+        }
+    }
+
+    // The name that the next object of a mutator gets.
+    fn next_name(&self, mutator: u8) -> Name
+        requires { mutator < length self.now.mutators }
+        ensures { result ≡ next_name (state_of self.now mutator) mutator }
+    {
+        Name {
+            maker: mutator,
+            serial: self.serial(mutator),
+        }
+    }
+
+    // What the change that a command asks for is answered.
+    fn asked_reply(&self, mutator: u8, command: &Command) -> Reply
+        requires mutator { mutator < length self.now.mutators }
+        requires registers { HasRegisters command.now }
+        ensures { result ≡ (change_asked self.now (asked self.now mutator command.now)).1 }
+    {
+        match self.asked(mutator, command) {
+            Some((object, change)) => self.object_reply(object, change),
+            None => Reply::Fine,
+        }
+    }
+
+    // What a change of the object that a value refers to is answered.
+    fn object_reply(&self, object: Value, change: Change) -> Reply
+        ensures { result ≡ (change_object self.now object change).1 }
+    {
+        match object {
+            Value::Ref(name) => match self.node(name) {
+                Some(node) => change_reply(node, name.maker, change),
+                None => Reply::NoPointer,
+            },
+            _ => Reply::NoPointer,
+        }
+    }
+}
