@@ -25,10 +25,10 @@ use Rattle.nmgc_object.specs.Places.{nursery_place}
 use Rattle.nmgc_segment.specs.Segment.{Segment, free_segment}
 use Rattle.nmgc_alloc.specs.Segments.{Segments, IsSegments, all_free}
 use Rattle.nmgc_heap.specs.Shape.{Slot, holds, size_of, slots_of, free_slots}
-use Rattle.nmgc_heap.specs.Places.{Place, Means, Fills, HasSlots, LiesWell, AllMean, ListMeans}
+use Rattle.nmgc_heap.specs.Places.{Place, Means, Fills, HasSlots, LiesWell, AllMean, ListMeans, shared_place}
 use Rattle.nmgc_heap.specs.Represents.{NoNode, IsNamed, IsObject, IsPlaced, Represents, IsEarlier}
 use Rattle.nmgc_heap.specs.Roots.{RepresentsRoots}
-use Rattle.nmgc_heap.specs.Samples.{small_layout, own, shared_place}
+use Rattle.nmgc_heap.specs.Samples.{small_layout, own}
 use Rattle.nmgc_heap.specs.laws.CommandLaws.{world_is_earlier, step_keeps_earlier}
 use Rattle.nmgc_heap.specs.laws.Kinds.{all_item}
 use Rattle.nmgc_blocks.specs.Nurseries.{nursery_at}

@@ -7,8 +7,8 @@ use Rattle.nmgc_graph.specs.World.{World, new_world}
 use Rattle.nmgc_object.specs.Places.{word_total, nursery_place}
 use Rattle.nmgc_object.specs.declared.layout.Nursery.{Nursery}
 use Rattle.nmgc_alloc.specs.Segments.{Segments, IsSegments, all_free}
-use Rattle.nmgc_heap.specs.Places.{Place}
-use Rattle.nmgc_heap.specs.Samples.{small_layout, after, own, shared_place}
+use Rattle.nmgc_heap.specs.Places.{Place, shared_place}
+use Rattle.nmgc_heap.specs.Samples.{small_layout, after, own}
 use Rattle.nmgc_blocks.specs.Stopped.{Stopped, IsStopped}
 
 -- what the round left of a new world: register 1 holds the number 5, and register 0 a constructor of tag 7 with it

@@ -16,9 +16,9 @@ use Rattle.nmgc_graph.specs.laws.Worlds.{is_some_get, is_some_of}
 use Rattle.nmgc_object.specs.Words.{header_word, IsHeader}
 use Rattle.nmgc_object.specs.Places.{InNursery, word_total}
 use Rattle.nmgc_heap.specs.Shape.{Slot, header_of, size_of, slots_of, free_slots}
-use Rattle.nmgc_heap.specs.Places.{Place, Fills, HasSlots, LiesWell, LiesInSegment}
+use Rattle.nmgc_heap.specs.Places.{Place, Fills, HasSlots, LiesWell, LiesInSegment, shared_place}
 use Rattle.nmgc_heap.specs.Represents.{NoNode, IsNamed, IsPlaced, Represents}
-use Rattle.nmgc_heap.specs.Samples.{small_layout, own, block, shared_place, places_of}
+use Rattle.nmgc_heap.specs.Samples.{small_layout, own, block, places_of}
 use Rattle.nmgc_heap.specs.laws.Moving.{contains_map, map_contains}
 
 -- P holds of each item with its index

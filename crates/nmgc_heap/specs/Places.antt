@@ -8,6 +8,7 @@ use Rattle.nmgc_graph.specs.declared.value.Name.{Name}
 use Rattle.nmgc_graph.specs.declared.value.Value.{Value}
 use Rattle.nmgc_graph.specs.declared.value.Value.TheVariants as value
 use Rattle.nmgc_graph.specs.declared.value.TheConstants.{SHARED_MAKER}
+use Rattle.nmgc_graph.specs.Step.{shared_name}
 use Rattle.nmgc_object.specs.Places.{InSegment, InNursery}
 use Rattle.nmgc_object.specs.declared.layout.Layout.{Layout}
 use Rattle.nmgc_object.specs.declared.layout.TheConstants.{SHARED_PLACE, FIRST_PLACE}
@@ -18,6 +19,10 @@ use Rattle.nmgc_heap.specs.Shape.{Slot, holds, unset, untold}
 pub record Place : Type 0 where
   pub at : ℕ
   pub name : Name
+
+-- the place of g
+abbrev pub shared_place : Place
+shared_place = record { at = SHARED_PLACE; name = shared_name }
 
 -- a field word stands for a value: nil, a number, or a reference to the object at the place that the word points to, which is one of P. That numbers are small enough for a word is a fact of the world, and that places are is one of the layout
 abbrev pub Means : (Place → Type 0) → ℕ → Value → Type 0

@@ -14,7 +14,7 @@ use Rattle.nmgc_object.specs.declared.layout.Layout.{Layout}
 use Rattle.nmgc_object.specs.declared.layout.TheConstants.{SHARED_PLACE, FIRST_PLACE}
 use Rattle.nmgc_reach.specs.Wide.{IsWide}
 use Rattle.nmgc_heap.specs.Tracked.{IsTracked}
-use Rattle.nmgc_heap.specs.Places.{Place}
+use Rattle.nmgc_heap.specs.Places.{Place, shared_place}
 use Rattle.nmgc_heap.specs.Represents.{NoNode, Represents}
 use Rattle.nmgc_heap.specs.Roots.{RepresentsRoots, ListsWeaks}
 
@@ -32,9 +32,6 @@ own serial = record { maker = 0; serial = serial }
 
 abbrev pub block : ℕ → Place
 block serial = record { at = FIRST_PLACE + 4 * serial; name = own serial }
-
-abbrev pub shared_place : Place
-shared_place = record { at = SHARED_PLACE; name = shared_name }
 
 -- g, and a block for each of these serials
 abbrev pub places_of : List ℕ → List Place

@@ -23,10 +23,9 @@ use Rattle.nmgc_alloc.specs.laws.Placing.{inside}
 use Rattle.nmgc_alloc.specs.laws.Sound.{stands_sound, used_exists}
 use Rattle.nmgc_segment.specs.declared.state.State.TheVariants.{Free}
 use Rattle.nmgc_heap.specs.Shape.{holds, slots_of as slots_in}
-use Rattle.nmgc_heap.specs.Places.{Place, Means, ListMeans, AllMean, LiesWell}
+use Rattle.nmgc_heap.specs.Places.{Place, Means, ListMeans, AllMean, LiesWell, shared_place}
 use Rattle.nmgc_heap.specs.Represents.{Represents, NoNode}
 use Rattle.nmgc_heap.specs.Tracked.{IsTracked}
-use Rattle.nmgc_round.specs.Empty.{shared_place}
 use Rattle.nmgc_round.specs.View.{Opening}
 use Rattle.nmgc_mark.specs.Beginning.{IsBeginning, IsPrepared, slots_of}
 use Rattle.nmgc_mark.specs.Tie.{AreApart, IsRightSnapshot}

@@ -20,8 +20,7 @@ use Rattle.nmgc_alloc.specs.laws.Apart.{lies_in, same_block}
 use Rattle.nmgc_alloc.specs.laws.Blocks.{snapshot_within}
 use Rattle.nmgc_alloc.specs.laws.Placing.{inside}
 use Rattle.nmgc_alloc.specs.laws.Sound.{stands_sound, used_exists}
-use Rattle.nmgc_heap.specs.Places.{Place}
-use Rattle.nmgc_round.specs.Empty.{shared_place}
+use Rattle.nmgc_heap.specs.Places.{Place, shared_place}
 use Rattle.nmgc_round.specs.View.{Opening}
 use Rattle.nmgc_round.specs.Marking.{marks_of}
 use Rattle.nmgc_run.specs.State.{Cycle}

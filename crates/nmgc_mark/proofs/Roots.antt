@@ -19,8 +19,7 @@ use Rattle.nmgc_graph.specs.declared.value.Value.{Value}
 use Rattle.nmgc_graph.specs.declared.value.Value.TheVariants as value
 use Rattle.nmgc_graph.specs.World.{World}
 use Rattle.nmgc_core.specs.State.{State, mark_value, mark_values, unmarked, opening}
-use Rattle.nmgc_heap.specs.Places.{Place, Means, ListMeans}
-use Rattle.nmgc_round.specs.Empty.{shared_place}
+use Rattle.nmgc_heap.specs.Places.{Place, Means, ListMeans, shared_place}
 use Rattle.nmgc_round.specs.View.{Opening}
 use Rattle.nmgc_round.specs.Marking.{Marks, marks_of, name_meant, with_name}
 use Rattle.nmgc_mark.specs.Beginning.{IsBeginning, slots_of}

@@ -12,10 +12,9 @@ use Rattle.nmgc_object.specs.declared.size.TheConstants.{HEADER_WORDS, MIN_BLOCK
 use Rattle.nmgc_alloc.specs.Segments.{Segments, IsSegments}
 use Rattle.nmgc_alloc.specs.AllocState.{AllocState, StandsFor}
 use Rattle.nmgc_alloc.specs.Blocks.{IsMarkedAt, IsSnapshotAt, IsUsedAt}
-use Rattle.nmgc_heap.specs.Places.{Place, ListMeans}
+use Rattle.nmgc_heap.specs.Places.{Place, ListMeans, shared_place}
 use Rattle.nmgc_heap.specs.Represents.{Represents, NoNode}
 use Rattle.nmgc_heap.specs.Roots.{RepresentsRoots}
-use Rattle.nmgc_round.specs.Empty.{shared_place}
 use Rattle.nmgc_round.specs.View.{Opening}
 use Rattle.nmgc_run.specs.Heap.{IsPlaceAtStop}
 use Rattle.nmgc_mark.specs.Tie.{IsRightSnapshot}

@@ -6,8 +6,7 @@ use Rattle.nmgc_graph.specs.Step.{shared_name}
 use Rattle.nmgc_core.specs.State.{State}
 use Rattle.nmgc_alloc.specs.Segments.{Segments, IsSegments, block_place}
 use Rattle.nmgc_alloc.specs.AllocState.{AllocState, StandsFor, LiesIn, cells}
-use Rattle.nmgc_heap.specs.Places.{Place}
-use Rattle.nmgc_round.specs.Empty.{shared_place}
+use Rattle.nmgc_heap.specs.Places.{Place, shared_place}
 use Rattle.nmgc_round.specs.View.{Opening}
 use Rattle.nmgc_round.specs.Marking.{marks_of}
 use Rattle.nmgc_run.specs.State.{Cycle}

@@ -179,6 +179,7 @@ impl Marker {
         ensures epoch { result ≡ self.now.epoch }
         ensures sound { IsEpoch self.now.epoch }
     {
+        // Reading a field tells the checker what holds of every marker, and so of its epoch.
         let _ = &self.found;
         self.epoch
     }

@@ -1,8 +1,8 @@
 //! The third pass: pointers are changed by the table of new places, and objects are copied.
 //!
-//! Words that mean nothing are forwarded too, as the free variables of a thunk that has its result, and
-//! they may have any value. So `forwarded` asks nothing of its word: one that doesn't point into the
-//! table is left.
+//! Easy to get wrong: words that mean nothing are forwarded too, as the free variables of a thunk that has
+//! its result, and they may have any value. So `forwarded` asks nothing of its word: one that doesn't point
+//! into the table is left.
 ghost use Rattle.std.specs.Prelude.{ℕ, ◌≡◌, ◌+◌, ◌<◌, ◌≤◌, length, slice_index, set, map, Contains};
 ghost use Rattle.nmgc_minor.specs.Young.{HasHeader};
 ghost use Rattle.nmgc_minor.specs.Placing.{IsSharedSlot, HasHeaderWord};

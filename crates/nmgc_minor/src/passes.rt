@@ -2,6 +2,9 @@
 //!
 //! The working lists rest between two promotions with what the last one found: its entries are freed one
 //! by one as the next begins, since a table as long as all nurseries is too long to be wiped at each stop.
+//!
+//! Easy to get wrong: no pass writes to a nursery. So the third may copy the objects in whatever order, and reads
+//! each as the round left it.
 ghost use Rattle.std.specs.Prelude.{ℕ, ◌≡◌, ◌≢◌, ◌+◌, ◌*◌, ◌<◌, ◌≤◌, List, [], length, map, slice_index, Contains};
 ghost use Rattle.nmgc_object.specs.Places.{nursery_place};
 ghost use Rattle.nmgc_alloc.specs.Segments.{IsSegments};

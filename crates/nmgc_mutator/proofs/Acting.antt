@@ -19,14 +19,14 @@ use Rattle.nmgc_round.specs.Naming.{Replies}
 use Rattle.nmgc_round.specs.Seat.{RoundSeat, IsAt, Knows, seen, opening_of}
 use Rattle.nmgc_round.specs.Compare.{exchanged}
 use Rattle.nmgc_mutator.specs.declared.mutator.Mutator.{Mutator}
-use Rattle.nmgc_mutator.specs.Ready.{IsReady, Holds, LieFrom, words_by, part_of, hand_in, rows_of}
+use Rattle.nmgc_mutator.specs.Ready.{IsReady, HasHand, LieFrom, words_by, part_of, hand_in, rows_of}
 use Rattle.nmgc_graph.specs.declared.node.Kind.TheVariants as kind
 use Rattle.nmgc_object.specs.declared.words.Header.{Header}
 use Rattle.nmgc_object.specs.Places.{nursery_place}
 use Rattle.nmgc_round.specs.Making.{header_made}
 use Rattle.nmgc_mutator.specs.Records.{numbers, recorded_at, recorded_by, noted_by, weaks_by, all_pushed}
 use Rattle.nmgc_mutator.specs.Does.{Does, Went, HasReplied, HasUsed, HasDone, with_recorded, with_updrem}
-use Rattle.nmgc_mutator.specs.Acts.{IsPlain, weaks_of, with_weaks, most_pushed, most_weaks, HasNoted, Acts, HasActed, StepsTo}
+use Rattle.nmgc_mutator.specs.Acts.{weaks_of, with_weaks, most_pushed, most_weaks, HasNoted, Acts, HasActed, StepsTo}
 use Rattle.nmgc_mutator.specs.declared.mutator.Step.TheVariants.{Replied}
 use Rattle.nmgc_mutator.proofs.Readies.{kept_items, went_changing, went_later, went_answered, hand_after, hand_kept, ready_went, nursery_idle}
 use Rattle.nmgc_mutator.proofs.Steps.{ready_noted}
@@ -35,33 +35,6 @@ use Rattle.nmgc_mutator.proofs.Steps.{ready_noted}
 pub answer_is : (fixed : List FixedWord) (a : Answer) (r : Reply) → Replies fixed a r → given r ≡ None → a ≡ plain r
 answer_is fixed (plain q) r h e = ap (λ k. plain k) h.0
 answer_is fixed (word w) r h e = let some_ = ap (λ k. given k) h.1 ∙ e in absurd cc
-
--- what a plain command notes
-plain_noted : (layout : Layout) (h : Hand) (c : Command) (a : Answer) → IsPlain c → (noted_by layout h c a ≡ recorded_by layout h.registers c a) × (weaks_by c a ≡ []) × (most_pushed c ≡ 1)
-plain_noted layout h (Num dest n) a is = (refl, refl, refl)
-plain_noted layout h (Nil dest) a is = (refl, refl, refl)
-plain_noted layout h (Mov dest v) a is = (refl, refl, refl)
-plain_noted layout h (Get dest object index) a is = (refl, refl, refl)
-plain_noted layout h (Set object index v) a is = (refl, refl, refl)
-plain_noted layout h (Show v) a is = (refl, refl, refl)
-plain_noted layout h (Same left right) a is = (refl, refl, refl)
-plain_noted layout h Yield a is = (refl, refl, refl)
-plain_noted layout h Collect a is = (refl, refl, refl)
-plain_noted layout h Full a is = (refl, refl, refl)
-plain_noted layout h (Con dest tag fields) a is = absurd is
-plain_noted layout h (Var dest v) a is = absurd is
-plain_noted layout h (Arr dest count v) a is = absurd is
-plain_noted layout h (Thunk dest free) a is = absurd is
-plain_noted layout h (Weak dest key v finaliser) a is = absurd is
-plain_noted layout h (Stack dest size) a is = absurd is
-plain_noted layout h (Cas object index expected v) a is = absurd is
-plain_noted layout h (Update object v) a is = absurd is
-plain_noted layout h (Force dest object) a is = absurd is
-plain_noted layout h (Push object v) a is = absurd is
-plain_noted layout h (Pop dest object) a is = absurd is
-plain_noted layout h (Deref dest object) a is = absurd is
-plain_noted layout h (Finalise dest object) a is = absurd is
-plain_noted layout h (NextFin dest) a is = absurd is
 
 -- the room that is left, where one was noted
 room_noted : (m n : Mutator) (c : Command) → HasUsed m n 1 → 1 ≤ most_pushed c → HasNoted m n c
@@ -89,10 +62,6 @@ acts_noted round old new m n c r is d noted none some_ = record {
   number = d.number;
   layout = d.layout;
 }
-
--- a plain command
-pub acts_plain : (round : Round) (old new : RoundSeat) (m n : Mutator) (c : Command) (r : Reply) → IsReady round old m → IsPlain c → Does round (seen old) new m n c r → Acts round (seen old) new m n c r
-acts_plain round old new m n c r is p d = let t = plain_noted m.layout (hand_in (seen old)) c d.answer p in let one = t.2 in acts_noted round old new m n c r is d t.0 t.1 (omega arith)
 
 -- a command that was refused
 pub acts_refused : (round : Round) (old new : RoundSeat) (m : Mutator) (c : Command) (r : Reply) → IsReady round old m → Does round (seen old) new m m c r → given r ≡ None → noted_by m.layout (hand_in (seen old)) c (plain r) ≡ [] → recorded_by m.layout m.registers c (plain r) ≡ [] → weaks_by c (plain r) ≡ [] → 1 ≤ most_pushed c → Acts round (seen old) new m m c r
@@ -129,12 +98,12 @@ acts_row round v new m n c r a owed is g says rest recorded pushed none more roo
 }
 
 -- it is ready after it
-pub ready_row : (round : Round) (mid new : RoundSeat) (m n : Mutator) (c : Command) (a : Answer) (owed : List ℕ) → IsReady round mid m → IsAt round new → Went (seen mid) (seen new) (record { command = c; answer = a } ∷ []) owed → (IsMaking c → ⊥) × (words_made c ≡ 0) → n ≡ moved m n → Holds (leaves (hand_in (seen mid)) c a) n → length n.registers ≡ REGISTERS → ((operand : Operand) → IsSafe (seen mid).opening (word_of n.registers operand)) → IsReady round new n
+pub ready_row : (round : Round) (mid new : RoundSeat) (m n : Mutator) (c : Command) (a : Answer) (owed : List ℕ) → IsReady round mid m → IsAt round new → Went (seen mid) (seen new) (record { command = c; answer = a } ∷ []) owed → (IsMaking c → ⊥) × (words_made c ≡ 0) → n ≡ moved m n → HasHand (leaves (hand_in (seen mid)) c a) n → length n.registers ≡ REGISTERS → ((operand : Operand) → IsSafe (seen mid).opening (word_of n.registers operand)) → IsReady round new n
 ready_row round mid new m n c a owed r at g none rest holds size safe =
     let rows : List Row = record { command = c; answer = a } ∷ [] in
     let number : n.number ≡ m.number = ap (λ (x : Mutator). x.number) rest in
     let layout : n.layout ≡ m.layout = ap (λ (x : Mutator). x.layout) rest in
-    ready_went round mid new m n rows owed r at g (subst (λ (h : Hand). Holds h n) (sym (hand_after (seen mid) (seen new) c a owed g)) holds) number layout
+    ready_went round mid new m n rows owed r at g (subst (λ (h : Hand). HasHand h n) (sym (hand_after (seen mid) (seen new) c a owed g)) holds) number layout
     (rw (ap (λ (x : Mutator). x.nursery) rest) (nursery_idle m.layout m.number (rows_of (seen mid)) rows m.nursery (none.0, none.1, tt) r.nursery))
     (record { layout = rw layout r.whole.layout; number = rw (number, layout) r.whole.number; size = size })
     safe
@@ -229,7 +198,7 @@ module _ (round : Round) (old mid new : RoundSeat) (m x n : Mutator) (c : Comman
       let regs : n.registers ≡ m.registers = ap (λ (y : Mutator). y.registers) both in
       let queue : n.queue ≡ m.queue = ap (λ (y : Mutator). y.queue) both in
       let left : leaves (hand_in v) c a ≡ hand_in v = ap (λ d. leaves (hand_in v) d a) is in
-      let holds : Holds (leaves (hand_in v) c a) n = subst (λ (h : Hand). Holds h n) (sym left) (record { registers = r.holds.registers ∙ sym regs; queue = r.holds.queue ∙ ap (λ (q : FinQueue). q.words) (sym queue); serial = r.holds.serial ∙ sym (ap (λ (y : Mutator). y.serial) both) }) in
+      let holds : HasHand (leaves (hand_in v) c a) n = subst (λ (h : Hand). HasHand h n) (sym left) (record { registers = r.holds.registers ∙ sym regs; queue = r.holds.queue ∙ ap (λ (q : FinQueue). q.words) (sym queue); serial = r.holds.serial ∙ sym (ap (λ (y : Mutator). y.serial) both) }) in
       let ready = ready_row round mid new m n c a owed r k.0 g none rest holds (rw regs r.whole.size) (λ operand. subst (λ l. IsSafe v.opening (word_of l operand)) (sym regs) (r.safe operand)) in
       let h : hand_in (seen old) ≡ hand_in v = sym (hand_kept (seen old) v went) in
       let notes : noted_by m.layout (hand_in (seen old)) c a ≡ recorded_at m.layout (2 * at) index w = ap (λ (t : Hand). noted_by m.layout t c a) h ∙ ap (λ d. noted_by m.layout (hand_in v) d a) is ∙ ap (λ l. recorded_at m.layout (word_of l object) index (word_of l value)) r.holds.registers ∙ ap (λ y. recorded_at m.layout y index (word_of m.registers value)) pointer ∙ ap (λ y. recorded_at m.layout (2 * at) index y) (sym word_is) in
@@ -249,7 +218,7 @@ cas_failed round old mid new m c object before value index expected went r k is 
     let none : (IsMaking c → ⊥) × (words_made c ≡ 0) = subst (λ (d : Command). (IsMaking d → ⊥) × (words_made d ≡ 0)) (sym is) (λ q. q, refl) in
     let g = went_answered round mid new m c a none.1 r k in
     let left : leaves (hand_in v) c a ≡ hand_in v = ap (λ d. leaves (hand_in v) d a) is in
-    let ready = ready_row round mid new m m c a [] r k.0 g none refl (subst (λ (h : Hand). Holds h m) (sym left) r.holds) r.whole.size r.safe in
+    let ready = ready_row round mid new m m c a [] r k.0 g none refl (subst (λ (h : Hand). HasHand h m) (sym left) r.holds) r.whole.size r.safe in
     acts_row round (seen old) new m m c reply.No a [] ready (went_later (seen old) v (seen new) (record { command = c; answer = a } ∷ []) [] went g) (refl, refl) refl
     (kept_items (numbers m.recorded.items) ∙ ap (λ d. numbers m.recorded.items ++ noted_by m.layout (hand_in (seen old)) d a) (sym is))
     (kept_items (numbers m.updrem.items))
@@ -373,7 +342,7 @@ acts_made round old new m x n c r header at is makes d head place rest weaks roo
     }
 
 -- a command that wrote a field, recorded it, and pushed what it owes
-module _ (round : Round) (old mid new : RoundSeat) (m x n : Mutator) (c : Command) (r : Reply) (a : Answer) (owed : List ℕ) (index at w most : ℕ) (went : Went (seen old) (seen mid) [] []) (ready : IsReady round mid m) (at_new : IsAt round new) (g : Went (seen mid) (seen new) (record { command = c; answer = a } ∷ []) owed) (none : (IsMaking c → ⊥) × (words_made c ≡ 0)) (holds : Holds (leaves (hand_in (seen mid)) c a) m)
+module _ (round : Round) (old mid new : RoundSeat) (m x n : Mutator) (c : Command) (r : Reply) (a : Answer) (owed : List ℕ) (index at w most : ℕ) (went : Went (seen old) (seen mid) [] []) (ready : IsReady round mid m) (at_new : IsAt round new) (g : Went (seen mid) (seen new) (record { command = c; answer = a } ∷ []) owed) (none : (IsMaking c → ⊥) × (words_made c ≡ 0)) (holds : HasHand (leaves (hand_in (seen mid)) c a) m)
     (first : x ≡ with_recorded m x.recorded) (recorded : numbers x.recorded.items ≡ numbers m.recorded.items ++ recorded_at m.layout (2 * at) index w) (more : m.recorded.spare ≤ x.recorded.spare + 1)
     (second : n ≡ with_updrem x n.updrem) (pushed : numbers n.updrem.items ≡ numbers x.updrem.items ++ all_pushed x.layout owed) (room : x.updrem.spare ≤ n.updrem.spare + most) where
   written_lists : n.recorded ≡ x.recorded
@@ -391,7 +360,7 @@ module _ (round : Round) (old mid new : RoundSeat) (m x n : Mutator) (c : Comman
       let rows : List Row = record { command = c; answer = a } ∷ [] in
       let regs : n.registers ≡ m.registers = ap (λ (y : Mutator). y.registers) written_both in
       let queue : n.queue ≡ m.queue = ap (λ (y : Mutator). y.queue) written_both in
-      let holds' : Holds (leaves (hand_in v) c a) n = record { registers = holds.registers ∙ sym regs; queue = holds.queue ∙ ap (λ (q : FinQueue). q.words) (sym queue); serial = holds.serial ∙ sym (ap (λ (y : Mutator). y.serial) written_both) } in
+      let holds' : HasHand (leaves (hand_in v) c a) n = record { registers = holds.registers ∙ sym regs; queue = holds.queue ∙ ap (λ (q : FinQueue). q.words) (sym queue); serial = holds.serial ∙ sym (ap (λ (y : Mutator). y.serial) written_both) } in
       let ready' = ready_row round mid new m n c a owed ready at_new g none written_rest holds' (rw regs ready.whole.size) (λ operand. subst (λ l. IsSafe v.opening (word_of l operand)) (sym regs) (ready.safe operand)) in
       let h : hand_in (seen old) ≡ hand_in v = sym (hand_kept (seen old) v went) in
       acts_row round (seen old) new m n c r a owed ready' (went_later (seen old) v (seen new) rows owed went g) (subst (λ k. Replies (part_of (seen new)).fixed k r) (sym is) (refl, plainly)) written_rest

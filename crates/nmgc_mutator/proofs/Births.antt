@@ -17,7 +17,7 @@ use Rattle.nmgc_round.specs.View.{Slots, FixedWord, Row, Hand, word, word_of, le
 use Rattle.nmgc_round.specs.Ready.{CanBear}
 use Rattle.nmgc_round.specs.Making.{header_made}
 use Rattle.nmgc_round.specs.Told.{IsSafe}
-use Rattle.nmgc_mutator.specs.Ready.{Holds, hand_in, with_register, rows_of, words_by}
+use Rattle.nmgc_mutator.specs.Ready.{HasHand, hand_in, with_register, rows_of, words_by}
 use Rattle.nmgc_mutator.specs.Records.{numbers, recorded_by}
 use Rattle.nmgc_mutator.specs.Does.{Went, Does, dest_made, next_name, IsFilling}
 use Rattle.nmgc_mutator.proofs.Readies.{hand_after, ready_went, safe_held, total_is, kept_items, lie_more, words_more, same_room}
@@ -130,7 +130,7 @@ fill_base round old mid seat m c n i g h = record {
   below = h.below;
 }
 
-made_holds : (h : Hand) (m : Mutator) (d w : ℕ) (n : Mutator) → Holds h m → n.registers ≡ slice_set m.registers d w → n.queue ≡ m.queue → n.serial ≡ m.serial + 1 → {stacks : List Slots} → Holds (record { registers = slice_set h.registers d w; queue = h.queue; serial = h.serial + 1; stacks = stacks }) n
+made_holds : (h : Hand) (m : Mutator) (d w : ℕ) (n : Mutator) → HasHand h m → n.registers ≡ slice_set m.registers d w → n.queue ≡ m.queue → n.serial ≡ m.serial + 1 → {stacks : List Slots} → HasHand (record { registers = slice_set h.registers d w; queue = h.queue; serial = h.serial + 1; stacks = stacks }) n
 made_holds h m d w n s r q e = record {
   registers = ap (λ (l : List ℕ). slice_set l d w) s.registers ∙ sym r;
   queue = s.queue ∙ ap (λ (x : FinQueue). x.words) (sym q);
@@ -205,7 +205,7 @@ fields_are registers Collect is = absurd is
 fields_are registers Full is = absurd is
 
 -- what it leaves
-pub leaves_made : (h : Hand) (m : Mutator) (c : Command) (w : ℕ) (k : Mutator) → IsMaking c → Holds h m → k.registers ≡ slice_set m.registers (dest_made c) w → k.queue ≡ m.queue → k.serial ≡ m.serial + 1 → Holds (leaves h c (word w)) k
+pub leaves_made : (h : Hand) (m : Mutator) (c : Command) (w : ℕ) (k : Mutator) → IsMaking c → HasHand h m → k.registers ≡ slice_set m.registers (dest_made c) w → k.queue ≡ m.queue → k.serial ≡ m.serial + 1 → HasHand (leaves h c (word w)) k
 leaves_made h m (Con dest tag fields) w k is s r q e = made_holds h m dest w k s r q e
 leaves_made h m (Var dest v) w k is s r q e = made_holds h m dest w k s r q e
 leaves_made h m (Arr dest count v) w k is s r q e = made_holds h m dest w k s r q e
@@ -302,7 +302,7 @@ module _ (round : Round) (old mid new : RoundSeat) (m : Mutator) (c : Command) (
 
   ready_born : IsReady round new after
   ready_born = ready_went round old new m after rows [] r k.0 went_born
-      (subst (λ (x : Hand). Holds x after) (sym (hand_after (seen old) (seen new) c (word (2 * m.nursery.top)) [] went_born)) (leaves_made (hand_in (seen old)) m c (2 * m.nursery.top) after making r.holds refl refl refl))
+      (subst (λ (x : Hand). HasHand x after) (sym (hand_after (seen old) (seen new) c (word (2 * m.nursery.top)) [] went_born)) (leaves_made (hand_in (seen old)) m c (2 * m.nursery.top) after making r.holds refl refl refl))
       refl refl
       (record {
         base = r.nursery.base;
@@ -368,29 +368,3 @@ unrecorded_made layout registers (Same left right) w is = absurd is
 unrecorded_made layout registers Yield w is = absurd is
 unrecorded_made layout registers Collect w is = absurd is
 unrecorded_made layout registers Full w is = absurd is
-
-pub unmade : (c : Command) → (IsMaking c → ⊥) → words_made c ≡ 0
-unmade (Con dest tag fields) h = absurd (h tt)
-unmade (Var dest v) h = absurd (h tt)
-unmade (Arr dest count v) h = absurd (h tt)
-unmade (Thunk dest free) h = absurd (h tt)
-unmade (Weak dest key v finaliser) h = absurd (h tt)
-unmade (Stack dest count) h = absurd (h tt)
-unmade (Num dest n) h = refl
-unmade (Nil dest) h = refl
-unmade (Mov dest v) h = refl
-unmade (Get dest object index) h = refl
-unmade (Set object index v) h = refl
-unmade (Cas object index expected v) h = refl
-unmade (Update object v) h = refl
-unmade (Force dest object) h = refl
-unmade (Push object v) h = refl
-unmade (Pop dest object) h = refl
-unmade (Deref dest object) h = refl
-unmade (Finalise dest object) h = refl
-unmade (NextFin dest) h = refl
-unmade (Show v) h = refl
-unmade (Same left right) h = refl
-unmade Yield h = refl
-unmade Collect h = refl
-unmade Full h = refl

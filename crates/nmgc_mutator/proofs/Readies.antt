@@ -33,7 +33,7 @@ use Rattle.nmgc_object.specs.declared.layout.Layout.{Layout}
 use Rattle.nmgc_round.specs.Naming.{IsNamed}
 use Rattle.nmgc_mutator.specs.declared.mutator.Mutator.{Mutator}
 use Rattle.nmgc_object.specs.declared.layout.Nursery.{Nursery}
-use Rattle.nmgc_mutator.specs.Ready.{first_part, part_of, rows_of, hand_in, Holds, IsNursery, IsWhole, IsReady, LieFrom, words_by, with_register}
+use Rattle.nmgc_mutator.specs.Ready.{first_part, part_of, rows_of, hand_in, HasHand, IsNursery, IsWhole, IsReady, LieFrom, words_by, with_register}
 use Rattle.nmgc_mutator.specs.Records.{numbers, recorded_by}
 use Rattle.nmgc_mutator.specs.Does.{Went, Does, HasUsed}
 
@@ -160,7 +160,7 @@ nursery_idle layout number rs ss n i h = record {
 
 -- ready stays
 pub ready_went : (round : Round) (old new : RoundSeat) (m n : Mutator) (rows : List Row) (owed : List ℕ) → IsReady round old m → IsAt round new → Went (seen old) (seen new) rows owed
-    → Holds (hand_in (seen new)) n → n.number ≡ m.number → n.layout ≡ m.layout → IsNursery m.layout m.number (rows_of (seen old) ++ rows) n.nursery → IsWhole n → ((operand : Operand) → IsSafe (seen old).opening (word_of n.registers operand)) → IsReady round new n
+    → HasHand (hand_in (seen new)) n → n.number ≡ m.number → n.layout ≡ m.layout → IsNursery m.layout m.number (rows_of (seen old) ++ rows) n.nursery → IsWhole n → ((operand : Operand) → IsSafe (seen old).opening (word_of n.registers operand)) → IsReady round new n
 ready_went round old new m n rows owed r at g h number layout nursery whole safe = record {
   at = at;
   is = g.is;
@@ -176,7 +176,7 @@ ready_went round old new m n rows owed r at g h number layout nursery whole safe
 
 -- where the mutator itself stays
 pub ready_same : (round : Round) (old new : RoundSeat) (m : Mutator) (rows : List Row) (owed : List ℕ) → Idle rows → IsReady round old m → IsAt round new → Went (seen old) (seen new) rows owed → hand_in (seen new) ≡ hand_in (seen old) → IsReady round new m
-ready_same round old new m rows owed i r at g e = ready_went round old new m m rows owed r at g (subst (λ (h : Hand). Holds h m) (sym e) r.holds) refl refl (nursery_idle m.layout m.number (rows_of (seen old)) rows m.nursery i r.nursery) r.whole r.safe
+ready_same round old new m rows owed i r at g e = ready_went round old new m m rows owed r at g (subst (λ (h : Hand). HasHand h m) (sym e) r.holds) refl refl (nursery_idle m.layout m.number (rows_of (seen old)) rows m.nursery i r.nursery) r.whole r.safe
 
 -- a register that was given a word
 safe_set : (P : ℕ → Type 0) (ws : List ℕ) (d w r x : ℕ) → P w → P (get_or ws r x) → P (get_or (set ws d w) r x)
@@ -190,7 +190,7 @@ pub safe_held : (o : Opening) (ws : List ℕ) (d w : ℕ) (operand : Operand) �
 safe_held o ws d w (Register r) p h = safe_set (λ n. IsSafe o n) ws d w r NIL_WORD p h
 safe_held o ws d w Shared p h = h
 
-pub holds_held : (h : Hand) (m : Mutator) (d w : ℕ) → Holds h m → Holds (holding h d w) (with_register m d w)
+pub holds_held : (h : Hand) (m : Mutator) (d w : ℕ) → HasHand h m → HasHand (holding h d w) (with_register m d w)
 holds_held h m d w s = record {
   registers = ap (λ (l : List ℕ). slice_set l d w) s.registers;
   queue = s.queue;
@@ -199,7 +199,7 @@ holds_held h m d w s = record {
 
 -- where a register takes a word
 pub ready_held : (round : Round) (old new : RoundSeat) (m : Mutator) (rows : List Row) (owed : List ℕ) (d w : ℕ) → Idle rows → IsReady round old m → IsAt round new → Went (seen old) (seen new) rows owed → hand_in (seen new) ≡ holding (hand_in (seen old)) d w → IsSafe (seen old).opening w → IsReady round new (with_register m d w)
-ready_held round old new m rows owed d w i r at g e p = ready_went round old new m (with_register m d w) rows owed r at g (subst (λ (h : Hand). Holds h (with_register m d w)) (sym e) (holds_held (hand_in (seen old)) m d w r.holds)) refl refl
+ready_held round old new m rows owed d w i r at g e p = ready_went round old new m (with_register m d w) rows owed r at g (subst (λ (h : Hand). HasHand h (with_register m d w)) (sym e) (holds_held (hand_in (seen old)) m d w r.holds)) refl refl
     (nursery_idle m.layout m.number (rows_of (seen old)) rows m.nursery i r.nursery)
     (record { layout = r.whole.layout; number = r.whole.number; size = length-set m.registers d w ∙ r.whole.size })
     (λ operand. safe_held (seen old).opening m.registers d w operand p (r.safe operand))

@@ -8,7 +8,7 @@ use Rattle.nmgc_graph.specs.declared.node.Kind.TheVariants as kind
 use Rattle.nmgc_lists.specs.Room.{Room}
 use Rattle.nmgc_object.specs.declared.words.Address.{Address}
 use Rattle.nmgc_graph.specs.declared.command.Command.{Command}
-use Rattle.nmgc_graph.specs.declared.command.Command.TheVariants.{Num, Nil, Mov, Get, Set, Weak, Update, Finalise, Show, Same, Yield, Collect, Full}
+use Rattle.nmgc_graph.specs.declared.command.Command.TheVariants.{Weak, Update, Finalise}
 use Rattle.nmgc_graph.specs.declared.command.Reply.{Reply}
 use Rattle.nmgc_graph.specs.Command.{IsMaking, words_made}
 use Rattle.nmgc_round.specs.declared.table.Round.{Round}
@@ -21,20 +21,6 @@ use Rattle.nmgc_mutator.specs.declared.mutator.Step.TheVariants.{Replied, Nurser
 use Rattle.nmgc_mutator.specs.Ready.{IsReady, part_of, hand_in}
 use Rattle.nmgc_mutator.specs.Records.{numbers, noted_by, weaks_by, all_pushed}
 use Rattle.nmgc_mutator.specs.Does.{Went}
-
--- a command that makes no object and whose notes `Does` tells
-abbrev pub IsPlain : Command → Type 0
-IsPlain (Num dest n) = Unit {0}
-IsPlain (Nil dest) = Unit {0}
-IsPlain (Mov dest v) = Unit {0}
-IsPlain (Get dest object index) = Unit {0}
-IsPlain (Set object index v) = Unit {0}
-IsPlain (Show v) = Unit {0}
-IsPlain (Same left right) = Unit {0}
-IsPlain Yield = Unit {0}
-IsPlain Collect = Unit {0}
-IsPlain Full = Unit {0}
-IsPlain c = ⊥
 
 -- the weak pointer that was made, by the kind and the place of an object
 abbrev pub weaks_of : Kind → ℕ → List ℕ

@@ -1,17 +1,23 @@
 //! The commands of a mutator, each as steps of a round.
 //!
-//! `step` does a command: one that makes an object by `make`, which serves all six kinds, each other one by a
-//! function of its own. The place of a command in the order is the load of word 1 (`tell`, `keep`, `show`), the
-//! load or the swap of the field, or the birth. What comes before and after loads words that never change.
+//! `run` is the one place where commands are told apart to be done: one that makes an object is done by `make`, which
+//! serves all six kinds, each other one by a function of its own. No match over commands has an arm for all others,
+//! so a command that is added to them has to be settled in each before the crate compiles.
 //!
-//! The commands here ensure one record, `Does`. Those of `further` and `own` note more, and ensure `Acts`, which says
-//! of any command what it notes; so do `run` and `step`, for all of them.
+//! The place of a command in the order is the load of word 1 (`tell`, `keep`, `show`), the load or the swap of the
+//! field, or the birth. What comes before and after loads words that never change.
+//!
+//! The commands here that make no object ensure one record, `Does`. `make` and those of `further` and `own` note more,
+//! and ensure `Acts`, which says of any command what it notes; so does `run`, for all of them.
+//!
+//! Easy to get wrong: a command that is refused has a place in the order too, at the load of word 1, and not at
+//! the load of the header by which it is refused.
 ghost use Rattle.std.specs.Prelude.{◌≡◌, ◌++◌, ◌∷◌, ◌+◌, ◌*◌, ◌-◌, ◌^◌, ◌<◌, [], length, ◌%◌, IfSome, IfNone, slice_get, Some, ◌≤◌};
 ghost use Rattle.nmgc_graph.specs.declared.value.TheConstants.{REGISTERS};
 ghost use Rattle.nmgc_graph.specs.declared.command.Command.TheVariants.{Num, Nil, Mov, Same, Show, Get, Set};
 ghost use Rattle.nmgc_graph.specs.declared.command.Reply.TheVariants.{Fine};
 ghost use Rattle.nmgc_object.specs.declared.words.TheConstants.{NIL_WORD};
-ghost use Rattle.nmgc_graph.specs.Command.{IsOperand, IsRegister, HasRegisters, IsMaking, Fits};
+ghost use Rattle.nmgc_graph.specs.Command.{IsOperand, IsRegister, HasRegisters, IsMaking, Fits, words_made};
 ghost use Rattle.nmgc_round.specs.View.{plain, word, owed_word, word_of, hand_now, leaves, holding};
 ghost use Rattle.nmgc_round.specs.Told.{told_by, CanTell, IsSafe};
 ghost use Rattle.nmgc_round.specs.Ready.{CanLoad, Names, IsReadable};
@@ -20,7 +26,7 @@ ghost use Rattle.nmgc_round.specs.Naming.{IsNamed};
 ghost use Rattle.nmgc_mutator.specs.Ready.{IsReady, IsWhole, part_of, with_register};
 ghost use Rattle.nmgc_mutator.specs.Records.{numbers, is_young, is_old, recorded_at, recorded_by, all_pushed};
 ghost use Rattle.nmgc_mutator.specs.Does.{Does, Went, Finds, HasReplied, IsFilling, IsYield, dest_made, with_recorded, with_updrem};
-ghost use Rattle.nmgc_mutator.specs.Acts.{Acts, HasStepRoom, IsPlain, StepsTo, weaks_of, with_weaks};
+ghost use Rattle.nmgc_mutator.specs.Acts.{Acts, HasStepRoom, StepsTo, weaks_of, with_weaks};
 ghost use Rattle.nmgc_graph.specs.declared.node.Kind.TheVariants.{Weak};
 ghost use Rattle.nmgc_mutator.specs.declared.mutator.Step.TheVariants.{Replied};
 ghost use Rattle.nmgc_round.specs.Making.{header_made, fields_made};
@@ -28,12 +34,19 @@ ghost use Rattle.nmgc_object.specs.declared.size.TheConstants.{HEADER_WORDS};
 
 use crate::mutator::{Mutator, Step};
 use nmgc_graph::{Command, Kind, Name, Operand, Reply, Value};
-use nmgc_object::words::NIL_WORD;
+use nmgc_object::words::{NIL_WORD, VAR_FIELDS, WEAK_FIELDS, ZERO_WORD};
 use nmgc_object::{
     Address, FIRST_PLACE, HEADER_WORDS, Header, SHARED_PLACE, decode_header, decode_name,
     encode_header, encode_name,
 };
 use nmgc_round::{MutatorSeat, Round};
+
+// The header with these parts.
+fn header_of(kind: Kind, tag: u8, fields: u32) -> Header
+    ensures { result ≡ record { kind = kind; tag = tag; fields = fields } }
+{
+    Header { kind, tag, fields }
+}
 
 impl Mutator {
     // The word of an operand.
@@ -119,7 +132,7 @@ impl Mutator {
         requires number { number < 2 ^ 62 }
         ensures { Does round.now (seen seat.old) seat.new self.old self.new command.now result }
     {
-        self.keep(round, seat, dest, 2 * number + 3, command)
+        self.keep(round, seat, dest, 2 * number + ZERO_WORD, command)
     }
 
     // Takes nil.
@@ -309,31 +322,8 @@ impl Mutator {
         Reply::Given(self.value(round, seat, Operand::Register(dest)))
     }
 
-    // The register and the header of what a command makes.
-    fn making(&self, command: &Command) -> Option<(u8, Header)>
-        requires one { IsWhole self.now }
-        requires fits { Fits self.now.layout.words command.now }
-        ensures none { IfNone result (IsMaking command.now → ⊥) }
-        ensures some { IfSome result (λ r. IsMaking command.now × (r.0 ≡ dest_made command.now) × (r.1 ≡ header_made command.now)) }
-    {
-        let (dest, kind, tag, fields) = match command {
-            Command::Con { dest, tag, fields } => (
-                dest,
-                Kind::Con,
-                *tag,
-                fields.items().len() as u32,
-            ),
-            Command::Var { dest, .. } => (dest, Kind::Var, 0, 1),
-            Command::Arr { dest, count, .. } => (dest, Kind::Arr, 0, *count),
-            Command::Thunk { dest, free } => (dest, Kind::Thunk, 0, free.items().len() as u32 + 1),
-            Command::Weak { dest, .. } => (dest, Kind::Weak, 0, 3),
-            Command::Stack { dest, size } => (dest, Kind::Stack, 0, *size),
-            _ => return None,
-        };
-        Some((*dest, Header { kind, tag, fields }))
-    }
-
-    // The word of a field of what a command makes.
+    // The word of a field of what a command makes: 0 where it holds nothing yet, as a thunk's result and a stack's
+    // slots.
     fn part(&self, command: &Command, index: u32) -> u64
         requires size { length self.now.registers ≡ REGISTERS }
         requires registers { HasRegisters command.now }
@@ -347,7 +337,26 @@ impl Mutator {
             Command::Weak { key, .. } if index == 0 => *key,
             Command::Weak { value, .. } if index == 1 => *value,
             Command::Weak { finaliser, .. } => *finaliser,
-            _ => return 0,
+            Command::Thunk { .. }
+            | Command::Stack { .. }
+            | Command::Num { .. }
+            | Command::Nil { .. }
+            | Command::Mov { .. }
+            | Command::Get { .. }
+            | Command::Set { .. }
+            | Command::Cas { .. }
+            | Command::Update { .. }
+            | Command::Force { .. }
+            | Command::Push { .. }
+            | Command::Pop { .. }
+            | Command::Deref { .. }
+            | Command::Finalise { .. }
+            | Command::NextFin { .. }
+            | Command::Show { .. }
+            | Command::Same { .. }
+            | Command::Yield
+            | Command::Collect
+            | Command::Full => return 0,
         };
         self.word(operand)
     }
@@ -374,8 +383,8 @@ impl Mutator {
         }
     }
 
-    // Makes an object in the nursery: name and fields first, the header last.
-    fn make(
+    // Bears an object in the nursery: name and fields first, the header last.
+    fn bear(
         &mut self,
         round: &Round,
         seat: &mut MutatorSeat,
@@ -486,20 +495,79 @@ impl Mutator {
         Reply::Fine
     }
 
-    // Does a command that makes no object and notes no more than a field and a word.
-    fn plain(&mut self, round: &Round, seat: &mut MutatorSeat, command: &Command) -> Reply
+    // Notes a weak pointer that was made, if one was.
+    fn note_weak(&mut self, kind: Kind, at: Address)
+        requires room { (kind ≡ Weak) → 0 < self.old.young_weaks.spare }
+        ensures rest { self.new ≡ with_weaks self.old self.new.young_weaks }
+        ensures noted { numbers self.new.young_weaks.items ≡ numbers self.old.young_weaks.items ++ weaks_of kind at.0 }
+        ensures room { self.old.young_weaks.spare ≤ self.new.young_weaks.spare + length (weaks_of kind at.0) }
+    {
+        if let Kind::Weak = kind {
+            self.young_weaks.add(at);
+        }
+    }
+
+    // Makes an object in the nursery, and notes it where it is a weak pointer.
+    fn make(
+        &mut self,
+        round: &Round,
+        seat: &mut MutatorSeat,
+        dest: u8,
+        header: Header,
+        command: &Command,
+    ) -> Reply
         requires ready { IsReady round.now seat.old self.old }
         requires serial { self.old.serial < 2 ^ 32 - 1 }
         requires fits { Fits self.old.layout.words command.now }
-        requires plain { IsPlain command.now }
-        requires room { (0 < self.old.recorded.spare) × (0 < self.old.updrem.spare) }
-        ensures does { Does round.now (seen seat.old) seat.new self.old self.new command.now result }
-        ensures plain { IsPlain command.now }
+        requires making { IsMaking command.now }
+        requires parts { (dest ≡ dest_made command.now) × (header ≡ header_made command.now) }
+        requires nursery { self.old.nursery.top + words_made command.now ≤ self.old.nursery.end }
+        requires room { HasStepRoom self.old command.now }
+        ensures { Acts round.now (seen seat.old) seat.new self.old self.new command.now result }
+    {
+        let at = Address(self.nursery.top);
+        let reply = self.bear(round, seat, dest, header, command);
+        self.note_weak(header.kind, at);
+        reply
+    }
+
+    // Does a command, for whose object the nursery has room.
+    fn run(&mut self, round: &Round, seat: &mut MutatorSeat, command: &Command) -> Reply
+        requires ready { IsReady round.now seat.old self.old }
+        requires serial { self.old.serial < 2 ^ 32 - 1 }
+        requires fits { Fits self.old.layout.words command.now }
+        requires nursery { self.old.nursery.top + words_made command.now ≤ self.old.nursery.end }
+        requires room { HasStepRoom self.old command.now }
+        ensures { Acts round.now (seen seat.old) seat.new self.old self.new command.now result }
     {
         match command {
             Command::Num { dest, number } => self.num(round, seat, *dest, *number, command),
             Command::Nil { dest } => self.nil(round, seat, *dest, command),
             Command::Mov { dest, value } => self.mov(round, seat, *dest, *value, command),
+            Command::Con { dest, tag, fields } => {
+                let header = header_of(Kind::Con, *tag, fields.items().len() as u32);
+                self.make(round, seat, *dest, header, command)
+            }
+            Command::Var { dest, .. } => {
+                let header = header_of(Kind::Var, 0, VAR_FIELDS);
+                self.make(round, seat, *dest, header, command)
+            }
+            Command::Arr { dest, count, .. } => {
+                let header = header_of(Kind::Arr, 0, *count);
+                self.make(round, seat, *dest, header, command)
+            }
+            Command::Thunk { dest, free } => {
+                let header = header_of(Kind::Thunk, 0, free.items().len() as u32 + 1);
+                self.make(round, seat, *dest, header, command)
+            }
+            Command::Weak { dest, .. } => {
+                let header = header_of(Kind::Weak, 0, WEAK_FIELDS);
+                self.make(round, seat, *dest, header, command)
+            }
+            Command::Stack { dest, size } => {
+                let header = header_of(Kind::Stack, 0, *size);
+                self.make(round, seat, *dest, header, command)
+            }
             Command::Get {
                 dest,
                 object,
@@ -510,22 +578,6 @@ impl Mutator {
                 index,
                 value,
             } => { self.set(round, seat, *object, *index, *value, command) }
-            Command::Show { value } => self.show(round, seat, *value, command),
-            Command::Same { left, right } => self.same(round, seat, *left, *right, command),
-            _ => self.yields(round, seat, command),
-        }
-    }
-
-    // Does a command that makes no object.
-    fn run(&mut self, round: &Round, seat: &mut MutatorSeat, command: &Command) -> Reply
-        requires ready { IsReady round.now seat.old self.old }
-        requires serial { self.old.serial < 2 ^ 32 - 1 }
-        requires fits { Fits self.old.layout.words command.now }
-        requires other { IsMaking command.now → ⊥ }
-        requires room { HasStepRoom self.old command.now }
-        ensures { Acts round.now (seen seat.old) seat.new self.old self.new command.now result }
-    {
-        match command {
             Command::Cas {
                 object,
                 index,
@@ -536,28 +588,18 @@ impl Mutator {
                 self.update(round, seat, *object, *value, command)
             }
             Command::Force { dest, object } => self.force(round, seat, *dest, *object, command),
-            Command::Deref { dest, object } => self.deref(round, seat, *dest, *object, command),
-            Command::Finalise { dest, object } => {
-                self.finalise(round, seat, *dest, *object, command)
-            }
             Command::Push { object, value } => {
                 self.push_value(round, seat, *object, *value, command)
             }
             Command::Pop { dest, object } => self.pop_value(round, seat, *dest, *object, command),
+            Command::Deref { dest, object } => self.deref(round, seat, *dest, *object, command),
+            Command::Finalise { dest, object } => {
+                self.finalise(round, seat, *dest, *object, command)
+            }
             Command::NextFin { dest } => self.next_fin(round, seat, *dest, command),
-            _ => self.plain(round, seat, command),
-        }
-    }
-
-    // Notes a weak pointer that was made, if one was.
-    fn note_weak(&mut self, kind: Kind, at: Address)
-        requires room { (kind ≡ Weak) → 0 < self.old.young_weaks.spare }
-        ensures rest { self.new ≡ with_weaks self.old self.new.young_weaks }
-        ensures noted { numbers self.new.young_weaks.items ≡ numbers self.old.young_weaks.items ++ weaks_of kind at.0 }
-        ensures room { self.old.young_weaks.spare ≤ self.new.young_weaks.spare + length (weaks_of kind at.0) }
-    {
-        if let Kind::Weak = kind {
-            self.young_weaks.add(at);
+            Command::Show { value } => self.show(round, seat, *value, command),
+            Command::Same { left, right } => self.same(round, seat, *left, *right, command),
+            Command::Yield | Command::Collect | Command::Full => self.yields(round, seat, command),
         }
     }
 
@@ -588,18 +630,12 @@ impl Mutator {
         requires room { HasStepRoom self.old command.now }
         ensures { StepsTo round.now seat.old seat.new self.old self.new command.now result }
     {
-        let Some((dest, header)) = self.making(command) else {
-            let reply = self.run(round, seat, command);
-            return self.note(reply);
-        };
-        let need = HEADER_WORDS + header.fields;
+        let need = command.words_made() as u32;
         let left = self.nursery.left();
         if need > left {
             return Step::NurseryFull { need, left };
         }
-        let at = Address(self.nursery.top);
-        let reply = self.make(round, seat, dest, header, command);
-        self.note_weak(header.kind, at);
+        let reply = self.run(round, seat, command);
         self.note(reply)
     }
 }

@@ -247,22 +247,36 @@ fn reply_so(alloc: Global, rows: Vec<(Command, Reply)>) -> Result<bool, NoMemory
     Ok(slice.end == SliceEnd::Program && mutator.replies.items() == replies.as_slice())
 }
 
-// Thunks, stacks, weak pointers and comparisons, with each reply and refusal. r1 has 5, r2 a thunk, r3 a variable,
-// r4 a constructor, r6 a stack and r7 a weak pointer.
+fn var(dest: u8, value: u8) -> Command {
+    Command::Var {
+        dest,
+        value: Operand::Register(value),
+    }
+}
+
+fn same(left: u8, right: Operand) -> Command {
+    Command::Same {
+        left: Operand::Register(left),
+        right,
+    }
+}
+
+fn show(value: u8) -> Command {
+    Command::Show {
+        value: Operand::Register(value),
+    }
+}
+
+// Thunks and variables, with each reply and refusal. r1 has 5, r2 a thunk, r3 a variable and r4 a constructor.
 #[test]
-fn other_objects_reply_by_their_table(rt: HostRuntime) -> Result<(), Fail> {
+fn thunks_and_variables_reply_by_their_table(rt: HostRuntime) -> Result<(), Fail> {
     let r = Operand::Register;
     let mut free = Vec::new(rt.alloc());
     free.push(r(1))?;
+    let free = List::from_vec(free);
     let rows = vec![in rt.alloc();
         (num(1, 5), Reply::Fine),
-        (
-            Command::Thunk {
-                dest: 2,
-                free: List::from_vec(free)
-            },
-            made(0)
-        ),
+        (Command::Thunk { dest: 2, free }, made(0)),
         (force(r(2)), Reply::Nothing),
         (get(5, r(2), 0), Reply::WrongKind),
         (update(r(2), 1), Reply::Updated),
@@ -272,13 +286,7 @@ fn other_objects_reply_by_their_table(rt: HostRuntime) -> Result<(), Fail> {
         (update(Operand::Shared, 1), Reply::WrongKind),
         (force(r(1)), Reply::NoPointer),
         (force(Operand::Shared), Reply::WrongKind),
-        (
-            Command::Var {
-                dest: 3,
-                value: r(1)
-            },
-            made(1)
-        ),
+        (var(3, 1), made(1)),
         (cas(r(3), 0, 2, 2), Reply::No),
         (cas(r(3), 0, 1, 2), Reply::Yes),
         (get(5, r(3), 0), made(0)),
@@ -287,14 +295,26 @@ fn other_objects_reply_by_their_table(rt: HostRuntime) -> Result<(), Fail> {
         (cas(r(2), 0, 1, 2), Reply::WrongKind),
         (con(rt.alloc(), 4, 1, 0)?, made(2)),
         (cas(r(4), 0, 1, 2), Reply::Fixed),
-        (Command::Stack { dest: 6, size: 2 }, made(3)),
+    ]?;
+    assert!(rt; reply_so(rt.alloc(), rows)?);
+    Ok(())
+}
+
+// Stacks, with each reply and refusal. r1 has 5, r4 a constructor and r6 a stack.
+#[test]
+fn stacks_reply_by_their_table(rt: HostRuntime) -> Result<(), Fail> {
+    let r = Operand::Register;
+    let rows = vec![in rt.alloc();
+        (num(1, 5), Reply::Fine),
+        (con(rt.alloc(), 4, 1, 0)?, made(0)),
+        (Command::Stack { dest: 6, size: 2 }, made(1)),
         (get(5, r(6), 0), Reply::WrongKind),
         (update(r(6), 1), Reply::WrongKind),
         (pop(r(6)), Reply::StackEmpty),
         (push(r(6), 1), Reply::Fine),
         (push(r(6), 4), Reply::Fine),
         (push(r(6), 1), Reply::StackFull),
-        (pop(r(6)), made(2)),
+        (pop(r(6)), made(0)),
         (push(r(6), 0), Reply::Fine),
         (pop(r(6)), Reply::Given(Value::Nil)),
         (pop(r(6)), given(5)),
@@ -303,22 +323,33 @@ fn other_objects_reply_by_their_table(rt: HostRuntime) -> Result<(), Fail> {
         (pop(r(1)), Reply::NoPointer),
         (push(Operand::Shared, 1), Reply::WrongKind),
         (pop(Operand::Shared), Reply::WrongKind),
+    ]?;
+    assert!(rt; reply_so(rt.alloc(), rows)?);
+    Ok(())
+}
+
+// Weak pointers, with each reply and refusal. r1 has 5, r3 a variable, r4 a constructor and r7 a weak pointer.
+#[test]
+fn weak_pointers_reply_by_their_table(rt: HostRuntime) -> Result<(), Fail> {
+    let r = Operand::Register;
+    let weak = Command::Weak {
+        dest: 7,
+        key: r(3),
+        value: r(1),
+        finaliser: r(4),
+    };
+    let rows = vec![in rt.alloc();
+        (num(1, 5), Reply::Fine),
+        (var(3, 1), made(0)),
+        (con(rt.alloc(), 4, 1, 0)?, made(1)),
         (deref(r(1)), Reply::NoPointer),
         (deref(r(4)), Reply::WrongKind),
         (finalise(r(1)), Reply::NoPointer),
         (finalise(r(4)), Reply::WrongKind),
-        (
-            Command::Weak {
-                dest: 7,
-                key: r(3),
-                value: r(1),
-                finaliser: r(4)
-            },
-            made(4)
-        ),
+        (weak, made(2)),
         (get(5, r(7), 0), Reply::WrongKind),
         (deref(r(7)), given(5)),
-        (finalise(r(7)), made(2)),
+        (finalise(r(7)), made(1)),
         (deref(r(7)), Reply::Dead),
         (finalise(r(7)), Reply::Dead),
         (Command::NextFin { dest: 5 }, Reply::Nothing),
@@ -327,12 +358,17 @@ fn other_objects_reply_by_their_table(rt: HostRuntime) -> Result<(), Fail> {
     Ok(())
 }
 
-// The first commands, with each of their replies and refusals. r1 has 5, r2 a constructor, r3 a variable
+// Constructors, variables, arrays and g, with each reply and refusal. r1 has 5, r2 a constructor, r3 a variable
 // and r4 an array; a variable has one field, and g has 16.
 #[test]
-fn each_command_replies_by_its_table(rt: HostRuntime) -> Result<(), Fail> {
+fn fields_reply_by_their_table(rt: HostRuntime) -> Result<(), Fail> {
     let r = Operand::Register;
     let g = Operand::Shared;
+    let array = Command::Arr {
+        dest: 4,
+        count: 3,
+        value: r(3),
+    };
     let rows = vec![in rt.alloc();
         (num(1, 5), Reply::Fine),
         (con(rt.alloc(), 2, 1, 0)?, made(0)),
@@ -344,63 +380,43 @@ fn each_command_replies_by_its_table(rt: HostRuntime) -> Result<(), Fail> {
         (set(r(2), 0, 1), Reply::Fixed),
         (set(r(2), 2, 1), Reply::Fixed),
         (set(r(1), 0, 1), Reply::NoPointer),
-        (
-            Command::Var {
-                dest: 3,
-                value: r(2)
-            },
-            made(1)
-        ),
+        (var(3, 2), made(1)),
         (get(5, r(3), 0), made(0)),
         (set(r(3), 0, 1), Reply::Fine),
         (get(5, r(3), 0), given(5)),
         (get(5, r(3), 1), Reply::NoField),
         (set(r(3), 1, 1), Reply::NoField),
-        (
-            Command::Arr {
-                dest: 4,
-                count: 3,
-                value: r(3)
-            },
-            made(2)
-        ),
+        (array, made(2)),
         (get(5, r(4), 2), made(1)),
         (get(5, r(4), 3), Reply::NoField),
         (set(g, 15, 4), Reply::Fine),
         (get(5, g, 15), made(2)),
         (get(5, g, 16), Reply::NoField),
         (set(g, 16, 4), Reply::NoField),
-        (
-            Command::Same {
-                left: r(4),
-                right: r(5)
-            },
-            Reply::Yes
-        ),
-        (
-            Command::Same {
-                left: r(4),
-                right: r(3)
-            },
-            Reply::No
-        ),
-        (
-            Command::Same {
-                left: r(1),
-                right: g
-            },
-            Reply::No
-        ),
-        (Command::Mov { dest: 6, value: g }, Reply::Fine),
-        (
-            Command::Show { value: r(6) },
-            Reply::Given(Value::Ref(Name {
-                maker: 8,
-                serial: 0
-            }))
-        ),
+    ]?;
+    assert!(rt; reply_so(rt.alloc(), rows)?);
+    Ok(())
+}
+
+// Registers, comparisons and the end of a slice: what is answered, and how often the gate is passed. r1 has 5, r3
+// and r4 are two variables.
+#[test]
+fn a_slice_ends_at_a_yield(rt: HostRuntime) -> Result<(), Fail> {
+    let r = Operand::Register;
+    let g = Operand::Shared;
+    let mov = |dest, value| Command::Mov { dest, value };
+    let rows = vec![in rt.alloc();
+        (num(1, 5), Reply::Fine),
+        (var(3, 1), made(0)),
+        (var(4, 3), made(1)),
+        (mov(5, r(4)), Reply::Fine),
+        (same(4, r(5)), Reply::Yes),
+        (same(4, r(3)), Reply::No),
+        (same(1, g), Reply::No),
+        (mov(6, g), Reply::Fine),
+        (show(6), Reply::Given(Value::Ref(Name::SHARED))),
         (Command::Nil { dest: 6 }, Reply::Fine),
-        (Command::Show { value: r(6) }, Reply::Given(Value::Nil)),
+        (show(6), Reply::Given(Value::Nil)),
         (Command::Yield, Reply::Fine),
     ]?;
     let mut program = Vec::new(rt.alloc());
@@ -414,15 +430,10 @@ fn each_command_replies_by_its_table(rt: HostRuntime) -> Result<(), Fail> {
         assert!(rt; false);
         return Ok(());
     };
-    assert_eq!(rt;
-        slice,
-        Slice {
-            done: 31,
-            end: SliceEnd::Yield
-        }
-    );
+    let end = SliceEnd::Yield;
+    assert_eq!(rt; slice, Slice { done: 12, end });
     assert_eq!(rt; mutator.replies.items(), replies.as_slice());
-    assert_eq!(rt; mutator.turns, 31);
+    assert_eq!(rt; mutator.turns, 12);
     Ok(())
 }
 

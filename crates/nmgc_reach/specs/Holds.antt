@@ -1,7 +1,8 @@
 -- What a world holds: by which names, at which place of an object, and what of an object stays.
 --
--- A mutator comes to hold a name only by reading it where it stands, or by making it. So of a set of names
--- that is all that is held (`Holds`), a command that makes none outside it leaves all that is held in it.
+-- A mutator comes to hold a name only by reading it where it stands, or by making it. So of a set of
+-- names that is all that is held (`CoversReach`), a command that makes none outside it leaves all that
+-- is held in it.
 use Rattle.std.specs.Prelude.{◌≡◌, ℕ, zero, suc, List, [], ◌∷◌, slice_get, Option, Some, None, Bool, true, false, IfSome, All}
 use Rattle.nmgc_graph.specs.declared.value.Name.{Name}
 use Rattle.nmgc_graph.specs.declared.value.Value.{Value}
@@ -23,7 +24,7 @@ abbrev pub Fields : (Value → Type 0) → Node → Type 0
 Fields Q node = All Q (strong_fields node)
 
 -- what mutators hold, and what the strong fields of such names hold, is of the names
-pub record Holds (P : Name → Type 0) (w : World) : Type 0 where
+pub record CoversReach (P : Name → Type 0) (w : World) : Type 0 where
   pub registers : (k : ℕ) → All (Names P) (state_of w k).registers
   pub queues : (k : ℕ) → All (Names P) (state_of w k).queue
   pub fields : (name : Name) → P name → IfSome (node_of w name) (Fields (Names P))
@@ -44,8 +45,8 @@ strong_at (Thunk free (Some result)) (suc i) = None
 strong_at (Weak parts) i = None
 strong_at (Stack size values) i = slice_get values i
 
--- the strong field of a name at a place
-pub record Stands (w : World) (name : Name) (i : ℕ) (v : Value) : Type 0 where
+-- the name has this strong field at a place
+pub record HasStrongField (w : World) (name : Name) (i : ℕ) (v : Value) : Type 0 where
   pub node : Node
   pub node_is : node_of w name ≡ Some node
   pub field : strong_at node i ≡ Some v

@@ -16,7 +16,7 @@ use Rattle.nmgc_graph.specs.World.{World, state_of, node_of, new_world, IsWorld}
 use Rattle.nmgc_graph.specs.Step.{CanApply, next_name, step}
 use Rattle.nmgc_graph.specs.History.{Row, replayed, opened, finalised}
 use Rattle.nmgc_graph.specs.Reach.{IsRoot, RefersTo, IsAlive, IsLive, IsDead, IsKept, Lists, closed}
-use Rattle.nmgc_reach.specs.Holds.{Holds}
+use Rattle.nmgc_reach.specs.Holds.{CoversReach}
 use Rattle.nmgc_reach.specs.Wide.{IsOfWeak, IsWide}
 
 -- all that is held is of the names: what roots hold, what strong fields of such names hold, and the alive weak pointers with their parts
@@ -80,7 +80,7 @@ IsLiveOrNew w extra name = IsSome (node_of w name) → IsLive w extra name
 
 -- after rows mutators hold only what is live at their beginning, with what the rows opened, or new; and what isn't live has the node that it had
 abbrev pub RowsHoldLive : Type 0
-RowsHoldLive = (w : World) (rows : List Row) → IsWorld w → CanReplay w rows → Holds (IsLiveOrNew w (opened w rows)) (replayed w rows) × ((name : Name) → IsSome (node_of w name) → (IsLive w (opened w rows) name → ⊥) → node_of (replayed w rows) name ≡ node_of w name)
+RowsHoldLive = (w : World) (rows : List Row) → IsWorld w → CanReplay w rows → CoversReach (IsLiveOrNew w (opened w rows)) (replayed w rows) × ((name : Name) → IsSome (node_of w name) → (IsLive w (opened w rows) name → ⊥) → node_of (replayed w rows) name ≡ node_of w name)
 
 -- a snapshot, and the commands since
 pub record Interval : Type 0 where

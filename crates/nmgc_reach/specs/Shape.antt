@@ -40,6 +40,7 @@ part_count (Stack size values) = size
 abbrev pub words_of : Node → ℕ
 words_of node = 2 + part_count node
 
+-- one shape: kind, tag and number of parts are the same
 pub record SameShape (before after : Node) : Type 0 where
   pub kind : kind_of after ≡ kind_of before
   pub tag : tag_of after ≡ tag_of before

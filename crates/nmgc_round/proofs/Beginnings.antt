@@ -20,14 +20,14 @@ use Rattle.nmgc_object.specs.declared.words.TheConstants.{NIL_WORD}
 use Rattle.nmgc_reach.specs.laws.ItemLaws.{nothing_in, contains_one, one_is}
 use Rattle.nmgc_graph.specs.laws.NewWorlds.{new_nodes, new_is_world}
 use Rattle.nmgc_heap.specs.Shape.{slots_of}
-use Rattle.nmgc_heap.specs.Places.{Place, Means, HasSlots, AllMean, ListMeans}
+use Rattle.nmgc_heap.specs.Places.{Place, Means, HasSlots, AllMean, ListMeans, shared_place}
 use Rattle.nmgc_heap.specs.Represents.{IsNamed, IsObject, IsPlaced, Represents, NoNode}
 use Rattle.nmgc_heap.specs.laws.Kinds.{all_item, values_fill}
 use Rattle.nmgc_round.specs.View.{Slots, Hand, Opening, no_hand, hand_of}
 use Rattle.nmgc_round.specs.Own.{old_stacks}
 use Rattle.nmgc_round.specs.Rule.{IsOpening}
 use Rattle.nmgc_round.specs.Starting.{HandStands, CanOpen}
-use Rattle.nmgc_round.specs.Empty.{empty_array, shared_place, IsEmptyHeap, new_hand, first_opening}
+use Rattle.nmgc_round.specs.Empty.{empty_array, IsEmptyHeap, new_hand, first_opening}
 use Rattle.nmgc_round.proofs.Makers.{replicate_means}
 
 -- an item of a list of equal ones

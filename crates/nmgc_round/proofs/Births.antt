@@ -14,7 +14,7 @@ use Rattle.nmgc_heap.specs.Shape.{header_of, size_of, slots_of, fixed_slots}
 use Rattle.nmgc_heap.specs.Places.{Place, HasSlots, LiesWell}
 use Rattle.nmgc_heap.specs.Represents.{IsNamed}
 use Rattle.nmgc_round.specs.View.{Opening}
-use Rattle.nmgc_round.specs.Objects.{KeepsOf, Object, place_of, end_of, IsObject, IsIn, IsPlace, IsLater, IsApart, IsStanding, Stands, IsFree}
+use Rattle.nmgc_round.specs.Objects.{KeepsOf, Object, place_of, end_of, IsObject, IsIn, IsPlace, IsLater, IsApart, IsStanding, RepresentsInRound, IsFree}
 use Rattle.nmgc_round.proofs.Fields.{fields_same, kept_same, fixed_of_slots}
 use Rattle.nmgc_round.proofs.Standing.{placed, same_node}
 
@@ -67,7 +67,7 @@ module _ (o : Opening) (born more : List Object) (grow : (p : Place) → IsIn o 
       }
 
 -- a word of no object changes
-pub stands_free : (o : Opening) (born : List Object) (w : World) (ws : List ℕ) (i new : ℕ) → IsFree o born i → Stands o born w ws → Stands o born w (set ws i new)
+pub stands_free : (o : Opening) (born : List Object) (w : World) (ws : List ℕ) (i new : ℕ) → IsFree o born i → RepresentsInRound o born w ws → RepresentsInRound o born w (set ws i new)
 stands_free o born w ws i new free st = record {
   total = length-set ws i new ∙ st.total;
   one = st.one;
@@ -80,7 +80,7 @@ stands_free o born w ws i new free st = record {
 }
 
 -- an object is born: its name and its fields stood there, and its header is written
-module _ (o : Opening) (born : List Object) (w v : World) (ws : List ℕ) (st : Stands o born w ws) (x : Object)
+module _ (o : Opening) (born : List Object) (w v : World) (ws : List ℕ) (st : RepresentsInRound o born w ws) (x : Object)
     (inside : x.at < length ws) (valid : IsHeader (header_of x.node)) (lies : LiesWell o.layout (place_of x) (size_of x.node))
     (free : (i : ℕ) → x.at ≤ i → i < end_of x → IsFree o born i)
     (mine : node_of v x.name ≡ Some x.node) (others : (n : Name) → (n ≡ x.name → ⊥) → node_of v n ≡ node_of w n)
@@ -179,7 +179,7 @@ module _ (o : Opening) (born : List Object) (w v : World) (ws : List ℕ) (st : 
       grown : HasSlots (IsIn o more) vs (x.at + HEADER_WORDS) (slots_of x.node)
       grown = fields_same (IsIn o born) (IsIn o more) (more_places o born x) ws vs (x.at + HEADER_WORDS) x.node sized (λ j lo hi. away j (λ e. omega arith)) fields
 
-  pub stands_born : Stands o more v vs
+  pub stands_born : RepresentsInRound o more v vs
   stands_born = record {
     total = length-set ws x.at (header_word (header_of x.node)) ∙ st.total;
     one = one;

@@ -14,7 +14,7 @@ use Rattle.nmgc_heap.specs.Places.{Place, Means, Fills, HasSlots, AllMean, ListM
 use Rattle.nmgc_heap.specs.laws.Kinds.{map_item, slots_none, slots_of_kept, fields_of_slots}
 use Rattle.nmgc_heap.specs.laws.Slots.{slot_count, free_fixed}
 use Rattle.nmgc_round.specs.View.{Opening}
-use Rattle.nmgc_round.specs.Objects.{Object, IsKept, KeepsOf}
+use Rattle.nmgc_round.specs.Objects.{Object, IsEarlierNode, KeepsOf}
 
 -- something is said of a field
 abbrev pub IsTold : Slot → Type 0
@@ -92,7 +92,7 @@ module _ (P Q : Place → Type 0) (more : (p : Place) → P p → Q p) (ws us : 
   free_same same h = slots_same P Q more ws us from (free_slots n) (λ i s e told. word_same same i s (free_fixed n i s e) told) h
 
 -- what is kept of an earlier node
-pub kept_same : (o : Opening) (x : Object) (P Q : Place → Type 0) (more : (p : Place) → P p → Q p) (ws us : List ℕ) (from : ℕ) (before : Node) (k : IsKept o x before) → ((j : ℕ) → from ≤ j → j < from + (header_of before).fields → ((i : ℕ) → j ≡ from + i → MayChange (header_of before).kind i → ⊥) → slice_index us j ≡ slice_index ws j) → KeepsOf o x before P ws from k → KeepsOf o x before Q us from k
+pub kept_same : (o : Opening) (x : Object) (P Q : Place → Type 0) (more : (p : Place) → P p → Q p) (ws us : List ℕ) (from : ℕ) (before : Node) (k : IsEarlierNode o x before) → ((j : ℕ) → from ≤ j → j < from + (header_of before).fields → ((i : ℕ) → j ≡ from + i → MayChange (header_of before).kind i → ⊥) → slice_index us j ≡ slice_index ws j) → KeepsOf o x before P ws from k → KeepsOf o x before Q us from k
 kept_same o x P Q more ws us from before (inl e) same h = fixed_same P Q more ws us from before same h
 kept_same o x P Q more ws us from before (inr s) same h = free_same P Q more ws us from before same h
 

@@ -24,7 +24,7 @@ use Rattle.nmgc_heap.specs.Places.{Place, ListMeans}
 use Rattle.nmgc_round.specs.Events.{Happening, did, scanned, after, IsLegal, done_by, scans_in}
 use Rattle.nmgc_round.specs.View.{Answer, Hand, FixedWord, UnbornWord, Opening, Part, Scan, Seen, hand_of, hand_now, leaves, doing, scanning}
 use Rattle.nmgc_round.specs.Own.{OwnSlots}
-use Rattle.nmgc_round.specs.Objects.{Object, IsLater, IsObject, IsIn, Stands}
+use Rattle.nmgc_round.specs.Objects.{Object, IsLater, IsObject, IsIn, RepresentsInRound}
 use Rattle.nmgc_round.proofs.Standing.{later_of}
 use Rattle.nmgc_round.proofs.Owners.{stack_of}
 use Rattle.nmgc_heap.specs.Shape.{header_of}
@@ -104,7 +104,7 @@ module _ (o : Opening) (words : List ℕ) (views : List Seen) (h : Keeps o words
 
   -- one view changes, and the others agree
   change : (new : List ℕ) (es : List Happening) (more : List Object) (w : Seen) → ((x : Object) → IsObject o h.born x → IsObject o more x) → ((x : Object) → Contains more x → IsNew o x)
-      → IsLegal o.core es → Stands o more (now o es).world new → AreKnown o more (now o es).world
+      → IsLegal o.core es → RepresentsInRound o more (now o es).world new → AreKnown o more (now o es).world
       → ((entry : Entry) → Contains (now o es).queue entry → IsQueued o entry)
       → Agrees o more new es h.owner h.scanner id w
       → ((j : ℕ) (u : Seen) → j ≢ id → get_elem? views j ≡ some u → Agrees o more new es h.owner h.scanner j u)
@@ -147,7 +147,7 @@ module _ (o : Opening) (words : List ℕ) (views : List Seen) (h : Keeps o words
   -- what the seats of others know of a command
   module _ (m : ℕ) (c : Command) (r : Reply) (lt : m < length (now o h.events).world.mutators) (more : List Object) (grow : (x : Object) → IsObject o h.born x → IsObject o more x)
       (stacks : (name : Name) (size : ℕ) (values : List Value) → name.maker ≢ m → node_of (now o h.events).world name ≡ Some (Stack size values) → node_of (step (now o h.events).world m c).0 name ≡ Some (Stack size values))
-      (only : (x : Object) → Contains more x → Contains h.born x ⊎ (x.name.maker ≡ m)) (new : List ℕ) (st : Stands o more (step (now o h.events).world m c).0 new) where
+      (only : (x : Object) → Contains more x → Contains h.born x ⊎ (x.name.maker ≡ m)) (new : List ℕ) (st : RepresentsInRound o more (step (now o h.events).world m c).0 new) where
     -- an object that isn't this mutator's was there before
     there_before : (x : Object) → x.name.maker ≢ m → IsObject o more x → IsObject o h.born x
     there_before x ne (inl old) = inl old
@@ -185,7 +185,7 @@ module _ (o : Opening) (words : List ℕ) (views : List Seen) (h : Keeps o words
       → Owes true (IsIn o more) found (names_of (now o h.events).owed p.number ++ owed_by (now o h.events).world p.number c)
       → ((name : Name) (size : ℕ) (values : List Value) → name.maker ≢ p.number → node_of (now o h.events).world name ≡ Some (Stack size values) → node_of (step (now o h.events).world p.number c).0 name ≡ Some (Stack size values))
       → ((n : Name) (node : Node) → node_of (step (now o h.events).world p.number c).0 n ≡ Some node → ((before : Node) × (node_of (now o h.events).world n ≡ Some before) × IsLater before node) ⊎ ((x : Object) × Contains more x × (x.name ≡ n)))
-      → Stands o more (step (now o h.events).world p.number c).0 new
+      → RepresentsInRound o more (step (now o h.events).world p.number c).0 new
       → Rests o more new (doing (record p { used = used; unborn = unborn; fixed = fixed; found = found }) c a owed)
       → ((q : Part) → q.number ≢ p.number → Rests o h.born words q → Rests o more new q)
       → ((x : Object) → Contains more x → Contains h.born x ⊎ (x.name.maker ≡ p.number))
@@ -200,7 +200,7 @@ module _ (o : Opening) (words : List ℕ) (views : List Seen) (h : Keeps o words
       let p' : Part = doing (record p { used = used; unborn = unborn; fixed = fixed; found = found }) c a owed in
       let fits : Fits o more (now o (h.events ++ e ∷ [])) (done_by m (h.events ++ e ∷ [])) p' = subst (λ (t : State). Fits o more t (done_by m (h.events ++ e ∷ [])) p') (sym (now_more e)) (subst (λ d. Fits o more (after_command s m c) d p') (sym (done_more m h.events c r)) (fits_mine o h.born more grow s (done_by m h.events) p used unborn fixed found c r a owed says hand owes finds own mine.1)) in
       let n = change new (h.events ++ e ∷ []) more (record v { parts = p' ∷ [] }) grow news (legal_more o.core h.events e h.legal (can, tt))
-      (subst (λ (t : State). Stands o more t.world new) (sym (now_more e)) st)
+      (subst (λ (t : State). RepresentsInRound o more t.world new) (sym (now_more e)) st)
       (subst (λ (t : State). AreKnown o more t.world) (sym (now_more e)) (known_more more grow (step s.world m c).0 names))
       (λ entry q. h.queued entry (subst (λ (t : State). Contains t.queue entry) (now_more e) q))
       (record {
@@ -222,7 +222,7 @@ module _ (o : Opening) (words : List ℕ) (views : List Seen) (h : Keeps o words
 
   -- no event: one part says other things of the words
   pub store_law : (new : List ℕ) (p : Part) (used : ℕ) (unborn : List UnbornWord) (fixed : List FixedWord) → IsMutator v p
-      → Stands o h.born (now o h.events).world new → Rests o h.born new (record p { used = used; unborn = unborn; fixed = fixed }) → ((q : Part) → q.number ≢ p.number → Rests o h.born words q → Rests o h.born new q)
+      → RepresentsInRound o h.born (now o h.events).world new → Rests o h.born new (record p { used = used; unborn = unborn; fixed = fixed }) → ((q : Part) → q.number ≢ p.number → Rests o h.born words q → Rests o h.born new q)
       → Stays o words views h new (set views id (record v { parts = record p { used = used; unborn = unborn; fixed = fixed } ∷ [] }))
   store_law new p used unborn fixed is st rests rest =
       let g = h.agrees id v here in
@@ -280,7 +280,7 @@ module _ (o : Opening) (words : List ℕ) (views : List Seen) (h : Keeps o words
       let fits : (q : Part) → Fits o h.born s (done_by q.number h.events) q → Fits o h.born (now o (h.events ++ e ∷ [])) (done_by q.number (h.events ++ e ∷ [])) q =
       λ q f. subst (λ (u : State). Fits o h.born u (done_by q.number (h.events ++ e ∷ [])) q) (sym (now_more e)) (subst (λ d. Fits o h.born t d q) (sym (done_scan q.number h.events entry x)) (fits_rest s t (done_by q.number h.events) q kept.world kept.owed f)) in
       let n = change words (h.events ++ e ∷ []) h.born (scanning v one) (λ y hy. hy) h.new (legal_more o.core h.events e h.legal ((still_open o.core h.events h.is.not_closed, full), ((rest, queue), reads)))
-      (subst (λ (u : State). Stands o h.born u.world words) (sym (now_more e)) (subst (λ (u : World). Stands o h.born u words) (sym kept.world) h.stands))
+      (subst (λ (u : State). RepresentsInRound o h.born u.world words) (sym (now_more e)) (subst (λ (u : World). RepresentsInRound o h.born u words) (sym kept.world) h.stands))
       (subst (λ (u : State). AreKnown o h.born u.world) (sym (now_more e)) (subst (λ (u : World). AreKnown o h.born u) (sym kept.world) h.known))
       (λ k c. queued k (subst (λ (u : State). Contains u.queue k) (now_more e) c))
       (record {

@@ -36,7 +36,7 @@ use Rattle.nmgc_graph.specs.declared.mutator_state.MutatorState.{MutatorState}
 use Rattle.nmgc_graph.specs.laws.Orders.{contains_cases}
 use Rattle.nmgc_round.specs.View.{FixedWord, loaded, holding, bearing_object, gave_birth, next_of, Answer, plain, word, Hand, Opening, Part, Seen, hand_now, leaves, doing, finding, knowing, storing, first_changed, owed_word, answered, swapped, stored}
 use Rattle.nmgc_round.specs.Own.{OwnSlots}
-use Rattle.nmgc_round.specs.Objects.{Object, place_of, end_of, IsLater, IsObject, IsIn, Stands, IsFree}
+use Rattle.nmgc_round.specs.Objects.{Object, place_of, end_of, IsLater, IsObject, IsIn, RepresentsInRound, IsFree}
 use Rattle.nmgc_round.specs.Rule.{now, Answers, Owes, IsHand, IsFixed, Fits, Rests, IsNew, Keeps, limit_of}
 use Rattle.nmgc_round.specs.Added.{Stays, AddsCommand}
 use Rattle.nmgc_round.specs.Ready.{IsMutator, CanGive, operand_word, Names, IsWritable, IsReadable, CanBear, CanSwap, CanLoad, CanStore}
@@ -171,7 +171,7 @@ module _ (o : Opening) (words : List ℕ) (views : List Seen) (h : Keeps o words
       ] in
       let mine : node_of u name ≡ Some t.made = elim (cases name) [ inl s ↦ s.1 | inr s ↦ absurd (s.0 refl) ] in
       let others : (n : Name) → (n ≡ name → ⊥) → node_of u n ≡ node_of W n = λ n ne. elim (cases n) [ inl s ↦ absurd (ne s.0) | inr s ↦ s.1 ] in
-      let stands : Stands o h.born u new = subst (λ a. Stands o h.born u (set words (a + HEADER_WORDS + index) w)) m.is_at
+      let stands : RepresentsInRound o h.born u new = subst (λ a. RepresentsInRound o h.born u (set words (a + HEADER_WORDS + index) w)) m.is_at
       (stands_field o h.born W words h.stands u x m.there index w t.made within' may' t.later t.sized mine others
       (subst (λ a. HasSlots P (set words (a + HEADER_WORDS + index) w) (a + HEADER_WORDS) (slots_of t.made)) (sym m.is_at) t.fields)) in
       let rest : (q : Part) → Rests o h.born words q → Rests o h.born new q = λ q r. subst (λ a. Rests o h.born (set words (a + HEADER_WORDS + index) w) q) m.is_at (rests_field o h.is h.born W words h.stands h.new x m.there index w within' may' q r) in
@@ -190,7 +190,7 @@ module _ (o : Opening) (words : List ℕ) (views : List Seen) (h : Keeps o words
         | inl s ↦ let is : Some t.made ≡ Some node = sym s.1 ∙ e' in let same : t.made ≡ node = cc in inl (st.node, ap (λ k. node_of W k) s.0 ∙ st.there, subst (λ (k : Node). IsLater st.node k) same t.later)
         | inr s ↦ inl (node, sym s.1 ∙ e', same_node node)
       ])
-      (subst (λ (r : World × Reply). Stands o h.born r.0 new) (sym does) stands)
+      (subst (λ (r : World × Reply). RepresentsInRound o h.born r.0 new) (sym does) stands)
       (record { exists = mine_rests.exists; room = mine_rests.room; below = mine_rests.below; unborn = mine_rests.unborn; fixed = mine_rests.fixed })
       (λ q ne r. rest q r)
       (λ y c. inl c)
@@ -220,7 +220,7 @@ module _ (o : Opening) (words : List ℕ) (views : List Seen) (h : Keeps o words
       (subst (λ ns. Owes true P p.found (names_of S.owed p.number ++ ns)) (sym owes) (finds_same p.found (names_of S.owed p.number) fits.found))
       (λ n size values ne e. subst (λ (x : World × Reply). node_of x.0 n ≡ Some (Stack size values)) (sym does) (same n ∙ e))
       (λ n node e. inl (node, sym (same n) ∙ subst (λ (x : World × Reply). node_of x.0 n ≡ Some node) does e, same_node node))
-      (subst (λ (x : World × Reply). Stands o h.born x.0 words) (sym does) (stands_nodes o h.born W u words same h.stands))
+      (subst (λ (x : World × Reply). RepresentsInRound o h.born x.0 words) (sym does) (stands_nodes o h.born W u words same h.stands))
       (record { exists = rests.exists; room = rests.room; below = rests.below; unborn = rests.unborn; fixed = rests.fixed })
       (λ q ne r. r)
       (λ y c. inl c)
@@ -315,7 +315,7 @@ module _ (o : Opening) (words : List ℕ) (views : List Seen) (h : Keeps o words
       let name_there : slice_index words (at + 1) ≡ name_word (next_of o p) = (rests.unborn (record { at = at + 1; word = name_word (next_of o p) }) can.name).0 in
       let valid_name : IsName name = (let a = rests.exists in let b = h.is.layout.mutators.1 in omega arith, (let a : serial_of W m < 2 ^ 32 - 1 = subst (λ n. n < 2 ^ 32 - 1) fits.hand.serial can.gives.serial in omega arith), λ e. absurd (own e)) in
       let lies : LiesWell o.layout (place_of x) (size_of t.made) = inr (own, inr (let fit = can.gives.fits.size in omega arith, λ i l k. record { exists = rests.exists; from = omega arith; before = omega arith })) in
-      let st : Stands o more u (set words at (header_word (header_of t.made))) = stands_born o h.born W u words h.stands x (omega arith) (subst (λ k. IsHeader k) (sym t.head) (made_header o.layout.words c h.is.layout.words.most can.gives.fits can.makes)) lies
+      let st : RepresentsInRound o more u (set words at (header_word (header_of t.made))) = stands_born o h.born W u words h.stands x (omega arith) (subst (λ k. IsHeader k) (sym t.head) (made_header o.layout.words c h.is.layout.words.most can.gives.fits can.makes)) lies
       (λ i lo hi. rest_free o h.is h.born W words p h.stands h.new rests i (omega arith) (omega arith))
       mine others unknown no_snapshot valid_name (name_there ∙ ap (λ n. name_word n) next) t.sized
       (t.fields words (at + HEADER_WORDS) (λ i w e. (rests.unborn (record { at = at + HEADER_WORDS + i; word = w }) (can.fields i w e)).0)) in
@@ -346,7 +346,7 @@ module _ (o : Opening) (words : List ℕ) (views : List Seen) (h : Keeps o words
       (subst (λ ns. Owes true Q p.found (names_of S.owed m ++ ns)) (sym t.owes) (owes_more o h.born more grow true p.found (names_of S.owed m ++ []) (finds_same p.found (names_of S.owed m) fits.found)))
       (λ n size values ne e. subst (λ (z : World × Reply). node_of z.0 n ≡ Some (Stack size values)) (sym t.does) (stays n size values e))
       (λ n node e. let e' : node_of u n ≡ Some node = subst (λ (z : World × Reply). node_of z.0 n ≡ Some node) t.does e in elim (cases n) [ inl k ↦ inr (x, Contains-push h.born x, sym k.0) | inr k ↦ inl (node, sym k ∙ e', same_node node) ])
-      (subst (λ (z : World × Reply). Stands o more z.0 (set words at header)) (sym t.does) (subst (λ n. Stands o more u (set words at n)) (sym head) st))
+      (subst (λ (z : World × Reply). RepresentsInRound o more z.0 (set words at header)) (sym t.does) (subst (λ n. RepresentsInRound o more u (set words at n)) (sym head) st))
       (record { exists = r.exists; room = r.room; below = r.below; unborn = r.unborn; fixed = r.fixed })
       (λ q ne s. rests_birth o h.is h.born W words h.stands h.new p rests x refl from (omega arith) header q ne s)
       (λ y hy. elim (Contains-push_cases h.born x y hy) [ inl d ↦ inl d | inr e ↦ inr (sym (ap (λ (z : Object). z.name.maker) e)) ])

@@ -12,7 +12,7 @@ use Rattle.nmgc_heap.specs.Shape.{header_of, size_of, MayChange}
 use Rattle.nmgc_heap.specs.Places.{Place, LiesWell}
 use Rattle.nmgc_graph.specs.laws.Orders.{contains_cases}
 use Rattle.nmgc_round.specs.View.{Opening, Part, UnbornWord, FixedWord, storing, bearing_object}
-use Rattle.nmgc_round.specs.Objects.{Object, place_of, end_of, IsObject, IsPlace, Stands, IsFree}
+use Rattle.nmgc_round.specs.Objects.{Object, place_of, end_of, IsObject, IsPlace, RepresentsInRound, IsFree}
 use Rattle.nmgc_round.specs.Rule.{IsOpening, IsNew, IsFixed, Rests, base_of, limit_of, top_of}
 use Rattle.nmgc_round.proofs.Standing.{one_or_apart, one_header}
 
@@ -57,7 +57,7 @@ module _ (o : Opening) where
         elim (is.in_segments p hp p.name.maker first.exists) [ inl lt ↦ absurd (omega arith) | inr le ↦ absurd (omega arith) ]
 
     -- the rest of a nursery is in no object
-    pub rest_free : (born : List Object) (w : World) (ws : List ℕ) (p : Part) → Stands o born w ws → ((x : Object) → Contains born x → IsNew o x) → Rests o born ws p → (i : ℕ) → top_of o p ≤ i → i < limit_of o p.number → IsFree o born i
+    pub rest_free : (born : List Object) (w : World) (ws : List ℕ) (p : Part) → RepresentsInRound o born w ws → ((x : Object) → Contains born x → IsNew o x) → Rests o born ws p → (i : ℕ) → top_of o p ≤ i → i < limit_of o p.number → IsFree o born i
     rest_free born w ws p st new r i lo hi = record { objects = objects; places = places }
       where
         born_apart : (x : Object) → Contains born x → (i < x.at) ⊎ (end_of x ≤ i)
@@ -96,7 +96,7 @@ module _ (o : Opening) where
   fixed_away born i at offset free f e = let a = f.is_at in let b = f.within in elim (free.objects f.object f.here) [ inl l ↦ omega arith | inr l ↦ omega arith ]
 
   -- nor a field that may change
-  pub fixed_field : (born : List Object) (w : World) (ws : List ℕ) → Stands o born w ws → (x : Object) → IsObject o born x → (i : ℕ) → i < (header_of x.node).fields → MayChange (header_of x.node).kind i → (at offset : ℕ) → IsFixed o born at offset → at + offset ≢ x.at + HEADER_WORDS + i
+  pub fixed_field : (born : List Object) (w : World) (ws : List ℕ) → RepresentsInRound o born w ws → (x : Object) → IsObject o born x → (i : ℕ) → i < (header_of x.node).fields → MayChange (header_of x.node).kind i → (at offset : ℕ) → IsFixed o born at offset → at + offset ≢ x.at + HEADER_WORDS + i
   fixed_field born w ws st x hx i within may at offset f e =
       let a = f.is_at in
       let b = f.within in
@@ -108,7 +108,7 @@ module _ (o : Opening) where
         | inr far ↦ elim far [ inl l ↦ omega arith | inr l ↦ omega arith ]
       ]
 
-  module _ (is : IsOpening o) (born : List Object) (w : World) (ws : List ℕ) (st : Stands o born w ws) (new : (x : Object) → Contains born x → IsNew o x) where
+  module _ (is : IsOpening o) (born : List Object) (w : World) (ws : List ℕ) (st : RepresentsInRound o born w ws) (new : (x : Object) → Contains born x → IsNew o x) where
     -- a field changes
     pub rests_field : (x : Object) → IsObject o born x → (i n : ℕ) → i < (header_of x.node).fields → MayChange (header_of x.node).kind i → (q : Part) → Rests o born ws q → Rests o born (set ws (x.at + HEADER_WORDS + i) n) q
     rests_field x hx i n within may q r =

@@ -27,7 +27,7 @@ use Rattle.nmgc_object.specs.declared.layout.TheConstants.{SHARED_PLACE}
 use Rattle.nmgc_core.specs.State.{names_of}
 use Rattle.nmgc_round.specs.Rule.{Owes, IsHand, Fits, Rests, IsIdle, Agrees, Keeps}
 use Rattle.nmgc_round.specs.View.{Hand, Part, Seen, Opening, hand_of, blank, blanks, nobody, whole}
-use Rattle.nmgc_round.specs.Objects.{KeepsOf, Object, place_of, IsOld, IsIn, IsPlace, IsLater, IsStanding, Stands, earlier}
+use Rattle.nmgc_round.specs.Objects.{KeepsOf, Object, place_of, IsOld, IsIn, IsPlace, IsLater, IsStanding, RepresentsInRound, earlier}
 use Rattle.nmgc_round.specs.Starting.{CanOpen}
 use Rattle.nmgc_round.proofs.Parts.{idle_agrees}
 use Rattle.nmgc_round.proofs.Olds.{own_old}
@@ -131,7 +131,7 @@ module _ (o : Opening) (words : List ℕ) (h : CanOpen o words) where
         ];
       }
 
-  pub opens_stands : Stands o [] W words
+  pub opens_stands : RepresentsInRound o [] W words
   opens_stands = record {
     total = h.represents.total;
     one = λ p q hp hq e. h.represents.one p q (old_place p hp) (old_place q hq) e;

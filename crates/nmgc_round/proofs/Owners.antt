@@ -10,7 +10,7 @@ use Rattle.nmgc_heap.specs.Shape.{header_of}
 use Rattle.nmgc_heap.specs.Places.{Place, ListMeans}
 use Rattle.std.proofs.lemmas.Bool.{cases_eq}
 use Rattle.nmgc_round.specs.View.{Slots, Hand, Opening}
-use Rattle.nmgc_round.specs.Objects.{Object, place_of, IsObject, IsIn, Stands}
+use Rattle.nmgc_round.specs.Objects.{Object, place_of, IsObject, IsIn, RepresentsInRound}
 use Rattle.nmgc_round.specs.Own.{slots_at, HasStack, OwnSlots}
 use Rattle.nmgc_round.proofs.Standing.{placed}
 use Rattle.nmgc_round.proofs.Fields.{list_more}
@@ -29,7 +29,7 @@ pub own_kept : (o : Opening) (born : List Object) (w u : World) (m : ℕ) (h k :
 own_kept o born w u m h k same before own x size values hx mine there = subst (λ (l : List Slots). HasStack o born l x.at values) (sym same) (own x size values hx mine (before x.name size values there))
 
 -- an object more, whose stack is empty if it is one
-pub own_born : (o : Opening) (born more : List Object) (w u : World) (ws : List ℕ) → Stands o more u ws → (m : ℕ) (h k : Hand) (x : Object) → IsObject o more x → ((y : Object) → IsObject o born y → IsObject o more y) → ((y : Object) → IsObject o more y → y.at ≢ x.at → IsObject o born y)
+pub own_born : (o : Opening) (born more : List Object) (w u : World) (ws : List ℕ) → RepresentsInRound o more u ws → (m : ℕ) (h k : Hand) (x : Object) → IsObject o more x → ((y : Object) → IsObject o born y → IsObject o more y) → ((y : Object) → IsObject o more y → y.at ≢ x.at → IsObject o born y)
     → ((y : ℕ) → y ≢ x.at → slots_at k.stacks y ≡ slots_at h.stacks y) → ((size : ℕ) (values : List Value) → node_of u x.name ≡ Some (Stack size values) → (values ≡ []) × (slots_at k.stacks x.at ≡ Some []))
     → ((n : Name) → (n ≡ x.name → ⊥) → node_of u n ≡ node_of w n) → OwnSlots o born w m h → OwnSlots o more u m k
 own_born o born more w u ws st m h k x hx grow before others first nodes own y size values hy mine there = elim (cases_eq y.at x.at) [

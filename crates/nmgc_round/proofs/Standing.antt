@@ -12,7 +12,7 @@ use Rattle.nmgc_heap.specs.Shape.{header_of, slots_of, MayChange}
 use Rattle.nmgc_heap.specs.Places.{Place, HasSlots}
 use Rattle.nmgc_heap.specs.Represents.{IsNamed}
 use Rattle.nmgc_round.specs.View.{Opening}
-use Rattle.nmgc_round.specs.Objects.{Object, place_of, end_of, IsObject, IsIn, IsPlace, IsLater, IsStanding, Stands}
+use Rattle.nmgc_round.specs.Objects.{Object, place_of, end_of, IsObject, IsIn, IsPlace, IsLater, IsStanding, RepresentsInRound}
 use Rattle.nmgc_round.proofs.Fields.{fields_same, kept_same}
 
 -- what is later than what is later
@@ -31,7 +31,7 @@ placed o born x (inr h) = inr (x, h, refl)
 pub is_in : (o : Opening) (born : List Object) (x : Object) → IsObject o born x → IsIn o born (place_of x)
 is_in o born x h = (x.node, h)
 
-module _ (o : Opening) (born : List Object) (w : World) (ws : List ℕ) (st : Stands o born w ws) where
+module _ (o : Opening) (born : List Object) (w : World) (ws : List ℕ) (st : RepresentsInRound o born w ws) where
   -- two objects are one, or lie apart
   pub one_or_apart : (x y : Object) → IsObject o born x → IsObject o born y → ((x.name ≡ y.name) × (x.at ≡ y.at)) ⊎ ((end_of x ≤ y.at) ⊎ (end_of y ≤ x.at))
   one_or_apart x y hx hy = elim (cases_eq x.at y.at) [
@@ -120,7 +120,7 @@ module _ (o : Opening) (born : List Object) (w : World) (ws : List ℕ) (st : St
               (g.0, kept_same o y (IsIn o born) (IsIn o born) (λ p q. q) ws us (y.at + HEADER_WORDS) before k (λ j lo hi fixed. away j (beyond j (omega arith) (omega arith))) g.1);
         }
 
-    pub stands_field : Stands o born v us
+    pub stands_field : RepresentsInRound o born v us
     stands_field = record {
       total = length-set ws (x.at + HEADER_WORDS + i) new ∙ st.total;
       one = st.one;
@@ -133,7 +133,7 @@ module _ (o : Opening) (born : List Object) (w : World) (ws : List ℕ) (st : St
     }
 
 -- the same words, in a world with the same nodes
-pub stands_nodes : (o : Opening) (born : List Object) (w v : World) (ws : List ℕ) → ((n : Name) → node_of v n ≡ node_of w n) → Stands o born w ws → Stands o born v ws
+pub stands_nodes : (o : Opening) (born : List Object) (w v : World) (ws : List ℕ) → ((n : Name) → node_of v n ≡ node_of w n) → RepresentsInRound o born w ws → RepresentsInRound o born v ws
 stands_nodes o born w v ws same st = record {
   total = st.total;
   one = st.one;

@@ -20,7 +20,7 @@ use Rattle.nmgc_heap.specs.Places.{Place, HasSlots}
 use Rattle.nmgc_round.specs.View.{Answer, Hand, Opening, Part, Seen, hand_now, leaves, doing}
 use Rattle.nmgc_round.specs.Events.{done_by}
 use Rattle.nmgc_round.specs.Own.{OwnSlots}
-use Rattle.nmgc_round.specs.Objects.{Object, IsLater, IsObject, IsIn, Stands}
+use Rattle.nmgc_round.specs.Objects.{Object, IsLater, IsObject, IsIn, RepresentsInRound}
 use Rattle.nmgc_round.specs.Rule.{now, Answers, Owes, IsHand, Fits, Rests, Keeps}
 use Rattle.nmgc_round.specs.Added.{AddsCommand}
 use Rattle.nmgc_round.specs.Ready.{IsMutator, CanGive}
@@ -67,7 +67,7 @@ module _ (o : Opening) (words : List ℕ) (views : List Seen) (h : Keeps o words
   field_law x hx i new made c r a u found owed ch gives does says hand owes finds own =
       let st = h.stands.objects x hx in
       let us : List ℕ = set words (x.at + HEADER_WORDS + i) new in
-      let stands : Stands o h.born u us = stands_field o h.born W words h.stands u x hx i new made ch.within ch.may ch.later ch.sized ch.mine ch.others ch.fields in
+      let stands : RepresentsInRound o h.born u us = stands_field o h.born W words h.stands u x hx i new made ch.within ch.may ch.later ch.sized ch.mine ch.others ch.fields in
       let rest : (q : Part) → Rests o h.born words q → Rests o h.born us q = λ q r. rests_field o h.is h.born W words h.stands h.new x hx i new ch.within ch.may q r in
       let mine_rests = rest p rests in
       command_law o words views h id v here us h.born p p.used p.unborn p.fixed found c r a owed is (λ y hy. hy) h.new
@@ -84,7 +84,7 @@ module _ (o : Opening) (words : List ℕ) (views : List Seen) (h : Keeps o words
         | inl s ↦ let is : Some made ≡ Some node = sym ch.mine ∙ ap (λ k. node_of u k) (sym s) ∙ e' in let same : made ≡ node = cc in inl (st.node, ap (λ k. node_of W k) s ∙ st.there, subst (λ (k : Node). IsLater st.node k) same ch.later)
         | inr s ↦ inl (node, sym (ch.others n s) ∙ e', same_node node)
       ])
-      (subst (λ (r : World × Reply). Stands o h.born r.0 us) (sym does) stands)
+      (subst (λ (r : World × Reply). RepresentsInRound o h.born r.0 us) (sym does) stands)
       (record { exists = mine_rests.exists; room = mine_rests.room; below = mine_rests.below; unborn = mine_rests.unborn; fixed = mine_rests.fixed })
       (λ q ne r. rest q r)
       (λ y c. inl c)
@@ -106,7 +106,7 @@ module _ (o : Opening) (words : List ℕ) (views : List Seen) (h : Keeps o words
       finds
       (λ n size values ne e. subst (λ (x : World × Reply). node_of x.0 n ≡ Some (Stack size values)) (sym does) (same n ∙ e))
       (λ n node e. inl (node, sym (same n) ∙ subst (λ (x : World × Reply). node_of x.0 n ≡ Some node) does e, same_node node))
-      (subst (λ (x : World × Reply). Stands o h.born x.0 words) (sym does) (stands_nodes o h.born W u words same h.stands))
+      (subst (λ (x : World × Reply). RepresentsInRound o h.born x.0 words) (sym does) (stands_nodes o h.born W u words same h.stands))
       (record { exists = rests.exists; room = rests.room; below = rests.below; unborn = rests.unborn; fixed = rests.fixed })
       (λ q ne r. r)
       (λ y c. inl c)

@@ -14,16 +14,12 @@ use Rattle.nmgc_object.specs.declared.size.TheConstants.{HEADER_WORDS}
 use Rattle.nmgc_object.specs.declared.words.TheConstants.{NIL_WORD}
 use Rattle.nmgc_core.specs.State.{unmarked}
 use Rattle.nmgc_heap.specs.Shape.{header_of}
-use Rattle.nmgc_heap.specs.Places.{Place}
+use Rattle.nmgc_heap.specs.Places.{Place, shared_place}
 use Rattle.nmgc_round.specs.View.{Hand, Opening}
 
 -- g, full of nil
 abbrev pub empty_array : Node
 empty_array = Arr (replicate SHARED_SLOTS Nil)
-
--- where g is
-abbrev pub shared_place : Place
-shared_place = record { at = SHARED_PLACE; name = shared_name }
 
 -- the words of the heap of which nothing was made: g's header, name and slots, and any words beyond
 pub record IsEmptyHeap (layout : Layout) (words : List ℕ) : Type 0 where

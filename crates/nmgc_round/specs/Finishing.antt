@@ -13,7 +13,7 @@ use Rattle.nmgc_heap.specs.Represents.{Represents}
 use Rattle.nmgc_round.specs.Events.{Happening, IsLegal, done_by, scans_in}
 use Rattle.nmgc_round.specs.View.{Opening, Part, Seen, exclusive}
 use Rattle.nmgc_round.specs.Marking.{marks_of, marks_after}
-use Rattle.nmgc_round.specs.Objects.{Object, place_of, earlier, IsObject, IsIn, Stands}
+use Rattle.nmgc_round.specs.Objects.{Object, place_of, earlier, IsObject, IsIn, RepresentsInRound}
 use Rattle.nmgc_round.specs.Rule.{now, AllRead, Fits, Rests, IsOpening, ArePlaced, IsNew, IsQueued, AreKnown}
 
 -- there is a list of events for which the words, the parts and the scans of this view stand
@@ -23,7 +23,7 @@ pub record IsFinished (o : Opening) (words : List ℕ) (v : Seen) : Type 0 where
   pub events : List Happening
   pub born : List Object
   pub legal : IsLegal o.core events
-  pub stands : Stands o born (now o events).world words
+  pub stands : RepresentsInRound o born (now o events).world words
   pub shared : IsIn o born (record { at = SHARED_PLACE; name = shared_name })
   pub new : (x : Object) → Contains born x → IsNew o x
   pub known : AreKnown o born (now o events).world

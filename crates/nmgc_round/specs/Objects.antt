@@ -75,11 +75,11 @@ pub record IsSnapshot (o : Opening) (x : Object) (node : Node) : Type 0 where
   pub there : node_of o.core.snapshot x.name ≡ Some node
 
 -- an earlier node of the object whose unchanging fields still stand: its first one, or the snapshot's
-abbrev pub IsKept : Opening → Object → Node → Type 0
-IsKept o x node = (node ≡ x.node) ⊎ IsSnapshot o x node
+abbrev pub IsEarlierNode : Opening → Object → Node → Type 0
+IsEarlierNode o x node = (node ≡ x.node) ⊎ IsSnapshot o x node
 
 -- what of it still stands: of the first all fields that never change, of the snapshot's the free variables
-abbrev pub KeepsOf : (o : Opening) (x : Object) (before : Node) → (Place → Type 0) → List ℕ → ℕ → IsKept o x before → Type 0
+abbrev pub KeepsOf : (o : Opening) (x : Object) (before : Node) → (Place → Type 0) → List ℕ → ℕ → IsEarlierNode o x before → Type 0
 KeepsOf o x before P words from (inl e) = HasSlots P words from (fixed_slots before)
 KeepsOf o x before P words from (inr s) = HasSlots P words from (free_slots before)
 
@@ -97,10 +97,10 @@ pub record IsStanding (o : Opening) (born : List Object) (w : World) (words : Li
   pub later : IsLater x.node node
   pub sized : IsSized node
   pub fields : HasSlots (IsIn o born) words (x.at + HEADER_WORDS) (slots_of node)
-  pub kept : (before : Node) (k : IsKept o x before) → IsLater before x.node × KeepsOf o x before (IsIn o born) words (x.at + HEADER_WORDS) k
+  pub kept : (before : Node) (k : IsEarlierNode o x before) → IsLater before x.node × KeepsOf o x before (IsIn o born) words (x.at + HEADER_WORDS) k
 
 -- words stand for a world in a round
-pub record Stands (o : Opening) (born : List Object) (w : World) (words : List ℕ) : Type 0 where
+pub record RepresentsInRound (o : Opening) (born : List Object) (w : World) (words : List ℕ) : Type 0 where
   pub total : length words ≡ word_total o.layout
   pub one : (p q : Place) → IsPlace o born p → IsPlace o born q → (p.name ≡ q.name) ⊎ (p.at ≡ q.at) → p ≡ q
   pub named : (p : Place) → IsPlace o born p → IsNamed o.layout w words p

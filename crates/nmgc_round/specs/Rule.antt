@@ -26,7 +26,7 @@ use Rattle.nmgc_heap.specs.Tracked.{IsTracked}
 use Rattle.nmgc_reach.specs.Wide.{IsWide}
 use Rattle.nmgc_round.specs.Marking.{marks_of, marks_after}
 use Rattle.nmgc_round.specs.Own.{OwnSlots}
-use Rattle.nmgc_round.specs.Objects.{Object, end_of, earlier, IsOld, IsLater, IsObject, IsIn, Stands}
+use Rattle.nmgc_round.specs.Objects.{Object, end_of, earlier, IsOld, IsLater, IsObject, IsIn, RepresentsInRound}
 
 -- the state after events
 abbrev pub now : Opening → List Happening → State
@@ -168,7 +168,7 @@ pub record Keeps (o : Opening) (words : List ℕ) (views : List Seen) : Type 0 w
   pub owner : ℕ → ℕ
   pub scanner : ℕ
   pub legal : IsLegal o.core events
-  pub stands : Stands o born (now o events).world words
+  pub stands : RepresentsInRound o born (now o events).world words
   pub shared : IsIn o born (record { at = SHARED_PLACE; name = shared_name })
   pub new : (x : Object) → Contains born x → IsNew o x
   pub known : AreKnown o born (now o events).world

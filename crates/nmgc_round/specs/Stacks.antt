@@ -65,16 +65,16 @@ abbrev pub slot_swapped : Seen → Command → ℕ → Seen
 slot_swapped v (Pop dest object) n = changing (λ p. doing (finding p n) (Pop dest object) (word n) (owed_word v.opening.marking n)) v
 slot_swapped v c n = answered v c (plain Fine)
 
--- `push` onto a stack that is full, and `pop` off one that is empty, as one without slots always is
-pub record IsFull (o : Opening) (p : Part) (at : ℕ) (c : Command) : Type 0 where
+-- `push` is refused: the operand refers to an own stack that is full, as one without slots always is
+pub record RefusesPush (o : Opening) (p : Part) (at : ℕ) (c : Command) : Type 0 where
   pub gives : CanGive o p c
   pub stack : IsOwn o p at
   pub value : Operand
   pub command : c ≡ Push stack.object value
   pub full : (ws : List ℕ) → slots_at (hand_now o p).stacks at ≡ Some ws → stack.header.fields ≤ length ws
 
--- the operand refers to an own stack that has no value on it
-pub record IsEmpty (o : Opening) (p : Part) (at : ℕ) (c : Command) : Type 0 where
+-- `pop` is refused: the operand refers to an own stack that has no value on it, as one without slots never has
+pub record RefusesPop (o : Opening) (p : Part) (at : ℕ) (c : Command) : Type 0 where
   pub gives : CanGive o p c
   pub stack : IsOwn o p at
   pub dest : ℕ
@@ -83,7 +83,7 @@ pub record IsEmpty (o : Opening) (p : Part) (at : ℕ) (c : Command) : Type 0 wh
 
 -- one of both
 abbrev pub IsRefusedSlot : Opening → Part → ℕ → Command → Type 0
-IsRefusedSlot o p at c = IsFull o p at c ⊎ IsEmpty o p at c
+IsRefusedSlot o p at c = RefusesPush o p at c ⊎ RefusesPop o p at c
 
 -- the reply then
 abbrev pub slot_refusal_reply : Command → Reply

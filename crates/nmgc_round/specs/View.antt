@@ -25,6 +25,7 @@ pub data Answer : Type 0 where
   plain : Reply → Answer
   word : ℕ → Answer
 
+-- a command that a mutator did, with its answer
 pub record Row : Type 0 where
   pub command : Command
   pub answer : Answer

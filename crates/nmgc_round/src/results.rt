@@ -3,6 +3,9 @@
 //! A thunk has no result at first, and gets one at most once: the step that stores it is a compare-exchange
 //! from an unset word. From then on nothing is said of its free variables any more, so while marking that very
 //! step owes them all. The seat has loaded them before: they never change, and its view names them.
+//!
+//! Easy to get wrong: no result is the word 0, which stands for no value; and the result's word comes before those
+//! of the free variables.
 ghost use Rattle.std.specs.Prelude.{◌≡◌, ◌≢◌, ◌+◌, ◌<◌, ◌==◌, []};
 ghost use Rattle.nmgc_object.specs.declared.size.TheConstants.{HEADER_WORDS};
 ghost use Rattle.nmgc_round.specs.Ready.{Mutates};

@@ -5,6 +5,9 @@
 //! swap, at which the command takes its place.
 //!
 //! What the slots were as the round began is told by the opening's hands.
+//!
+//! Easy to get wrong: a slot above the top is the word 0, which stands for no value. So the first such slot tells the
+//! depth, and a stack that has none is full.
 ghost use Rattle.std.specs.Prelude.{◌≡◌, ◌+◌, ◌<◌, [], ℕ};
 ghost use Rattle.nmgc_object.specs.declared.layout.TheConstants.{SHARED_PLACE};
 ghost use Rattle.nmgc_object.specs.declared.size.TheConstants.{HEADER_WORDS};

@@ -20,7 +20,7 @@ use Rattle.nmgc_graph.specs.Step.{value_for, next_name, with_node, change_node, 
 use Rattle.nmgc_graph.specs.History.{Row, replayed}
 use Rattle.nmgc_graph.specs.laws.Growth.{step_grows}
 use Rattle.nmgc_graph.specs.laws.Worlds.{not_shared}
-use Rattle.nmgc_reach.specs.Holds.{Stands}
+use Rattle.nmgc_reach.specs.Holds.{HasStrongField}
 use Rattle.nmgc_reach.specs.Stored.{value_written, place_written, Stores}
 use Rattle.nmgc_reach.specs.Reachable.{CanReplay}
 use Rattle.nmgc_reach.specs.laws.NodeLaws.{next_is_new, node_cases}
@@ -115,7 +115,7 @@ same_field : (layout : Layout) (h : Hand) (object v : Operand) (i j : ℕ) → i
 same_field layout h object v i j e = ap (λ k. recorded_at layout (word_of h.registers object) k (word_of h.registers v)) e
 
 -- a command that stores a value puts it there, or left what stood there
-stored_put : (w : World) (m : ℕ) (c : Command) (name : Name) (i : ℕ) (x : Value) → Stands (step w m c).0 name i x → Stores w m c name i x → Stands w name i x ⊎ Puts w m c name i x
+stored_put : (w : World) (m : ℕ) (c : Command) (name : Name) (i : ℕ) (x : Value) → HasStrongField (step w m c).0 name i x → Stores w m c name i x → HasStrongField w name i x ⊎ Puts w m c name i x
 stored_put w m (command.Set object index v) name i x s st =
     let c : Change = change.Set index (value_for w m v) in
     let t = some_pair_parts (value_for w m object) (value.Ref name) c st.changes st.asks in
@@ -186,7 +186,7 @@ pub record IsPut (w : World) (rows : List Row) (name : Name) (i : ℕ) (x : Valu
   pub puts : Puts (replayed w before) row.mutator row.command name i x
 
 -- a field of an object that was there holds what it held, or what a row put there
-pub rows_put : (w : World) (rows : List Row) → IsWorld w → CanReplay w rows → (name : Name) (i : ℕ) (x : Value) → IsSome (node_of w name) → Stands (replayed w rows) name i x → Stands w name i x ⊎ IsPut w rows name i x
+pub rows_put : (w : World) (rows : List Row) → IsWorld w → CanReplay w rows → (name : Name) (i : ℕ) (x : Value) → IsSome (node_of w name) → HasStrongField (replayed w rows) name i x → HasStrongField w name i x ⊎ IsPut w rows name i x
 rows_put w [] is can name i x there s = inl s
 rows_put w (row ∷ rows) is can name i x there s =
     let m : ℕ = row.mutator in

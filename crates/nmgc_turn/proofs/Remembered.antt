@@ -21,7 +21,7 @@ use Rattle.nmgc_object.specs.Places.{nursery_place}
 use Rattle.nmgc_object.specs.declared.layout.Layout.{Layout}
 use Rattle.nmgc_object.specs.declared.layout.TheConstants.{FIRST_PLACE}
 use Rattle.nmgc_object.specs.declared.size.TheConstants.{HEADER_WORDS}
-use Rattle.nmgc_reach.specs.Holds.{Stands}
+use Rattle.nmgc_reach.specs.Holds.{HasStrongField}
 use Rattle.nmgc_reach.specs.Reachable.{CanReplay}
 use Rattle.nmgc_reach.specs.laws.Barrier.{field_at_place}
 use Rattle.nmgc_reach.specs.laws.HeldSteps.{absent, some_of}
@@ -232,7 +232,7 @@ module _ (history : EventsAreHistory) (listed : StacksAreListed) (o : Opening) (
       (subst (λ (l : List Row). Along P k B (hand_of o.hands k) t.part.rows l) put.rows_are (follows k lt t)) put.puts))
 
   -- what an object that was there held then was there too
-  strong_known : (p : Place) (i : ℕ) (target : Name) → Stands B p.name i (Ref target) → IsSome (node_of B target)
+  strong_known : (p : Place) (i : ℕ) (target : Name) → HasStrongField B p.name i (Ref target) → IsSome (node_of B target)
   strong_known p i target s = (world_holds B can.world).fields p.name target (some_of (node_of B p.name) s.node s.node_is) (s.node, s.node_is, field_at_place s.node i (Ref target) s.field)
 
   part_known : (name target : Name) (parts : Parts) → IsAlive B name parts → Contains (held_by (Weak (Some parts))) (Ref target) → IsSome (node_of B target)

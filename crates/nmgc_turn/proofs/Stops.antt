@@ -9,7 +9,7 @@ use Rattle.nmgc_graph.specs.History.{Row}
 use Rattle.nmgc_graph.specs.Reach.{RefersTo, IsAlive}
 use Rattle.nmgc_graph.specs.laws.Orders.{contains_head, contains_tail, contains_cases}
 use Rattle.nmgc_graph.specs.laws.Worlds.{is_some_of}
-use Rattle.nmgc_reach.specs.Holds.{Stands}
+use Rattle.nmgc_reach.specs.Holds.{HasStrongField}
 use Rattle.nmgc_reach.specs.laws.Barrier.{place_of_field}
 use Rattle.nmgc_reach.specs.laws.HeldSteps.{absent}
 use Rattle.nmgc_reach.specs.laws.ItemLaws.{nothing_in, one_is}
@@ -99,8 +99,8 @@ module _ (history : EventsAreHistory) (o : Opening) (before words : List ℕ) (v
   changed : (holder name : Name) → IsSome (node_of o.core.world holder) → node_of o.core.world name ≡ None → RefersTo W holder name → IsTracked W (o.core.world ∷ earlier o) holder
   changed holder name there new refers =
       let at = place_of_field refers.0 (Ref name) refers.2 in
-      let stands : Stands W holder at.0 (Ref name) = record { node = refers.0; node_is = refers.1; field = at.1 } in
-      let stored = old_refers_to_young o.core.world rows can.world (can_replay o.core h.events h.legal) holder name at.0 there (λ known. absent (node_of o.core.world name) new known) (subst (λ (w : World). Stands w holder at.0 (Ref name)) (history o.core h.events h.legal).1 stands) in
+      let stands : HasStrongField W holder at.0 (Ref name) = record { node = refers.0; node_is = refers.1; field = at.1 } in
+      let stored = old_refers_to_young o.core.world rows can.world (can_replay o.core h.events h.legal) holder name at.0 there (λ known. absent (node_of o.core.world name) new known) (subst (λ (w : World). HasStrongField w holder at.0 (Ref name)) (history o.core h.events h.legal).1 stands) in
       past_tracked W (o.core.world ∷ earlier o) o.core.world holder (contains_head o.core.world (earlier o)) stored.wide
 
   pub round_of : IsRoundOf (nursery_place o.layout 0) t

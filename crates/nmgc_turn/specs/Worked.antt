@@ -12,7 +12,7 @@ use Rattle.nmgc_object.specs.declared.layout.Nursery.{Nursery}
 use Rattle.nmgc_round.specs.View.{Opening, Part, hand_of, hand_now}
 use Rattle.nmgc_round.specs.Naming.{AllReply}
 use Rattle.nmgc_mutator.specs.declared.mutator.Mutator.{Mutator}
-use Rattle.nmgc_mutator.specs.Ready.{IsNursery, Holds, words_by}
+use Rattle.nmgc_mutator.specs.Ready.{IsNursery, HasHand, words_by}
 use Rattle.nmgc_mutator.specs.Records.{numbers, all_recorded, all_weaks}
 
 -- a command, and the reply to it
@@ -24,7 +24,7 @@ pub record HasWorked (o : Opening) (p : Part) (m : Mutator) (done : List Done) :
   pub number : p.number ≡ m.number
   pub layout : m.layout ≡ o.layout
   pub size : length m.registers ≡ REGISTERS
-  pub holds : Holds (hand_now o p) m
+  pub holds : HasHand (hand_now o p) m
   pub nursery : IsNursery m.layout m.number p.rows m.nursery
   pub used : p.used ≡ words_by p.rows
   pub replied : AllReply p.fixed p.rows done

@@ -13,7 +13,7 @@ use Rattle.nmgc_graph.specs.History.{replayed, opened, finalised}
 use Rattle.nmgc_graph.specs.Reach.{IsLive, IsKept, IsAlive, IsPlain, IsRoot, Lists, closed, closed_by, strong_fields}
 use Rattle.nmgc_graph.specs.laws.Orders.{contains_head, contains_tail}
 use Rattle.nmgc_graph.specs.laws.Worlds.{at_some}
-use Rattle.nmgc_reach.specs.Holds.{Names, OfParts, Fields, Holds}
+use Rattle.nmgc_reach.specs.Holds.{Names, OfParts, Fields, CoversReach}
 use Rattle.nmgc_reach.specs.Wide.{IsOfWeak}
 use Rattle.nmgc_reach.specs.Reachable.{HoldsOnly, IsLiveOrNew, Interval, IsDeadAfter, IsNotLost, IsSound, ClosesWell}
 use Rattle.nmgc_reach.specs.laws.Alive.{WeaksOk}
@@ -44,7 +44,7 @@ module _ (i : Interval) (sound : IsSound i) where
   -- a world during the closing
   record Closing (w : World) : Type 0 where
     world : IsWorld w
-    holds : Holds Kept w
+    holds : CoversReach Kept w
     alive : WeaksOk (AsThen i.snapshot (opened i.snapshot i.rows)) w
     there : (n : Name) → IsSome (node_of i.snapshot n) → IsSome (node_of w n)
 

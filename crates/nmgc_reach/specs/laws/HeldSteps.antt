@@ -18,7 +18,7 @@ use Rattle.nmgc_graph.specs.Step.{shared_name, value_for, object_of, read_object
 use Rattle.nmgc_graph.specs.History.{name_in, given_name, opened_in, opened_by}
 use Rattle.nmgc_graph.specs.Reach.{IsRoot, IsAlive, strong_fields}
 use Rattle.nmgc_graph.specs.laws.Worlds.{at_some, not_shared}
-use Rattle.nmgc_reach.specs.Holds.{Names, OfParts, Fields, Holds}
+use Rattle.nmgc_reach.specs.Holds.{Names, OfParts, Fields, CoversReach}
 use Rattle.nmgc_reach.specs.Wide.{IsOfWeak}
 use Rattle.nmgc_reach.specs.Reachable.{HoldsOnly, StepHoldsOnly}
 use Rattle.nmgc_reach.specs.laws.ItemLaws.{nothing_in, one_is}
@@ -113,7 +113,7 @@ module _ (P : Name → Type 0) where
   name_has v n e h = subst (Names P) e h
 
   -- the two forms of 'is held', for values and for names
-  pub held : (w : World) → HoldsOnly P w → Holds P w
+  pub held : (w : World) → HoldsOnly P w → CoversReach P w
   held w h = record {
     registers = λ k. values_names (state_of w k).registers (λ n c. h.roots n (inr (k, Contains-append_left (state_of w k).registers (state_of w k).queue (value.Ref n) c)));
     queues = λ k. values_names (state_of w k).queue (λ n c. h.roots n (inr (k, Contains-append_right (state_of w k).registers (state_of w k).queue (value.Ref n) c)));
@@ -127,7 +127,7 @@ module _ (P : Name → Type 0) where
   pub weaks_held : (w : World) → HoldsOnly P w → WeaksOk OfNames w
   weaks_held w h = alive_ok OfNames w (λ name parts e. (h.weaks name name parts e (inl refl), (value_names parts.key (λ n is. h.weaks name n parts e (inr (inl is))), value_names parts.value (λ n is. h.weaks name n parts e (inr (inr (inl is)))), value_names parts.finaliser (λ n is. h.weaks name n parts e (inr (inr (inr is)))))))
 
-  pub holds_only : (w : World) → P shared_name → Holds P w → WeaksOk OfNames w → HoldsOnly P w
+  pub holds_only : (w : World) → P shared_name → CoversReach P w → WeaksOk OfNames w → HoldsOnly P w
   holds_only w g k h = record {
     roots = root;
     fields = λ name target p r. All-contains (Names P) (strong_fields r.0) (value.Ref target) (at_some (node_of w name) r.0 (Fields (Names P)) r.1 (k.fields name p)) r.2;
@@ -147,14 +147,14 @@ module _ (P : Name → Type 0) where
       part weak name parts ok (inr (inr (inl e))) = name_has parts.value name e ok.1.1
       part weak name parts ok (inr (inr (inr e))) = name_has parts.finaliser name e ok.1.2
 
-  of_operand : (w : World) (m : ℕ) (o : Operand) → P shared_name → Holds P w → Names P (value_for w m o)
+  of_operand : (w : World) (m : ℕ) (o : Operand) → P shared_name → CoversReach P w → Names P (value_for w m o)
   of_operand w m o g k = operand_has P (state_of w m).registers o g (k.registers m)
 
   pub step_holds_only : StepHoldsOnly P
   step_holds_only w m c is can next h =
       let own : m ≢ SHARED_MAKER = not_shared w m is can.mutator in
       let g : P shared_name = h.roots shared_name (inl refl) in
-      let k : Holds P w = held w h in
+      let k : CoversReach P w = held w h in
       let ok : WeaksOk OfNames w = weaks_held w h in
       holds_only (step w m c).0 g
       (all_moves P w m c can.mutator own g next (opened_has w m c ok) k).holds

@@ -15,7 +15,7 @@ use Rattle.nmgc_graph.specs.History.{Row, replayed, opened, opened_by}
 use Rattle.nmgc_graph.specs.Reach.{IsLive, IsAlive, strong_fields}
 use Rattle.nmgc_graph.specs.laws.Growth.{step_grows}
 use Rattle.nmgc_graph.specs.laws.Worlds.{not_shared}
-use Rattle.nmgc_reach.specs.Holds.{Names, OfParts, Fields, Holds}
+use Rattle.nmgc_reach.specs.Holds.{Names, OfParts, Fields, CoversReach}
 use Rattle.nmgc_reach.specs.Reachable.{CanReplay, IsLiveOrNew, RowsHoldLive, RowsKeepWorld}
 use Rattle.nmgc_reach.specs.laws.NodeLaws.{next_is_new}
 use Rattle.nmgc_reach.specs.laws.Moves.{operand_has}
@@ -35,7 +35,7 @@ module _ (S : World) (X : List Name) where
 
   -- a later world: only live or new names are held, and names that aren't live have the node that they had
   pub record LiveHeld (w : World) : Type 0 where
-    pub holds : Holds (IsLiveOrNew S X) w
+    pub holds : CoversReach (IsLiveOrNew S X) w
     pub alive : WeaksOk AsThen w
     pub others : (name : Name) → IsSome (node_of S name) → (IsLive S X name → ⊥) → node_of w name ≡ node_of S name
     pub there : (name : Name) → IsSome (node_of S name) → IsSome (node_of w name)

@@ -25,7 +25,7 @@ use Rattle.nmgc_graph.specs.History.{Row, replayed, opened}
 use Rattle.nmgc_graph.specs.Reach.{IsReached, IsRoot}
 use Rattle.nmgc_graph.specs.laws.Growth.{step_grows}
 use Rattle.nmgc_graph.specs.laws.Worlds.{not_shared, slice_get-set_same, slice_get-set_other}
-use Rattle.nmgc_reach.specs.Holds.{Stands, strong_at}
+use Rattle.nmgc_reach.specs.Holds.{HasStrongField, strong_at}
 use Rattle.nmgc_reach.specs.Reachable.{CanReplay}
 use Rattle.nmgc_reach.specs.Stored.{value_written, place_written, Stores, IsStored, StepStores, OldRefersToYoung, OldWeaksStay}
 use Rattle.nmgc_reach.specs.laws.Barrier.{field_at_place, two_nodes, exchanged_node}
@@ -125,10 +125,10 @@ changed_put change.Finalise maker (Stack size values) i x h = inl h
 -- a command that makes nothing of a name: what stands there afterwards
 module _ (w : World) (m : ℕ) (c : Command) (name : Name) (i : ℕ) (x : Value) (lt : m < length w.mutators) (own : m ≢ SHARED_MAKER) where
   abbrev Source : Type 0
-  Source = Stands w name i x ⊎ ((name ≡ next_name (state_of w m) m) ⊎ Stores w m c name i x)
+  Source = HasStrongField w name i x ⊎ ((name ≡ next_name (state_of w m) m) ⊎ Stores w m c name i x)
 
-  object_stores : (v : World) → Object Any w m c v → Stands v name i x → Source
-  object_stores v (Object.same e) s = inl (subst (λ (u : World). Stands u name i x) e s)
+  object_stores : (v : World) → Object Any w m c v → HasStrongField v name i x → Source
+  object_stores v (Object.same e) s = inl (subst (λ (u : World). HasStrongField u name i x) e s)
   object_stores v (Object.birth register made is e) s = elim (node_born w m register made lt own name) [
     | inl b ↦ inr (inl b.0)
     | inr b ↦ inl (record { node = s.node; node_is = sym b ∙ ap (λ (u : World). node_of u name) (sym e) ∙ s.node_is; field = s.field })
@@ -174,7 +174,7 @@ asked_root w m (command.Finalise dest object) name ch e = operand_root w m objec
 asked_root w m _ name ch e = absurd cc
 
 -- where it stood at the beginning, or one of the rows stored it
-rows_stored : (w : World) (rows : List Row) → IsWorld w → CanReplay w rows → (name : Name) (i : ℕ) (x : Value) → IsSome (node_of w name) → Stands (replayed w rows) name i x → Stands w name i x ⊎ IsStored w rows name i x
+rows_stored : (w : World) (rows : List Row) → IsWorld w → CanReplay w rows → (name : Name) (i : ℕ) (x : Value) → IsSome (node_of w name) → HasStrongField (replayed w rows) name i x → HasStrongField w name i x ⊎ IsStored w rows name i x
 rows_stored w [] is can name i x there s = inl s
 rows_stored w (row ∷ rows) is can name i x there s =
     let v : World = (step w row.mutator row.command).0 in
@@ -204,7 +204,7 @@ old_refers_to_young w rows is can name target i there young s = elim (rows_store
   | inr stored ↦ stored
 ]
   where
-    known : Stands w name i (value.Ref target) → IsSome (node_of w target)
+    known : HasStrongField w name i (value.Ref target) → IsSome (node_of w target)
     known was = (world_holds w is).fields name target (some_of (node_of w name) was.node was.node_is) (was.node, was.node_is, field_at_place was.node i (value.Ref target) was.field)
 
 pub old_weaks_stay : OldWeaksStay

@@ -21,10 +21,10 @@ use Rattle.nmgc_graph.specs.History.{name_in, given_name, opened_in, opened_by, 
 use Rattle.nmgc_graph.specs.laws.Orders.{contains_head, contains_tail}
 use Rattle.nmgc_graph.specs.laws.Worlds.{at_some}
 use Rattle.nmgc_reach.specs.Owed.{owed_of, owed_in, owed_at, value_held, values_owed, names_among, owed_by}
-use Rattle.nmgc_reach.specs.Holds.{Names, Fields, Holds, strong_at, IsLater}
+use Rattle.nmgc_reach.specs.Holds.{Names, Fields, CoversReach, strong_at, IsLater}
 use Rattle.nmgc_reach.specs.laws.Barrier.{same_later}
 use Rattle.nmgc_reach.specs.laws.ItemLaws.{nothing_in, contains_one, one_is, contains_flat}
-use Rattle.nmgc_reach.specs.laws.Moves.{Moves, step_moves, born_moves, keeping_moves, made_moves, stays_put, then_same, operand_has}
+use Rattle.nmgc_reach.specs.laws.Moves.{RespectsBarrier, step_moves, born_moves, keeping_moves, made_moves, stays_put, then_same, operand_has}
 
 -- a node whose weak pointer dies, if it is one
 finalised_stays : (name : Name) (maker : ℕ) (node : Node) (i : ℕ) (x : Value) → strong_at node i ≡ Some x → (strong_at (changed change.Finalise maker node).0 i ≡ Some x) ⊎ Contains (owed_in change.Finalise name node) x
@@ -55,7 +55,7 @@ module _ (P : Name → Type 0) where
   finalised_fields maker (Stack size values) h = h
 
   -- the same move, where something of the names is owed
-  more_owed : (w v : World) (owed : List Value) → All (Names P) owed → Moves P w v [] → Moves P w v owed
+  more_owed : (w v : World) (owed : List Value) → All (Names P) owed → RespectsBarrier P w v [] → RespectsBarrier P w v owed
   more_owed w v owed h r = record {
     mutators = r.mutators;
     holds = r.holds;
@@ -125,12 +125,12 @@ module _ (P : Name → Type 0) where
       by_node (Some (Stack size values)) k = tt
       by_node None k = tt
 
-  finalise_moves : (w : World) (v : Value) → Names P v → All (Names P) (owed_of w v change.Finalise) → Holds P w → Moves P w (change_object w v change.Finalise).0 (owed_of w v change.Finalise)
+  finalise_moves : (w : World) (v : Value) → Names P v → All (Names P) (owed_of w v change.Finalise) → CoversReach P w → RespectsBarrier P w (change_object w v change.Finalise).0 (owed_of w v change.Finalise)
   finalise_moves w value.Nil p owes h = stays_put P w h
   finalise_moves w (value.Number n) p owes h = stays_put P w h
   finalise_moves w (value.Ref name) p owes h = by_node (node_of w name) refl owes
     where
-      by_node : (o : Option Node) → node_of w name ≡ o → All (Names P) (owed_at change.Finalise name o) → Moves P w (change_node w name o change.Finalise).0 (owed_at change.Finalise name o)
+      by_node : (o : Option Node) → node_of w name ≡ o → All (Names P) (owed_at change.Finalise name o) → RespectsBarrier P w (change_node w name o change.Finalise).0 (owed_at change.Finalise name o)
       by_node None e k = stays_put P w h
       by_node (Some found) e k =
           made_moves P w name found (changed change.Finalise name.maker found).0 (owed_at change.Finalise name (Some found)) e
@@ -138,7 +138,7 @@ module _ (P : Name → Type 0) where
           k (finalised_stays name name.maker found) (finalised_later name.maker found) h p
 
   -- every command, where what it opens is of the names
-  pub all_moves : (w : World) (m : ℕ) (c : Command) → m < length w.mutators → m ≢ SHARED_MAKER → P shared_name → P (next_name (state_of w m) m) → ((n : Name) → Contains (opened_by w m c) n → P n) → Holds P w → Moves P w (step w m c).0 (values_owed w m c)
+  pub all_moves : (w : World) (m : ℕ) (c : Command) → m < length w.mutators → m ≢ SHARED_MAKER → P shared_name → P (next_name (state_of w m) m) → ((n : Name) → Contains (opened_by w m c) n → P n) → CoversReach P w → RespectsBarrier P w (step w m c).0 (values_owed w m c)
   all_moves w m (command.Weak dest key v finaliser) lt own g p o h = born_moves P w m dest _ lt own h p (All-nil (Names P))
   all_moves w m (command.Deref dest object) lt own g p o h =
       let owes : All (Names P) (value_held (object_of w (value_for w m object))) = deref_owes (object_of w (value_for w m object)) o in
@@ -146,7 +146,7 @@ module _ (P : Name → Type 0) where
   all_moves w m (command.Finalise dest object) lt own g p o h =
       let v : Value = value_for w m object in
       let q : Names P v = operand_has P (state_of w m).registers object g (h.registers m) in
-      let a : Moves P w (change_object w v change.Finalise).0 (owed_of w v change.Finalise) = finalise_moves w v q (finalise_owes w v q o) h in
+      let a : RespectsBarrier P w (change_object w v change.Finalise).0 (owed_of w v change.Finalise) = finalise_moves w v q (finalise_owes w v q o) h in
       then_same P w (change_object w v change.Finalise).0 (change_into m dest (change_object w v change.Finalise)).0 (owed_of w v change.Finalise) a
       (keeping_moves P (change_object w v change.Finalise).0 m dest (change_object w v change.Finalise).1 (subst (λ n. m < n) (sym a.mutators) lt) a.holds (finalise_gives w v o))
   all_moves w m c lt own g p o h = step_moves P w m c tt lt own g p h

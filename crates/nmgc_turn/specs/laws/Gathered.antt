@@ -12,7 +12,7 @@ use Rattle.nmgc_round.specs.Seating.{alone, collecting, together, all_together}
 use Rattle.nmgc_round.specs.Starting.{CanOpen}
 use Rattle.nmgc_round.specs.Finishing.{HasAll, HasEach}
 use Rattle.nmgc_mutator.specs.declared.mutator.Mutator.{Mutator}
-use Rattle.nmgc_mutator.specs.Ready.{part_of, Holds}
+use Rattle.nmgc_mutator.specs.Ready.{part_of, HasHand}
 use Rattle.nmgc_mutator.specs.Records.{numbers, all_recorded, all_weaks}
 use Rattle.nmgc_mutator.specs.Does.{HasDone}
 use Rattle.nmgc_turn.specs.Worked.{Done, HasWorked, HaveWorked}
@@ -71,7 +71,7 @@ module _ (o : Opening) (before : List ℕ) (round : Round) (old mutators : List 
         number = ready.number;
         layout = s.did.layout ∙ s.resting.layout_is;
         size = ready.whole.size;
-        holds = subst (λ (y : Opening). Holds (hand_now y (own_part seat)) s.n) w.opening ready.holds;
+        holds = subst (λ (y : Opening). HasHand (hand_now y (own_part seat)) s.n) w.opening ready.holds;
         nursery = ready.nursery;
         used = ready.used;
         replied = subst (λ (rows : List Row). AllReply (own_part seat).fixed rows s.d) (sym w.added) s.did.replied;
