@@ -1,7 +1,7 @@
 pub mod AllocState
 pub mod Blocks
+pub mod CycleSteps
 pub mod Reserve
 pub mod Search
 pub mod Segments
-pub mod Turns
 pub mod laws

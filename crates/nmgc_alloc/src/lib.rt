@@ -9,13 +9,13 @@
 #![tactic(auto)]
 
 pub mod blocks;
+mod cycle_steps;
 pub mod laws;
 pub mod names;
 mod search;
 pub mod segments;
 mod tables;
 mod tally;
-mod turns;
 
 pub use segments::Segments;
 

@@ -14,13 +14,13 @@ ghost use Rattle.std.specs.Prelude.{ℕ, ◌≡◌, ◌≢◌, ◌↔◌, ◌<�
 ghost use Rattle.nmgc_object.specs.Places.{IsLayout};
 ghost use Rattle.nmgc_segment.specs.Marks.{IsEpoch};
 ghost use Rattle.nmgc_segment.specs.Segment.{free_segment, block_count};
-ghost use Rattle.nmgc_alloc.specs.Turns.{prepared, carried_over, retired};
+ghost use Rattle.nmgc_alloc.specs.CycleSteps.{prepared, carried_over, retired};
 ghost use Rattle.nmgc_alloc.specs.Search.{is, nth, IsKind, tally_from};
 
-use crate::search::{self, Wanted};
+use crate::cycle_steps;
+use crate::search::{self, Sought};
 use crate::tables::{CLASSES, KINDS, PAIRS};
 use crate::tally::Tally;
-use crate::turns;
 use nmgc_graph::{MAKERS, NoMemory};
 use nmgc_object::{Address, FIRST_PLACE, Layout, block_words};
 use nmgc_segment::{Segment, State, Swept};
@@ -80,7 +80,7 @@ fn first_tallies(alloc: Global, segments: u32) -> Result<Vec<Tally>, NoMemory>
     ensures { IfOk result (λ tallies. tallies.items ≡ slice_set (replicate KINDS (tally_from 0 segments)) 0 (tally_from segments 0)) }
 {
     let mut tallies = vec![in alloc; Tally::starting(0, segments); KINDS]?;
-    tallies[Wanted::Free.place()] = Tally::starting(segments, 0);
+    tallies[Sought::Free.place()] = Tally::starting(segments, 0);
     Ok(tallies)
 }
 
@@ -111,6 +111,7 @@ impl Segments {
         ensures layout { result ≡ self.now.layout }
         ensures sound { IsSegments self.now }
     {
+        // Reading a field tells the checker what holds of all segments: that they are sound.
         let _ = &self.segments;
         self.layout
     }
@@ -135,7 +136,7 @@ impl Segments {
     pub fn free_count(&self) -> u32
         ensures { result ≡ count_by (λ segment. is segment.state State.Free) self.now.segments }
     {
-        self.tallies[Wanted::Free.place()].count
+        self.tallies[Sought::Free.place()].count
     }
 
     /// How many segments are filled. Constant time.
@@ -149,7 +150,7 @@ impl Segments {
     pub fn sweep_count(&self) -> u32
         ensures { result ≡ count_by (λ segment. is segment.state State.Sweeping) self.now.segments }
     {
-        self.tallies[Wanted::Sweeping.place()].count
+        self.tallies[Sought::Sweeping.place()].count
     }
 
     // The number that the table has for the mutator and the class.
@@ -183,14 +184,14 @@ impl Segments {
     }
 
     // The segment of this kind of least number.
-    fn least(&self, wanted: Wanted) -> Option<u32>
-        requires { IsKind wanted }
-        ensures some { IfSome result (λ number. IsLeast wanted self.now number) }
-        ensures none { IfNone result (HasNone wanted self.now) }
+    fn least(&self, sought: Sought) -> Option<u32>
+        requires { IsKind sought }
+        ensures some { IfSome result (λ number. IsLeast sought self.now number) }
+        ensures none { IfNone result (HasNone sought self.now) }
         ensures sound { IsSegments self.now }
     {
-        let tally = self.tallies[wanted.place()];
-        let number = search::least(self.segments.as_slice(), tally, wanted);
+        let tally = self.tallies[sought.place()];
+        let number = search::least(self.segments.as_slice(), tally, sought);
         if (number as usize) < self.segments.len() {
             Some(number)
         } else {
@@ -199,20 +200,20 @@ impl Segments {
     }
 
     // Makes the active or free segment of least number the mutator's current one of the class.
-    fn make_current(&mut self, number: u32, mutator: u8, class: u8, wanted: Wanted)
+    fn make_current(&mut self, number: u32, mutator: u8, class: u8, sought: Sought)
         requires mutator { mutator < MAKERS }
         requires class { class < CLASSES }
         requires fits { IsClass self.old.layout class }
-        requires kind { IsKind wanted }
-        requires least { IsLeast wanted self.old number }
+        requires kind { IsKind sought }
+        requires least { IsLeast sought self.old number }
         requires open { IsOpen class (nth self.old.segments number) }
         requires no_current { HasNoCurrent self.old mutator class }
         ensures { self.new ≡ record self.old { segments = slice_set self.old.segments number (as_current mutator class (nth self.old.segments number)) } }
     {
         let segment = &mut self.segments[number as usize];
-        turns::open(segment, mutator, class);
+        cycle_steps::open(segment, mutator, class);
         self.current[usize::from(mutator) * CLASSES + usize::from(class)] = number;
-        self.tallies[wanted.place()].leave(number, self.layout.segments);
+        self.tallies[sought.place()].leave(number, self.layout.segments);
     }
 
     // Takes the first unused block of a current segment, which is filled where it was the last.
@@ -226,7 +227,7 @@ impl Segments {
         ensures sound { IsSegments self.new }
     {
         let segment = &mut self.segments[number as usize];
-        let block = turns::take_block(segment);
+        let block = cycle_steps::take_block(segment);
         if !segment.has_free() {
             self.fresh += 1;
             self.filled += 1;
@@ -249,14 +250,14 @@ impl Segments {
         if let Some(number) = self.current_of(mutator, class) {
             return number;
         }
-        let active = Wanted::Active { class };
+        let active = Sought::Active { class };
         if let Some(number) = self.least(active) {
             self.make_current(number, mutator, class, active);
             return number;
         }
-        match self.least(Wanted::Free) {
+        match self.least(Sought::Free) {
             Some(number) => {
-                self.make_current(number, mutator, class, Wanted::Free);
+                self.make_current(number, mutator, class, Sought::Free);
                 number
             }
             None => unreachable!(),
@@ -272,8 +273,8 @@ impl Segments {
     {
         let _ = &self.segments;
         self.current_of(mutator, class).is_some()
-            || self.least(Wanted::Active { class }).is_some()
-            || self.least(Wanted::Free).is_some()
+            || self.least(Sought::Active { class }).is_some()
+            || self.least(Sought::Free).is_some()
     }
 
     /// Places an object of the class for the mutator, and answers where. Constant time but for the
@@ -329,7 +330,7 @@ impl Segments {
         ensures sound { IsSegments self.new }
     {
         let segment = &mut self.segments[number as usize];
-        turns::mark(segment, block, epoch)
+        cycle_steps::mark(segment, block, epoch)
     }
 
     // The only block that may begin there.
@@ -376,9 +377,9 @@ impl Segments {
         ensures value { self.new ≡ record self.old { segments = map prepared self.old.segments; fresh = 0 } }
         ensures sound { IsSegments self.new }
     {
-        turns::prepare_all(self.segments.as_mut_slice());
+        cycle_steps::prepare_all(self.segments.as_mut_slice());
         self.fresh = 0;
-        self.tallies[Wanted::Sweeping.place()] = Tally::starting(self.filled, 0);
+        self.tallies[Sought::Sweeping.place()] = Tally::starting(self.filled, 0);
         self.filled = 0;
     }
 
@@ -388,7 +389,7 @@ impl Segments {
         ensures value { self.new ≡ record self.old { segments = map (carried_over epoch) self.old.segments } }
         ensures sound { IsSegments self.new }
     {
-        turns::carry_all(self.segments.as_mut_slice(), epoch);
+        cycle_steps::carry_all(self.segments.as_mut_slice(), epoch);
     }
 
     /// Sweeps the segment to be swept of least number, and answers the number. `None` comes exactly
@@ -399,7 +400,7 @@ impl Segments {
         ensures some { IfSome result (λ number. SweepsNext self.old self.new epoch number) }
         ensures sound { IsSegments self.new }
     {
-        let number = self.least(Wanted::Sweeping)?;
+        let number = self.least(Sought::Sweeping)?;
         self.sweep(number, epoch);
         Some(number)
     }
@@ -407,18 +408,18 @@ impl Segments {
     // Sweeps a segment, and notes in which state it is now.
     fn sweep(&mut self, number: u32, epoch: u8)
         requires epoch { IsEpoch epoch }
-        requires least { IsLeast Wanted.Sweeping self.old number }
+        requires least { IsLeast Sought.Sweeping self.old number }
         ensures sweeps { SweepsSegment (nth self.old.segments number) (nth self.new.segments number) epoch }
         ensures others { self.new ≡ record self.old { segments = slice_set self.old.segments number (nth self.new.segments number) } }
         ensures sound { IsSegments self.new }
     {
         let segment = &mut self.segments[number as usize];
         let class = segment.class();
-        let swept = turns::sweep(segment, epoch);
-        self.tallies[Wanted::Sweeping.place()].leave(number, self.layout.segments);
+        let swept = cycle_steps::sweep(segment, epoch);
+        self.tallies[Sought::Sweeping.place()].leave(number, self.layout.segments);
         match swept {
-            Swept::Free => self.tallies[Wanted::Free.place()].enter(number),
-            Swept::Active => self.tallies[Wanted::Active { class }.place()].enter(number),
+            Swept::Free => self.tallies[Sought::Free.place()].enter(number),
+            Swept::Active => self.tallies[Sought::Active { class }.place()].enter(number),
             Swept::Filled => self.filled += 1,
         }
     }
@@ -428,12 +429,12 @@ impl Segments {
         ensures value { self.new ≡ record self.old { segments = map retired self.old.segments } }
         ensures sound { IsSegments self.new }
     {
-        turns::retire_all(self.segments.as_mut_slice());
-        let free = self.tallies[Wanted::Free.place()];
-        let sweeping = self.tallies[Wanted::Sweeping.place()];
+        cycle_steps::retire_all(self.segments.as_mut_slice());
+        let free = self.tallies[Sought::Free.place()];
+        let sweeping = self.tallies[Sought::Sweeping.place()];
         self.filled = self.layout.segments - free.count - sweeping.count;
         self.tallies.fill(Tally::starting(0, self.layout.segments));
-        self.tallies[Wanted::Free.place()] = free;
-        self.tallies[Wanted::Sweeping.place()] = sweeping;
+        self.tallies[Sought::Free.place()] = free;
+        self.tallies[Sought::Sweeping.place()] = sweeping;
     }
 }

@@ -9,7 +9,7 @@
 //! mutators have in hand, and the weak pointers. The text tells nothing of the heap. It is there so that a
 //! contract can say of a whole run that the words still stand for the world which the replies made.
 //!
-//! No cycle begins in today's runs, so their reports have no row of one.
+//! Easy to get wrong: one stop may end two cycles, the one in progress and a full one.
 use nmgc_alloc::Segments;
 use nmgc_graph::{List, Name, Reply};
 

@@ -27,13 +27,7 @@ const LINES: [(Reply, &str); 19] = [
         })),
         "3.10",
     ),
-    (
-        Reply::Given(Value::Ref(Name {
-            maker: SHARED_MAKER,
-            serial: 0,
-        })),
-        "g",
-    ),
+    (Reply::Given(Value::Ref(Name::SHARED)), "g"),
     (
         Reply::Given(Value::Ref(Name {
             maker: SHARED_MAKER,

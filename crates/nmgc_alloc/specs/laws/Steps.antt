@@ -10,7 +10,7 @@ use Rattle.nmgc_object.specs.Size.{block_size}
 use Rattle.nmgc_object.specs.Words.{IsName}
 use Rattle.nmgc_segment.specs.declared.state.State.{State}
 use Rattle.nmgc_segment.specs.declared.state.State.TheVariants.{Free, Current, Active, Filled, Sweeping}
-use Rattle.nmgc_alloc.specs.Turns.{prepared_state, retired_state}
+use Rattle.nmgc_alloc.specs.CycleSteps.{prepared_state, retired_state}
 use Rattle.nmgc_alloc.specs.AllocState.{AllocState, Cells, IsAllocState, IsSwept, IsTarget, IsPlaced, Exists, IsOf, Opens, Places, Sweeps, NoneIs, all_empty, all_retired, cells, count_in, cycle_begun, name_in, no_cells, restated, with_cells}
 use Rattle.nmgc_alloc.specs.laws.Cells.{none_some, begun_cells, retired_cells, swept_was}
 use Rattle.nmgc_alloc.specs.laws.Counts.{filled_or_not, one_filled, one_is, one_not}

@@ -1,7 +1,7 @@
-//! What happens to every segment at once: as a cycle begins, as it is closed, and before a full
-//! cycle; and what happens to one that becomes current.
+//! What happens to segments in the course of a cycle: to every one as it begins, as it is closed, and
+//! before a full cycle; and to one of them that becomes current, gives a block, is marked or is swept.
 ghost use Rattle.std.specs.Prelude.{ℕ, ◌≡◌, ◌↔◌, ◌<◌, ◌≤◌, map, IsTrue};
-ghost use Rattle.nmgc_alloc.specs.Turns.{prepared, carried_over, retired, state_of};
+ghost use Rattle.nmgc_alloc.specs.CycleSteps.{prepared, carried_over, retired, state_of};
 ghost use Rattle.nmgc_segment.specs.Marks.{IsEpoch};
 ghost use Rattle.nmgc_object.specs.Size.{block_size};
 ghost use Rattle.nmgc_segment.specs.Segment.{HasFree, IsSegment, block_count, segment_words};
