@@ -30,7 +30,7 @@ use Rattle.nmgc_heap.specs.laws.Tracking.{free_tracked}
 use Rattle.nmgc_blocks.specs.laws.Blocks.{is_block}
 use Rattle.nmgc_journal.specs.declared.report.MutatorEnd.{MutatorEnd}
 use Rattle.nmgc_run.specs.Census.{IsKeptIn}
-use Rattle.nmgc_run.specs.Heap.{FitBlocks, Holds, IsBlockPlace, IsBornPlace, IsPlaceAtStop, snapshots}
+use Rattle.nmgc_run.specs.Heap.{FitBlocks, HeapStandsFor, IsBlockPlace, IsBornPlace, IsPlaceAtStop, snapshots}
 use Rattle.nmgc_run.specs.Run.{last_state}
 use Rattle.nmgc_run.specs.Sound.{IsInCycle, IsSoundState}
 use Rattle.nmgc_run.specs.State.{Progress, State, sweeping}
@@ -144,7 +144,7 @@ module _ (layout : Layout) (earlier : List World) (began w : World) (allocation 
   drops : DropsPlaces earlier NoNode places fewer w
   drops = record { old = λ p d. (is_old p d).0; tracked = keep_tracked; free = f.free; kept = λ name n before t k. absurd k }
 
-  module _ (words : List ℕ) (old new : Segments) (ends : List MutatorEnd) (h : Holds layout earlier places w allocation words old ends) (segments : IsSegments old) (stands : StandsFor new words swept) (same_layout : new.layout ≡ layout) where
+  module _ (words : List ℕ) (old new : Segments) (ends : List MutatorEnd) (h : HeapStandsFor layout earlier places w allocation words old ends) (segments : IsSegments old) (stands : StandsFor new words swept) (same_layout : new.layout ≡ layout) where
     fit : FitBlocks w swept
     fit number block name node lies there =
         let was = f.lies number block name lies in
@@ -152,7 +152,7 @@ module _ (layout : Layout) (earlier : List World) (began w : World) (allocation 
         let same : block_size (cells swept number).class ≡ block_size (cells allocation number).class = ap (λ (class : ℕ). block_size class) was.1 in
         omega (arith, fits, same)
 
-    holds_then : Holds layout earlier fewer w swept words new ends
+    holds_then : HeapStandsFor layout earlier fewer w swept words new ends
     holds_then = record {
       fit = fit;
       represents = places_dropped layout earlier NoNode places fewer w words drops h.represents;
@@ -275,9 +275,9 @@ pub free_grows : FreeGrows
 free_grows c count old new s = each_frees (IsKeptIn c) old new s.numbers s.sweeps
 
 pub stop_frees : StopFreesUntracked
-stop_frees layout c w allocation swept count filed known after waits blocks s = record {
-  once = filed.once;
-  shared = filed.shared;
+stop_frees layout c w allocation swept count sound_blocks known after waits blocks s = record {
+  once = sound_blocks.once;
+  shared = sound_blocks.shared;
   known = known;
   lies = all_left (IsKeptIn c) allocation swept s.numbers s.sweeps;
   tracked = λ name t other there. sweeps_keep c w allocation swept count s after waits name (tracked_wide w name t) (blocks name t other);
@@ -296,8 +296,8 @@ round_frees plan run c closed replies rows t runnable i round is =
     tracked_itself s.world name (tracked_before s.world (s.world ∷ []) rows sound.world can name (subst (λ (x : World). IsTracked x (s.world ∷ []) name) world u) there)
     in
     record {
-      once = sound.filed.once;
-      shared = sound.filed.shared;
+      once = sound.sound_blocks.once;
+      shared = sound.sound_blocks.shared;
       known = sound.known;
       lies = all_left (IsKeptIn c) s.allocation t.allocation sweeps.numbers sweeps.sweeps;
       tracked = λ name u other there.

@@ -5,7 +5,6 @@ mod Dropping
 mod Going
 mod Joining
 mod Keeping
-mod Once
 mod Opens
 mod Owing
 mod Pacing
@@ -18,7 +17,6 @@ mod RoundHeap
 mod SmallLife
 mod Seats
 mod Snapshots
-mod Sorting
 mod Staying
 mod Stopping
 mod Strong

@@ -5,6 +5,7 @@ use Rattle.std.proofs.Math.Nat.{le-div_iff_mul-le}
 use Rattle.std.proofs.lemmas.Bool.{cases_lt}
 use Rattle.nmgc_graph.specs.declared.value.Name.{Name}
 use Rattle.nmgc_graph.specs.Step.{shared_name}
+use Rattle.nmgc_graph.specs.laws.Orders.{contains_head}
 use Rattle.nmgc_core.specs.declared.event.Entry.{Entry}
 use Rattle.nmgc_core.specs.State.{opening}
 use Rattle.nmgc_heap.specs.Places.{Place}
@@ -12,9 +13,9 @@ use Rattle.nmgc_run.specs.Census.{IsKeptObject}
 use Rattle.nmgc_run.specs.Closing.{IsStrongObject}
 use Rattle.nmgc_run.specs.Listing.{Counts}
 use Rattle.nmgc_run.specs.Marker.{AreAt}
+use Rattle.nmgc_run.specs.laws.Distinct.{others_counted, one_count}
+use Rattle.nmgc_run.specs.laws.MarkedOnce.{IsOnce, once_runs, once_opening}
 use Rattle.nmgc_beside.specs.Closes.{ClosingIsSoon, ClosingComes, ClosingIsPaced}
-use Rattle.nmgc_beside.proofs.Once.{IsOnce, once_runs, once_opening}
-use Rattle.nmgc_beside.proofs.Sorting.{AreDistinct, rest_counted, one_count}
 use Rattle.nmgc_beside.proofs.Strong.{IsExactlyStrong, Strong, exactly_strong}
 
 pub closing_is_soon : ClosingIsSoon
@@ -53,10 +54,7 @@ closing_is_paced quota c t seen allocation places core sound m tied after paced 
       let o : IsOnce core = once_runs (opening c.snapshot) m.events c.rows core m.runs m.open_yet (once_opening c.snapshot) in
       let long : length core.marked ≡ length o.others + 1 = ap (λ (l : List Name). length l) o.marked_are ∙ (omega arith) in
       let counted = tied.count in
-      let all : Counts (IsStrongObject c.snapshot) (length o.others) = rest_counted (Strong c.snapshot sound.world) shared_name o.others (subst AreDistinct o.marked_are o.once)
-      (λ n d. e.sound n (subst (λ (l : List Name). Contains l n) (sym o.marked_are) d))
-      (λ n k. subst (λ (l : List Name). Contains l n) o.marked_are (e.complete n k))
-      in
+      let all : Counts (IsStrongObject c.snapshot) (length o.others) = others_counted (Strong c.snapshot sound.world) shared_name core.marked o.once (subst (λ (l : List Name). Contains l shared_name) (sym o.marked_are) (contains_head shared_name o.others)) e.sound e.complete (length o.others) (sym long) in
       let none_left : length seen.marker.queue ≡ 0 = ap (λ (l : List ℕ). length l) queue in
       let scanned = paced.scanned in let most = paced.most in let more = one_more t.number c.from quota after in
       (length o.others, all, omega arith);

@@ -12,7 +12,7 @@ use Rattle.nmgc_alloc.specs.Search.{nth}
 use Rattle.nmgc_alloc.specs.Segments.{Segments, IsSegments, HasNumber, block_place}
 use Rattle.nmgc_alloc.specs.AllocState.{AllocState, Cells, cells, cycle_begun}
 use Rattle.nmgc_alloc.specs.Blocks.{IsSnapshotAt, IsUsedAt}
-use Rattle.nmgc_alloc.specs.Turns.{prepared}
+use Rattle.nmgc_alloc.specs.CycleSteps.{prepared}
 use Rattle.nmgc_alloc.specs.laws.Blocks.{prepared_snapshot}
 use Rattle.nmgc_alloc.specs.laws.Cells.{begun_cells, begun_names}
 use Rattle.nmgc_alloc.specs.laws.Numbers.{nth-map}

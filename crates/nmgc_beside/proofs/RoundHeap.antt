@@ -29,7 +29,7 @@ use Rattle.nmgc_round.specs.Rule.{now}
 use Rattle.nmgc_round.specs.Finishing.{IsKeptThen, places_then}
 use Rattle.nmgc_turn.specs.laws.Placed.{place_cases}
 use Rattle.nmgc_turn.specs.laws.Replays.{still_earlier}
-use Rattle.nmgc_run.specs.Heap.{FitBlocks, Holds, HoldsAfterRound, IsPlaceAtStop, IsBornPlace, snapshots}
+use Rattle.nmgc_run.specs.Heap.{FitBlocks, HeapStandsFor, HoldsAfterRound, IsPlaceAtStop, IsBornPlace, snapshots}
 use Rattle.nmgc_run.specs.State.{State}
 use Rattle.nmgc_beside.specs.Heaps.{IsRoundFrom, RoundHolds, MarkedHolds}
 
@@ -145,8 +145,8 @@ module _ (layout : Layout) (s t : State) (o : Opening) (before after : List ℕ)
         ];
       }
 
-  holds_by : (a : AllocState) → a ≡ s.allocation → Holds layout (s.world ∷ snapshots t.progress) places t.world a after new later
-  holds_by a e = subst (λ (x : AllocState). Holds layout (s.world ∷ snapshots t.progress) places t.world x after new later) (sym e) (record {
+  holds_by : (a : AllocState) → a ≡ s.allocation → HeapStandsFor layout (s.world ∷ snapshots t.progress) places t.world a after new later
+  holds_by a e = subst (λ (x : AllocState). HeapStandsFor layout (s.world ∷ snapshots t.progress) places t.world x after new later) (sym e) (record {
     fit = fit;
     represents = represents;
     registers = r.registers;

@@ -19,7 +19,7 @@ use Rattle.nmgc_graph.specs.History.{Row}
 use Rattle.nmgc_graph.specs.Reach.{IsReached, IsRoot, RefersTo, strong_fields}
 use Rattle.nmgc_graph.specs.laws.Orders.{contains_head, contains_tail}
 use Rattle.nmgc_graph.specs.laws.Worlds.{at_some, is_some_of, not_shared}
-use Rattle.nmgc_reach.specs.Holds.{Names, Fields, Holds, has_result, strong_at, free_of}
+use Rattle.nmgc_reach.specs.Holds.{Names, Fields, CoversReach, has_result, strong_at, free_of}
 use Rattle.nmgc_reach.specs.Owed.{owed_by}
 use Rattle.nmgc_reach.specs.laws.Barrier.{field_at_place}
 use Rattle.nmgc_reach.specs.laws.HeldSteps.{some_of}
@@ -42,9 +42,9 @@ use Rattle.nmgc_core.specs.laws.Runs.{event_keeps_facts, opening_has_facts, open
 use Rattle.nmgc_core.specs.laws.ScanReads.{read_cases}
 use Rattle.nmgc_turn.specs.laws.Replays.{world_scanned}
 use Rattle.nmgc_run.specs.Closing.{owed as owed_along}
+use Rattle.nmgc_run.specs.laws.MarkedOnce.{stays_closed}
 use Rattle.nmgc_beside.proofs.Beginning.{IsBegun, begun, none_at_first}
 use Rattle.nmgc_beside.proofs.Going.{Leaves, leaves_scan, owed_scan}
-use Rattle.nmgc_beside.proofs.Once.{stays_closed}
 
 -- both parts of a list without items have none
 none_first : (xs ys : List Name) → xs ++ ys ≡ [] → xs ≡ []
@@ -87,7 +87,7 @@ module _ (S : World) (is : IsWorld S) where
   held_fields name k None e = tt
   held_fields name k (Some node) e = all_from_contains Kept (strong_fields node) (λ target c there. IsReached.field name target (k (some_of (node_of S name) node e)) (node, e, c))
 
-  snapshot_holds : Holds Kept S
+  snapshot_holds : CoversReach Kept S
   snapshot_holds = record {
     registers = λ m. all_from_contains Kept (state_of S m).registers (λ n c there. IsReached.start n (inr (m, Contains-append_left (state_of S m).registers (state_of S m).queue (value.Ref n) c)));
     queues = λ m. all_from_contains Kept (state_of S m).queue (λ n c there. IsReached.start n (inr (m, Contains-append_right (state_of S m).registers (state_of S m).queue (value.Ref n) c)));
@@ -134,7 +134,7 @@ module _ (S : World) (is : IsWorld S) where
     pub facts : Facts s
     pub world : IsWorld s.world
     pub snapshot_is : s.snapshot ≡ S
-    pub holds : Holds Kept s.world
+    pub holds : CoversReach Kept s.world
     pub none_owed : (m : ℕ) → names_of s.owed m ≡ []
     pub none_pushed : (m : ℕ) → names_of s.pushed m ≡ []
     pub strong : AreStrong s
@@ -215,7 +215,7 @@ module _ (S : World) (is : IsWorld S) where
         facts = subst Facts p.1 kept.0;
         world = subst (λ (t : State). IsWorld t.world) p.1 kept.1;
         snapshot_is = left.snapshot ∙ h.snapshot_is;
-        holds = subst (λ (w : World). Holds Kept w) (sym (world_scanned s s.queue)) h.holds;
+        holds = subst (λ (w : World). CoversReach Kept w) (sym (world_scanned s s.queue)) h.holds;
         none_owed = λ m. ap (λ (l : List (List Name)). names_of l m) (owed_scan s s.queue) ∙ h.none_owed m;
         none_pushed = λ m. ap (λ (l : List (List Name)). names_of l m) left.pushed ∙ h.none_pushed m;
         strong = strong_scan s s.queue h refl;
@@ -255,7 +255,7 @@ module _ (S : World) (is : IsWorld S) where
         facts = opening_has_facts S is;
         world = subst IsWorld (sym b.world_is) is;
         snapshot_is = ((snapshot_theorem S is [] [] (opening S) (refl, refl)).before b.open_yet).snapshot;
-        holds = subst (λ (w : World). Holds Kept w) (sym b.world_is) snapshot_holds;
+        holds = subst (λ (w : World). CoversReach Kept w) (sym b.world_is) snapshot_holds;
         none_owed = λ m. ap (λ (l : List (List Name)). names_of l m) b.owed_is ∙ none_at_first (length S.mutators) m;
         none_pushed = λ m. ap (λ (l : List (List Name)). names_of l m) b.pushed_is ∙ none_at_first (length S.mutators) m;
         strong = strong_values (first_state S) (root_values S) refl roots_kept (λ n c. subst Strong (one_is shared_name n c) (IsReached.start shared_name (inl refl)));

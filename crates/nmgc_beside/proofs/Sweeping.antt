@@ -15,9 +15,9 @@ use Rattle.nmgc_segment.specs.declared.state.State.{State as Stands}
 use Rattle.nmgc_segment.specs.declared.state.State.TheVariants as stands
 use Rattle.nmgc_segment.specs.laws.Segments.{mark-map}
 use Rattle.nmgc_alloc.specs.Search.{nth}
-use Rattle.nmgc_alloc.specs.Segments.{Segments, IsSegments, HasNumber}
+use Rattle.nmgc_alloc.specs.Segments.{Segments, IsSegments, HasNumber, IsWaiting}
 use Rattle.nmgc_alloc.specs.AllocState.{AllocState, Cells, StandsFor, IsIn, cells, name_in}
-use Rattle.nmgc_alloc.specs.Turns.{carried_in, carried_over}
+use Rattle.nmgc_alloc.specs.CycleSteps.{carried_in, carried_over}
 use Rattle.nmgc_alloc.specs.laws.Cells.{placed_size}
 use Rattle.nmgc_alloc.specs.laws.Numbers.{nth-map}
 use Rattle.nmgc_alloc.specs.laws.Sound.{used_exists}
@@ -29,7 +29,7 @@ use Rattle.nmgc_run.specs.Marks.{AreSettled, IsFreedSoFar, IsSettledByte, epoch_
 use Rattle.nmgc_run.specs.State.{Cycle}
 use Rattle.nmgc_run.specs.laws.Course.{SameWait, all_placing_waits, still_noted}
 use Rattle.nmgc_beside.specs.Resolves.{ClosedCycleSweeps}
-use Rattle.nmgc_beside.specs.Sweeps.{HasPlaced, IsWaiting, MarkedWait, PlacedWait, SweepingStays, SettledStays, all_carried}
+use Rattle.nmgc_beside.specs.Sweeps.{HasPlaced, MarkedWait, PlacedWait, SweepingStays, SettledStays, all_carried}
 
 -- a byte that was carried over is settled
 carried_byte : (begun mark : ℕ) → 0 < begun → IsSettledByte begun (carried (epoch_of begun) mark)

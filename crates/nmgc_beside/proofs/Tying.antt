@@ -13,7 +13,7 @@ use Rattle.nmgc_core.specs.laws.Runs.{facts_kept, snapshot_theorem}
 use Rattle.std.proofs.lemmas.List.Elements.{Contains-append_left}
 use Rattle.nmgc_alloc.specs.Segments.{Segments, IsSegments, block_place}
 use Rattle.nmgc_alloc.specs.AllocState.{StandsFor, cells}
-use Rattle.nmgc_heap.specs.Places.{Place, LiesWell}
+use Rattle.nmgc_heap.specs.Places.{Place, LiesWell, shared_place}
 use Rattle.nmgc_heap.specs.Represents.{Represents, NoNode}
 use Rattle.nmgc_heap.specs.laws.Changes.{lies_within}
 use Rattle.nmgc_journal.specs.declared.report.MutatorEnd.{MutatorEnd}
@@ -26,7 +26,7 @@ use Rattle.nmgc_round.specs.Rule.{now}
 use Rattle.nmgc_round.specs.Seating.{collecting}
 use Rattle.nmgc_round.specs.View.{Opening, Seen, whole}
 use Rattle.nmgc_run.specs.Census.{interval_of}
-use Rattle.nmgc_run.specs.Heap.{HoldsAtStop, IsBlockPlace, shared_place}
+use Rattle.nmgc_run.specs.Heap.{HoldsAtStop, IsBlockPlace}
 use Rattle.nmgc_run.specs.Marker.{AreAt, IsCoreOf, IsTied}
 use Rattle.nmgc_run.specs.Marks.{epoch_of}
 use Rattle.nmgc_run.specs.Seen.{MarkerSeen}

@@ -6,7 +6,7 @@ use Rattle.nmgc_object.specs.FinQueue.{FinQueue}
 use Rattle.nmgc_object.specs.declared.layout.Layout.{Layout}
 use Rattle.nmgc_alloc.specs.Segments.{Segments, IsSegments}
 use Rattle.nmgc_alloc.specs.AllocState.{IsIn, NoneIs}
-use Rattle.nmgc_alloc.specs.Turns.{prepared}
+use Rattle.nmgc_alloc.specs.CycleSteps.{prepared}
 use Rattle.nmgc_heap.specs.Places.{Place}
 use Rattle.nmgc_journal.specs.declared.report.MutatorEnd.{MutatorEnd}
 use Rattle.nmgc_round.specs.View.{Opening}

@@ -3,11 +3,9 @@ use Rattle.std.specs.Prelude.{ℕ, ◌≡◌, ◌↔◌, List, map}
 use Rattle.nmgc_graph.specs.declared.value.Name.{Name}
 use Rattle.nmgc_graph.specs.World.{World}
 use Rattle.nmgc_object.specs.declared.layout.Layout.{Layout}
-use Rattle.nmgc_segment.specs.declared.state.State.TheVariants as stands
-use Rattle.nmgc_alloc.specs.Search.{nth}
-use Rattle.nmgc_alloc.specs.Segments.{Segments}
+use Rattle.nmgc_alloc.specs.Segments.{Segments, IsWaiting}
 use Rattle.nmgc_alloc.specs.AllocState.{AllocState, StandsFor}
-use Rattle.nmgc_alloc.specs.Turns.{carried_over}
+use Rattle.nmgc_alloc.specs.CycleSteps.{carried_over}
 use Rattle.nmgc_blocks.specs.Occupied.{KeepsMarks}
 use Rattle.nmgc_blocks.specs.Promoted.{PlacesEach}
 use Rattle.nmgc_run.specs.Marks.{AreSettled, IsSweeping}
@@ -27,10 +25,6 @@ pub record HasPlaced (old new : Segments) (words after : List ℕ) (allocation p
   pub stands : StandsFor new after placed
   pub places_each : PlacesEach layout world allocation names placed
   pub marks : KeepsMarks old new
-
--- the segment waits to be swept
-abbrev pub IsWaiting : Segments → ℕ → Type 0
-IsWaiting segments number = (nth segments.segments number).state ≡ stands.Sweeping
 
 -- as many wait where marks change alone, as by a marker or as they are carried over, and over a promotion: so what a sweeper has left is right still
 abbrev pub MarkedWait : Type 0

@@ -160,7 +160,7 @@ unmarked_cycle script old s mutators (sweeping k closed) never places h = h
 unmarked_sweeper : (old : Collector) (s : State) (mutators : Vec Mutator Global) (q : Progress) → ((k : Cycle) → q ≡ marking k → ⊥) → Sweeps q s old → Sweeps q s (record old { mutators = mutators })
 unmarked_sweeper old s mutators idle never h = tt
 unmarked_sweeper old s mutators (marking k) never h = absurd (never k refl)
-unmarked_sweeper old s mutators (sweeping k closed) never h = (record { notes = h.0.notes; left = h.0.left }, h.1)
+unmarked_sweeper old s mutators (sweeping k closed) never h = h
 
 module _ (script : Script) (old new : Collector) (s : State) (h : StandsPromoted script old s) (taken : HasTaken old new) where
   unmarked : ((k : Cycle) → s.progress ≡ marking k → ⊥) → new.progress ≡ old.progress → new.segments ≡ old.segments → StandsWithin script new s

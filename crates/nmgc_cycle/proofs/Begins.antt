@@ -25,7 +25,6 @@ use Rattle.nmgc_heap.specs.Roots.{ListsWeaks}
 use Rattle.nmgc_heap.specs.Shape.{header_of}
 use Rattle.nmgc_blocks.specs.Stopped.{Stopped, IsStopped}
 use Rattle.nmgc_journal.specs.declared.report.CycleRow.{CycleRow}
-use Rattle.nmgc_journal.specs.declared.report.Phase.TheVariants as phase
 use Rattle.nmgc_journal.specs.declared.report.RoundRows.{RoundRows}
 use Rattle.nmgc_journal.specs.declared.report.StopRow.{StopRow}
 use Rattle.nmgc_script.specs.declared.script.Script.{Script}
@@ -48,15 +47,15 @@ use Rattle.nmgc_run.specs.laws.Turns.{run_goes_on, last_is_of_turn, tells_one_mo
 use Rattle.nmgc_cycle.specs.declared.collector.Collector.{Collector}
 use Rattle.nmgc_cycle.specs.Bound.{AreFew}
 use Rattle.nmgc_cycle.specs.declared.progress.Progress.{Progress as Doing}
-use Rattle.nmgc_cycle.specs.declared.progress.Progress.TheVariants as doing
 use Rattle.nmgc_cycle.specs.Keeps.{CanStop, HasClosingRoom, IsFresh, HasWorked, Sweeps}
-use Rattle.nmgc_cycle.specs.Shown.{seen, phase_in}
+use Rattle.nmgc_cycle.specs.Shown.{seen}
 use Rattle.nmgc_cycle.specs.Limits.{IsInLimits}
 use Rattle.nmgc_cycle.specs.Stopping.{CanList, StandsStopped}
 use Rattle.nmgc_cycle.proofs.Few.{fresh_few, fresh_begun}
 use Rattle.nmgc_cycle.proofs.Measures.{answered_more}
 use Rattle.nmgc_cycle.proofs.MutatorLists.{same_stopped}
 use Rattle.nmgc_cycle.proofs.NewStops.{stopped_in, new_stopped}
+use Rattle.nmgc_cycle.proofs.Phases.{when_idle}
 use Rattle.nmgc_cycle.proofs.Plans.{is_runnable}
 use Rattle.nmgc_cycle.proofs.StopNumbers.{run_number}
 use Rattle.nmgc_cycle.proofs.Views.{registers_seen, queues_seen, nurseries_seen, recorded_seen, young_seen}
@@ -78,7 +77,7 @@ pub record IsLeft (script : Script) (rounds : List RoundRows) (left : List (List
 pub record IsSoundBefore (plan : Plan) (began : World) (s : State) : Type 0 where
   pub world : IsWorld s.world
   pub able : IsAble plan s
-  pub filed : AreSoundBlocks (layout_of plan) s.allocation
+  pub sound_blocks : AreSoundBlocks (layout_of plan) s.allocation
   pub known : LieKnown began s.allocation
   pub cycle : IsInCycle s.progress s.world s.allocation
   pub earlier : AreEarlier s
@@ -155,12 +154,6 @@ can_list_of t c h listed =
 
 -- a new collector
 
--- none is in progress
-idle_of : (p : Doing) → phase_in p ≡ phase.Idle → p ≡ doing.Idle
-idle_of doing.Idle e = refl
-idle_of (doing.Marking m) e = absurd (let bad : phase.Marking ≡ phase.Idle = e in cc)
-idle_of (doing.Sweeping w) e = absurd (let bad : phase.Sweeping ≡ phase.Idle = e in cc)
-
 new_begins : (script : Script) (c : Collector) → IsInLimits script → IsFresh script c → Begins script c
 new_begins script c limits f =
     let plan : Plan = plan_of script in
@@ -182,12 +175,12 @@ new_begins script c limits f =
       matches = f.new.matches;
       cycle = f.new.settled;
       later = λ k e. absurd (let bad : idle ≡ marking k = e in cc);
-      closing = subst (λ (p : Doing). HasClosingRoom p (length c.mutators.items)) (sym (idle_of c.progress f.new.matches.phase)) tt;
+      closing = subst (λ (p : Doing). HasClosingRoom p (length c.mutators.items)) (sym (when_idle c.progress f.new.matches.phase)) tt;
       sweeper = tt;
       sound = record {
         world = opening.world;
         able = record { programs = able.count; mutators = opening.mutators; registers = able.registers; serials = opening.made };
-        filed = opening.filed;
+        sound_blocks = opening.sound_blocks;
         known = opening.old_known;
         cycle = tt;
         earlier = λ e there. absurd (nothing_in e there);
@@ -206,11 +199,6 @@ new_begins script c limits f =
     }
 
 -- a round comes after the stop at which a cycle that marks began
-
-from_of : Progress → ℕ
-from_of idle = 0
-from_of (marking c) = c.from
-from_of (sweeping c closed) = 0
 
 from_before : (p : Progress) (number begun : ℕ) (a : AllocState) (rows : List Row) → IsInCourse p number begun a → (k : Cycle) → noted p rows ≡ marking k → k.from + 1 ≤ number + 1
 from_before idle number begun a rows h k e = absurd (let bad : idle ≡ marking k = e in cc)
@@ -262,7 +250,7 @@ module _ (script : Script) (c : Collector) (limits : IsInLimits script) (h : Has
   sound : IsSoundBefore plan before.world h.worked
   sound =
       let r : IsSoundRound plan before h.history h.worked = rounds_are_sound plan before h.worked h.replies h.history (states_are_sound plan h.run (is_runnable script limits) h.after.is_run) h.after.round in
-      record { world = r.world; able = r.able; filed = r.filed; known = r.known; cycle = r.cycle; earlier = r.earlier }
+      record { world = r.world; able = r.able; sound_blocks = r.sound_blocks; known = r.known; cycle = r.cycle; earlier = r.earlier }
 
   later : (k : Cycle) → h.worked.progress ≡ marking k → k.from + 1 ≤ h.worked.number
   later k e =

@@ -42,14 +42,14 @@ stands_on script c s goes h = record {
   sweeper = h.sweeper;
 }
 
-module _ (law : FinishingLeads) (script : Script) (old new : Collector) (s : State) (limits : IsInLimits script) (h : StandsWithin script old s) (closed : HasClosed s.number old new) where
+module _ (law : FinishingLeads) (script : Script) (old new : Collector) (s : State) (limits : IsInLimits script) (h : StandsWithin script old s) (closed : HasClosed Closes s.number old new) where
   abbrev Leads : Type 0
-  Leads = (t : State) × ClosesOrWaits script.config.quota ⊥ s.progress s t × StandsAt script new t
+  Leads = (t : State) × ClosesOrWaits script.config.quota s.progress s t × StandsAt script new t
 
-  stays : (p : Doing) (q : Progress) → old.progress ≡ p → s.progress ≡ q → ClosesOrWaits script.config.quota ⊥ q s s → ((k : Cycle) → s.progress ≡ marking k → IsPacedWithin script.config.quota k s (seen old) → IsPacedAtStop script.config.quota k s (seen old)) → new ≡ old → Leads
+  stays : (p : Doing) (q : Progress) → old.progress ≡ p → s.progress ≡ q → ClosesOrWaits script.config.quota q s s → ((k : Cycle) → s.progress ≡ marking k → IsPacedWithin script.config.quota k s (seen old) → IsPacedAtStop script.config.quota k s (seen old)) → new ≡ old → Leads
   stays p q at is waits goes same = (
     s,
-    subst (λ (x : Progress). ClosesOrWaits script.config.quota ⊥ x s s) (sym is) waits,
+    subst (λ (x : Progress). ClosesOrWaits script.config.quota x s s) (sym is) waits,
     subst (λ (c : Collector). StandsAt script c s) (sym same) (stands_on script old s goes h),
   )
 
@@ -64,7 +64,7 @@ module _ (law : FinishingLeads) (script : Script) (old new : Collector) (s : Sta
   by_case (doing.Marking m) (marking k) at is e step = elim step [
     | inl x ↦
         let t = law script old new s k m x.1.0 limits h is at x.0 x.1.1 closed x.1.2 in
-        (t.0, subst (λ (q : Progress). ClosesOrWaits script.config.quota ⊥ q s t.0) (sym is) (inr (t.1, inr t.2)), t.3)
+        (t.0, subst (λ (q : Progress). ClosesOrWaits script.config.quota q s t.0) (sym is) (inr (t.1, t.2)), t.3)
     | inr x ↦ stays (doing.Marking m) (marking k) at is (inl refl) (λ r marks paced. paced.goes_on (ap (λ (p : Doing). (work_in p).empty) at ∙ x.0)) x.1
   ]
   by_case (doing.Marking m) (sweeping k since) at is e step = absurd (let bad : phase.Marking ≡ phase.Sweeping = e in cc)

@@ -12,7 +12,7 @@ use Rattle.nmgc_cycle.specs.declared.progress.Progress.{Progress as Doing}
 use Rattle.nmgc_cycle.specs.declared.progress.Progress.TheVariants as doing
 use Rattle.nmgc_cycle.specs.declared.progress.Sweeping.{Sweeping}
 use Rattle.nmgc_cycle.specs.Cycles.{AddsTo, HasTaken, IsClosed, Closes, Ends, HasStarted, Begins, HasHelped, remembered_by, worked_on}
-use Rattle.nmgc_cycle.specs.Full.{ClosesNow, SweepsRest, HasSweptRest, HasFinished, HasDoneFull, Proceeds, all_filed}
+use Rattle.nmgc_cycle.specs.Full.{ClosesNow, SweepsRest, HasSweptRest, HasFinished, HasDoneFull, Proceeds, with_all_retired}
 use Rattle.nmgc_cycle.specs.Shown.{turns_by, turns_of, words_in}
 use Rattle.nmgc_cycle.specs.Working.{DidSlices}
 use Rattle.nmgc_cycle.proofs.FullCycle.{finished_idle}
@@ -80,7 +80,7 @@ finished stop old new h = ends stop h.swept new h.swept.progress refl h.ends ∙
 full : (stop : ℕ) (old new : Collector) → HasDoneFull stop old new → turns_of new ≡ turns_of old
 full stop old new h =
     ap turns_of h.is ∙ finished stop h.started h.last h.again
-    ∙ starts stop (all_filed h.idled) h.started (finished_idle stop old h.idled h.first) h.starts
+    ∙ starts stop (with_all_retired h.idled) h.started (finished_idle stop old h.idled h.first) h.starts
     ∙ finished stop old h.idled h.first
 
 proceeds : (trigger : ℕ) (left : Bool) (stop : ℕ) (old new : Collector) → Proceeds trigger left stop old new → turns_of new ≡ turns_of old

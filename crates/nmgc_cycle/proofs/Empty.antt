@@ -10,19 +10,17 @@ use Rattle.nmgc_graph.specs.World.{World, new_world, node_of}
 use Rattle.nmgc_graph.specs.Reach.{IsAliveWeak}
 use Rattle.nmgc_graph.specs.laws.Orders.{contains_head, contains_cases}
 use Rattle.nmgc_graph.specs.laws.NewWorlds.{new_nodes}
+use Rattle.nmgc_reach.specs.laws.ItemLaws.{nothing_in}
 use Rattle.nmgc_object.specs.declared.layout.Layout.{Layout}
 use Rattle.nmgc_segment.specs.Segment.{Segment, mark_of, free_segment}
 use Rattle.nmgc_alloc.specs.Segments.{all_free}
 use Rattle.nmgc_alloc.specs.AllocState.{Cells, all_empty, no_cells, name_in, LiesIn}
 use Rattle.nmgc_alloc.specs.laws.Numbers.{nth_free, unmarked}
 use Rattle.nmgc_alloc.specs.laws.OneState.{first_cells}
-use Rattle.nmgc_heap.specs.Places.{Place}
+use Rattle.nmgc_heap.specs.Places.{Place, shared_place}
 use Rattle.nmgc_heap.specs.Roots.{ListsWeaks}
-use Rattle.nmgc_run.specs.Heap.{FitBlocks, IsPlaceAtStop, shared_place}
+use Rattle.nmgc_run.specs.Heap.{FitBlocks, IsPlaceAtStop}
 use Rattle.nmgc_run.specs.Marks.{AreSettled}
-
-none_in : {A : Type 0} (x : A) → Contains [] x → ⊥
-none_in x c = omega (arith, c.1)
 
 -- no name lies in a block
 pub lies_nowhere : (count number block : ℕ) (name : Name) → LiesIn (all_empty count) number block name → ⊥
@@ -35,7 +33,7 @@ fit_blocks w count number block name node lies there = absurd (lies_nowhere coun
 
 -- the one place is that of g
 pub place_of_g : (layout : Layout) (count : ℕ) (p : Place) → Contains (shared_place ∷ []) p → IsPlaceAtStop layout (all_empty count) p
-place_of_g layout count p c = elim (contains_cases shared_place [] p c) [ inl e ↦ inl (sym e) | inr none ↦ absurd (none_in p none) ]
+place_of_g layout count p c = elim (contains_cases shared_place [] p c) [ inl e ↦ inl (sym e) | inr none ↦ absurd (nothing_in p none) ]
 
 pub g_has_place : (layout : Layout) (count : ℕ) (p : Place) → IsPlaceAtStop layout (all_empty count) p → Contains (shared_place ∷ []) p
 g_has_place layout count p (inl e) = subst (λ (q : Place). Contains (shared_place ∷ []) q) (sym e) (contains_head shared_place [])
@@ -52,7 +50,7 @@ no_weak count name alive = elim (node_of (new_world count) name) as (λ (o : Opt
 pub lists_no_weaks : (layout : Layout) (places : List Place) (count : ℕ) → ListsWeaks layout places (new_world count) []
 lists_no_weaks layout places count = record {
   ordered = tt;
-  sound = λ p c. absurd (none_in p c);
+  sound = λ p c. absurd (nothing_in p c);
   complete = λ p is. absurd (no_weak count p.name is.1);
 }
 

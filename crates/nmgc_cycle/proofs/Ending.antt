@@ -1,11 +1,9 @@
 -- The end of a cycle at a stop: its row tells its census, and the collector stands for the state in which none is in progress.
-use Rattle.std.proofs.Common.{ℕ, ◌≡◌, List, [], ◌∷◌, ◌++◌, refl, sym, ap, subst, ◌∙◌, arith, inl, inr, append-nil}
+use Rattle.std.proofs.Common.{ℕ, ◌≡◌, List, [], ◌∷◌, ◌++◌, refl, sym, ap, subst, ◌∙◌, inl, inr, append-nil}
 use Rattle.nmgc_graph.specs.World.{World}
-use Rattle.nmgc_alloc.specs.AllocState.{AllocState, StandsFor, NoneIs, IsIn}
-use Rattle.nmgc_alloc.specs.Segments.{Segments, HasNone}
-use Rattle.nmgc_alloc.specs.declared.search.Wanted.TheVariants as wanted
+use Rattle.nmgc_alloc.specs.Segments.{HasNone}
+use Rattle.nmgc_alloc.specs.declared.search.Sought.TheVariants as sought
 use Rattle.nmgc_alloc.specs.laws.Sweeping.{none_to_sweep}
-use Rattle.nmgc_segment.specs.declared.state.State.TheVariants as stands
 use Rattle.nmgc_heap.specs.Represents.{Represents, NoNode}
 use Rattle.nmgc_heap.specs.Tracked.{IsTracked}
 use Rattle.nmgc_journal.specs.declared.report.CycleRow.{CycleRow}
@@ -27,10 +25,12 @@ use Rattle.nmgc_cycle.specs.declared.progress.Progress.{Progress as Doing}
 use Rattle.nmgc_cycle.specs.declared.progress.Progress.TheVariants as doing
 use Rattle.nmgc_cycle.specs.declared.progress.Sweeping.{Sweeping}
 use Rattle.nmgc_cycle.specs.Cycles.{row_of, Ends}
-use Rattle.nmgc_cycle.specs.Keeps.{IsWellFormed, Sweeps}
+use Rattle.nmgc_cycle.specs.Keeps.{Sweeps}
 use Rattle.nmgc_cycle.specs.Shown.{seen, sweeper_in, cycle_in, phase_in, died}
 use Rattle.nmgc_cycle.specs.Steps.{StandsAt, EndLeads}
 use Rattle.nmgc_reach.specs.laws.ItemLaws.{nothing_in}
+use Rattle.nmgc_cycle.proofs.StepReady.{none_back}
+use Rattle.nmgc_cycle.proofs.Telling.{kept_told}
 
 -- the collector once the cycle has ended, and its state
 abbrev pub ended : Collector → ℕ → CycleRow → Collector
@@ -38,21 +38,6 @@ ended c turns row = record c { progress = doing.Idle; turns = turns; cycles = c.
 
 abbrev pub idled : State → State
 idled s = record s { progress = idle }
-
-still_kept : (script : Script) (c : Collector) (turns : ℕ) (row : CycleRow) → IsWellFormed script c → IsWellFormed script (ended c turns row)
-still_kept script c turns row k = record {
-  layout = k.layout;
-  sound = k.sound;
-  lists = k.lists;
-  has_words = k.has_words;
-  list = k.list;
-  count = k.count;
-  own = λ n m e. let o = k.own n m e in record { number = o.number; layout = o.layout; whole = o.whole; no_replies = o.no_replies };
-  positions_are = k.positions_are;
-  positions = k.positions;
-  no_ends = k.no_ends;
-  room = k.room;
-}
 
 module _ (script : Script) (c : Collector) (s : State) (h : StandsAt script c s) (w : Sweeping) (at : c.progress ≡ doing.Sweeping w) (k : Cycle) (closed : ℕ) (is : s.progress ≡ sweeping k closed) where
   abbrev plan : Plan
@@ -65,7 +50,7 @@ module _ (script : Script) (c : Collector) (s : State) (h : StandsAt script c s)
   sound = record {
     world = h.sound.world;
     able = record { programs = h.sound.able.programs; mutators = h.sound.able.mutators; registers = h.sound.able.registers; serials = h.sound.able.serials };
-    filed = h.sound.filed;
+    sound_blocks = h.sound.sound_blocks;
     known = h.sound.known;
     cycle = tt;
     earlier = λ e there. absurd (nothing_in e there);
@@ -91,7 +76,7 @@ module _ (script : Script) (c : Collector) (s : State) (h : StandsAt script c s)
   swept_by = subst (λ (q : Progress). Sweeps q s c) is h.sweeper
 
   left : AreLeft c.segments w.sweeper.left
-  left = subst (λ (p : Doing). AreLeft c.segments (sweeper_in p).left) at swept_by.0.left
+  left = subst (λ (p : Doing). AreLeft c.segments (sweeper_in p).left) at swept_by.0
 
   work : IsAtWork k closed (seen c).words s.allocation c.segments (cycle_in (doing.Sweeping w) (died c.weaks.deaths)) w.sweeper
   work = subst (λ (p : Doing). IsAtWork k closed (seen c).words s.allocation c.segments (cycle_in p (died c.weaks.deaths)) (sweeper_in p)) at swept_by.1
@@ -120,7 +105,7 @@ module _ (script : Script) (c : Collector) (s : State) (h : StandsAt script c s)
   stands_then : (turns : ℕ) → IsSwept s → StandsAt script (ended c turns row) (idled s)
   unfolding heap
   stands_then turns swept = record {
-    kept = still_kept script c turns row h.kept;
+    kept = kept_told script c (ended c turns row) refl h.kept;
     sound = sound;
     course = swept;
     matches = record { phase = refl; begun = h.matches.begun; collect = h.matches.collect; full = h.matches.full };
@@ -134,7 +119,7 @@ module _ (script : Script) (c : Collector) (s : State) (h : StandsAt script c s)
   }
 
   -- the cycle ended
-  pub ends_now : EndTellsCensus → (new : Collector) → HasNone wanted.Sweeping c.segments → new ≡ ended c w.sweeper.turns row → (t : State) × (rows : List CycleRow) × EndsOrWaits s.progress s t rows × (new.cycles ≡ c.cycles ++ rows) × StandsAt script new t
+  pub ends_now : EndTellsCensus → (new : Collector) → HasNone sought.Sweeping c.segments → new ≡ ended c w.sweeper.turns row → (t : State) × (rows : List CycleRow) × EndsOrWaits s.progress s t rows × (new.cycles ≡ c.cycles ++ rows) × StandsAt script new t
   ends_now law new waits new_is =
       let swept : IsSwept s = none_to_sweep c.segments (seen c).words s.allocation h.heap.holds.stands waits in (
         idled s,
@@ -143,10 +128,6 @@ module _ (script : Script) (c : Collector) (s : State) (h : StandsAt script c s)
         ap (λ (x : Collector). x.cycles) new_is,
         subst (λ (x : Collector). StandsAt script x (idled s)) (sym new_is) (stands_then w.sweeper.turns swept),
       )
-
--- where no segment waits by the allocation state, none does
-none_back : (segments : Segments) (words : List ℕ) (a : AllocState) → StandsFor segments words a → NoneIs (IsIn stands.Sweeping) a → HasNone wanted.Sweeping segments
-none_back segments words a st none i lt waits = none i (let count = st.count in omega (arith, count, lt)) ((st.shows i lt).state ∙ waits)
 
 module _ (law : EndTellsCensus) (script : Script) (old new : Collector) (s : State) (h : StandsAt script old s) where
   abbrev Leads : Type 0

@@ -1,17 +1,14 @@
 -- The rounds that may still follow: what leaves them as few, and that the numbers of a run fit 32 bits.
-use Rattle.std.proofs.Common.{ℕ, ◌≡◌, ◌+◌, ◌<◌, ◌≤◌, ◌^◌, List, [], length, refl, ap, ◌∙◌, arith, inl, inr}
-use Rattle.nmgc_journal.specs.declared.report.Phase.TheVariants as phase
+use Rattle.std.proofs.Common.{ℕ, ◌≡◌, ◌+◌, ◌<◌, ◌≤◌, ◌^◌, List, [], length, ap, ◌∙◌, arith, inl, inr}
 use Rattle.nmgc_journal.specs.declared.report.RoundRows.{RoundRows}
 use Rattle.nmgc_journal.specs.declared.report.StopRow.{StopRow}
 use Rattle.nmgc_script.specs.declared.script.Script.{Script}
 use Rattle.nmgc_cycle.specs.declared.collector.Collector.{Collector}
-use Rattle.nmgc_cycle.specs.declared.progress.Progress.{Progress as Doing}
-use Rattle.nmgc_cycle.specs.declared.progress.Progress.TheVariants as doing
 use Rattle.nmgc_cycle.specs.Bound.{commands_left, most_stops, phase_left, MayFollow, AreFew, NoneIsDue, commands, one_cycle, no_cycle}
 use Rattle.nmgc_cycle.specs.Keeps.{CanStop, IsFresh}
-use Rattle.nmgc_cycle.specs.Shown.{phase_in}
 use Rattle.nmgc_cycle.specs.Limits.{IsInLimits}
 use Rattle.nmgc_cycle.proofs.Measures.{commands_most}
+use Rattle.nmgc_cycle.proofs.Phases.{when_idle}
 
 -- the stops that were counted are no more than a run has
 pub within : (N : Type 0) (script : Script) (c : Collector) (stops : ℕ) → MayFollow N script c stops → stops ≤ most_stops script
@@ -56,16 +53,11 @@ same_few N script c d stops rounds progress collect fresh few =
     )) few
 
 -- before the first stop
-idle_by : (p : Doing) → phase_in p ≡ phase.Idle → p ≡ doing.Idle
-idle_by doing.Idle e = refl
-idle_by (doing.Marking m) e = absurd (let bad : phase.Marking ≡ phase.Idle = e in cc)
-idle_by (doing.Sweeping w) e = absurd (let bad : phase.Sweeping ≡ phase.Idle = e in cc)
-
 pub fresh_few : (N : Type 0) (script : Script) (c : Collector) → IsFresh script c → AreFew N script c (length c.stops + 1)
 fresh_few N script c fresh =
     let no_stops : length c.stops ≡ 0 = ap (λ (stops : List StopRow). length stops) fresh.new.nothing.1 in
     let left : commands_left script.threads c.rounds ≡ commands_left script.threads [] = ap (λ (r : List RoundRows). commands_left script.threads r) fresh.new.nothing.0 in
-    let idle : phase_left script.config.segments c.progress ≡ 0 = ap (phase_left script.config.segments) (idle_by c.progress fresh.new.matches.phase) in
+    let idle : phase_left script.config.segments c.progress ≡ 0 = ap (phase_left script.config.segments) (when_idle c.progress fresh.new.matches.phase) in
     record { follow = commands (omega (arith, no_stops, left)); phase = omega (arith, idle) }
 
 pub fresh_begun : (script : Script) (c : Collector) → IsFresh script c → c.begun ≤ length c.stops

@@ -10,7 +10,7 @@ use Rattle.nmgc_segment.specs.declared.state.State.TheVariants as stands
 use Rattle.nmgc_alloc.specs.AllocState.{AllocState, Cells, NoneIs, IsIn, cells, restated, all_retired}
 use Rattle.nmgc_alloc.specs.Search.{nth}
 use Rattle.nmgc_alloc.specs.Segments.{Segments, IsSegments, block_place}
-use Rattle.nmgc_alloc.specs.Turns.{retired, retired_state}
+use Rattle.nmgc_alloc.specs.CycleSteps.{retired, retired_state}
 use Rattle.nmgc_alloc.specs.laws.Cells.{retired_cells, retired_names}
 use Rattle.nmgc_alloc.specs.laws.Numbers.{nth-map}
 use Rattle.nmgc_alloc.specs.laws.Turning.{retired_stands}
@@ -20,13 +20,13 @@ use Rattle.nmgc_run.specs.Marks.{AreSettled, IsSettledByte}
 use Rattle.nmgc_run.specs.Seen.{ends_of}
 use Rattle.nmgc_run.specs.Sound.{IsSoundState}
 use Rattle.nmgc_run.specs.State.{State, Progress, idle, plan_of, layout_of}
-use Rattle.nmgc_run.specs.Stop.{all_filed}
+use Rattle.nmgc_run.specs.Stop.{with_all_retired}
 use Rattle.nmgc_run.specs.laws.Filing.{retired_filed}
 use Rattle.nmgc_script.specs.declared.script.Script.{Script}
 use Rattle.nmgc_cycle.specs.declared.collector.Collector.{Collector}
 use Rattle.nmgc_cycle.specs.declared.progress.Progress.{Progress as Doing}
 use Rattle.nmgc_cycle.specs.declared.progress.Progress.TheVariants as doing
-use Rattle.nmgc_cycle.specs.Full.{all_filed as filed_by}
+use Rattle.nmgc_cycle.specs.Full.{with_all_retired as filed_by}
 use Rattle.nmgc_cycle.specs.FullLaws.{FilingLeads}
 use Rattle.nmgc_cycle.specs.Keeps.{IsWellFormed}
 use Rattle.nmgc_cycle.specs.Shown.{seen, words_in, phase_in}
@@ -95,7 +95,7 @@ module _ (script : Script) (c : Collector) (st : State) (h : StandsAt script (re
   next = filed_by old
 
   abbrev t : State
-  t = all_filed s
+  t = with_all_retired s
 
   heap : HoldsAtStop layout t (words_in c.words) next.segments (ends_of (seen next)) (seen next).weaks
   heap = record {
@@ -116,7 +116,7 @@ module _ (script : Script) (c : Collector) (st : State) (h : StandsAt script (re
   sound_then = record {
     world = h.sound.world;
     able = record { programs = h.sound.able.programs; mutators = h.sound.able.mutators; registers = h.sound.able.registers; serials = h.sound.able.serials };
-    filed = retired_filed layout st.allocation h.sound.filed;
+    sound_blocks = retired_filed layout st.allocation h.sound.sound_blocks;
     known = λ number block n lies. h.sound.known number block n ((retired_names st.allocation number block n).0 lies);
     cycle = tt;
     earlier = h.sound.earlier;
@@ -160,5 +160,5 @@ filing_leads script c s limits h at sound =
     let was : c ≡ record c { progress = doing.Idle } = ap (λ (p : Doing). record c { progress = p }) at in
     let state : s ≡ record s { progress = idle } = ap (λ (q : Progress). record s { progress = q }) quiet in
     let stood : StandsAt script (record c { progress = doing.Idle }) (record s { progress = idle }) = subst (λ (x : Collector). StandsAt script x (record s { progress = idle })) was (subst (λ (y : State). StandsAt script c y) state h) in
-    let there : StandsAt script (filed_by (record c { progress = doing.Idle })) (all_filed (record s { progress = idle })) = stands_filed script c s stood sound in
-    subst (λ (x : Collector). StandsAt script (filed_by x) (all_filed s)) (sym was) (subst (λ (y : State). StandsAt script (filed_by (record c { progress = doing.Idle })) (all_filed y)) (sym state) there)
+    let there : StandsAt script (filed_by (record c { progress = doing.Idle })) (with_all_retired (record s { progress = idle })) = stands_filed script c s stood sound in
+    subst (λ (x : Collector). StandsAt script (filed_by x) (with_all_retired s)) (sym was) (subst (λ (y : State). StandsAt script (filed_by (record c { progress = doing.Idle })) (with_all_retired y)) (sym state) there)

@@ -54,8 +54,8 @@ use Rattle.nmgc_cycle.specs.declared.progress.Marking.{Marking}
 use Rattle.nmgc_cycle.specs.declared.progress.Progress.{Progress as Doing}
 use Rattle.nmgc_cycle.specs.declared.progress.Progress.TheVariants as doing
 use Rattle.nmgc_cycle.specs.declared.progress.Sweeping.{Sweeping}
-use Rattle.nmgc_cycle.specs.Cycles.{IsClosed}
-use Rattle.nmgc_cycle.specs.Full.{ClosesNow as ClosesNowBy, HasClosedNow}
+use Rattle.nmgc_cycle.specs.Cycles.{HasClosed, IsClosed}
+use Rattle.nmgc_cycle.specs.Full.{ClosesNow as ClosesNowBy}
 use Rattle.nmgc_cycle.specs.FullLaws.{FinishingNowLeads}
 use Rattle.nmgc_cycle.specs.Keeps.{IsWellFormed}
 use Rattle.nmgc_cycle.specs.Roots.{queues_in}
@@ -277,7 +277,7 @@ module _ (Paced : Cycle → State → Seen → Type 0) (laws : ClosingLaws) (scr
           registers = h.sound.able.registers;
           serials = λ i. subst (λ (x : ℕ). x + length (left_of st i) < 2 ^ 32 - 1) (sym (closed_serials st.world dead world i)) (h.sound.able.serials i);
         };
-        filed = h.sound.filed;
+        sound_blocks = h.sound.sound_blocks;
         known = λ number block name lies. closed_names st.world dead world name (h.sound.known number block name lies);
         cycle = (
           record {
@@ -335,7 +335,7 @@ module _ (Paced : Cycle → State → Seen → Type 0) (laws : ClosingLaws) (scr
       rest = rest_then;
       cycle = sweeps_then;
       closing = tt;
-      sweeper = (record { notes = notes_then; left = left_then }, at_work);
+      sweeper = (left_then, at_work);
     },
   )
 
@@ -383,8 +383,8 @@ finishing_leads laws script old new s k m w limits h is at none_left progress cl
     let more = marks_more P laws script old new s k m w h is at progress closing.rest closing.has_words cl in
     (there.0, there.1, paced.closes none_left cl.marker.marked more counted, there.2)
 
--- one that is forced needs no pace
-module _ (laws : ClosingLaws) (script : Script) (old new : Collector) (s : State) (h : StandsAt script old s) (closing : HasClosedNow s.number old new) where
+-- a closing whatever the bounds needs no pace
+module _ (laws : ClosingLaws) (script : Script) (old new : Collector) (s : State) (h : StandsAt script old s) (closing : HasClosed ClosesNowBy s.number old new) where
   abbrev Leads : Type 0
   Leads = (t : State) × ClosesNow s.progress s t × StandsAt script new t
 

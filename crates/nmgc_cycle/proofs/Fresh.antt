@@ -18,7 +18,7 @@ use Rattle.nmgc_script.specs.declared.script.Script.{Script}
 use Rattle.nmgc_journal.specs.declared.report.MutatorEnd.{MutatorEnd}
 use Rattle.nmgc_run.specs.State.{plan_of, layout_of}
 use Rattle.nmgc_run.specs.Collector.{IsNew}
-use Rattle.nmgc_run.specs.Heap.{Holds, HasAllRegisters, registers_of, queues_of, serials_of, shared_place}
+use Rattle.nmgc_run.specs.Heap.{HeapStandsFor, HasAllRegisters, registers_of, queues_of, serials_of}
 use Rattle.nmgc_run.specs.Marks.{AreSettled}
 use Rattle.nmgc_run.specs.Seen.{end_of}
 use Rattle.nmgc_run.specs.Statements.{answered_count}
@@ -33,6 +33,7 @@ use Rattle.nmgc_cycle.specs.Shown.{seen, seen_mutator, phase_in}
 use Rattle.nmgc_cycle.proofs.Empty.{fit_blocks, place_of_g, g_has_place, lists_no_weaks, no_marks}
 use Rattle.nmgc_cycle.proofs.News.{AreNew, new_end, ends_are, have_registers, new_roots}
 use Rattle.nmgc_cycle.proofs.Unused.{are_empty, are_nurseries, nothing_left}
+use Rattle.nmgc_heap.specs.Places.{shared_place}
 
 -- what a new collector is made of
 pub record IsMade (layout : Layout) (script : Script) (c : Collector) : Type 0 where
@@ -100,7 +101,7 @@ module _ (script : Script) (c : Collector) (made : IsMade (layout_of (plan_of sc
     room = made.room;
   }
 
-  holds : Holds sizes [] (shared_place ∷ []) (new_world (length script.threads)) (all_empty script.config.segments) (seen c).words c.segments ends
+  holds : HeapStandsFor sizes [] (shared_place ∷ []) (new_world (length script.threads)) (all_empty script.config.segments) (seen c).words c.segments ends
   holds = record {
     fit = fit_blocks (new_world (length script.threads)) script.config.segments;
     represents = made.opens.represents;

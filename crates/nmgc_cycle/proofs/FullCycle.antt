@@ -5,19 +5,16 @@ use Rattle.nmgc_alloc.specs.Segments.{Segments, HasNone, IsSegments}
 use Rattle.nmgc_graph.specs.declared.value.TheConstants.{MAKERS}
 use Rattle.nmgc_object.specs.declared.layout.TheConstants.{FIRST_PLACE}
 use Rattle.nmgc_alloc.specs.Reserve as reserve
-use Rattle.nmgc_alloc.specs.declared.search.Wanted.TheVariants as wanted
+use Rattle.nmgc_alloc.specs.declared.search.Sought.TheVariants as sought
 use Rattle.nmgc_alloc.specs.laws.Keeping.{counts_stand}
-use Rattle.nmgc_heap.specs.Places.{Place}
 use Rattle.nmgc_journal.specs.declared.report.CycleRow.{CycleRow}
 use Rattle.nmgc_object.specs.Places.{reserve_count}
 use Rattle.nmgc_object.specs.declared.layout.Layout.{Layout}
 use Rattle.nmgc_segment.specs.declared.state.State.TheVariants as stands
 use Rattle.nmgc_run.specs.Closing.{ClosesNow}
-use Rattle.nmgc_run.specs.Collector.{HoldsInCycle, IsPacedAtStop}
 use Rattle.nmgc_run.specs.Slice.{has_left}
-use Rattle.nmgc_run.specs.Sound.{IsSoundState}
-use Rattle.nmgc_run.specs.State.{Plan, State, Cycle, Progress, idle, marking, sweeping, cycle_started, free_count, plan_of}
-use Rattle.nmgc_run.specs.Stop.{Finishes, DoesFullCycle, EndsOrWaits, IsFullDue, Proceeds, is_short, all_filed}
+use Rattle.nmgc_run.specs.State.{Plan, State, Progress, idle, marking, sweeping, cycle_started, free_count, plan_of}
+use Rattle.nmgc_run.specs.Stop.{Finishes, DoesFullCycle, EndsOrWaits, IsFullDue, Proceeds, is_short, with_all_retired}
 use Rattle.nmgc_script.specs.declared.script.Script.{Script}
 use Rattle.nmgc_sweep.specs.declared.notes.Section.{Section}
 use Rattle.nmgc_cycle.specs.declared.collector.Collector.{Collector}
@@ -25,18 +22,18 @@ use Rattle.nmgc_cycle.specs.declared.progress.Marking.{Marking}
 use Rattle.nmgc_cycle.specs.declared.progress.Progress.{Progress as Doing}
 use Rattle.nmgc_cycle.specs.declared.progress.Progress.TheVariants as doing
 use Rattle.nmgc_cycle.specs.declared.progress.Sweeping.{Sweeping}
-use Rattle.nmgc_cycle.specs.Cycles.{Begins, Ends, CanBegin, HasStarted}
+use Rattle.nmgc_cycle.specs.Cycles.{Begins, Ends, CanBegin, HasClosed, HasStarted}
 use Rattle.nmgc_cycle.specs.Full as full
-use Rattle.nmgc_cycle.specs.Full.{HasClosedNow, HasFinished}
+use Rattle.nmgc_cycle.specs.Full.{HasFinished}
 use Rattle.nmgc_cycle.specs.FullLaws.{StandsAtStop, FinishingNowLeads, SweepingRestLeads, FinishLeads, FilingLeads, FullLeads, ProceedingLeads}
-use Rattle.nmgc_cycle.specs.Keeps.{IsWellFormed, Sweeps}
 use Rattle.nmgc_cycle.specs.Roots.{HasRegisters}
-use Rattle.nmgc_cycle.specs.Shown.{seen, words_in}
+use Rattle.nmgc_cycle.specs.Shown.{words_in}
 use Rattle.nmgc_cycle.specs.Limits.{IsInLimits}
 use Rattle.nmgc_cycle.specs.Steps.{StandsAt, StartingLeads, EndLeads, BeginReady, BeginningLeads}
 use Rattle.nmgc_cycle.proofs.AfterPromotion.{all_whole}
 use Rattle.nmgc_cycle.proofs.Plans.{is_runnable}
 use Rattle.nmgc_cycle.proofs.StopFew.{none_waits}
+use Rattle.nmgc_cycle.proofs.Telling.{stands_told}
 use Rattle.nmgc_cycle.proofs.WholeStop.{KeepsOn, ending_keeps, beginning_keeps}
 
 -- What a finish does with the run
@@ -58,7 +55,7 @@ finishing_keeps s t rows f =
 pub full_keeps : (s t : State) (rows : List CycleRow) → DoesFullCycle s t rows → KeepsOn s t
 full_keeps s t rows d =
     let first = finishing_keeps s d.idled d.before d.finishes in
-    let again = finishing_keeps (cycle_started (all_filed d.idled)) d.last d.own d.again in
+    let again = finishing_keeps (cycle_started (with_all_retired d.idled)) d.last d.own d.again in
     record {
       number = ap (λ (x : State). x.number) d.rest ∙ again.number ∙ first.number;
       left = ap (λ (x : State). x.left) d.rest ∙ again.left ∙ first.left;
@@ -107,12 +104,12 @@ left_of doing.Idle = []
 left_of (doing.Marking m) = []
 left_of (doing.Sweeping w) = w.sweeper.left
 
-none_left : (a b : Segments) (p after : Doing) → full.SweepsRest a b p after → (w : Sweeping) → after ≡ doing.Sweeping w → HasNone wanted.Sweeping b
+none_left : (a b : Segments) (p after : Doing) → full.SweepsRest a b p after → (w : Sweeping) → after ≡ doing.Sweeping w → HasNone sought.Sweeping b
 none_left a b doing.Idle after h w is = absurd (let bad : doing.Idle ≡ doing.Sweeping w = sym h.0 ∙ is in cc)
 none_left a b (doing.Marking n) after h w is = absurd (let bad : doing.Marking n ≡ doing.Sweeping w = sym h.0 ∙ is in cc)
 none_left a b (doing.Sweeping v) after h w is = none_waits b h.0.sweeper.left h.2.swept.left (ap (λ (l : List Section). length l) h.2.none)
 
-ended_idle : (stop : ℕ) (p : Doing) (old new : Collector) → old.progress ≡ p → Ends stop p old new → ((m : Marking) → p ≡ doing.Marking m → ⊥) → ((w : Sweeping) → p ≡ doing.Sweeping w → HasNone wanted.Sweeping old.segments) → new.progress ≡ doing.Idle
+ended_idle : (stop : ℕ) (p : Doing) (old new : Collector) → old.progress ≡ p → Ends stop p old new → ((m : Marking) → p ≡ doing.Marking m → ⊥) → ((w : Sweeping) → p ≡ doing.Sweeping w → HasNone sought.Sweeping old.segments) → new.progress ≡ doing.Idle
 ended_idle stop doing.Idle old new is h never none = ap (λ (x : Collector). x.progress) h ∙ is
 ended_idle stop (doing.Marking m) old new is h never none = absurd (never m refl)
 ended_idle stop (doing.Sweeping w) old new is (inl h) never none = ap (λ (x : Collector). x.progress) h.1
@@ -148,99 +145,26 @@ begun_cycles : (trigger stop : ℕ) (old new : Collector) → Begins trigger sto
 begun_cycles trigger stop old new (inl h) = started_cycles stop old new h.1
 begun_cycles trigger stop old new (inr h) = ap (λ (x : Collector). x.cycles) h.1
 
--- what is asked for is cleared
-
-module _ (script : Script) (c : Collector) (s : State) (a b : Bool) where
-  abbrev told : Collector
-  told = record c { collect = a; full = b }
-
-  abbrev then_state : State
-  then_state = record s { collect = a; full = b }
-
-  kept_asked : IsWellFormed script c → IsWellFormed script told
-  kept_asked k = record {
-    layout = k.layout;
-    sound = k.sound;
-    lists = k.lists;
-    has_words = k.has_words;
-    list = k.list;
-    count = k.count;
-    own = λ n m e. let o = k.own n m e in record { number = o.number; layout = o.layout; whole = o.whole; no_replies = o.no_replies };
-    positions_are = k.positions_are;
-    positions = k.positions;
-    no_ends = k.no_ends;
-    room = k.room;
-  }
-
-  sound_asked : IsSoundState (plan_of script) s → IsSoundState (plan_of script) then_state
-  sound_asked h = record {
-    world = h.world;
-    able = record { programs = h.able.programs; mutators = h.able.mutators; registers = h.able.registers; serials = h.able.serials };
-    filed = h.filed;
-    known = h.known;
-    cycle = h.cycle;
-    earlier = h.earlier;
-    blocks = h.blocks;
-  }
-
-  cycle_asked : (q : Progress) (places : List Place) → HoldsInCycle (λ (k : Cycle). IsPacedAtStop script.config.quota k s (seen c)) q s (seen c) places → HoldsInCycle (λ (k : Cycle). IsPacedAtStop script.config.quota k then_state (seen told)) q then_state (seen told) places
-  cycle_asked idle places h = h
-  cycle_asked (marking k) places h = (
-    record {
-      core = h.0.core;
-      machine = h.0.machine;
-      tied = h.0.tied;
-      remembered = h.0.remembered;
-      low = h.0.low;
-      room = h.0.room;
-      queue_room = h.0.queue_room;
-      from_is = h.0.from_is;
-      noted = h.0.noted;
-    },
-    record { scanned = h.1.scanned; not_done = h.1.not_done },
-  )
-  cycle_asked (sweeping k closed) places h = h
-
-  sweeper_asked : (q : Progress) → Sweeps q s c → Sweeps q then_state told
-  sweeper_asked idle h = tt
-  sweeper_asked (marking k) h = (record { notes = h.0.notes; left = h.0.left }, h.1, h.2)
-  sweeper_asked (sweeping k closed) h = (record { notes = h.0.notes; left = h.0.left }, h.1)
-
-pub stands_asked : (script : Script) (c : Collector) (s : State) (a b : Bool) → StandsAt script c s → StandsAt script (record c { collect = a; full = b }) (record s { collect = a; full = b })
-stands_asked script c s a b h = record {
-  kept = kept_asked script c s a b h.kept;
-  sound = sound_asked script c s a b h.sound;
-  course = h.course;
-  matches = record { phase = h.matches.phase; begun = h.matches.begun; collect = refl; full = refl };
-  heap = record { places = h.heap.places; all = h.heap.all; holds = h.heap.holds; listed = h.heap.listed };
-  nurseries = h.nurseries;
-  empty = h.empty;
-  rest = h.rest;
-  cycle = cycle_asked script c s a b s.progress h.heap.places h.cycle;
-  closing = h.closing;
-  sweeper = sweeper_asked script c s a b s.progress h.sweeper;
-}
-
 pub full_leads : FinishLeads → FilingLeads → StartingLeads → FullLeads
 full_leads finish filing starting script old new s limits h d =
     let first = finish script old d.idled s limits h d.first in
     let idled : State = first.0 in
     let number : idled.number ≡ s.number = (finishing_keeps s idled first.1 first.2).number in
-    let filed : StandsAt script (full.all_filed d.idled) (all_filed idled) = filing script d.idled idled limits first.4 first.5 d.sound in
-    let started = starting script (full.all_filed d.idled) d.started (all_filed idled) limits filed first.5 (subst (λ (n : ℕ). HasStarted n (full.all_filed d.idled) d.started) (sym number) d.starts) in
-    let again = finish script d.started d.last (record (cycle_started (all_filed idled)) { collect = false }) limits started (subst (λ (n : ℕ). HasFinished n d.started d.last) (sym number) d.again) in
+    let filed : StandsAt script (full.with_all_retired d.idled) (with_all_retired idled) = filing script d.idled idled limits first.4 first.5 d.sound in
+    let started = starting script (full.with_all_retired d.idled) d.started (with_all_retired idled) limits filed first.5 (subst (λ (n : ℕ). HasStarted n (full.with_all_retired d.idled) d.started) (sym number) d.starts) in
+    let again = finish script d.started d.last (record (cycle_started (with_all_retired idled)) { collect = false }) limits started (subst (λ (n : ℕ). HasFinished n d.started d.last) (sym number) d.again) in
     let last : State = record again.0 { collect = idled.collect } in
-    let own : Finishes (cycle_started (all_filed idled)) last again.1 = finishes_asking idled.collect (record (cycle_started (all_filed idled)) { collect = false }) again.0 again.1 again.2 in
+    let own : Finishes (cycle_started (with_all_retired idled)) last again.1 = finishes_asking idled.collect (record (cycle_started (with_all_retired idled)) { collect = false }) again.0 again.1 again.2 in
     let cycles : new.cycles ≡ old.cycles ++ (first.1 ++ again.1) =
     ap (λ (x : Collector). x.cycles) d.is
     ∙ again.3
-    ∙ ap (λ (rows : List CycleRow). rows ++ again.1) (started_cycles s.number (full.all_filed d.idled) d.started d.starts ∙ first.3)
+    ∙ ap (λ (rows : List CycleRow). rows ++ again.1) (started_cycles s.number (full.with_all_retired d.idled) d.started d.starts ∙ first.3)
     ∙ append_assoc old.cycles first.1 again.1 in (
       record again.0 { collect = false; full = false },
       first.1 ++ again.1,
       record { idled = idled; before = first.1; finishes = first.2; last = last; own = again.1; again = own; told = refl {a = first.1 ++ again.1}; rest = refl {a = record again.0 { collect = false; full = false }} },
       cycles,
-      subst (λ (x : Collector). StandsAt script x (record again.0 { collect = false; full = false })) (sym d.is) (stands_asked script d.last again.0 false false again.4),
+      subst (λ (x : Collector). StandsAt script x (record again.0 { collect = false; full = false })) (sym d.is) (stands_told script d.last (record d.last { collect = false; full = false }) again.0 (record again.0 { collect = false; full = false }) refl (refl {a = record again.0 { collect = false; full = false }}) refl refl again.4),
     )
 
 -- Where one is due
@@ -287,9 +211,9 @@ finished_begun stop old new f = ends_begun stop f.swept.progress f.swept new f.e
     ends_begun stop (doing.Sweeping w) a b (inr h) = ap (λ (x : Collector). x.begun) h.1
 
 -- once the cycle in progress was closed, the collector stands for a state at the same stop
-pub closed_at : FinishingNowLeads → (stop : ℕ) (old new : Collector) → StandsAtStop stop old → HasClosedNow stop old new → (script : Script) × (t : State) × IsInLimits script × StandsAt script new t
+pub closed_at : FinishingNowLeads → (stop : ℕ) (old new : Collector) → StandsAtStop stop old → HasClosed full.ClosesNow stop old new → (script : Script) × (t : State) × IsInLimits script × StandsAt script new t
 closed_at closing stop old new (script, s, limits, number, h) closed =
-    let led = closing script old new s limits h (subst (λ (n : ℕ). HasClosedNow n old new) (sym number) closed) in
+    let led = closing script old new s limits h (subst (λ (n : ℕ). HasClosed full.ClosesNow n old new) (sym number) closed) in
     (script, led.0, limits, led.2)
 
 -- once it was finished, none is in progress there
@@ -299,8 +223,8 @@ finished_at finish stop old new (script, s, limits, number, h) f =
     ((script, led.0, limits, (finishing_keeps s led.0 led.1 led.2).number ∙ number, led.4), led.5, finished_begun stop old new f)
 
 -- with all segments filed, too
-pub filed_at : FilingLeads → (stop : ℕ) (c : Collector) → StandsAtStop stop c → c.progress ≡ doing.Idle → IsSegments (full.all_filed c).segments → StandsAtStop stop (full.all_filed c)
-filed_at filing stop c (script, s, limits, number, h) none sound = (script, all_filed s, limits, number, filing script c s limits h none sound)
+pub filed_at : FilingLeads → (stop : ℕ) (c : Collector) → StandsAtStop stop c → c.progress ≡ doing.Idle → IsSegments (full.with_all_retired c).segments → StandsAtStop stop (full.with_all_retired c)
+filed_at filing stop c (script, s, limits, number, h) none sound = (script, with_all_retired s, limits, number, filing script c s limits h none sound)
 
 -- and once the next began
 pub started_at : StartingLeads → (stop : ℕ) (old new : Collector) → StandsAtStop stop old → old.progress ≡ doing.Idle → HasStarted stop old new → StandsAtStop stop new
@@ -326,17 +250,17 @@ begins_at ready stop c (script, s, limits, number, h) = record {
 
 -- the collector once it was finished and filed, and what a beginning then asks for
 pub record IsFiledAt (stop : ℕ) (old idled filed : Collector) : Type 0 where
-  pub is : filed ≡ full.all_filed idled
-  pub sound : IsSegments (full.all_filed idled).segments
+  pub is : filed ≡ full.with_all_retired idled
+  pub sound : IsSegments (full.with_all_retired idled).segments
   pub stands : StandsAtStop stop filed
   pub none : filed.progress ≡ doing.Idle
   pub begun : filed.begun ≡ old.begun
   pub begins : BeginsAt filed
 
-pub is_filed_at : FinishLeads → FilingLeads → BeginReady → (stop : ℕ) (old idled : Collector) (segments : Segments) → StandsAtStop stop old → HasFinished stop old idled → segments ≡ (full.all_filed idled).segments → IsSegments segments → IsFiledAt stop old idled (record idled { segments = segments })
+pub is_filed_at : FinishLeads → FilingLeads → BeginReady → (stop : ℕ) (old idled : Collector) (segments : Segments) → StandsAtStop stop old → HasFinished stop old idled → segments ≡ (full.with_all_retired idled).segments → IsSegments segments → IsFiledAt stop old idled (record idled { segments = segments })
 is_filed_at finish filing ready stop old idled segments h f is sound =
     let at = finished_at finish stop old idled h f in
-    let filed_is : record idled { segments = segments } ≡ full.all_filed idled = ap (λ (g : Segments). record idled { segments = g }) is in
-    let sound_there : IsSegments (full.all_filed idled).segments = subst IsSegments is sound in
+    let filed_is : record idled { segments = segments } ≡ full.with_all_retired idled = ap (λ (g : Segments). record idled { segments = g }) is in
+    let sound_there : IsSegments (full.with_all_retired idled).segments = subst IsSegments is sound in
     let stands : StandsAtStop stop (record idled { segments = segments }) = subst (λ (x : Collector). StandsAtStop stop x) (sym filed_is) (filed_at filing stop idled at.0 at.1 sound_there) in
     record { is = filed_is; sound = sound_there; stands = stands; none = at.1; begun = at.2; begins = begins_at ready stop (record idled { segments = segments }) stands }

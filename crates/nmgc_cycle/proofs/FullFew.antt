@@ -1,13 +1,12 @@
 -- A full cycle leaves no more rounds to follow, and begins one cycle.
-use Rattle.std.proofs.Common.{ℕ, ◌≡◌, ◌+◌, ◌≤◌, List, [], ◌∷◌, Bool, false, sym, ap, subst, ◌∙◌, arith, inl, inr}
-use Rattle.nmgc_alloc.specs.AllocState.{AllocState, SweepsEach, StandsFor}
-use Rattle.nmgc_graph.specs.declared.value.Name.{Name}
+use Rattle.std.proofs.Common.{ℕ, ◌≡◌, ◌+◌, ◌≤◌, List, Bool, false, sym, ap, subst, ◌∙◌, arith, inl, inr}
+use Rattle.nmgc_alloc.specs.AllocState.{AllocState, StandsFor}
 use Rattle.nmgc_journal.specs.declared.report.CycleRow.{CycleRow}
 use Rattle.nmgc_journal.specs.declared.report.RoundRows.{RoundRows}
 use Rattle.nmgc_run.specs.Census.{IsKeptIn}
 use Rattle.nmgc_run.specs.Closing.{ClosesNow}
 use Rattle.nmgc_run.specs.State.{Plan, State, Progress, idle, marking, sweeping, cycle_started}
-use Rattle.nmgc_run.specs.Stop.{Finishes, DoesFullCycle, IsFullDue, Proceeds, all_filed}
+use Rattle.nmgc_run.specs.Stop.{Finishes, DoesFullCycle, IsFullDue, Proceeds, with_all_retired}
 use Rattle.nmgc_run.specs.Sweep.{SweepsRest}
 use Rattle.nmgc_script.specs.declared.script.Script.{Script}
 use Rattle.nmgc_sweep.specs.Sweeper.{HasStood}
@@ -18,14 +17,11 @@ use Rattle.nmgc_cycle.specs.Cycles.{all_prepared}
 use Rattle.nmgc_cycle.specs.Full.{IsFullDue as IsDueBy, HasDoneFull, Proceeds as ProceedsThen}
 use Rattle.nmgc_cycle.specs.Shown.{words_in}
 use Rattle.nmgc_cycle.proofs.FullCycle.{finished_idle, finished_begun}
+use Rattle.nmgc_cycle.proofs.NoneLeft.{each_fresh}
 use Rattle.nmgc_cycle.proofs.StopFew.{beginning_few, beginning_more, beginning_begun}
 use Rattle.nmgc_cycle.proofs.WholeStop.{ending_keeps}
 
 -- since the cycle began nothing was filled by placing
-
-each_fresh : (Kept : Name → Type 0) (a b : AllocState) (numbers : List ℕ) → SweepsEach Kept a numbers b → b.fresh ≡ a.fresh
-each_fresh Kept a b [] e = ap (λ (x : AllocState). x.fresh) e
-each_fresh Kept a b (number ∷ numbers) h = each_fresh Kept h.0 b numbers h.2 ∙ ap (λ (x : AllocState). x.fresh) h.1.others
 
 closing_fresh : (p : Progress) (s t : State) → ClosesNow p s t → t.allocation ≡ s.allocation
 closing_fresh idle s t e = ap (λ (x : State). x.allocation) e
@@ -44,7 +40,7 @@ finishing_fresh s t rows f =
     ∙ ap (λ (x : AllocState). x.fresh) (closing_fresh s.progress s f.closed f.closes)
 
 full_fresh : (s t : State) (rows : List CycleRow) → DoesFullCycle s t rows → t.allocation.fresh ≡ 0
-full_fresh s t rows d = ap (λ (x : State). x.allocation.fresh) d.rest ∙ finishing_fresh (cycle_started (all_filed d.idled)) d.last d.own d.again
+full_fresh s t rows d = ap (λ (x : State). x.allocation.fresh) d.rest ∙ finishing_fresh (cycle_started (with_all_retired d.idled)) d.last d.own d.again
 
 -- none is in progress, and none is due
 module _ (script : Script) (old new : Collector) (stops : ℕ) (rounds : new.rounds ≡ old.rounds) (none : new.progress ≡ doing.Idle) (not_asked : new.collect ≡ false) (fresh : new.segments.fresh ≡ 0) where

@@ -1,9 +1,10 @@
 -- What the slices of all mutators leave, by their numbers.
 use Rattle.std.proofs.Common.{ℕ, ◌≡◌, List, length, map, slice_index_or, sym, ap, subst, ◌∙◌, arith, Some}
-use Rattle.std.specs.Prelude.{slice_get, option_map}
+use Rattle.std.specs.Prelude.{slice_get}
 use Rattle.std.proofs.lemmas.List.{length-map}
-use Rattle.std.proofs.lemmas.Option.{slice_get-map, slice_get_within, get_or_from_slice_get}
+use Rattle.std.proofs.lemmas.Option.{slice_get_within, get_or_from_slice_get}
 use Rattle.nmgc_graph.specs.declared.command.Command.{Command}
+use Rattle.nmgc_heap.specs.laws.Kinds.{map_item}
 use Rattle.nmgc_object.specs.declared.layout.Layout.{Layout}
 use Rattle.nmgc_round.specs.declared.table.Round.{Round}
 use Rattle.nmgc_round.specs.View.{Opening}
@@ -38,13 +39,6 @@ pub record AllDid (script : Script) (c : Collector) (round : Round) (o : Opening
   pub done : List (List Done)
   pub count : length done ≡ length new
   pub each : (k : ℕ) (x : Worker) (d : List Done) → slice_get new k ≡ Some x → slice_get done k ≡ Some d → OneDid script c round o k x d
-
--- an item of a mapped list
-pub mapped : {A B : Type 0} (f : A → B) (xs : List A) (k : ℕ) (y : B) → slice_get (map f xs) k ≡ Some y → (x : A) × (slice_get xs k ≡ Some x) × (y ≡ f x)
-mapped f xs k y e =
-    let x = item xs k (let within = slice_get_within (map f xs) k y e in let count = length-map xs f in omega (arith, within, count)) in
-    let there : slice_get (map f xs) k ≡ Some (f x.0) = slice_get-map f xs k ∙ ap (option_map f) x.1 in
-    (x.0, x.1, cc (e, there))
 
 module _ (script : Script) (c : Collector) (run : Run) (limits : IsInLimits script) (still : IsAfterStop script c run) (o : Opening) (op : IsOpened script c run still o) (round : Round) (seats : List RoundSeat) (has : HasSeats o round seats) (new : List Worker) (worked : HaveAllWorked round script c.positions.items (workers_of c.mutators.items seats) new) where
   old_count : length (workers_of c.mutators.items seats) ≡ length c.mutators.items
@@ -87,8 +81,8 @@ module _ (script : Script) (c : Collector) (run : Run) (limits : IsInLimits scri
 
       each : (k : ℕ) (m n : Mutator) (seat : RoundSeat) (d : List Done) → slice_get c.mutators.items k ≡ Some m → slice_get (map mutator_of new) k ≡ Some n → slice_get (map seat_of new) k ≡ Some seat → slice_get did.done k ≡ Some d → HasDone round (alone o k) seat m n d
       each k m n seat d e f g i =
-          let x = mapped mutator_of new k n f in
-          let y = mapped seat_of new k seat g in
+          let x = map_item mutator_of new k n f in
+          let y = map_item seat_of new k seat g in
           let h = did.each k x.0 d x.1 i in
           let here = x.1 in
           let also = y.1 in

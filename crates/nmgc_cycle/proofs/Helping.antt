@@ -44,7 +44,7 @@ module _ (laws : CanOpenRounds) (begins : RoundBeginsTied) (script : Script) (c 
   helps (sweeping k closed) o e h knows =
       let w = when_sweeping c.progress (still.at_stop.matches.phase ∙ ap phase_of e) in
       let sweeps : Sweeps (sweeping k closed) (last_state run) c = subst (λ (q : Progress). Sweeps q (last_state run) c) e still.sweeper in
-      let left : AreLeft c.segments w.0.sweeper.left = subst (λ (x : Sweeper). AreLeft c.segments x.left) (ap sweeper_in w.1) sweeps.0.left in
+      let left : AreLeft c.segments w.0.sweeper.left = subst (λ (x : Sweeper). AreLeft c.segments x.left) (ap sweeper_in w.1) sweeps.0 in
       subst (CanHelp round seat c.segments) (sym w.1) ((at, ap (λ (v : View). v.collects) knows), left)
 
   pub can_help : (o : Opening) → OpensIn (last_state run).progress (last_state run) c still.at_stop.heap.places o → seat_seen seat ≡ collecting (whole o) → CanHelp round seat c.segments c.progress

@@ -1,9 +1,6 @@
 -- Items of lists.
-use Rattle.std.proofs.Common.{ℕ, zero, suc, ◌≡◌, ◌<◌, List, [], ◌∷◌, length, inl, inr, refl, ap, subst, sym, Some}
-use Rattle.std.specs.Prelude.{All, slice_get, slice_index_or}
-use Rattle.std.proofs.lemmas.Bool.{cases_lt}
-use Rattle.std.proofs.lemmas.List.{get_or_past}
-use Rattle.std.proofs.lemmas.List.Elements.{All-nil, All-get_or}
+use Rattle.std.proofs.Common.{ℕ, zero, suc, ◌≡◌, ◌<◌, List, [], ◌∷◌, length, refl, ap, subst, Some}
+use Rattle.std.specs.Prelude.{All, slice_get}
 use Rattle.std.proofs.lemmas.Option.{get_or_from_slice_get, slice_get_within}
 use Rattle.nmgc_graph.specs.laws.Worlds.{is_some_get, is_some_of}
 
@@ -14,13 +11,6 @@ item xs k lt = is_some_of (slice_get xs k) (is_some_get xs k lt)
 -- what holds of all items holds of each
 pub of_item : {A : Type 0} (P : A → Type 0) (xs : List A) (k : ℕ) (x : A) → All P xs → slice_get xs k ≡ Some x → P x
 of_item P xs k x all e = subst P (get_or_from_slice_get xs k x x e) (all k x (slice_get_within xs k x e))
-
--- what holds of each list's items holds of those of each list, and of the empty list past them
-pub of_list : {A : Type 0} (P : A → Type 0) (lists : List (List A)) → All (λ (l : List A). All P l) lists → (m : ℕ) → All P (slice_index_or lists m [])
-of_list {A} P lists h m = elim (cases_lt m (length lists)) [
-  | inl lt ↦ All-get_or (λ (l : List A). All P l) lists m [] lt h
-  | inr ge ↦ subst (λ (l : List A). All P l) (sym (get_or_past lists m [] ge)) (All-nil P)
-]
 
 -- where each item has something that fits it, there is a list of these
 pub chosen : {A B : Type 0} (P : ℕ → A → B → Type 0) (xs : List A) → ((k : ℕ) (x : A) → slice_get xs k ≡ Some x → (y : B) × P k x y) → (ys : List B) × (length ys ≡ length xs) × ((k : ℕ) (x : A) (y : B) → slice_get xs k ≡ Some x → slice_get ys k ≡ Some y → P k x y)

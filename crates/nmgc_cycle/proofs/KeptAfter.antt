@@ -6,6 +6,7 @@ use Rattle.std.proofs.Common.{Global}
 use Rattle.std.proofs.Math.ListN.{get_or-map}
 use Rattle.std.proofs.lemmas.List.{length-map}
 use Rattle.std.proofs.lemmas.Option.{get_or_from_slice_get, slice_get_within}
+use Rattle.nmgc_heap.specs.laws.Kinds.{map_item}
 use Rattle.nmgc_graph.specs.declared.command.Reply.{Reply}
 use Rattle.nmgc_alloc.specs.Segments.{Segments}
 use Rattle.nmgc_object.specs.FinQueue.{FinQueue}
@@ -32,7 +33,6 @@ use Rattle.nmgc_cycle.specs.Keeps.{HasClosingRoom, IsWellFormed, IsOwn, DidRound
 use Rattle.nmgc_cycle.specs.Shown.{seen, seen_mutator}
 use Rattle.nmgc_cycle.specs.Working.{cleared}
 use Rattle.nmgc_cycle.proofs.AfterRound.{gone_on, is_after}
-use Rattle.nmgc_cycle.proofs.Gathering.{mapped}
 use Rattle.nmgc_cycle.proofs.GoneOn.{HasLaws, HasGoneOn}
 use Rattle.nmgc_cycle.proofs.Items.{item}
 use Rattle.nmgc_cycle.proofs.Measures.{answered_more}
@@ -75,7 +75,7 @@ module _ (laws : HasLaws) (script : Script) (c new : Collector) (o : Opening) (x
 
   own : (k : ℕ) (m : Mutator) → slice_get mutators.items k ≡ Some m → IsOwn after k m
   own k m e =
-      let was = mapped cleared new.mutators.items k m (ap (λ (l : List Mutator). slice_get l k) (sym mutators_are) ∙ e) in
+      let was = map_item cleared new.mutators.items k m (ap (λ (l : List Mutator). slice_get l k) (sym mutators_are) ∙ e) in
       let did = (one_did script c new o x k was.0 was.1).1.2 in
       let same : was.0.layout ≡ c.segments.layout = did.layout ∙ x.op.layout_is in
       let number = (worked script c new o x).numbers_are k was.0 was.1 in

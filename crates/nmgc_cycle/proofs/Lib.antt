@@ -31,7 +31,6 @@ pub mod ListedLeft
 pub mod Mapped
 pub mod MarkedBeside
 pub mod Measures
-pub mod MovedWeaks
 pub mod MutatorLists
 pub mod NewStops
 pub mod News
@@ -73,6 +72,7 @@ pub mod Stopped
 pub mod SweepingRest
 pub mod SweptBeside
 pub mod Taking
+pub mod Telling
 pub mod Told
 pub mod Unused
 pub mod Views

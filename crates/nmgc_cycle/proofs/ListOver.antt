@@ -28,7 +28,7 @@ use Rattle.nmgc_heap.specs.Places.{Place}
 use Rattle.nmgc_heap.specs.Roots.{ListsWeaks}
 use Rattle.nmgc_heap.specs.Tracked.{IsTracked}
 use Rattle.nmgc_heap.specs.laws.Changes.{lies_within}
-use Rattle.nmgc_heap.specs.laws.Moving.{contains_map, settled_comes}
+use Rattle.nmgc_heap.specs.laws.Moving.{contains_map, map_contains, settled_comes}
 use Rattle.nmgc_blocks.specs.Stopped.{Stopped, IsStopped, IsSettled, earlier_of, young_base}
 use Rattle.nmgc_blocks.specs.laws.Blocks.{is_block}
 use Rattle.nmgc_beside.specs.Joins.{JoiningLists, JoinersAreNew, HaveMoved, HaveJoinedList, IsAliveAt, weak_header}
@@ -43,14 +43,7 @@ use Rattle.nmgc_cycle.specs.Listed.{CanJoin, FinalisedLeft, MovedJoined, is_aliv
 use Rattle.nmgc_cycle.specs.Shown.{words_in}
 use Rattle.nmgc_cycle.specs.Stopping.{CanList, HasListed, HasPromoted, StandsStopped, moves_of, young_weaks_of}
 
--- items of a mapped list, and of a filtered one
-
-of_map : {A B : Type 0} (f : A → B) (xs : List A) (y : B) → Contains (map f xs) y → (x : A) × Contains xs x × (f x ≡ y)
-of_map f [] y c = absurd (nothing_in y c)
-of_map f (x ∷ xs) y c = elim (contains_cases (f x) (map f xs) y c) [
-  | inl e ↦ (x, contains_head x xs, e)
-  | inr d ↦ let r = of_map f xs y d in (r.0, contains_tail x xs r.0 r.1, r.2)
-]
+-- items of a filtered list
 
 had : {A : Type 0} (b : Bool) (x y : A) (xs : List A) → Contains (cond b (x ∷ xs) xs) y → ((x ≡ y) × (b ≡ true)) ⊎ Contains xs y
 had true x y xs c = elim (contains_cases x xs y c) [ inl e ↦ inl (e, refl) | inr d ↦ inr d ]
@@ -80,7 +73,7 @@ filter_keeps test (x ∷ xs) y c e = elim (contains_cases x xs y c) [
 
 -- a place in the list of places is one of the list
 pub of_places : (list : List OldWeak) (p : Place) → Contains (places_of list) p → (weak : OldWeak) × Contains list weak × (place_of weak ≡ p)
-of_places list p c = of_map place_of list p c
+of_places list p c = let r = map_contains place_of list p c in (r.0, r.1, sym r.2)
 
 names_same : (list : List OldWeak) → map (λ (p : Place). p.name) (places_of list) ≡ names_of list
 names_same [] = refl
@@ -122,15 +115,15 @@ moved_few words moves =
 one_moved : (words : List ℕ) (moves : List Move) (weak : OldWeak) → Contains (moved_weaks words moves) weak → (m : Move) × Contains moves m × (listed_move m ≡ weak) × (is_alive_at words m.to.0 ≡ true)
 one_moved words moves weak c =
     let test : Move → Bool = λ (m : Move). is_alive_at words m.to.0 in
-    let r = of_map listed_move (filter test moves) weak c in
+    let r = map_contains listed_move (filter test moves) weak c in
     let f = filter_had test moves r.0 r.1 in
-    (r.0, f.0, r.2, f.1)
+    (r.0, f.0, sym r.2, f.1)
 
 name_moved : (words : List ℕ) (moves : List Move) (n : Name) → Contains (names_of (moved_weaks words moves)) n → Contains (map (λ (m : Move). m.name) moves) n
 name_moved words moves n c =
-    let r = of_map (λ (w : OldWeak). w.weak) (moved_weaks words moves) n c in
+    let r = map_contains (λ (w : OldWeak). w.weak) (moved_weaks words moves) n c in
     let m = one_moved words moves r.0 r.1 in
-    subst (λ (k : Name). Contains (map (λ (x : Move). x.name) moves) k) (ap (λ (w : OldWeak). w.weak) m.2 ∙ r.2) (contains_map (λ (x : Move). x.name) moves m.0 m.1)
+    subst (λ (k : Name). Contains (map (λ (x : Move). x.name) moves) k) (ap (λ (w : OldWeak). w.weak) m.2 ∙ sym r.2) (contains_map (λ (x : Move). x.name) moves m.0 m.1)
 
 order_kept : (b : Bool) (m : Move) (kept : List Move) → IsInOrder (names_of (map listed_move kept)) → ((n : Name) → Contains (names_of (map listed_move kept)) n → IsBefore m.name n) → IsInOrder (names_of (map listed_move (cond b (m ∷ kept) kept)))
 order_kept true m kept h first = in_order_cons m.name (names_of (map listed_move kept)) h first
@@ -237,10 +230,10 @@ module _ (left : LeavingLists) (joining : JoiningLists) (fresh : JoinersAreNew) 
           let in_b : Contains b.weaks.list x.0 = subst (λ (w : Weaks). Contains w.list x.0) (sym same) x.1 in
           subst (λ (y : Place). Contains (places_of new.weaks.list) y) x.2 (contains_map place_of new.weaks.list x.0 ((j.joins.list x.0).1 (inl in_b)));
       new_join = λ m c alive.
-          let x = of_map moved_of b.promotion.moves m c in
-          let at : IsAliveAt (words_in b.words) x.0.to.0 = subst (λ (y : Moved). IsAliveAt (words_in b.words) y.to) (sym x.2) alive in
+          let x = map_contains moved_of b.promotion.moves m c in
+          let at : IsAliveAt (words_in b.words) x.0.to.0 = subst (λ (y : Moved). IsAliveAt (words_in b.words) y.to) x.2 alive in
           let found = contains_map listed_move (filter (λ (z : Move). is_alive_at (words_in b.words) z.to.0) b.promotion.moves) x.0 (filter_keeps (λ (z : Move). is_alive_at (words_in b.words) z.to.0) b.promotion.moves x.0 x.1 (tests (words_in b.words) x.0.to.0 at)) in
-          subst (λ (y : Moved). Contains (places_of new.weaks.list) (new_place y)) x.2 (contains_map place_of new.weaks.list (listed_move x.0) ((j.joins.list (listed_move x.0)).1 (inr found)));
+          subst (λ (y : Moved). Contains (places_of new.weaks.list) (new_place y)) (sym x.2) (contains_map place_of new.weaks.list (listed_move x.0) ((j.joins.list (listed_move x.0)).1 (inr found)));
     }
 
     -- all of the collector as after the joining

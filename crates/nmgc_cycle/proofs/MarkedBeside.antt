@@ -3,6 +3,7 @@ use Rattle.std.proofs.Common.{◌≡◌, ◌≤◌, ◌⊎◌, ◌↔◌, List, 
 use Rattle.std.proofs.lemmas.Bool.{cases_lt}
 use Rattle.nmgc_core.specs.State.{State as Core}
 use Rattle.nmgc_reach.specs.Reachable.{IsSound}
+use Rattle.nmgc_heap.specs.laws.Kinds.{map_item}
 use Rattle.nmgc_graph.specs.declared.value.Name.{Name}
 use Rattle.nmgc_graph.specs.World.{World}
 use Rattle.nmgc_segment.specs.declared.state.State.TheVariants as stands
@@ -39,7 +40,6 @@ use Rattle.nmgc_cycle.specs.Cycles.{HasHelped, HasScanned}
 use Rattle.nmgc_cycle.specs.Keeps.{Sweeps}
 use Rattle.nmgc_cycle.specs.Shown.{seen, seen_mutator, died, phase_in, marker_in, work_in, sweeper_in, cycle_in}
 use Rattle.nmgc_cycle.specs.Working.{OpensIn}
-use Rattle.nmgc_cycle.proofs.Gathering.{mapped}
 use Rattle.nmgc_cycle.proofs.GoneOn.{HasLaws, HasGoneOn}
 use Rattle.nmgc_cycle.proofs.Opened.{in_cycle, rests_beside}
 use Rattle.nmgc_cycle.proofs.Over.{IsOver, plan, s, w, t, rows, places, told, last, shown, view, worked, can, queue_kept}
@@ -185,7 +185,7 @@ module _ (laws : HasLaws) (script : Script) (c new : Collector) (o : Opening) (x
     }
 
     entries : ShowEntries (shown script c new o x) new.mutators.items
-    entries i mutator is = let h = mapped seen_mutator new.mutators.items i mutator is in (h.0, h.1, ap (λ (y : MutatorSeen). y.entries) h.2)
+    entries i mutator is = let h = map_item seen_mutator new.mutators.items i mutator is in (h.0, h.1, ap (λ (y : MutatorSeen). y.entries) h.2)
 
     marks_on : IsMarking (with_rows k (rows script c new o x)) (t script c new o x (s script c new o x).allocation) (shown script c new o x) (places script c new o x)
     marks_on = laws.is_marking (layout script c new o x) k (s script c new o x) (t script c new o x (s script c new o x).allocation) (seen c) (shown script c new o x) (seen c).words x.did.words (ends_of (seen c)) (seen c).weaks o x.did.scans x.did.seats new.mutators.items x.did.done goes_on.0 n.last.scanned x.still.at_stop.heap x.did.leaves.0 x.did.sound sound opens.0 (opening_layout script c new o x) x.op.places_are snapshot refl refl x.did.gathers goes_on.1 marked tied left_as entries

@@ -70,7 +70,7 @@ module _ (left : List (List Command)) (none : (m : ℕ) → length (program_of l
   own_none config replies m = ap (λ (commands : List Command). answered m commands (slice_index_or replies m [])) (slice_none config m)
 
 -- sweeping files no segment by placing
-each_fresh : (Kept : Name → Type 0) (a b : AllocState) (numbers : List ℕ) → SweepsEach Kept a numbers b → b.fresh ≡ a.fresh
+pub each_fresh : (Kept : Name → Type 0) (a b : AllocState) (numbers : List ℕ) → SweepsEach Kept a numbers b → b.fresh ≡ a.fresh
 each_fresh Kept a b [] e = ap (λ (x : AllocState). x.fresh) e
 each_fresh Kept a b (number ∷ numbers) h = each_fresh Kept h.0 b numbers h.2 ∙ ap (λ (x : AllocState). x.fresh) h.1.others
 

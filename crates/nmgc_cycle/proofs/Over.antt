@@ -2,6 +2,7 @@
 use Rattle.std.proofs.Common.{ℕ, ◌≡◌, ◌+◌, ◌≤◌, List, [], ◌∷◌, ◌++◌, length, map, sym, ap, ◌∙◌, arith, Some, None}
 use Rattle.std.specs.Prelude.{slice_get, ◌||◌}
 use Rattle.std.proofs.lemmas.Option.{slice_get_within}
+use Rattle.nmgc_heap.specs.laws.Kinds.{map_item}
 use Rattle.nmgc_graph.specs.World.{World}
 use Rattle.nmgc_graph.specs.History.{Row}
 use Rattle.nmgc_graph.specs.declared.command.Reply.{Reply}
@@ -27,7 +28,6 @@ use Rattle.nmgc_cycle.specs.Keeps.{IsAfterStop}
 use Rattle.nmgc_cycle.specs.Shown.{seen, seen_mutator}
 use Rattle.nmgc_cycle.specs.Limits.{IsInLimits}
 use Rattle.nmgc_cycle.specs.Working.{OpensIn, DidSlice, DidSlices, replies_of}
-use Rattle.nmgc_cycle.proofs.Gathering.{mapped}
 use Rattle.nmgc_cycle.proofs.Items.{item}
 use Rattle.nmgc_cycle.proofs.Opened.{IsOpened}
 use Rattle.nmgc_cycle.proofs.RootLists.{seen_at}
@@ -110,9 +110,6 @@ module _ (script : Script) (c new : Collector) (o : Opening) (x : IsOver script 
   worked = x.did.gathers.worked
 
   -- there is a mutator and a list of what it did for each program
-  pub layout_planned : o.layout ≡ c.segments.layout
-  layout_planned = x.op.layout_is
-
   pub done_count : length x.did.done ≡ length script.threads
   done_count = worked.done_are ∙ ap (λ (l : Layout). l.mutators) (x.op.layout_is ∙ x.still.kept.layout)
 
@@ -130,7 +127,7 @@ module _ (script : Script) (c new : Collector) (o : Opening) (x : IsOver script 
   -- no finaliser queue has less room than at the stop
   pub queue_kept : (k : ℕ) (mutator : run.MutatorSeen) → slice_get shown.mutators k ≡ Some mutator → (m : Mutator) × (slice_get (seen c).mutators k ≡ Some (seen_mutator m)) × (m.queue.spare ≤ mutator.queue.spare)
   queue_kept k mutator e =
-      let n = mapped seen_mutator new.mutators.items k mutator e in
+      let n = map_item seen_mutator new.mutators.items k mutator e in
       let d = item x.did.done k (let within = slice_get_within new.mutators.items k n.0 n.1 in omega (arith, within, done_count, mutators_count)) in
       let h = one k d.0 d.1 in
       let there = h.3 in

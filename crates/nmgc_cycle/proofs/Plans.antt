@@ -3,13 +3,13 @@ use Rattle.std.proofs.Common.{ℕ, ◌≤◌, length}
 use Rattle.nmgc_limits.specs.Limits.{most_script_bytes}
 use Rattle.nmgc_object.specs.Places.{IsLayout}
 use Rattle.nmgc_script.specs.declared.script.Script.{Script}
-use Rattle.nmgc_run.specs.Limits.{HasGoodPlan, IsWithinLimits}
+use Rattle.nmgc_run.specs.Limits.{HasGoodPlan}
 use Rattle.nmgc_run.specs.Run.{Run, last_state}
 use Rattle.nmgc_run.specs.Slice.{program_of}
 use Rattle.nmgc_run.specs.Sound.{IsRunnable, IsSoundState}
 use Rattle.nmgc_run.specs.State.{plan_of, layout_of}
 use Rattle.nmgc_run.specs.laws.Crowding.{few_in_each, runnable_of}
-use Rattle.nmgc_run.specs.laws.Limits.{scripts_have_good_plans, states_are_within}
+use Rattle.nmgc_run.specs.laws.Limits.{scripts_have_good_plans}
 use Rattle.nmgc_run.specs.laws.Runs.{states_are_sound}
 use Rattle.nmgc_cycle.specs.declared.collector.Collector.{Collector}
 use Rattle.nmgc_cycle.specs.Keeps.{IsAfterStop}
@@ -29,9 +29,6 @@ pub is_layout : (script : Script) → IsInLimits script → IsLayout (layout_of 
 is_layout script limits = (good_plan script limits).layout
 
 module _ (script : Script) (c : Collector) (run : Run) (limits : IsInLimits script) (still : IsAfterStop script c run) where
-  -- the state of the last stop is sound, and within the limits
+  -- the state of the last stop is sound
   pub sound_state : IsSoundState (plan_of script) (last_state run)
   sound_state = states_are_sound (plan_of script) run (is_runnable script limits) still.at_stop.is_run
-
-  pub state_within : IsWithinLimits (plan_of script) (last_state run)
-  state_within = states_are_within (plan_of script) run (is_runnable script limits) (good_plan script limits).fit still.at_stop.is_run

@@ -7,7 +7,7 @@ use Rattle.nmgc_segment.specs.declared.state.State.{State}
 use Rattle.nmgc_segment.specs.declared.state.State.TheVariants.{Free, Current, Active, Filled, Sweeping}
 use Rattle.nmgc_alloc.specs.Search.{nth}
 use Rattle.nmgc_alloc.specs.Segments.{Segments, IsMember, IsSegments, IsCurrent, IsOwn}
-use Rattle.nmgc_alloc.specs.Turns.{prepared, prepared_state, prepared_snap}
+use Rattle.nmgc_alloc.specs.CycleSteps.{prepared, prepared_state, prepared_snap}
 use Rattle.nmgc_alloc.specs.laws.Numbers.{nth-map}
 use Rattle.nmgc_beside.specs.Prepares.{all_prepared}
 

@@ -144,7 +144,7 @@ module _ (laws : HasPromotionLaws) (script : Script) (old new : Collector) (kept
         record {
           world = b.sound.world;
           able = record { programs = b.sound.able.programs; mutators = b.sound.able.mutators; registers = b.sound.able.registers; serials = b.sound.able.serials };
-          filed = places_filed (layout_of plan) s.world s.allocation t.allocation promotes.names b.sound.world promotes.places promotes.lists.ordered (λ n c. young_fresh b.began s.allocation b.sound.known n (promotes.lists.sound n c).0.0) b.sound.filed;
+          sound_blocks = places_filed (layout_of plan) s.world s.allocation t.allocation promotes.names b.sound.world promotes.places promotes.lists.ordered (λ n c. young_fresh b.began s.allocation b.sound.known n (promotes.lists.sound n c).0.0) b.sound.sound_blocks;
           known = lies_known;
           cycle = cycle_then s.progress s.world s.allocation t.allocation same_waits b.sound.cycle;
           earlier = b.sound.earlier;
@@ -218,8 +218,8 @@ module _ (laws : HasPromotionLaws) (script : Script) (old new : Collector) (kept
       h.2,
     )
     sweeper (sweeping k closed) h =
-        let work = laws.work k closed (seen old).words (words_in new.words) s.allocation t.allocation old.segments new.segments (seen old).cycle (sweeper_in old.progress) h.1 h.0.left (after.placed script old new kept b p).2 keeps in
-        (record { notes = h.0.notes; left = work.1 }, subst (λ (x : CycleSeen). IsAtWork k closed (words_in new.words) t.allocation new.segments x (sweeper_in old.progress)) (sym cycle_same) work.0)
+        let work = laws.work k closed (seen old).words (words_in new.words) s.allocation t.allocation old.segments new.segments (seen old).cycle (sweeper_in old.progress) h.1 h.0 (after.placed script old new kept b p).2 keeps in
+        (work.1, subst (λ (x : CycleSeen). IsAtWork k closed (words_in new.words) t.allocation new.segments x (sweeper_in old.progress)) (sym cycle_same) work.0)
 
     -- what is kept
 

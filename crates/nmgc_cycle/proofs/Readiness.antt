@@ -12,7 +12,7 @@ use Rattle.nmgc_round.specs.Seat.{RoundSeat, IsAt, seen, opening_of}
 use Rattle.nmgc_round.specs.Seating.{alone, alones}
 use Rattle.nmgc_round.specs.Starting.{CanOpen}
 use Rattle.nmgc_mutator.specs.declared.mutator.Mutator.{Mutator}
-use Rattle.nmgc_mutator.specs.Ready.{IsReady, IsWhole, IsUnused, Holds}
+use Rattle.nmgc_mutator.specs.Ready.{IsReady, IsWhole, IsUnused, HasHand}
 use Rattle.nmgc_turn.specs.Rest as rest
 use Rattle.nmgc_script.specs.declared.script.Script.{Script}
 use Rattle.nmgc_run.specs.Run.{Run}
@@ -30,7 +30,7 @@ use Rattle.nmgc_cycle.proofs.Resting.{resting}
 
 -- the law of mutators that this rests on
 abbrev pub BeginReady : Type 0
-BeginReady = (o : Opening) (words : List ℕ) (round : Round) (seat : RoundSeat) (m : Mutator) → CanOpen o words → opening_of round ≡ o → IsAt round seat → seen seat ≡ alone o m.number → o.layout ≡ m.layout → IsWhole m → IsUnused m → Holds (hand_of o.hands m.number) m → IsReady round seat m
+BeginReady = (o : Opening) (words : List ℕ) (round : Round) (seat : RoundSeat) (m : Mutator) → CanOpen o words → opening_of round ≡ o → IsAt round seat → seen seat ≡ alone o m.number → o.layout ≡ m.layout → IsWhole m → IsUnused m → HasHand (hand_of o.hands m.number) m → IsReady round seat m
 
 -- the seats that a round begins with, by their numbers
 alones_at : (o : Opening) (m : ℕ) (hands : List Hand) (k : ℕ) → k < length hands → slice_get (alones o m hands) k ≡ Some (alone o (m + k))
@@ -95,7 +95,7 @@ module _ (begin : BeginReady) (script : Script) (c : Collector) (run : Run) (lim
       let r = resting script c run limits still k m e in
       let hand : hand_of o.hands m.number ≡ own_hand m = ap (λ (hs : List Hand). hand_of hs m.number) hands ∙ ap (hand_of (map own_hand c.mutators.items)) r.number_is ∙ get_or_from_slice_get (map own_hand c.mutators.items) k (own_hand m) no_hand (slice_get-map own_hand c.mutators.items k ∙ ap (option_map own_hand) e) in
       let place : IsAt round seat = of_item (IsAt round) seats k seat has.at f in
-      begin o words round seat m can has.opened place (seat_alone c.mutators.items o hands round seats has k seat f ∙ ap (alone o) (sym r.number_is)) (op.layout_is ∙ sym r.layout_is) r.whole r.unused (subst (λ (h : Hand). Holds h m) (sym hand) (record { registers = refl; queue = refl; serial = refl }))
+      begin o words round seat m can has.opened place (seat_alone c.mutators.items o hands round seats has k seat f ∙ ap (alone o) (sym r.number_is)) (op.layout_is ∙ sym r.layout_is) r.whole r.unused (subst (λ (h : Hand). HasHand h m) (sym hand) (record { registers = refl; queue = refl; serial = refl }))
 
   pub can_all_work : HaveSliceRoom script c → CanAllWork round script c.positions.items (workers_of c.mutators.items seats)
   can_all_work room = record {

@@ -66,7 +66,7 @@ reserved_seen old new r = same_maps seen_mutator seen_mutator new old r.count (�
 pub sweeps_on : (p : Progress) (s : State) (c : Collector) (mutators : Vec Mutator Global) → Sweeps p s c → Sweeps p s (record c { mutators = mutators })
 sweeps_on idle s c mutators h = h
 sweeps_on (marking k) s c mutators h = (record { notes = h.0.notes; left = h.0.left }, h.1, h.2)
-sweeps_on (sweeping k closed) s c mutators h = (record { notes = h.0.notes; left = h.0.left }, h.1)
+sweeps_on (sweeping k closed) s c mutators h = h
 
 -- nor of how many stops may follow
 follow_on : (Nothing : Type 0) (script : Script) (c : Collector) (mutators : Vec Mutator Global) (count : ℕ) → MayFollow Nothing script c count → MayFollow Nothing script (record c { mutators = mutators }) count

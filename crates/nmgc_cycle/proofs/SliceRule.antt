@@ -32,9 +32,6 @@ does_end c h = absurd h
 is_next_true : (commands words : ℕ) (c : Command) → 0 < commands → words_made c ≤ words → is_next commands words c ≡ true
 is_next_true commands words c some fits = search (rules, arith)
 
-is_next_none : (words : ℕ) (c : Command) → is_next 0 words c ≡ false
-is_next_none words c = refl
-
 is_next_full : (commands words : ℕ) (c : Command) → words < words_made c → is_next commands words c ≡ false
 is_next_full commands words c full = search (rules, arith)
 

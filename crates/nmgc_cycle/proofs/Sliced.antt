@@ -12,6 +12,7 @@ use Rattle.nmgc_round.specs.View.{Opening}
 use Rattle.nmgc_mutator.specs.declared.mutator.Mutator.{Mutator}
 use Rattle.nmgc_turn.specs.Worked.{Done}
 use Rattle.nmgc_script.specs.declared.script.Script.{Script}
+use Rattle.nmgc_heap.specs.laws.Kinds.{map_item}
 use Rattle.nmgc_run.specs.Run.{Run}
 use Rattle.nmgc_run.specs.Slice.{program_of, some_asks, is_collect, is_full}
 use Rattle.nmgc_cycle.specs.declared.collector.Collector.{Collector}
@@ -21,7 +22,7 @@ use Rattle.nmgc_cycle.specs.Keeps.{IsAfterStop}
 use Rattle.nmgc_cycle.specs.Limits.{IsInLimits}
 use Rattle.nmgc_cycle.specs.Working.{asks_of, asks_full_of, left_at, commands_in, mutator_of, done_by, DidSlice}
 use Rattle.nmgc_cycle.proofs.Asking.{same_any, any_mapped}
-use Rattle.nmgc_cycle.proofs.Gathering.{AllDid, OneDid, mapped}
+use Rattle.nmgc_cycle.proofs.Gathering.{AllDid, OneDid}
 use Rattle.nmgc_cycle.proofs.Items.{item}
 use Rattle.nmgc_cycle.proofs.Plans.{program_few}
 use Rattle.nmgc_cycle.proofs.Positions.{position_within}
@@ -78,7 +79,7 @@ module _ (script : Script) (c : Collector) (run : Run) (limits : IsInLimits scri
   -- each did its slice
   pub each_did : (words : Option (List ℕ)) (segments : Segments) (progress : held.Progress) (collect asked : Bool) (mutators : Vec Mutator Global) (positions : Vec ℕ Global) → mutators.items ≡ map mutator_of new → ((k : ℕ) → k < length c.positions.items → slice_index positions.items k ≡ slice_index c.positions.items k + slice_index (map done_by new) k) → (k : ℕ) (m n : Mutator) (d : List Done) → slice_get c.mutators.items k ≡ Some m → slice_get mutators.items k ≡ Some n → slice_get did.done k ≡ Some d → DidSlice script c (record c { words = words; segments = segments; progress = progress; collect = collect; full = asked; mutators = mutators; positions = positions }) k m n d
   each_did words segments progress collect asked mutators positions same moved k m n d e f g =
-      let x = mapped mutator_of new k n (ap (λ (l : List Mutator). slice_get l k) (sym same) ∙ f) in
+      let x = map_item mutator_of new k n (ap (λ (l : List Mutator). slice_get l k) (sym same) ∙ f) in
       let h = did.each k x.0 d x.1 g in
       let old_is = h.old_is in
       let old : h.old ≡ m = cc (old_is, e) in

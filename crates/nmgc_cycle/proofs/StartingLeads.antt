@@ -196,7 +196,7 @@ module _ (laws : BeginningLaws) (script : Script) (c : Collector) (s : State) (h
   sound_then = record {
     world = h.sound.world;
     able = record { programs = h.sound.able.programs; mutators = h.sound.able.mutators; registers = h.sound.able.registers; serials = h.sound.able.serials };
-    filed = begun_filed plan s.allocation h.sound.filed;
+    sound_blocks = begun_filed plan s.allocation h.sound.sound_blocks;
     known = λ number block n lies. h.sound.known number block n ((begun_names s.allocation number block n).0 lies);
     cycle = (record { world = h.sound.world; rows = tt }, refl, λ number block n is lies. h.sound.known number block n ((begun_names s.allocation number block n).0 lies));
     earlier = λ e held. elim (contains_cases s.world [] e held) [
@@ -235,7 +235,7 @@ module _ (laws : BeginningLaws) (script : Script) (c : Collector) (s : State) (h
   begun_then = subst (λ (n : ℕ). HasBegun (all_prepared c.segments) words n mk.sweeper) epoch_is st.sweeper
 
   notes : HasNotes k mk.sweeper
-  notes = laws.noted k words (all_prepared c.segments) (epoch_of (s.begun + 1)) mk.sweeper (prepared_shown laws.prepares laws.begins script c s h at) no_wait h.sound.filed.once refl begun_then
+  notes = laws.noted k words (all_prepared c.segments) (epoch_of (s.begun + 1)) mk.sweeper (prepared_shown laws.prepares laws.begins script c s h at) no_wait h.sound.sound_blocks.once refl begun_then
 
   left_then : AreLeft segments mk.sweeper.left
   left_then = laws.left (all_prepared c.segments) segments mk.sweeper.left (laws.waits (all_prepared c.segments) segments words words (cycle_begun s.allocation) (prepared_shown laws.prepares laws.begins script c s h at) stands_then) begun_then.left

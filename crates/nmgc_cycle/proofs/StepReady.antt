@@ -19,7 +19,7 @@ use Rattle.nmgc_cycle.specs.Keeps.{HasClosingRoom}
 use Rattle.nmgc_cycle.specs.Shown.{seen_mutator}
 use Rattle.nmgc_alloc.specs.AllocState.{AllocState, StandsFor, NoneIs, IsIn, cycle_begun}
 use Rattle.nmgc_alloc.specs.Segments.{Segments, HasNone}
-use Rattle.nmgc_alloc.specs.declared.search.Wanted.TheVariants as wanted
+use Rattle.nmgc_alloc.specs.declared.search.Sought.TheVariants as sought
 use Rattle.nmgc_alloc.specs.laws.Turning.{prepared_stands}
 use Rattle.nmgc_beside.specs.Heaps.{AreShown, HeapRests}
 use Rattle.nmgc_beside.specs.Prepares.{StopIsPrepared, all_prepared}
@@ -152,7 +152,7 @@ idle_state (marking k) e = absurd (let bad : phase.Idle ≡ phase.Marking = e in
 idle_state (sweeping k closed) e = absurd (let bad : phase.Idle ≡ phase.Sweeping = e in cc)
 
 -- where no segment waits by the allocation state, none does
-none_back : (segments : Segments) (words : List ℕ) (a : AllocState) → StandsFor segments words a → NoneIs (IsIn stands.Sweeping) a → HasNone wanted.Sweeping segments
+pub none_back : (segments : Segments) (words : List ℕ) (a : AllocState) → StandsFor segments words a → NoneIs (IsIn stands.Sweeping) a → HasNone sought.Sweeping segments
 none_back segments words a st none i lt waits = none i (let count = st.count in omega (arith, count, lt)) ((st.shows i lt).state ∙ waits)
 
 module _ (prepares : StopIsPrepared) (begins : PreparedBegins) (script : Script) (c : Collector) (s : State) (h : StandsAt script c s) (at : c.progress ≡ doing.Idle) where

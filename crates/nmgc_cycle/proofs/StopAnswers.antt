@@ -1,85 +1,25 @@
 -- What a collector has once a stop has answered.
-use Rattle.std.proofs.Common.{ℕ, ◌≡◌, ◌<◌, ◌≤◌, List, [], ◌∷◌, ◌++◌, sym, ap, subst, ◌∙◌, true, false, Option, Some, None}
+use Rattle.std.proofs.Common.{ℕ, ◌≡◌, ◌<◌, ◌≤◌, List, [], ◌∷◌, ◌++◌, refl, sym, ap, subst, ◌∙◌, true, false, Option, Some, None}
 use Rattle.nmgc_journal.specs.declared.report.CycleRow.{CycleRow}
 use Rattle.nmgc_journal.specs.declared.report.End.{End}
 use Rattle.nmgc_journal.specs.declared.report.End.TheVariants as end
 use Rattle.nmgc_journal.specs.declared.report.RoundRows.{RoundRows}
 use Rattle.nmgc_journal.specs.declared.report.StopRow.{StopRow}
-use Rattle.nmgc_heap.specs.Places.{Place}
 use Rattle.nmgc_script.specs.declared.script.Script.{Script}
-use Rattle.nmgc_run.specs.Collector.{HoldsInCycle, IsPacedAtStop}
 use Rattle.nmgc_run.specs.Run.{Tells, last_state}
 use Rattle.nmgc_run.specs.Slice.{has_left}
-use Rattle.nmgc_run.specs.State.{Plan, State, Cycle, Progress, idle, marking, sweeping, is_idle, plan_of, free_count, reserve_of}
+use Rattle.nmgc_run.specs.State.{Plan, State, is_idle, plan_of, free_count, reserve_of}
 use Rattle.nmgc_run.specs.Stop.{IsStop, stop_row, answer_of}
 use Rattle.nmgc_cycle.specs.declared.collector.Collector.{Collector}
 use Rattle.nmgc_cycle.specs.Bound.{AreFewAtStop}
-use Rattle.nmgc_cycle.specs.Keeps.{IsWellFormed, IsAfterStop, Sweeps}
-use Rattle.nmgc_cycle.specs.Shown.{seen}
+use Rattle.nmgc_cycle.specs.Keeps.{IsAfterStop}
 use Rattle.nmgc_cycle.specs.Steps.{StandsAt}
 use Rattle.nmgc_cycle.proofs.Begins.{Begins, IsToldBut}
 use Rattle.nmgc_cycle.proofs.StopFew.{few_at_stop}
 use Rattle.nmgc_cycle.proofs.StopSteps.{IsLed}
 use Rattle.nmgc_cycle.proofs.Stopped.{is_short_by, is_enough_by, answers_done, answers_on, answers_none, answers_full}
+use Rattle.nmgc_cycle.proofs.Telling.{stands_told}
 use Rattle.nmgc_cycle.proofs.WholeStop.{whole_stop}
-
--- its row and its answer change nothing of what a collector stands for
-module _ (script : Script) (c : Collector) (stops : List StopRow) (answered : Option End) (s : State) where
-  abbrev told : Collector
-  told = record c { stops = stops; answered = answered }
-
-  told_cycle : (q : Progress) (places : List Place) → HoldsInCycle (λ (k : Cycle). IsPacedAtStop script.config.quota k s (seen c)) q s (seen c) places → HoldsInCycle (λ (k : Cycle). IsPacedAtStop script.config.quota k s (seen told)) q s (seen told) places
-  told_cycle idle places h = h
-  told_cycle (marking k) places h = (
-    record {
-      core = h.0.core;
-      machine = h.0.machine;
-      tied = h.0.tied;
-      remembered = h.0.remembered;
-      low = h.0.low;
-      room = h.0.room;
-      queue_room = h.0.queue_room;
-      from_is = h.0.from_is;
-      noted = h.0.noted;
-    },
-    record { scanned = h.1.scanned; not_done = h.1.not_done },
-  )
-  told_cycle (sweeping k closed) places h = h
-
-  told_sweeper : (q : Progress) → Sweeps q s c → Sweeps q s told
-  told_sweeper idle h = tt
-  told_sweeper (marking k) h = (record { notes = h.0.notes; left = h.0.left }, h.1, h.2)
-  told_sweeper (sweeping k closed) h = (record { notes = h.0.notes; left = h.0.left }, h.1)
-
-  told_kept : IsWellFormed script c → IsWellFormed script told
-  told_kept k = record {
-    layout = k.layout;
-    sound = k.sound;
-    lists = k.lists;
-    has_words = k.has_words;
-    list = k.list;
-    count = k.count;
-    own = λ n m e. let o = k.own n m e in record { number = o.number; layout = o.layout; whole = o.whole; no_replies = o.no_replies };
-    positions_are = k.positions_are;
-    positions = k.positions;
-    no_ends = k.no_ends;
-    room = k.room;
-  }
-
-  pub told_stands : StandsAt script c s → StandsAt script told s
-  told_stands h = record {
-    kept = told_kept h.kept;
-    sound = h.sound;
-    course = h.course;
-    matches = record { phase = h.matches.phase; begun = h.matches.begun; collect = h.matches.collect; full = h.matches.full };
-    heap = h.heap;
-    nurseries = h.nurseries;
-    empty = h.empty;
-    rest = h.rest;
-    cycle = told_cycle s.progress h.heap.places h.cycle;
-    closing = h.closing;
-    sweeper = told_sweeper s.progress h.sweeper;
-  }
 
 -- with a run that came to a state for which it stands, a collector is still
 still : (script : Script) (c : Collector) (rounds : List RoundRows) (stops : List StopRow) (cycles : List CycleRow) (row : StopRow) (t : State) → c.rounds ≡ rounds → c.stops ≡ stops ++ row ∷ [] → c.cycles ≡ cycles → (told : IsToldBut (plan_of script) rounds stops cycles row t) → StandsAt script c t → AreFewAtStop script c → c.answered ≡ answer_of (plan_of script) t → IsAfterStop script c told.run
@@ -121,7 +61,7 @@ module _ (script : Script) (old new : Collector) (b : Begins script old) (many :
   last = record new { stops = stops; answered = answered }
 
   stands : StandsAt script last t
-  stands = told_stands script new stops answered t led.stands
+  stands = stands_told script new last t t refl refl led.stands.matches.collect led.stands.matches.full led.stands
 
   few : AreFewAtStop script last
   few = subst (λ (rows : List StopRow). AreFewAtStop script (record new { stops = rows; answered = answered })) (sym stops_are) (few_at_stop script new old.stops row answered led.few led.begun led.more)

@@ -19,11 +19,9 @@ use Rattle.nmgc_run.specs.State.{free_count as run_free, reserve_of, plan_of}
 use Rattle.nmgc_run.specs.Statements.{answered_count}
 use Rattle.nmgc_run.specs.Stop.{stop_row}
 use Rattle.nmgc_cycle.specs.declared.collector.Collector.{Collector}
-use Rattle.nmgc_cycle.specs.declared.progress.Progress.{Progress as Doing}
-use Rattle.nmgc_cycle.specs.declared.progress.Progress.TheVariants as doing
 use Rattle.nmgc_cycle.specs.declared.stop.StopEnd.{StopEnd}
 use Rattle.nmgc_cycle.specs.declared.stop.StopEnd.TheVariants as answer
-use Rattle.nmgc_cycle.specs.Cycles.{HasTaken, HasClosed, Ends}
+use Rattle.nmgc_cycle.specs.Cycles.{HasTaken, Closes, HasClosed, Ends}
 use Rattle.nmgc_cycle.specs.Full.{Proceeds as ProceedsThen}
 use Rattle.nmgc_cycle.specs.Keeps.{CanStop, IsAfterStop, HasStopped, HasAnswered, HasWorked, StopsAfter}
 use Rattle.nmgc_cycle.specs.Shown.{phase_in, words_in}
@@ -31,6 +29,7 @@ use Rattle.nmgc_cycle.specs.Limits.{IsInLimits}
 use Rattle.nmgc_cycle.specs.StopLaws.{HasStopLaws}
 use Rattle.nmgc_cycle.specs.Stopping.{HasPromoted, HasListed, SomeIsLeft, IsDone, IsHeapFullAt, ended_by}
 use Rattle.nmgc_cycle.proofs.Begins.{Begins, begins, one_turn}
+use Rattle.nmgc_cycle.proofs.Phases.{when_idle}
 use Rattle.nmgc_cycle.proofs.StopAnswers.{Goes, done, on, goes_on, full}
 use Rattle.nmgc_cycle.proofs.StopSteps as steps
 use Rattle.nmgc_cycle.proofs.StopSteps.{IsLed, proceeds_told}
@@ -47,7 +46,7 @@ pub record IsStepped (script : Script) (old new : Collector) : Type 0 where
   pub added : Collector
   pub adds : HasTaken promoted added
   pub closed : Collector
-  pub closes : HasClosed number added closed
+  pub closes : HasClosed Closes number added closed
   pub ended : Collector
   pub ends : Ends number closed.progress closed ended
   pub some : Bool
@@ -83,11 +82,6 @@ Why script c r answer.GoOn = ((r.left ≡ true) × (r.reserve ≤ r.free)) ⊎ (
 
 -- the answer and its causes
 
-idle_in : (p : Doing) → phase_in p ≡ phase.Idle → p ≡ doing.Idle
-idle_in doing.Idle e = refl
-idle_in (doing.Marking m) e = absurd (let bad : phase.Marking ≡ phase.Idle = e in cc)
-idle_in (doing.Sweeping w) e = absurd (let bad : phase.Sweeping ≡ phase.Idle = e in cc)
-
 module _ (script : Script) (c : Collector) (r : IsRead script c) where
   -- commands are left exactly where that was read
   none_left : r.left ≡ false → SomeIsLeft script.threads c.positions.items → ⊥
@@ -107,7 +101,7 @@ module _ (script : Script) (c : Collector) (r : IsRead script c) where
       omega (arith, free_is, reserve_is, less, own, kept, more)
 
   pub done_where : (e : StopEnd) → Why script c r e → (e ≡ answer.Done) ↔ IsDone script c
-  done_where answer.Done why = ((λ e. (none_left why.0, idle_in c.progress why.1)), λ d. refl)
+  done_where answer.Done why = ((λ e. (none_left why.0, when_idle c.progress why.1)), λ d. refl)
   done_where (answer.HeapFull free reserve) why = ((λ e. absurd (let bad : answer.HeapFull free reserve ≡ answer.Done = e in cc)), λ d. absurd (some_left why.2 d.0))
   done_where answer.GoOn (inl why) = ((λ e. absurd (let bad : answer.GoOn ≡ answer.Done = e in cc)), λ d. absurd (some_left why.0 d.0))
   done_where answer.GoOn (inr why) = ((λ e. absurd (let bad : answer.GoOn ≡ answer.Done = e in cc)), λ d. absurd (why.1 (ap phase_in d.1)))

@@ -4,8 +4,8 @@ use Rattle.std.specs.Prelude.{if◌then◌else◌, Contains, IsSome, Option}
 use Rattle.std.proofs.lemmas.Bool.{cases_lt}
 use Rattle.std.proofs.lemmas.List.{get_or_past}
 use Rattle.nmgc_alloc.specs.AllocState.{AllocState, StandsFor}
-use Rattle.nmgc_alloc.specs.Segments.{Segments, HasNone}
-use Rattle.nmgc_alloc.specs.declared.search.Wanted.TheVariants as wanted
+use Rattle.nmgc_alloc.specs.Segments.{Segments, HasNone, IsWaiting}
+use Rattle.nmgc_alloc.specs.declared.search.Sought.TheVariants as sought
 use Rattle.nmgc_segment.specs.Segment.{Segment, free_segment}
 use Rattle.nmgc_segment.specs.declared.state.State.TheVariants as stands
 use Rattle.nmgc_blocks.specs.Promoted.{IsPromoted, PlacesEach}
@@ -20,7 +20,7 @@ use Rattle.nmgc_journal.specs.declared.report.RoundRows.{RoundRows}
 use Rattle.nmgc_journal.specs.declared.report.StopRow.{StopRow}
 use Rattle.nmgc_script.specs.declared.script.Script.{Script}
 use Rattle.nmgc_sweep.specs.declared.notes.Section.{Section}
-use Rattle.nmgc_sweep.specs.Sweeper.{AreLeft, IsWaiting, HasStood, numbers_of}
+use Rattle.nmgc_sweep.specs.Sweeper.{AreLeft, HasStood, numbers_of}
 use Rattle.nmgc_run.specs.Listing.{Ascends}
 use Rattle.nmgc_run.specs.Promotion.{Promotes}
 use Rattle.nmgc_run.specs.State.{State}
@@ -134,14 +134,14 @@ left_few segments left h =
     omega (arith, few, many)
 
 -- where none is left none waits
-pub none_waits : (segments : Segments) (left : List Section) → AreLeft segments left → length left ≡ 0 → HasNone wanted.Sweeping segments
+pub none_waits : (segments : Segments) (left : List Section) → AreLeft segments left → length left ≡ 0 → HasNone sought.Sweeping segments
 none_waits segments left h none i lt waits =
     let there = h.complete i waits in
     let in_it = there.1 in
     let many = numbers_many left in
     omega (arith, in_it, many, none)
 
-module _ (script : Script) (old new : Collector) (stops stop : ℕ) (words : List ℕ) (a : AllocState) (st : StandsFor old.segments words a) (count : length old.segments.segments ≡ script.config.segments) (waiting : (m : Marking) → old.progress ≡ doing.Marking m → AreLeft old.segments m.sweeper.left) (closed : HasClosed stop old new) where
+module _ (script : Script) (old new : Collector) (stops stop : ℕ) (words : List ℕ) (a : AllocState) (st : StandsFor old.segments words a) (count : length old.segments.segments ≡ script.config.segments) (waiting : (m : Marking) → old.progress ≡ doing.Marking m → AreLeft old.segments m.sweeper.left) (closed : HasClosed Closes stop old new) where
   Closed : Type 0
   Closed = (phase_left script.config.segments new.progress ≤ phase_left script.config.segments old.progress) × (new.segments.fresh ≡ old.segments.fresh)
 
@@ -187,7 +187,7 @@ goes_by stop (doing.Sweeping w) old new was h m is = absurd (let bad : doing.Swe
 goes_by stop (doing.Marking n) old new was (inl h) m is = absurd (let bad : doing.Sweeping h.1.0 ≡ doing.Marking m = sym h.1.1 ∙ is in cc)
 goes_by stop (doing.Marking n) old new was (inr h) m is = ap (λ (x : Doing). (work_in x).empty) (sym is ∙ ap (λ (c : Collector). c.progress) h.1 ∙ was) ∙ h.0
 
-pub closing_goes : (stop : ℕ) (old new : Collector) → HasClosed stop old new → (m : Marking) → new.progress ≡ doing.Marking m → m.last.empty ≡ false
+pub closing_goes : (stop : ℕ) (old new : Collector) → HasClosed Closes stop old new → (m : Marking) → new.progress ≡ doing.Marking m → m.last.empty ≡ false
 closing_goes stop old new closed m is = goes_by stop old.progress old new refl closed.closes m is
 
 -- The end of a cycle

@@ -7,18 +7,18 @@ use Rattle.nmgc_journal.specs.declared.report.CycleRow.{CycleRow}
 use Rattle.nmgc_script.specs.declared.script.Config.{Config}
 use Rattle.nmgc_run.specs.State.{Plan, State, Progress, idle, marking, sweeping, cycle_started}
 use Rattle.nmgc_run.specs.Closing.{ClosesOrWaits, ClosesNow}
-use Rattle.nmgc_run.specs.Stop.{IsStop, EndsOrWaits, Finishes, DoesFullCycle, BeginsOrWaits, Proceeds, all_filed}
+use Rattle.nmgc_run.specs.Stop.{IsStop, EndsOrWaits, Finishes, DoesFullCycle, BeginsOrWaits, Proceeds, with_all_retired}
 use Rattle.nmgc_journal.specs.declared.report.RoundRows.{RoundRows}
 use Rattle.nmgc_run.specs.Run.{Run, Turn, IsRun, AreTurns, Tells, state_after, last_state}
 
 same_number : (s t : State) → t ≡ s → t.number ≡ s.number
 same_number s t e = ap (λ (x : State). x.number) e
 
-closing_number : (quota : ℕ) (forced : Type 0) (p : Progress) (s t : State) → ClosesOrWaits quota forced p s t → t.number ≡ s.number
-closing_number quota forced idle s t e = same_number s t e
-closing_number quota forced (marking c) s t (inl e) = same_number s t e
-closing_number quota forced (marking c) s t (inr h) = ap (λ (x : State). x.number) h.0.rest
-closing_number quota forced (sweeping c closed) s t e = same_number s t e
+closing_number : (quota : ℕ) (p : Progress) (s t : State) → ClosesOrWaits quota p s t → t.number ≡ s.number
+closing_number quota idle s t e = same_number s t e
+closing_number quota (marking c) s t (inl e) = same_number s t e
+closing_number quota (marking c) s t (inr h) = ap (λ (x : State). x.number) h.0.rest
+closing_number quota (sweeping c closed) s t e = same_number s t e
 
 closed_number : (p : Progress) (s t : State) → ClosesNow p s t → t.number ≡ s.number
 closed_number idle s t e = same_number s t e
@@ -35,7 +35,7 @@ finished_number : (s t : State) (cycles : List CycleRow) → Finishes s t cycles
 finished_number s t cycles h = ending_number h.swept.progress h.swept t cycles h.ends ∙ ap (λ (x : State). x.number) h.others ∙ closed_number s.progress s h.closed h.closes
 
 full_number : (s t : State) (cycles : List CycleRow) → DoesFullCycle s t cycles → t.number ≡ s.number
-full_number s t cycles h = ap (λ (x : State). x.number) h.rest ∙ finished_number (cycle_started (all_filed h.idled)) h.last h.own h.again ∙ finished_number s h.idled h.before h.finishes
+full_number s t cycles h = ap (λ (x : State). x.number) h.rest ∙ finished_number (cycle_started (with_all_retired h.idled)) h.last h.own h.again ∙ finished_number s h.idled h.before h.finishes
 
 beginning_number : (config : Config) (s t : State) → BeginsOrWaits config s t → t.number ≡ s.number
 beginning_number config s t (inl h) = ap (λ (x : State). x.number) h.1
@@ -50,7 +50,7 @@ pub stop_number : (plan : Plan) (began : World) (s t : State) (row : StopRow) (c
 stop_number plan began s t row cycles h =
     proceeding_number plan h.ended t h.more h.proceeds
     ∙ ending_number h.closed.progress h.closed h.ended h.first h.ends
-    ∙ closing_number plan.config.quota _ h.promoted.progress h.promoted h.closed h.closes
+    ∙ closing_number plan.config.quota h.promoted.progress h.promoted h.closed h.closes
     ∙ ap (λ (x : State). x.number) h.promotes.rest
 
 turns_number : (plan : Plan) (s : State) (turns : List Turn) → AreTurns plan s turns → (state_after s turns).number ≡ s.number + length turns

@@ -20,7 +20,7 @@ use Rattle.nmgc_cycle.specs.declared.progress.Marking.{Marking}
 use Rattle.nmgc_cycle.specs.declared.progress.Sweeping.{Sweeping}
 use Rattle.nmgc_cycle.specs.declared.progress.Progress.{Progress as Doing}
 use Rattle.nmgc_cycle.specs.declared.progress.Progress.TheVariants as doing
-use Rattle.nmgc_cycle.specs.Cycles.{HasTaken, HasClosed, Ends, Begins as BeginsThen}
+use Rattle.nmgc_cycle.specs.Cycles.{HasTaken, Closes, HasClosed, Ends, Begins as BeginsThen}
 use Rattle.nmgc_cycle.specs.Bound.{AreFew, HasMore}
 use Rattle.nmgc_cycle.specs.Full.{HasFinished, Proceeds as ProceedsThen}
 use Rattle.nmgc_cycle.specs.FullLaws.{StandsAtStop}
@@ -70,7 +70,7 @@ pub record IsLed (script : Script) (began : World) (s : State) (many : ℕ) (old
   pub promoted : State
   pub promotes : Promotes (layout_of (plan_of script)) began s promoted many
   pub closed : State
-  pub closes : ClosesOrWaits script.config.quota ⊥ promoted.progress promoted closed
+  pub closes : ClosesOrWaits script.config.quota promoted.progress promoted closed
   pub ended : State
   pub first : List CycleRow
   pub ends : EndsOrWaits closed.progress closed ended first
@@ -89,12 +89,12 @@ pub record IsLed (script : Script) (began : World) (s : State) (many : ℕ) (old
 left_marking : (s : State) (c : Collector) (q : Progress) → phase_in c.progress ≡ phase_of q → Sweeps q s c → (m : Marking) → c.progress ≡ doing.Marking m → AreLeft c.segments m.sweeper.left
 left_marking s c idle e h m is = absurd (let bad : phase.Marking ≡ phase.Idle = ap phase_in (sym is) ∙ e in cc)
 left_marking s c (marking k) e h m is = subst (λ (p : Doing). AreLeft c.segments (sweeper_in p).left) is h.0.left
-left_marking s c (sweeping k closed) e h m is = subst (λ (p : Doing). AreLeft c.segments (sweeper_in p).left) is h.0.left
+left_marking s c (sweeping k closed) e h m is = subst (λ (p : Doing). AreLeft c.segments (sweeper_in p).left) is h.0
 
 left_sweeping : (s : State) (c : Collector) (q : Progress) → phase_in c.progress ≡ phase_of q → Sweeps q s c → (w : Sweeping) → c.progress ≡ doing.Sweeping w → AreLeft c.segments w.sweeper.left
 left_sweeping s c idle e h w is = absurd (let bad : phase.Sweeping ≡ phase.Idle = ap phase_in (sym is) ∙ e in cc)
 left_sweeping s c (marking k) e h w is = subst (λ (p : Doing). AreLeft c.segments (sweeper_in p).left) is h.0.left
-left_sweeping s c (sweeping k closed) e h w is = subst (λ (p : Doing). AreLeft c.segments (sweeper_in p).left) is h.0.left
+left_sweeping s c (sweeping k closed) e h w is = subst (λ (p : Doing). AreLeft c.segments (sweeper_in p).left) is h.0
 
 module _ (laws : HasStopLaws) (script : Script) (old p : Collector) (limits : IsInLimits script) (can : CanStop script old) (h : HasPromoted old p) (listed : HasListed old p) where
   abbrev b : Begins script old
@@ -121,12 +121,12 @@ module _ (laws : HasStopLaws) (script : Script) (old p : Collector) (limits : Is
     few_within : AreFew (Unit {0}) script a (length old.stops + 1)
     few_within = taking_few script p a (length old.stops + 1) (words_in p.words) first.allocation stands_first.heap.holds.stands taken few_first
 
-    module _ (number : ℕ) (number_is : number ≡ length old.stops) (c : Collector) (closed : HasClosed number a c) where
-      pub close_led : (t : State) × ClosesOrWaits script.config.quota ⊥ first.progress first t × StandsAt script c t
-      close_led = laws.closing script a c first limits stands_within (subst (λ (n : ℕ). HasClosed n a c) (number_is ∙ sym b.number) closed)
+    module _ (number : ℕ) (number_is : number ≡ length old.stops) (c : Collector) (closed : HasClosed Closes number a c) where
+      pub close_led : (t : State) × ClosesOrWaits script.config.quota first.progress first t × StandsAt script c t
+      close_led = laws.closing script a c first limits stands_within (subst (λ (n : ℕ). HasClosed Closes n a c) (number_is ∙ sym b.number) closed)
 
       closed_on : KeepsOn first close_led.0 × (close_led.0.allocation ≡ first.allocation)
-      closed_on = closing_keeps script.config.quota ⊥ first.progress first close_led.0 close_led.1
+      closed_on = closing_keeps script.config.quota first.progress first close_led.0 close_led.1
 
       few_closed : AreFew (Unit {0}) script c (length old.stops + 1)
       few_closed =

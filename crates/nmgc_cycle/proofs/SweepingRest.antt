@@ -103,10 +103,10 @@ module _ (laws : SweepingLaws) (script : Script) (c : Collector) (st : State) (k
   next = record c { segments = new; progress = doing.Sweeping (record w { sweeper = v.sweeper }) }
 
   rest : SweepsSome (IsKeptIn k) (waiting_count st.allocation) st.allocation b
-  rest = subst (λ (count : ℕ). SweepsSome (IsKeptIn k) count st.allocation b) (sym (laws.counted words st.allocation c.segments w.sweeper.left h.heap.holds.stands h.sweeper.0.left)) swept.1
+  rest = subst (λ (count : ℕ). SweepsSome (IsKeptIn k) count st.allocation b) (sym (laws.counted words st.allocation c.segments w.sweeper.left h.heap.holds.stands h.sweeper.0)) swept.1
 
   frees : FreesUntracked [] st.world st.world st.allocation b
-  frees = laws.frees layout k st.world st.allocation b (waiting_count st.allocation) h.sound.filed h.sound.known h.sound.cycle.0 h.sound.cycle.1 h.sound.blocks rest
+  frees = laws.frees layout k st.world st.allocation b (waiting_count st.allocation) h.sound.sound_blocks h.sound.known h.sound.cycle.0 h.sound.cycle.1 h.sound.blocks rest
 
   layout_is : new.layout ≡ layout
   layout_is = sw.swept.layout ∙ h.kept.layout
@@ -124,7 +124,7 @@ module _ (laws : SweepingLaws) (script : Script) (c : Collector) (st : State) (k
   sound_then = record {
     world = h.sound.world;
     able = record { programs = h.sound.able.programs; mutators = h.sound.able.mutators; registers = h.sound.able.registers; serials = h.sound.able.serials };
-    filed = each_filed layout (IsKeptIn k) st.allocation b rest.numbers rest.sweeps h.sound.filed;
+    sound_blocks = each_filed layout (IsKeptIn k) st.allocation b rest.numbers rest.sweeps h.sound.sound_blocks;
     known = each_lie (IsKeptIn k) (λ n. IsSome (node_of st.world n)) st.allocation b rest.numbers rest.sweeps h.sound.known;
     cycle = (h.sound.cycle.0, each_waits (IsKeptIn k) (IsOfSnapshot k) st.allocation b rest.numbers rest.sweeps h.sound.cycle.1);
     earlier = h.sound.earlier;
@@ -158,7 +158,7 @@ module _ (laws : SweepingLaws) (script : Script) (c : Collector) (st : State) (k
     rest = h.rest;
     cycle = (swept.2.sweeping, subst (λ (n : ℕ). AreSettled n new) h.course.0.number_is swept.2.settled);
     closing = tt;
-    sweeper = (record { notes = swept.2.notes; left = sw.swept.left }, swept.2);
+    sweeper = (sw.swept.left, swept.2);
   }
 
   pub sweeps_rest : SweepsRest (sweeping k since) st.allocation b
@@ -206,7 +206,7 @@ ready_by script c s h (doing.Sweeping w) idle at is e = absurd (let bad : phase.
 ready_by script c s h (doing.Sweeping w) (marking k) at is e = absurd (let bad : phase.Sweeping ≡ phase.Marking = e in cc)
 ready_by script c s h (doing.Sweeping w) (sweeping k since) at is e =
     let held : Sweeps (sweeping k since) s c = subst (λ (q : Progress). Sweeps q s c) is h.sweeper in
-    subst (λ (p : Doing). AreLeft c.segments (sweeper_in p).left) at held.0.left
+    subst (λ (p : Doing). AreLeft c.segments (sweeper_in p).left) at held.0
 
 pub sweep_rest_ready : SweepRestReady
 sweep_rest_ready script c s h = ready_by script c s h c.progress s.progress refl refl h.matches.phase

@@ -89,7 +89,7 @@ module _ (laws : HasLaws) (script : Script) (c new : Collector) (o : Opening) (x
   swept = did.3.swept.sweeps k closed x.did.words (s script c new o x).allocation (seen c).cycle at_work
 
   left_before : AreLeft c.segments before.0.sweeper.left
-  left_before = subst (λ (y : Sweeper). AreLeft c.segments y.left) sweeper_was sweeps_before.0.left
+  left_before = subst (λ (y : Sweeper). AreLeft c.segments y.left) sweeper_was sweeps_before.0
 
   as_many : did.3.count ≡ min script.config.quota (waiting_count (s script c new o x).allocation)
   as_many =
@@ -142,13 +142,7 @@ module _ (laws : HasLaws) (script : Script) (c new : Collector) (o : Opening) (x
       (subst (IsAtWork k closed x.did.words swept.0 new.segments (seen c).cycle) (sym sweeper_now) swept.2)
 
   sweeps_on : Sweeps (sweeping k closed) (t script c new o x swept.0) (last script c new o x)
-  sweeps_on = (
-    record {
-      notes = work_on.notes;
-      left = subst (λ (y : Sweeper). AreLeft new.segments y.left) (sym sweeper_now) did.3.swept.left;
-    },
-    work_on,
-  )
+  sweeps_on = (subst (λ (y : Sweeper). AreLeft new.segments y.left) (sym sweeper_now) did.3.swept.left, work_on)
 
   settled : AreSettled (s script c new o x).begun new.segments
   settled = subst (λ (number : ℕ). AreSettled number new.segments) course.number_is work_on.settled

@@ -10,11 +10,10 @@ use Rattle.nmgc_object.specs.declared.layout.Layout.{Layout}
 use Rattle.nmgc_object.specs.declared.layout.Nursery.{Nursery}
 use Rattle.nmgc_object.specs.Places.{nursery_place}
 use Rattle.nmgc_blocks.specs.Nurseries.{nursery_at, AreEmpty}
-use Rattle.nmgc_heap.specs.Places.{Place}
+use Rattle.nmgc_heap.specs.Places.{Place, shared_place}
 use Rattle.nmgc_mutator.specs.declared.mutator.Mutator.{Mutator}
 use Rattle.nmgc_mutator.specs.Records.{numbers}
 use Rattle.nmgc_run.specs.Collector.{IsAtRest, AreNurseries}
-use Rattle.nmgc_run.specs.Heap.{shared_place}
 use Rattle.nmgc_run.specs.Seen.{MutatorSeen}
 use Rattle.nmgc_cycle.specs.Shown.{seen_mutator}
 use Rattle.nmgc_cycle.proofs.News.{AreNew}

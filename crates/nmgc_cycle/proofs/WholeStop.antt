@@ -7,7 +7,7 @@ use Rattle.nmgc_script.specs.declared.script.Config.{Config}
 use Rattle.nmgc_run.specs.Closing.{ClosesOrWaits}
 use Rattle.nmgc_run.specs.Promotion.{Promotes}
 use Rattle.nmgc_run.specs.State.{Plan, State, Progress, idle, marking, sweeping, layout_of}
-use Rattle.nmgc_run.specs.Stop.{IsStop, EndsOrWaits, BeginsOrWaits, IsFullDue, Proceeds, stop_row}
+use Rattle.nmgc_run.specs.Stop.{IsStop, EndsOrWaits, BeginsOrWaits, Proceeds, stop_row}
 
 -- what the steps after the promotion leave as it is
 pub record KeepsOn (s t : State) : Type 0 where
@@ -17,11 +17,11 @@ pub record KeepsOn (s t : State) : Type 0 where
 keeps_itself : (s t : State) → t ≡ s → KeepsOn s t
 keeps_itself s t e = record { number = ap (λ (x : State). x.number) e; left = ap (λ (x : State). x.left) e }
 
-pub closing_keeps : (quota : ℕ) (forced : Type 0) (p : Progress) (s t : State) → ClosesOrWaits quota forced p s t → KeepsOn s t × (t.allocation ≡ s.allocation)
-closing_keeps quota forced idle s t e = (keeps_itself s t e, ap (λ (x : State). x.allocation) e)
-closing_keeps quota forced (marking c) s t (inl e) = (keeps_itself s t e, ap (λ (x : State). x.allocation) e)
-closing_keeps quota forced (marking c) s t (inr h) = (record { number = ap (λ (x : State). x.number) h.0.rest; left = ap (λ (x : State). x.left) h.0.rest }, ap (λ (x : State). x.allocation) h.0.rest)
-closing_keeps quota forced (sweeping c closed) s t e = (keeps_itself s t e, ap (λ (x : State). x.allocation) e)
+pub closing_keeps : (quota : ℕ) (p : Progress) (s t : State) → ClosesOrWaits quota p s t → KeepsOn s t × (t.allocation ≡ s.allocation)
+closing_keeps quota idle s t e = (keeps_itself s t e, ap (λ (x : State). x.allocation) e)
+closing_keeps quota (marking c) s t (inl e) = (keeps_itself s t e, ap (λ (x : State). x.allocation) e)
+closing_keeps quota (marking c) s t (inr h) = (record { number = ap (λ (x : State). x.number) h.0.rest; left = ap (λ (x : State). x.left) h.0.rest }, ap (λ (x : State). x.allocation) h.0.rest)
+closing_keeps quota (sweeping c closed) s t e = (keeps_itself s t e, ap (λ (x : State). x.allocation) e)
 
 pub ending_keeps : (p : Progress) (s t : State) (cycles : List CycleRow) → EndsOrWaits p s t cycles → KeepsOn s t × (t.allocation ≡ s.allocation)
 ending_keeps idle s t cycles e = (keeps_itself s t e.0, ap (λ (x : State). x.allocation) e.0)
@@ -33,16 +33,9 @@ pub beginning_keeps : (config : Config) (s t : State) → BeginsOrWaits config s
 beginning_keeps config s t (inl h) = record { number = ap (λ (x : State). x.number) h.1; left = ap (λ (x : State). x.left) h.1 }
 beginning_keeps config s t (inr h) = keeps_itself s t h.1
 
--- a closing within its bounds is one whether a full cycle is due or not
-closes_anyway : (quota : ℕ) (forced : Type 0) (p : Progress) (s t : State) → ClosesOrWaits quota ⊥ p s t → ClosesOrWaits quota forced p s t
-closes_anyway quota forced idle s t h = h
-closes_anyway quota forced (marking c) s t (inl e) = inl e
-closes_anyway quota forced (marking c) s t (inr h) = inr (h.0, elim h.1 [ inl bad ↦ absurd bad | inr may ↦ inr may ])
-closes_anyway quota forced (sweeping c closed) s t h = h
-
 module _ (plan : Plan) (began : World) (s promoted closed ended t : State) (count : ℕ) (first more : List CycleRow) (row : StopRow)
     (promotes : Promotes (layout_of plan) began s promoted count)
-    (closes : ClosesOrWaits plan.config.quota ⊥ promoted.progress promoted closed)
+    (closes : ClosesOrWaits plan.config.quota promoted.progress promoted closed)
     (ends : EndsOrWaits closed.progress closed ended first)
     (proceeds : Proceeds plan ended t more)
     (shown : row ≡ stop_row t count) where
@@ -52,7 +45,7 @@ module _ (plan : Plan) (began : World) (s promoted closed ended t : State) (coun
     count = count;
     promotes = promotes;
     closed = closed;
-    closes = closes_anyway plan.config.quota (IsFullDue plan promoted) promoted.progress promoted closed closes;
+    closes = closes;
     ended = ended;
     first = first;
     ends = ends;

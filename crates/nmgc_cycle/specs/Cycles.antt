@@ -1,8 +1,8 @@
 -- The collector beside the mutators, and the steps of a stop that lead a cycle on.
 use Rattle.std.specs.Prelude.{ℕ, ◌≡◌, ◌⊎◌, ◌↔◌, ◌+◌, ◌-◌, ◌≤◌, ◌<◌, ◌++◌, ◌∷◌, List, [], length, map, true, false, IsSome, vec_capacity}
-use Rattle.nmgc_alloc.specs.declared.search.Wanted.TheVariants as wanted
+use Rattle.nmgc_alloc.specs.declared.search.Sought.TheVariants as sought
 use Rattle.nmgc_alloc.specs.Segments.{Segments, HasNone, IsSegments}
-use Rattle.nmgc_alloc.specs.Turns.{carried_over}
+use Rattle.nmgc_alloc.specs.CycleSteps.{carried_over}
 use Rattle.nmgc_beside.specs.Calls.{all_entries}
 pub use Rattle.nmgc_beside.specs.Prepares.{all_prepared}
 use Rattle.nmgc_journal.specs.declared.report.CycleRow.{CycleRow}
@@ -146,11 +146,11 @@ abbrev pub Closes : ℕ → Progress → Collector → Collector → Type 0
 Closes stop (progress.Marking m) old new = ((m.last.empty ≡ true) × ((w : Sweeping) × (new.progress ≡ progress.Sweeping w) × IsClosed stop (words_in old.words) (words_in new.words) old.segments new.segments old.weaks new.weaks old.mutators.items new.mutators.items m w)) ⊎ ((m.last.empty ≡ false) × (new ≡ old))
 Closes stop p old new = new ≡ old
 
--- of the collector words, segments, list and queues are those that this left
-pub record HasClosed (stop : ℕ) (old new : Collector) : Type 0 where
+-- by this rule a cycle was closed, or none: of the collector words, segments, list and queues are those that this left
+pub record HasClosed (Rule : ℕ → Progress → Collector → Collector → Type 0) (stop : ℕ) (old new : Collector) : Type 0 where
   pub rest : new ≡ record old { words = new.words; segments = new.segments; progress = new.progress; weaks = new.weaks; mutators = new.mutators }
   pub has_words : IsSome new.words
-  pub closes : Closes stop old.progress old new
+  pub closes : Rule stop old.progress old new
 
 -- the row of a cycle that ends at this stop, at whose closing these died
 abbrev pub row_of : ℕ → ℕ → Sweeping → List Name → CycleRow
@@ -168,7 +168,7 @@ row_of number stop w dead = record {
 
 -- a cycle that sweeps ends where no segment waits; the collector keeps the sweeper's count of the gate's passes
 abbrev pub Ends : ℕ → Progress → Collector → Collector → Type 0
-Ends stop (progress.Sweeping w) old new = (HasNone wanted.Sweeping old.segments × (new ≡ record old { progress = progress.Idle; turns = w.sweeper.turns; cycles = old.cycles ++ row_of old.begun stop w (died old.weaks.deaths) ∷ [] })) ⊎ ((HasNone wanted.Sweeping old.segments → ⊥) × (new ≡ old))
+Ends stop (progress.Sweeping w) old new = (HasNone sought.Sweeping old.segments × (new ≡ record old { progress = progress.Idle; turns = w.sweeper.turns; cycles = old.cycles ++ row_of old.begun stop w (died old.weaks.deaths) ∷ [] })) ⊎ ((HasNone sought.Sweeping old.segments → ⊥) × (new ≡ old))
 Ends stop _ old new = new ≡ old
 
 -- a cycle is due: none is in progress, and one was asked for, or enough segments were filled since the last one began
@@ -181,7 +181,7 @@ next_epoch c = epoch_of (c.begun + 1)
 
 -- where a cycle is due, no segment waits any more, words and segments stand for an allocation state, and marking begins with the roots that the mutators have
 pub record CanBegin (c : Collector) : Type 0 where
-  pub none_waits : HasNone wanted.Sweeping c.segments
+  pub none_waits : HasNone sought.Sweeping c.segments
   pub stood : HasStood (all_prepared c.segments) (words_in c.words)
   pub begins : (o : Opening) × IsBeginning o (all_prepared c.segments) (next_epoch c) (words_in c.words) (registers_of c.mutators.items) (queues_in c.mutators.items)
 

@@ -1,8 +1,8 @@
 -- A full cycle at a stop: what each of its parts does with a collector.
-use Rattle.std.specs.Prelude.{ℕ, ◌≡◌, ◌⊎◌, List, [], map, length, Bool, true, false, ◌&&◌, nat_lt, IsSome}
+use Rattle.std.specs.Prelude.{ℕ, ◌≡◌, ◌⊎◌, List, [], map, length, Bool, true, false, ◌&&◌, nat_lt}
 use Rattle.nmgc_alloc.specs.Reserve.{free_count}
 use Rattle.nmgc_alloc.specs.Segments.{Segments, IsSegments}
-use Rattle.nmgc_alloc.specs.Turns.{retired}
+use Rattle.nmgc_alloc.specs.CycleSteps.{retired}
 use Rattle.nmgc_object.specs.Places.{reserve_count}
 use Rattle.nmgc_object.specs.FinQueue.{FinQueue}
 use Rattle.nmgc_sweep.specs.Sweeper.{AreLeft}
@@ -12,7 +12,7 @@ use Rattle.nmgc_cycle.specs.declared.collector.Collector.{Collector}
 use Rattle.nmgc_cycle.specs.declared.progress.Progress.{Progress}
 use Rattle.nmgc_cycle.specs.declared.progress.Progress.TheVariants as progress
 use Rattle.nmgc_cycle.specs.declared.progress.Sweeping.{Sweeping}
-use Rattle.nmgc_cycle.specs.Cycles.{IsClosed, IsReadyToClose, HasStarted, Ends, Begins}
+use Rattle.nmgc_cycle.specs.Cycles.{HasClosed, IsClosed, IsReadyToClose, HasStarted, Ends, Begins}
 use Rattle.nmgc_cycle.specs.Shown.{words_in}
 
 -- commands are left, and fewer segments are free than the reserve
@@ -32,12 +32,6 @@ CanCloseNow words segments weaks queues _ = Unit {0}
 abbrev pub ClosesNow : ℕ → Progress → Collector → Collector → Type 0
 ClosesNow stop (progress.Marking m) old new = (w : Sweeping) × (new.progress ≡ progress.Sweeping w) × IsClosed stop (words_in old.words) (words_in new.words) old.segments new.segments old.weaks new.weaks old.mutators.items new.mutators.items m w
 ClosesNow stop p old new = new ≡ old
-
--- of the collector words, segments, list and queues are then those of the closed cycle
-pub record HasClosedNow (stop : ℕ) (old new : Collector) : Type 0 where
-  pub rest : new ≡ record old { words = new.words; segments = new.segments; progress = new.progress; weaks = new.weaks; mutators = new.mutators }
-  pub has_words : IsSome new.words
-  pub closes : ClosesNow stop old.progress old new
 
 -- a sweeper has notes of all segments that wait
 abbrev pub CanSweepRest : Segments → Progress → Type 0
@@ -65,22 +59,22 @@ pub record HasSweptRest (old new : Collector) : Type 0 where
 -- the cycle in progress was closed, swept and ended at this stop
 pub record HasFinished (stop : ℕ) (old new : Collector) : Type 0 where
   pub closed : Collector
-  pub closes : HasClosedNow stop old closed
+  pub closes : HasClosed ClosesNow stop old closed
   pub swept : Collector
   pub sweeps : HasSweptRest closed swept
   pub ends : Ends stop swept.progress swept new
 
 -- current and active segments are filed as filled
-abbrev pub all_filed : Collector → Collector
-all_filed c = record c { segments = record c.segments { segments = map retired c.segments.segments } }
+abbrev pub with_all_retired : Collector → Collector
+with_all_retired c = record c { segments = record c.segments { segments = map retired c.segments.segments } }
 
 -- a full cycle: the cycle in progress was finished, and then another began and was finished; nothing is asked for any more
 pub record HasDoneFull (stop : ℕ) (old new : Collector) : Type 0 where
   pub idled : Collector
   pub first : HasFinished stop old idled
-  pub sound : IsSegments (all_filed idled).segments
+  pub sound : IsSegments (with_all_retired idled).segments
   pub started : Collector
-  pub starts : HasStarted stop (all_filed idled) started
+  pub starts : HasStarted stop (with_all_retired idled) started
   pub last : Collector
   pub again : HasFinished stop started last
   pub is : new ≡ record last { collect = false; full = false }

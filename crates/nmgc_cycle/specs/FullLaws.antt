@@ -11,7 +11,8 @@ use Rattle.nmgc_run.specs.Sweep as run_sweep
 use Rattle.nmgc_script.specs.declared.script.Script.{Script}
 use Rattle.nmgc_cycle.specs.declared.collector.Collector.{Collector}
 use Rattle.nmgc_cycle.specs.declared.progress.Progress.TheVariants as doing
-use Rattle.nmgc_cycle.specs.Full.{CanCloseNow, HasClosedNow, CanSweepRest, HasSweptRest, HasFinished, all_filed, HasDoneFull, Proceeds}
+use Rattle.nmgc_cycle.specs.Cycles.{HasClosed}
+use Rattle.nmgc_cycle.specs.Full.{CanCloseNow, ClosesNow, CanSweepRest, HasSweptRest, HasFinished, with_all_retired, HasDoneFull, Proceeds}
 use Rattle.nmgc_cycle.specs.Roots.{queues_in}
 use Rattle.nmgc_cycle.specs.Shown.{words_in}
 use Rattle.nmgc_cycle.specs.Limits.{IsInLimits}
@@ -23,7 +24,7 @@ StandsAtStop stop c = (script : Script) × (s : State) × IsInLimits script × (
 
 -- a closing that a full cycle forces has no bounds
 abbrev pub FinishingNowLeads : Type 0
-FinishingNowLeads = (script : Script) (old new : Collector) (s : State) → IsInLimits script → StandsAt script old s → HasClosedNow s.number old new → (t : State) × run_closing.ClosesNow s.progress s t × StandsAt script new t
+FinishingNowLeads = (script : Script) (old new : Collector) (s : State) → IsInLimits script → StandsAt script old s → HasClosed ClosesNow s.number old new → (t : State) × run_closing.ClosesNow s.progress s t × StandsAt script new t
 
 -- what waits is swept
 abbrev pub SweepingRestLeads : Type 0
@@ -35,7 +36,7 @@ FinishLeads = (script : Script) (old new : Collector) (s : State) → IsInLimits
 
 -- segments that are filed stand for the state with them filed
 abbrev pub FilingLeads : Type 0
-FilingLeads = (script : Script) (c : Collector) (s : State) → IsInLimits script → StandsAt script c s → c.progress ≡ doing.Idle → IsSegments (all_filed c).segments → StandsAt script (all_filed c) (run.all_filed s)
+FilingLeads = (script : Script) (c : Collector) (s : State) → IsInLimits script → StandsAt script c s → c.progress ≡ doing.Idle → IsSegments (with_all_retired c).segments → StandsAt script (with_all_retired c) (run.with_all_retired s)
 
 -- the whole full cycle
 abbrev pub FullLeads : Type 0

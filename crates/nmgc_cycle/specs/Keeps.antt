@@ -28,16 +28,16 @@ abbrev pub HasClosingRoom : Doing → ℕ → Type 0
 HasClosingRoom (doing.Marking m) count = (m.queues.items ≡ []) × (count ≤ vec_capacity m.queues)
 HasClosingRoom p count = Unit {0}
 
--- the sweeper of a cycle in progress: it noted what lay in the segments that are to be swept, and has notes left of all segments that wait
+-- the sweeper of a cycle that marks: it noted what lay in the segments that are to be swept, and has notes left of all segments that wait
 pub record HasSweeper (k : Cycle) (c : Collector) : Type 0 where
   pub notes : HasNotes k (sweeper_in c.progress)
   pub left : AreLeft c.segments (sweeper_in c.progress).left
 
--- while a cycle marks, its sweeper has swept nothing; once it was closed, the sweeper is at work
+-- while a cycle marks, its sweeper has swept nothing; once it was closed, the sweeper is at work, still with notes left of all that wait
 abbrev pub Sweeps : Progress → State → Collector → Type 0
 Sweeps idle s c = Unit {0}
 Sweeps (marking k) s c = HasSweeper k c × ((sweeper_in c.progress).seen.swept ≡ numbers_of (sweeper_in c.progress).left) × ((sweeper_in c.progress).seen.freed ≡ [])
-Sweeps (sweeping k closed) s c = HasSweeper k c × IsAtWork k closed (seen c).words s.allocation c.segments (seen c).cycle (sweeper_in c.progress)
+Sweeps (sweeping k closed) s c = AreLeft c.segments (sweeper_in c.progress).left × IsAtWork k closed (seen c).words s.allocation c.segments (seen c).cycle (sweeper_in c.progress)
 
 -- a mutator between two calls: it has its number and the layout of the heap, and its replies were told
 pub record IsOwn (c : Collector) (k : ℕ) (m : Mutator) : Type 0 where

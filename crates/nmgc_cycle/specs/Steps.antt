@@ -20,7 +20,7 @@ use Rattle.nmgc_cycle.specs.declared.collector.Collector.{Collector}
 use Rattle.nmgc_cycle.specs.declared.progress.Marking.{Marking}
 use Rattle.nmgc_cycle.specs.declared.progress.Progress.TheVariants as doing
 use Rattle.nmgc_cycle.specs.declared.progress.Sweeping.{Sweeping}
-use Rattle.nmgc_cycle.specs.Cycles.{HasTaken, CanClose, HasClosed, IsClosed, Ends, CanBegin, HasStarted, Begins}
+use Rattle.nmgc_cycle.specs.Cycles.{HasTaken, CanClose, Closes as ClosesThen, HasClosed, IsClosed, Ends, CanBegin, HasStarted, Begins}
 use Rattle.nmgc_cycle.specs.Keeps.{IsWellFormed, HasClosingRoom, Sweeps}
 use Rattle.nmgc_cycle.specs.Roots.{queues_in}
 use Rattle.nmgc_cycle.specs.Shown.{seen, words_in}
@@ -73,11 +73,11 @@ AddingLeads = (script : Script) (old new : Collector) (s : State) → IsInLimits
 
 -- a marker that finished closes its cycle, within the bounds
 abbrev pub FinishingLeads : Type 0
-FinishingLeads = (script : Script) (old new : Collector) (s : State) (k : Cycle) (m : Marking) (w : Sweeping) → IsInLimits script → StandsWithin script old s → s.progress ≡ marking k → old.progress ≡ doing.Marking m → m.last.empty ≡ true → new.progress ≡ doing.Sweeping w → HasClosed s.number old new → IsClosed s.number (words_in old.words) (words_in new.words) old.segments new.segments old.weaks new.weaks old.mutators.items new.mutators.items m w → (t : State) × Closes k s t × MayClose script.config.quota k s.number × StandsAt script new t
+FinishingLeads = (script : Script) (old new : Collector) (s : State) (k : Cycle) (m : Marking) (w : Sweeping) → IsInLimits script → StandsWithin script old s → s.progress ≡ marking k → old.progress ≡ doing.Marking m → m.last.empty ≡ true → new.progress ≡ doing.Sweeping w → HasClosed ClosesThen s.number old new → IsClosed s.number (words_in old.words) (words_in new.words) old.segments new.segments old.weaks new.weaks old.mutators.items new.mutators.items m w → (t : State) × Closes k s t × MayClose script.config.quota k s.number × StandsAt script new t
 
 -- a closing comes within its bounds
 abbrev pub ClosingLeads : Type 0
-ClosingLeads = (script : Script) (old new : Collector) (s : State) → IsInLimits script → StandsWithin script old s → HasClosed s.number old new → (t : State) × ClosesOrWaits script.config.quota ⊥ s.progress s t × StandsAt script new t
+ClosingLeads = (script : Script) (old new : Collector) (s : State) → IsInLimits script → StandsWithin script old s → HasClosed ClosesThen s.number old new → (t : State) × ClosesOrWaits script.config.quota s.progress s t × StandsAt script new t
 
 -- a cycle's row tells its census
 abbrev pub EndLeads : Type 0

@@ -36,7 +36,7 @@ ghost use Rattle.nmgc_cycle.specs.Keeps.{IsFresh, HasEnded};
 use crate::progress::Progress;
 use crate::stop::StopEnd;
 use nmgc_alloc::Segments;
-use nmgc_graph::{Kind, List, Name, NoMemory, SHARED_MAKER, SHARED_SLOTS};
+use nmgc_graph::{Kind, List, Name, NoMemory, SHARED_SLOTS};
 use nmgc_journal::{CycleRow, End, MutatorEnd, Report, RoundRows, StopRow};
 use nmgc_minor::Promotion;
 use nmgc_mutator::Mutator;
@@ -113,10 +113,7 @@ fn empty_words(alloc: Global, layout: Layout) -> Result<Vec<u64>, NoMemory>
         tag: 0,
         fields: u32::from(SHARED_SLOTS),
     });
-    words[place + 1] = encode_name(Name {
-        maker: SHARED_MAKER,
-        serial: 0,
-    });
+    words[place + 1] = encode_name(Name::SHARED);
     let first = place + HEADER_WORDS as usize;
     for slot in 0..SHARED_SLOTS as usize {
         words[first + slot] = NIL_WORD;

@@ -15,7 +15,7 @@ ghost use Rattle.nmgc_run.specs.Marks.{epoch_of as epoch_by};
 ghost use Rattle.nmgc_segment.specs.Marks.{IsEpoch};
 ghost use Rattle.nmgc_cycle.specs.Roots.{HasRegisters, queues_in};
 ghost use Rattle.nmgc_cycle.specs.Shown.{words_in};
-ghost use Rattle.nmgc_cycle.specs.Cycles.{remembered_by, remembering_nothing, CanAdd, HasAdded, HasTaken, CanClose, HasClosed, IsClosed, IsReadyToClose, row_of as row_shown, Ends, IsDue, CanBegin, StartsMarking, HasStarted, Begins};
+ghost use Rattle.nmgc_cycle.specs.Cycles.{remembered_by, remembering_nothing, CanAdd, HasAdded, HasTaken, CanClose, Closes, HasClosed, IsClosed, IsReadyToClose, row_of as row_shown, Ends, IsDue, CanBegin, StartsMarking, HasStarted, Begins};
 
 use crate::progress::{Marking, Progress, Sweeping};
 use crate::{Collector, roots, weaks};
@@ -85,7 +85,7 @@ impl Collector {
     pub(crate) fn close(&mut self, stop: u32)
         requires words { IsSome self.old.words }
         requires can { CanClose (words_in self.old.words) self.old.segments self.old.weaks.list (queues_in self.old.mutators.items) self.old.progress }
-        ensures { HasClosed stop self.old self.new }
+        ensures { HasClosed Closes stop self.old self.new }
     {
         self.progress = match mem::replace(&mut self.progress, Progress::Idle) {
             Progress::Marking(marking) => {

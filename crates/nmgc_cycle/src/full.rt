@@ -10,7 +10,8 @@
 ghost use Rattle.std.specs.Prelude.{◌≡◌, ◌↔◌, ◌+◌, ◌<◌, ◌^◌, OnOk, IsSome, IsTrue};
 ghost use Rattle.nmgc_cycle.specs.Roots.{queues_in};
 ghost use Rattle.nmgc_cycle.specs.Shown.{words_in};
-ghost use Rattle.nmgc_cycle.specs.Full.{is_short_of, IsFullDue, CanCloseNow, HasClosedNow, CanSweepRest, HasSweptRest, HasFinished, HasDoneFull, Proceeds};
+ghost use Rattle.nmgc_cycle.specs.Cycles.{HasClosed};
+ghost use Rattle.nmgc_cycle.specs.Full.{is_short_of, IsFullDue, CanCloseNow, ClosesNow, CanSweepRest, HasSweptRest, HasFinished, HasDoneFull, Proceeds};
 ghost use Rattle.nmgc_cycle.specs.FullLaws.{StandsAtStop};
 
 use crate::Collector;
@@ -38,7 +39,7 @@ impl Collector {
     fn close_now(&mut self, stop: u32)
         requires words { IsSome self.old.words }
         requires can { CanCloseNow (words_in self.old.words) self.old.segments self.old.weaks.list (queues_in self.old.mutators.items) self.old.progress }
-        ensures { HasClosedNow stop self.old self.new }
+        ensures { HasClosed ClosesNow stop self.old self.new }
     {
         self.progress = match mem::replace(&mut self.progress, Progress::Idle) {
             Progress::Marking(marking) => Progress::Sweeping(self.closed(marking, stop)),

@@ -94,10 +94,10 @@ fn opening_of(script: &Script, collector: &Collector) -> Chosen<Opened>
 impl Collector {
     /// One round: each mutator with commands left does a slice, in a thread of its own, and passes `gate` before each
     /// command that it tries. Beside them the collector scans as many objects as the quota says while a cycle marks, or
-    /// sweeps as many segments of a closed one, or fewer where no more are left; it passes `gate` before each, and counts
-    /// this through the whole run: the clause `turns` tells the count. Where a
-    /// slice asks for a cycle, one is due at the next stop that finds none in progress, and where it asks for a full cycle,
-    /// that is due at the next stop. The replies of the round are told after those of the rounds before.
+    /// sweeps as many segments of a closed one, or fewer where no more are left; it passes `gate` before each, and
+    /// counts this through the whole run: the clause `turns` tells the count. Where a slice asks for a cycle, one is due
+    /// at the next stop that finds none in progress, and where it asks for a full cycle, that is due at the next stop.
+    /// The replies of the round are told after those of the rounds before.
     ///
     /// Asks that the last stop answered `GoOn`, and that no round was done since. After `NoMemory` nothing
     /// is known of the collector.

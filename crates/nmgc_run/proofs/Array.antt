@@ -320,7 +320,7 @@ is_second = record {
     count = 0;
     promotes = record { names = []; lists = lists_none (IsPromoted begun.world scanned.world) (λ n p. none_young begun.world n p.0); places = refl; many = refl; rest = refl };
     closed = was_closed;
-    closes = inr (record { dead = []; lists = lists_none (IsDeadIn c) dead_none; rest = refl }, inr may_close);
+    closes = inr (record { dead = []; lists = lists_none (IsDeadIn c) dead_none; rest = refl }, may_close);
     ended = was_closed;
     first = [];
     ends = inr (one_waits, refl, refl);

@@ -22,10 +22,10 @@ use Rattle.nmgc_object.specs.declared.layout.Layout.{Layout}
 use Rattle.nmgc_alloc.specs.Segments.{HasNumber, all_free, block_place}
 use Rattle.nmgc_alloc.specs.AllocState.{AllocState, StandsFor, Shows, LiesIn, AreNames, all_empty, cells, no_cells, name_in}
 use Rattle.nmgc_heap.specs.Shape.{Slot, holds, size_of, free_slots}
-use Rattle.nmgc_heap.specs.Places.{Place, HasSlots, AllMean, ListMeans, LiesWell}
+use Rattle.nmgc_heap.specs.Places.{Place, HasSlots, AllMean, ListMeans, LiesWell, shared_place}
 use Rattle.nmgc_heap.specs.Represents.{IsNamed, IsObject, IsPlaced, Represents, NoNode}
 use Rattle.nmgc_heap.specs.Roots.{RepresentsRoots, ListsWeaks}
-use Rattle.nmgc_run.specs.Heap.{IsPlaceAtStop, FitBlocks, HasAllRegisters, Holds, shared_place}
+use Rattle.nmgc_run.specs.Heap.{IsPlaceAtStop, FitBlocks, HasAllRegisters, HeapStandsFor}
 use Rattle.nmgc_journal.specs.declared.report.MutatorEnd.{MutatorEnd}
 use Rattle.nmgc_run.specs.Samples.{object_name}
 use Rattle.nmgc_run.specs.Life.{array_layout, young_words, old_words, segments_of, waiting_segment, swept_segment}
@@ -290,7 +290,7 @@ old_fit form number block n node lies there =
 abbrev pub mutator_with : ℕ → MutatorEnd
 mutator_with word = record { registers = word ∷ replicate 15 1; queue = []; serial = 1 }
 
-pub old_holds : NewStands → (form : Form) (earlier : List World) → AreThese earlier → Holds array_layout earlier (places_at 32) born.world (allocation_in form) old_words (segments_of (segment_in form)) (mutator_with 64 ∷ [])
+pub old_holds : NewStands → (form : Form) (earlier : List World) → AreThese earlier → HeapStandsFor array_layout earlier (places_at 32) born.world (allocation_in form) old_words (segments_of (segment_in form)) (mutator_with 64 ∷ [])
 old_holds new form earlier these = record {
   fit = old_fit form;
   represents = represents 32 old_words old_has earlier these;
@@ -317,7 +317,7 @@ old_places form p = (each_place 32 (IsPlaceAtStop array_layout (allocation_in fo
 pub nothing_lies : (number block : ℕ) (n : Name) → LiesIn (all_empty 8) number block n → ⊥
 nothing_lies number block n lies = let none = ap (λ c. name_in c block) (all_same 8 no_cells number) in cc
 
-pub young_holds : NewStands → Holds array_layout (opened.world ∷ []) (places_at 160) born.world (all_empty 8) young_words (all_free array_layout) (mutator_with 320 ∷ [])
+pub young_holds : NewStands → HeapStandsFor array_layout (opened.world ∷ []) (places_at 160) born.world (all_empty 8) young_words (all_free array_layout) (mutator_with 320 ∷ [])
 young_holds new = record {
   fit = λ number block n node lies there. absurd (nothing_lies number block n lies);
   represents = represents 160 young_words young_has (opened.world ∷ []) first_only;

@@ -229,7 +229,7 @@ marking_is_told = record {
             count = 0;
             promotes = record { names = []; lists = lists_none (IsPromoted at_first.world after_second.world) (λ n p. none_young at_first.world n p.0); places = refl; many = refl; rest = refl };
             closed = was_closed;
-            closes = inr (record { dead = []; lists = lists_none (IsDeadIn c) (λ n d. no_weak n d.parts d.alive); rest = refl }, inr may_close);
+            closes = inr (record { dead = []; lists = lists_none (IsDeadIn c) (λ n d. no_weak n d.parts d.alive); rest = refl }, may_close);
             ended = at_second;
             first = marked_row ∷ [];
             ends = inl (nothing_waits, record { row = marked_row; census = census; told = refl; rest = refl });

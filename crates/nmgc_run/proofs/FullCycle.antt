@@ -20,7 +20,7 @@ use Rattle.nmgc_run.specs.Round.{answered, own_rows}
 use Rattle.nmgc_run.specs.Slice.{slices}
 use Rattle.nmgc_blocks.specs.Promoted.{IsYoung, IsPromoted, PlacesObject}
 use Rattle.nmgc_run.specs.Census.{IsDeadIn, IsKeptIn, IsSweptIn, IsHadIn, IsFreedIn, IsKeptObject, IsCensus}
-use Rattle.nmgc_run.specs.Stop.{IsFullDue, IsSwept, Finishes, all_filed, is_short}
+use Rattle.nmgc_run.specs.Stop.{IsFullDue, IsSwept, Finishes, with_all_retired, is_short}
 use Rattle.nmgc_run.specs.Samples.{CycleIsTold, small_plan, small_heap, quiet_stop, cycle_program, first_replies, second_replies, object_name, second_name, full_row}
 use Rattle.nmgc_run.proofs.Listed.{all_same, lists_none, lists_one, lists_two, numbers_one, none_in, named_in, refs_of, refers_in}
 use Rattle.nmgc_run.proofs.Nothing.{none_young}
@@ -56,10 +56,10 @@ after_second = record at_first { number = 2; world = replayed at_first.world sec
 
 -- the full cycle
 abbrev pub c : Cycle
-c = next_cycle (all_filed after_second)
+c = next_cycle (with_all_retired after_second)
 
 abbrev pub started : State
-started = cycle_started (all_filed after_second)
+started = cycle_started (with_all_retired after_second)
 
 abbrev pub was_closed : State
 was_closed = record started { progress = sweeping c 2 }

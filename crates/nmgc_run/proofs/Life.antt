@@ -28,7 +28,7 @@ use Rattle.nmgc_core.specs.Run.{Runs}
 use Rattle.nmgc_core.specs.State.{State as Core, opening, names_of}
 use Rattle.nmgc_core.specs.declared.event.Event.{Event}
 use Rattle.nmgc_core.specs.declared.event.Event.TheVariants as event
-use Rattle.nmgc_heap.specs.Places.{Place, AllMean, ListMeans}
+use Rattle.nmgc_heap.specs.Places.{Place, AllMean, ListMeans, shared_place}
 use Rattle.nmgc_heap.specs.Represents.{IsNamed, IsPlaced, Represents, NoNode}
 use Rattle.nmgc_heap.specs.Roots.{RepresentsRoots, ListsWeaks}
 use Rattle.nmgc_heap.specs.Shape.{holds, size_of}
@@ -38,7 +38,7 @@ use Rattle.nmgc_blocks.specs.Remembers.{Remembers}
 use Rattle.nmgc_journal.specs.declared.report.MutatorEnd.{MutatorEnd}
 use Rattle.nmgc_run.specs.Census.{IsKeptIn, IsKeptObject, IsSweptIn, IsHadIn, IsDeadIn}
 use Rattle.nmgc_run.specs.Collector.{AreNurseries, AreAtRest, IsAtRest, IsMarking, IsAtStop, IsAfterRound, IsNew}
-use Rattle.nmgc_run.specs.Heap.{IsPlaceAtStop, IsPlaceAfterRound, HasAllRegisters, HoldsAtStop, HoldsAfterRound, Holds, shared_place, snapshots}
+use Rattle.nmgc_run.specs.Heap.{IsPlaceAtStop, IsPlaceAfterRound, HasAllRegisters, HoldsAtStop, HoldsAfterRound, HeapStandsFor, snapshots}
 use Rattle.nmgc_run.specs.Life.{LifeIsSeen, array_plan, array_layout, array_replies, new_words, old_words, young_words, segments_of, waiting_segment, swept_segment, hand, new_seen, opened_seen, born_seen, marking_seen, scanned_seen, closed_seen, swept_seen, ended_seen, replied}
 use Rattle.nmgc_run.specs.Marker.{IsRightSnapshot, AreMarked, AreRemembered, HasRoomToMark, IsFresh}
 use Rattle.nmgc_run.specs.Marks.{AreSettled, HasNoted, AreAsNoted, AreKeptMarked, IsFreedSoFar, IsSweeping}
@@ -281,20 +281,20 @@ these_none e d = absurd (none_in e d)
 abbrev mutator : MutatorEnd
 mutator = record { registers = 64 ∷ replicate 15 1; queue = []; serial = 1 }
 
-stop_heap : NewStands → (form : Form) (s : State) → s.world ≡ born.world → s.allocation ≡ allocation_in form → Holds array_layout (snapshots s.progress) (places_at 32) born.world (allocation_in form) old_words (segments_of (segment_in form)) (mutator ∷ []) → HoldsAtStop array_layout s old_words (segments_of (segment_in form)) (mutator ∷ []) []
+stop_heap : NewStands → (form : Form) (s : State) → s.world ≡ born.world → s.allocation ≡ allocation_in form → HeapStandsFor array_layout (snapshots s.progress) (places_at 32) born.world (allocation_in form) old_words (segments_of (segment_in form)) (mutator ∷ []) → HoldsAtStop array_layout s old_words (segments_of (segment_in form)) (mutator ∷ []) []
 stop_heap new form s w a h = record {
   places = places_at 32;
   all = subst (λ x. (p : Place) → Contains (places_at 32) p ↔ IsPlaceAtStop array_layout x p) (sym a) (old_places form);
-  holds = subst (λ x. Holds array_layout (snapshots s.progress) (places_at 32) x s.allocation old_words (segments_of (segment_in form)) (mutator ∷ [])) (sym w) (subst (λ x. Holds array_layout (snapshots s.progress) (places_at 32) born.world x old_words (segments_of (segment_in form)) (mutator ∷ [])) (sym a) h);
+  holds = subst (λ x. HeapStandsFor array_layout (snapshots s.progress) (places_at 32) x s.allocation old_words (segments_of (segment_in form)) (mutator ∷ [])) (sym w) (subst (λ x. HeapStandsFor array_layout (snapshots s.progress) (places_at 32) born.world x old_words (segments_of (segment_in form)) (mutator ∷ [])) (sym a) h);
   listed = subst (λ x. ListsWeaks array_layout (places_at 32) x []) (sym w) (none_listed (places_at 32) born.world no_weak);
 }
 
-round_heap : NewStands → (form : Form) (s t : State) → s.world ≡ born.world → t.world ≡ born.world → t.allocation ≡ allocation_in form → Holds array_layout (born.world ∷ snapshots t.progress) (places_at 32) born.world (allocation_in form) old_words (segments_of (segment_in form)) (mutator ∷ []) → HoldsAfterRound array_layout s t (places_at 32) old_words (segments_of (segment_in form)) (mutator ∷ []) []
+round_heap : NewStands → (form : Form) (s t : State) → s.world ≡ born.world → t.world ≡ born.world → t.allocation ≡ allocation_in form → HeapStandsFor array_layout (born.world ∷ snapshots t.progress) (places_at 32) born.world (allocation_in form) old_words (segments_of (segment_in form)) (mutator ∷ []) → HoldsAfterRound array_layout s t (places_at 32) old_words (segments_of (segment_in form)) (mutator ∷ []) []
 round_heap new form s t began w a h = record {
   sound = λ p d. inl (subst (λ x. IsPlaceAtStop array_layout x p) (sym a) ((old_places form p).0 d));
   old = λ p is. (old_places form p).1 (subst (λ x. IsPlaceAtStop array_layout x p) a is);
   born = λ n y. absurd (none_young born.world n (subst (λ x. IsYoung x born.world n) began (subst (λ x. IsYoung s.world x n) w y)));
-  holds = subst (λ x. Holds array_layout (x ∷ snapshots t.progress) (places_at 32) t.world t.allocation old_words (segments_of (segment_in form)) (mutator ∷ [])) (sym began) (subst (λ x. Holds array_layout (born.world ∷ snapshots t.progress) (places_at 32) x t.allocation old_words (segments_of (segment_in form)) (mutator ∷ [])) (sym w) (subst (λ x. Holds array_layout (born.world ∷ snapshots t.progress) (places_at 32) born.world x old_words (segments_of (segment_in form)) (mutator ∷ [])) (sym a) h));
+  holds = subst (λ x. HeapStandsFor array_layout (x ∷ snapshots t.progress) (places_at 32) t.world t.allocation old_words (segments_of (segment_in form)) (mutator ∷ [])) (sym began) (subst (λ x. HeapStandsFor array_layout (born.world ∷ snapshots t.progress) (places_at 32) x t.allocation old_words (segments_of (segment_in form)) (mutator ∷ [])) (sym w) (subst (λ x. HeapStandsFor array_layout (born.world ∷ snapshots t.progress) (places_at 32) born.world x old_words (segments_of (segment_in form)) (mutator ∷ [])) (sym a) h));
   listed = subst (λ x. ListsWeaks array_layout (places_at 32) x []) (sym began) (none_listed (places_at 32) born.world no_weak);
 }
 

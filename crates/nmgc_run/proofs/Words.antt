@@ -26,11 +26,11 @@ use Rattle.nmgc_run.specs.Collector.{EachMutator, IsAtRest}
 use Rattle.nmgc_run.specs.Seen.{nurseries_of}
 use Rattle.nmgc_alloc.specs.AllocState.{StandsFor, Shows, LiesIn, AreNames, all_empty, cells, no_cells, name_in}
 use Rattle.nmgc_heap.specs.Shape.{holds, size_of}
-use Rattle.nmgc_heap.specs.Places.{Place, HasSlots, AllMean, ListMeans, LiesWell, LiesInSegment}
+use Rattle.nmgc_heap.specs.Places.{Place, HasSlots, AllMean, ListMeans, LiesWell, LiesInSegment, shared_place}
 use Rattle.nmgc_heap.specs.Represents.{IsNamed, IsPlaced, Represents, NoNode}
 use Rattle.nmgc_run.specs.State.{layout_of}
 use Rattle.nmgc_heap.specs.Roots.{ListsWeaks}
-use Rattle.nmgc_run.specs.Heap.{IsPlaceAtStop, shared_place, FitBlocks, HasAllRegisters, HoldsAtStop}
+use Rattle.nmgc_run.specs.Heap.{IsPlaceAtStop, FitBlocks, HasAllRegisters, HoldsAtStop}
 use Rattle.nmgc_run.specs.Samples.{ObjectIsLawful, ObjectIsSeen, object_seen, small_plan, object_program, object_name, object_words, object_segments, object_mutator}
 use Rattle.nmgc_run.proofs.Reading.{some_is, not_known, shared_or, EachMeans, has_slots, all_mean, fills_nil}
 use Rattle.nmgc_run.proofs.Listed.{all_same, none_in}

@@ -43,12 +43,12 @@ pub record Closes (c : Cycle) (s t : State) : Type 0 where
   pub lists : Lists (IsDeadIn c) dead
   pub rest : t ≡ record s { world = closed s.world dead; progress = sweeping c s.number }
 
--- a cycle that is marking is closed, or goes on; it may be closed where the bounds allow it, or a full cycle forces it
-abbrev pub ClosesOrWaits : ℕ → Type 0 → Progress → State → State → Type 0
-ClosesOrWaits quota forced (marking c) s t = (t ≡ s) ⊎ (Closes c s t × (forced ⊎ MayClose quota c s.number))
-ClosesOrWaits quota forced _ s t = t ≡ s
+-- a cycle that is marking is closed where the bounds allow it, or goes on
+abbrev pub ClosesOrWaits : ℕ → Progress → State → State → Type 0
+ClosesOrWaits quota (marking c) s t = (t ≡ s) ⊎ (Closes c s t × MayClose quota c s.number)
+ClosesOrWaits quota _ s t = t ≡ s
 
--- a cycle that is marking is closed
+-- a cycle that is marking is closed, whatever the bounds: so a full cycle closes the one in progress
 abbrev pub ClosesNow : Progress → State → State → Type 0
 ClosesNow (marking c) s t = Closes c s t
 ClosesNow _ s t = t ≡ s

@@ -5,24 +5,18 @@ use Rattle.nmgc_graph.specs.declared.value.TheConstants.{REGISTERS}
 use Rattle.nmgc_graph.specs.declared.value.Name.{Name}
 use Rattle.nmgc_graph.specs.declared.node.Node.{Node}
 use Rattle.nmgc_graph.specs.World.{World, node_of}
-use Rattle.nmgc_graph.specs.Step.{shared_name}
 use Rattle.nmgc_object.specs.Size.{block_size}
 use Rattle.nmgc_object.specs.Places.{InNursery}
 use Rattle.nmgc_object.specs.declared.layout.Layout.{Layout}
-use Rattle.nmgc_object.specs.declared.layout.TheConstants.{SHARED_PLACE}
 use Rattle.nmgc_alloc.specs.Segments.{Segments, block_place}
 use Rattle.nmgc_alloc.specs.AllocState.{AllocState, StandsFor, LiesIn, cells}
 use Rattle.nmgc_heap.specs.Shape.{size_of}
-use Rattle.nmgc_heap.specs.Places.{Place}
+use Rattle.nmgc_heap.specs.Places.{Place, shared_place}
 use Rattle.nmgc_heap.specs.Represents.{Represents, NoNode}
 use Rattle.nmgc_heap.specs.Roots.{RepresentsRoots, ListsWeaks}
 use Rattle.nmgc_blocks.specs.Promoted.{IsYoung}
 use Rattle.nmgc_journal.specs.declared.report.MutatorEnd.{MutatorEnd}
 use Rattle.nmgc_run.specs.State.{State, Progress, marking}
-
--- the place of g
-abbrev pub shared_place : Place
-shared_place = record { at = SHARED_PLACE; name = shared_name }
 
 -- the place of a block with a name
 pub record IsBlockPlace (layout : Layout) (allocation : AllocState) (p : Place) : Type 0 where
@@ -61,7 +55,7 @@ abbrev pub HasAllRegisters : MutatorEnd → Type 0
 HasAllRegisters m = length m.registers ≡ REGISTERS
 
 -- words, roots and segments stand for a world and an allocation state, where the collector still speaks of these earlier worlds
-pub record Holds (layout : Layout) (earlier : List World) (places : List Place) (w : World) (allocation : AllocState) (words : List ℕ) (segments : Segments) (mutators : List MutatorEnd) : Type 0 where
+pub record HeapStandsFor (layout : Layout) (earlier : List World) (places : List Place) (w : World) (allocation : AllocState) (words : List ℕ) (segments : Segments) (mutators : List MutatorEnd) : Type 0 where
   pub fit : FitBlocks w allocation
   pub represents : Represents layout earlier NoNode places w words
   pub registers : All HasAllRegisters mutators
@@ -73,7 +67,7 @@ pub record Holds (layout : Layout) (earlier : List World) (places : List Place) 
 pub record HoldsAtStop (layout : Layout) (s : State) (words : List ℕ) (segments : Segments) (mutators : List MutatorEnd) (weaks : List Place) : Type 0 where
   pub places : List Place
   pub all : (p : Place) → Contains places p ↔ IsPlaceAtStop layout s.allocation p
-  pub holds : Holds layout (snapshots s.progress) places s.world s.allocation words segments mutators
+  pub holds : HeapStandsFor layout (snapshots s.progress) places s.world s.allocation words segments mutators
   pub listed : ListsWeaks layout places s.world weaks
 
 -- a place of an object that the round made: it was born in its maker's nursery
@@ -90,5 +84,5 @@ pub record HoldsAfterRound (layout : Layout) (s t : State) (places : List Place)
   pub sound : (p : Place) → Contains places p → IsPlaceAfterRound layout s t p
   pub old : (p : Place) → IsPlaceAtStop layout t.allocation p → Contains places p
   pub born : (name : Name) → IsYoung s.world t.world name → (at : ℕ) × Contains places (record { at = at; name = name })
-  pub holds : Holds layout (s.world ∷ snapshots t.progress) places t.world t.allocation words segments mutators
+  pub holds : HeapStandsFor layout (s.world ∷ snapshots t.progress) places t.world t.allocation words segments mutators
   pub listed : ListsWeaks layout places s.world weaks

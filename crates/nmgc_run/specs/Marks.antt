@@ -24,7 +24,7 @@ IsSettledByte begun byte = (byte ≡ 0) ⊎ ((0 < begun) × (byte ≡ epoch_of b
 abbrev pub AreSettled : ℕ → Segments → Type 0
 AreSettled begun segments = (number block : ℕ) → HasNumber segments number → (nth segments.segments number).state ≢ stands.Sweeping → IsSettledByte begun (mark_of (nth segments.segments number) block)
 
--- no item stands at two places
+-- no item stands at two places: of names the same as AreDistinct, said by places, and of a list of anything
 abbrev pub IsWithoutDoubles : {A : Type 0} → List A → Type 0
 IsWithoutDoubles {A} items = (i j : ℕ) (item : A) → slice_get items i ≡ Some item → slice_get items j ≡ Some item → i ≡ j
 

@@ -89,7 +89,7 @@ AreEarlier s = (e : World) → Contains (snapshots s.progress) e → IsEarlier e
 pub record IsSoundState (plan : Plan) (s : State) : Type 0 where
   pub world : IsWorld s.world
   pub able : IsAble plan s
-  pub filed : AreSoundBlocks (layout_of plan) s.allocation
+  pub sound_blocks : AreSoundBlocks (layout_of plan) s.allocation
   pub known : LieKnown s.world s.allocation
   pub cycle : IsInCycle s.progress s.world s.allocation
   pub earlier : AreEarlier s
@@ -100,7 +100,7 @@ pub record IsSoundRound (plan : Plan) (s : State) (rows : List Row) (t : State) 
   pub can : CanReplay s.world rows
   pub world : IsWorld t.world
   pub able : IsAble plan t
-  pub filed : AreSoundBlocks (layout_of plan) t.allocation
+  pub sound_blocks : AreSoundBlocks (layout_of plan) t.allocation
   pub known : LieKnown s.world t.allocation
   pub cycle : IsInCycle t.progress t.world t.allocation
   pub earlier : AreEarlier t

@@ -49,8 +49,8 @@ abbrev pub IsFullDue : Plan → State → Type 0
 IsFullDue plan s = (s.full ≡ true) ⊎ (is_short plan s ≡ true)
 
 -- current and active segments are filed as filled, so that the next cycle sweeps every segment
-abbrev pub all_filed : State → State
-all_filed s = record s { allocation = all_retired s.allocation }
+abbrev pub with_all_retired : State → State
+with_all_retired s = record s { allocation = all_retired s.allocation }
 
 -- a full cycle: a cycle in progress is finished, and then another begins and is finished
 pub record DoesFullCycle (s t : State) (cycles : List CycleRow) : Type 0 where
@@ -59,7 +59,7 @@ pub record DoesFullCycle (s t : State) (cycles : List CycleRow) : Type 0 where
   pub finishes : Finishes s idled before
   pub last : State
   pub own : List CycleRow
-  pub again : Finishes (cycle_started (all_filed idled)) last own
+  pub again : Finishes (cycle_started (with_all_retired idled)) last own
   pub told : cycles ≡ before ++ own
   pub rest : t ≡ record last { collect = false; full = false }
 
@@ -100,7 +100,7 @@ pub record IsStop (plan : Plan) (began : World) (s t : State) (row : StopRow) (c
   pub count : ℕ
   pub promotes : Promotes (layout_of plan) began s promoted count
   pub closed : State
-  pub closes : ClosesOrWaits plan.config.quota (IsFullDue plan promoted) promoted.progress promoted closed
+  pub closes : ClosesOrWaits plan.config.quota promoted.progress promoted closed
   pub ended : State
   pub first : List CycleRow
   pub ends : EndsOrWaits closed.progress closed ended first

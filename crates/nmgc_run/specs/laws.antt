@@ -2,12 +2,14 @@ pub mod Course
 pub mod Crowding
 pub mod Crowds
 pub mod CycleCounts
+pub mod Distinct
 pub mod Filing
 pub mod Frees
 pub mod FullHeaps
 pub mod Leaving
 pub mod Lefts
 pub mod Limits
+pub mod MarkedOnce
 pub mod Places
 pub mod Programs
 pub mod Remembering

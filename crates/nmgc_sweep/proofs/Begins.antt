@@ -10,8 +10,8 @@ use Rattle.nmgc_segment.specs.Segment.{Segment, free_segment}
 use Rattle.nmgc_segment.specs.declared.state.State.{State}
 use Rattle.nmgc_segment.specs.declared.state.State.TheVariants.{Free, Current, Active, Filled, Sweeping}
 use Rattle.nmgc_alloc.specs.Search.{nth, is}
-use Rattle.nmgc_alloc.specs.Segments.{Segments}
-use Rattle.nmgc_alloc.specs.Turns.{prepared_state}
+use Rattle.nmgc_alloc.specs.Segments.{Segments, IsWaiting}
+use Rattle.nmgc_alloc.specs.CycleSteps.{prepared_state}
 use Rattle.nmgc_alloc.specs.AllocState.{AllocState, Cells, StandsFor, LieOnce, LiesIn, IsIn, NoneIs, Exists, cells, name_in, cycle_begun}
 use Rattle.nmgc_alloc.specs.laws.Cells.{begun_cells}
 use Rattle.nmgc_alloc.specs.laws.Counts.{sweeping_none}
@@ -24,7 +24,7 @@ use Rattle.nmgc_run.specs.Marks.{HasNoted, IsWithoutDoubles, epoch_of}
 use Rattle.nmgc_run.specs.State.{Cycle}
 use Rattle.nmgc_sweep.specs.declared.notes.Note.{Note}
 use Rattle.nmgc_sweep.specs.declared.notes.Section.{Section}
-use Rattle.nmgc_sweep.specs.Sweeper.{Sweeper, AreLeft, AreSorted, HasNotes, IsNotesOf, IsWaiting, all_names, numbers_of}
+use Rattle.nmgc_sweep.specs.Sweeper.{Sweeper, AreLeft, AreSorted, HasNotes, IsNotesOf, all_names, numbers_of}
 use Rattle.nmgc_sweep.specs.Work.{HasBegun}
 use Rattle.nmgc_sweep.specs.Statements.{StartIsAsNoted, StaysAsNoted, StartIsNoted, LeftStays, ClosingBeginsWork, EndTellsCensus, LeftIsCounted}
 use Rattle.nmgc_sweep.proofs.Lists.{ascends_first, ascends_rest, distinct_once, once_distinct}

@@ -6,14 +6,14 @@ use Rattle.nmgc_graph.specs.declared.value.Name.{Name}
 use Rattle.nmgc_segment.specs.Segment.{Segment, mark_of}
 use Rattle.nmgc_segment.specs.declared.state.State.TheVariants.{Sweeping}
 use Rattle.nmgc_alloc.specs.Search.{nth}
-use Rattle.nmgc_alloc.specs.Segments.{Segments, HasNumber, IsChosen}
+use Rattle.nmgc_alloc.specs.Segments.{Segments, HasNumber, IsChosen, IsWaiting}
 use Rattle.nmgc_alloc.specs.AllocState.{AllocState, Cells, StandsFor, IsIn, IsTarget, LiesIn, cells, name_in, no_cells}
 use Rattle.nmgc_alloc.specs.laws.Numbers.{nth-set_other}
 use Rattle.nmgc_run.specs.Census.{IsKeptIn}
 use Rattle.nmgc_run.specs.Marks.{IsSettledByte}
 use Rattle.nmgc_run.specs.Seen.{CycleSeen}
 use Rattle.nmgc_run.specs.State.{Cycle}
-use Rattle.nmgc_sweep.specs.Sweeper.{Sweeper, IsWaiting}
+use Rattle.nmgc_sweep.specs.Sweeper.{Sweeper}
 use Rattle.nmgc_sweep.specs.Work.{IsAtWork}
 use Rattle.nmgc_sweep.specs.Statements.{KeepsWaiting, WorkGoesOn, PlacingKeepsWaiting}
 use Rattle.nmgc_sweep.proofs.Begins.{left_stays, waits_there}

@@ -5,13 +5,8 @@ use Rattle.std.proofs.lemmas.Option.{slice_get-get_or}
 use Rattle.std.proofs.lemmas.List.Elements.{Contains-append_cases}
 use Rattle.nmgc_graph.specs.declared.value.Name.{Name}
 use Rattle.nmgc_graph.specs.laws.Orders.{contains_head, contains_tail, contains_cases}
-use Rattle.nmgc_run.specs.Listing.{Ascends}
+use Rattle.nmgc_run.specs.Listing.{Ascends, AreDistinct}
 use Rattle.nmgc_run.specs.Marks.{IsWithoutDoubles}
-
--- no name comes again
-abbrev pub AreDistinct : List Name → Type 0
-AreDistinct [] = Unit {0}
-AreDistinct (x ∷ xs) = (Contains xs x → ⊥) × AreDistinct xs
 
 same_some : (x y : Name) → Some x ≡ Some y → x ≡ y
 same_some x y e = cc

@@ -8,11 +8,11 @@ use Rattle.nmgc_graph.specs.declared.value.Name.{Name}
 use Rattle.nmgc_graph.specs.laws.Orders.{contains_head, contains_tail, contains_cases}
 use Rattle.nmgc_segment.specs.Segment.{Segment, InUse, mark_of}
 use Rattle.nmgc_alloc.specs.AllocState.{AllocState, Cells, LieOnce, cells, name_in}
-use Rattle.nmgc_run.specs.Listing.{Ascends}
+use Rattle.nmgc_run.specs.Listing.{Ascends, AreDistinct}
 use Rattle.nmgc_sweep.specs.declared.notes.Note.{Note}
 use Rattle.nmgc_sweep.specs.declared.notes.Section.{Section}
 use Rattle.nmgc_sweep.specs.Sweeper.{AreApart, IsNotesOf, names_of, all_names, numbers_of, is_used, lost}
-use Rattle.nmgc_sweep.proofs.Lists.{AreDistinct, distinct_append, ascends_first, ascends_rest}
+use Rattle.nmgc_sweep.proofs.Lists.{distinct_append, ascends_first, ascends_rest}
 
 -- names in notes
 

@@ -14,9 +14,10 @@ use Rattle.std.proofs.lemmas.List.Sorted.{IsPermutation-keeps, IsPermutation-sym
 use Rattle.nmgc_graph.specs.declared.value.Name.{Name}
 use Rattle.nmgc_graph.specs.Reach.{IsBefore, IsInOrder}
 use Rattle.nmgc_graph.specs.laws.Orders.{same_name, contains_head}
+use Rattle.nmgc_run.specs.Listing.{AreDistinct}
 use Rattle.nmgc_run.specs.Marks.{IsWithoutDoubles}
 use Rattle.nmgc_sweep.specs.Sweeper.{AreSorted}
-use Rattle.nmgc_sweep.proofs.Lists.{AreDistinct, once_distinct}
+use Rattle.nmgc_sweep.proofs.Lists.{once_distinct}
 
 -- where the item at a place came from
 abbrev IsFrom : ℕ → ℕ → ℕ → ℕ → Type 0

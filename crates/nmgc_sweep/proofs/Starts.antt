@@ -17,7 +17,7 @@ use Rattle.nmgc_object.specs.Words.{IsName, name_word}
 use Rattle.nmgc_segment.specs.Segment.{Segment, InUse, block_count}
 use Rattle.nmgc_segment.specs.declared.state.State.TheVariants.{Free, Sweeping}
 use Rattle.nmgc_alloc.specs.Search.{nth}
-use Rattle.nmgc_alloc.specs.Segments.{Segments, HasNumber, IsSegments, IsBlockAt, block_place}
+use Rattle.nmgc_alloc.specs.Segments.{Segments, HasNumber, IsSegments, IsBlockAt, block_place, IsWaiting}
 use Rattle.nmgc_alloc.specs.AllocState.{AllocState, StandsFor, cells, name_in}
 use Rattle.nmgc_alloc.specs.laws.Apart.{lies_in}
 use Rattle.nmgc_alloc.specs.laws.Blocks.{used_within}
@@ -25,7 +25,7 @@ use Rattle.nmgc_alloc.specs.laws.Placing.{large}
 use Rattle.nmgc_sweep.specs.declared.notes.Note.{Note}
 use Rattle.nmgc_sweep.specs.declared.notes.Section.{Section}
 use Rattle.nmgc_run.specs.Listing.{ListsNumbers}
-use Rattle.nmgc_sweep.specs.Sweeper.{HasNotedBlocks, HasStood, IsNotesOf, IsWaiting, all_names, names_of, note_count, numbers_of, is_used, lost}
+use Rattle.nmgc_sweep.specs.Sweeper.{HasNotedBlocks, HasStood, IsNotesOf, all_names, names_of, note_count, numbers_of, is_used, lost}
 use Rattle.nmgc_sweep.specs.Work.{AddsSection, HasBegun, HasNotedBelow}
 use Rattle.nmgc_sweep.proofs.Begins.{waits_exists}
 use Rattle.nmgc_sweep.proofs.Lists.{ascends_push}

@@ -12,20 +12,21 @@ use Rattle.nmgc_segment.specs.Segment.{Segment, InUse, IsMarked, mark_of}
 use Rattle.nmgc_segment.specs.declared.state.State.TheVariants.{Sweeping}
 use Rattle.nmgc_segment.specs.laws.Segments.{mark-map, zero_swept}
 use Rattle.nmgc_alloc.specs.Search.{nth}
-use Rattle.nmgc_alloc.specs.Segments.{Segments, HasNumber, SweepsNext}
+use Rattle.nmgc_alloc.specs.Segments.{Segments, HasNumber, SweepsNext, IsWaiting}
 use Rattle.nmgc_alloc.specs.AllocState.{AllocState, Cells, StandsFor, Sweeps, SweepsEach, SweepsSome, HoldsKept, LiesIn, IsIn, cells, name_in}
 use Rattle.nmgc_alloc.specs.laws.Cells.{swept_by_names, swept_other, swept_state}
 use Rattle.nmgc_alloc.specs.laws.Numbers.{nth-set_other}
 use Rattle.nmgc_alloc.specs.laws.Sweeping.{swept_stands}
 use Rattle.nmgc_round.specs.Gate.{next_turn, passed}
 use Rattle.nmgc_run.specs.Census.{IsKeptIn, IsSweptIn}
+use Rattle.nmgc_run.specs.Listing.{AreDistinct}
 use Rattle.nmgc_run.specs.Marks.{HasNoted, IsFreedSoFar, IsSettledByte, epoch_of}
 use Rattle.nmgc_run.specs.Seen.{CycleSeen}
 use Rattle.nmgc_run.specs.State.{Cycle}
 use Rattle.nmgc_sweep.specs.declared.notes.Section.{Section}
-use Rattle.nmgc_sweep.specs.Sweeper.{Sweeper, AreLeft, AreSorted, IsNotesOf, IsWaiting, lost, numbers_of, turned}
+use Rattle.nmgc_sweep.specs.Sweeper.{Sweeper, AreLeft, AreSorted, IsNotesOf, lost, numbers_of, turned}
 use Rattle.nmgc_sweep.specs.Work.{HasSwept, IsAtWork}
-use Rattle.nmgc_sweep.proofs.Lists.{AreDistinct, ascends_first, ascends_rest, distinct_append, distinct_once, once_distinct}
+use Rattle.nmgc_sweep.proofs.Lists.{ascends_first, ascends_rest, distinct_append, distinct_once, once_distinct}
 use Rattle.nmgc_sweep.proofs.Noting.{lost_distinct, lost_from, lost_has}
 use Rattle.nmgc_sweep.proofs.Orders.{permuted_had, permuted_has, permuted_once}
 

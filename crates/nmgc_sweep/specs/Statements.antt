@@ -5,7 +5,7 @@ use Rattle.nmgc_graph.specs.Reach.{Lists}
 use Rattle.nmgc_object.specs.declared.layout.Layout.{Layout}
 use Rattle.nmgc_segment.specs.Segment.{mark_of}
 use Rattle.nmgc_alloc.specs.Search.{nth}
-use Rattle.nmgc_alloc.specs.Segments.{Segments, Allocates}
+use Rattle.nmgc_alloc.specs.Segments.{Segments, Allocates, IsWaiting}
 use Rattle.nmgc_alloc.specs.AllocState.{AllocState, StandsFor, LieOnce, NoneIs, IsIn, count_in, cycle_begun, cells, Places}
 use Rattle.nmgc_segment.specs.declared.state.State.TheVariants as stands
 use Rattle.nmgc_run.specs.Census.{IsDeadIn, IsKeptObject, IsSweptIn, IsHadIn, IsFreedIn}
@@ -14,7 +14,7 @@ use Rattle.nmgc_run.specs.Marks.{AreAsNoted, AreKeptMarked, AreSettled, epoch_of
 use Rattle.nmgc_run.specs.Seen.{CycleSeen}
 use Rattle.nmgc_run.specs.State.{Cycle}
 use Rattle.nmgc_sweep.specs.declared.notes.Section.{Section}
-use Rattle.nmgc_sweep.specs.Sweeper.{Sweeper, AreLeft, IsWaiting, HasNotes, numbers_of}
+use Rattle.nmgc_sweep.specs.Sweeper.{Sweeper, AreLeft, HasNotes, numbers_of}
 use Rattle.nmgc_sweep.specs.Work.{HasBegun, IsAtWork}
 
 -- a sweeper that starts as a cycle begins is the cycle's

@@ -4,9 +4,7 @@ use Rattle.std.specs.Ordering.{ordering_then, nat_cmp}
 use Rattle.std.specs.List.Sorted.{IsSortedByKey}
 use Rattle.nmgc_graph.specs.declared.value.Name.{Name}
 use Rattle.nmgc_segment.specs.Segment.{Segment, mark_of}
-use Rattle.nmgc_segment.specs.declared.state.State.TheVariants as stands
-use Rattle.nmgc_alloc.specs.Search.{nth}
-use Rattle.nmgc_alloc.specs.Segments.{Segments}
+use Rattle.nmgc_alloc.specs.Segments.{Segments, IsWaiting}
 use Rattle.nmgc_alloc.specs.AllocState.{AllocState, Cells, StandsFor, LieOnce, cells, name_in}
 use Rattle.nmgc_run.specs.Census.{IsSweptIn}
 use Rattle.nmgc_run.specs.Listing.{ListsNumbers}
@@ -67,10 +65,6 @@ pub record HasNotedBlocks (c : Cells) (block : ℕ) (notes : List Note) : Type 0
   pub lies : (note : Note) → Contains notes note → name_in c note.block ≡ Some note.name
   pub all : (b : ℕ) (name : Name) → b < block → name_in c b ≡ Some name → Contains notes (record { block = b; name = name })
   pub apart : AreApart notes
-
--- the segment waits to be swept
-abbrev pub IsWaiting : Segments → ℕ → Type 0
-IsWaiting segments number = (nth segments.segments number).state ≡ stands.Sweeping
 
 -- the segments that wait are exactly those that are left, in order
 abbrev pub AreLeft : Segments → List Section → Type 0

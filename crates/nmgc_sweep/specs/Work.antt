@@ -1,7 +1,7 @@
 -- What each call of a sweeper does to its cycle.
 use Rattle.std.specs.Prelude.{ℕ, ◌≡◌, ◌+◌, ◌<◌, List, [], ◌∷◌, ◌++◌, length, Contains}
 use Rattle.nmgc_graph.specs.declared.value.Name.{Name}
-use Rattle.nmgc_alloc.specs.Segments.{Segments}
+use Rattle.nmgc_alloc.specs.Segments.{Segments, IsWaiting}
 use Rattle.nmgc_alloc.specs.AllocState.{AllocState, StandsFor, SweepsSome, cells}
 use Rattle.nmgc_run.specs.Census.{IsKeptIn}
 use Rattle.nmgc_run.specs.Listing.{ListsNumbers}
@@ -9,7 +9,7 @@ use Rattle.nmgc_run.specs.Marks.{IsSweeping, AreSettled}
 use Rattle.nmgc_run.specs.Seen.{CycleSeen}
 use Rattle.nmgc_run.specs.State.{Cycle}
 use Rattle.nmgc_sweep.specs.declared.notes.Section.{Section}
-use Rattle.nmgc_sweep.specs.Sweeper.{Sweeper, AreInOrder, AreLeft, HasNotes, IsNotesOf, IsWaiting, all_names, names_of, numbers_of}
+use Rattle.nmgc_sweep.specs.Sweeper.{Sweeper, AreInOrder, AreLeft, HasNotes, IsNotesOf, all_names, names_of, numbers_of}
 
 -- one segment more was noted: its number, its names and its notes joined the lists
 pub record AddsSection (segments : Segments) (words : List ℕ) (number : ℕ) (numbers numbers_after : List ℕ) (sections sections_after : List Section) (names names_after : List Name) : Type 0 where

@@ -5,9 +5,9 @@ ghost use Rattle.nmgc_object.specs.Parts.{name_place};
 ghost use Rattle.nmgc_object.specs.Words.{IsName, name_word};
 ghost use Rattle.nmgc_segment.specs.Segment.{InUse, IsSegment, block_count};
 ghost use Rattle.nmgc_alloc.specs.Search.{nth};
-ghost use Rattle.nmgc_alloc.specs.Segments.{HasNumber};
+ghost use Rattle.nmgc_alloc.specs.Segments.{HasNumber, IsWaiting};
 ghost use Rattle.nmgc_alloc.specs.AllocState.{AllocState, StandsFor, cells};
-ghost use Rattle.nmgc_sweep.specs.Sweeper.{IsNotesOf, HasStood, IsWaiting, lost};
+ghost use Rattle.nmgc_sweep.specs.Sweeper.{IsNotesOf, HasStood, lost};
 
 use nmgc_alloc::Segments;
 use nmgc_graph::{List, Name, NoMemory};

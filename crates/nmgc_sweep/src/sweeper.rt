@@ -11,9 +11,9 @@
 //! runs, so the sort is one that keeps runs.
 ghost use Rattle.std.specs.Prelude.{ℕ, ◌≡◌, ◌≢◌, ◌+◌, ◌≤◌, [], length, min, IsTrue, IfOk, OnOk, ◌↔◌};
 ghost use Rattle.nmgc_segment.specs.Marks.{IsEpoch};
-ghost use Rattle.nmgc_alloc.specs.Segments.{HasNumber};
+ghost use Rattle.nmgc_alloc.specs.Segments.{HasNumber, IsWaiting};
 ghost use Rattle.nmgc_round.specs.Gate.{next_turn, passed};
-ghost use Rattle.nmgc_sweep.specs.Sweeper.{HasStood, IsWaiting, AreLeft, turned};
+ghost use Rattle.nmgc_sweep.specs.Sweeper.{HasStood, AreLeft, turned};
 ghost use Rattle.nmgc_sweep.specs.Work.{AddsSection, HasBegun, HasSwept};
 
 use crate::notes::{self, Section};

@@ -95,6 +95,78 @@ const EIGHT: [Name; 8] = [
     },
 ];
 
+// The other mutator's segment is the first; one more object is in a segment that isn't full.
+const NINE: [Name; 9] = [
+    Name {
+        maker: 1,
+        serial: 0,
+    },
+    Name {
+        maker: 1,
+        serial: 1,
+    },
+    Name {
+        maker: 1,
+        serial: 2,
+    },
+    Name {
+        maker: 1,
+        serial: 3,
+    },
+    Name {
+        maker: 0,
+        serial: 0,
+    },
+    Name {
+        maker: 0,
+        serial: 1,
+    },
+    Name {
+        maker: 0,
+        serial: 2,
+    },
+    Name {
+        maker: 0,
+        serial: 3,
+    },
+    Name {
+        maker: 0,
+        serial: 4,
+    },
+];
+
+// Of those in full segments, these are left unmarked.
+const UNMARKED_OF_NINE: [Name; 3] = [
+    Name {
+        maker: 1,
+        serial: 0,
+    },
+    Name {
+        maker: 1,
+        serial: 2,
+    },
+    Name {
+        maker: 1,
+        serial: 3,
+    },
+];
+
+// All but the third.
+const UNMARKED_OF_FOUR: [Name; 3] = [
+    Name {
+        maker: 0,
+        serial: 0,
+    },
+    Name {
+        maker: 0,
+        serial: 1,
+    },
+    Name {
+        maker: 0,
+        serial: 3,
+    },
+];
+
 // Places an object of four words and writes its name's word.
 fn place(rt: &impl Abort, words: &mut Vec<u64>, segments: &mut Segments, name: Name) -> Address
     requires { HasStood segments.old words.old.items }
@@ -169,22 +241,9 @@ fn check(rt: &impl Abort, alloc: Global, row: Row) -> Result<(), Fail> {
         places.push(place(rt, &mut words, &mut segments, *name))?;
     }
     begin(rt, words.as_slice(), &mut segments, row.retired);
-    mark(
-        rt,
-        words.as_slice(),
-        &mut segments,
-        places.as_slice(),
-        row.stale,
-        1,
-    );
-    mark(
-        rt,
-        words.as_slice(),
-        &mut segments,
-        places.as_slice(),
-        row.marked,
-        2,
-    );
+    let at = places.as_slice();
+    mark(rt, words.as_slice(), &mut segments, at, row.stale, 1);
+    mark(rt, words.as_slice(), &mut segments, at, row.marked, 2);
     let mut sweeper = Sweeper::start(alloc, &mut words, &segments, 2)?;
     assert_eq!(rt; sweeper.freed().len(), 0);
     for turn in 0..row.works {
@@ -208,70 +267,19 @@ fn check(rt: &impl Abort, alloc: Global, row: Row) -> Result<(), Fail> {
 }
 
 #[test]
-fn cycles(rt: HostRuntime) -> Result<(), Fail> {
-    // The other mutator's segment is the first; one more object is in a segment that isn't full.
+fn two_mutators_and_stale_marks(rt: HostRuntime) -> Result<(), Fail> {
     check(
         &rt,
         rt.alloc(),
         Row {
-            placed: &[
-                Name {
-                    maker: 1,
-                    serial: 0,
-                },
-                Name {
-                    maker: 1,
-                    serial: 1,
-                },
-                Name {
-                    maker: 1,
-                    serial: 2,
-                },
-                Name {
-                    maker: 1,
-                    serial: 3,
-                },
-                Name {
-                    maker: 0,
-                    serial: 0,
-                },
-                Name {
-                    maker: 0,
-                    serial: 1,
-                },
-                Name {
-                    maker: 0,
-                    serial: 2,
-                },
-                Name {
-                    maker: 0,
-                    serial: 3,
-                },
-                Name {
-                    maker: 0,
-                    serial: 4,
-                },
-            ],
+            placed: &NINE,
             retired: false,
             stale: &[],
             marked: &[1, 4, 5, 6, 7],
             works: 2,
             swept: &[0, 1],
             had: &EIGHT,
-            freed: &[
-                Name {
-                    maker: 1,
-                    serial: 0,
-                },
-                Name {
-                    maker: 1,
-                    serial: 2,
-                },
-                Name {
-                    maker: 1,
-                    serial: 3,
-                },
-            ],
+            freed: &UNMARKED_OF_NINE,
             states: &[
                 State::Active,
                 State::Filled,
@@ -292,24 +300,15 @@ fn cycles(rt: HostRuntime) -> Result<(), Fail> {
             works: 1,
             swept: &[0],
             had: &FOUR,
-            freed: &[
-                Name {
-                    maker: 0,
-                    serial: 0,
-                },
-                Name {
-                    maker: 0,
-                    serial: 1,
-                },
-                Name {
-                    maker: 0,
-                    serial: 3,
-                },
-            ],
+            freed: &UNMARKED_OF_FOUR,
             states: &[State::Active],
         },
-    )?;
-    // A retired segment has blocks that aren't in use.
+    )
+}
+
+// A retired segment has blocks that aren't in use.
+#[test]
+fn retired_segments(rt: HostRuntime) -> Result<(), Fail> {
     check(
         &rt,
         rt.alloc(),
@@ -339,8 +338,12 @@ fn cycles(rt: HostRuntime) -> Result<(), Fail> {
             freed: &[],
             states: &[State::Active],
         },
-    )?;
-    // What no call of a round swept is swept in the end; and with nothing filled, nothing is.
+    )
+}
+
+// What no call of a round swept is swept in the end; and with nothing filled, nothing is.
+#[test]
+fn the_rest_and_nothing(rt: HostRuntime) -> Result<(), Fail> {
     check(
         &rt,
         rt.alloc(),

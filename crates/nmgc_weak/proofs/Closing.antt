@@ -20,7 +20,7 @@ use Rattle.nmgc_reach.specs.laws.ItemLaws.{nothing_in}
 use Rattle.std.proofs.lemmas.List.{get_or_past}
 use Rattle.std.proofs.lemmas.Bool.{cases_lt}
 use Rattle.std.proofs.Common.{length}
-use Rattle.nmgc_weak.specs.Steps.{IsShown, IsLost}
+use Rattle.nmgc_weak.specs.Steps.{IsKeyMarked, IsLost}
 
 none_of : (lists : List (List Name)) → AreEmpty lists → (m : ℕ) → names_of lists m ≡ []
 none_of lists h m = elim (cases_lt m (length lists)) [ inl lt ↦ h m [] lt | inr le ↦ get_or_past lists m [] le ]
@@ -44,16 +44,16 @@ module _ (s : State) (f : Facts s) (queue : s.queue ≡ []) (owed : AreEmpty s.o
         | inr ahead ↦ absurd (none_ahead name i.0 c ahead.1)
       ]
 
-  -- every waiting weak pointer whose key is shown has marked its parts: then what is live is marked
-  module _ (full : (weak target : Name) (parts : Parts) → IsWaiting s weak parts → IsShown s.marked parts.key → IsKeptBy weak parts target → Contains s.marked target) where
-    by_weak : (weak target : Name) (parts : Parts) → IsAlive s.snapshot weak parts → IsShown s.marked parts.key → IsKeptBy weak parts target → Contains s.marked target
+  -- every waiting weak pointer whose key is marked has marked its parts: then what is live is marked
+  module _ (full : (weak target : Name) (parts : Parts) → IsWaiting s weak parts → IsKeyMarked s.marked parts.key → IsKeptBy weak parts target → Contains s.marked target) where
+    by_weak : (weak target : Name) (parts : Parts) → IsAlive s.snapshot weak parts → IsKeyMarked s.marked parts.key → IsKeptBy weak parts target → Contains s.marked target
     by_weak weak target parts alive shown kept = by_test (is_listed weak s.finalised) refl
       where
         by_test : (b : Bool) → is_listed weak s.finalised ≡ b → Contains s.marked target
         by_test true e = safe_marked target (f.finalised weak target parts (contains_listed weak s.finalised e) alive kept)
         by_test false e = full weak target parts (record { alive = alive; not_finalised = not_listed weak s.finalised e }) shown kept
 
-    plain_shown : (v : Value) → IsPlain v → IsShown s.marked v
+    plain_shown : (v : Value) → IsPlain v → IsKeyMarked s.marked v
     plain_shown value.Nil p = tt
     plain_shown (value.Number n) p = tt
     plain_shown (value.Ref name) p = absurd p
@@ -63,19 +63,19 @@ module _ (s : State) (f : Facts s) (queue : s.queue ≡ []) (owed : AreEmpty s.o
     live_marked name (reach.further n c there) = safe_marked n (f.opened n c there)
     live_marked name (reach.field n target l r) = field_marked n target (live_marked n l) r
     live_marked name (reach.plain_key weak target parts alive plain kept) = by_weak weak target parts alive (plain_shown parts.key plain) kept
-    live_marked name (reach.live_key weak target key parts alive is l kept) = by_weak weak target parts alive (subst (IsShown s.marked) (sym is) (live_marked key l)) kept
+    live_marked name (reach.live_key weak target key parts alive is l kept) = by_weak weak target parts alive (subst (IsKeyMarked s.marked) (sym is) (live_marked key l)) kept
 
     -- a lost weak pointer is one that dies
     pub lost_dead : (weak : Name) → IsLost s weak → IsDead s.snapshot s.opened s.finalised weak
     lost_dead weak l = by_key l.parts.key refl
       where
         by_key : (v : Value) → l.parts.key ≡ v → IsDead s.snapshot s.opened s.finalised weak
-        by_key value.Nil e = absurd (l.lost (subst (IsShown s.marked) (sym e) tt))
-        by_key (value.Number n) e = absurd (l.lost (subst (IsShown s.marked) (sym e) tt))
-        by_key (value.Ref key) e = record { parts = l.parts; alive = l.waiting.alive; not_finalised = l.waiting.not_finalised; key = key; key_is = e; lost = λ live. l.lost (subst (IsShown s.marked) (sym e) (live_marked key live)) }
+        by_key value.Nil e = absurd (l.lost (subst (IsKeyMarked s.marked) (sym e) tt))
+        by_key (value.Number n) e = absurd (l.lost (subst (IsKeyMarked s.marked) (sym e) tt))
+        by_key (value.Ref key) e = record { parts = l.parts; alive = l.waiting.alive; not_finalised = l.waiting.not_finalised; key = key; key_is = e; lost = λ live. l.lost (subst (IsKeyMarked s.marked) (sym e) (live_marked key live)) }
 
     pub dead_lost : (weak : Name) → IsDead s.snapshot s.opened s.finalised weak → IsLost s weak
-    dead_lost weak d = record { parts = d.parts; waiting = record { alive = d.alive; not_finalised = d.not_finalised }; lost = λ shown. d.lost (f.base.live d.key (let c : IsShown s.marked (value.Ref d.key) = subst (IsShown s.marked) d.key_is shown in c)) }
+    dead_lost weak d = record { parts = d.parts; waiting = record { alive = d.alive; not_finalised = d.not_finalised }; lost = λ shown. d.lost (f.base.live d.key (let c : IsKeyMarked s.marked (value.Ref d.key) = subst (IsKeyMarked s.marked) d.key_is shown in c)) }
 
 -- a state that may close, whose end is told by live and kept names alone
 module _ (s : State) (f : Facts s) (queue : s.queue ≡ []) (owed : AreEmpty s.owed) (pushed : AreEmpty s.pushed) where

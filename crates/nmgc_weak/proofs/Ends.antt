@@ -18,10 +18,10 @@ use Rattle.nmgc_round.specs.View.{Opening}
 use Rattle.nmgc_run.specs.Census.{IsDeadIn, IsKeptIn, interval_of}
 use Rattle.nmgc_run.specs.Marker.{IsCoreOf}
 use Rattle.nmgc_run.specs.State.{Cycle}
+use Rattle.nmgc_run.specs.laws.Distinct.{others_counted}
+use Rattle.nmgc_run.specs.laws.MarkedOnce.{once_runs, once_opening}
 use Rattle.nmgc_mark.specs.Blocks.{AreOfBlocks, TiesAgree}
 use Rattle.nmgc_weak.specs.Closes.{CycleMayResolve, CycleCloses}
-use Rattle.nmgc_weak.proofs.Once.{once_runs, once_opening}
-use Rattle.nmgc_weak.proofs.Sorting.{others_counted}
 
 facts_of : (c : Cycle) (w : World) (core : State) → IsSound (interval_of c) → IsCoreOf c w core → Facts core
 facts_of c w core sound m = facts_kept c.snapshot sound.world m.events c.rows core m.runs m.open_yet

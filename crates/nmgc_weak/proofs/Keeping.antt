@@ -1,4 +1,4 @@
--- A weak pointer whose key is shown keeps its parts: they are marked, and the state may close as before.
+-- A weak pointer whose key is marked keeps its parts: they are marked, and the state may close as before.
 use Rattle.std.proofs.Common.{◌≡◌, ℕ, List, refl, sym, ap, subst, ◌∙◌, Option, Some, inl, inr}
 use Rattle.std.specs.Prelude.{Contains, IsSome, slice_index}
 use Rattle.nmgc_graph.specs.declared.value.Name.{Name}
@@ -20,13 +20,13 @@ use Rattle.nmgc_round.specs.View.{Opening}
 use Rattle.nmgc_run.specs.Seen.{MarkerSeen}
 use Rattle.nmgc_mark.specs.Stopped.{IsReady, HasFinished}
 use Rattle.nmgc_mark.specs.Tie.{IsTied, AreApart}
-use Rattle.nmgc_weak.specs.Steps.{IsShown, CanKeep, HasKept}
+use Rattle.nmgc_weak.specs.Steps.{IsKeyMarked, CanKeep, HasKept}
 use Rattle.nmgc_weak.specs.Weaks.{value_place, finaliser_place}
 use Rattle.nmgc_weak.proofs.Parts.{ref_in, named_at, meant, HasParts, has_parts, of_weak_tracked, may_queue}
 use Rattle.nmgc_weak.proofs.Stages.{with_marks, done_marks, Stage, CanMark, stage_mark, marked_there, marked_still, stage_ready, stage_begins, stage_done, done_goes}
 
--- where the key of a weak pointer of the snapshot is shown, what it keeps is live
-kept_live : (s : State) → Facts s → (weak target : Name) (parts : Parts) → IsAlive s.snapshot weak parts → (key : Value) → parts.key ≡ key → IsShown s.marked key → IsKeptBy weak parts target → IsLive s.snapshot s.opened target
+-- where the key of a weak pointer of the snapshot is marked, what it keeps is live
+kept_live : (s : State) → Facts s → (weak target : Name) (parts : Parts) → IsAlive s.snapshot weak parts → (key : Value) → parts.key ≡ key → IsKeyMarked s.marked key → IsKeptBy weak parts target → IsLive s.snapshot s.opened target
 kept_live s f weak target parts alive value.Nil e shown kept = plain_key weak target parts alive (subst IsPlain (sym e) tt) kept
 kept_live s f weak target parts alive (value.Number n) e shown kept = plain_key weak target parts alive (subst IsPlain (sym e) tt) kept
 kept_live s f weak target parts alive (value.Ref key) e shown kept = live_key weak target key parts alive e (f.base.live key shown) kept
@@ -57,7 +57,7 @@ module _ (o : Opening) (words : List ℕ) (s : Segments) (marker : MarkerSeen) (
   -- each of the three may be marked
   can_mark : (target : Name) → IsKeptBy weak parts target → CanMark o o.core.opened (Some target)
   can_mark target kept = (
-    λ there. kept_live o.core h.can.facts weak target parts ((h.can.facts.base.weaks weak parts alive).old h.known) parts.key refl (h.shown parts alive) kept,
+    λ there. kept_live o.core h.can.facts weak target parts ((h.can.facts.base.weaks weak parts alive).old h.known) parts.key refl (h.key_marked parts alive) kept,
     λ there. may_queue o words target h.can.marking h.can.ready.opens h.can.earlier_are (of_weak_tracked o weak target parts alive (of_weak weak target parts kept)) there,
   )
 

@@ -9,7 +9,7 @@ use Rattle.nmgc_graph.specs.declared.value.Value.TheVariants as value
 use Rattle.nmgc_graph.specs.declared.node.Node.{Node}
 use Rattle.nmgc_graph.specs.World.{World, node_of, state_of}
 use Rattle.nmgc_graph.specs.Reach.{IsAlive, IsRoot, field, further}
-use Rattle.nmgc_reach.specs.Holds.{Names, Fields, Holds, Stands}
+use Rattle.nmgc_reach.specs.Holds.{Names, Fields, CoversReach, HasStrongField}
 use Rattle.nmgc_core.specs.Facts.{MayHold, AsThen, IsSafe, Kept, Base, Facts, owed, pushed, queued, marked, unmarked}
 use Rattle.nmgc_core.specs.State.{State, names_of, mark_name}
 use Rattle.nmgc_core.specs.laws.Listed.{all_from_contains}
@@ -35,7 +35,7 @@ module _ (s : State) (f : Facts s) (added : Name) (there : IsSome (node_of s.sna
   more_names : (names : List Name) → All (MayHold s) names → All (MayHold wider) names
   more_names names h k d at = more (get_or names k d) (h k d at)
 
-  more_holds : Holds (MayHold wider) s.world
+  more_holds : CoversReach (MayHold wider) s.world
   more_holds = record {
     registers = λ k. more_values (state_of s.world k).registers (f.base.holds.registers k);
     queues = λ k. more_values (state_of s.world k).queue (f.base.holds.queues k);
@@ -98,7 +98,7 @@ module _ (s : State) (f : Facts s) (added : Name) (there : IsSome (node_of s.sna
   opened_facts = record {
     base = mark_base wider added wider_base (λ t. further added (Contains-push s.opened added) t);
     roots = λ name r. still_marked wider added name (f.roots name (of_snapshot (λ w. IsRoot w name) r));
-    kept = λ name i target h. kept_then wider added name i target (kept_wider name i target (f.kept name i target (of_snapshot (λ w. Stands w name i (value.Ref target)) h)));
+    kept = λ name i target h. kept_then wider added name i target (kept_wider name i target (f.kept name i target (of_snapshot (λ w. HasStrongField w name i (value.Ref target)) h)));
     opened = λ name c t. elim (Contains-push_cases s.opened added name (opened_is name c)) [
       | inl old ↦ safe_then name (f.opened name old (of_snapshot (λ w. IsSome (node_of w name)) t))
       | inr same ↦ subst (λ (n : Name). IsSafe (mark_name wider added) n) same is_marked

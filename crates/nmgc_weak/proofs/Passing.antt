@@ -19,7 +19,7 @@ use Rattle.nmgc_round.specs.View.{Opening}
 use Rattle.nmgc_run.specs.Seen.{MarkerSeen}
 use Rattle.nmgc_weak.specs.declared.weaks.OldWeak.{OldWeak}
 use Rattle.nmgc_weak.specs.Resolve.{CanResolve}
-use Rattle.nmgc_weak.specs.Steps.{IsShown, IsShownWord, IsLostAt, IsLost, MarksOn, GoesTo, CanKeep, HasKept, HasPassed, HasRevived}
+use Rattle.nmgc_weak.specs.Steps.{IsKeyMarked, IsKeyMarkedWord, IsLostAt, IsLost, MarksOn, GoesTo, CanKeep, HasKept, HasPassed, HasRevived}
 use Rattle.nmgc_weak.specs.Weaks.{place_of, places_of, names_of, key_place}
 use Rattle.nmgc_weak.proofs.Showing.{snapshot_is, snapshot_back, lost_is, shown_is}
 use Rattle.nmgc_weak.proofs.Keeping.{one_parts}
@@ -42,7 +42,7 @@ then_marks o p q a b = record {
 pub still_marked : (o p : Opening) → MarksOn o p → (name : Name) → Contains o.core.marked name → Contains p.core.marked name
 still_marked o p m name c = subst (λ (l : List Name). Contains l name) (sym m.marked) (Contains-append_left o.core.marked m.more name c)
 
-still_shown : (o p : Opening) → MarksOn o p → (v : Value) → IsShown o.core.marked v → IsShown p.core.marked v
+still_shown : (o p : Opening) → MarksOn o p → (v : Value) → IsKeyMarked o.core.marked v → IsKeyMarked p.core.marked v
 still_shown o p m value.Nil h = tt
 still_shown o p m (value.Number n) h = tt
 still_shown o p m (value.Ref name) h = still_marked o p m name h
@@ -69,13 +69,13 @@ then_goes o p q words s t k l weaks a b = record { later = then_marks o p q a.la
 pub stays : (o : Opening) (words : List ℕ) (s : Segments) (k : MarkerSeen) (weaks : List Place) → CanResolve o words s k weaks → GoesTo o o words s k weaks
 stays o words s k weaks h = record { later = same_marks o; can = h }
 
--- one weak pointer of the snapshot whose word is shown
-pub can_keep : (o : Opening) (words : List ℕ) (s : Segments) (k : MarkerSeen) (weaks : List Place) (weak : OldWeak) → CanResolve o words s k weaks → Contains weaks (place_of weak) → IsEpoch k.epoch → IsSnapshotAt s weak.at.0 → IsShownWord s k.epoch (slice_index words (key_place weak.at.0)) → CanKeep o words s k weaks weak.at.0 weak.weak
+-- one weak pointer of the snapshot whose key's word tells that the key is marked
+pub can_keep : (o : Opening) (words : List ℕ) (s : Segments) (k : MarkerSeen) (weaks : List Place) (weak : OldWeak) → CanResolve o words s k weaks → Contains weaks (place_of weak) → IsEpoch k.epoch → IsSnapshotAt s weak.at.0 → IsKeyMarkedWord s k.epoch (slice_index words (key_place weak.at.0)) → CanKeep o words s k weaks weak.at.0 weak.weak
 can_keep o words s k weaks weak h c epoch snap shown = record {
   can = h;
   listed = c;
   known = (snapshot_is o words s k weaks h epoch weak.at.0 weak.weak c).0 snap;
-  shown = λ parts alive. shown_is o words s k weaks h epoch weak.at.0 weak.weak c snap shown parts alive;
+  key_marked = λ parts alive. shown_is o words s k weaks h epoch weak.at.0 weak.weak c snap shown parts alive;
 }
 
 -- it has kept its parts
@@ -106,13 +106,13 @@ none_kept o words s k weaks weak h c why = record {
     snap_of : (parts : Parts) → IsWaiting o.core weak.weak parts → IsSnapshotAt s weak.at.0
     snap_of parts w = snapshot_back o words s k weaks h weak.at.0 weak.weak c (there parts w)
 
-    none : (parts : Parts) → IsWaiting o.core weak.weak parts → IsShown o.core.marked parts.key → ⊥
+    none : (parts : Parts) → IsWaiting o.core weak.weak parts → IsKeyMarked o.core.marked parts.key → ⊥
     none parts w shown = elim why [
       | inl lost ↦
           let l : IsLost o.core weak.weak = (lost_is o words s k weaks h lost.0 weak.at.0 weak.weak c).0 lost.1 in
           let a : IsAlive o.core.snapshot weak.weak l.parts = l.waiting.alive in
           let same : l.parts ≡ parts = one_parts o.core.snapshot weak.weak l.parts parts a w.alive in
-          l.lost (subst (λ (p : Parts). IsShown o.core.marked p.key) (sym same) shown)
+          l.lost (subst (λ (p : Parts). IsKeyMarked o.core.marked p.key) (sym same) shown)
       | inr out ↦ out (snap_of parts w)
     ]
 
@@ -158,7 +158,7 @@ saturated o words s t k l list h count p =
           let before : IsWaiting o.core weak parts = waiting_back o n p.goes.later weak parts waiting in
           let place = listed_place o words s k (places_of list) h weak parts before in
           let c : Contains (names_of list) weak = subst (λ (x : Name). Contains (names_of list) x) place.2 (place_has_name list place.0 place.1) in
-          p.kept weak target parts c before (subst (λ (m : List Name). IsShown m parts.key) same shown) kept;
+          p.kept weak target parts c before (subst (λ (m : List Name). IsKeyMarked m parts.key) same shown) kept;
     }
 
 -- from one round of passes to the next

@@ -1,12 +1,8 @@
 -- Scans alone change marks and queue, mark more, and keep the facts.
-use Rattle.std.proofs.Common.{◌≡◌, List, [], ◌∷◌, ◌++◌, refl, sym, ap, subst, ◌∙◌, append-nil, append_assoc, Option, Some, None, inl, inr}
-use Rattle.std.specs.Prelude.{Contains, is_some, not}
+use Rattle.std.proofs.Common.{◌≡◌, List, [], ◌∷◌, ◌++◌, refl, sym, ap, subst, ◌∙◌, append-nil, append_assoc, Option, Some, None}
+use Rattle.std.specs.Prelude.{is_some, not}
 use Rattle.std.proofs.lemmas.Bool.{and_parts, not-true}
-use Rattle.nmgc_graph.specs.laws.Orders.{contains_head, contains_tail}
-use Rattle.nmgc_reach.specs.laws.ItemLaws.{nothing_in, one_is}
 use Rattle.nmgc_core.specs.laws.Listed.{not_listed}
-use Rattle.nmgc_weak.specs.Resolve.{AreOnce}
-use Rattle.std.proofs.lemmas.List.Elements.{Contains-append_cases}
 use Rattle.nmgc_graph.specs.declared.value.Name.{Name}
 use Rattle.nmgc_graph.specs.declared.value.Value.{Value}
 use Rattle.nmgc_graph.specs.declared.value.Value.TheVariants as value
@@ -19,25 +15,16 @@ use Rattle.nmgc_core.specs.State.{State, mark_name, mark_value, mark_read, is_li
 use Rattle.nmgc_core.specs.laws.Marking.{mark_cases}
 use Rattle.nmgc_core.specs.laws.Scans.{scan_facts}
 use Rattle.nmgc_round.specs.Events.{Happening, did, scanned, replay}
+use Rattle.nmgc_run.specs.Listing.{AreDistinct}
+use Rattle.nmgc_run.specs.laws.Distinct.{distinct_push}
 use Rattle.nmgc_mark.specs.Stopped.{AreScans}
-
--- a name more
-pub once_push : (xs : List Name) (x : Name) → AreOnce xs → (Contains xs x → ⊥) → AreOnce (xs ++ x ∷ [])
-once_push [] x once not_ = (λ c. nothing_in x c, tt)
-once_push (y ∷ xs) x once not_ = (
-  λ c. elim (Contains-append_cases xs (x ∷ []) y c) [
-    | inl d ↦ once.0 d
-    | inr d ↦ not_ (subst (λ (n : Name). Contains (y ∷ xs) n) (sym (one_is x y d)) (contains_head y xs))
-  ],
-  once_push xs x once.1 (λ c. not_ (contains_tail y xs x c)),
-)
 
 -- marks and queue alone are others, and more is marked
 pub record MarksMore (s t : State) : Type 0 where
   pub more : List Name
   pub marked : t.marked ≡ s.marked ++ more
   pub rest : t ≡ record s { marked = t.marked; queue = t.queue }
-  pub once : AreOnce s.marked → AreOnce t.marked
+  pub once : AreDistinct s.marked → AreDistinct t.marked
 
 same_marks : (s : State) → MarksMore s s
 same_marks s = record { more = []; marked = sym (append-nil s.marked); rest = refl; once = λ o. o }
@@ -51,7 +38,7 @@ then_marks s t u a b = record {
 }
 
 pub name_marks : (s : State) (name : Name) → MarksMore s (mark_name s name)
-name_marks s name = mark_cases (MarksMore s) s name (λ e. record { more = name ∷ []; marked = refl; rest = refl; once = λ o. once_push s.marked name o (not_listed name s.marked (not-true (is_listed name s.marked) (and_parts (is_some (node_of s.snapshot name)) (not (is_listed name s.marked)) e).1)) }) (λ e. same_marks s)
+name_marks s name = mark_cases (MarksMore s) s name (λ e. record { more = name ∷ []; marked = refl; rest = refl; once = λ o. distinct_push s.marked name o (not_listed name s.marked (not-true (is_listed name s.marked) (and_parts (is_some (node_of s.snapshot name)) (not (is_listed name s.marked)) e).1)) }) (λ e. same_marks s)
 
 value_marks : (s : State) (v : Value) → MarksMore s (mark_value s v)
 value_marks s value.Nil = same_marks s

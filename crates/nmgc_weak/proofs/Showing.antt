@@ -20,7 +20,7 @@ use Rattle.nmgc_heap.specs.Places.{Place, Means, LiesWell}
 use Rattle.nmgc_round.specs.View.{Opening}
 use Rattle.nmgc_run.specs.Seen.{MarkerSeen}
 use Rattle.nmgc_weak.specs.Resolve.{CanResolve}
-use Rattle.nmgc_weak.specs.Steps.{IsShown, IsShownWord, IsLostAt, IsLost}
+use Rattle.nmgc_weak.specs.Steps.{IsKeyMarked, IsKeyMarkedWord, IsLostAt, IsLost}
 use Rattle.nmgc_weak.specs.Weaks.{key_place}
 use Rattle.nmgc_weak.proofs.Parts.{has_parts}
 use Rattle.nmgc_weak.proofs.Keeping.{one_parts}
@@ -74,7 +74,7 @@ module _ (o : Opening) (words : List ℕ) (s : Segments) (marker : MarkerSeen) (
       )
 
   -- a word that stands for a key shows what the key does
-  pub word_shown : (w : ℕ) (v : Value) → Means (Contains o.places) w v → ((name : Name) → v ≡ value.Ref name → IsSome (node_of o.core.snapshot name)) → IsShownWord s marker.epoch w ↔ IsShown o.core.marked v
+  pub word_shown : (w : ℕ) (v : Value) → Means (Contains o.places) w v → ((name : Name) → v ≡ value.Ref name → IsSome (node_of o.core.snapshot name)) → IsKeyMarkedWord s marker.epoch w ↔ IsKeyMarked o.core.marked v
   word_shown w value.Nil means there = (λ x. tt, λ x. inl (λ e. omega arith))
   word_shown w (value.Number n) means there = (λ x. tt, λ x. inl (λ e. omega arith))
   word_shown w (value.Ref name) means there =
@@ -133,11 +133,11 @@ module _ (o : Opening) (words : List ℕ) (s : Segments) (marker : MarkerSeen) (
             let alive = h.facts.base.alive weak lost.parts lost.waiting.alive lost.waiting.not_finalised in
             let same : lost.parts ≡ parts = one_parts o.core.world weak lost.parts parts alive l.1.1 in
             let there : IsSome (node_of o.core.snapshot weak) = subst (λ o. IsSome o) (sym lost.waiting.alive) refl in
-            (snap.1 there, λ shown. lost.lost (subst (λ (p : Parts). IsShown o.core.marked p.key) (sym same) ((word_shown (slice_index words (key_place at)) parts.key means (key_known weak parts (subst (λ (p : Parts). IsAlive o.core.snapshot weak p) same lost.waiting.alive))).0 shown))),
+            (snap.1 there, λ shown. lost.lost (subst (λ (p : Parts). IsKeyMarked o.core.marked p.key) (sym same) ((word_shown (slice_index words (key_place at)) parts.key means (key_known weak parts (subst (λ (p : Parts). IsAlive o.core.snapshot weak p) same lost.waiting.alive))).0 shown))),
       )
 
-  -- one of the snapshot whose word is shown has a key that is shown
-  pub shown_is : (at : ℕ) (weak : Name) → Contains weaks (record { at = at; name = weak }) → IsSnapshotAt s at → IsShownWord s marker.epoch (slice_index words (key_place at)) → (parts : Parts) → IsAlive o.core.world weak parts → IsShown o.core.marked parts.key
+  -- one of the snapshot whose key's word tells that the key is marked has a key that is marked
+  pub shown_is : (at : ℕ) (weak : Name) → Contains weaks (record { at = at; name = weak }) → IsSnapshotAt s at → IsKeyMarkedWord s marker.epoch (slice_index words (key_place at)) → (parts : Parts) → IsAlive o.core.world weak parts → IsKeyMarked o.core.marked parts.key
   shown_is at weak c snap shown parts alive =
       let l = h.listed.sound (record { at = at; name = weak }) c in
       let there = (snapshot_is at weak c).0 snap in

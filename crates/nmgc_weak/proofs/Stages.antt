@@ -18,12 +18,14 @@ use Rattle.nmgc_round.specs.Objects.{Object, IsOld}
 use Rattle.nmgc_round.specs.Rule.{IsOpening, IsQueued, now}
 use Rattle.nmgc_round.specs.Starting.{CanOpen, HandStands}
 use Rattle.nmgc_round.specs.View.{Opening, Hand}
+use Rattle.nmgc_run.specs.Listing.{AreDistinct}
 use Rattle.nmgc_run.specs.Seen.{MarkerSeen}
+use Rattle.nmgc_run.specs.laws.Distinct.{distinct_push}
 use Rattle.nmgc_mark.specs.Stopped.{IsReady, HasFinished}
 use Rattle.nmgc_mark.specs.Tie.{IsTied}
-use Rattle.nmgc_weak.specs.Resolve.{AreOnce, CanResolve}
+use Rattle.nmgc_weak.specs.Resolve.{CanResolve}
 use Rattle.nmgc_weak.specs.Steps.{GoesTo}
-use Rattle.nmgc_weak.proofs.Scans.{MarksMore, scans_mark, scans_facts, once_push}
+use Rattle.nmgc_weak.proofs.Scans.{MarksMore, scans_mark, scans_facts}
 
 -- the opening with other opened names and other marks
 abbrev pub remade : Opening → List Name → Marks → Opening
@@ -95,7 +97,7 @@ pub record Stage (o : Opening) (opened : List Name) (m : Marks) (s : Segments) (
   pub marked : m.marked ≡ o.core.marked ++ more
   pub tied : IsTied o m s marker
   pub facts : Facts (remade o opened m).core
-  pub once : AreOnce m.marked
+  pub once : AreDistinct m.marked
   pub queued : (entry : Entry) → Contains m.queue entry → IsQueued o entry
 
 -- a name that may be marked: it is live or new, and one of the snapshot has its object
@@ -109,8 +111,8 @@ more_marks m name = record { marked = m.marked ++ name ∷ []; queue = m.queue +
 pub name_cases : (R : Marks → Type 0) (snapshot : World) (m : Marks) (name : Name) → ((is_some (node_of snapshot name) && not (is_listed name m.marked)) ≡ true → R (more_marks m name)) → ((is_some (node_of snapshot name) && not (is_listed name m.marked)) ≡ false → R m) → R (with_name snapshot m (Some name))
 name_cases R snapshot m name new old = cond_both (is_some (node_of snapshot name) && not (is_listed name m.marked)) (more_marks m name) m R new old
 
-pub push_once : (snapshot : World) (m : Marks) (name : Name) → AreOnce m.marked → (is_some (node_of snapshot name) && not (is_listed name m.marked)) ≡ true → AreOnce (m.marked ++ name ∷ [])
-push_once snapshot m name o e = once_push m.marked name o (not_listed name m.marked (not-true (is_listed name m.marked) (and_parts (is_some (node_of snapshot name)) (not (is_listed name m.marked)) e).1))
+pub push_once : (snapshot : World) (m : Marks) (name : Name) → AreDistinct m.marked → (is_some (node_of snapshot name) && not (is_listed name m.marked)) ≡ true → AreDistinct (m.marked ++ name ∷ [])
+push_once snapshot m name o e = distinct_push m.marked name o (not_listed name m.marked (not-true (is_listed name m.marked) (and_parts (is_some (node_of snapshot name)) (not (is_listed name m.marked)) e).1))
 
 -- a name is marked
 stage_name : (o : Opening) (opened : List Name) (m : Marks) (s t : Segments) (marker later : MarkerSeen) (name : Name) → Stage o opened m s marker → CanMark o opened (Some name) → IsTied o (with_name o.core.snapshot m (Some name)) t later → Stage o opened (with_name o.core.snapshot m (Some name)) t later

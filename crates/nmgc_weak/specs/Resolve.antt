@@ -16,6 +16,7 @@ use Rattle.nmgc_heap.specs.Roots.{ListsWeaks}
 use Rattle.nmgc_round.specs.Marking.{marks_of}
 use Rattle.nmgc_round.specs.Objects.{earlier}
 use Rattle.nmgc_round.specs.View.{Opening}
+use Rattle.nmgc_run.specs.Listing.{AreDistinct}
 use Rattle.nmgc_run.specs.Seen.{MarkerSeen}
 use Rattle.nmgc_mark.specs.Stopped.{IsReady}
 use Rattle.nmgc_mark.specs.Tie.{IsTied}
@@ -23,17 +24,12 @@ use Rattle.nmgc_weak.specs.declared.weaks.OldWeak.{OldWeak}
 use Rattle.nmgc_weak.specs.declared.weaks.Death.{Death}
 use Rattle.nmgc_weak.specs.Weaks.{places_of}
 
--- no name of the list is among those that follow
-abbrev pub AreOnce : List Name → Type 0
-AreOnce [] = Unit {0}
-AreOnce (name ∷ names) = (Contains names name → ⊥) × AreOnce names
-
 -- the words represent the world of a core state that could open a round, and marks are that state's; it has the facts, has marked each name once and may close, and these are the weak pointers alive in its world that have a block. A weak pointer that was finalised since the snapshot is dead in that world
 pub record CanResolve (o : Opening) (words : List ℕ) (s : Segments) (marker : MarkerSeen) (weaks : List Place) : Type 0 where
   pub ready : IsReady o words s marker
   pub marking : o.marking ≡ true
   pub facts : Facts o.core
-  pub once : AreOnce o.core.marked
+  pub once : AreDistinct o.core.marked
   pub gone : (weak : Name) (parts : Parts) → Contains o.core.finalised weak → IsAlive o.core.world weak parts → ⊥
   pub can_close : IsPossible o.core event.Close
   pub earlier_are : AreEarlier (earlier o) o.core.world
@@ -49,7 +45,7 @@ AreDeaths o _ _ = ⊥
 pub record HasResolved (o : Opening) (words : List ℕ) (s : Segments) (marker : MarkerSeen) (list : List OldWeak) (deaths : List Death) : Type 0 where
   pub next : Core
   pub closing : IsClosing o.core next
-  pub once : AreOnce next.marked
+  pub once : AreDistinct next.marked
   pub tied : IsTied o (marks_of next) s marker
   pub deaths_are : AreDeaths o closing.dead deaths
   pub represents : Represents o.layout (earlier o) NoNode o.places next.world words

@@ -14,35 +14,36 @@ use Rattle.nmgc_alloc.specs.Segments.{Segments}
 use Rattle.nmgc_heap.specs.Places.{Place}
 use Rattle.nmgc_round.specs.Marking.{marks_of}
 use Rattle.nmgc_round.specs.View.{Opening}
+use Rattle.nmgc_run.specs.Listing.{AreDistinct}
 use Rattle.nmgc_run.specs.Seen.{MarkerSeen}
 use Rattle.nmgc_mark.specs.Tie.{IsTied}
 use Rattle.nmgc_weak.specs.declared.weaks.OldWeak.{OldWeak}
-use Rattle.nmgc_weak.specs.Resolve.{AreOnce, CanResolve}
+use Rattle.nmgc_weak.specs.Resolve.{CanResolve}
 use Rattle.nmgc_weak.specs.Weaks.{names_of, places_of}
 
 -- a key by which a weak pointer keeps its parts: nil, a number, or a marked name
-abbrev pub IsShown : List Name → Value → Type 0
-IsShown marked value.Nil = Unit {0}
-IsShown marked (value.Number n) = Unit {0}
-IsShown marked (value.Ref name) = Contains marked name
+abbrev pub IsKeyMarked : List Name → Value → Type 0
+IsKeyMarked marked value.Nil = Unit {0}
+IsKeyMarked marked (value.Number n) = Unit {0}
+IsKeyMarked marked (value.Ref name) = Contains marked name
 
 -- the same, as its word tells it
-abbrev pub IsShownWord : Segments → ℕ → ℕ → Type 0
-IsShownWord s epoch word = (word % 2 ≢ 0) ⊎ ((word / 2 ≡ SHARED_PLACE) ⊎ IsMarkedAt s epoch (word / 2))
+abbrev pub IsKeyMarkedWord : Segments → ℕ → ℕ → Type 0
+IsKeyMarkedWord s epoch word = (word % 2 ≢ 0) ⊎ ((word / 2 ≡ SHARED_PLACE) ⊎ IsMarkedAt s epoch (word / 2))
 
 -- the block there is in the snapshot, and the word of its key doesn't keep it
 abbrev pub IsLostAt : Segments → ℕ → ℕ → ℕ → Type 0
-IsLostAt s epoch at key = IsSnapshotAt s at × (IsShownWord s epoch key → ⊥)
+IsLostAt s epoch at key = IsSnapshotAt s at × (IsKeyMarkedWord s epoch key → ⊥)
 
--- a waiting weak pointer whose key isn't shown
+-- a waiting weak pointer whose key isn't marked
 pub record IsLost (core : Core) (weak : Name) : Type 0 where
   pub parts : Parts
   pub waiting : IsWaiting core weak parts
-  pub lost : IsShown core.marked parts.key → ⊥
+  pub lost : IsKeyMarked core.marked parts.key → ⊥
 
--- the parts of each waiting weak pointer of these whose key is shown in some marks are marked in others
+-- the parts of each waiting weak pointer of these whose key is marked in some marks are marked in others
 abbrev pub AreKept : Core → List Name → List Name → List Name → Type 0
-AreKept core weaks shown marked = (weak target : Name) (parts : Parts) → Contains weaks weak → IsWaiting core weak parts → IsShown shown parts.key → IsKeptBy weak parts target → Contains marked target
+AreKept core weaks shown marked = (weak target : Name) (parts : Parts) → Contains weaks weak → IsWaiting core weak parts → IsKeyMarked shown parts.key → IsKeptBy weak parts target → Contains marked target
 
 -- the same opening, where more is marked
 pub record MarksOn (o next : Opening) : Type 0 where
@@ -55,9 +56,9 @@ pub record GoesTo (o next : Opening) (words : List ℕ) (s : Segments) (marker :
   pub later : MarksOn o next
   pub can : CanResolve next words s marker weaks
 
--- every waiting weak pointer whose key is shown has its parts marked
+-- every waiting weak pointer whose key is marked has its parts marked
 abbrev pub IsSaturated : Opening → List Place → Type 0
-IsSaturated o weaks = (weak target : Name) (parts : Parts) → IsWaiting o.core weak parts → IsShown o.core.marked parts.key → IsKeptBy weak parts target → Contains o.core.marked target
+IsSaturated o weaks = (weak target : Name) (parts : Parts) → IsWaiting o.core weak parts → IsKeyMarked o.core.marked parts.key → IsKeptBy weak parts target → Contains o.core.marked target
 
 -- these are exactly the lost ones of the list, in order of names
 pub record AreLost (o : Opening) (weaks : List Place) (dying : List OldWeak) : Type 0 where
@@ -70,15 +71,15 @@ pub record HasRescued (o : Opening) (s : Segments) (marker : MarkerSeen) (dying 
   pub next : Core
   pub closing : IsClosing o.core next
   pub dead : closing.dead ≡ names_of dying
-  pub once : AreOnce next.marked
+  pub once : AreDistinct next.marked
   pub tied : IsTied o (marks_of next) s marker
 
--- a weak pointer of the snapshot, of the list, whose key is shown
+-- a weak pointer of the snapshot, of the list, whose key is marked
 pub record CanKeep (o : Opening) (words : List ℕ) (s : Segments) (marker : MarkerSeen) (weaks : List Place) (at : ℕ) (weak : Name) : Type 0 where
   pub can : CanResolve o words s marker weaks
   pub listed : Contains weaks (record { at = at; name = weak })
   pub known : IsSome (node_of o.core.snapshot weak)
-  pub shown : (parts : Parts) → IsAlive o.core.world weak parts → IsShown o.core.marked parts.key
+  pub key_marked : (parts : Parts) → IsAlive o.core.world weak parts → IsKeyMarked o.core.marked parts.key
 
 -- its parts are marked
 pub record HasKept (o : Opening) (words : List ℕ) (s : Segments) (marker : MarkerSeen) (weaks : List Place) (weak : Name) : Type 0 where
@@ -86,13 +87,13 @@ pub record HasKept (o : Opening) (words : List ℕ) (s : Segments) (marker : Mar
   pub goes : GoesTo o next words s marker weaks
   pub kept : (target : Name) (parts : Parts) → IsAlive o.core.world weak parts → IsKeptBy weak parts target → Contains next.core.marked target
 
--- those of the list whose key was shown have kept their parts, as far as a pass has come
+-- those of the list whose key was marked have kept their parts, as far as a pass has come
 pub record HasPassed (o : Opening) (words : List ℕ) (s : Segments) (marker : MarkerSeen) (weaks : List Place) (passed : List Name) : Type 0 where
   pub next : Opening
   pub goes : GoesTo o next words s marker weaks
   pub kept : AreKept o.core passed o.core.marked next.core.marked
 
--- no weak pointer whose key is shown has parts that aren't marked
+-- no weak pointer whose key is marked has parts that aren't marked
 pub record HasRevived (o : Opening) (words : List ℕ) (s : Segments) (marker : MarkerSeen) (weaks : List Place) : Type 0 where
   pub next : Opening
   pub goes : GoesTo o next words s marker weaks

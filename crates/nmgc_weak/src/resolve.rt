@@ -18,7 +18,7 @@ ghost use Rattle.nmgc_run.specs.Marker.{HasRoomToMark};
 ghost use Rattle.nmgc_mark.specs.Marker.{HasMarked};
 ghost use Rattle.nmgc_mark.specs.Tie.{IsTied};
 ghost use Rattle.nmgc_weak.specs.Resolve.{CanResolve};
-ghost use Rattle.nmgc_weak.specs.Steps.{IsShownWord, IsLostAt, CanKeep, HasKept, HasPassed, HasRevived, CanRescue, AreLost, HasRescued};
+ghost use Rattle.nmgc_weak.specs.Steps.{IsKeyMarkedWord, IsLostAt, CanKeep, HasKept, HasPassed, HasRevived, CanRescue, AreLost, HasRescued};
 ghost use Rattle.nmgc_weak.specs.Weaks.{IsWithin, AreWithin, key_place, place_of, places_of, names_of, deaths_of, without_values};
 
 use crate::weaks::{Death, FINALISER, OldWeak, VALUE};
@@ -51,10 +51,10 @@ fn is_marked(segments: &Segments, at: Address, epoch: u8) -> bool
 }
 
 // Whether a key is nil, a number, g, or marked.
-fn is_shown(segments: &Segments, key: u64, epoch: u8) -> bool
+fn is_key_marked(segments: &Segments, key: u64, epoch: u8) -> bool
     requires epoch { IsEpoch epoch }
     requires small { (to : ℕ) → key ≡ 2 * to → to < 2 ^ 32 }
-    ensures { IsTrue result ↔ IsShownWord segments.now epoch key }
+    ensures { IsTrue result ↔ IsKeyMarkedWord segments.now epoch key }
 {
     if key % 2 != 0 {
         return true;
@@ -63,17 +63,17 @@ fn is_shown(segments: &Segments, key: u64, epoch: u8) -> bool
     to == SHARED_PLACE || is_marked(segments, Address(to), epoch)
 }
 
-// Whether a weak pointer is of the snapshot, and its key isn't shown.
+// Whether a weak pointer is of the snapshot, and its key isn't marked.
 fn is_lost<W: HeapWords>(marker: &Marker, words: &mut W, segments: &Segments, at: Address) -> bool
     requires { IsWithin (W.words words.old) at.0 }
     ensures words { W.words words.new ≡ W.words words.old }
     ensures lost { IsTrue result ↔ IsLostAt segments.now marker.now.epoch at.0 (slice_index (W.words words.old) (key_place at.0)) }
-    ensures shown { IsFalse result → IsSnapshotAt segments.now at.0 → IsShownWord segments.now marker.now.epoch (slice_index (W.words words.old) (key_place at.0)) }
+    ensures key_marked { IsFalse result → IsSnapshotAt segments.now at.0 → IsKeyMarkedWord segments.now marker.now.epoch (slice_index (W.words words.old) (key_place at.0)) }
     ensures epoch { IsEpoch marker.now.epoch }
 {
     let key = words.load(at.0 as usize + HEADER_WORDS as usize);
-    let shown = is_shown(segments, key, marker.epoch());
-    is_of_snapshot(segments, at) && !shown
+    let key_marked = is_key_marked(segments, key, marker.epoch());
+    is_of_snapshot(segments, at) && !key_marked
 }
 
 // Marks what a field refers to.
@@ -109,8 +109,8 @@ fn keep<W: HeapWords>(marker: &mut Marker, words: &mut W, segments: &mut Segment
     marker.finish(words, segments);
 }
 
-// A weak pointer of the snapshot whose key is shown keeps its parts, and any other is left as it is.
-fn keep_if_shown<W: HeapWords>(
+// A weak pointer of the snapshot whose key is marked keeps its parts, and any other is left as it is.
+fn keep_if_key_marked<W: HeapWords>(
     marker: &mut Marker,
     words: &mut W,
     segments: &mut Segments,
@@ -133,7 +133,7 @@ fn keep_if_shown<W: HeapWords>(
     keep(marker, words, segments, weak.at);
 }
 
-// A pass over the list: each weak pointer of the snapshot whose key is shown keeps its parts.
+// A pass over the list: each weak pointer of the snapshot whose key is marked keeps its parts.
 fn pass<W: HeapWords>(list: &[OldWeak], marker: &mut Marker, words: &mut W, segments: &mut Segments)
     requires room { HasRoomToMark segments.old marker.old }
     requires within { AreWithin (W.words words.old) list.now }
@@ -144,11 +144,11 @@ fn pass<W: HeapWords>(list: &[OldWeak], marker: &mut Marker, words: &mut W, segm
     ensures passed { (o : Opening) → CanResolve o (W.words words.old) segments.old marker.old (places_of list.now) → HasPassed o (W.words words.old) segments.new marker.new (places_of list.now) (names_of list.now) }
 {
     for weak in list {
-        keep_if_shown(marker, words, segments, *weak);
+        keep_if_key_marked(marker, words, segments, *weak);
     }
 }
 
-/// Passes over the list until one marks nothing: no weak pointer of the snapshot is left whose key is shown and
+/// Passes over the list until one marks nothing: no weak pointer of the snapshot is left whose key is marked and
 /// whose parts aren't marked.
 pub(crate) fn revive<W: HeapWords>(
     list: &[OldWeak],
@@ -173,7 +173,7 @@ pub(crate) fn revive<W: HeapWords>(
     }
 }
 
-/// Notes those that die: of the snapshot, with a key that isn't shown.
+/// Notes those that die: of the snapshot, with a key that isn't marked.
 pub(crate) fn find_dying<W: HeapWords>(
     list: &[OldWeak],
     dying: &mut Vec<OldWeak>,

@@ -8,7 +8,7 @@ use Rattle.nmgc_graph.specs.History.{Row}
 use Rattle.nmgc_segment.specs.declared.state.State.{State as Stands}
 use Rattle.nmgc_segment.specs.declared.state.State.TheVariants as stands
 use Rattle.nmgc_object.specs.declared.layout.Layout.{Layout}
-use Rattle.nmgc_alloc.specs.Turns.{prepared_state, retired_state}
+use Rattle.nmgc_alloc.specs.CycleSteps.{prepared_state, retired_state}
 use Rattle.nmgc_alloc.specs.AllocState.{AllocState, Cells, Exists, IsIn, IsTarget, NoneIs, Places, Sweeps, SweepsEach, HoldsKept, cells, no_cells, all_retired}
 use Rattle.nmgc_alloc.specs.laws.Cells.{begun_cells, retired_cells, swept_other, all_swept}
 use Rattle.nmgc_alloc.specs.laws.OneState.{first_cells}
@@ -24,7 +24,7 @@ use Rattle.nmgc_run.specs.Marks.{AreAsNoted}
 use Rattle.nmgc_run.specs.Round.{noted}
 use Rattle.nmgc_run.specs.Run.{Turn, AreTurns, state_after}
 use Rattle.nmgc_run.specs.State.{Plan, State, Cycle, Progress, idle, marking, sweeping, is_idle, start, cycle_started}
-use Rattle.nmgc_run.specs.Stop.{IsStop, EndsOrWaits, Finishes, DoesFullCycle, BeginsOrWaits, Proceeds, all_filed}
+use Rattle.nmgc_run.specs.Stop.{IsStop, EndsOrWaits, Finishes, DoesFullCycle, BeginsOrWaits, Proceeds, with_all_retired}
 use Rattle.nmgc_run.specs.Sweep.{SweepsBeside, SweepsRest}
 
 -- a segment that waits exists
@@ -173,11 +173,11 @@ none_retired a none number there is =
 
 -- the steps of a stop
 
-closes_course : (quota : ℕ) (forced : Type 0) (p : Progress) (s t : State) → IsInCourse p s.number s.begun s.allocation → s.progress ≡ p → ClosesOrWaits quota forced p s t → IsStateInCourse t
-closes_course quota forced idle s t h e same = subst IsStateInCourse (sym same) (subst (λ (p : Progress). IsInCourse p s.number s.begun s.allocation) (sym e) h)
-closes_course quota forced (marking c) s t h e (inl same) = subst IsStateInCourse (sym same) (subst (λ (p : Progress). IsInCourse p s.number s.begun s.allocation) (sym e) h)
-closes_course quota forced (marking c) s t h e (inr closes) = subst IsStateInCourse (sym closes.0.rest) (h.0, h.1.as_noted)
-closes_course quota forced (sweeping c number) s t h e same = subst IsStateInCourse (sym same) (subst (λ (p : Progress). IsInCourse p s.number s.begun s.allocation) (sym e) h)
+closes_course : (quota : ℕ) (p : Progress) (s t : State) → IsInCourse p s.number s.begun s.allocation → s.progress ≡ p → ClosesOrWaits quota p s t → IsStateInCourse t
+closes_course quota idle s t h e same = subst IsStateInCourse (sym same) (subst (λ (p : Progress). IsInCourse p s.number s.begun s.allocation) (sym e) h)
+closes_course quota (marking c) s t h e (inl same) = subst IsStateInCourse (sym same) (subst (λ (p : Progress). IsInCourse p s.number s.begun s.allocation) (sym e) h)
+closes_course quota (marking c) s t h e (inr closes) = subst IsStateInCourse (sym closes.0.rest) (h.0, h.1.as_noted)
+closes_course quota (sweeping c number) s t h e same = subst IsStateInCourse (sym same) (subst (λ (p : Progress). IsInCourse p s.number s.begun s.allocation) (sym e) h)
 
 ends_course : (p : Progress) (s t : State) (cycles : List CycleRow) → IsInCourse p s.number s.begun s.allocation → s.progress ≡ p → EndsOrWaits p s t cycles → IsStateInCourse t
 ends_course idle s t cycles h e ends = subst IsStateInCourse (sym ends.0) (subst (λ (p : Progress). IsInCourse p s.number s.begun s.allocation) (sym e) h)
@@ -234,7 +234,7 @@ begins_course config s t (inl b) h = subst IsStateInCourse (sym b.1) (cycles_beg
 full_course : (s t : State) (cycles : List CycleRow) → DoesFullCycle s t cycles → IsStateInCourse s → IsStateInCourse t
 full_course s t cycles f h =
     let before : IsQuiet f.idled = finishes s f.idled f.before f.finishes h in
-    let again : IsQuiet f.last = finishes (cycle_started (all_filed f.idled)) f.last f.own f.again (cycles_begin (all_filed f.idled) (none_retired f.idled.allocation before.none)) in
+    let again : IsQuiet f.last = finishes (cycle_started (with_all_retired f.idled)) f.last f.own f.again (cycles_begin (with_all_retired f.idled) (none_retired f.idled.allocation before.none)) in
     subst IsStateInCourse (sym f.rest) (subst (λ (p : Progress). IsInCourse p f.last.number f.last.begun f.last.allocation) (sym again.is_idle) again.none)
 
 proceeds_course : (plan : Plan) (s t : State) (cycles : List CycleRow) → Proceeds plan s t cycles → IsStateInCourse s → IsStateInCourse t
@@ -246,7 +246,7 @@ proceeds_course plan s t cycles (inr b) h = begins_course plan.config s t b.1 h
 pub stop_course : (plan : Plan) (began : World) (s t : State) (row : StopRow) (cycles : List CycleRow) → IsStop plan began s t row cycles → IsStateInCourse s → IsStateInCourse t
 stop_course plan began s t row cycles i h =
     let promoted = promotions_stay _ began s i.promoted i.count i.promotes h in
-    let closed = closes_course plan.config.quota _ i.promoted.progress i.promoted i.closed promoted refl i.closes in
+    let closed = closes_course plan.config.quota i.promoted.progress i.promoted i.closed promoted refl i.closes in
     let ended = ends_course i.closed.progress i.closed i.ended i.first closed refl i.ends in
     proceeds_course plan i.ended t i.more i.proceeds ended
 

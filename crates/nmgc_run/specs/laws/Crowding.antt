@@ -23,14 +23,14 @@ use Rattle.nmgc_run.specs.Slice.{has_left, program_of}
 use Rattle.nmgc_run.specs.Sound.{IsRunnable}
 use Rattle.nmgc_run.specs.State.{State, Plan, Cycle, Progress, idle, marking, sweeping, free_count, reserve_of, cycle_started, next_cycle, plan_of}
 use Rattle.nmgc_journal.specs.Summary.{kept_count}
-use Rattle.nmgc_run.specs.Stop.{EndsOrWaits, Finishes, DoesFullCycle, Proceeds, all_filed, is_short, is_done, answer_of}
+use Rattle.nmgc_run.specs.Stop.{EndsOrWaits, Finishes, DoesFullCycle, Proceeds, with_all_retired, is_short, is_done, answer_of}
 use Rattle.nmgc_run.specs.Sweep.{SweepsRest}
 use Rattle.nmgc_run.specs.laws.CycleCounts.{free_kept}
 use Rattle.nmgc_run.specs.laws.FullHeaps.{full_crowded, full_short, short_free, kept_last, full_heap_is_crowded}
 use Rattle.nmgc_run.specs.laws.Limits.{scripts_have_good_plans}
 use Rattle.nmgc_run.specs.laws.Programs.{HasPrograms}
 use Rattle.nmgc_run.specs.laws.Runs.{round_holds, turn_holds, opening_worked, opening_holds}
-use Rattle.nmgc_run.specs.laws.States.{Holds, Worked, lefts}
+use Rattle.nmgc_run.specs.laws.States.{IsSoundHere, Worked, lefts}
 use Rattle.nmgc_run.specs.laws.Stops.{stop_holds}
 
 -- what a full cycle keeps
@@ -52,10 +52,10 @@ record KeepsMuch (plan : Plan) (w : World) : Type 0 where
   counts : Counts (IsKeptOf w) kept
   more : plan.config.segments < kept + reserve_of plan
 
-full_keeps : (plan : Plan) (s t : State) (cycles : List CycleRow) (f : DoesFullCycle s t cycles) → Holds plan s → free_count t < reserve_of plan → KeepsMuch plan f.idled.world
+full_keeps : (plan : Plan) (s t : State) (cycles : List CycleRow) (f : DoesFullCycle s t cycles) → IsSoundHere plan s → free_count t < reserve_of plan → KeepsMuch plan f.idled.world
 full_keeps plan s t cycles f h few =
-    let c : Cycle = next_cycle (all_filed f.idled) in
-    let g : State = cycle_started (all_filed f.idled) in
+    let c : Cycle = next_cycle (with_all_retired f.idled) in
+    let g : State = cycle_started (with_all_retired f.idled) in
     let closed_progress : f.again.closed.progress ≡ sweeping c g.number = ap (λ (x : State). x.progress) f.again.closes.rest in
     let sweeps = subst (λ (p : Progress). SweepsRest p f.again.closed.allocation f.again.swept.allocation) closed_progress f.again.sweeps in
     let none = all_swept (IsKeptIn c) f.again.closed.allocation f.again.swept.allocation sweeps in
@@ -77,7 +77,7 @@ full_keeps plan s t cycles f h few =
 abbrev Claim : (plan : Plan) → StopInRun plan → Type 0
 Claim plan stop = is_short plan stop.stop.state ≡ true → LeavesHeapFull plan stop × IsCrowded plan stop
 
-proceeds_claim : (plan : Plan) (stop : StopInRun plan) → Holds plan stop.is.ended → Proceeds plan stop.is.ended stop.stop.state stop.is.more → Claim plan stop
+proceeds_claim : (plan : Plan) (stop : StopInRun plan) → IsSoundHere plan stop.is.ended → Proceeds plan stop.is.ended stop.stop.state stop.is.more → Claim plan stop
 proceeds_claim plan stop h (inl f) short =
     let s : State = stop.is.ended in
     let t : State = stop.stop.state in
@@ -104,7 +104,7 @@ stop_claim plan stop h = proceeds_claim plan stop (stop_holds plan stop.began st
 
 -- the run
 
-turns_claim : (plan : Plan) (before : StopInRun plan) (turns : List Turn) (i : AreTurns plan before.stop.state turns) → HasPrograms plan before.stop.state → Holds plan before.stop.state → Claim plan before → Claim plan (last_after plan before turns i)
+turns_claim : (plan : Plan) (before : StopInRun plan) (turns : List Turn) (i : AreTurns plan before.stop.state turns) → HasPrograms plan before.stop.state → IsSoundHere plan before.stop.state → Claim plan before → Claim plan (last_after plan before turns i)
 turns_claim plan before [] i able h claim = claim
 turns_claim plan before (turn ∷ turns) i able h claim =
     let s : State = before.stop.state in

@@ -17,13 +17,15 @@ use Rattle.nmgc_object.specs.declared.layout.Layout.{Layout}
 use Rattle.nmgc_segment.specs.declared.state.State.{State as Stands}
 use Rattle.nmgc_segment.specs.declared.state.State.TheVariants as stands
 use Rattle.nmgc_alloc.specs.Search.{is}
-use Rattle.nmgc_alloc.specs.Turns.{prepared_state, retired_state}
+use Rattle.nmgc_alloc.specs.CycleSteps.{prepared_state, retired_state}
 use Rattle.nmgc_alloc.specs.AllocState.{AllocState, Cells, Sweeps, SweepsEach, HoldsKept, LiesIn, cells, no_cells, name_in, cycle_begun, all_retired, IsIn, NoneIs}
 use Rattle.nmgc_alloc.specs.laws.Cells.{none_some, swept_other, swept_here, swept_was, begun_cells, retired_cells}
 use Rattle.nmgc_alloc.specs.laws.Placing.{large}
 use Rattle.nmgc_run.specs.Census.{IsKeptIn, IsKeptObject}
+use Rattle.nmgc_run.specs.Listing.{AreDistinct}
 use Rattle.nmgc_run.specs.Sound.{AreSoundBlocks}
 use Rattle.nmgc_run.specs.State.{Cycle}
+use Rattle.nmgc_run.specs.laws.Distinct.{no_more}
 use Rattle.nmgc_run.specs.laws.Filing.{sweep_filed}
 
 no_free : (c : Cells) → c ≡ no_cells → c.state ≡ stands.Free
@@ -127,39 +129,6 @@ begun_judged K a k =
     let at : (cells (cycle_begun (all_retired a)) k).state ≡ prepared_state (retired_state (cells a k).state) = ap (λ (c : Cells). c.state) (begun_cells (all_retired a) k) ∙ ap (λ (c : Cells). prepared_state c.state) (retired_cells a k) in
     elim (both_states (cells a k).state) [ inl e ↦ inl (at ∙ e) | inr e ↦ inr (inl (at ∙ e)) ]
 
--- names without doubles are no more than those that they are among
-
-abbrev NoDoubles : List Name → Type 0
-NoDoubles [] = Unit {0}
-NoDoubles (x ∷ xs) = (Contains xs x → ⊥) × NoDoubles xs
-
-remove : (x : Name) (ys : List Name) → Contains ys x → (rest : List Name) × (length ys ≡ length rest + 1) × ((y : Name) → Contains ys y → y ≢ x → Contains rest y)
-remove x [] c = absurd (nothing_in x c)
-remove x (z ∷ zs) c = elim (name_cases z x) [
-  | inl e ↦ (zs, omega arith, λ y d other. elim (contains_cases z zs y d) [ inl same ↦ absurd (other (sym same ∙ e)) | inr later ↦ later ])
-  | inr ne ↦ elim (contains_cases z zs x c) [
-    | inl same ↦ absurd (ne same)
-    | inr later ↦
-        let r = remove x zs later in
-        let size : length zs ≡ length r.0 + 1 = r.1 in (
-          z ∷ r.0,
-          omega (arith, size),
-          λ y d other. elim (contains_cases z zs y d) [
-            | inl same ↦ let C : Name → Type 0 = Contains (z ∷ r.0) in subst C same (contains_head z r.0)
-            | inr in_zs ↦ contains_tail z r.0 y (r.2 y in_zs other)
-          ],
-        )
-  ]
-]
-
-no_more : (xs ys : List Name) → NoDoubles xs → ((x : Name) → Contains xs x → Contains ys x) → length xs ≤ length ys
-no_more [] ys once among = omega arith
-no_more (x ∷ xs) ys once among =
-    let r = remove x ys (among x (contains_head x xs)) in
-    let size : length ys ≡ length r.0 + 1 = r.1 in
-    let rest : length xs ≤ length r.0 = no_more xs r.0 once.1 (λ y c. r.2 y (among y (contains_tail x xs y c)) (λ e. once.0 (let C : Name → Type 0 = Contains xs in subst C e c))) in
-    omega (arith, size, rest)
-
 listed_or_not : (names : List Name) (x : Name) → Contains names x ⊎ (Contains names x → ⊥)
 listed_or_not [] x = inr (nothing_in x)
 listed_or_not (y ∷ ys) x = elim (name_cases y x) [
@@ -180,7 +149,7 @@ free_one c e = ap (λ (s : Stands). cond (is s stands.Free) 1 0) e
 
 record Picks (a : AllocState) (names : List Name) (m : ℕ) : Type 0 where
   picked : List Name
-  once : NoDoubles picked
+  once : AreDistinct picked
   among : (x : Name) → Contains picked x → Contains names x
   below : (x : Name) → Contains picked x → (number block : ℕ) × (number < m) × LiesIn a number block x
   many : m ≤ length picked + sum_by free (take m a.segments)

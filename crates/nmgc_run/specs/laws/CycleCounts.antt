@@ -8,7 +8,7 @@ use Rattle.nmgc_graph.specs.History.{Row}
 use Rattle.nmgc_segment.specs.declared.state.State.{State as Stands}
 use Rattle.nmgc_segment.specs.declared.state.State.TheVariants as stands
 use Rattle.nmgc_alloc.specs.Search.{is}
-use Rattle.nmgc_alloc.specs.Turns.{prepared_state}
+use Rattle.nmgc_alloc.specs.CycleSteps.{prepared_state}
 use Rattle.nmgc_alloc.specs.AllocState.{Cells, restated}
 use Rattle.nmgc_alloc.specs.laws.Cells.{all_swept}
 use Rattle.nmgc_journal.specs.declared.report.StopRow.{StopRow}
@@ -19,7 +19,7 @@ use Rattle.nmgc_run.specs.Slice.{has_left}
 use Rattle.nmgc_run.specs.State.{State, Plan, Cycle, Progress, idle, marking, sweeping, is_idle, reserve_of, start, cycle_started}
 use Rattle.nmgc_run.specs.Sweep.{SweepsRest}
 use Rattle.nmgc_run.specs.Closing.{ClosesOrWaits, ClosesNow}
-use Rattle.nmgc_run.specs.Stop.{IsStop, EndsOrWaits, Finishes, DoesFullCycle, BeginsOrWaits, Proceeds, IsFullDue, all_filed, is_short}
+use Rattle.nmgc_run.specs.Stop.{IsStop, EndsOrWaits, Finishes, DoesFullCycle, BeginsOrWaits, Proceeds, IsFullDue, with_all_retired, is_short}
 use Rattle.nmgc_run.specs.Round.{noted}
 use Rattle.nmgc_run.specs.Run.{Turn, AreTurns, state_after, last_state}
 use Rattle.nmgc_run.specs.Statements.{EachCycleHasItsRow}
@@ -93,15 +93,15 @@ Counted n s = n + in_progress s.progress ≡ s.begun
 same_counted : (n : ℕ) (s t : State) → t.progress ≡ s.progress → t.begun ≡ s.begun → Counted n s → Counted n t
 same_counted n s t p b h = ap (λ (x : Progress). n + in_progress x) p ∙ h ∙ sym b
 
-closes_counted : (n quota : ℕ) (forced : Type 0) (p : Progress) (s t : State) → s.progress ≡ p → ClosesOrWaits quota forced p s t → Counted n s → Counted n t
-closes_counted n quota forced idle s t e same h = same_counted n s t (ap (λ (x : State). x.progress) same) (ap (λ (x : State). x.begun) same) h
-closes_counted n quota forced (marking c) s t e (inl same) h = same_counted n s t (ap (λ (x : State). x.progress) same) (ap (λ (x : State). x.begun) same) h
-closes_counted n quota forced (marking c) s t e (inr closes) h =
+closes_counted : (n quota : ℕ) (p : Progress) (s t : State) → s.progress ≡ p → ClosesOrWaits quota p s t → Counted n s → Counted n t
+closes_counted n quota idle s t e same h = same_counted n s t (ap (λ (x : State). x.progress) same) (ap (λ (x : State). x.begun) same) h
+closes_counted n quota (marking c) s t e (inl same) h = same_counted n s t (ap (λ (x : State). x.progress) same) (ap (λ (x : State). x.begun) same) h
+closes_counted n quota (marking c) s t e (inr closes) h =
     let new : in_progress t.progress ≡ 1 = ap (λ (x : State). in_progress x.progress) closes.0.rest in
     let old : in_progress s.progress ≡ 1 = ap in_progress e in
     let begun : t.begun ≡ s.begun = ap (λ (x : State). x.begun) closes.0.rest in
     omega (arith, new, old, begun, h)
-closes_counted n quota forced (sweeping c number) s t e same h = same_counted n s t (ap (λ (x : State). x.progress) same) (ap (λ (x : State). x.begun) same) h
+closes_counted n quota (sweeping c number) s t e same h = same_counted n s t (ap (λ (x : State). x.progress) same) (ap (λ (x : State). x.begun) same) h
 
 ends_counted : (n : ℕ) (p : Progress) (s t : State) (cycles : List CycleRow) → s.progress ≡ p → EndsOrWaits p s t cycles → Counted n s → Counted (n + length cycles) t
 ends_counted n p s t cycles e ends h = by p e ends
@@ -165,7 +165,7 @@ begins_left plan n s t not (inl b) h =
 full_left : (plan : Plan) (n : ℕ) (s t : State) (cycles : List CycleRow) → DoesFullCycle s t cycles → Counted n s → Left plan (n + length cycles) t
 full_left plan n s t cycles f h =
     let before = finishes s f.idled f.before f.finishes in
-    let again = finishes (cycle_started (all_filed f.idled)) f.last f.own f.again in
+    let again = finishes (cycle_started (with_all_retired f.idled)) f.last f.own f.again in
     let rows : length cycles ≡ length f.before + length f.own = ap (λ (rows : List CycleRow). length rows) f.told ∙ length-append f.before f.own in
     let first : length f.before ≡ in_progress s.progress = before.rows in
     let own : length f.own ≡ 1 = again.rows in
@@ -186,7 +186,7 @@ proceeds_left plan n s t cycles (inr b) h =
 stop_counted : (plan : Plan) (n : ℕ) (began : World) (s t : State) (row : StopRow) (cycles : List CycleRow) → IsStop plan began s t row cycles → Counted n s → Left plan (n + length cycles) t
 stop_counted plan n began s t row cycles i h =
     let promoted : Counted n i.promoted = same_counted n s i.promoted (ap (λ (x : State). x.progress) i.promotes.rest) (ap (λ (x : State). x.begun) i.promotes.rest) h in
-    let closed : Counted n i.closed = closes_counted n plan.config.quota _ i.promoted.progress i.promoted i.closed refl i.closes promoted in
+    let closed : Counted n i.closed = closes_counted n plan.config.quota i.promoted.progress i.promoted i.closed refl i.closes promoted in
     let ended : Counted (n + length i.first) i.ended = ends_counted n i.closed.progress i.closed i.ended i.first refl i.ends closed in
     let left : Left plan (n + length i.first + length i.more) t = proceeds_left plan (n + length i.first) i.ended t i.more i.proceeds ended in
     let rows : n + length i.first + length i.more ≡ n + length cycles = (let all : length cycles ≡ length i.first + length i.more = ap (λ (rows : List CycleRow). length rows) i.told ∙ length-append i.first i.more in omega (arith, all)) in

@@ -18,14 +18,14 @@ use Rattle.nmgc_run.specs.Run.{Run, Turn, IsRun, AreTurns, Tells, state_after, l
 use Rattle.nmgc_run.specs.Slice.{has_left}
 use Rattle.nmgc_run.specs.Sound.{AreSoundBlocks, IsRunnable}
 use Rattle.nmgc_run.specs.State.{State, Plan, Cycle, Progress, sweeping, free_count, reserve_of, start, cycle_started, layout_of, next_cycle}
-use Rattle.nmgc_run.specs.Stop.{IsStop, EndsOrWaits, DoesFullCycle, Proceeds, all_filed, answer_of, is_short, is_done}
+use Rattle.nmgc_run.specs.Stop.{IsStop, EndsOrWaits, DoesFullCycle, Proceeds, with_all_retired, answer_of, is_short, is_done}
 use Rattle.nmgc_run.specs.Sweep.{SweepsRest}
 use Rattle.nmgc_run.specs.laws.Crowds.{IsJudged, each_judged, begun_judged, crowded, free}
 use Rattle.nmgc_run.specs.laws.CycleCounts.{free_kept}
 use Rattle.nmgc_run.specs.laws.Filing.{each_filed}
 use Rattle.nmgc_run.specs.laws.Programs.{HasPrograms}
 use Rattle.nmgc_run.specs.laws.Runs.{round_holds, turn_holds, opening_worked, opening_holds}
-use Rattle.nmgc_run.specs.laws.States.{Holds, Worked, lefts}
+use Rattle.nmgc_run.specs.laws.States.{IsSoundHere, Worked, lefts}
 use Rattle.nmgc_run.specs.laws.Stops.{stop_holds, full_begins}
 
 -- what a full cycle leaves
@@ -34,12 +34,12 @@ use Rattle.nmgc_run.specs.laws.Stops.{stop_holds, full_begins}
 abbrev pub Crowded : Plan → State → List CycleRow → Type 0
 Crowded plan t cycles = (before : List CycleRow) × (row : CycleRow) × (cycles ≡ before ++ row ∷ []) × (plan.config.segments ≤ row.kept + free_count t)
 
-pub full_crowded : (plan : Plan) (s t : State) (cycles : List CycleRow) → DoesFullCycle s t cycles → Holds plan s → Crowded plan t cycles
+pub full_crowded : (plan : Plan) (s t : State) (cycles : List CycleRow) → DoesFullCycle s t cycles → IsSoundHere plan s → Crowded plan t cycles
 full_crowded plan s t cycles f h =
     let F : AllocState → Type 0 = AreSoundBlocks (layout_of plan) in
-    let g : State = cycle_started (all_filed f.idled) in
-    let c : Cycle = next_cycle (all_filed f.idled) in
-    let started : F g.allocation = (full_begins plan s t cycles f h).filed in
+    let g : State = cycle_started (with_all_retired f.idled) in
+    let c : Cycle = next_cycle (with_all_retired f.idled) in
+    let started : F g.allocation = (full_begins plan s t cycles f h).sound_blocks in
     let closed_progress : f.again.closed.progress ≡ sweeping c g.number = ap (λ (x : State). x.progress) f.again.closes.rest in
     let closed_alloc : f.again.closed.allocation ≡ g.allocation = ap (λ (x : State). x.allocation) f.again.closes.rest in
     let sweeps = subst (λ (p : Progress). SweepsRest p f.again.closed.allocation f.again.swept.allocation) closed_progress f.again.sweeps in
@@ -65,7 +65,7 @@ full_crowded plan s t cycles f h =
 abbrev pub Told : Plan → State → List CycleRow → Type 0
 Told plan t cycles = is_short plan t ≡ true → Crowded plan t cycles
 
-proceeds_crowded : (plan : Plan) (s t : State) (cycles : List CycleRow) → Proceeds plan s t cycles → Holds plan s → Told plan t cycles
+proceeds_crowded : (plan : Plan) (s t : State) (cycles : List CycleRow) → Proceeds plan s t cycles → IsSoundHere plan s → Told plan t cycles
 proceeds_crowded plan s t cycles (inl f) h short = full_crowded plan s t cycles f.1 h
 proceeds_crowded plan s t cycles (inr (not, inr b, none)) h short = absurd (not (inr (sym (ap (λ (x : State). is_short plan x) b.1) ∙ short)))
 proceeds_crowded plan s t cycles (inr (not, inl b, none)) h short =
@@ -77,12 +77,12 @@ more_told plan t before cycles told short = let k = told short in (before ++ k.0
 
 pub stop_told : (plan : Plan) (began : World) (s t : State) (row : StopRow) (cycles : List CycleRow) → IsStop plan began s t row cycles → Worked plan (lefts s) began s.world s.allocation s.progress → Told plan t cycles
 stop_told plan began s t row cycles i h =
-    let ended : Holds plan i.ended = (stop_holds plan began s t row cycles i h).ended in
+    let ended : IsSoundHere plan i.ended = (stop_holds plan began s t row cycles i h).ended in
     subst (Told plan t) (sym i.told) (more_told plan t i.first i.more (proceeds_crowded plan i.ended t i.more i.proceeds ended))
 
 -- the run
 
-turns_told : (plan : Plan) (s : State) (turns : List Turn) (before : List CycleRow) → AreTurns plan s turns → HasPrograms plan s → Holds plan s → Told plan s before → Told plan (state_after s turns) (before ++ flat_map (λ (turn : Turn). turn.stop.cycles) turns)
+turns_told : (plan : Plan) (s : State) (turns : List Turn) (before : List CycleRow) → AreTurns plan s turns → HasPrograms plan s → IsSoundHere plan s → Told plan s before → Told plan (state_after s turns) (before ++ flat_map (λ (turn : Turn). turn.stop.cycles) turns)
 turns_told plan s [] before i able h told = subst (λ (rows : List CycleRow). Told plan s rows) (sym (append-nil before)) told
 turns_told plan s (turn ∷ turns) before i able h told =
     let next = turn_holds plan s turn i.0 able h in

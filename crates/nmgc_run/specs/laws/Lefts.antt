@@ -13,7 +13,7 @@ use Rattle.nmgc_journal.specs.declared.report.CycleRow.{CycleRow}
 use Rattle.nmgc_run.specs.Slice.{slice_of, rest_of, program_of, slices}
 use Rattle.nmgc_run.specs.State.{Plan, State, Progress, idle, marking, sweeping, start, cycle_started}
 use Rattle.nmgc_run.specs.Closing.{ClosesOrWaits, ClosesNow}
-use Rattle.nmgc_run.specs.Stop.{IsStop, EndsOrWaits, Finishes, DoesFullCycle, BeginsOrWaits, Proceeds, all_filed}
+use Rattle.nmgc_run.specs.Stop.{IsStop, EndsOrWaits, Finishes, DoesFullCycle, BeginsOrWaits, Proceeds, with_all_retired}
 use Rattle.nmgc_run.specs.Round.{IsRound}
 use Rattle.nmgc_run.specs.Run.{Turn, AreTurns, state_after}
 use Rattle.nmgc_run.specs.Statements.{LeftIsTold, answered_count}
@@ -21,11 +21,11 @@ use Rattle.nmgc_run.specs.Statements.{LeftIsTold, answered_count}
 same_left : (s t : State) → t ≡ s → t.left ≡ s.left
 same_left s t e = ap (λ (x : State). x.left) e
 
-closing_left : (quota : ℕ) (forced : Type 0) (p : Progress) (s t : State) → ClosesOrWaits quota forced p s t → t.left ≡ s.left
-closing_left quota forced idle s t e = same_left s t e
-closing_left quota forced (marking c) s t (inl e) = same_left s t e
-closing_left quota forced (marking c) s t (inr h) = ap (λ (x : State). x.left) h.0.rest
-closing_left quota forced (sweeping c closed) s t e = same_left s t e
+closing_left : (quota : ℕ) (p : Progress) (s t : State) → ClosesOrWaits quota p s t → t.left ≡ s.left
+closing_left quota idle s t e = same_left s t e
+closing_left quota (marking c) s t (inl e) = same_left s t e
+closing_left quota (marking c) s t (inr h) = ap (λ (x : State). x.left) h.0.rest
+closing_left quota (sweeping c closed) s t e = same_left s t e
 
 closed_left : (p : Progress) (s t : State) → ClosesNow p s t → t.left ≡ s.left
 closed_left idle s t e = same_left s t e
@@ -42,7 +42,7 @@ finished_left : (s t : State) (cycles : List CycleRow) → Finishes s t cycles �
 finished_left s t cycles h = ending_left h.swept.progress h.swept t cycles h.ends ∙ ap (λ (x : State). x.left) h.others ∙ closed_left s.progress s h.closed h.closes
 
 full_left : (s t : State) (cycles : List CycleRow) → DoesFullCycle s t cycles → t.left ≡ s.left
-full_left s t cycles h = ap (λ (x : State). x.left) h.rest ∙ finished_left (cycle_started (all_filed h.idled)) h.last h.own h.again ∙ finished_left s h.idled h.before h.finishes
+full_left s t cycles h = ap (λ (x : State). x.left) h.rest ∙ finished_left (cycle_started (with_all_retired h.idled)) h.last h.own h.again ∙ finished_left s h.idled h.before h.finishes
 
 beginning_left : (config : Config) (s t : State) → BeginsOrWaits config s t → t.left ≡ s.left
 beginning_left config s t (inl h) = ap (λ (x : State). x.left) h.1
@@ -57,7 +57,7 @@ pub stop_left : (plan : Plan) (began : World) (s t : State) (row : StopRow) (cyc
 stop_left plan began s t row cycles h =
     proceeding_left plan h.ended t h.more h.proceeds
     ∙ ending_left h.closed.progress h.closed h.ended h.first h.ends
-    ∙ closing_left plan.config.quota _ h.promoted.progress h.promoted h.closed h.closes
+    ∙ closing_left plan.config.quota h.promoted.progress h.promoted h.closed h.closes
     ∙ ap (λ (x : State). x.left) h.promotes.rest
 
 -- of the lists, the lengths

@@ -17,11 +17,11 @@ use Rattle.nmgc_run.specs.Limits.{IsWithinLimits, ScriptsHaveGoodPlans, StatesAr
 use Rattle.nmgc_run.specs.Run.{Turn, AreTurns, state_after}
 use Rattle.nmgc_run.specs.Slice.{program_of}
 use Rattle.nmgc_run.specs.State.{State, Plan, Cycle, Progress, idle, marking, sweeping, start, cycle_started}
-use Rattle.nmgc_run.specs.Stop.{IsStop, EndsOrWaits, Finishes, DoesFullCycle, BeginsOrWaits, Proceeds, all_filed}
+use Rattle.nmgc_run.specs.Stop.{IsStop, EndsOrWaits, Finishes, DoesFullCycle, BeginsOrWaits, Proceeds, with_all_retired}
 use Rattle.nmgc_run.specs.laws.Lefts.{stop_left}
 use Rattle.nmgc_run.specs.laws.Programs.{HasPrograms, rows_have, left_has}
 use Rattle.nmgc_run.specs.laws.Runs.{turn_holds, round_holds, opening_holds, opening_worked, sound_of, rounds_are_sound}
-use Rattle.nmgc_run.specs.laws.States.{Holds, Worked, lefts}
+use Rattle.nmgc_run.specs.laws.States.{IsSoundHere, Worked, lefts}
 use Rattle.nmgc_run.specs.laws.Stops.{stop_holds, full_begins}
 
 -- worlds through a stop
@@ -32,16 +32,16 @@ Within plan s = IsWithin plan.config.words s.world
 same_within : (plan : Plan) (s t : State) → t ≡ s → Within plan s → Within plan t
 same_within plan s t e h = subst (Within plan) (sym e) h
 
-close_within : (plan : Plan) (c : Cycle) (s t : State) → Holds plan s → Closes c s t → Within plan s → Within plan t
+close_within : (plan : Plan) (c : Cycle) (s t : State) → IsSoundHere plan s → Closes c s t → Within plan s → Within plan t
 close_within plan c s t holds closes h = subst (Within plan) (sym closes.rest) (closing_keeps_limits plan.config.words s.world closes.dead holds.world h)
 
-closes_within : (plan : Plan) (quota : ℕ) (forced : Type 0) (p : Progress) (s t : State) → Holds plan s → ClosesOrWaits quota forced p s t → Within plan s → Within plan t
-closes_within plan quota forced idle s t holds same h = same_within plan s t same h
-closes_within plan quota forced (marking c) s t holds (inl same) h = same_within plan s t same h
-closes_within plan quota forced (marking c) s t holds (inr closes) h = close_within plan c s t holds closes.0 h
-closes_within plan quota forced (sweeping c number) s t holds same h = same_within plan s t same h
+closes_within : (plan : Plan) (quota : ℕ) (p : Progress) (s t : State) → IsSoundHere plan s → ClosesOrWaits quota p s t → Within plan s → Within plan t
+closes_within plan quota idle s t holds same h = same_within plan s t same h
+closes_within plan quota (marking c) s t holds (inl same) h = same_within plan s t same h
+closes_within plan quota (marking c) s t holds (inr closes) h = close_within plan c s t holds closes.0 h
+closes_within plan quota (sweeping c number) s t holds same h = same_within plan s t same h
 
-now_within : (plan : Plan) (p : Progress) (s t : State) → Holds plan s → ClosesNow p s t → Within plan s → Within plan t
+now_within : (plan : Plan) (p : Progress) (s t : State) → IsSoundHere plan s → ClosesNow p s t → Within plan s → Within plan t
 now_within plan idle s t holds same h = same_within plan s t same h
 now_within plan (marking c) s t holds closes h = close_within plan c s t holds closes h
 now_within plan (sweeping c number) s t holds same h = same_within plan s t same h
@@ -52,20 +52,20 @@ ends_within plan (marking c) s t cycles e h = same_within plan s t e.0 h
 ends_within plan (sweeping c number) s t cycles (inl e) h = subst (Within plan) (sym e.1.rest) h
 ends_within plan (sweeping c number) s t cycles (inr e) h = same_within plan s t e.1 h
 
-finishes_within : (plan : Plan) (s t : State) (cycles : List CycleRow) → Finishes s t cycles → Holds plan s → Within plan s → Within plan t
+finishes_within : (plan : Plan) (s t : State) (cycles : List CycleRow) → Finishes s t cycles → IsSoundHere plan s → Within plan s → Within plan t
 finishes_within plan s t cycles f holds h = ends_within plan f.swept.progress f.swept t cycles f.ends (subst (Within plan) (sym f.others) (now_within plan s.progress s f.closed holds f.closes h))
 
-full_within : (plan : Plan) (s t : State) (cycles : List CycleRow) → DoesFullCycle s t cycles → Holds plan s → Within plan s → Within plan t
+full_within : (plan : Plan) (s t : State) (cycles : List CycleRow) → DoesFullCycle s t cycles → IsSoundHere plan s → Within plan s → Within plan t
 full_within plan s t cycles f holds h =
     let idled : Within plan f.idled = finishes_within plan s f.idled f.before f.finishes holds h in
-    let begun : Holds plan (cycle_started (all_filed f.idled)) = full_begins plan s t cycles f holds in
-    subst (Within plan) (sym f.rest) (finishes_within plan (cycle_started (all_filed f.idled)) f.last f.own f.again begun idled)
+    let begun : IsSoundHere plan (cycle_started (with_all_retired f.idled)) = full_begins plan s t cycles f holds in
+    subst (Within plan) (sym f.rest) (finishes_within plan (cycle_started (with_all_retired f.idled)) f.last f.own f.again begun idled)
 
 begins_within : (plan : Plan) (s t : State) → BeginsOrWaits plan.config s t → Within plan s → Within plan t
 begins_within plan s t (inl b) h = subst (Within plan) (sym b.1) h
 begins_within plan s t (inr b) h = same_within plan s t b.1 h
 
-proceeds_within : (plan : Plan) (s t : State) (cycles : List CycleRow) → Proceeds plan s t cycles → Holds plan s → Within plan s → Within plan t
+proceeds_within : (plan : Plan) (s t : State) (cycles : List CycleRow) → Proceeds plan s t cycles → IsSoundHere plan s → Within plan s → Within plan t
 proceeds_within plan s t cycles (inl f) holds h = full_within plan s t cycles f.1 holds h
 proceeds_within plan s t cycles (inr b) holds h = begins_within plan s t b.1 h
 
@@ -73,7 +73,7 @@ pub stop_within : (plan : Plan) (began : World) (s t : State) (row : StopRow) (c
 stop_within plan began s t row cycles i worked h =
     let holds = stop_holds plan began s t row cycles i worked in
     let promoted : Within plan i.promoted = subst (Within plan) (sym i.promotes.rest) h.world in
-    let closed : Within plan i.closed = closes_within plan plan.config.quota _ i.promoted.progress i.promoted i.closed holds.promoted i.closes promoted in
+    let closed : Within plan i.closed = closes_within plan plan.config.quota i.promoted.progress i.promoted i.closed holds.promoted i.closes promoted in
     let ended : Within plan i.ended = ends_within plan i.closed.progress i.closed i.ended i.first i.ends closed in
     record {
       world = proceeds_within plan i.ended t i.more i.proceeds holds.ended ended;
@@ -92,7 +92,7 @@ rounds_are_within plan s t replies rows sound h round =
       },
     )
 
-turns_within : (plan : Plan) (s : State) (turns : List Turn) → AreTurns plan s turns → HasPrograms plan s → Holds plan s → IsWithinLimits plan s → IsWithinLimits plan (state_after s turns)
+turns_within : (plan : Plan) (s : State) (turns : List Turn) → AreTurns plan s turns → HasPrograms plan s → IsSoundHere plan s → IsWithinLimits plan s → IsWithinLimits plan (state_after s turns)
 turns_within plan s [] i able holds h = h
 turns_within plan s (turn ∷ turns) i able holds h =
     let next = turn_holds plan s turn i.0 able holds in

@@ -22,10 +22,10 @@ use Rattle.nmgc_alloc.specs.Segments.{Segments, IsSegments, HasNumber, block_pla
 use Rattle.nmgc_alloc.specs.AllocState.{AllocState, Cells, StandsFor, Shows, LiesIn, cells, no_cells, name_in}
 use Rattle.nmgc_blocks.specs.laws.Blocks.{one_size}
 use Rattle.nmgc_heap.specs.Tracked.{IsTracked}
-use Rattle.nmgc_heap.specs.Places.{Place}
+use Rattle.nmgc_heap.specs.Places.{Place, shared_place}
 use Rattle.nmgc_heap.specs.Represents.{Represents, NoNode}
 use Rattle.nmgc_blocks.specs.Occupied.{IsOccupied, AreBlocks}
-use Rattle.nmgc_run.specs.Heap.{IsBlockPlace, IsPlaceAtStop, FitBlocks, shared_place}
+use Rattle.nmgc_run.specs.Heap.{IsBlockPlace, IsPlaceAtStop, FitBlocks}
 use Rattle.nmgc_run.specs.Places.{BlocksAtStop, BlocksAfterRound}
 use Rattle.nmgc_alloc.specs.laws.Cells.{none_some}
 

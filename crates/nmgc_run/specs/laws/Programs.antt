@@ -20,7 +20,7 @@ use Rattle.nmgc_run.specs.State.{State, Plan}
 use Rattle.nmgc_run.specs.Stop.{IsStop}
 use Rattle.nmgc_run.specs.laws.Lefts.{slice_count, round_left, stop_left}
 use Rattle.nmgc_run.specs.laws.Serials.{IsGood, own_count, all_own, rows_can, rows_count, answered_has, answered_few}
-use Rattle.nmgc_run.specs.laws.States.{Holds, lefts}
+use Rattle.nmgc_run.specs.laws.States.{IsSoundHere, lefts}
 
 -- what is left of the programs: their registers exist
 pub record HasPrograms (plan : Plan) (s : State) : Type 0 where
@@ -65,7 +65,7 @@ pub left_has : (Q : Command → Type 0) (config : Config) (s t : State) (replies
 left_has Q config s t replies rows round h m = subst (λ (program : List Command). All Q program) (sym (round_left config s t replies rows m round)) (All-drop Q (length (slice_index_or replies m [])) (program_of s.left m) (h m))
 
 -- the rows of a round can be replayed, and leave room for what is left
-module _ (plan : Plan) (s t : State) (replies : List (List Reply)) (rows : List Row) (round : IsRound plan.config s replies rows t) (able : HasPrograms plan s) (h : Holds plan s) where
+module _ (plan : Plan) (s t : State) (replies : List (List Reply)) (rows : List Row) (round : IsRound plan.config s replies rows t) (able : HasPrograms plan s) (h : IsSoundHere plan s) where
   own_good : (m : ℕ) → All (IsGood (length s.world.mutators)) (rows_of m rows)
   own_good m = elim (cases_lt m (length plan.threads)) [
     | inl lt ↦

@@ -9,7 +9,7 @@ use Rattle.nmgc_graph.specs.Step.{shared_name}
 use Rattle.nmgc_graph.specs.History.{Row, replayed}
 use Rattle.nmgc_graph.specs.Reach.{RefersTo, IsAlive}
 use Rattle.nmgc_graph.specs.laws.Orders.{contains_head, contains_tail, contains_cases}
-use Rattle.nmgc_reach.specs.Holds.{Stands}
+use Rattle.nmgc_reach.specs.Holds.{HasStrongField}
 use Rattle.nmgc_reach.specs.laws.Barrier.{place_of_field}
 use Rattle.nmgc_reach.specs.laws.HeldSteps.{absent}
 use Rattle.nmgc_reach.specs.laws.StoredLaws.{old_refers_to_young, old_weaks_stay}
@@ -73,7 +73,7 @@ module _ (plan : Plan) (s t : State) (rows : List Row) (places : List Place) (se
   changed : (holder name : Name) → IsSome (node_of s.world holder) → node_of s.world name ≡ None → RefersTo t.world holder name → IsTracked t.world (s.world ∷ snapshots t.progress) holder
   changed holder name old none refers =
       let at = place_of_field refers.0 (Ref name) refers.2 in
-      let stands : Stands (replayed s.world rows) holder at.0 (Ref name) = record { node = refers.0; node_is = sym (ap (λ (x : World). node_of x holder) world_is) ∙ refers.1; field = at.1 } in
+      let stands : HasStrongField (replayed s.world rows) holder at.0 (Ref name) = record { node = refers.0; node_is = sym (ap (λ (x : World). node_of x holder) world_is) ∙ refers.1; field = at.1 } in
       let stored = old_refers_to_young s.world rows is sound.can holder name at.0 old (absent (node_of s.world name) none) stands in
       past_tracked t.world (s.world ∷ snapshots t.progress) s.world holder (contains_head s.world (snapshots t.progress)) stored.wide
 

@@ -16,7 +16,7 @@ use Rattle.nmgc_run.specs.State.{Plan, Cycle, Progress, idle, marking, sweeping,
 use Rattle.nmgc_run.specs.Sweep.{SweepsBeside}
 use Rattle.nmgc_run.specs.laws.Filing.{each_filed}
 use Rattle.nmgc_run.specs.laws.Serials.{rows_mutators}
-use Rattle.nmgc_run.specs.laws.States.{Stands, Worked, replayed_more, can_more, known_then}
+use Rattle.nmgc_run.specs.laws.States.{IsSoundWith, Worked, replayed_more, can_more, known_then}
 use Rattle.nmgc_run.specs.laws.Sweeps.{each_waits, each_lie, sweeps_keep}
 use Rattle.nmgc_run.specs.laws.Tracks.{tracked_before, tracked_young, tracked_known}
 
@@ -37,14 +37,14 @@ lie_more : (w : World) (rows : List Row) (a : AllocState) → CanReplay w rows �
 lie_more w rows a can lie number block n lies = replayed_names w rows can n (lie number block n lies)
 
 module _ (plan : Plan) (left after_left : ℕ → ℕ) (quota : ℕ) (w : World) (a b : AllocState) (rows : List Row) (can : CanReplay w rows) (made : (m : ℕ) → serial_of (replayed w rows) m + after_left m < 2 ^ 32 - 1) where
-  round_idle : Stands plan left w a idle → SweepsBeside quota idle a b → Worked plan after_left w (replayed w rows) b idle
+  round_idle : IsSoundWith plan left w a idle → SweepsBeside quota idle a b → Worked plan after_left w (replayed w rows) b idle
   round_idle h same =
       let known : LieKnown w b = subst (LieKnown w) (sym same) h.known in
       record {
         world = world_after w rows h.world can;
         mutators = rows_mutators w rows can ∙ h.mutators;
         made = made;
-        filed = subst (AreSoundBlocks (layout_of plan)) (sym same) h.filed;
+        sound_blocks = subst (AreSoundBlocks (layout_of plan)) (sym same) h.sound_blocks;
         old_known = known;
         known = lie_more w rows b can known;
         cycle = tt;
@@ -53,7 +53,7 @@ module _ (plan : Plan) (left after_left : ℕ → ℕ) (quota : ℕ) (w : World)
         there = tracked_known (replayed w rows) [] (world_after w rows h.world can) (λ e held n wide. absurd (nothing_in e held));
       }
 
-  round_marking : (c : Cycle) → Stands plan left w a (marking c) → SweepsBeside quota (marking c) a b → Worked plan after_left w (replayed w rows) b (noted (marking c) rows)
+  round_marking : (c : Cycle) → IsSoundWith plan left w a (marking c) → SweepsBeside quota (marking c) a b → Worked plan after_left w (replayed w rows) b (noted (marking c) rows)
   round_marking c h same =
       let all : List Row = c.rows ++ rows in
       let more : CanReplay c.snapshot all = can_more c.snapshot c.rows rows h.cycle.0.rows (subst (λ (x : World). CanReplay x rows) h.cycle.1 can) in
@@ -63,7 +63,7 @@ module _ (plan : Plan) (left after_left : ℕ → ℕ) (quota : ℕ) (w : World)
         world = world_after w rows h.world can;
         mutators = rows_mutators w rows can ∙ h.mutators;
         made = made;
-        filed = subst (AreSoundBlocks (layout_of plan)) (sym same) h.filed;
+        sound_blocks = subst (AreSoundBlocks (layout_of plan)) (sym same) h.sound_blocks;
         old_known = known;
         known = lie_more w rows b can known;
         cycle = (record { world = h.cycle.0.world; rows = more }, ap (λ (x : World). replayed x rows) h.cycle.1 ∙ sym (replayed_more c.snapshot c.rows rows), subst (WaitKnown c) (sym same) h.cycle.2);
@@ -72,7 +72,7 @@ module _ (plan : Plan) (left after_left : ℕ → ℕ) (quota : ℕ) (w : World)
         there = tracked_known (replayed w rows) (c.snapshot ∷ []) (world_after w rows h.world can) (λ e held n wide. replayed_names w rows can n (known_names e held n wide));
       }
 
-  round_sweeping : (c : Cycle) (number : ℕ) → Stands plan left w a (sweeping c number) → SweepsBeside quota (sweeping c number) a b → Worked plan after_left w (replayed w rows) b (sweeping c number)
+  round_sweeping : (c : Cycle) (number : ℕ) → IsSoundWith plan left w a (sweeping c number) → SweepsBeside quota (sweeping c number) a b → Worked plan after_left w (replayed w rows) b (sweeping c number)
   round_sweeping c number h s =
       let after : IsAfterClosing c (replayed w rows) = closing_more c w rows h.cycle.0 can in
       let known : LieKnown w b = each_lie (IsKeptIn c) (λ n. IsSome (node_of w n)) a b s.numbers s.sweeps h.known in
@@ -80,7 +80,7 @@ module _ (plan : Plan) (left after_left : ℕ → ℕ) (quota : ℕ) (w : World)
         world = world_after w rows h.world can;
         mutators = rows_mutators w rows can ∙ h.mutators;
         made = made;
-        filed = each_filed (layout_of plan) (IsKeptIn c) a b s.numbers s.sweeps h.filed;
+        sound_blocks = each_filed (layout_of plan) (IsKeptIn c) a b s.numbers s.sweeps h.sound_blocks;
         old_known = known;
         known = lie_more w rows b can known;
         cycle = (after, each_waits (IsKeptIn c) (IsOfSnapshot c) a b s.numbers s.sweeps h.cycle.1);
@@ -89,7 +89,7 @@ module _ (plan : Plan) (left after_left : ℕ → ℕ) (quota : ℕ) (w : World)
         there = tracked_known (replayed w rows) [] (world_after w rows h.world can) (λ e held n wide. absurd (nothing_in e held));
       }
 
-  pub round_worked : (p : Progress) → Stands plan left w a p → SweepsBeside quota p a b → Worked plan after_left w (replayed w rows) b (noted p rows)
+  pub round_worked : (p : Progress) → IsSoundWith plan left w a p → SweepsBeside quota p a b → Worked plan after_left w (replayed w rows) b (noted p rows)
   round_worked idle h same = round_idle h same
   round_worked (marking c) h same = round_marking c h same
   round_worked (sweeping c number) h s = round_sweeping c number h s

@@ -23,25 +23,25 @@ use Rattle.nmgc_run.specs.State.{State, Plan, Progress, idle, marking, sweeping,
 use Rattle.nmgc_run.specs.laws.Filing.{first_filed}
 use Rattle.nmgc_run.specs.laws.Programs.{HasPrograms, can_replay, made_after, round_programs, stop_programs}
 use Rattle.nmgc_run.specs.laws.Rounds.{round_worked}
-use Rattle.nmgc_run.specs.laws.States.{Worked, Holds, lefts, earlier_then, snapshot_known}
+use Rattle.nmgc_run.specs.laws.States.{Worked, IsSoundHere, lefts, earlier_then, snapshot_known}
 use Rattle.nmgc_run.specs.laws.Stops.{stop_holds}
 use Rattle.nmgc_run.specs.laws.Tracks.{tracked_known}
 
 -- a round, and a turn
 
-pub round_holds : (plan : Plan) (s t : State) (replies : List (List Reply)) (rows : List Row) → IsRound plan.config s replies rows t → HasPrograms plan s → Holds plan s → Worked plan (lefts t) s.world t.world t.allocation t.progress
+pub round_holds : (plan : Plan) (s t : State) (replies : List (List Reply)) (rows : List Row) → IsRound plan.config s replies rows t → HasPrograms plan s → IsSoundHere plan s → Worked plan (lefts t) s.world t.world t.allocation t.progress
 round_holds plan s t replies rows round able h =
     let can = can_replay plan s t replies rows round able h in
     let M : State → Type 0 = λ x. Worked plan (lefts t) s.world x.world x.allocation x.progress in
     subst M (sym round.rest) (round_worked plan (lefts s) (lefts t) plan.config.quota s.world s.allocation t.allocation rows can (made_after plan s t replies rows round able h) s.progress h round.swept)
 
-pub turn_holds : (plan : Plan) (s : State) (turn : Turn) → IsTurn plan s turn → HasPrograms plan s → Holds plan s → HasPrograms plan turn.stop.state × Holds plan turn.stop.state
+pub turn_holds : (plan : Plan) (s : State) (turn : Turn) → IsTurn plan s turn → HasPrograms plan s → IsSoundHere plan s → HasPrograms plan turn.stop.state × IsSoundHere plan turn.stop.state
 turn_holds plan s turn i able h = (
   stop_programs plan s.world turn.worked turn.stop.state turn.stop.row turn.stop.cycles i.stop (round_programs plan s turn.worked turn.replies.replies turn.history i.round able h),
   (stop_holds plan s.world turn.worked turn.stop.state turn.stop.row turn.stop.cycles i.stop (round_holds plan s turn.worked turn.replies.replies turn.history i.round able h)).last,
 )
 
-pub turns_hold : (plan : Plan) (s : State) (turns : List Turn) → AreTurns plan s turns → HasPrograms plan s → Holds plan s → HasPrograms plan (state_after s turns) × Holds plan (state_after s turns)
+pub turns_hold : (plan : Plan) (s : State) (turns : List Turn) → AreTurns plan s turns → HasPrograms plan s → IsSoundHere plan s → HasPrograms plan (state_after s turns) × IsSoundHere plan (state_after s turns)
 turns_hold plan s [] i able h = (able, h)
 turns_hold plan s (turn ∷ turns) i able h = let next = turn_holds plan s turn i.0 able h in turns_hold plan turn.stop.state turns i.1 next.0 next.1
 
@@ -64,7 +64,7 @@ opening_worked plan runnable =
       world = is;
       mutators = length-replicate k new_mutator;
       made = λ m. subst (λ (n : ℕ). n + lefts (start plan) m < 2 ^ 32 - 1) (sym (new_serial k m)) (subst (λ (n : ℕ). n < 2 ^ 32 - 1) (sym (zero-add (lefts (start plan) m))) (runnable.short m));
-      filed = first_filed (layout_of plan);
+      sound_blocks = first_filed (layout_of plan);
       old_known = λ number block n lies. absurd (none_some (name_in (cells (all_empty plan.config.segments) number) block) n (empty number block) lies);
       known = λ number block n lies. absurd (none_some (name_in (cells (all_empty plan.config.segments) number) block) n (empty number block) lies);
       cycle = tt;
@@ -79,13 +79,13 @@ opening_worked plan runnable =
 pub start_programs : (plan : Plan) → IsRunnable plan → HasPrograms plan (start plan)
 start_programs plan runnable = record { count = refl; registers = runnable.registers }
 
-pub opening_holds : (plan : Plan) (run : Run) → IsRunnable plan → IsRun plan run → HasPrograms plan run.opening.state × Holds plan run.opening.state
+pub opening_holds : (plan : Plan) (run : Run) → IsRunnable plan → IsRun plan run → HasPrograms plan run.opening.state × IsSoundHere plan run.opening.state
 opening_holds plan run runnable i = (
   stop_programs plan (new_world (length plan.threads)) (start plan) run.opening.state run.opening.row run.opening.cycles i.opening (start_programs plan runnable),
   (stop_holds plan (new_world (length plan.threads)) (start plan) run.opening.state run.opening.row run.opening.cycles i.opening (opening_worked plan runnable)).last,
 )
 
-pub run_holds : (plan : Plan) (run : Run) → IsRunnable plan → IsRun plan run → HasPrograms plan (last_state run) × Holds plan (last_state run)
+pub run_holds : (plan : Plan) (run : Run) → IsRunnable plan → IsRun plan run → HasPrograms plan (last_state run) × IsSoundHere plan (last_state run)
 run_holds plan run runnable i = let opened = opening_holds plan run runnable i in turns_hold plan run.opening.state run.turns i.turns opened.0 opened.1
 
 -- so the states of a run are sound
@@ -96,21 +96,21 @@ noted_snapshots idle rows e held = held
 noted_snapshots (marking c) rows e held = held
 noted_snapshots (sweeping c closed) rows e held = held
 
-pub sound_of : (plan : Plan) (s : State) → HasPrograms plan s → Holds plan s → IsSoundState plan s
+pub sound_of : (plan : Plan) (s : State) → HasPrograms plan s → IsSoundHere plan s → IsSoundState plan s
 sound_of plan s able h = record {
   world = h.world;
   able = record { programs = able.count; mutators = h.mutators; registers = able.registers; serials = h.made };
-  filed = h.filed;
+  sound_blocks = h.sound_blocks;
   known = h.known;
   cycle = h.cycle;
   earlier = earlier_then s.world s.allocation s.progress h.cycle;
   blocks = h.blocks;
 }
 
-pub sound_holds : (plan : Plan) (s : State) → IsSoundState plan s → HasPrograms plan s × Holds plan s
+pub sound_holds : (plan : Plan) (s : State) → IsSoundState plan s → HasPrograms plan s × IsSoundHere plan s
 sound_holds plan s sound = (
   record { count = sound.able.programs; registers = sound.able.registers },
-  record { world = sound.world; mutators = sound.able.mutators; made = sound.able.serials; filed = sound.filed; known = sound.known; cycle = sound.cycle; blocks = sound.blocks },
+  record { world = sound.world; mutators = sound.able.mutators; made = sound.able.serials; sound_blocks = sound.sound_blocks; known = sound.known; cycle = sound.cycle; blocks = sound.blocks },
 )
 
 pub states_are_sound : StatesAreSound
@@ -125,7 +125,7 @@ rounds_are_sound plan s t replies rows sound round =
       can = can_replay plan s t replies rows round h.0 h.1;
       world = m.world;
       able = record { programs = able.count; mutators = m.mutators; registers = able.registers; serials = m.made };
-      filed = m.filed;
+      sound_blocks = m.sound_blocks;
       known = m.old_known;
       cycle = m.cycle;
       earlier = earlier_then t.world t.allocation t.progress m.cycle;

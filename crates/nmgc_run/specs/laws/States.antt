@@ -31,12 +31,12 @@ pub can_more : (w : World) (a b : List Row) → CanReplay w a → CanReplay (rep
 can_more w [] b can more = more
 can_more w (row ∷ a) b can more = (can.0, can_more (step w row.mutator row.command).0 a b can.1 more)
 
--- what holds at a stop, of a world, an allocation state and what the collector does; each mutator has so many commands left
-pub record Stands (plan : Plan) (left : ℕ → ℕ) (w : World) (a : AllocState) (p : Progress) : Type 0 where
+-- a sound state by its parts, so that a step can exchange one of them: what IsSoundState says of a world, an allocation state and what the collector does, where each mutator has so many commands left. It leaves out that their registers exist, which no stop can change, and that the collector may still speak of the snapshot, which follows (earlier_then)
+pub record IsSoundWith (plan : Plan) (left : ℕ → ℕ) (w : World) (a : AllocState) (p : Progress) : Type 0 where
   pub world : IsWorld w
   pub mutators : length w.mutators ≡ length plan.threads
   pub made : (m : ℕ) → serial_of w m + left m < 2 ^ 32 - 1
-  pub filed : AreSoundBlocks (layout_of plan) a
+  pub sound_blocks : AreSoundBlocks (layout_of plan) a
   pub known : LieKnown w a
   pub cycle : IsInCycle p w a
   pub blocks : (n : Name) → IsTracked w (snapshots p) n → n ≢ shared_name → HasBlock a n
@@ -45,16 +45,16 @@ pub record Stands (plan : Plan) (left : ℕ → ℕ) (w : World) (a : AllocState
 abbrev pub lefts : State → ℕ → ℕ
 lefts s m = length (left_of s m)
 
--- it holds of a state
-abbrev pub Holds : Plan → State → Type 0
-Holds plan s = Stands plan (lefts s) s.world s.allocation s.progress
+-- this state's parts are so; where its programs can be done too, it is a sound state (sound_of, sound_holds)
+abbrev pub IsSoundHere : Plan → State → Type 0
+IsSoundHere plan s = IsSoundWith plan (lefts s) s.world s.allocation s.progress
 
 -- what holds after a round that began with a world: an old tracked name has its block, and a young one is to be promoted
 pub record Worked (plan : Plan) (left : ℕ → ℕ) (began w : World) (a : AllocState) (p : Progress) : Type 0 where
   pub world : IsWorld w
   pub mutators : length w.mutators ≡ length plan.threads
   pub made : (m : ℕ) → serial_of w m + left m < 2 ^ 32 - 1
-  pub filed : AreSoundBlocks (layout_of plan) a
+  pub sound_blocks : AreSoundBlocks (layout_of plan) a
   pub old_known : LieKnown began a
   pub known : LieKnown w a
   pub cycle : IsInCycle p w a

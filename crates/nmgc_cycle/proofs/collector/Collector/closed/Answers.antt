@@ -1,7 +1,7 @@
 use Rattle.std.proofs.Common.{ℕ, ◌≡◌, ◌≤◌, List, length, map, sym, ap, subst, ◌∙◌, vec_capacity}
 use Rattle.std.proofs.lemmas.List.{length-map}
 use Rattle.nmgc_alloc.specs.Segments.{Segments}
-use Rattle.nmgc_alloc.specs.Turns.{carried_over}
+use Rattle.nmgc_alloc.specs.CycleSteps.{carried_over}
 use Rattle.nmgc_beside.specs.Resolves.{finished_on}
 use Rattle.nmgc_mark.specs.Stopped.{IsReady}
 use Rattle.nmgc_mutator.specs.declared.mutator.Mutator.{Mutator}

@@ -1,12 +1,13 @@
 use Rattle.std.proofs.Common.{rules, ℕ, ◌≡◌, ◌≤◌, ◌∙◌, List, [], length, ap, subst, sym, arith}
 use Rattle.nmgc_graph.specs.declared.value.Name.{Name}
 use Rattle.nmgc_object.specs.declared.layout.Layout.{Layout}
-use Rattle.nmgc_sweep.specs.Sweeper.{IsWaiting, note_count}
+use Rattle.nmgc_sweep.specs.Sweeper.{note_count}
 use Rattle.nmgc_sweep.specs.Work.{AddsSection, HasBegun}
 use Rattle.nmgc_sweep.proofs.Starts.{below_all, below_more, below_skip, names_counted, room_enough}
 use Rattle.nmgc_sweep.proofs.Steps.{made}
 use Rattle.nmgc_sweep.proofs.sweeper.Sweeper.start.Goals.{then-eq+in_ok-note, else-eq}
 use Rattle.nmgc_sweep.proofs.sweeper.Sweeper.start.Goals as goal
+use Rattle.nmgc_alloc.specs.Segments.{IsWaiting}
 
 pub loop-number-preserved : goal.loop-number-preserved
 loop-number-preserved g c =

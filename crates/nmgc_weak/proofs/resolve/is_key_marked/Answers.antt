@@ -1,5 +1,5 @@
 use Rattle.std.proofs.Common.{◌/◌, ◌<◌, ◌^◌, arith}
-use Rattle.nmgc_weak.proofs.resolve.is_shown.Goals as goal
+use Rattle.nmgc_weak.proofs.resolve.is_key_marked.Goals as goal
 
 pub overflow_cast-to : goal.overflow_cast-to
 overflow_cast-to c =

@@ -1,16 +1,14 @@
 -- Each event of a run that isn't closed keeps what each event keeps; so no name is marked twice, and g stays the first.
-use Rattle.std.proofs.Common.{◌≡◌, ℕ, ◌++◌, true, false, List, [], ◌∷◌, refl, sym, ap, subst, ◌∙◌, inl, inr, Option, Some, None}
-use Rattle.std.specs.Prelude.{Contains, is_some, not}
+use Rattle.std.proofs.Common.{◌≡◌, ℕ, ◌++◌, true, false, List, [], ◌∷◌, refl, sym, ap, subst, ◌∙◌, Option, Some, None}
+use Rattle.std.specs.Prelude.{is_some, not}
 use Rattle.std.proofs.lemmas.Bool.{and_parts, not-true}
-use Rattle.std.proofs.lemmas.List.Elements.{Contains-append_cases}
 use Rattle.nmgc_graph.specs.declared.value.Name.{Name}
 use Rattle.nmgc_graph.specs.declared.value.Value.{Value}
 use Rattle.nmgc_graph.specs.declared.value.Value.TheVariants as value
 use Rattle.nmgc_graph.specs.History.{Row}
 use Rattle.nmgc_graph.specs.World.{World, node_of}
 use Rattle.nmgc_graph.specs.Step.{shared_name}
-use Rattle.nmgc_graph.specs.laws.Orders.{contains_head, contains_tail}
-use Rattle.nmgc_reach.specs.laws.ItemLaws.{nothing_in, one_is}
+use Rattle.nmgc_reach.specs.laws.ItemLaws.{nothing_in}
 use Rattle.nmgc_core.specs.declared.event.Entry.{Entry}
 use Rattle.nmgc_core.specs.declared.event.Event.{Event}
 use Rattle.nmgc_core.specs.declared.event.Event.TheVariants as event
@@ -20,7 +18,8 @@ use Rattle.nmgc_core.specs.Scan.{read_at}
 use Rattle.nmgc_core.specs.State.{State, names_of, is_listed, mark_name, mark_read, mark_values, opening, root_values, unmarked}
 use Rattle.nmgc_core.specs.laws.Listed.{not_listed}
 use Rattle.nmgc_core.specs.laws.Marking.{mark_cases}
-use Rattle.nmgc_weak.specs.Resolve.{AreOnce}
+use Rattle.nmgc_run.specs.Listing.{AreDistinct}
+use Rattle.nmgc_run.specs.laws.Distinct.{distinct_push}
 
 -- a closed machine stays closed
 pub stays_closed : (s : State) (es : List Event) (rows : List Row) (t : State) → Runs s es rows t → s.is_closed ≡ true → t.is_closed ≡ true
@@ -39,17 +38,7 @@ stays_closed s (e ∷ es) rows t (false, next, rest, first, is, later) on = stay
 pub record IsOnce (s : State) : Type 0 where
   pub others : List Name
   pub marked_are : s.marked ≡ shared_name ∷ others
-  pub once : AreOnce s.marked
-
-distinct_push : (xs : List Name) (x : Name) → AreOnce xs → (Contains xs x → ⊥) → AreOnce (xs ++ x ∷ [])
-distinct_push [] x once not = (nothing_in x, tt)
-distinct_push (y ∷ xs) x once not = (
-  λ c. elim (Contains-append_cases xs (x ∷ []) y c) [
-    | inl d ↦ once.0 d
-    | inr d ↦ not (subst (λ (n : Name). Contains (y ∷ xs) n) (sym (one_is x y d)) (contains_head y xs))
-  ],
-  distinct_push xs x once.1 (λ c. not (contains_tail y xs x c)),
-)
+  pub once : AreDistinct s.marked
 
 once_name : (s : State) (name : Name) → IsOnce s → IsOnce (mark_name s name)
 once_name s name h = mark_cases IsOnce s name
@@ -74,7 +63,7 @@ once_read s (Some (value.Ref name)) h = once_name s name h
 
 -- other parts don't matter
 once_same : (s t : State) → t.marked ≡ s.marked → IsOnce s → IsOnce t
-once_same s t e h = record { others = h.others; marked_are = e ∙ h.marked_are; once = subst AreOnce (sym e) h.once }
+once_same s t e h = record { others = h.others; marked_are = e ∙ h.marked_are; once = subst AreDistinct (sym e) h.once }
 
 once_advanced : (s : State) (queue : List Entry) → IsOnce s → IsOnce (advanced s queue)
 once_advanced s [] h = h
