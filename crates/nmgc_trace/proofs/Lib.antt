@@ -1,4 +1,5 @@
 mod Drains
+mod Happens
 mod Kepts
 mod Takes
 mod Traces

@@ -9,9 +9,7 @@ use Rattle.nmgc_graph.specs.laws.Orders.{before_trans, not_before_itself, contai
 use Rattle.nmgc_core.specs.declared.event.Event.TheVariants as event
 use Rattle.nmgc_core.specs.State.{State, names_of, is_new, with_mark}
 use Rattle.nmgc_core.specs.Machine.{Passes, after_take}
-use Rattle.nmgc_trace.specs.declared.progress.Progress.{Progress}
-use Rattle.nmgc_trace.specs.declared.progress.Progress.TheVariants as progress
-use Rattle.nmgc_trace.specs.Trace.{MarksJust, IsTakeIf, CanTake}
+use Rattle.nmgc_trace.specs.Trace.{MarksJust, IsTakeIf}
 
 nothing : {A : Type 0} (x : A) → Contains [] x → ⊥
 nothing x c = omega (arith, c.1)
@@ -157,18 +155,3 @@ take_told s next m name before after old new passes false test =
     let P : State → Type 0 = λ t. MarksJust s name t in
     let no : ◌≡◌ {A = Bool} false true = test.1 (tested s next name before after old new (subst P e take.1)) in
     cc
-
--- the same of the trace
-pub can_take : (p : Progress) (s : State) (m : ℕ) (name : Name) (b : Bool) (t : State) → p ≡ progress.Marking s → IsTakeIf s m name b t → b ≡ true → CanTake p m name (progress.Marking t)
-can_take p s m name b t e h done =
-    let T : Bool → Type 0 = λ d. IsTakeIf s m name d t in
-    let C : Progress → Type 0 = λ q. CanTake q m name (progress.Marking t) in
-    subst C (sym e) (t, subst T done h, refl)
-
-pub cannot_take : (p : Progress) (s : State) (m : ℕ) (name : Name) (b : Bool) (t : State) → p ≡ progress.Marking s → IsTakeIf s m name b t → b ≡ false → (next : Progress) → CanTake p m name next → ⊥
-cannot_take p s m name b t e h none next can =
-    let T : Bool → Type 0 = λ d. IsTakeIf s m name d t in
-    let C : Progress → Type 0 = λ q. CanTake q m name next in
-    let taken : CanTake (progress.Marking s) m name next = subst C e can in
-    let refused : IsTakeIf s m name false t = subst T none h in
-    refused taken.0 taken.1

@@ -1,7 +1,8 @@
 -- What it is for a line of a trace to happen, by the core machine and by nothing else.
 --
 -- Before `mark` commands build a world; from then on each line is an event of the core machine.
-use Rattle.std.specs.Prelude.{◌≡◌, ◌≤◌, ◌↔◌, ◌⊎◌, ◌-◌, ◌^◌, ℕ, zero, suc, List, [], ◌∷◌, Option, Some, None, Bool, true, false, Contains}
+use Rattle.std.specs.Prelude.{◌≡◌, ◌≤◌, ◌↔◌, ◌⊎◌, ◌-◌, ◌^◌, ℕ, zero, suc, List, [], ◌∷◌, Option, Some, None, Result, Ok, Err, Bool, true, false, Contains}
+use Rattle.nmgc_lists.specs.declared.memory.NoMemory.{NoMemory}
 use Rattle.nmgc_graph.specs.declared.value.Name.{Name}
 use Rattle.nmgc_graph.specs.declared.value.TheConstants.{MAKERS}
 use Rattle.nmgc_graph.specs.World.{World, new_world}
@@ -99,3 +100,9 @@ IsAnsweredIf w e false next = (other : World) → IsAnswered w e other → ⊥
 abbrev pub IsTakeIf : State → ℕ → Name → Bool → State → Type 0
 IsTakeIf s m name true next = IsTake s m name next
 IsTakeIf s m name false next = (other : State) → IsTake s m name other → ⊥
+
+-- what comes of a line that was tried: the progress that it made where it happened, and none where it couldn't
+abbrev pub next_if : Progress → Result Bool NoMemory → Result (Option Progress) NoMemory
+next_if p (Ok true) = Ok (Some p)
+next_if p (Ok false) = Ok None
+next_if p (Err e) = Err e

@@ -153,10 +153,7 @@ fn value_of(word: &str) -> Option<Value> {
 // A name: the maker and the number of the object, or `g`, which is spelled in no other way.
 fn name_of(word: &str) -> Option<Name> {
     if word == "g" {
-        return Some(Name {
-            maker: SHARED_MAKER,
-            serial: 0,
-        });
+        return Some(Name::SHARED);
     }
     let (maker, serial) = word.split_once('.')?;
     let maker = byte_of(maker)?;

@@ -8,8 +8,11 @@
 //!
 //! Easy to get wrong: a name that was marked before is among the marked ones after any take. So then the number of
 //! marked names is looked at too, which a take of another name would raise.
+//!
+//! Whatever lets go of a world or a machine calls `drop`, once. The check writes out a drop that nobody calls, with
+//! all that the value owns, wherever the function can end; a call's is proved once, for its type.
 ghost use Rattle.std.specs.Prelude.{◌≡◌, ◌↔◌, IfOk, OnOk, IsTrue, Contains, length};
-ghost use Rattle.nmgc_trace.specs.Trace.{IsNext, CanStart, IsAnsweredIf, IsTakeIf, IsDrain};
+ghost use Rattle.nmgc_trace.specs.Trace.{IsNext, CanStart, IsAnsweredIf, IsTakeIf, IsDrain, next_if};
 ghost use Rattle.nmgc_trace.specs.declared.line.Line.TheVariants as line_is;
 
 use crate::line::Line;
@@ -42,7 +45,10 @@ impl Progress {
             Line::Event(event) => self.event(event),
             Line::Take { mutator, name } => self.take(*mutator, *name),
             Line::Drain => self.drain(),
-            Line::Unknown => Ok(None),
+            Line::Unknown => {
+                drop(self);
+                Ok(None)
+            }
         }
     }
 
@@ -52,7 +58,14 @@ impl Progress {
     {
         match self {
             Progress::Nothing => started(alloc, count),
-            Progress::Building(_) | Progress::Marking(_) => Ok(None),
+            Progress::Building(world) => {
+                drop(world);
+                Ok(None)
+            }
+            Progress::Marking(core) => {
+                drop(core);
+                Ok(None)
+            }
         }
     }
 
@@ -61,8 +74,12 @@ impl Progress {
         ensures { IfOk result (IsNext self line_is.Mark) }
     {
         match self {
+            Progress::Nothing => Ok(None),
             Progress::Building(world) => Ok(Some(Progress::Marking(Core::new(world)?))),
-            Progress::Nothing | Progress::Marking(_) => Ok(None),
+            Progress::Marking(core) => {
+                drop(core);
+                Ok(None)
+            }
         }
     }
 
@@ -73,18 +90,12 @@ impl Progress {
         match self {
             Progress::Nothing => Ok(None),
             Progress::Building(mut world) => {
-                if is_answered(&mut world, event)? {
-                    Ok(Some(Progress::Building(world)))
-                } else {
-                    Ok(None)
-                }
+                let happened = is_answered(&mut world, event);
+                Progress::Building(world).if_happened(happened)
             }
             Progress::Marking(mut core) => {
-                if core.step(event)? {
-                    Ok(Some(Progress::Marking(core)))
-                } else {
-                    Ok(None)
-                }
+                let happened = core.step(event);
+                Progress::Marking(core).if_happened(happened)
             }
         }
     }
@@ -94,14 +105,15 @@ impl Progress {
         ensures { IfOk result (IsNext self (line_is.Take mutator name)) }
     {
         match self {
-            Progress::Marking(mut core) => {
-                if takes(&mut core, mutator, name)? {
-                    Ok(Some(Progress::Marking(core)))
-                } else {
-                    Ok(None)
-                }
+            Progress::Nothing => Ok(None),
+            Progress::Building(world) => {
+                drop(world);
+                Ok(None)
             }
-            Progress::Nothing | Progress::Building(_) => Ok(None),
+            Progress::Marking(mut core) => {
+                let happened = takes(&mut core, mutator, name);
+                Progress::Marking(core).if_happened(happened)
+            }
         }
     }
 
@@ -110,11 +122,35 @@ impl Progress {
         ensures { IfOk result (IsNext self line_is.Drain) }
     {
         match self {
-            Progress::Marking(mut core) => {
-                drain(&mut core)?;
-                Ok(Some(Progress::Marking(core)))
+            Progress::Nothing => Ok(None),
+            Progress::Building(world) => {
+                drop(world);
+                Ok(None)
             }
-            Progress::Nothing | Progress::Building(_) => Ok(None),
+            Progress::Marking(mut core) => match drain(&mut core) {
+                Ok(()) => Ok(Some(Progress::Marking(core))),
+                Err(error) => {
+                    drop(core);
+                    Err(error)
+                }
+            },
+        }
+    }
+
+    // The progress, where the line happened that made it.
+    fn if_happened(self, happened: Result<bool, NoMemory>) -> Result<Option<Self>, NoMemory>
+        ensures { result ≡ next_if self happened }
+    {
+        match happened {
+            Ok(true) => Ok(Some(self)),
+            Ok(false) => {
+                drop(self);
+                Ok(None)
+            }
+            Err(error) => {
+                drop(self);
+                Err(error)
+            }
         }
     }
 }

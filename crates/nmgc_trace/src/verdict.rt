@@ -71,7 +71,9 @@ fn write_names<W: fmt::Write>(f: &mut fmt::Formatter<W>, names: &[Name]) -> fmt:
 /// The verdict on the lines of a text.
 pub fn verdict_of(alloc: Global, text: &str) -> Result<Verdict, NoMemory> {
     let lines = lines_of(alloc, text)?;
-    judge(alloc, lines.items())
+    let verdict = judge(alloc, lines.items());
+    drop(lines);
+    verdict
 }
 
 /// The verdict on a trace. `Bad` and `Refused` come exactly where a line can't happen after those before
@@ -90,7 +92,7 @@ pub fn judge(alloc: Global, lines: &[Line]) -> Result<Verdict, NoMemory>
             None => return Ok(refusal(line, index + 1)),
         }
     }
-    let told = told_of(&progress)?;
+    let told = told_in_the_end(progress)?;
     Ok(told)
 }
 
@@ -109,7 +111,16 @@ fn refusal(line: &Line, number: usize) -> Verdict
     }
 }
 
-// What is told of a trace in the end.
+// What is told of a trace in the end. It lets go of the progress by a call (see `progress`).
+fn told_in_the_end(progress: Progress) -> Result<Verdict, NoMemory>
+    ensures { IfOk result (IsTold progress) }
+{
+    let told = told_of(&progress);
+    drop(progress);
+    told
+}
+
+// What is told of a trace that has come so far.
 fn told_of(progress: &Progress) -> Result<Verdict, NoMemory>
     ensures { IfOk result (IsTold progress.now) }
 {
