@@ -540,67 +540,74 @@ impl Mutator {
         requires room { HasStepRoom self.old command.now }
         ensures { Acts round.now (seen seat.old) seat.new self.old self.new command.now result }
     {
-        match command {
-            Command::Num { dest, number } => self.num(round, seat, *dest, *number, command),
-            Command::Nil { dest } => self.nil(round, seat, *dest, command),
-            Command::Mov { dest, value } => self.mov(round, seat, *dest, *value, command),
+        let (dest, header) = match command {
             Command::Con { dest, tag, fields } => {
-                let header = header_of(Kind::Con, *tag, fields.items().len() as u32);
-                self.make(round, seat, *dest, header, command)
+                (
+                    dest,
+                    header_of(Kind::Con, *tag, fields.items().len() as u32),
+                )
             }
-            Command::Var { dest, .. } => {
-                let header = header_of(Kind::Var, 0, VAR_FIELDS);
-                self.make(round, seat, *dest, header, command)
-            }
-            Command::Arr { dest, count, .. } => {
-                let header = header_of(Kind::Arr, 0, *count);
-                self.make(round, seat, *dest, header, command)
-            }
+            Command::Var { dest, .. } => (dest, header_of(Kind::Var, 0, VAR_FIELDS)),
+            Command::Arr { dest, count, .. } => (dest, header_of(Kind::Arr, 0, *count)),
             Command::Thunk { dest, free } => {
-                let header = header_of(Kind::Thunk, 0, free.items().len() as u32 + 1);
-                self.make(round, seat, *dest, header, command)
+                (
+                    dest,
+                    header_of(Kind::Thunk, 0, free.items().len() as u32 + 1),
+                )
             }
-            Command::Weak { dest, .. } => {
-                let header = header_of(Kind::Weak, 0, WEAK_FIELDS);
-                self.make(round, seat, *dest, header, command)
+            Command::Weak { dest, .. } => (dest, header_of(Kind::Weak, 0, WEAK_FIELDS)),
+            Command::Stack { dest, size } => (dest, header_of(Kind::Stack, 0, *size)),
+            Command::Num { dest, number } => {
+                return self.num(round, seat, *dest, *number, command);
             }
-            Command::Stack { dest, size } => {
-                let header = header_of(Kind::Stack, 0, *size);
-                self.make(round, seat, *dest, header, command)
+            Command::Nil { dest } => return self.nil(round, seat, *dest, command),
+            Command::Mov { dest, value } => {
+                return self.mov(round, seat, *dest, *value, command);
             }
             Command::Get {
                 dest,
                 object,
                 index,
-            } => { self.get(round, seat, *dest, *object, *index, command) }
+            } => return self.get(round, seat, *dest, *object, *index, command),
             Command::Set {
                 object,
                 index,
                 value,
-            } => { self.set(round, seat, *object, *index, *value, command) }
+            } => return self.set(round, seat, *object, *index, *value, command),
             Command::Cas {
                 object,
                 index,
                 expected,
                 value,
-            } => { self.cas(round, seat, *object, *index, *expected, *value, command) }
+            } => return self.cas(round, seat, *object, *index, *expected, *value, command),
             Command::Update { object, value } => {
-                self.update(round, seat, *object, *value, command)
+                return self.update(round, seat, *object, *value, command);
             }
-            Command::Force { dest, object } => self.force(round, seat, *dest, *object, command),
+            Command::Force { dest, object } => {
+                return self.force(round, seat, *dest, *object, command);
+            }
             Command::Push { object, value } => {
-                self.push_value(round, seat, *object, *value, command)
+                return self.push_value(round, seat, *object, *value, command);
             }
-            Command::Pop { dest, object } => self.pop_value(round, seat, *dest, *object, command),
-            Command::Deref { dest, object } => self.deref(round, seat, *dest, *object, command),
+            Command::Pop { dest, object } => {
+                return self.pop_value(round, seat, *dest, *object, command);
+            }
+            Command::Deref { dest, object } => {
+                return self.deref(round, seat, *dest, *object, command);
+            }
             Command::Finalise { dest, object } => {
-                self.finalise(round, seat, *dest, *object, command)
+                return self.finalise(round, seat, *dest, *object, command);
             }
-            Command::NextFin { dest } => self.next_fin(round, seat, *dest, command),
-            Command::Show { value } => self.show(round, seat, *value, command),
-            Command::Same { left, right } => self.same(round, seat, *left, *right, command),
-            Command::Yield | Command::Collect | Command::Full => self.yields(round, seat, command),
-        }
+            Command::NextFin { dest } => return self.next_fin(round, seat, *dest, command),
+            Command::Show { value } => return self.show(round, seat, *value, command),
+            Command::Same { left, right } => {
+                return self.same(round, seat, *left, *right, command);
+            }
+            Command::Yield | Command::Collect | Command::Full => {
+                return self.yields(round, seat, command);
+            }
+        };
+        self.make(round, seat, *dest, header, command)
     }
 
     // Notes a reply.
