@@ -1,11 +1,14 @@
 -- The heap of a marking cycle in the words of a run: at a stop it is at rest, and what a round and its promotion leave of it.
-use Rattle.std.specs.Prelude.{ℕ, ◌≡◌, List, [], ◌∷◌, map, replicate, slice_get, Some, All}
+use Rattle.std.specs.Prelude.{ℕ, ◌≡◌, List, [], ◌∷◌, map, replicate, slice_get, Some, All, refl}
+use Rattle.std.specs.Ptr.{null_ptr}
+use Rattle.std.proofs.Common.{lit<, lit≤}
 use Rattle.nmgc_graph.specs.World.{World}
 use Rattle.nmgc_object.specs.declared.layout.Layout.{Layout}
 use Rattle.nmgc_core.specs.State.{State as Core}
 use Rattle.nmgc_alloc.specs.AllocState.{StandsFor}
 use Rattle.nmgc_alloc.specs.Segments.{Segments, IsSegments}
 use Rattle.nmgc_heap.specs.Places.{Place}
+use Rattle.nmgc_lists.specs.declared.list.Place.{Place as ListPlace}
 use Rattle.nmgc_heap.specs.Roots.{RepresentsRoots}
 use Rattle.nmgc_journal.specs.declared.report.MutatorEnd.{MutatorEnd}
 use Rattle.nmgc_round.specs.View.{Opening, Seen as View}
@@ -74,6 +77,10 @@ abbrev pub MarkedHolds : Type 0
 MarkedHolds = (layout : Layout) (s : State) (words : List ℕ) (old new : Segments) (ends : List MutatorEnd) (weaks : List Place) (h : HoldsAtStop layout s words old ends weaks) → new.layout ≡ layout → StandsFor new words s.allocation →
     (k : HoldsAtStop layout s words new ends weaks) × (k.places ≡ h.places)
 
+-- a place for a list, as one is made: its vector is empty and has no memory
+abbrev pub empty_place : ListPlace ℕ
+empty_place = record { vector = record { ptr = null_ptr; alloc = record { memory = record { seal = tt } }; value = record { ptr = null_ptr; len = 0; cap = 0; alloc = record { memory = record { seal = tt } }; items = []; ok = (refl, lit≤ tt); small = lit< tt } } }
+
 -- the one mutator of the array script, at the stop at which its cycle began
 abbrev pub marking_mutator : Mutator
 marking_mutator = record {
@@ -81,6 +88,7 @@ marking_mutator = record {
   layout = array_layout;
   registers = 64 ∷ replicate 15 1;
   queue = record { words = []; spare = 0 };
+  queue_place = empty_place;
   nursery = record { base = 160; top = 160; end = 176 };
   serial = 1;
   turns = 0;

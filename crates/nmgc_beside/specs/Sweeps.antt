@@ -1,5 +1,5 @@
 -- Marks as a cycle begins to sweep, and what a promotion leaves of one that sweeps.
-use Rattle.std.specs.Prelude.{ℕ, ◌≡◌, ◌↔◌, List, map}
+use Rattle.std.specs.Prelude.{ℕ, ◌↔◌, List, map}
 use Rattle.nmgc_graph.specs.declared.value.Name.{Name}
 use Rattle.nmgc_graph.specs.World.{World}
 use Rattle.nmgc_object.specs.declared.layout.Layout.{Layout}

@@ -36,7 +36,7 @@ ghost use Rattle.nmgc_cycle.specs.Keeps.{IsFresh, HasEnded};
 use crate::progress::Progress;
 use crate::stop::StopEnd;
 use nmgc_alloc::Segments;
-use nmgc_graph::{Kind, List, Name, NoMemory, SHARED_SLOTS};
+use nmgc_graph::{Kind, List, Name, NoMemory, Place, SHARED_SLOTS};
 use nmgc_journal::{CycleRow, End, MutatorEnd, Report, RoundRows, StopRow};
 use nmgc_minor::Promotion;
 use nmgc_mutator::Mutator;
@@ -84,6 +84,26 @@ pub struct Collector {
     pub(crate) answered: Option<End>,
     // Empty, with room for what each mutator has in hand in the end.
     pub(crate) ends: Vec<MutatorEnd>,
+    // Where the report's lists will lie.
+    pub(crate) places: Places,
+}
+
+// Where those lists of a report will lie that are made as the run ends, when no memory may be taken.
+#[derive(Drop)]
+pub(crate) struct Places {
+    words: Place<u64>,
+    mutators: Place<MutatorEnd>,
+    weaks: Place<Name>,
+}
+
+impl Places {
+    fn new(alloc: Global) -> Result<Places, NoMemory> {
+        Ok(Places {
+            words: Place::new(alloc)?,
+            mutators: Place::new(alloc)?,
+            weaks: Place::new(alloc)?,
+        })
+    }
 }
 
 // The layout of a script's heap.
@@ -155,6 +175,7 @@ impl Collector {
         let count = layout.mutators as usize;
         let positions = vec![in alloc; 0u32; count]?;
         let ends = Vec::with_capacity(alloc, count)?;
+        let places = Places::new(alloc)?;
         Ok(Collector {
             alloc,
             words: Some(words),
@@ -174,6 +195,7 @@ impl Collector {
             turns: 0,
             answered: None,
             ends,
+            places,
         })
     }
 
@@ -234,6 +256,7 @@ impl Collector {
             turns: _,
             answered: _,
             ends,
+            places,
         } = self;
         let words = copied(words, list);
         let ends = all_ends(mutators, ends);
@@ -241,10 +264,10 @@ impl Collector {
             rounds,
             stops,
             cycles,
-            words: List::from_vec(words),
+            words: List::in_place(words, places.words),
             segments,
-            mutators: List::from_vec(ends),
-            weaks: weaks.into_names(),
+            mutators: List::in_place(ends, places.mutators),
+            weaks: weaks.into_names(places.weaks),
             end,
         }
     }
@@ -284,6 +307,7 @@ fn end_of(mutator: Mutator) -> MutatorEnd
         layout: _,
         registers,
         queue,
+        queue_place,
         nursery: _,
         serial,
         turns: _,
@@ -294,7 +318,7 @@ fn end_of(mutator: Mutator) -> MutatorEnd
     } = mutator;
     MutatorEnd {
         registers,
-        queue: queue.into_list(),
+        queue: queue.into_list(queue_place),
         serial,
     }
 }

@@ -256,9 +256,9 @@ fn row_of(
         from: sweeping.from,
         closed: sweeping.closed,
         ended: stop,
-        swept: List::from_vec(Vec::from_slice(alloc, sweeper.swept())?),
-        had: List::from_vec(Vec::from_slice(alloc, sweeper.had())?),
-        freed: List::from_vec(Vec::from_slice(alloc, sweeper.freed())?),
+        swept: List::from_vec(Vec::from_slice(alloc, sweeper.swept())?)?,
+        had: List::from_vec(Vec::from_slice(alloc, sweeper.had())?)?,
+        freed: List::from_vec(Vec::from_slice(alloc, sweeper.freed())?)?,
         dead,
         kept: sweeping.kept,
     })

@@ -25,7 +25,7 @@ pub fn taken(alloc: Global, mutators: &mut [Mutator]) -> Result<Roots, NoMemory>
         queues.push(mem::replace(&mut mutator.queue, FinQueue::new(alloc)))?;
     }
     Ok(Roots {
-        registers: List::from_vec(registers),
+        registers: List::from_vec(registers)?,
         queues,
     })
 }
@@ -34,12 +34,11 @@ pub fn taken(alloc: Global, mutators: &mut [Mutator]) -> Result<Roots, NoMemory>
 pub fn nurseries(alloc: Global, mutators: &[Mutator]) -> Result<Vec<Nursery>, NoMemory>
     ensures { IfOk result (λ nurseries. nurseries.items ≡ nurseries_of mutators.now) }
 {
-    Ok(
-        mutators
-            .iter()
-            .map(|mutator| mutator.nursery)
-            .collect(alloc)?,
-    )
+    let mut nurseries = Vec::with_capacity(alloc, mutators.len())?;
+    for mutator in mutators {
+        nurseries.push(mutator.nursery)?;
+    }
+    Ok(nurseries)
 }
 
 /// The places of all fields that the mutators recorded.

@@ -35,7 +35,7 @@ use nmgc_beside::laws::{
     freed_places_go, slices_are_owed, the_heap_goes_on, the_machine_goes_on,
     the_marker_leads_a_cycle, the_pace_is_kept,
 };
-use nmgc_graph::{List, NoMemory, Reply};
+use nmgc_graph::{List, NoMemory, Place, Reply};
 use nmgc_journal::RoundRows;
 use nmgc_mutator::Mutator;
 use nmgc_mutator::laws::a_round_finds_mutators_ready;
@@ -50,7 +50,7 @@ use std::alloc::Global;
 use std::mem;
 use std::thread::Threads;
 
-// The lists that a round fills.
+// The lists that a round fills, and where the seats that it gives and takes will lie.
 #[derive(Drop)]
 struct Lists {
     room: Vec<MutatorSeat>,
@@ -58,6 +58,8 @@ struct Lists {
     mutators: Vec<Mutator>,
     seats: Vec<MutatorSeat>,
     done: Vec<u32>,
+    given: Place<MutatorSeat>,
+    taken: Place<MutatorSeat>,
 }
 
 impl Lists {
@@ -71,6 +73,8 @@ impl Lists {
             mutators: Vec::with_capacity(alloc, count)?,
             seats: Vec::with_capacity(alloc, count)?,
             done: Vec::with_capacity(alloc, count)?,
+            given: Place::new(alloc)?,
+            taken: Place::new(alloc)?,
         })
     }
 }
@@ -177,6 +181,8 @@ impl Collector {
             mut mutators,
             mut seats,
             mut done,
+            given: given_place,
+            taken: taken_place,
         } = lists;
         let words = self.words.take().unwrap();
         let layout = self.segments.layout();
@@ -185,7 +191,7 @@ impl Collector {
             round,
             mutators: given,
             mut collector,
-        } = Round::start(words, layout, marking, opening, room);
+        } = Round::start(words, layout, marking, opening, room, given_place);
         let own = mem::replace(&mut self.mutators, Vec::new(self.alloc));
         seated(own, given, &mut workers);
         self.work(
@@ -197,7 +203,7 @@ impl Collector {
             gate,
         );
         unseated(workers, &mut mutators, &mut seats, &mut done);
-        let Finished { words } = round.finish(List::from_vec(seats), collector);
+        let Finished { words } = round.finish(List::in_place(seats, taken_place), collector);
         self.words = Some(words);
         self.mutators = mutators;
         advance(self.positions.as_mut_slice(), done.as_slice());
@@ -289,7 +295,7 @@ fn take_replies(alloc: Global, mutator: &mut Mutator) -> Result<List<Reply>, NoM
 {
     let replies = Vec::from_slice(alloc, mutator.replies.items())?;
     mutator.replies.clear();
-    Ok(List::from_vec(replies))
+    List::from_vec(replies)
 }
 
 // Takes the replies of the round off all mutators.

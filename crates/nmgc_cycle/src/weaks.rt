@@ -182,7 +182,7 @@ pub fn queue_all(alloc: Global, deaths: &[Death], mutators: &mut [Mutator], room
 pub fn dead_names(alloc: Global, deaths: &[Death]) -> Result<List<Name>, NoMemory>
     ensures { IfOk result (λ names. names ≡ died deaths.now) }
 {
-    Ok(List::from_vec(all_dead(alloc, deaths)?))
+    List::from_vec(all_dead(alloc, deaths)?)
 }
 
 // Their names, one after another.

@@ -25,7 +25,7 @@ pub mod world;
 pub use command::{Command, Operand, Reply};
 pub use marks::Marks;
 pub use mutator_state::MutatorState;
-pub use nmgc_lists::{List, NoMemory, Queue, Room};
+pub use nmgc_lists::{List, NoMemory, Place, Queue, Room};
 pub use node::{Kind, Node, Parts};
 pub use value::{MAKERS, Name, REGISTERS, SHARED_MAKER, SHARED_SLOTS, Value, constants_are_these};
 pub use world::World;

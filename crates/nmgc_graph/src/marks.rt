@@ -41,7 +41,7 @@ impl Marks {
     pub(crate) fn add_maker(&mut self, alloc: Global, count: usize) -> Result<(), NoMemory>
         ensures { OnOk result (self.new ≡ self.old ++ replicate count false ∷ []) }
     {
-        let row = List::from_vec(vec![in alloc; false; count]?);
+        let row = List::from_vec(vec![in alloc; false; count]?)?;
         self.rows.push(row)
     }
 

@@ -604,7 +604,7 @@ fn values_at(
     for operand in operands {
         values.push(value_at(registers, *operand))?;
     }
-    Ok(List::from_vec(values))
+    List::from_vec(values)
 }
 
 // Adds a node to those that a mutator made, and puts its reference into a register.
@@ -648,7 +648,7 @@ fn change_nth(state: &mut MutatorState, name: Name, change: Change) -> Result<Re
 fn copies(alloc: Global, value: Value, count: usize) -> Result<List<Value>, NoMemory>
     ensures { IfOk result (λ values. values ≡ replicate count value) }
 {
-    Ok(List::from_vec(vec![in alloc; value; count]?))
+    List::from_vec(vec![in alloc; value; count]?)
 }
 
 // So many mutators before any command.

@@ -28,7 +28,7 @@ fn vector(rt: HostRuntime) -> Result<(), Fail> {
 
 #[test]
 fn list(rt: HostRuntime) -> Result<(), Fail> {
-    let mut words = List::from_vec(vec![in rt.alloc(); 7, 8, 9]?);
+    let mut words = List::from_vec(vec![in rt.alloc(); 7, 8, 9]?)?;
     exchange(&mut words, 0, 2);
     assert_eq!(rt; words.items(), [9, 8, 7].as_slice());
     Ok(())

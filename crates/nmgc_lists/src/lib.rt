@@ -9,7 +9,7 @@ pub mod memory;
 pub mod queue;
 pub mod room;
 
-pub use list::List;
+pub use list::{List, Place};
 pub use memory::NoMemory;
 pub use queue::Queue;
 pub use room::Room;

@@ -2,11 +2,13 @@
 //!
 //! It is `Vec` with one answer for want of memory, and with room for two items in the value itself: most
 //! constructors have one or two fields, and a script has a list of operands for every one that it makes, so
-//! `pair` spares a long script an allocation for each. Only `push` and `copy` take memory; after a refusal the
-//! list is unchanged. Where the items lie is not part of the list's value: contracts never see it.
+//! `pair` spares a long script an allocation for each. More items lie in a vector that has a place of its own in
+//! memory, so that a list is small wherever it lies: a script is long, and most of its commands have no list. Only
+//! `push`, `copy` and `from_vec` take memory; after a refusal the list is unchanged. Where the items lie is not part
+//! of the list's value: contracts never see it.
 //!
-//! Easy to get wrong: a list that `pair` made has no vector, also once an item was taken off. So the next `push`
-//! onto it takes memory, even if the value itself would have room.
+//! Easy to get wrong: a list that `new` or `pair` made has no vector, also once an item was taken off. So the next
+//! `push` onto it takes memory, even if the value itself would have room.
 ghost use Rattle.std.specs.Prelude.{◌≡◌, ◌≤◌, [], ◌∷◌, ◌++◌, IfSome, IfNone, IfOk, OnOk, OnErr, vec_capacity};
 ghost use Rattle.nmgc_lists.specs.Items.{items_of, HasExactLength};
 
@@ -17,9 +19,31 @@ use std::marker::Model;
 use std::mem;
 
 /// A list of items in order.
-#[derive(Drop)]
 pub struct List<T> {
     items: Items<T>,
+}
+
+/// Memory for the vector of one list, for who may take none once there are items. Contracts see nothing of it.
+#[derive(Drop)]
+pub struct Place<T> {
+    vector: Box<Vec<T>>,
+}
+
+impl<T: Drop> Place<T> {
+    /// Takes memory for one value of type `Vec`.
+    pub fn new(alloc: Global) -> Result<Self, NoMemory> {
+        Ok(Place {
+            vector: Box::new(alloc, Vec::new(alloc))?,
+        })
+    }
+}
+
+// By hand, so that whoever lets go of a list calls this: a derived one is written out, and proved, at each place.
+impl<T: Drop> Drop for List<T> {
+    fn drop(self) {
+        let List { items } = self;
+        drop(items);
+    }
 }
 
 impl<T> Model for List<T> {
@@ -33,12 +57,13 @@ impl<T> Model for List<T> {
     ghost invariant = { λ a. HasExactLength a.items };
 }
 
-/// Where the items lie: one or two in the value itself, or any number in a vector.
+/// Where the items lie: none, one or two in the value itself, or any number in a vector.
 #[derive(Drop)]
 enum Items<T> {
-    Pair(ArrayVec<T, 2, Global>),
+    Empty(ArrayVec<T, 0, Global>),
     Single(ArrayVec<T, 1, Global>),
-    Many(Vec<T>),
+    Pair(ArrayVec<T, 2, Global>),
+    Many(Box<Vec<T>>),
 }
 
 impl<T> Items<T> {
@@ -47,9 +72,10 @@ impl<T> Items<T> {
 
     fn alloc(&self) -> Global {
         match self {
-            Items::Pair(pair) => *pair.allocator(),
+            Items::Empty(empty) => *empty.allocator(),
             Items::Single(single) => *single.allocator(),
-            Items::Many(items) => *items.allocator(),
+            Items::Pair(pair) => *pair.allocator(),
+            Items::Many(items) => *items.as_ref().allocator(),
         }
     }
 
@@ -57,9 +83,10 @@ impl<T> Items<T> {
         ensures { result.now ≡ items_of self.now }
     {
         match self {
-            Items::Pair(pair) => pair.as_slice(),
+            Items::Empty(empty) => empty.as_slice(),
             Items::Single(single) => single.as_slice(),
-            Items::Many(items) => items.as_slice(),
+            Items::Pair(pair) => pair.as_slice(),
+            Items::Many(items) => items.as_ref().as_slice(),
         }
     }
 
@@ -68,11 +95,20 @@ impl<T> Items<T> {
         ensures value { result.now ≡ items_of self.old }
     {
         match self {
-            Items::Pair(pair) => pair.as_mut_slice(),
+            Items::Empty(empty) => empty.as_mut_slice(),
             Items::Single(single) => single.as_mut_slice(),
-            Items::Many(items) => items.as_mut_slice(),
+            Items::Pair(pair) => pair.as_mut_slice(),
+            Items::Many(items) => items.as_mut().as_mut_slice(),
         }
     }
+}
+
+// No item.
+fn empty<T>(alloc: Global) -> Items<T>
+    ensures items { items_of result ≡ [] }
+    ensures full { HasExactLength result }
+{
+    Items::Empty(ArrayVec::from_array_in(alloc, []))
 }
 
 // An item that lies in the list itself.
@@ -92,10 +128,8 @@ fn gathered<T: Drop>(items: Items<T>, room: Vec<T>) -> Vec<T>
 {
     let mut room = room;
     match items {
-        Items::Pair(pair) => {
-            let [first, second] = pair.into_inner().unwrap();
-            room.push_reserved(first);
-            room.push_reserved(second);
+        Items::Empty(empty) => {
+            drop(empty);
             room
         }
         Items::Single(single) => {
@@ -103,7 +137,13 @@ fn gathered<T: Drop>(items: Items<T>, room: Vec<T>) -> Vec<T>
             room.push_reserved(only);
             room
         }
-        Items::Many(items) => items,
+        Items::Pair(pair) => {
+            let [first, second] = pair.into_inner().unwrap();
+            room.push_reserved(first);
+            room.push_reserved(second);
+            room
+        }
+        Items::Many(items) => Box::into_inner(items),
     }
 }
 
@@ -115,18 +155,19 @@ fn last_of<T: Drop>(items: Items<T>) -> (Items<T>, Option<T>)
     ensures empty { IfNone result.1 ((items_of items ≡ []) × (items_of result.0 ≡ [])) }
 {
     match items {
+        Items::Empty(empty) => (Items::Empty(empty), None),
+        Items::Single(single) => {
+            let alloc = *single.allocator();
+            let [only] = single.into_inner().unwrap();
+            (empty(alloc), Some(only))
+        }
         Items::Pair(pair) => {
             let alloc = *pair.allocator();
             let [first, second] = pair.into_inner().unwrap();
             (single(alloc, first), Some(second))
         }
-        Items::Single(single) => {
-            let alloc = *single.allocator();
-            let [only] = single.into_inner().unwrap();
-            (Items::Many(Vec::new(alloc)), Some(only))
-        }
         Items::Many(mut items) => {
-            let last = items.pop();
+            let last = items.as_mut().pop();
             (Items::Many(items), last)
         }
     }
@@ -140,18 +181,19 @@ fn first_of<T: Drop>(items: Items<T>) -> (Option<T>, Items<T>)
     ensures empty { IfNone result.0 ((items_of items ≡ []) × (items_of result.1 ≡ [])) }
 {
     match items {
+        Items::Empty(empty) => (None, Items::Empty(empty)),
+        Items::Single(single) => {
+            let alloc = *single.allocator();
+            let [only] = single.into_inner().unwrap();
+            (Some(only), empty(alloc))
+        }
         Items::Pair(pair) => {
             let alloc = *pair.allocator();
             let [first, second] = pair.into_inner().unwrap();
             (Some(first), single(alloc, second))
         }
-        Items::Single(single) => {
-            let alloc = *single.allocator();
-            let [only] = single.into_inner().unwrap();
-            (Some(only), Items::Many(Vec::new(alloc)))
-        }
         Items::Many(mut items) => {
-            let first = first_taken(&mut items);
+            let first = first_taken(items.as_mut());
             (first, Items::Many(items))
         }
     }
@@ -176,11 +218,13 @@ impl<T: Drop> Items<T> {
         ensures err { OnErr result (items_of self.new ≡ items_of self.old) }
     {
         let alloc = self.alloc();
+        let mut place = Box::new(alloc, Vec::new(alloc))?;
         let room = Vec::with_capacity(alloc, 4)?;
-        let few = mem::replace(self, Items::Many(Vec::new(alloc)));
+        let few = mem::replace(self, empty(alloc));
         let mut items = gathered(few, room);
         let pushed = items.push(item);
-        *self = Items::Many(items);
+        let _ = Box::replace(&mut place, items);
+        *self = Items::Many(place);
         pushed?;
         Ok(())
     }
@@ -192,7 +236,7 @@ impl<T: Drop> Items<T> {
         ensures empty { IfNone result ((items_of self.old ≡ []) × (items_of self.new ≡ [])) }
     {
         let alloc = self.alloc();
-        let few = mem::replace(self, Items::Many(Vec::new(alloc)));
+        let few = mem::replace(self, empty(alloc));
         let (rest, last) = last_of(few);
         *self = rest;
         last
@@ -205,7 +249,7 @@ impl<T: Drop> Items<T> {
         ensures empty { IfNone result ((items_of self.old ≡ []) × (items_of self.new ≡ [])) }
     {
         let alloc = self.alloc();
-        let few = mem::replace(self, Items::Many(Vec::new(alloc)));
+        let few = mem::replace(self, empty(alloc));
         let (first, rest) = first_of(few);
         *self = rest;
         first
@@ -220,15 +264,34 @@ impl<T> List<T> {
     pub fn new(alloc: Global) -> Self
         ensures { result ≡ [] }
     {
-        List::from_vec(Vec::new(alloc))
+        List {
+            items: empty(alloc),
+        }
     }
 
-    /// The list of a vector's items. Takes no memory.
-    pub fn from_vec(items: Vec<T>) -> Self
+    /// The list of a vector's items. Takes memory for one value of type `Vec`, however many items there are, and
+    /// constant time. After `NoMemory` the items are dropped.
+    pub fn from_vec(items: Vec<T>) -> Result<Self, NoMemory>
+    where
+        T: Drop,
+        ensures { IfOk result (λ list. list ≡ items.items) }
+    {
+        let alloc = *items.allocator();
+        Ok(List {
+            items: Items::Many(Box::new(alloc, items)?),
+        })
+    }
+
+    /// The list of a vector's items, in a place that was made before. Takes no memory, and constant time.
+    pub fn in_place(items: Vec<T>, place: Place<T>) -> Self
+    where
+        T: Drop,
         ensures { result ≡ items.items }
     {
+        let Place { mut vector } = place;
+        let _ = Box::replace(&mut vector, items);
         List {
-            items: Items::Many(items),
+            items: Items::Many(vector),
         }
     }
 
@@ -262,7 +325,7 @@ impl<T> List<T> {
         T: Copy,
         ensures { IfOk result (λ list. list ≡ self.now) }
     {
-        Ok(List::from_vec(Vec::from_slice(alloc, self.items())?))
+        List::from_vec(Vec::from_slice(alloc, self.items())?)
     }
 }
 
@@ -274,7 +337,7 @@ impl<T: Drop> List<T> {
     {
         match &mut self.items {
             Items::Many(items) => {
-                items.push(item)?;
+                items.as_mut().push(item)?;
                 Ok(())
             }
             _ => self.items.add(item),
@@ -287,7 +350,7 @@ impl<T: Drop> List<T> {
         ensures empty { IfNone result ((self.old ≡ []) × (self.new ≡ [])) }
     {
         match &mut self.items {
-            Items::Many(items) => items.pop(),
+            Items::Many(items) => items.as_mut().pop(),
             _ => self.items.take_last(),
         }
     }
@@ -299,7 +362,7 @@ impl<T: Drop> List<T> {
         ensures empty { IfNone result ((self.old ≡ []) × (self.new ≡ [])) }
     {
         match &mut self.items {
-            Items::Many(items) => first_taken(items),
+            Items::Many(items) => first_taken(items.as_mut()),
             _ => self.items.take_first(),
         }
     }

@@ -7,7 +7,7 @@ ghost use Rattle.nmgc_object.specs.declared.words.TheConstants.{NIL_WORD};
 ghost use Rattle.nmgc_object.specs.Places.{IsLayout};
 ghost use Rattle.nmgc_mutator.specs.Ready.{IsNew, HasNoRoom, Reserves};
 
-use nmgc_graph::{List, NoMemory, REGISTERS, Reply, Room};
+use nmgc_graph::{List, NoMemory, Place, REGISTERS, Reply, Room};
 use nmgc_object::words::NIL_WORD;
 use nmgc_object::{Address, FinQueue, Layout, Nursery};
 use nmgc_updrem::UpdRem;
@@ -24,6 +24,8 @@ pub struct Mutator {
     pub registers: List<u64>,
     /// The field words of the finalisers that wait for it.
     pub queue: FinQueue,
+    /// Where their list will lie, once the run has ended.
+    pub queue_place: Place<u64>,
     /// Its nursery. The objects of this round fill it from `base` to `top`.
     pub nursery: Nursery,
     /// The serial of its next object.
@@ -49,13 +51,18 @@ impl Mutator {
         ensures new { IfOk result (IsNew number layout) }
         ensures room { IfOk result HasNoRoom }
     {
-        let registers = Vec::from_elem(alloc, NIL_WORD, REGISTERS as usize)?;
+        // The threads of a round write their registers all the time. The place comes first and there is room to spare,
+        // so that no other mutator's lie on the same line of a cache.
+        let place = Place::new(alloc)?;
+        let mut registers = Vec::with_capacity(alloc, 2 * REGISTERS as usize)?;
+        registers.extend_from_slice(&[NIL_WORD; REGISTERS as usize])?;
         let base = layout.nursery_base(number);
         Ok(Mutator {
             number,
             layout,
-            registers: List::from_vec(registers),
+            registers: List::in_place(registers, place),
             queue: FinQueue::new(alloc),
+            queue_place: Place::new(alloc)?,
             nursery: Nursery {
                 base,
                 top: base,

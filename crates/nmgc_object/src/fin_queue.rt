@@ -10,7 +10,7 @@
 //! Easy to get wrong: places count from the first word that is left, and not from the first that was ever added.
 ghost use Rattle.std.specs.Prelude.{◌≡◌, ◌+◌, ◌-◌, ◌<◌, ◌≤◌, [], ◌∷◌, ◌++◌, length, drop, slice_get, slice_set, OnOk, OnErr};
 
-use nmgc_graph::{List, NoMemory};
+use nmgc_graph::{List, NoMemory, Place};
 use std::alloc::Global;
 use std::marker::Model;
 
@@ -104,8 +104,8 @@ impl FinQueue {
         &self.words[self.first..]
     }
 
-    /// The words in order, as a list. Takes no memory.
-    pub fn into_list(self) -> List<u64>
+    /// The words in order, as a list, which lies in `place`. Takes no memory.
+    pub fn into_list(self, place: Place<u64>) -> List<u64>
         ensures { result ≡ self.words }
     {
         let FinQueue { words, first } = self;
@@ -113,7 +113,7 @@ impl FinQueue {
         let left = words.len() - first;
         words.copy_within(first.., 0);
         words.truncate(left);
-        List::from_vec(words)
+        List::in_place(words, place)
     }
 
     /// Changes the word at a place of the queue, and no other. Takes no memory.

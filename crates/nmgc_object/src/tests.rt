@@ -4,7 +4,7 @@ use crate::{
     decode_name, decode_value, encode_header, encode_name, encode_value, laws, object_words,
     words_of,
 };
-use nmgc_graph::{Kind, Name};
+use nmgc_graph::{Kind, Name, Place};
 use std::test::Fail;
 
 #[test]
@@ -140,7 +140,10 @@ fn finalisers(rt: HostRuntime) -> Result<(), Fail> {
     queue.add(66);
     queue.add(13);
     assert_eq!(rt; queue.take_first(), Some(66));
-    assert_eq!(rt; queue.into_list().items(), [13].as_slice());
+    assert_eq!(rt;
+        queue.into_list(Place::new(rt.alloc())?).items(),
+        [13].as_slice()
+    );
     Ok(())
 }
 

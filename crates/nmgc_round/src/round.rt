@@ -19,7 +19,7 @@ use crate::plays::{Begun, Ends, Opens};
 use crate::table::{CollectorSeat, Finished, MutatorSeat, Round, Shared, Started};
 use crate::view::Opened;
 use crate::words::Words;
-use nmgc_graph::List;
+use nmgc_graph::{List, Place};
 use nmgc_object::Layout;
 use std::marker::Brand;
 
@@ -66,14 +66,15 @@ impl Round {
     ///
     /// The opening is the state of the core machine with which the round begins, and the places in use: the
     /// words represent its world. `marking` says whether a cycle is marking; if not, the state is that of the
-    /// world alone. The list has room for the seats, so that nothing can fail here. Takes no memory, and no
-    /// time that grows with the words.
+    /// world alone. `room` has room for the seats, and their list lies in `place`, so that nothing can fail here.
+    /// Takes no memory, and no time that grows with the words.
     pub fn start(
         words: Words,
         layout: Layout,
         marking: bool,
         opening: &Chosen<Opened>,
         room: Vec<MutatorSeat>,
+        place: Place<MutatorSeat>,
     ) -> Started
         requires opens { CanOpen opening.now.value words }
         requires layout { layout ≡ opening.now.value.layout }
@@ -90,7 +91,7 @@ impl Round {
         round.seats_into(first, usize::from(layout.mutators), &mut seats);
         Started {
             round,
-            mutators: List::from_vec(seats),
+            mutators: List::in_place(seats, place),
             collector,
         }
     }

@@ -8,7 +8,7 @@ ghost use Rattle.nmgc_round.specs.Ready.{HasPart};
 
 use crate::chosen::Wanted;
 use crate::{Chosen, Gate, MutatorSeat, OpenGate, Opened, Round, Started, Words};
-use nmgc_graph::{Command, Name, NoMemory, Operand};
+use nmgc_graph::{Command, Name, NoMemory, Operand, Place};
 use nmgc_object::{Address, Layout, encode_name};
 use std::alloc::Global;
 use std::test::Fail;
@@ -109,6 +109,7 @@ fn worked<R: Threads + Sync>(
     words: Words,
     layout: Layout,
     room: Vec<MutatorSeat>,
+    place: Place<MutatorSeat>,
 ) -> (Words, bool)
     requires layout { IsLayout layout }
     requires heap { IsEmptyHeap layout words }
@@ -120,7 +121,7 @@ fn worked<R: Threads + Sync>(
         round,
         mut mutators,
         collector,
-    } = Round::start(words, layout, false, &opening, room);
+    } = Round::start(words, layout, false, &opening, room, place);
     let marking = round.is_marking();
     work_all(rt, &round, mutators.items_mut(), layout);
     (round.finish(mutators, collector).words, marking)
@@ -157,7 +158,8 @@ fn what_each_mutator_did_stands_in_the_words(rt: HostRuntime) -> Result<(), Fail
         let layout = small(mutators);
         let words = empty_heap(rt.alloc(), &layout)?;
         let room = Vec::with_capacity(rt.alloc(), usize::from(mutators))?;
-        let (mut words, marking) = worked(&rt, words, layout, room);
+        let place = Place::new(rt.alloc())?;
+        let (mut words, marking) = worked(&rt, words, layout, room, place);
         assert!(rt; !marking);
         words.store(0, 5);
         let stored = words.load(0);

@@ -50,7 +50,7 @@ pub fn generate(alloc: Global, batches: u32) -> Result<Script, NoMemory>
     Ok(Script {
         version: 1,
         config: CONFIG,
-        threads: List::from_vec(threads),
+        threads: List::from_vec(threads)?,
     })
 }
 
@@ -64,7 +64,7 @@ fn program(alloc: Global, batches: u32, mutator: u32) -> Result<List<Command>, N
     for _batch in 0..batches {
         push_batch(&mut commands, alloc, mutator)?;
     }
-    Ok(List::from_vec(commands))
+    List::from_vec(commands)
 }
 
 // Appends a batch.

@@ -71,7 +71,7 @@ pub(crate) fn of_segment<W: HeapWords>(
             notes.push_reserved(Note { block, name });
         }
     }
-    Ok(List::from_vec(notes))
+    Ok(List::from_vec(notes)?)
 }
 
 // Whether the segment has the block, and it is in use.

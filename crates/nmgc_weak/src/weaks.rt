@@ -21,7 +21,7 @@ ghost use Rattle.nmgc_weak.specs.Weaks.{AreInside, HaveLostValues, alive_of, nam
 
 use crate::resolve::{clear_values, find_dying, revive, save_finalisers};
 use nmgc_alloc::Segments;
-use nmgc_graph::{List, Name, NoMemory};
+use nmgc_graph::{List, Name, NoMemory, Place};
 use nmgc_heap::HeapWords;
 use nmgc_mark::Marker;
 use nmgc_object::{Address, HEADER_WORDS};
@@ -227,8 +227,8 @@ impl Weaks {
         self.deaths.as_slice()
     }
 
-    /// The names of the list, in order. Takes no memory.
-    pub fn into_names(self) -> List<Name>
+    /// The names of the list, in order, as a list which lies in `place`. Takes no memory.
+    pub fn into_names(self, place: Place<Name>) -> List<Name>
         ensures { result ≡ names_of self.list }
     {
         let Weaks {
@@ -241,7 +241,7 @@ impl Weaks {
         for weak in list {
             names.push_reserved(weak.weak);
         }
-        List::from_vec(names)
+        List::in_place(names, place)
     }
 
     /// Takes those out of the list whose value word is 0: the weak pointers that were finalised since the last

@@ -94,7 +94,7 @@ pub fn make_heap(rt: &impl Abort, alloc: Global, layout: Layout) -> Result<Heap,
     assert!(rt; layout.words <= layout.nursery && layout.nursery <= 8192);
     assert!(rt; layout.segments == 32);
     assert!(rt; 1 <= layout.mutators && layout.mutators <= 4);
-    let mut words = List::from_vec(vec![in alloc; 0u64; layout.total() as usize]?);
+    let mut words = List::from_vec(vec![in alloc; 0u64; layout.total() as usize]?)?;
     store(rt, &mut words, 1, 32771);
     store(rt, &mut words, 2, 8);
     for i in 3..19u32 {

@@ -69,7 +69,7 @@ fn young_roots(alloc: Global) -> Result<Roots, Fail>
     let mut queues = List::new(alloc);
     queues.push(FinQueue::new(alloc))?;
     Ok(Roots {
-        registers: List::from_vec(registers),
+        registers: List::from_vec(registers)?,
         queues,
     })
 }
@@ -113,7 +113,7 @@ fn one_object(rt: HostRuntime) -> Result<(), Fail> {
     words[2081] = 0;
     words[2082] = 13;
     check_young(&rt, words.as_slice());
-    let mut words = List::from_vec(words);
+    let mut words = List::from_vec(words)?;
     let mut segments = Segments::new(rt.alloc(), small)?;
     let mut promotion = Promotion::reserve(rt.alloc(), small)?;
     let mut roots = young_roots(rt.alloc())?;

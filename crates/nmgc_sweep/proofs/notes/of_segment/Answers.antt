@@ -97,5 +97,5 @@ returns-clause-notes g c = λ a stands.
     let x : Segment = nth c.args.segments.now.segments c.args.number in
     let past : c.blocks-blocks.result ≤ c.loop-block.block = omega arith in
     let all : block_count x ≤ c.loop-block.block = subst (λ (n : ℕ). n ≤ c.loop-block.block) (c.blocks-blocks.ensures ∙ ap (λ (s : Segment). block_count s) c.segment-segment.ensures) past in
-    subst (λ (l : List Note). IsNotesOf (cells a c.args.number) l) (sym c.from_vec.ensures)
+    subst (λ (l : List Note). IsNotesOf (cells a c.args.number) l) (sym c.in_ok-from_vec.ensures)
     (blocks_all c.args.segments.now (g.W.HeapWords.words c.args.words.now) c.args.number c.loop-block.block c.loop-block.notes.items a c.layout.ensures.sound stands c.requires.exists all (c.loop-block.invariant.noted a stands))

@@ -153,8 +153,8 @@ finish-words-requires-clause-seats g c =
     let seat = c.work.new.seat in
     let after : Collector = c.work.new.self in
     let has = scanned o round script.config.quota c.start-round.result.collector seat own.segments after.segments own.progress after.progress s.collector.0 s.collector.1 c.work.ensures.collector in
-    let seats : c.from_vec.result ≡ map seat_of new = c.from_vec.ensures ∙ c.unseated.ensures.seats ∙ ap (λ (l : List Worker). map seat_of l) left in
-    (seats_at script own o may round new ran seat has c.from_vec.result seats, has.at)
+    let seats : c.in_place.result ≡ map seat_of new = c.in_place.ensures ∙ c.unseated.ensures.seats ∙ ap (λ (l : List Worker). map seat_of l) left in
+    (seats_at script own o may round new ran seat has c.in_place.result seats, has.at)
 
 pub finish-words-requires-clause-all : goal.finish-words-requires-clause-all
 finish-words-requires-clause-all g c =
@@ -175,8 +175,8 @@ finish-words-requires-clause-all g c =
     let seat = c.work.new.seat in
     let after : Collector = c.work.new.self in
     let has = scanned o round script.config.quota c.start-round.result.collector seat own.segments after.segments own.progress after.progress s.collector.0 s.collector.1 c.work.ensures.collector in
-    let seats : c.from_vec.result ≡ map seat_of new = c.from_vec.ensures ∙ c.unseated.ensures.seats ∙ ap (λ (l : List Worker). map seat_of l) left in
-    has_all script own o may round new ran seat has c.slices_are_owed.ensures.gathered c.from_vec.result seats
+    let seats : c.in_place.result ≡ map seat_of new = c.in_place.ensures ∙ c.unseated.ensures.seats ∙ ap (λ (l : List Worker). map seat_of l) left in
+    has_all script own o may round new ran seat has c.slices_are_owed.ensures.gathered c.in_place.result seats
 
 pub advance-requires-clause-count : goal.advance-requires-clause-count
 advance-requires-clause-count g c =
@@ -237,7 +237,7 @@ returns g c =
     let seat = c.work.new.seat in
     let after : Collector = c.work.new.self in
     let has = scanned o round script.config.quota c.start-round.result.collector seat own.segments after.segments own.progress after.progress s.collector.0 s.collector.1 c.work.ensures.collector in
-    let seats : c.from_vec.result ≡ map seat_of new = c.from_vec.ensures ∙ c.unseated.ensures.seats ∙ ap (λ (l : List Worker). map seat_of l) left in
+    let seats : c.in_place.result ≡ map seat_of new = c.in_place.ensures ∙ c.unseated.ensures.seats ∙ ap (λ (l : List Worker). map seat_of l) left in
     let done : c.as_slice.result.now ≡ map done_by new = c.as_slice.ensures.value ∙ c.unseated.ensures.done ∙ ap (λ (l : List Worker). map done_by l) left in
     let positions : c.as_mut_slice-2.result.now ≡ own.positions.items = c.as_mut_slice-2.ensures.value ∙ ap (λ (y : Collector). y.positions.items) c.work.ensures.rest in
     let same : after.positions ≡ own.positions = ap (λ (y : Collector). y.positions) c.work.ensures.rest in
@@ -245,5 +245,5 @@ returns g c =
     let many : length moved ≡ length own.positions.items = c.advance.ensures.count ∙ ap (λ (l : List ℕ). length l) positions in
     let back : (with_items after.positions moved).items ≡ moved = vec_back after.positions moved (many ∙ sym (ap (λ (v : Vec ℕ Global). length v.items) same)) in
     let move : HaveMoved own.positions.items (map done_by new) moved = subst (λ (l : List ℕ). HaveMoved l (map done_by new) moved) positions (subst (λ (l : List ℕ). HaveMoved c.as_mut_slice-2.result.now l moved) done c.advance.ensures.each) in
-    let did = did_slices script own o may round new ran seat has c.slices_are_owed.ensures.gathered c.slices_are_owed.ensures.owed c.start-round.result.collector s.collector.1 s.round.0 after.segments c.work.ensures.sound after.progress c.work.ensures.collector c.from_vec.result seats c.finish-words.result.words c.finish-words.ensures.leaves after.collect after.full c.work.ensures.collect c.work.ensures.full c.unseated.new.mutators (with_items after.positions moved) (c.unseated.ensures.mutators ∙ ap (λ (l : List Worker). map mutator_of l) left) (ap (λ (l : List ℕ). length l) back ∙ many) (subst (λ (l : List ℕ). HaveMoved own.positions.items (map done_by new) l) (sym back) move) in
+    let did = did_slices script own o may round new ran seat has c.slices_are_owed.ensures.gathered c.slices_are_owed.ensures.owed c.start-round.result.collector s.collector.1 s.round.0 after.segments c.work.ensures.sound after.progress c.work.ensures.collector c.in_place.result seats c.finish-words.result.words c.finish-words.ensures.leaves after.collect after.full c.work.ensures.collect c.work.ensures.full c.unseated.new.mutators (with_items after.positions moved) (c.unseated.ensures.mutators ∙ ap (λ (l : List Worker). map mutator_of l) left) (ap (λ (l : List ℕ). length l) back ∙ many) (subst (λ (l : List ℕ). HaveMoved own.positions.items (map done_by new) l) (sym back) move) in
     subst (λ (y : Collector). DidSlices script o own (record y { words = Some c.finish-words.result.words; mutators = c.unseated.new.mutators; positions = with_items after.positions moved })) (sym c.work.ensures.rest) did

@@ -10,14 +10,14 @@ pub returns-clause-parts : goal.returns-clause-parts
 returns-clause-parts c =
     same_parts c.args.self c.args.end _ _ _ _
     refl
-    (c.from_vec.ensures ∙ words_copied c.args.self.words c.copied-words.result.items (kept_of c.requires.0 c.args.self c.args.end c.requires.1).has_words c.copied-words.ensures)
-    (c.from_vec-2.ensures ∙ c.all_ends-ends.ensures)
+    (c.in_place.ensures ∙ words_copied c.args.self.words c.copied-words.result.items (kept_of c.requires.0 c.args.self c.args.end c.requires.1).has_words c.copied-words.ensures)
+    (c.in_place-2.ensures ∙ c.all_ends-ends.ensures)
     c.into_names.ensures
 
 pub returns-clause-told : goal.returns-clause-told
 returns-clause-told c = λ script ended.
     subst (IsLawful script) (sym (same_parts c.args.self c.args.end _ _ _ _
     refl
-    (c.from_vec.ensures ∙ words_copied c.args.self.words c.copied-words.result.items (kept_of c.requires.0 c.args.self c.args.end c.requires.1).has_words c.copied-words.ensures)
-    (c.from_vec-2.ensures ∙ c.all_ends-ends.ensures)
+    (c.in_place.ensures ∙ words_copied c.args.self.words c.copied-words.result.items (kept_of c.requires.0 c.args.self c.args.end c.requires.1).has_words c.copied-words.ensures)
+    (c.in_place-2.ensures ∙ c.all_ends-ends.ensures)
     c.into_names.ensures)) (told script c.args.self c.args.end ended)

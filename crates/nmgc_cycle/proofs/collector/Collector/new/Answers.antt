@@ -7,10 +7,10 @@ use Rattle.nmgc_cycle.proofs.collector.Collector.new.Goals as goal
 pub returns-clause-fresh : goal.returns-clause-fresh
 returns-clause-fresh c = is_fresh c.layout_of-layout.result c.args.script.now _ c.layout_of-layout.ensures.value (record {
   lawful = c.layout_of-layout.ensures.lawful;
-  nothing = (c.new-4.ensures, c.new-5.ensures, c.new-6.ensures);
+  nothing = (c.new-5.ensures, c.new-6.ensures, c.new-7.ensures);
   idle = (refl, refl, refl, refl);
   goes_on = refl;
-  weakless = c.new-3.ensures.list;
+  weakless = c.new-4.ensures.list;
   has_words = refl;
   list = sym {A = List ℕ} (c.in_ok-words.ensures ∙ c.as_slice.ensures.value);
   total = ap (λ (words : List ℕ). length words) (c.in_ok-words.ensures ∙ c.as_slice.ensures.value) ∙ c.in_ok-list.ensures.heap.total;
