@@ -16,6 +16,7 @@
 //! keeps nothing.
 #![tactic(auto)]
 
+mod blocks;
 pub mod laws;
 pub mod notes;
 mod order;

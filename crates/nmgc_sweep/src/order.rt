@@ -2,6 +2,7 @@
 ghost use Rattle.std.specs.List.Sorted.{IsPermutation};
 ghost use Rattle.nmgc_sweep.specs.Sweeper.{AreSorted};
 
+use crate::blocks::move_blocks;
 use nmgc_graph::Name;
 use std::alloc::Global;
 
@@ -12,6 +13,7 @@ pub(crate) fn sort(names: &mut [Name], alloc: Global)
     ensures permutation { IsPermutation names.old names.new }
     ensures sorted { AreSorted names.new }
 {
+    move_blocks(names);
     if names
         .sort_by_key(alloc, |name| (name.maker, name.serial))
         .is_err()
