@@ -70,5 +70,5 @@ fn bench_report<R: Threads + Sync>(alloc: Global, rt: &R, batches: u32) -> Resul
     ensures count { IfOk result (λ report. HasCount report) }
 {
     let script = generate(alloc, batches)?;
-    run_script(alloc, rt, &script)
+    run_script(alloc, rt, script)
 }

@@ -26,6 +26,7 @@ use nmgc_limits::MAX_SCRIPT_BYTES;
 use nmgc_round::OpenGate;
 use nmgc_script::{Script, parse};
 use std::alloc::Global;
+use std::mem;
 use std::thread::Threads;
 
 /// Does what the words ask for. For `run`, reads a script from the source to its end, runs it, and writes
@@ -154,17 +155,22 @@ fn run_bytes<R: Threads + Sync>(alloc: Global, rt: &R, bytes: &[u8]) -> Result<R
     ensures { AnswersBytes bytes.now result }
 {
     let script = parse(alloc, bytes)?;
-    Ok(run_script(alloc, rt, &script)?)
+    Ok(run_script(alloc, rt, script)?)
 }
 
 /// The report of a script's run, under a gate that holds nobody back. Asks that the script is within the limits.
+///
+/// The script's memory isn't given back: the program ends with its report, and then the system takes all of it at
+/// once, where letting go of a long script takes a look at each of its commands.
 pub fn run_script<R: Threads + Sync>(
     alloc: Global,
     rt: &R,
-    script: &Script,
+    script: Script,
 ) -> Result<Report, NoMemory>
-    requires { IsInLimits script.now }
-    ensures { IfOk result (λ report. IsRunOf script.now report) }
+    requires { IsInLimits script }
+    ensures { IfOk result (λ report. IsRunOf script report) }
 {
-    Collector::run(alloc, rt, script, &OpenGate)
+    let report = Collector::run(alloc, rt, &script, &OpenGate);
+    mem::forget(script);
+    report
 }
