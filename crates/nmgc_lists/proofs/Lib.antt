@@ -1,1 +1,2 @@
+mod CellsMemory
 pub mod Queues

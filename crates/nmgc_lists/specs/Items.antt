@@ -6,14 +6,14 @@ use Rattle.nmgc_lists.specs.declared.list.Items.TheVariants.{Empty, Single, Pair
 module _ {T : Type 0} where
   -- the items in order, wherever they lie
   abbrev pub items_of : Items T → List T
-  items_of (Empty empty) = empty.items
-  items_of (Single single) = single.items
-  items_of (Pair pair) = pair.items
+  items_of (Empty empty) = empty.cells.xs
+  items_of (Single single) = single.cells.xs
+  items_of (Pair pair) = pair.cells.xs
   items_of (Many items) = items.value.items
 
   -- a pair has two items, a single one has one, and an empty list none
   abbrev pub HasExactLength : Items T → Type 0
-  HasExactLength (Empty empty) = length empty.items ≡ 0
-  HasExactLength (Single single) = length single.items ≡ 1
-  HasExactLength (Pair pair) = length pair.items ≡ 2
+  HasExactLength (Empty empty) = length empty.cells.xs ≡ 0
+  HasExactLength (Single single) = length single.cells.xs ≡ 1
+  HasExactLength (Pair pair) = length pair.cells.xs ≡ 2
   HasExactLength (Many items) = Unit {0}

@@ -1,3 +1,5 @@
+pub mod Cells
+pub mod Few
 pub mod Items
 pub mod ItemsLends
 pub mod Lends

@@ -4,6 +4,8 @@
 //! room for more, so that what mustn't fail in a round can't.
 #![tactic(auto)]
 
+mod cells;
+mod few;
 pub mod list;
 pub mod memory;
 pub mod queue;

@@ -13,7 +13,7 @@ ghost use Rattle.std.specs.Prelude.{◌≡◌, ◌≤◌, [], ◌∷◌, ◌++�
 ghost use Rattle.nmgc_lists.specs.Items.{items_of, HasExactLength};
 
 use crate::NoMemory;
-use arrayvec::ArrayVec;
+use crate::few::Few;
 use std::alloc::Global;
 use std::marker::Model;
 use std::mem;
@@ -60,9 +60,9 @@ impl<T> Model for List<T> {
 /// Where the items lie: none, one or two in the value itself, or any number in a vector.
 #[derive(Drop)]
 enum Items<T> {
-    Empty(ArrayVec<T, 0, Global>),
-    Single(ArrayVec<T, 1, Global>),
-    Pair(ArrayVec<T, 2, Global>),
+    Empty(Few<T, 0>),
+    Single(Few<T, 1>),
+    Pair(Few<T, 2>),
     Many(Box<Vec<T>>),
 }
 
@@ -72,9 +72,9 @@ impl<T> Items<T> {
 
     fn alloc(&self) -> Global {
         match self {
-            Items::Empty(empty) => *empty.allocator(),
-            Items::Single(single) => *single.allocator(),
-            Items::Pair(pair) => *pair.allocator(),
+            Items::Empty(empty) => empty.alloc(),
+            Items::Single(single) => single.alloc(),
+            Items::Pair(pair) => pair.alloc(),
             Items::Many(items) => *items.as_ref().allocator(),
         }
     }
@@ -91,6 +91,7 @@ impl<T> Items<T> {
     }
 
     fn as_mut_slice(&mut self) -> &mut [T]
+        requires { HasExactLength self.old }
         ensures* writes_back { sem 𝓛 (LendsThem T.row self.entry result) }
         ensures value { result.now ≡ items_of self.old }
     {
@@ -108,7 +109,7 @@ fn empty<T>(alloc: Global) -> Items<T>
     ensures items { items_of result ≡ [] }
     ensures full { HasExactLength result }
 {
-    Items::Empty(ArrayVec::from_array_in(alloc, []))
+    Items::Empty(Few::new(alloc, []))
 }
 
 // An item that lies in the list itself.
@@ -116,7 +117,7 @@ fn single<T>(alloc: Global, item: T) -> Items<T>
     ensures items { items_of result ≡ item ∷ [] }
     ensures full { HasExactLength result }
 {
-    Items::Single(ArrayVec::from_array_in(alloc, [item]))
+    Items::Single(Few::new(alloc, [item]))
 }
 
 // The items in a vector, which is the empty `room` if they lie in none yet. Takes no memory.
@@ -133,12 +134,14 @@ fn gathered<T: Drop>(items: Items<T>, room: Vec<T>) -> Vec<T>
             room
         }
         Items::Single(single) => {
-            let [only] = single.into_inner().unwrap();
+            let [only] = single.into_array();
+
             room.push_reserved(only);
             room
         }
         Items::Pair(pair) => {
-            let [first, second] = pair.into_inner().unwrap();
+            let [first, second] = pair.into_array();
+
             room.push_reserved(first);
             room.push_reserved(second);
             room
@@ -157,13 +160,13 @@ fn last_of<T: Drop>(items: Items<T>) -> (Items<T>, Option<T>)
     match items {
         Items::Empty(empty) => (Items::Empty(empty), None),
         Items::Single(single) => {
-            let alloc = *single.allocator();
-            let [only] = single.into_inner().unwrap();
+            let alloc = single.alloc();
+            let [only] = single.into_array();
             (empty(alloc), Some(only))
         }
         Items::Pair(pair) => {
-            let alloc = *pair.allocator();
-            let [first, second] = pair.into_inner().unwrap();
+            let alloc = pair.alloc();
+            let [first, second] = pair.into_array();
             (single(alloc, first), Some(second))
         }
         Items::Many(mut items) => {
@@ -183,13 +186,13 @@ fn first_of<T: Drop>(items: Items<T>) -> (Option<T>, Items<T>)
     match items {
         Items::Empty(empty) => (None, Items::Empty(empty)),
         Items::Single(single) => {
-            let alloc = *single.allocator();
-            let [only] = single.into_inner().unwrap();
+            let alloc = single.alloc();
+            let [only] = single.into_array();
             (Some(only), empty(alloc))
         }
         Items::Pair(pair) => {
-            let alloc = *pair.allocator();
-            let [first, second] = pair.into_inner().unwrap();
+            let alloc = pair.alloc();
+            let [first, second] = pair.into_array();
             (Some(first), single(alloc, second))
         }
         Items::Many(mut items) => {
@@ -300,7 +303,7 @@ impl<T> List<T> {
         ensures { result ≡ first ∷ second ∷ [] }
     {
         List {
-            items: Items::Pair(ArrayVec::from_array_in(alloc, [first, second])),
+            items: Items::Pair(Few::new(alloc, [first, second])),
         }
     }
 

@@ -1,0 +1,25 @@
+//! Items that lie in the value itself, as many as its type says.
+//!
+//! An array in a struct of its own, so that a contract can say what a loan of its items leaves.
+ghost use Rattle.std.specs.Prelude.{◌≡◌, ◌≤◌, take};
+ghost use Rattle.std.specs.Borrow.{sem};
+
+/// An array of items.
+#[derive(Drop)]
+pub(crate) struct Cells<T, const N: usize> {
+    pub(crate) xs: [T; N],
+}
+
+impl<T, const N: usize> Cells<T, N> {
+    ghost use Rattle.nmgc_lists.specs.Cells.{lends_front};
+
+    /// The first `len` items, for writing.
+    #[inline]
+    pub(crate) fn front_mut(&mut self, len: usize) -> &mut [T]
+        requires { len ≤ N }
+        ensures* writes_back { sem 𝓛 (lends_front T.row N.row self.entry result) }
+        ensures value { result.now ≡ take len self.old.xs }
+    {
+        &mut self.xs[..len]
+    }
+}

@@ -1,0 +1,54 @@
+//! Items that lie in a list itself, with what takes memory for more.
+ghost use Rattle.std.specs.Prelude.{◌≡◌, length};
+ghost use Rattle.std.specs.Borrow.{sem};
+
+use crate::cells::Cells;
+use std::alloc::Global;
+
+/// As many items as the type says.
+#[derive(Drop)]
+pub(crate) struct Few<T, const N: usize> {
+    cells: Cells<T, N>,
+    alloc: Global,
+}
+
+impl<T, const N: usize> Few<T, N> {
+    ghost use Rattle.nmgc_lists.specs.Few.{lends_items};
+
+    pub(crate) fn new(alloc: Global, items: [T; N]) -> Self
+        ensures { result.cells.xs ≡ items }
+    {
+        Few {
+            cells: Cells { xs: items },
+            alloc,
+        }
+    }
+
+    pub(crate) fn alloc(&self) -> Global {
+        self.alloc
+    }
+
+    pub(crate) fn into_array(self) -> [T; N]
+        ensures { result ≡ self.cells.xs }
+    {
+        let Few {
+            cells: Cells { xs },
+            alloc: _,
+        } = self;
+        xs
+    }
+
+    pub(crate) fn as_slice(&self) -> &[T]
+        ensures { result.now ≡ self.now.cells.xs }
+    {
+        &self.cells.xs[..]
+    }
+
+    pub(crate) fn as_mut_slice(&mut self) -> &mut [T]
+        requires { length self.old.cells.xs ≡ N }
+        ensures* writes_back { sem 𝓛 (lends_items T.row N.row self.entry result) }
+        ensures value { result.now ≡ self.old.cells.xs }
+    {
+        self.cells.front_mut(N)
+    }
+}
