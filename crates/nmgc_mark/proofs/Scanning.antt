@@ -23,10 +23,6 @@ use Rattle.nmgc_run.specs.Seen.{MarkerSeen}
 use Rattle.nmgc_mark.specs.Tie.{AreQueued, IsTied}
 use Rattle.nmgc_mark.specs.Work.{IsScanning, entry_now, marks_seen, rest_of, with_first, fields_scanned, has_results, is_result}
 
--- different headers have different words
-abbrev pub HeadersDiffer : Type 0
-HeadersDiffer = (a b : Header) → IsHeader a → IsHeader b → header_word a ≡ header_word b → a ≡ b
-
 -- the node of a name in the snapshot, by its header
 pub record IsNode (o : Opening) (name : Name) (header : Header) : Type 0 where
   pub node : Node
@@ -34,13 +30,14 @@ pub record IsNode (o : Opening) (name : Name) (header : Header) : Type 0 where
   pub is : header_of node ≡ header
   pub room : (at : ℕ) → Contains o.places (record { at = at; name = name }) → at + size_of node ≤ word_total o.layout
 
-pub node_told : HeadersDiffer → (v : Seen) (s : Segments) (marker : MarkerSeen) (at w : ℕ) (header : Header) → IsScanning v s marker at 0 → TellsEntry v.opening (entry_now v) w → IsHeader header → header_word header ≡ w → IsNode v.opening (entry_now v).name header
-node_told differ v s marker at w header h t valid e =
-    let n = t.header h.stands in
-    record { node = n.node; there = n.there; is = differ (header_of n.node) header n.valid valid (sym n.word_is ∙ sym e); room = n.room }
+-- the header of the entry's object has the word that was read
+pub header_there : (v : Seen) (s : Segments) (marker : MarkerSeen) (at w : ℕ) → IsScanning v s marker at 0 → TellsEntry v.opening (entry_now v) w → (header : Header) × IsHeader header × (header_word header ≡ w)
+header_there v s marker at w h t = let n = t.header h.stands in (header_of n.node, n.valid, sym n.word_is)
 
-pub header_told : (v : Seen) (s : Segments) (marker : MarkerSeen) (at w : ℕ) → IsScanning v s marker at 0 → TellsEntry v.opening (entry_now v) w → ((header : Header) → IsHeader header → header_word header ≢ w) → ⊥
-header_told v s marker at w h t none = let n = t.header h.stands in none (header_of n.node) n.valid (sym n.word_is)
+pub node_told : (v : Seen) (s : Segments) (marker : MarkerSeen) (at w : ℕ) (header : Header) → IsScanning v s marker at 0 → TellsEntry v.opening (entry_now v) w → ((other : Header) → IsHeader other → header_word other ≡ w → header ≡ other) → IsNode v.opening (entry_now v).name header
+node_told v s marker at w header h t is =
+    let n = t.header h.stands in
+    record { node = n.node; there = n.there; is = sym (is (header_of n.node) n.valid (sym n.word_is)); room = n.room }
 
 fields_by : (node : Node) → fields_of node ≡ fields_scanned (header_of node).kind (header_of node).fields
 fields_by (Con tag values) = refl

@@ -18,8 +18,7 @@ use crate::marker::Marker;
 use crate::work::{fields_scanned, is_result};
 use nmgc_alloc::Segments;
 use nmgc_heap::HeapWords;
-use nmgc_object::laws::words_differ;
-use nmgc_object::{Address, HEADER_WORDS, decode_header};
+use nmgc_object::{Address, HEADER_WORDS, header_of};
 use nmgc_round::laws;
 
 impl Marker {
@@ -32,12 +31,9 @@ impl Marker {
         ensures turns { self.new.turns ≡ self.old.turns }
         ensures tied { (o : Opening) (v : Seen) → IsAlone o (W.words words.old) v → IsScanning v segments.old self.old at.0 0 → (w : Seen) × IsAlone o (W.words words.old) w × IsTied o (marks_seen w) segments.new self.new }
     {
-        words_differ();
         laws::scan();
         let _ = segments.layout();
-        let Some(header) = decode_header(words.load(at.0 as usize)) else {
-            unreachable!();
-        };
+        let header = header_of(words.load(at.0 as usize));
         let first = at.0 as usize + HEADER_WORDS as usize;
         let fields = fields_scanned(header);
         for field in 0..fields {

@@ -20,8 +20,7 @@ ghost use Rattle.nmgc_mark.specs.Work.{IsCollector, IsScanning, HasWorked, marks
 use crate::marker::{Marker, Work};
 use nmgc_alloc::Segments;
 use nmgc_graph::{Kind, MAKERS};
-use nmgc_object::laws::words_differ;
-use nmgc_object::{Address, HEADER_WORDS, Header, decode_header};
+use nmgc_object::{Address, HEADER_WORDS, Header, header_of};
 use nmgc_round::{CollectorSeat, Gate, Round};
 
 /// How many fields of an object are scanned.
@@ -92,10 +91,7 @@ impl Marker {
         ensures worked { HasWorked round.now seat.old seat.new segments.old segments.new self.old self.new 0 }
         ensures turns { self.new.turns ≡ self.old.turns }
     {
-        words_differ();
-        let Some(header) = decode_header(round.scan_load(seat, at, 0)) else {
-            unreachable!();
-        };
+        let header = header_of(round.scan_load(seat, at, 0));
         let fields = fields_scanned(header);
         for field in 0..fields {
             let word = self.scan_field(round, seat, segments, at, field);

@@ -16,8 +16,7 @@ ghost use Rattle.nmgc_object.specs.declared.size.TheConstants.{HEADER_WORDS as H
 use nmgc_alloc::Segments;
 use nmgc_graph::{Name, Room};
 use nmgc_heap::HeapWords;
-use nmgc_object::laws::words_differ;
-use nmgc_object::{Address, HEADER_WORDS, class_of, decode_name, fields_of};
+use nmgc_object::{Address, HEADER_WORDS, class_of, fields_of, name_of};
 
 /// An object that was moved: its name, the place in the nursery, and the place in a segment.
 #[derive(Clone, Copy, Debug, PartialEq, Eq)]
@@ -55,17 +54,13 @@ pub fn place_object<W: HeapWords>(
     ensures places { PlacesOne segments.old segments.new (W.words words.old) maker result }
     ensures same { W.words words.new ≡ W.words words.old }
 {
-    words_differ();
     let class = class_of(object_words(words, from));
-    let name = decode_name(words.load(from as usize + 1));
+    let name = name_of(words.load(from as usize + 1));
     let to = segments.allocate(maker, class);
     let _ = segments.layout();
-    match name {
-        None => unreachable!(),
-        Some(name) => Move {
-            name,
-            from: Address(from),
-            to,
-        },
+    Move {
+        name,
+        from: Address(from),
+        to,
     }
 }

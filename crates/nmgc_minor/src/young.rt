@@ -11,7 +11,7 @@ ghost use Rattle.nmgc_minor.specs.Young.{HasHeader, IsStrongRange};
 use nmgc_graph::{Kind, Room};
 use nmgc_heap::HeapWords;
 use nmgc_object::laws::words_differ;
-use nmgc_object::{Address, HEADER_WORDS, decode_header};
+use nmgc_object::{Address, HEADER_WORDS, header_of};
 
 /// The entry of an object that was found and has no place yet.
 pub const FOUND: u32 = 1;
@@ -32,22 +32,19 @@ pub fn strong_fields<W: HeapWords>(words: &mut W, at: Address) -> (usize, usize)
     ensures same { W.words words.new ≡ W.words words.old }
 {
     let fields = at.0 as usize + HEADER_WORDS as usize;
-    let word = words.load(at.0 as usize);
-    match decode_header(word) {
-        None => unreachable!(),
-        Some(header) => match header.kind {
-            Kind::Con | Kind::Var | Kind::Arr | Kind::Stack => {
-                (fields, fields + header.fields as usize)
+    let header = header_of(words.load(at.0 as usize));
+    match header.kind {
+        Kind::Con | Kind::Var | Kind::Arr | Kind::Stack => {
+            (fields, fields + header.fields as usize)
+        }
+        Kind::Thunk => {
+            if words.load(fields) == 0 {
+                (fields + 1, fields + header.fields as usize)
+            } else {
+                (fields, fields + 1)
             }
-            Kind::Thunk => {
-                if words.load(fields) == 0 {
-                    (fields + 1, fields + header.fields as usize)
-                } else {
-                    (fields, fields + 1)
-                }
-            }
-            Kind::Weak => (fields, fields),
-        },
+        }
+        Kind::Weak => (fields, fields),
     }
 }
 

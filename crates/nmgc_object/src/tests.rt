@@ -1,8 +1,8 @@
 //! Worked numbers of words, sizes and places, and a queue from end to end.
 use crate::{
     Address, Field, FinQueue, Header, Layout, Nursery, block_words, class_of, decode_header,
-    decode_name, decode_value, encode_header, encode_name, encode_value, laws, object_words,
-    words_of,
+    decode_name, decode_value, encode_header, encode_name, encode_value, fields_of, header_of,
+    laws, name_of, object_words, words_of,
 };
 use nmgc_graph::{Kind, Name, Place};
 use std::test::Fail;
@@ -20,6 +20,8 @@ fn headers(rt: HostRuntime) {
         assert_eq!(rt; object_words(header), words);
         assert_eq!(rt; encode_header(header), word);
         assert_eq!(rt; decode_header(word), Some(header));
+        assert_eq!(rt; header_of(encode_header(header)), header);
+        assert_eq!(rt; fields_of(encode_header(header)), fields);
     }
     for word in [
         0,
@@ -43,6 +45,7 @@ fn names(rt: HostRuntime) {
         assert!(rt; maker < 8 || serial == 0);
         assert_eq!(rt; encode_name(name), word);
         assert_eq!(rt; decode_name(word), Some(name));
+        assert_eq!(rt; name_of(encode_name(name)), name);
     }
     for word in [9, 24, 16 * 4_294_967_296] {
         assert_eq!(rt; decode_name(word), None, "at {word}");

@@ -153,6 +153,23 @@ pub fn decode_header(word: u64) -> Option<Header>
     }
 }
 
+/// The valid header that has this word: that of `decode_header`, where the caller knows that there is one, without a
+/// look at whether there is. Takes no memory.
+#[inline]
+pub fn header_of(word: u64) -> Header
+    requires { (header : Header) × IsHeader header × (header_word header ≡ word) }
+    ensures { (header : Header) → IsHeader header → header_word header ≡ word → result ≡ header }
+{
+    let Some(kind) = kind_of_number(word % TAG_UNIT) else {
+        unreachable!();
+    };
+    Header {
+        kind,
+        tag: (word / TAG_UNIT % TAGS) as u8,
+        fields: (word / FIELDS_UNIT) as u32,
+    }
+}
+
 /// The number of fields in the word of a valid header: that of `decode_header`, where the caller knows that there is
 /// a header, by one shift. Takes no memory.
 #[inline]
@@ -189,6 +206,19 @@ pub fn decode_name(word: u64) -> Option<Name>
         maker,
         serial: serial as u32,
     })
+}
+
+/// The name that has this word: that of `decode_name`, where the caller knows that there is one, without a look at
+/// whether there is. Takes no memory.
+#[inline]
+pub fn name_of(word: u64) -> Name
+    requires { (name : Name) × IsName name × (name_word name ≡ word) }
+    ensures { (name : Name) → IsName name → name_word name ≡ word → result ≡ name }
+{
+    Name {
+        maker: (word % SERIAL_UNIT) as u8,
+        serial: (word / SERIAL_UNIT) as u32,
+    }
 }
 
 /// The word of a field. A number is below `NUMBER_LIMIT`, and a pointer isn't 0. Takes no memory.

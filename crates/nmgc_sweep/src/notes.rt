@@ -12,8 +12,7 @@ ghost use Rattle.nmgc_sweep.specs.Sweeper.{IsNotesOf, HasStood, lost};
 use nmgc_alloc::Segments;
 use nmgc_graph::{List, Name, NoMemory};
 use nmgc_heap::HeapWords;
-use nmgc_object::laws::words_differ;
-use nmgc_object::{Address, NAME_OFFSET, block_words, decode_name};
+use nmgc_object::{Address, NAME_OFFSET, block_words, name_of};
 use nmgc_segment::Segment;
 use std::alloc::Global;
 
@@ -38,11 +37,7 @@ fn name_at<W: HeapWords>(words: &mut W, at: Address) -> Name
     ensures words { W.words words.new ≡ W.words words.old }
     ensures name { (name : Named) → IsName name → slice_index (W.words words.old) (name_place at.0) ≡ name_word name → result ≡ name }
 {
-    words_differ();
-    match decode_name(words.load(at.0 as usize + NAME_OFFSET as usize)) {
-        Some(name) => name,
-        None => unreachable!(),
-    }
+    name_of(words.load(at.0 as usize + NAME_OFFSET as usize))
 }
 
 /// Notes whose objects lie in a segment that waits to be swept. Takes memory once, for as many notes as there are

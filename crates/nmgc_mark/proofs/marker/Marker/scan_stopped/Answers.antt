@@ -4,7 +4,7 @@ use Rattle.nmgc_round.specs.View.{Opening}
 use Rattle.nmgc_round.specs.Ready.{scanned_by}
 use Rattle.nmgc_mark.specs.Tie.{IsTied}
 use Rattle.nmgc_mark.specs.Work.{marks_seen, rest_of}
-use Rattle.nmgc_mark.proofs.Scanning.{node_told, header_told}
+use Rattle.nmgc_mark.proofs.Scanning.{node_told, header_there}
 use Rattle.nmgc_mark.proofs.Fields.{first_field, field_within, next_field, with_result, marked_none, marked_more}
 use Rattle.nmgc_mark.proofs.Alone.{header_alone, field_alone, field_small, alone_total}
 use Rattle.nmgc_mark.proofs.marker.Marker.scan_stopped.Goals as goal
@@ -17,20 +17,26 @@ load-requires g c =
     let total = t.0 in
     omega arith
 
+pub header_of-header-requires : goal.header_of-header-requires
+header_of-header-requires g c =
+    let ws = g.W.HeapWords.words c.args.words.now in
+    let r = c.requires.scanning in
+    let n = header_alone c.scan.ensures r.0 ws r.1 c.args.segments.now c.args.self.now c.args.at.0 c.load.result r.2 r.3 c.load.ensures.word in
+    header_there r.1 c.args.segments.now c.args.self.now c.args.at.0 c.load.result r.3 n.1
+
 pub loop-field-init : goal.loop-field-init
 loop-field-init g c =
     let ws = g.W.HeapWords.words c.args.words.now in
     let s = c.args.segments.now in
     let m = c.args.self.now in
-    let k = c.in-Some.ensures.some in
     record {
       words = c.load.ensures.same;
       marked = marked_none s m c.requires.room;
       turns = refl;
       each = λ o v a h.
           let n = header_alone c.scan.ensures o ws v s m c.args.at.0 c.load.result a h c.load.ensures.word in
-          let node = node_told c.words_differ.ensures.headers v s m c.args.at.0 c.load.result c.in-Some.header h n.1 k.0 k.1 in
-          (scanned_by v c.load.result, n.0, first_field v s m c.args.at.0 c.load.result c.fields_scanned-fields.result c.in-Some.header h node c.fields_scanned-fields.ensures);
+          let node = node_told v s m c.args.at.0 c.load.result c.header_of-header.result h n.1 c.header_of-header.ensures in
+          (scanned_by v c.load.result, n.0, first_field v s m c.args.at.0 c.load.result c.fields_scanned-fields.result c.header_of-header.result h node c.fields_scanned-fields.ensures);
     }
 
 pub load-word-requires : goal.load-word-requires
@@ -38,12 +44,11 @@ load-word-requires g c =
     let ws = g.W.HeapWords.words c.args.words.now in
     let s = c.args.segments.now in
     let m = c.args.self.now in
-    let k = c.in-Some.ensures.some in
     let r = c.requires.scanning in
     let n = header_alone c.scan.ensures r.0 ws r.1 s m c.args.at.0 c.load.result r.2 r.3 c.load.ensures.word in
-    let node = node_told c.words_differ.ensures.headers r.1 s m c.args.at.0 c.load.result c.in-Some.header r.3 n.1 k.0 k.1 in
+    let node = node_told r.1 s m c.args.at.0 c.load.result c.header_of-header.result r.3 n.1 c.header_of-header.ensures in
     let u = c.loop-field.invariant.each r.0 r.1 r.2 r.3 in
-    let w = field_within r.1 u.0 c.loop-field.segments c.loop-field.self c.args.at.0 c.fields_scanned-fields.result c.loop-field.field c.in-Some.header node u.2 c.loop-field-test.true c.fields_scanned-fields.ensures in
+    let w = field_within r.1 u.0 c.loop-field.segments c.loop-field.self c.args.at.0 c.fields_scanned-fields.result c.loop-field.field c.header_of-header.result node u.2 c.loop-field-test.true c.fields_scanned-fields.ensures in
     let t = (alone_total r.0 ws u.0 u.1).0 in
     let same = ap length c.loop-field.invariant.words in
     omega (arith, w, t, same)
@@ -66,7 +71,6 @@ loop-field-preserved g c =
     let ws = g.W.HeapWords.words c.args.words.now in
     let s = c.args.segments.now in
     let m = c.args.self.now in
-    let k = c.in-Some.ensures.some in
     let i : ℕ = c.args.at.0 + 2 + c.loop-field.field in
     let word : c.load-word.result ≡ slice_index ws i = c.load-word.ensures.word ∙ ap (λ (l : List ℕ). slice_index l i) c.loop-field.invariant.words in
     record {
@@ -76,12 +80,12 @@ loop-field-preserved g c =
       each = λ o v a h.
           let u = c.loop-field.invariant.each o v a h in
           let n = header_alone c.scan.ensures o ws v s m c.args.at.0 c.load.result a h c.load.ensures.word in
-          let node = node_told c.words_differ.ensures.headers v s m c.args.at.0 c.load.result c.in-Some.header h n.1 k.0 k.1 in
+          let node = node_told v s m c.args.at.0 c.load.result c.header_of-header.result h n.1 c.header_of-header.ensures in
           let next = field_alone c.scan.ensures o ws v u.0 c.loop-field.segments c.loop-field.self c.args.at.0 c.fields_scanned-fields.result c.loop-field.field i c.load-word.result u.1 u.2 c.loop-field-test.true refl word in
           let tied = c.mark_word.ensures.tied u.0.opening (rest_of (marks_seen u.0)) (u.2.more c.loop-field-test.true).0.tied in (
             scanned_by u.0 c.load-word.result,
             next.0,
-            next_field v u.0 c.loop-field.segments c.mark_word.new.segments c.loop-field.self c.mark_word.new.self c.args.at.0 c.load-word.result c.fields_scanned-fields.result c.loop-field.field c.in-Some.header node u.2 c.loop-field-test.true c.fields_scanned-fields.ensures tied (sym c.is_result.ensures ∙ c.if-is_result.false),
+            next_field v u.0 c.loop-field.segments c.mark_word.new.segments c.loop-field.self c.mark_word.new.self c.args.at.0 c.load-word.result c.fields_scanned-fields.result c.loop-field.field c.header_of-header.result node u.2 c.loop-field-test.true c.fields_scanned-fields.ensures tied (sym c.is_result.ensures ∙ c.if-is_result.false),
           );
     }
 
@@ -96,23 +100,15 @@ returns-then-is_result-clause-tied g c = λ o v a h.
     let ws = g.W.HeapWords.words c.args.words.now in
     let s = c.args.segments.now in
     let m = c.args.self.now in
-    let k = c.in-Some.ensures.some in
     let i : ℕ = c.args.at.0 + 2 + c.loop-field.field in
     let word : c.load-word.result ≡ slice_index ws i = c.load-word.ensures.word ∙ ap (λ (l : List ℕ). slice_index l i) c.loop-field.invariant.words in
     let u = c.loop-field.invariant.each o v a h in
     let n = header_alone c.scan.ensures o ws v s m c.args.at.0 c.load.result a h c.load.ensures.word in
-    let node = node_told c.words_differ.ensures.headers v s m c.args.at.0 c.load.result c.in-Some.header h n.1 k.0 k.1 in
+    let node = node_told v s m c.args.at.0 c.load.result c.header_of-header.result h n.1 c.header_of-header.ensures in
     let next = field_alone c.scan.ensures o ws v u.0 c.loop-field.segments c.loop-field.self c.args.at.0 c.fields_scanned-fields.result c.loop-field.field i c.load-word.result u.1 u.2 c.loop-field-test.true refl word in
     let tied = c.mark_word.ensures.tied u.0.opening (rest_of (marks_seen u.0)) (u.2.more c.loop-field-test.true).0.tied in
-    let done = with_result v u.0 c.loop-field.segments c.mark_word.new.segments c.loop-field.self c.mark_word.new.self c.args.at.0 c.load-word.result c.fields_scanned-fields.result c.loop-field.field c.in-Some.header node u.2 c.loop-field-test.true c.fields_scanned-fields.ensures tied (sym c.is_result.ensures ∙ c.if-is_result.true) in
+    let done = with_result v u.0 c.loop-field.segments c.mark_word.new.segments c.loop-field.self c.mark_word.new.self c.args.at.0 c.load-word.result c.fields_scanned-fields.result c.loop-field.field c.header_of-header.result node u.2 c.loop-field-test.true c.fields_scanned-fields.ensures tied (sym c.is_result.ensures ∙ c.if-is_result.true) in
     (scanned_by u.0 c.load-word.result, next.0, subst (λ (y : Opening). IsTied y (marks_seen (scanned_by u.0 c.load-word.result)) c.mark_word.new.segments c.mark_word.new.self) u.1.opening done)
-
-pub unreachable-requires : goal.unreachable-requires
-unreachable-requires g c =
-    let ws = g.W.HeapWords.words c.args.words.now in
-    let r = c.requires.scanning in
-    let n = header_alone c.scan.ensures r.0 ws r.1 c.args.segments.now c.args.self.now c.args.at.0 c.load.result r.2 r.3 c.load.ensures.word in
-    header_told r.1 c.args.segments.now c.args.self.now c.args.at.0 c.load.result r.3 n.1 c.in_default.ensures.none
 
 pub returns-clause-tied : goal.returns-clause-tied
 returns-clause-tied g c = λ o v a h.
