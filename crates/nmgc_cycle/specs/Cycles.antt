@@ -166,6 +166,10 @@ row_of number stop w dead = record {
   kept = w.kept;
 }
 
+-- a cycle sweeps, and no segment waits any more
+abbrev pub IsSwept : Collector → Type 0
+IsSwept c = (w : Sweeping) × (c.progress ≡ progress.Sweeping w) × HasNone sought.Sweeping c.segments
+
 -- a cycle that sweeps ends where no segment waits; the collector keeps the sweeper's count of the gate's passes
 abbrev pub Ends : ℕ → Progress → Collector → Collector → Type 0
 Ends stop (progress.Sweeping w) old new = (HasNone sought.Sweeping old.segments × (new ≡ record old { progress = progress.Idle; turns = w.sweeper.turns; cycles = old.cycles ++ row_of old.begun stop w (died old.weaks.deaths) ∷ [] })) ⊎ ((HasNone sought.Sweeping old.segments → ⊥) × (new ≡ old))

@@ -15,7 +15,7 @@ ghost use Rattle.nmgc_run.specs.Marks.{epoch_of as epoch_by};
 ghost use Rattle.nmgc_segment.specs.Marks.{IsEpoch};
 ghost use Rattle.nmgc_cycle.specs.Roots.{HasRegisters, queues_in};
 ghost use Rattle.nmgc_cycle.specs.Shown.{words_in};
-ghost use Rattle.nmgc_cycle.specs.Cycles.{remembered_by, remembering_nothing, CanAdd, HasAdded, HasTaken, CanClose, Closes, HasClosed, IsClosed, IsReadyToClose, row_of as row_shown, Ends, IsDue, CanBegin, StartsMarking, HasStarted, Begins};
+ghost use Rattle.nmgc_cycle.specs.Cycles.{remembered_by, remembering_nothing, CanAdd, HasAdded, HasTaken, CanClose, Closes, HasClosed, IsClosed, IsReadyToClose, row_of as row_shown, IsSwept, Ends, IsDue, CanBegin, StartsMarking, HasStarted, Begins};
 
 use crate::progress::{Marking, Progress, Sweeping};
 use crate::{Collector, roots, weaks};
@@ -24,7 +24,7 @@ use nmgc_graph::{List, Name, NoMemory};
 use nmgc_journal::CycleRow;
 use nmgc_mark::{Marker, Work};
 use nmgc_mutator::Mutator;
-use nmgc_sweep::Sweeper;
+use nmgc_sweep::{Census, Sweeper};
 use std::alloc::Global;
 use std::mem;
 
@@ -136,20 +136,30 @@ impl Collector {
         }
     }
 
+    // Whether a cycle was swept to its end.
+    fn is_swept(&self) -> bool
+        ensures { IsTrue result ↔ IsSwept self.now }
+    {
+        match self.progress {
+            Progress::Sweeping(_) => self.segments.sweep_count() == 0,
+            Progress::Idle | Progress::Marking(_) => false,
+        }
+    }
+
     // A cycle that is sweeping ends where no segment waits: its row is told, and the collector is idle.
     pub(crate) fn end(&mut self, stop: u32) -> Result<(), NoMemory>
         ensures { OnOk result (Ends stop self.old.progress self.old self.new) }
     {
-        if let Progress::Sweeping(sweeping) = &self.progress {
-            if self.segments.sweep_count() == 0 {
-                let dead = weaks::dead_names(self.alloc, self.weaks.deaths())?;
-                let row = row_of(self.alloc, self.begun, sweeping, dead, stop)?;
-                self.turns = sweeping.sweeper.turns;
-                self.cycles.push(row)?;
-                self.progress = Progress::Idle;
-            }
+        if !self.is_swept() {
+            return Ok(());
         }
-        Ok(())
+        let dead = weaks::dead_names(self.alloc, self.weaks.deaths())?;
+        let Progress::Sweeping(sweeping) = mem::replace(&mut self.progress, Progress::Idle) else {
+            unreachable!();
+        };
+        self.turns = sweeping.sweeper.turns;
+        let row = row_of(self.begun, sweeping, dead, stop)?;
+        self.cycles.push(row)
     }
 
     // Whether a cycle is due: none is in progress, and one was asked for, or enough segments were filled since the
@@ -242,24 +252,29 @@ impl Collector {
 
 // The row of a cycle that ends at a stop.
 fn row_of(
-    alloc: Global,
     number: u32,
-    sweeping: &Sweeping,
+    sweeping: Sweeping,
     dead: List<Name>,
     stop: u32,
 ) -> Result<CycleRow, NoMemory>
-    ensures { IfOk result (λ row. row ≡ row_shown number stop sweeping.now dead) }
+    ensures { IfOk result (λ row. row ≡ row_shown number stop sweeping dead) }
 {
-    let sweeper = &sweeping.sweeper;
+    let Sweeping {
+        from,
+        closed,
+        kept,
+        sweeper,
+    } = sweeping;
+    let Census { swept, had, freed } = sweeper.into_census();
     Ok(CycleRow {
         number,
-        from: sweeping.from,
-        closed: sweeping.closed,
+        from,
+        closed,
         ended: stop,
-        swept: List::from_vec(Vec::from_slice(alloc, sweeper.swept())?)?,
-        had: List::from_vec(Vec::from_slice(alloc, sweeper.had())?)?,
-        freed: List::from_vec(Vec::from_slice(alloc, sweeper.freed())?)?,
+        swept: List::from_vec(swept)?,
+        had: List::from_vec(had)?,
+        freed: List::from_vec(freed)?,
         dead,
-        kept: sweeping.kept,
+        kept,
     })
 }

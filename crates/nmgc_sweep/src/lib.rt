@@ -22,7 +22,7 @@ pub mod notes;
 mod order;
 pub mod sweeper;
 
-pub use sweeper::{SweepWork, Sweeper};
+pub use sweeper::{Census, SweepWork, Sweeper};
 
 #[cfg(test)]
 mod tests;

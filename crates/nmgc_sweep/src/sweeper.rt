@@ -34,6 +34,17 @@ pub struct SweepWork {
     pub finished: bool,
 }
 
+/// What a cycle's row tells of its sweep.
+#[derive(Drop)]
+pub struct Census {
+    /// The numbers of the segments noted at the snapshot, in order.
+    pub swept: Vec<u32>,
+    /// The names of the blocks in use in these segments at the snapshot.
+    pub had: Vec<Name>,
+    /// Those that were freed.
+    pub freed: Vec<Name>,
+}
+
 /// The sweeper of a cycle. Contracts see its epoch, the segments that it noted, whose objects were in them and
 /// which of these it freed, the notes of the segments that it hasn't swept, and how often the gate was passed.
 #[derive(Drop)]
@@ -90,6 +101,18 @@ fn note<W: HeapWords>(
     Ok(())
 }
 
+// How many blocks the segments have that wait to be swept: there are no more names in them.
+fn waiting_blocks(segments: &Segments) -> usize {
+    let mut blocks: usize = 0;
+    for number in 0..segments.layout().segments {
+        let segment = segments.segment(number);
+        if segment.state() == State::Sweeping {
+            blocks = blocks.saturating_add(segment.blocks() as usize);
+        }
+    }
+    blocks
+}
+
 impl Sweeper {
     /// Notes, as a cycle begins, the segments to be swept and the name of each block in use in them, and makes
     /// room for the names that will be freed: the only memory that a sweeper keeps. `Segments::prepare` was just
@@ -108,7 +131,7 @@ impl Sweeper {
     {
         let mut swept = Vec::new(alloc);
         let mut left = VecDeque::new(alloc);
-        let mut had = Vec::new(alloc);
+        let mut had = Vec::with_capacity(alloc, waiting_blocks(segments))?;
         let count = segments.layout().segments;
         for number in 0..count {
             if segments.segment(number).state() == State::Sweeping {
@@ -150,6 +173,25 @@ impl Sweeper {
         ensures { result.now ≡ self.now.seen.freed }
     {
         self.freed.as_slice()
+    }
+
+    /// What it noted and freed, for the cycle's row, in lists that have no more room than they need. Takes no memory.
+    pub fn into_census(self) -> Census
+        ensures swept { result.swept.items ≡ self.seen.swept }
+        ensures had { result.had.items ≡ self.seen.had }
+        ensures freed { result.freed.items ≡ self.seen.freed }
+    {
+        let Sweeper {
+            turns: _,
+            epoch: _,
+            swept,
+            left: _,
+            mut had,
+            mut freed,
+        } = self;
+        had.shrink_to_fit();
+        freed.shrink_to_fit();
+        Census { swept, had, freed }
     }
 
     // Whether some segment is left to be swept.

@@ -258,6 +258,10 @@ fn check(rt: &impl Abort, alloc: Global, row: Row) -> Result<(), Fail> {
     assert_eq!(rt; sweeper.swept(), row.swept);
     assert_eq!(rt; sweeper.had(), row.had);
     assert_eq!(rt; sweeper.freed(), row.freed);
+    let census = sweeper.into_census();
+    assert_eq!(rt; census.swept.as_slice(), row.swept);
+    assert_eq!(rt; census.had.as_slice(), row.had);
+    assert_eq!(rt; census.freed.as_slice(), row.freed);
     for number in 0..segments.layout().segments {
         if let Some(state) = row.states.get(number as usize) {
             assert_eq!(rt; segments.segment(number).state(), *state);
