@@ -35,8 +35,8 @@ use nmgc_beside::laws::{
     freed_places_go, slices_are_owed, the_heap_goes_on, the_machine_goes_on,
     the_marker_leads_a_cycle, the_pace_is_kept,
 };
-use nmgc_graph::{List, NoMemory, Place, Reply};
-use nmgc_journal::RoundRows;
+use nmgc_graph::{List, NoMemory, Place};
+use nmgc_journal::{Replies, RoundRows};
 use nmgc_mutator::Mutator;
 use nmgc_mutator::laws::a_round_finds_mutators_ready;
 use nmgc_round::chosen::Wanted;
@@ -289,13 +289,13 @@ fn advance(positions: &mut [u32], done: &[u32])
 }
 
 // Takes the replies off a mutator.
-fn take_replies(alloc: Global, mutator: &mut Mutator) -> Result<List<Reply>, NoMemory>
+fn take_replies(alloc: Global, mutator: &mut Mutator) -> Result<Replies, NoMemory>
     ensures replies { IfOk result (λ replies. replies ≡ mutator.old.replies.items) }
     ensures rest { OnOk result (mutator.new ≡ cleared mutator.old) }
 {
-    let replies = Vec::from_slice(alloc, mutator.replies.items())?;
+    let replies = Replies::from_slice(alloc, mutator.replies.items())?;
     mutator.replies.clear();
-    List::from_vec(replies)
+    Ok(replies)
 }
 
 // Takes the replies of the round off all mutators.

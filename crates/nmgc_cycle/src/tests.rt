@@ -302,8 +302,11 @@ fn number_of(report: &Report, mutator: usize) -> u64 {
     let Some(replies) = rows.replies.items().get(mutator) else {
         return 0;
     };
-    match replies.items().last() {
-        Some(Reply::Given(Value::Number(number))) => *number,
+    if replies.len() == 0 {
+        return 0;
+    }
+    match replies.reply(replies.len() - 1) {
+        Reply::Given(Value::Number(number)) => number,
         _ => 0,
     }
 }

@@ -10,13 +10,14 @@
 //! contract can say of a whole run that the words still stand for the world which the replies made.
 //!
 //! Easy to get wrong: one stop may end two cycles, the one in progress and a full one.
+use crate::replies::Replies;
 use nmgc_alloc::Segments;
-use nmgc_graph::{List, Name, Reply};
+use nmgc_graph::{List, Name};
 
 /// The replies of one round: a list for each mutator, in the mutator's own order.
 #[derive(Drop)]
 pub struct RoundRows {
-    pub replies: List<List<Reply>>,
+    pub replies: List<Replies>,
 }
 
 /// What the collector does beside the mutators, from one stop to the next.

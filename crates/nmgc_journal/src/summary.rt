@@ -82,7 +82,7 @@ fn reply_count(rows: &RoundRows) -> u64
     ensures { result ≡ reply_count rows.now }
 {
     let replies = rows.replies.items();
-    replies.iter().map(|own| own.items().len() as u64).sum()
+    replies.iter().map(|own| own.len() as u64).sum()
 }
 
 // How many objects the mutators made.

@@ -72,10 +72,8 @@ fn report_of(
 }
 
 fn one(alloc: Global, reply: Reply) -> Result<RoundRows, Fail> {
-    let mut replies = List::new(alloc);
-    replies.push(reply)?;
     let mut all = List::new(alloc);
-    all.push(replies)?;
+    all.push(Replies::from_slice(alloc, &[reply])?)?;
     Ok(RoundRows { replies: all })
 }
 
@@ -96,12 +94,33 @@ fn each_reply_has_its_line(rt: HostRuntime) -> Result<(), Fail> {
     Ok(())
 }
 
+// The largest number that is packed, the next one, which isn't, the largest number and the largest name.
+const ANY_SIZE: [Value; 4] = [
+    Value::Number(9223372036854775807),
+    Value::Number(9223372036854775808),
+    Value::Number(18446744073709551615),
+    Value::Ref(Name {
+        maker: 255,
+        serial: 4294967295,
+    }),
+];
+
+#[test]
+fn values_of_any_size_are_kept(rt: HostRuntime) -> Result<(), Fail> {
+    for value in &ANY_SIZE {
+        let all = [Reply::Nothing, Reply::Given(*value)];
+        let replies = Replies::from_slice(rt.alloc(), &all)?;
+        assert_eq!(rt; replies.len(), 2);
+        assert!(rt; replies.reply(0) == all[0]);
+        assert!(rt; replies.reply(1) == all[1]);
+    }
+    Ok(())
+}
+
 #[test]
 fn rounds_and_mutators_are_counted(rt: HostRuntime) -> Result<(), Fail> {
     let mut first = one(rt.alloc(), Reply::Nothing)?;
-    let mut second = List::new(rt.alloc());
-    second.push(Reply::Yes)?;
-    second.push(Reply::No)?;
+    let second = Replies::from_slice(rt.alloc(), &[Reply::Yes, Reply::No])?;
     first.replies.push(second)?;
     let mut rounds = List::new(rt.alloc());
     rounds.push(first)?;

@@ -14,7 +14,7 @@ ghost use Rattle.nmgc_journal.specs.Text.{reply_text, HasWord, reply_line, repli
 
 use crate::stops::{are_in_order, push_next_stop, push_stop_at};
 use crate::words::{push_count, push_value, push_word};
-use crate::{End, Report, RoundRows};
+use crate::{End, Replies, Report, RoundRows};
 use nmgc_graph::{NoMemory, Reply};
 use nmgc_io::push_number;
 use std::alloc::Global;
@@ -102,16 +102,16 @@ fn push_round(out: &mut Vec<u8>, number: u64, rows: &RoundRows) -> Result<(), No
     push_number(out, number)?;
     out.push(b'\n')?;
     for (mutator, replies) in rows.replies.items().iter().enumerate() {
-        push_replies(out, mutator as u64, replies.items())?;
+        push_replies(out, mutator as u64, replies)?;
     }
     Ok(())
 }
 
-fn push_replies(out: &mut Vec<u8>, mutator: u64, replies: &[Reply]) -> Result<(), NoMemory>
+fn push_replies(out: &mut Vec<u8>, mutator: u64, replies: &Replies) -> Result<(), NoMemory>
     ensures { OnOk result (out.new.items ≡ out.old.items ++ flat_map (reply_line mutator) replies.now) }
 {
-    for reply in replies {
-        push_reply_line(out, mutator, *reply)?;
+    for at in 0..replies.len() {
+        push_reply_line(out, mutator, replies.reply(at))?;
     }
     Ok(())
 }

@@ -1,0 +1,18 @@
+use Rattle.std.proofs.Common.{ℕ, ◌∙◌, List, [], ◌∷◌, ◌++◌, take, ap, sym, add-one}
+use Rattle.std.specs.List.{flat_map}
+use Rattle.std.proofs.Math.Seq.{take-suc}
+use Rattle.std.proofs.lemmas.List.{flat_map_more}
+use Rattle.std.proofs.lemmas.Option.{get_or_from_slice_get, slice_get_within}
+use Rattle.nmgc_graph.specs.declared.command.Reply.{Reply}
+use Rattle.nmgc_journal.specs.Text.{reply_line}
+use Rattle.nmgc_journal.proofs.text.push_replies.Goals as goal
+
+pub loop-at-preserved : goal.loop-at-preserved
+loop-at-preserved c =
+    let line = reply_line c.args.mutator in
+    let all : List Reply = c.args.replies.now in
+    let k = c.loop-at.at in
+    let reply = c.reply.result in
+    let before = c.args.out.now.items in
+    let next = take-suc all k reply (slice_get_within all k reply c.reply.ensures) ∙ ap (λ (x : Reply). take k all ++ x ∷ []) (get_or_from_slice_get all k reply reply c.reply.ensures) in
+    rw add-one (c.in_ok-push_reply_line.ensures ∙ ap (λ (out : List ℕ). out ++ line reply) c.loop-at.invariant ∙ flat_map_more line before (take k all) reply ∙ ap (λ (xs : List Reply). before ++ flat_map line xs) (sym next))

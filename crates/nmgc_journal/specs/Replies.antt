@@ -1,0 +1,28 @@
+-- A reply in one word, in this project's own code.
+use Rattle.std.specs.Prelude.{ℕ, ◌^◌, ◌/◌, ◌%◌, List, [], ◌∷◌, map, slice_index_or, ◌==◌, if◌then◌else◌}
+use Rattle.nmgc_graph.specs.declared.value.Name.{Name}
+use Rattle.nmgc_graph.specs.declared.value.Value.TheVariants.{Nil, Number, Ref}
+use Rattle.nmgc_graph.specs.declared.command.Reply.{Reply}
+use Rattle.nmgc_graph.specs.declared.command.Reply.TheVariants.{Fine, Yes, No, Updated, Already, Given, NoPointer, NoField, WrongKind, NotOwner, Fixed, Dead, Nothing, StackFull, StackEmpty}
+use Rattle.nmgc_journal.specs.declared.replies.Form.{Form}
+use Rattle.nmgc_journal.specs.declared.replies.Form.TheVariants.{Packed, Whole}
+
+-- the replies that give neither a number nor an object, each at its place
+abbrev pub plain_replies : List Reply
+plain_replies = Fine ∷ Yes ∷ No ∷ Updated ∷ Already ∷ NoPointer ∷ NoField ∷ WrongKind ∷ NotOwner ∷ Fixed ∷ Dead ∷ Nothing ∷ StackFull ∷ StackEmpty ∷ Given Nil ∷ []
+
+-- the name in a code: the maker is its lowest byte, and the serial the four bytes above
+abbrev pub name_in : ℕ → Name
+name_in code = record {
+  maker = code % 2 ^ 8;
+  serial = (code / 2 ^ 8) % 2 ^ 32;
+}
+
+-- the reply in a word: 2n + 1 is the number n, 4c + 2 the object whose name has the code c, and 4p the plain reply at place p, or Fine where there is none
+abbrev pub reply_in : ℕ → Reply
+reply_in word = if word % 2 == 1 then Given (Number (word / 2)) else if word % 4 == 2 then Given (Ref (name_in (word / 4))) else slice_index_or plain_replies (word / 4) Fine
+
+-- the replies in order, packed or as they are
+abbrev pub replies_of : Form → List Reply
+replies_of (Packed words) = map reply_in words.items
+replies_of (Whole replies) = replies.items
