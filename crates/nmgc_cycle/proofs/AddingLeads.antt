@@ -111,7 +111,6 @@ module _ (script : Script) (old : Collector) (s : State) (h : StandsPromoted scr
     sound = sound;
     lists = subst (λ (l : Layout). IsFor l old.promotion) (sym layout) h.kept.lists;
     has_words = h.kept.has_words;
-    list = h.kept.list;
     count = many ∙ h.kept.count;
     own = own;
     positions_are = h.kept.positions_are;

@@ -129,7 +129,6 @@ module _ (script : Script) (c : Collector) (st : State) (h : StandsAt script (re
     sound = sound;
     lists = h.kept.lists;
     has_words = h.kept.has_words;
-    list = h.kept.list;
     count = h.kept.count;
     own = λ n m e. let o = h.kept.own n m e in record { number = o.number; layout = o.layout; whole = o.whole; no_replies = o.no_replies };
     positions_are = h.kept.positions_are;

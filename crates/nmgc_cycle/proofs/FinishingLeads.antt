@@ -239,16 +239,12 @@ module _ (Paced : Cycle → State → Seen → Type 0) (laws : ClosingLaws) (scr
 
   -- the collector keeps what it keeps, and the state is sound
 
-  same_total : length words ≡ length before
-  same_total = heap.0.holds.represents.total ∙ sym h.heap.holds.represents.total
-
   still_kept : IsWellFormed script next
   still_kept = record {
     layout = layout_is;
     sound = subst (λ (g : Segments). IsSegments g) cl.carried cl.sound.1;
     lists = subst (λ (l : Layout). IsFor l c.promotion) (sym marked_layout) h.kept.lists;
     has_words = some;
-    list = h.kept.list ∙ sym same_total;
     count = cl.joined.have.count ∙ h.kept.count;
     own = λ i x e.
         let was = one_with cl.joined.queues c.mutators.items later queue_count cl.joined.have i x e in

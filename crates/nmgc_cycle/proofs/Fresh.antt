@@ -43,7 +43,6 @@ pub record IsMade (layout : Layout) (script : Script) (c : Collector) : Type 0 w
   pub goes_on : c.answered ≡ None
   pub weakless : c.weaks.list ≡ []
   pub has_words : IsSome c.words
-  pub list : c.list.items ≡ (seen c).words
   pub total : length (seen c).words ≡ word_total layout
   pub opens : CanOpen (first_opening layout) (seen c).words
   pub segments : c.segments ≡ all_free layout
@@ -92,7 +91,6 @@ module _ (script : Script) (c : Collector) (made : IsMade (layout_of (plan_of sc
     sound = made.sound;
     lists = subst (λ (l : Layout). IsFor l c.promotion) (sym same_layout) made.promotion;
     has_words = made.has_words;
-    list = ap length made.list;
     count = made.count;
     own = own;
     positions_are = ap length made.positions ∙ length-replicate (length script.threads) 0;

@@ -111,7 +111,6 @@ module _ (laws : HasLaws) (script : Script) (c new : Collector) (o : Opening) (x
     sound = x.did.sound;
     lists = subst (λ (l : Layout). IsFor l c.promotion) (sym same_layout) x.still.kept.lists;
     has_words = refl;
-    list = x.still.kept.list ∙ x.still.at_stop.heap.holds.represents.total ∙ sym (gone_on laws script c new o x).heap.holds.represents.total;
     count = same_count ∙ x.still.kept.count;
     own = own;
     positions_are = x.did.positions_are ∙ x.still.kept.positions_are;

@@ -7,7 +7,6 @@ use Rattle.nmgc_graph.specs.World.{World, node_of}
 use Rattle.nmgc_graph.specs.laws.Orders.{contains_head}
 use Rattle.nmgc_graph.specs.laws.Worlds.{is_some_of}
 use Rattle.nmgc_reach.specs.laws.HeldSteps.{absent}
-use Rattle.nmgc_object.specs.Places.{word_total}
 use Rattle.nmgc_object.specs.declared.layout.Layout.{Layout}
 use Rattle.nmgc_alloc.specs.AllocState.{AllocState, Cells, LiesNowhere, HasBlock, cells, name_in}
 use Rattle.nmgc_alloc.specs.Segments.{block_place}
@@ -229,11 +228,6 @@ module _ (laws : HasPromotionLaws) (script : Script) (old new : Collector) (kept
       sound = p.sound;
       lists = subst (λ (l : Layout). IsFor l new.promotion) (sym p.layout) p.lists;
       has_words = p.has_words;
-      list =
-          let before = b.stopped.represents.total in
-          let now = (after.settled_heap script old new kept b p).represents.total in
-          let same : word_total new.segments.layout ≡ word_total old.segments.layout = ap word_total p.layout in
-          kept.list ∙ before ∙ sym (now ∙ same);
       count = p.given.count ∙ kept.count;
       own = λ k m e. let own = (after.own script old new kept b p k m e).0 in record { number = own.number; layout = own.layout; whole = own.whole; no_replies = own.no_replies };
       positions_are = kept.positions_are;

@@ -110,7 +110,6 @@ module _ (script : Script) (c : Collector) (run : Run) (still : IsAfterStop scri
     sound = still.kept.sound;
     lists = still.kept.lists;
     has_words = still.kept.has_words;
-    list = still.kept.list;
     count = reserved.count ∙ still.kept.count;
     own = own;
     positions_are = still.kept.positions_are;

@@ -181,7 +181,6 @@ module _ (laws : BeginningLaws) (script : Script) (c : Collector) (s : State) (h
     sound = st.sound;
     lists = subst (λ (l : Layout). IsFor l c.promotion) (sym layout_is) h.kept.lists;
     has_words = h.kept.has_words;
-    list = h.kept.list;
     count = st.queue_room.count ∙ given.count ∙ h.kept.count;
     own = own_then;
     positions_are = h.kept.positions_are;

@@ -137,7 +137,6 @@ module _ (laws : SweepingLaws) (script : Script) (c : Collector) (st : State) (k
     sound = sw.sound;
     lists = subst (λ (l : Layout). IsFor l c.promotion) (sym sw.swept.layout) h.kept.lists;
     has_words = h.kept.has_words;
-    list = h.kept.list;
     count = h.kept.count;
     own = λ n x e. let own = h.kept.own n x e in record { number = own.number; layout = own.layout ∙ sym sw.swept.layout; whole = own.whole; no_replies = own.no_replies };
     positions_are = h.kept.positions_are;

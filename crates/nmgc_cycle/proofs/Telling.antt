@@ -17,7 +17,6 @@ kept_told script old new rest k = subst (λ (x : Collector). IsWellFormed script
   sound = k.sound;
   lists = k.lists;
   has_words = k.has_words;
-  list = k.list;
   count = k.count;
   own = λ n m e. let o = k.own n m e in record { number = o.number; layout = o.layout; whole = o.whole; no_replies = o.no_replies };
   positions_are = k.positions_are;

@@ -1,6 +1,5 @@
 -- The report of a run that has ended.
-use Rattle.std.proofs.Common.{ℕ, ◌≡◌, List, [], ◌∷◌, length, map, refl, sym, ap, ◌∙◌, Option, Some, None}
-use Rattle.std.specs.Prelude.{IfSome, IsSome}
+use Rattle.std.proofs.Common.{ℕ, ◌≡◌, List, [], ◌∷◌, map, refl, sym, ap, ◌∙◌, Option, Some}
 use Rattle.nmgc_graph.specs.declared.value.Name.{Name}
 use Rattle.nmgc_journal.specs.declared.report.CycleRow.{CycleRow}
 use Rattle.nmgc_journal.specs.declared.report.MutatorEnd.{MutatorEnd}
@@ -52,12 +51,6 @@ same_parts c end cycles words mutators weaks cycles_are words_are mutators_are w
     ∙ ap (λ (names : List Name). record (report_of c end) { cycles = cycles; words = words; mutators = mutators; weaks = names }) (sym weaks_are)
     )
 
--- a list is as long as the words, if there are any
-pub as_long : (words : Option (List ℕ)) (list : List ℕ) → length list ≡ length (words_in words) → IfSome words (λ w. length list ≡ length w)
-as_long None list e = tt
-as_long (Some w) list e = e
-
--- and it has them once they were copied
-pub words_copied : (words : Option (List ℕ)) (list : List ℕ) → IsSome words → IfSome words (λ w. list ≡ w) → list ≡ words_in words
-words_copied None list some h = absurd cc
-words_copied (Some w) list some h = h
+-- the words are those that are there
+pub words_had : (words : Option (List ℕ)) (w : List ℕ) → words ≡ Some w → w ≡ words_in words
+words_had words w e = ap words_in (sym e)

@@ -52,7 +52,6 @@ pub record IsWellFormed (script : Script) (c : Collector) : Type 0 where
   pub sound : IsSegments c.segments
   pub lists : IsFor c.segments.layout c.promotion
   pub has_words : IsSome c.words
-  pub list : length c.list.items ≡ length (seen c).words
   pub count : length c.mutators.items ≡ length script.threads
   pub own : (k : ℕ) (m : Mutator) → slice_get c.mutators.items k ≡ Some m → IsOwn c k m
   pub positions_are : length c.positions.items ≡ length script.threads

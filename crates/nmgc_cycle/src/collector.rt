@@ -1,12 +1,12 @@
 //! A collector: how a run begins, how it goes on, and what it tells in the end.
 //!
 //! Here is the memory that grows with the heap, and most of it is taken at the beginning: the words in their table,
-//! a list as long as the words, the segments, and the lists of promotion. So a run holds the words twice. The marker's
-//! queue and the sweeper's notes are taken as each cycle begins.
+//! the segments, and the lists of promotion. The table is made from a list of as many words, which is given back at
+//! once. The marker's queue and the sweeper's notes are taken as each cycle begins.
 //!
-//! The report is made where nothing can fail any more. So its words go into the list that the run began with,
-//! and what the mutators have in hand into a list whose room was made then; in between the first keeps its length
-//! and the second stays empty (`IsKept` of `specs/Keeps.antt`).
+//! The report is made where nothing can fail any more. So its words are those of the table, where they lie, and what
+//! the mutators have in hand goes into a list whose room was made at the beginning; in between that one stays empty
+//! (`IsWellFormed` of `specs/Keeps.antt`).
 //!
 //! A run ends: a round answers a command where any is left, since a slice has room for one command at least and a
 //! nursery for the largest object; and where none is left it leads the cycle in progress on, after which at most one
@@ -14,7 +14,7 @@
 //!
 //! Easy to get wrong: what is left of a program is what no round answered, and a command that waits for room in
 //! the nursery was not answered.
-ghost use Rattle.std.specs.Prelude.{◌≡◌, ℕ, ◌+◌, ◌<◌, ◌≤◌, ◌⊎◌, [], length, map, slice_get, slice_index, vec_len, vec_capacity, Some, IfOk, IfSome};
+ghost use Rattle.std.specs.Prelude.{◌≡◌, ℕ, ◌+◌, ◌<◌, ◌≤◌, ◌⊎◌, [], length, map, slice_get, slice_index, vec_len, vec_capacity, Some, IfOk};
 ghost use Rattle.nmgc_graph.specs.declared.value.TheConstants.{SHARED_SLOTS};
 ghost use Rattle.nmgc_object.specs.declared.layout.TheConstants.{SHARED_PLACE};
 ghost use Rattle.nmgc_object.specs.declared.size.TheConstants.{HEADER_WORDS};
@@ -37,7 +37,7 @@ use crate::progress::Progress;
 use crate::stop::StopEnd;
 use nmgc_alloc::Segments;
 use nmgc_graph::{Kind, List, Name, NoMemory, Place, SHARED_SLOTS};
-use nmgc_journal::{CycleRow, End, MutatorEnd, Report, RoundRows, StopRow};
+use nmgc_journal::{CycleRow, End, FinalWords, MutatorEnd, Report, RoundRows, StopRow};
 use nmgc_minor::Promotion;
 use nmgc_mutator::Mutator;
 use nmgc_object::layout::SHARED_PLACE;
@@ -57,8 +57,6 @@ pub struct Collector {
     pub(crate) alloc: Global,
     // The words of the heap. They are away only within a round.
     pub(crate) words: Option<Words>,
-    // As many words, for the report.
-    pub(crate) list: Vec<u64>,
     pub(crate) segments: Segments,
     pub(crate) promotion: Promotion,
     // The weak pointers that are alive and have a block.
@@ -91,7 +89,6 @@ pub struct Collector {
 // Where those lists of a report will lie that are made as the run ends, when no memory may be taken.
 #[derive(Drop)]
 pub(crate) struct Places {
-    words: Place<u64>,
     mutators: Place<MutatorEnd>,
     weaks: Place<Name>,
 }
@@ -99,7 +96,6 @@ pub(crate) struct Places {
 impl Places {
     fn new(alloc: Global) -> Result<Places, NoMemory> {
         Ok(Places {
-            words: Place::new(alloc)?,
             mutators: Place::new(alloc)?,
             weaks: Place::new(alloc)?,
         })
@@ -154,12 +150,22 @@ fn new_mutators(alloc: Global, layout: Layout) -> Result<Vec<Mutator>, NoMemory>
     Ok(mutators)
 }
 
+// The words of a new run, in their table. The list that they are copied from is given back.
+fn new_words(alloc: Global, layout: Layout) -> Result<Words, NoMemory>
+    requires { IsLayout layout }
+    ensures { IfOk result (IsEmptyHeap layout) }
+{
+    let list = empty_words(alloc, layout)?;
+    Words::new(alloc, list.as_slice())
+}
+
 impl Collector {
     /// The collector of a script's run, before its first stop: no command was answered, the registers and g are
     /// full of nil, every segment is free, and the collector passed no gate.
     ///
-    /// Asks that the script is within the limits. Takes memory for the words, twice, for the segments with their marks,
-    /// and for what the promotion of full nurseries needs; what a cycle needs is taken as it begins.
+    /// Asks that the script is within the limits. Takes memory for the words, and for as many again until they lie in
+    /// their table, for the segments with their marks, and for what the promotion of full nurseries needs; what a
+    /// cycle needs is taken as it begins.
     pub fn new(alloc: Global, script: &Script) -> Result<Collector, NoMemory>
         requires { IsInLimits script.now }
         ensures fresh { IfOk result (λ collector. IsFresh script.now collector) }
@@ -167,8 +173,7 @@ impl Collector {
     {
         empty_heap_opens();
         let layout = layout_of(script);
-        let list = empty_words(alloc, layout)?;
-        let words = Words::new(alloc, list.as_slice())?;
+        let words = new_words(alloc, layout)?;
         let segments = Segments::new(alloc, layout)?;
         let promotion = Promotion::reserve(alloc, layout)?;
         let mutators = new_mutators(alloc, layout)?;
@@ -179,7 +184,6 @@ impl Collector {
         Ok(Collector {
             alloc,
             words: Some(words),
-            list,
             segments,
             promotion,
             weaks: Weaks::new(alloc),
@@ -231,7 +235,7 @@ impl Collector {
     /// The report of the run. Asks that the run has ended so, as its last stop answered.
     ///
     /// Its rows, words and segments are those of the collector, and each mutator's registers, queue and serial
-    /// are told as they are. Takes no memory, and time for each word of the heap.
+    /// are told as they are. Takes no memory, and copies no word of the heap.
     pub fn into_report(self, end: End) -> Report
         requires { (script : ScriptSeen) × HasEnded script self end }
         ensures parts { result ≡ report_of self end }
@@ -240,7 +244,6 @@ impl Collector {
         let Collector {
             alloc: _,
             words,
-            list,
             segments,
             promotion: _,
             weaks,
@@ -258,31 +261,19 @@ impl Collector {
             ends,
             places,
         } = self;
-        let words = copied(words, list);
+        let words = words.unwrap().close();
         let ends = all_ends(mutators, ends);
         Report {
             rounds,
             stops,
             cycles,
-            words: List::in_place(words, places.words),
+            words: FinalWords::of_table(words),
             segments,
             mutators: List::in_place(ends, places.mutators),
             weaks: weaks.into_names(places.weaks),
             end,
         }
     }
-}
-
-// The words, in the list that the run began with.
-fn copied(words: Option<Words>, list: Vec<u64>) -> Vec<u64>
-    requires { IfSome words (λ w. length list.items ≡ length w) }
-    ensures { IfSome words (λ w. result.items ≡ w) }
-{
-    let mut list = list;
-    if let Some(words) = words {
-        words.copy_out(list.as_mut_slice());
-    }
-    list
 }
 
 // What the mutators have in hand as the run ends, in a list that has room for it.

@@ -250,6 +250,21 @@ fn runs_have_these_reports(rt: HostRuntime) -> Result<(), Fail> {
     Ok(())
 }
 
+// Word 0 belongs to nobody. After it come g's header, 3 + 2048 * 16 for an array of 16 fields, its name and its slots: in
+// the first two are pointers to 0.0 at word 32 and to 1.0 in the next segment, and in the third is nil.
+#[test]
+fn a_report_has_the_words_of_the_heap(rt: HostRuntime) -> Result<(), Fail> {
+    let script = script_of(rt.alloc(), EXCHANGE)?;
+    let report = Collector::run(rt.alloc(), &rt, &script, &OpenGate)?;
+    let words = &report.words;
+    // 32 words with g, 32 segments of 64 words, and a nursery of 64 words for each of two mutators.
+    assert_eq!(rt; words.len(), 32 + 32 * 64 + 2 * 64);
+    for (place, word) in [0, 32771, 8, 64, 192, 1].iter().enumerate() {
+        assert!(rt; place < words.len() && words.word(place) == *word);
+    }
+    Ok(())
+}
+
 #[test]
 fn cycles_have_these_reports(rt: HostRuntime) -> Result<(), Fail> {
     for (script, report) in &CYCLES {

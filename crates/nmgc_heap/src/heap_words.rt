@@ -2,8 +2,7 @@
 //!
 //! At a stop one thread reads and writes all words of the heap. What it does there is written once, over
 //! this trait: the table that lasts for the run implements it where one seat is the only one, and a plain
-//! list implements it for tests and for the report. A load takes the heap for writing, since a seat of
-//! the table learns by it.
+//! list implements it for tests. A load takes the heap for writing, since a seat of the table learns by it.
 ghost use Rattle.std.specs.Prelude.{◌≡◌, ◌<◌, ℕ, List, length, set, slice_index};
 
 use nmgc_graph::List;

@@ -10,6 +10,7 @@
 //! contract can say of a whole run that the words still stand for the world which the replies made.
 //!
 //! Easy to get wrong: one stop may end two cycles, the one in progress and a full one.
+use crate::final_words::FinalWords;
 use crate::replies::Replies;
 use nmgc_alloc::Segments;
 use nmgc_graph::{List, Name};
@@ -103,7 +104,7 @@ pub struct Report {
     /// The cycles, in the order of their numbers.
     pub cycles: List<CycleRow>,
     /// All words of the heap, from word 0 on.
-    pub words: List<u64>,
+    pub words: FinalWords,
     /// The segments of the heap.
     pub segments: Segments,
     /// The mutators, in order of their numbers.

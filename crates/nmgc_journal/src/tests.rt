@@ -63,7 +63,7 @@ fn report_of(
         rounds,
         stops,
         cycles,
-        words: List::new(alloc),
+        words: FinalWords::from_vec(Vec::new(alloc)),
         segments: Segments::new(alloc, layout)?,
         mutators: List::new(alloc),
         weaks: List::new(alloc),
@@ -114,6 +114,14 @@ fn values_of_any_size_are_kept(rt: HostRuntime) -> Result<(), Fail> {
         assert!(rt; replies.reply(0) == all[0]);
         assert!(rt; replies.reply(1) == all[1]);
     }
+    Ok(())
+}
+
+#[test]
+fn final_words_are_those_of_their_vector(rt: HostRuntime) -> Result<(), Fail> {
+    let words = FinalWords::from_vec(Vec::from_slice(rt.alloc(), &[3, 1, 4])?);
+    assert_eq!(rt; words.len(), 3);
+    assert_eq!(rt; words.word(2), 4);
     Ok(())
 }
 

@@ -5,7 +5,6 @@ pub mod Commands
 pub mod Cuts
 pub mod Exchanges
 pub mod Fields
-pub mod Filling
 pub mod Finishings
 pub mod Fixes
 pub mod Frames

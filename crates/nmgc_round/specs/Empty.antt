@@ -14,7 +14,7 @@ use Rattle.nmgc_object.specs.declared.size.TheConstants.{HEADER_WORDS}
 use Rattle.nmgc_object.specs.declared.words.TheConstants.{NIL_WORD}
 use Rattle.nmgc_core.specs.State.{unmarked}
 use Rattle.nmgc_heap.specs.Shape.{header_of}
-use Rattle.nmgc_heap.specs.Places.{Place, shared_place}
+use Rattle.nmgc_heap.specs.Places.{shared_place}
 use Rattle.nmgc_round.specs.View.{Hand, Opening}
 
 -- g, full of nil

@@ -152,6 +152,19 @@ fn small(mutators: u8) -> Layout
     }
 }
 
+// The words of a table that is closed.
+fn words_of(alloc: Global, words: Words) -> Result<Vec<u64>, NoMemory> {
+    let mut left = Vec::from_elem(alloc, 0u64, words.len())?;
+    let closed = words.close();
+    for (at, word) in left.iter_mut().enumerate() {
+        if at < closed.words.len() {
+            *word = closed.word(at);
+        }
+    }
+    closed.free();
+    Ok(left)
+}
+
 #[test]
 fn what_each_mutator_did_stands_in_the_words(rt: HostRuntime) -> Result<(), Fail> {
     for mutators in 1..9u8 {
@@ -164,8 +177,7 @@ fn what_each_mutator_did_stands_in_the_words(rt: HostRuntime) -> Result<(), Fail
         words.store(0, 5);
         let stored = words.load(0);
         assert_eq!(rt; stored, 5);
-        let mut left = Vec::from_elem(rt.alloc(), 0u64, words.len())?;
-        words.copy_out(left.as_mut_slice());
+        let left = words_of(rt.alloc(), words)?;
         for mutator in 0..mutators {
             let done = is_done(left.as_slice(), &layout, mutator);
             assert!(rt; done, "mutator {mutator} of {mutators}");

@@ -1,6 +1,6 @@
 //! The words of a run, where one thread alone reads and writes them.
 //!
-//! They lie in one table from the beginning of the run to its report. Between rounds the table has one seat
+//! They lie in one table from the beginning of the run on; closed, it is the report's. Between rounds the table has one seat
 //! that may step, and its view is the list of all words: so a load tells the word, a store changes the
 //! list, and contracts see the whole as that list. A round takes the words and gives them back, and copies
 //! none. Code for a stop is written over the trait `HeapWords`, which a plain list implements too.
@@ -85,15 +85,15 @@ impl Words {
         table.shared.store::<Writes>(seat, at, word)
     }
 
-    /// Copies every word out, into as many, and gives the table's memory back. Takes no memory.
-    pub fn copy_out(self, words: &mut [u64])
-        requires { length words.old ≡ length self }
-        ensures { words.new ≡ self }
+    /// The table, closed: it has these words, all of them and nothing else, and nobody writes them any more. Copies none
+    /// and takes no memory. Whoever has the table gives its memory back, by `Closed::free`.
+    pub fn close(self) -> Closed<(), Global>
+        ensures full { IsFull result.words }
+        ensures words { slots_items result.words ≡ self }
+        ensures bare { slots_len result.slots ≡ 0 }
     {
         let Words { table, seat } = self;
-        let closed = table.close_with(seat);
-        copy(words, &closed);
-        closed.free();
+        table.close_with(seat)
     }
 }
 
@@ -106,15 +106,5 @@ impl HeapWords for Words {
 
     fn store(&mut self, at: usize, word: u64) {
         Words::store(self, at, word)
-    }
-}
-
-// Every word, one by one.
-fn copy(words: &mut [u64], closed: &Closed<(), Global>)
-    requires { IsFull closed.now.words × (length words.old ≡ slots_len closed.now.words) }
-    ensures { words.new ≡ slots_items closed.now.words }
-{
-    for i in 0..words.len() {
-        words[i] = closed.word(i);
     }
 }

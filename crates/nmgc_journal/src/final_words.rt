@@ -1,0 +1,93 @@
+//! The words of a heap that nobody writes any more.
+//!
+//! The words of a run lie in one table. As the run ends the table is closed, and the report has them where they lie:
+//! it copies none. Words in a vector are final words too, for whoever makes a report by hand. Where they lie is no part
+//! of their value: contracts see a list.
+//!
+//! Easy to get wrong: a closed table isn't let go of by itself, so a type of its own gives its memory back.
+ghost use Rattle.std.specs.Prelude.{◌≡◌, ◌<◌, length, slice_index};
+ghost use Rattle.std.specs.Slots.{slots_items, slots_len, IsFull};
+
+use atomic_table::Closed;
+use std::alloc::Global;
+use std::marker::Model;
+
+/// Words in order, which can be read and not written.
+#[derive(Drop)]
+pub struct FinalWords {
+    storage: Storage,
+}
+
+impl Model for FinalWords {
+    ghost use Rattle.std.specs.Prelude.{ℕ, List};
+    ghost use Rattle.nmgc_journal.specs.Final.{words_of};
+
+    ghost Value = { List ℕ };
+
+    ghost view = { λ w. words_of w.storage };
+}
+
+// Where they lie.
+#[derive(Drop)]
+enum Storage {
+    Vector(Vec<u64>),
+    Table(FullTable),
+}
+
+// A closed table that has every word, and no slot.
+struct FullTable {
+    closed: Closed<(), Global>,
+    ghost full: { IsFull closed.words },
+    ghost bare: { slots_len closed.slots ≡ 0 },
+}
+
+impl Drop for FullTable {
+    fn drop(self) {
+        let FullTable { closed } = self;
+        closed.free();
+    }
+}
+
+impl FinalWords {
+    /// The words of a vector. Takes no memory.
+    pub fn from_vec(words: Vec<u64>) -> FinalWords
+        ensures { result ≡ words.items }
+    {
+        FinalWords {
+            storage: Storage::Vector(words),
+        }
+    }
+
+    /// The words of a closed table, where they lie. Asks that the table has every word and no slot, as `Words::close`
+    /// of `nmgc_round` leaves it. Takes no memory.
+    pub fn of_table(closed: Closed<(), Global>) -> FinalWords
+        requires full { IsFull closed.words }
+        requires bare { slots_len closed.slots ≡ 0 }
+        ensures { result ≡ slots_items closed.words }
+    {
+        FinalWords {
+            storage: Storage::Table(FullTable { closed }),
+        }
+    }
+
+    /// How many words there are.
+    pub fn len(&self) -> usize
+        ensures { result ≡ length self.now }
+    {
+        match &self.storage {
+            Storage::Vector(words) => words.len(),
+            Storage::Table(full) => full.closed.words.len(),
+        }
+    }
+
+    /// The word at a place.
+    pub fn word(&self, at: usize) -> u64
+        requires { at < length self.now }
+        ensures { result ≡ slice_index self.now at }
+    {
+        match &self.storage {
+            Storage::Vector(words) => words[at],
+            Storage::Table(full) => full.closed.word(at),
+        }
+    }
+}
