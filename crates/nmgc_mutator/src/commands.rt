@@ -41,13 +41,6 @@ use nmgc_object::{
 };
 use nmgc_round::{MutatorSeat, Round};
 
-// The header with these parts.
-fn header_of(kind: Kind, tag: u8, fields: u32) -> Header
-    ensures { result ≡ record { kind = kind; tag = tag; fields = fields } }
-{
-    Header { kind, tag, fields }
-}
-
 impl Mutator {
     // The word of an operand.
     pub(crate) fn word(&self, operand: Operand) -> u64
@@ -540,23 +533,17 @@ impl Mutator {
         requires room { HasStepRoom self.old command.now }
         ensures { Acts round.now (seen seat.old) seat.new self.old self.new command.now result }
     {
-        let (dest, header) = match command {
+        let (dest, kind, tag, fields) = match command {
             Command::Con { dest, tag, fields } => {
-                (
-                    dest,
-                    header_of(Kind::Con, *tag, fields.items().len() as u32),
-                )
+                (dest, Kind::Con, *tag, fields.items().len() as u32)
             }
-            Command::Var { dest, .. } => (dest, header_of(Kind::Var, 0, VAR_FIELDS)),
-            Command::Arr { dest, count, .. } => (dest, header_of(Kind::Arr, 0, *count)),
+            Command::Var { dest, .. } => (dest, Kind::Var, 0, VAR_FIELDS),
+            Command::Arr { dest, count, .. } => (dest, Kind::Arr, 0, *count),
             Command::Thunk { dest, free } => {
-                (
-                    dest,
-                    header_of(Kind::Thunk, 0, free.items().len() as u32 + 1),
-                )
+                (dest, Kind::Thunk, 0, free.items().len() as u32 + 1)
             }
-            Command::Weak { dest, .. } => (dest, header_of(Kind::Weak, 0, WEAK_FIELDS)),
-            Command::Stack { dest, size } => (dest, header_of(Kind::Stack, 0, *size)),
+            Command::Weak { dest, .. } => (dest, Kind::Weak, 0, WEAK_FIELDS),
+            Command::Stack { dest, size } => (dest, Kind::Stack, 0, *size),
             Command::Num { dest, number } => {
                 return self.num(round, seat, *dest, *number, command);
             }
@@ -607,6 +594,7 @@ impl Mutator {
                 return self.yields(round, seat, command);
             }
         };
+        let header = Header { kind, tag, fields };
         self.make(round, seat, *dest, header, command)
     }
 
