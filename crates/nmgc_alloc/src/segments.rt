@@ -10,22 +10,24 @@
 //! Easy to get wrong: the number of a current segment may be of one that was filled or retired since,
 //! so its state is looked at; and the table is right about the absence of a current segment only
 //! because it is written each time that one becomes current.
-ghost use Rattle.std.specs.Prelude.{ℕ, ◌≡◌, ◌≢◌, ◌↔◌, ◌<◌, ◌≤◌, map, replicate, count_by, slice_set, IsTrue, IfOk, IfSome, IfNone};
+ghost use Rattle.std.specs.Prelude.{ℕ, ◌≡◌, ◌≢◌, ◌↔◌, ◌<◌, ◌≤◌, map, min, replicate, count_by, slice_set, IsTrue, IfOk, IfSome, IfNone};
 ghost use Rattle.nmgc_object.specs.Places.{IsLayout};
 ghost use Rattle.nmgc_segment.specs.Marks.{IsEpoch};
 ghost use Rattle.nmgc_segment.specs.Segment.{free_segment, block_count};
 ghost use Rattle.nmgc_alloc.specs.CycleSteps.{prepared, carried_over, retired};
-ghost use Rattle.nmgc_alloc.specs.Search.{is, nth, IsKind, tally_from};
+ghost use Rattle.nmgc_alloc.specs.Search.{is, nth, sought_count, IsKind, tally_from};
+ghost use Rattle.nmgc_alloc.specs.Halves.{IsInHalf, SweepsMany, HasSweptBytes, FirstSwept, Settles, SettlesNext};
 
-use crate::cycle_steps;
 use crate::search::{self, Sought};
 use crate::tables::{CLASSES, KINDS, PAIRS};
 use crate::tally::Tally;
+use crate::{cycle_steps, halves};
 use nmgc_graph::{MAKERS, NoMemory};
 use nmgc_object::{Address, FIRST_PLACE, Layout, block_words};
 use nmgc_segment::{Segment, State, Swept};
 use std::alloc::Global;
 use std::marker::Model;
+use std::thread::Threads;
 
 /// The segments of a heap, in order of their numbers.
 #[derive(Drop)]
@@ -403,6 +405,86 @@ impl Segments {
         let number = self.least(Sought::Sweeping)?;
         self.sweep(number, epoch);
         Some(number)
+    }
+
+    /// Sweeps the lesser of `quota` and the number of segments to be swept, those of least number, and answers how many
+    /// these are: afterwards all is as so many calls of `sweep_next` leave it.
+    ///
+    /// Their mark bytes are swept in two halves, in two threads; the lower half has one segment more where they are odd.
+    /// Where a thread can't be started, and for a single segment, the caller does it. `before` is called before each,
+    /// with the half, 0 or 1, and the number within it from 0. Takes no memory.
+    pub fn sweep_many<R: Threads + Sync, F: Fn(u8, u32) + Sync>(
+        &mut self,
+        rt: &R,
+        epoch: u8,
+        quota: u32,
+        before: &F,
+    ) -> u32
+        requires epoch { IsEpoch epoch }
+        requires before { (half i : ℕ) → IsInHalf (min quota (sought_count Sought.Sweeping self.old.segments)) half i → F.pre before.now half i }
+        ensures count { result ≡ min quota (sought_count Sought.Sweeping self.old.segments) }
+        ensures swept { SweepsMany epoch result self.old self.new }
+        ensures sound { IsSegments self.new }
+    {
+        let count = quota.min(self.sweep_count());
+        self.sweep_bytes(rt, epoch, count, before);
+        for _settled in 0..count {
+            self.settle_next(epoch);
+        }
+        count
+    }
+
+    // Sweeps the mark bytes of so many segments that wait, the first of them.
+    fn sweep_bytes<R: Threads + Sync, F: Fn(u8, u32) + Sync>(
+        &mut self,
+        rt: &R,
+        epoch: u8,
+        count: u32,
+        before: &F,
+    )
+        requires epoch { IsEpoch epoch }
+        requires enough { count ≤ sought_count Sought.Sweeping self.old.segments }
+        requires before { (half i : ℕ) → IsInHalf count half i → F.pre before.now half i }
+        ensures rest { self.new ≡ record self.old { segments = self.new.segments } }
+        ensures swept { FirstSwept epoch count self.old.segments self.new.segments }
+        ensures sound { IsSegments self.new }
+    {
+        let from = self.tallies[Sought::Sweeping.place()].from as usize;
+        halves::sweep_from(rt, before, epoch, count, from, self.segments.as_mut_slice());
+    }
+
+    // Puts the segment of least number that waits, and whose bytes were swept, into its state.
+    fn settle_next(&mut self, epoch: u8)
+        requires epoch { IsEpoch epoch }
+        requires some { HasNone Sought.Sweeping self.old → ⊥ }
+        requires swept { (number : ℕ) → IsLeast Sought.Sweeping self.old number → HasSweptBytes epoch (nth self.old.segments number) (nth self.old.segments number) }
+        ensures settles { (number : ℕ) × SettlesNext self.old self.new number }
+        ensures sound { IsSegments self.new }
+    {
+        let Some(number) = self.least(Sought::Sweeping) else {
+            unreachable!();
+        };
+        self.settle(number, epoch);
+    }
+
+    // Puts a segment whose bytes were swept into its state, and notes it.
+    fn settle(&mut self, number: u32, epoch: u8)
+        requires epoch { IsEpoch epoch }
+        requires least { IsLeast Sought.Sweeping self.old number }
+        requires swept { HasSweptBytes epoch (nth self.old.segments number) (nth self.old.segments number) }
+        ensures settles { Settles (nth self.old.segments number) (nth self.new.segments number) }
+        ensures others { self.new ≡ record self.old { segments = slice_set self.old.segments number (nth self.new.segments number) } }
+        ensures sound { IsSegments self.new }
+    {
+        let segment = &mut self.segments[number as usize];
+        let class = segment.class();
+        let swept = cycle_steps::settle(segment, epoch);
+        self.tallies[Sought::Sweeping.place()].leave(number, self.layout.segments);
+        match swept {
+            Swept::Free => self.tallies[Sought::Free.place()].enter(number),
+            Swept::Active => self.tallies[Sought::Active { class }.place()].enter(number),
+            Swept::Filled => self.filled = self.filled + 1,
+        }
     }
 
     // Sweeps a segment, and notes in which state it is now.

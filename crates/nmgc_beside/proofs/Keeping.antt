@@ -1,5 +1,5 @@
 -- A marking cycle, kept over a round, a promotion and an add; and its pace.
-use Rattle.std.proofs.Common.{◌≡◌, ◌≢◌, ◌-◌, ◌*◌, ◌<◌, ◌≤◌, ◌↔◌, ℕ, true, false, List, [], ◌∷◌, map, length, refl, sym, ap, subst, ◌∙◌, arith, inl, inr, Some}
+use Rattle.std.proofs.Common.{◌≡◌, ◌≢◌, ◌-◌, ◌*◌, ◌<◌, ◌≤◌, ℕ, true, false, List, [], ◌∷◌, map, length, refl, sym, ap, subst, ◌∙◌, arith, inl, inr, Some}
 use Rattle.std.specs.Prelude.{Contains, slice_get}
 use Rattle.std.specs.List.{filter}
 use Rattle.nmgc_graph.specs.declared.value.Name.{Name}
@@ -12,7 +12,7 @@ use Rattle.nmgc_core.specs.declared.event.Entry.{Entry}
 use Rattle.nmgc_core.specs.Machine.{is_pushed_in}
 use Rattle.nmgc_core.specs.State.{State as Core, names_of, opening}
 use Rattle.nmgc_segment.specs.declared.state.State.TheVariants as stands
-use Rattle.nmgc_alloc.specs.AllocState.{AllocState, IsOne, IsIn, LiesIn, cycle_begun}
+use Rattle.nmgc_alloc.specs.AllocState.{AllocState, IsOne, IsIn, cycle_begun}
 use Rattle.nmgc_heap.specs.Places.{Place}
 use Rattle.nmgc_round.specs.Events.{rows_in}
 use Rattle.nmgc_round.specs.Finishing.{IsFinished, places_then}
@@ -94,8 +94,6 @@ still_noted : (c d : Cycle) (old new : SweeperSeen) → d.number ≡ c.number �
 still_noted c d old new number heap same n = subst (HasNoted d) (sym same) (record {
   epoch = n.epoch ∙ ap (λ k. epoch_of k) (sym number);
   swept = subst (λ (a : AllocState). ListsNumbers (λ k. IsOne (IsIn stands.Filled) a k) old.swept) (sym heap) n.swept;
-  had = subst (λ (a : AllocState). (name : Name) → Contains old.had name ↔ ((k : ℕ) × (block : ℕ) × IsOne (IsIn stands.Filled) a k × LiesIn a k block name)) (sym heap) n.had;
-  once = n.once;
 })
 
 -- over a round: with the machine as it goes on, and a marker that is tied to it and has room

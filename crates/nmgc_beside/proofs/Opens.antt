@@ -82,7 +82,7 @@ module _ (c : Cycle) (core : State) (s : Segments) (places : List Place) (w : Wo
     in_segments = λ p d m lt. inl (below p d m);
   }
 
-  -- sixteen words of the one list are a mutator's own
+  -- so many words of the one list as a mutator has registers are its own
   hand_at : (m : ℕ) → m < s.layout.mutators → HandStands o m (get_or o.hands m no_hand)
   hand_at m lt =
       let many = h.count in

@@ -22,7 +22,8 @@ use Rattle.nmgc_round.specs.Rule.{now, Owes, AreOwed}
 use Rattle.nmgc_round.specs.Starting.{CanOpen}
 use Rattle.nmgc_round.specs.Finishing.{IsFinished, places_then}
 use Rattle.nmgc_mutator.specs.declared.mutator.Mutator.{Mutator}
-use Rattle.nmgc_mutator.specs.Records.{numbers, all_pushed}
+use Rattle.nmgc_mutator.specs.Does.{remembered as remembered_of}
+use Rattle.nmgc_mutator.specs.Records.{all_pushed}
 use Rattle.nmgc_turn.specs.Worked.{Done, HaveWorked}
 use Rattle.nmgc_turn.specs.laws.Gathered.{own_part, parts_are, slice_at}
 use Rattle.nmgc_turn.specs.laws.Reading.{item, item_found}
@@ -42,8 +43,8 @@ slices_owed o before round old mutators seats done scans opens h nothing k p n t
     let s = slice_at o before round old mutators seats done opens h k seat.0 seat.1 in
     let both : Some s.n ≡ Some n = sym s.new ∙ new in
     let is : s.n ≡ n = cc in
-    let own : numbers s.n.updrem.items ≡ all_pushed o.layout (own_part seat.0).owed = s.did.pushed ∙ ap (λ l. numbers l ++ all_pushed s.m.layout s.did.owed) (nothing k s.m s.was) ∙ (λ i. all_pushed (s.resting.layout_is i) (sym s.did.went.owed_is i)) in
-    subst (λ (y : Mutator × Part). numbers y.0.updrem.items ≡ all_pushed o.layout y.1.owed) (λ i. (is i, sym seat.2 i)) own
+    let own : remembered_of s.n ≡ all_pushed o.layout (own_part seat.0).owed = s.did.pushed ∙ ap (λ l. l ++ all_pushed s.m.layout s.did.owed) (nothing k s.m s.was) ∙ (λ i. all_pushed (s.resting.layout_is i) (sym s.did.went.owed_is i)) in
+    subst (λ (y : Mutator × Part). remembered_of y.0 ≡ all_pushed o.layout y.1.owed) (λ i. (is i, sym seat.2 i)) own
 
 module _ (c : Cycle) (o : Opening) (before words : List ℕ) (v : Seen) (mutators : List Mutator) (done : List (List Done)) (on : o.marking ≡ true) (can : CanOpen o before) (rest : IsMachineAtRest c o.core.world o.core) (h : IsFinished o words v) (worked : HaveWorked o v.parts mutators done) (owed : HaveOwed o v.parts mutators) where
   -- the state after the events of the round
@@ -90,7 +91,7 @@ module _ (c : Cycle) (o : Opening) (before words : List ℕ) (v : Seen) (mutator
   -- a mutator of the round with its part
   record IsOwn (k : ℕ) (m : Mutator) : Type 0 where
     part : Part
-    entries : numbers m.updrem.items ≡ all_pushed o.layout part.owed
+    entries : remembered_of m ≡ all_pushed o.layout part.owed
     owes : AreOwed (IsIn o h.born) part.owed (names_of then.owed k)
 
   own_at : (k : ℕ) (m : Mutator) → slice_get mutators k ≡ Some m → IsOwn k m
@@ -110,7 +111,7 @@ module _ (c : Cycle) (o : Opening) (before words : List ℕ) (v : Seen) (mutator
   none_before : (k : ℕ) → names_of then.pushed k ≡ []
   none_before k = ap (λ (l : List (List Name)). names_of l k) left.pushed ∙ each_empty o.core.pushed rest.none_pushed k
 
-  remembered : (k : ℕ) (m : Mutator) → slice_get mutators k ≡ Some m → AreRemembered (with_rows c (rows_in h.events)) (places_then o h.born) (numbers m.updrem.items) (names_of core.pushed k)
+  remembered : (k : ℕ) (m : Mutator) → slice_get mutators k ≡ Some m → AreRemembered (with_rows c (rows_in h.events)) (places_then o h.born) (remembered_of m) (names_of core.pushed k)
   remembered k m e =
       let own = own_at k m e in
       let f = all_found o before words v can h own.part.owed own.owes.0 own.owes.1 in
@@ -127,7 +128,7 @@ module _ (c : Cycle) (o : Opening) (before words : List ℕ) (v : Seen) (mutator
             ∙ sym (all.1.pushed_is k);
       })
 
-  low : (k : ℕ) (m : Mutator) → slice_get mutators k ≡ Some m → (at : ℕ) → Contains (numbers m.updrem.items) at → at < nursery_place o.layout 0
+  low : (k : ℕ) (m : Mutator) → slice_get mutators k ≡ Some m → (at : ℕ) → Contains (remembered_of m) at → at < nursery_place o.layout 0
   low k m e at d = let own = own_at k m e in pushed_low o.layout own.part.owed at (subst (λ (l : List ℕ). Contains l at) own.entries d)
 
   goes_on : (t : State) × GoesOn c o words v h mutators t

@@ -88,8 +88,8 @@ waiting_member = record { sound = waiting_sound; words = refl; active_room = λ 
 free_member : IsMember array_layout (free_segment 16)
 free_member = record { sound = free_sound; words = refl; active_room = λ e. absurd cc; current_room = λ m e. absurd cc; owner = λ m e. absurd cc }
 
-free_there : (k : ℕ) → suc k < 8 → nth (replicate 7 (free_segment 16)) k ≡ free_segment 16
-free_there k lt = nth_free array_layout 7 k (omega arith)
+free_there : (k : ℕ) → suc k < 18 → nth (replicate 17 (free_segment 16)) k ≡ free_segment 16
+free_there k lt = nth_free array_layout 17 k (omega arith)
 
 members : (number : ℕ) → HasNumber marking_seen.segments number → IsMember array_layout (nth marking_seen.segments.segments number)
 members zero lt = waiting_member
@@ -98,7 +98,7 @@ members (suc k) lt = subst (IsMember array_layout) (sym (free_there k lt)) free_
 none_current : (mutator class number : ℕ) → IsOwn marking_seen.segments mutator class number → ⊥
 none_current mutator class zero own = let e = own.is.0 in absurd cc
 none_current mutator class (suc k) own =
-    let e : (nth (replicate 7 (free_segment 16)) k).state ≡ stands.Current mutator = own.is.0 in
+    let e : (nth (replicate 17 (free_segment 16)) k).state ≡ stands.Current mutator = own.is.0 in
     let f : stands.Free ≡ stands.Current mutator = sym (ap (λ (x : Segment). x.state) (free_there k own.exists)) ∙ e in
     absurd cc
 

@@ -25,7 +25,7 @@ use Rattle.nmgc_blocks.specs.Promoted.{PlacesEach}
 use Rattle.nmgc_run.specs.Census.{IsDeadIn, IsKeptIn, IsKeptObject}
 use Rattle.nmgc_run.specs.Course.{WaitsWhole}
 use Rattle.nmgc_run.specs.Listing.{Counts}
-use Rattle.nmgc_run.specs.Marks.{AreSettled, IsFreedSoFar, IsSettledByte, epoch_of}
+use Rattle.nmgc_run.specs.Marks.{AreSettled, IsHadSoFar, IsFreedSoFar, IsSettledByte, epoch_of}
 use Rattle.nmgc_run.specs.State.{Cycle}
 use Rattle.nmgc_run.specs.laws.Course.{SameWait, all_placing_waits, still_noted}
 use Rattle.nmgc_beside.specs.Resolves.{ClosedCycleSweeps}
@@ -87,12 +87,18 @@ none_freed c allocation whole freed none name = (
   λ f. absurd (f.3 (whole.all f.0 f.2)),
 )
 
+none_had : (c : Cycle) (allocation : AllocState) → WaitsWhole c allocation → (had : List Name) → had ≡ [] → (name : Name) → Contains had name ↔ IsHadSoFar c allocation name
+none_had c allocation whole had none name = (
+  λ d. absurd (nothing_in name (subst (λ (l : List Name). Contains l name) none d)),
+  λ f. absurd (f.3 (whole.all f.0 f.2)),
+)
+
 none_twice : (freed : List Name) → freed ≡ [] → (i j : ℕ) (item : Name) → slice_get freed i ≡ Some item → slice_get freed j ≡ Some item → i ≡ j
 none_twice [] none i j item e f = absurd cc
 none_twice (x ∷ l) none i j item e f = absurd cc
 
 pub closed_cycle_sweeps : ClosedCycleSweeps
-closed_cycle_sweeps c s dead words segments marker cycle sweeper sound stood last whole closed epoch tells noted none =
+closed_cycle_sweeps c s dead words segments marker cycle sweeper sound stood last whole closed epoch tells noted no_had none =
     let same : marker.epoch ≡ epoch_of s.begun = epoch ∙ ap (λ (k : ℕ). epoch_of k) last.number_is in
     let begun : 0 < s.begun = let some = last.some in let is = last.number_is in omega (arith, some, is) in (
       record {
@@ -107,6 +113,8 @@ closed_cycle_sweeps c s dead words segments marker cycle sweeper sound stood las
             let unchanged = carry_leaves marker.epoch segments number there.0 there.1 in
             let own : marker.epoch ≡ sweeper.epoch = epoch ∙ sym noted.epoch in
             subst (λ (y : Segment × ℕ). IsMarked y.0 y.1 block ↔ IsKeptIn c name) (λ i. (sym unchanged i, own i)) (closed.exact number block name lies);
+        had = none_had c s.allocation whole sweeper.had no_had;
+        had_once = none_twice sweeper.had no_had;
         freed = none_freed c s.allocation whole sweeper.freed none;
         freed_once = none_twice sweeper.freed none;
       },
@@ -148,6 +156,12 @@ module _ (old new : Segments) (words after : List ℕ) (allocation placed : Allo
     λ f. (f.0, f.1, f.2, λ is. f.3 (ap (λ (x : Cells). x.state) (same.same f.0 is) ∙ is), f.4, f.5),
   )
 
+  listing_on : (c : Cycle) (name : Name) → IsHadSoFar c allocation name ↔ IsHadSoFar c placed name
+  listing_on c name = (
+    λ f. (f.0, f.1, f.2, λ is. f.3 (ap (λ (x : Cells). x.state) (sym (same.back f.0 is)) ∙ is), f.4),
+    λ f. (f.0, f.1, f.2, λ is. f.3 (ap (λ (x : Cells). x.state) (same.same f.0 is) ∙ is), f.4),
+  )
+
 -- a segment past the last one is free
 waits_within : (s : Segments) (number : ℕ) → IsWaiting s number → HasNumber s number
 waits_within s number is = elim (cases_lt number (length s.segments)) [
@@ -187,6 +201,8 @@ sweeping_stays c closed old new words after allocation placed cycle sweeper h wa
       let m = was.marked number block name (ap (λ (x : Cells). x.state) (sym back) ∙ is) (ap (λ (x : Cells). name_in x block) (sym back) ∙ lies) in
       let byte = byte_is old new words after allocation placed h number block in
       (λ marked. m.0 (sym byte ∙ marked), λ kept. byte ∙ m.1 kept);
+  had = λ name. let f = was.had name in let on = listing_on old new words after allocation placed h c name in (λ d. on.0 (f.0 d), λ k. f.1 (on.1 k));
+  had_once = was.had_once;
   freed = λ name. let f = was.freed name in let on = sweeping_on old new words after allocation placed h c name in (λ d. on.0 (f.0 d), λ k. f.1 (on.1 k));
   freed_once = was.freed_once;
 }

@@ -18,6 +18,7 @@ use Rattle.nmgc_round.specs.Starting.{CanOpen}
 use Rattle.nmgc_round.specs.Finishing.{Leaves, places_then}
 use Rattle.nmgc_mutator.specs.declared.mutator.Mutator.{Mutator}
 use Rattle.nmgc_mutator.specs.Ready.{IsWhole}
+use Rattle.nmgc_mutator.specs.Does.{remembered}
 use Rattle.nmgc_mutator.specs.Records.{numbers}
 use Rattle.nmgc_run.specs.Collector.{AreAtRest, IsMarking}
 use Rattle.nmgc_run.specs.Heap.{HoldsAtStop, HoldsAfterRound, HasAllRegisters, registers_of, queues_of, serials_of, snapshots}
@@ -37,7 +38,7 @@ seen_mutator m = record {
   nursery = m.nursery;
   recorded = numbers m.recorded.items;
   young_weaks = numbers m.young_weaks.items;
-  entries = numbers m.updrem.items;
+  entries = remembered m;
 }
 
 -- these are the mutators of a collector, by their numbers, each with all its registers
@@ -86,16 +87,17 @@ abbrev pub marking_mutator : Mutator
 marking_mutator = record {
   number = 0;
   layout = array_layout;
-  registers = 64 ∷ replicate 15 1;
+  registers = 64 ∷ replicate 63 1;
   queue = record { words = []; spare = 0 };
   queue_place = empty_place;
-  nursery = record { base = 160; top = 160; end = 176 };
+  nursery = record { base = 320; top = 320; end = 336 };
   serial = 1;
   turns = 0;
   replies = record { items = []; spare = 0 };
   recorded = record { items = []; spare = 0 };
   young_weaks = record { items = []; spare = 0 };
   updrem = record { items = []; spare = 0 };
+  sender = record { ring = record { words = null_ptr; slots = null_ptr; names = (0, (0, 0)); heap = record { memory = record { seal = tt } } }; before = []; since = []; free = 0 };
 }
 
 -- its collector has a heap at rest beside the cycle: so there is one

@@ -5,7 +5,7 @@ use Rattle.nmgc_alloc.specs.AllocState.{AllocState}
 use Rattle.nmgc_heap.specs.Moves.{Moved}
 use Rattle.nmgc_blocks.specs.Stopped.{Stopped}
 use Rattle.nmgc_mutator.specs.declared.mutator.Mutator.{Mutator}
-use Rattle.nmgc_mutator.specs.Records.{numbers}
+use Rattle.nmgc_mutator.specs.Does.{remembered as remembered_of}
 use Rattle.nmgc_run.specs.Census.{interval_of}
 use Rattle.nmgc_run.specs.Collector.{IsMarking, EachMutator, IsPacedAtStop, IsPacedAfterRound, weak_count}
 use Rattle.nmgc_run.specs.Seen.{Seen, MarkerSeen, MutatorSeen}
@@ -24,7 +24,7 @@ pub record HasLeft (c : Cycle) (old new : Seen) : Type 0 where
 
 -- what contracts see of the mutators: their remembered places
 abbrev pub ShowEntries : Seen → List Mutator → Type 0
-ShowEntries seen mutators = EachMutator seen (λ k mutator. (m : Mutator) × (slice_get mutators k ≡ Some m) × (mutator.entries ≡ numbers m.updrem.items))
+ShowEntries seen mutators = EachMutator seen (λ k mutator. (m : Mutator) × (slice_get mutators k ≡ Some m) × (mutator.entries ≡ remembered_of m))
 
 -- over a promotion: the marker and what is remembered stay as they are
 abbrev pub PromotionKeepsMarking : Type 0

@@ -12,7 +12,8 @@ use Rattle.nmgc_round.specs.Seating.{collecting, all_together}
 use Rattle.nmgc_round.specs.Starting.{CanOpen}
 use Rattle.nmgc_round.specs.Finishing.{HasAll, IsFinished, places_then}
 use Rattle.nmgc_mutator.specs.declared.mutator.Mutator.{Mutator}
-use Rattle.nmgc_mutator.specs.Records.{numbers, all_pushed}
+use Rattle.nmgc_mutator.specs.Does.{remembered as remembered_of}
+use Rattle.nmgc_mutator.specs.Records.{all_pushed}
 use Rattle.nmgc_turn.specs.Turn.{SlicesAreDone}
 use Rattle.nmgc_turn.specs.Worked.{Done, HaveWorked}
 use Rattle.nmgc_run.specs.Marker.{AreRemembered, IsCoreOf}
@@ -21,11 +22,11 @@ use Rattle.nmgc_beside.specs.Rest.{IsMachineAtRest, with_rows}
 
 -- each mutator remembers the places in segments of what its part owes, in order
 abbrev pub HaveOwed : Opening → List Part → List Mutator → Type 0
-HaveOwed o parts mutators = (k : ℕ) (p : Part) (m : Mutator) → slice_get parts k ≡ Some p → slice_get mutators k ≡ Some m → numbers m.updrem.items ≡ all_pushed o.layout p.owed
+HaveOwed o parts mutators = (k : ℕ) (p : Part) (m : Mutator) → slice_get parts k ≡ Some p → slice_get mutators k ≡ Some m → remembered_of m ≡ all_pushed o.layout p.owed
 
 -- none of them remembers anything
 abbrev pub RememberNothing : List Mutator → Type 0
-RememberNothing mutators = (k : ℕ) (m : Mutator) → slice_get mutators k ≡ Some m → m.updrem.items ≡ []
+RememberNothing mutators = (k : ℕ) (m : Mutator) → slice_get mutators k ≡ Some m → remembered_of m ≡ []
 
 -- what the seats of a round know together, where the collector's knows of these scans
 abbrev pub gathered : Opening → List Scan → List RoundSeat → Seen
@@ -51,8 +52,8 @@ SlicesAreOwed = (o : Opening) (before : List ℕ) (round : Round) (old mutators 
 pub record GoesOn (c : Cycle) (o : Opening) (words : List ℕ) (v : Seen) (h : IsFinished o words v) (mutators : List Mutator) (core : Core) : Type 0 where
   pub machine : IsCoreOf (with_rows c (rows_in h.events)) (now o h.events).world core
   pub marks : marks_of core ≡ marks_of (now o h.events)
-  pub remembered : (k : ℕ) (m : Mutator) → slice_get mutators k ≡ Some m → AreRemembered (with_rows c (rows_in h.events)) (places_then o h.born) (numbers m.updrem.items) (names_of core.pushed k)
-  pub low : (k : ℕ) (m : Mutator) → slice_get mutators k ≡ Some m → (at : ℕ) → Contains (numbers m.updrem.items) at → at < nursery_place o.layout 0
+  pub remembered : (k : ℕ) (m : Mutator) → slice_get mutators k ≡ Some m → AreRemembered (with_rows c (rows_in h.events)) (places_then o h.born) (remembered_of m) (names_of core.pushed k)
+  pub low : (k : ℕ) (m : Mutator) → slice_get mutators k ≡ Some m → (at : ℕ) → Contains (remembered_of m) at → at < nursery_place o.layout 0
 
 -- after each finished round there is such a state
 abbrev pub MachineGoesOn : Type 0

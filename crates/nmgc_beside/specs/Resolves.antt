@@ -88,8 +88,8 @@ pub record TellsDeaths (c : Cycle) (closed : ℕ) (dead : List Name) (marker : M
   pub dead_is : cycle.dead ≡ dead
   pub kept_is : cycle.kept ≡ marker.marked
 
--- a cycle that closes while all of its segments wait begins to sweep, and nothing was freed yet
+-- a cycle that closes while all of its segments wait begins to sweep, and nothing was listed or freed yet
 abbrev pub ClosedCycleSweeps : Type 0
 ClosedCycleSweeps = (c : Cycle) (s : State) (dead : List Name) (words : List ℕ) (segments : Segments) (marker : MarkerSeen) (cycle : CycleSeen) (sweeper : SweeperSeen) → IsSegments segments → StandsFor segments words s.allocation → IsLastBegun c s.number s.begun → WaitsWhole c s.allocation
-    → HasClosed c s dead segments marker → marker.epoch ≡ epoch_of c.number → TellsDeaths c s.number dead marker cycle → HasNoted c sweeper → sweeper.freed ≡ []
+    → HasClosed c s dead segments marker → marker.epoch ≡ epoch_of c.number → TellsDeaths c s.number dead marker cycle → HasNoted c sweeper → sweeper.had ≡ [] → sweeper.freed ≡ []
     → IsSweeping c s.number s.allocation (all_carried marker.epoch segments) cycle sweeper × AreSettled s.begun (all_carried marker.epoch segments)

@@ -3,7 +3,7 @@ use Rattle.std.proofs.Common.{◌≡◌, ◌+◌, ◌*◌, ◌<◌, ◌≤◌, �
 use Rattle.std.proofs.lemmas.List.Sums.{sum_by-cons}
 use Rattle.nmgc_object.specs.declared.layout.Layout.{Layout}
 use Rattle.nmgc_object.specs.Places.{class_count}
-use Rattle.nmgc_object.specs.laws.Classes.{class_counted}
+use Rattle.nmgc_object.specs.laws.Classes.{class_counted, object_class}
 use Rattle.nmgc_alloc.specs.Segments.{Segments, IsSegments, IsMutator}
 use Rattle.nmgc_alloc.specs.Reserve.{KeepsReserve}
 use Rattle.nmgc_alloc.specs.laws.Reserve.{begins, placing_keeps, reserve_has_room}
@@ -21,8 +21,8 @@ after_all s new [] before sound r e =
     subst (λ (x : Segments). IsAfter s x (before + 0)) (sym e) (record { sound = sound; layout = refl; reserve = subst (λ (k : ℕ). KeepsReserve s.layout s.segments k) none r })
 after_all s new (p ∷ rest) before sound r (next, one, all) =
     let same = one.allocates.layout in
-    let counted = (class_counted s.layout p.class sound.layout.words).1 one.class in
-    let kept = placing_keeps s next p.maker p.class one.at before p.words sound one.allocates one.maker counted one.class one.half r in
+    let counted = (object_class s.layout p.words p.class sound.layout one.most one.class).1 in
+    let kept = placing_keeps s next p.maker p.class one.at before p.words sound one.allocates one.maker counted one.least one.most one.class r in
     let then = after_all next new rest (before + p.words) one.sound (subst (λ (l : Layout). KeepsReserve l next.segments (before + p.words)) (sym same) kept) all in
     let sum : before + p.words + sum_by (λ (q : Placing). q.words) rest ≡ before + sum_by (λ (q : Placing). q.words) (p ∷ rest) = omega (arith, sum_by-cons (λ (q : Placing). q.words) p rest) in
     record { sound = then.sound; layout = then.layout ∙ same; reserve = subst (λ (k : ℕ). KeepsReserve new.layout new.segments k) sum then.reserve }

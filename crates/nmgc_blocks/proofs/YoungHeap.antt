@@ -4,6 +4,7 @@ use Rattle.std.specs.Prelude.{slice_get, Contains, IsSome, if◌then◌else◌, 
 use Rattle.std.proofs.lemmas.Bool.{eqb-true}
 use Rattle.std.proofs.lemmas.List.{get_or-replicate}
 use Rattle.nmgc_graph.specs.declared.value.Name.{Name}
+use Rattle.nmgc_graph.specs.declared.value.TheConstants.{REGISTERS, SHARED_MAKER}
 use Rattle.nmgc_graph.specs.declared.value.Value.{Value}
 use Rattle.nmgc_graph.specs.declared.value.Value.TheVariants.{Nil, Number, Ref}
 use Rattle.nmgc_graph.specs.declared.node.Node.{Node}
@@ -61,8 +62,8 @@ shared_or false d shared node serial A is e = absurd cc
 
 known : (shared : Node) (state : MutatorState) (maker serial : ℕ) (node : Node) → node_of (record { shared = shared; mutators = state ∷ [] }) (record { maker = maker; serial = serial }) ≡ Some node → ((shared_name ≡ record { maker = maker; serial = serial }) × (shared ≡ node)) ⊎ ((maker ≡ 0) × (slice_get state.nodes serial ≡ Some node))
 known shared state zero serial node e = inr (refl, e)
-known shared state (suc maker) serial node e = shared_or (suc maker == 8) (serial == 0) shared node serial _
-    (λ b d s. inl (ap (λ (m : ℕ). record { maker = m; serial = 0 }) (sym (eqb-true (suc maker) 8 b)) ∙ ap (λ (n : ℕ). record { maker = suc maker; serial = n }) (sym (eqb-true serial 0 d)), cc))
+known shared state (suc maker) serial node e = shared_or (suc maker == SHARED_MAKER) (serial == 0) shared node serial _
+    (λ b d s. inl (ap (λ (m : ℕ). record { maker = m; serial = 0 }) (sym (eqb-true (suc maker) SHARED_MAKER b)) ∙ ap (λ (n : ℕ). record { maker = suc maker; serial = n }) (sym (eqb-true serial 0 d)), cc))
     e
 
 began_knows : (name : Name) (node : Node) → node_of began name ≡ Some node → (shared_name ≡ name) × (sixteen ≡ node)
@@ -235,9 +236,9 @@ registers_mean : AllMean (Contains places) young_registers 0 (state_of young_wor
 registers_mean zero v e = let is : Ref (own 0) ≡ v = cc in subst (λ (x : Value). Means (Contains places) 4160 x) is (2080, refl, there_young)
 registers_mean (suc zero) v e = let is : Number 5 ≡ v = cc in subst (λ (x : Value). Means (Contains places) 13 x) is refl
 registers_mean (suc (suc i)) v e =
-    let is = all_item 14 i Nil v e in
-    let word : get_or (4160 ∷ 13 ∷ replicate 14 1) (0 + suc (suc i)) 0 ≡ 1 = ap (λ (k : ℕ). get_or (4160 ∷ 13 ∷ replicate 14 1) k 0) (zero-add (suc (suc i))) ∙ get_or-replicate 14 i 1 0 is.1 in
-    subst (λ (x : Value). Means (Contains places) (get_or (4160 ∷ 13 ∷ replicate 14 1) (0 + suc (suc i)) 0) x) (sym is.0) word
+    let is = all_item 62 i Nil v e in
+    let word : get_or (4160 ∷ 13 ∷ replicate 62 1) (0 + suc (suc i)) 0 ≡ 1 = ap (λ (k : ℕ). get_or (4160 ∷ 13 ∷ replicate 62 1) k 0) (zero-add (suc (suc i))) ∙ get_or-replicate 62 i 1 0 is.1 in
+    subst (λ (x : Value). Means (Contains places) (get_or (4160 ∷ 13 ∷ replicate 62 1) (0 + suc (suc i)) 0) x) (sym is.0) word
 
 roots : RepresentsRoots places young_world young_registers ([] ∷ []) (1 ∷ [])
 roots = record {
@@ -248,7 +249,7 @@ roots = record {
   next = next;
 }
   where
-    held : (m : ℕ) → m < 1 → AllMean (Contains places) young_registers (16 * m) (state_of young_world m).registers
+    held : (m : ℕ) → m < 1 → AllMean (Contains places) young_registers (REGISTERS * m) (state_of young_world m).registers
     held zero lt = registers_mean
     held (suc m) lt = absurd (omega (arith, lt))
 
@@ -287,7 +288,7 @@ stands words sound h = record {
   roots = roots;
   segments = sound;
   blocks = record {
-    held = λ p node c low other is. at_place (λ (q : Place). q.at < 2080 → q.name.maker ≢ 8 → (size : ℕ) × IsOccupied (all_free small_layout) q.at size × (size_of node ≤ size)) (λ l ne. absurd (ne refl)) (λ l. absurd (omega (arith, l))) p c low other;
+    held = λ p node c low other is. at_place (λ (q : Place). q.at < 2080 → q.name.maker ≢ SHARED_MAKER → (size : ℕ) × IsOccupied (all_free small_layout) q.at size × (size_of node ≤ size)) (λ l ne. absurd (ne refl)) (λ l. absurd (omega (arith, l))) p c low other;
     filled = λ at size o. absurd (none_used at size o);
   };
   used = record {
@@ -306,7 +307,7 @@ stands words sound h = record {
       absurd (omega (arith, same, lt));
   left = record {
     fields = λ at c. absurd (nothing_in at c);
-    all_fields = λ p q node i c low other t is slot d young. absurd (at_place (λ (x : Place). x.at < 2080 → x.name.maker ≢ 8 → ⊥) (λ l ne. ne refl) (λ l. omega (arith, l)) p c low other);
+    all_fields = λ p q node i c low other t is slot d young. absurd (at_place (λ (x : Place). x.at < 2080 → x.name.maker ≢ SHARED_MAKER → ⊥) (λ l ne. ne refl) (λ l. omega (arith, l)) p c low other);
     weak_places = λ at c. absurd (nothing_in at c);
     all_weaks = λ p parts c l alive. absurd (no_weak p.name (Some parts) alive);
   };

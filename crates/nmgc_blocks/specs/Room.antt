@@ -1,6 +1,6 @@
 -- Objects placed one after the other, as far as the room for them goes.
 use Rattle.std.specs.Prelude.{ℕ, ◌≡◌, ◌*◌, ◌≤◌, List, [], ◌∷◌, sum_by}
-use Rattle.nmgc_object.specs.Size.{block_size}
+use Rattle.nmgc_object.specs.Size.{IsClassOf}
 use Rattle.nmgc_object.specs.Places.{reserve_count}
 use Rattle.nmgc_alloc.specs.Segments.{Segments, IsSegments, IsMutator, IsClass, HasRoom, Allocates}
 use Rattle.nmgc_alloc.specs.Reserve.{free_count}
@@ -11,14 +11,15 @@ pub record Placing : Type 0 where
   pub class : ℕ
   pub words : ℕ
 
--- it is placed by the rule, for its maker and its class, in a block of which it fills at least half
+-- it is placed by the rule, for its maker and its class, which is the least whose block holds it; it has at least two words, and no more than a segment
 pub record AllocatesOne (s new : Segments) (p : Placing) : Type 0 where
   pub at : ℕ
   pub allocates : Allocates s new p.maker p.class at
   pub sound : IsSegments new
   pub maker : IsMutator s.layout p.maker
-  pub class : IsClass s.layout p.class
-  pub half : block_size p.class ≤ 2 * p.words
+  pub least : 2 ≤ p.words
+  pub most : p.words ≤ s.layout.words
+  pub class : IsClassOf p.words p.class
 
 -- the objects are placed, one after the other
 abbrev pub AllocatesAll : Segments → List Placing → Segments → Type 0

@@ -27,7 +27,7 @@ young_stop = record { world = young_world; began = new_world 1; later = []; plac
 pub record HoldsYoung (words : List ℕ) : Type 0 where
   pub total : length words ≡ word_total small_layout
   pub shared_header : slice_index words 1 ≡ 32771
-  pub shared_name : slice_index words 2 ≡ 8
+  pub shared_name : slice_index words 2 ≡ 32
   pub slots : (i : ℕ) → i < 16 → slice_index words (3 + i) ≡ 1
   pub header : slice_index words 2080 ≡ 2105
   pub name : slice_index words 2081 ≡ 0
@@ -35,7 +35,7 @@ pub record HoldsYoung (words : List ℕ) : Type 0 where
 
 -- a pointer to the constructor, the number 5, and nil in the other registers
 abbrev pub young_registers : List ℕ
-young_registers = 4160 ∷ 13 ∷ replicate 14 1
+young_registers = 4160 ∷ 13 ∷ replicate 62 1
 
 -- three words of the nursery are used
 abbrev pub young_nurseries : List Nursery

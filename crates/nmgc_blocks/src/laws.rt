@@ -51,7 +51,8 @@ pub fn placing_takes_a_new_block()
 /// With at least as many free segments as the reserve, all that the nurseries hold finds room: whichever objects were
 /// placed since, one after the other, there is room for another one, as long as together they had no more
 /// words than the nurseries have. For a segment that was free and is filled has objects of at least half its
-/// words, and beside those a mutator has one segment at most that is begun, for each class.
+/// words, those that are left over after its last block included, and beside those a mutator has one segment
+/// at most that is begun, for each class.
 pub fn reserve_suffices()
     ensures { ReserveSuffices }
 {}

@@ -1,29 +1,45 @@
 -- Words ask for one task, or for none.
-use Rattle.std.proofs.Common.{◌≡◌, ◌≤◌, ◌<◌, ◌∙◌, ℕ, List, [], ◌∷◌, length, get_or, sym, subst, arith, Option, codes, decimal}
+use Rattle.std.proofs.Common.{◌≡◌, ◌≤◌, ◌<◌, ◌∙◌, ℕ, List, [], ◌∷◌, length, get_or, refl, sym, ap, subst, arith, Option, codes, decimal}
 use Rattle.std.specs.Prelude.{IfSome, IfNone}
 use Rattle.std.proofs.lemmas.Fmt.{decimal_injective}
 use Rattle.nmgc_cli.specs.Task.{IsBench, Asks, IsWrong}
 use Rattle.nmgc_cli.specs.declared.task.Task.{Task}
-use Rattle.nmgc_cli.specs.declared.task.Task.TheVariants.{Run, Bench}
+use Rattle.nmgc_cli.specs.declared.task.Task.TheVariants.{Run, Bench, Upgrade}
 
--- words that ask neither for a run nor for a bench are wrong
-pub none_asked : (words : List (List ℕ)) → (words ≡ codes "run" ∷ [] → ⊥) → ((batches : ℕ) → Asks words (Bench batches) → ⊥) → IsWrong words
-none_asked words no_run no_bench = by
+-- words that ask for none of the tasks are wrong
+pub none_asked : (words : List (List ℕ)) → (words ≡ codes "run" ∷ [] → ⊥) → (words ≡ codes "upgrade" ∷ [] → ⊥) → ((batches : ℕ) → Asks words (Bench batches) → ⊥) → IsWrong words
+none_asked words no_run no_upgrade no_bench = by
   where
     by : (task : Task) → Asks words task → ⊥
     by Run asks = no_run asks
     by (Bench batches) asks = no_bench batches asks
+    by Upgrade asks = no_upgrade asks
 
--- words that ask for a run ask for no bench
-pub other_task : (words : List (List ℕ)) (batches : ℕ) → Asks words Run → Asks words (Bench batches) → ⊥
-other_task words batches run bench = let e : codes "run" ∷ [] ≡ codes "bench" ∷ decimal batches ∷ [] = sym run ∙ bench.0 in cc
+-- one word isn't the two of a bench, and a run is no upgrade
+no_bench : (words : List (List ℕ)) (word : List ℕ) (batches : ℕ) → words ≡ word ∷ [] → Asks words (Bench batches) → ⊥
+no_bench words word batches one bench = let e : word ∷ [] ≡ codes "bench" ∷ decimal batches ∷ [] = sym one ∙ bench.0 in cc
+
+run_no_upgrade : (words : List (List ℕ)) → Asks words Run → Asks words Upgrade → ⊥
+run_no_upgrade words run upgrade = let e : codes "run" ∷ [] ≡ codes "upgrade" ∷ [] = sym run ∙ upgrade in cc
 
 -- words that ask for a bench ask for one number of batches
-pub same_batches : (words : List (List ℕ)) (m n : ℕ) → Asks words (Bench m) → Asks words (Bench n) → m ≡ n
+same_batches : (words : List (List ℕ)) (m n : ℕ) → Asks words (Bench m) → Asks words (Bench n) → m ≡ n
 same_batches words m n a b =
     let both : codes "bench" ∷ decimal m ∷ [] ≡ codes "bench" ∷ decimal n ∷ [] = sym a.0 ∙ b.0 in
     let same : decimal m ≡ decimal n = cc in
     decimal_injective m n (omega (arith, a.1.1)) (omega (arith, b.1.1)) same
+
+-- words ask for one task
+pub same_task : (words : List (List ℕ)) (a b : Task) → Asks words a → Asks words b → a ≡ b
+same_task words Run Run a b = refl
+same_task words Run (Bench n) a b = absurd (no_bench words (codes "run") n a b)
+same_task words Run Upgrade a b = absurd (run_no_upgrade words a b)
+same_task words (Bench m) Run a b = absurd (no_bench words (codes "run") m b a)
+same_task words (Bench m) (Bench n) a b = ap Bench (same_batches words m n a b)
+same_task words (Bench m) Upgrade a b = absurd (no_bench words (codes "upgrade") m b a)
+same_task words Upgrade Run a b = absurd (run_no_upgrade words b a)
+same_task words Upgrade (Bench n) a b = absurd (no_bench words (codes "upgrade") n a b)
+same_task words Upgrade Upgrade a b = refl
 
 -- no bench has no batch
 pub one_number : (word : List ℕ) (number batches : ℕ) → number ≡ 0 → word ≡ decimal number → IsBench batches → word ≡ decimal batches → ⊥

@@ -4,6 +4,7 @@ use Rattle.std.specs.Prelude.{sum_by, if◌then◌else◌}
 use Rattle.std.proofs.lemmas.List.{length-drop}
 use Rattle.std.proofs.lemmas.List.Sums.{sum_by-cons, sum_by-le}
 use Rattle.nmgc_limits.specs.Limits.{most_script_bytes}
+use Rattle.nmgc_graph.specs.declared.value.TheConstants.{MAKERS}
 use Rattle.nmgc_graph.specs.declared.command.Command.{Command}
 use Rattle.nmgc_graph.specs.declared.command.Reply.{Reply}
 use Rattle.nmgc_graph.specs.Command.{words_made}
@@ -88,7 +89,7 @@ lawful_count script report lawful =
     omega (arith, turns, opened, told)
 
 -- they are few
-pub few_answers : (script : Script) (report : Report) → length script.threads ≤ 8 → HasFewCommands script → IsLawful script report → command_count report.rounds < 2 ^ 64
+pub few_answers : (script : Script) (report : Report) → length script.threads ≤ MAKERS → HasFewCommands script → IsLawful script report → command_count report.rounds < 2 ^ 64
 few_answers script report threads few lawful =
     let programs : total script.threads ≤ length script.threads * most_script_bytes = sum_by-le length most_script_bytes script.threads few in
     let answered : command_count report.rounds ≤ total script.threads = lawful_count script report lawful in

@@ -11,21 +11,16 @@ use Rattle.nmgc_journal.specs.Text.{report_text}
 use Rattle.nmgc_journal.specs.Summary.{summary_text}
 use Rattle.nmgc_cli.specs.Status.{status_of}
 use Rattle.nmgc_cli.specs.declared.answer.Outcome.{Outcome}
+use Rattle.nmgc_cli.specs.declared.answer.Outcome.TheVariants.{Ran, Benched, Upgraded}
 use Rattle.nmgc_cli.specs.declared.answer.Refusal.{Refusal}
 use Rattle.nmgc_cli.specs.declared.answer.Refusal.TheVariants as no
 use Rattle.nmgc_cli.specs.declared.told.Text.{Text}
 use Rattle.nmgc_cli.specs.declared.told.Text.TheVariants.{Fixed, Made}
 use Rattle.nmgc_cli.specs.declared.told.Told.{Told}
 use Rattle.nmgc_cli.specs.declared.status.Status.{Status}
-use Rattle.nmgc_cli.specs.declared.task.Task.{Task}
-use Rattle.nmgc_cli.specs.declared.task.Task.TheVariants.{Run, Bench}
-use Rattle.nmgc_cli.specs.declared.status.Status.TheVariants.{Usage, ReadFault, BadScript, TooLong, NoMemory}
+use Rattle.nmgc_cli.specs.declared.status.Status.TheVariants.{Done, Usage, ReadFault, BadScript, TooLong, NoMemory}
 
--- the report of a run, or why there is none
-abbrev pub Reported : Type 0
-Reported = Result Report Refusal
-
--- a task that was done, with its report, or why it wasn't
+-- what a task gives that was done, or why it wasn't
 abbrev pub Answer : Type 0
 Answer = Result Outcome Refusal
 
@@ -70,7 +65,7 @@ IsBad _ = ⊥
 
 -- the text of a refusal
 abbrev pub refusal_text : Refusal → List ℕ
-refusal_text no.Usage = codes "usage: nmgc run | nmgc bench N\n"
+refusal_text no.Usage = codes "usage: nmgc run | nmgc bench N | nmgc upgrade\n"
 refusal_text no.ReadFault = codes "read fault\n"
 refusal_text no.TooLong = codes "too long\n"
 refusal_text (no.Bad line c) = bad_line line c
@@ -78,22 +73,23 @@ refusal_text no.NoMemory = codes "no memory\n"
 
 -- the status of an answer
 abbrev pub answer_status : Answer → Status
-answer_status (Ok outcome) = status_of outcome.report.end
+answer_status (Ok (Ran report)) = status_of report.end
+answer_status (Ok (Benched batches report)) = status_of report.end
+answer_status (Ok (Upgraded text)) = Done
 answer_status (Err refusal) = refusal_status refusal
 
 -- the report of an answer
 abbrev pub answer_report : Answer → Option Report
-answer_report (Ok outcome) = Some outcome.report
+answer_report (Ok (Ran report)) = Some report
+answer_report (Ok (Benched batches report)) = Some report
+answer_report (Ok (Upgraded text)) = None
 answer_report (Err refusal) = None
 
--- what a task writes of its report: the whole text for a run, the summary for a bench
-abbrev pub task_text : Task → Report → List ℕ
-task_text Run report = report_text report
-task_text (Bench batches) report = summary_text batches report
-
--- the text of an answer
+-- the text of an answer: the whole report of a run, the summary of a bench's, and the spelling of an upgrade
 abbrev pub answer_text : Answer → List ℕ
-answer_text (Ok outcome) = task_text outcome.task outcome.report
+answer_text (Ok (Ran report)) = report_text report
+answer_text (Ok (Benched batches report)) = summary_text batches report
+answer_text (Ok (Upgraded text)) = text.items
 answer_text (Err refusal) = refusal_text refusal
 
 -- the bytes of a text

@@ -1,17 +1,18 @@
 -- The answer to a bench, which reads nothing.
-use Rattle.std.specs.Prelude.{ℕ, ◌<◌, ◌^◌, Ok, Err}
+use Rattle.std.specs.Prelude.{◌≡◌, ℕ, ◌<◌, ◌^◌, Ok, Err}
 use Rattle.nmgc_script.specs.Bench.{bench_script}
 use Rattle.nmgc_journal.specs.declared.report.Report.{Report}
 use Rattle.nmgc_journal.specs.Summary.{command_count}
-use Rattle.nmgc_cli.specs.Answer.{Reported}
+use Rattle.nmgc_cli.specs.Answer.{Answer}
 use Rattle.nmgc_run.specs.Crowded.{IsRunOf}
+use Rattle.nmgc_cli.specs.declared.answer.Outcome.{Outcome}
+use Rattle.nmgc_cli.specs.declared.answer.Outcome.TheVariants.{Ran, Benched, Upgraded}
 use Rattle.nmgc_cli.specs.declared.answer.Refusal.TheVariants as no
-use Rattle.nmgc_cli.specs.declared.task.Task.{Task}
-use Rattle.nmgc_cli.specs.declared.task.Task.TheVariants.{Run, Bench}
 
 -- the answer to a bench of so many batches: the report is one of a run of the bench's script
-abbrev pub AnswersBench : ℕ → Reported → Type 0
-AnswersBench batches (Ok report) = IsRunOf (bench_script batches) report
+abbrev pub AnswersBench : ℕ → Answer → Type 0
+AnswersBench batches (Ok (Benched n report)) = (n ≡ batches) × IsRunOf (bench_script batches) report
+AnswersBench batches (Ok _) = ⊥
 AnswersBench batches (Err no.NoMemory) = Unit {0}
 AnswersBench batches (Err _) = ⊥
 
@@ -19,7 +20,8 @@ AnswersBench batches (Err _) = ⊥
 abbrev pub HasCount : Report → Type 0
 HasCount report = command_count report.rounds < 2 ^ 64
 
--- what the task writes of the report can be written
-abbrev pub CanBeWritten : Task → Report → Type 0
-CanBeWritten Run report = Unit {0}
-CanBeWritten (Bench batches) report = HasCount report
+-- what is to be told of a task that was done can be written
+abbrev pub CanBeWritten : Outcome → Type 0
+CanBeWritten (Ran report) = Unit {0}
+CanBeWritten (Benched batches report) = HasCount report
+CanBeWritten (Upgraded text) = Unit {0}

@@ -1,26 +1,29 @@
 -- What the program answers to which words and bytes, and what is written of it.
-use Rattle.std.specs.Prelude.{◌≡◌, ◌⊎◌, ◌≤◌, ◌+◌, ℕ, List, length, Option, Some, None, Ok, Err}
+use Rattle.std.specs.Prelude.{◌≡◌, ◌≢◌, ◌⊎◌, ◌≤◌, ◌+◌, ℕ, List, length, Option, Some, None, Ok, Err}
 use Rattle.std.specs.Io.KnownBytes.{Consumes, Appends, Keeps, IsAtEnd}
 use Rattle.nmgc_io.specs.Counts.{Takes, TakesUpTo, AppendsFront}
-use Rattle.nmgc_script.specs.Spelling.{Spells}
+use Rattle.nmgc_script.specs.Limits.{upgraded}
+use Rattle.nmgc_script.specs.Spelling.{Spells, plain}
 use Rattle.nmgc_script.specs.Faults.{Tells}
 use Rattle.nmgc_script.specs.Text.{kept_lines, end_of}
 use Rattle.nmgc_script.specs.declared.script.Script.{Script}
 use Rattle.nmgc_script.specs.declared.fault.Cause.{Cause}
 use Rattle.nmgc_journal.specs.declared.report.Report.{Report}
-use Rattle.nmgc_cli.specs.Answer.{Answer, Reported, answer_status, answer_report, answer_text}
+use Rattle.nmgc_cli.specs.Answer.{Answer, answer_status, answer_report, answer_text}
 use Rattle.nmgc_cli.specs.Bench.{AnswersBench}
 use Rattle.nmgc_journal.specs.Text.{report_text}
 use Rattle.nmgc_journal.specs.Summary.{summary_text}
 use Rattle.nmgc_script.specs.Bench.{bench_script}
 use Rattle.nmgc_run.specs.Crowded.{IsRunOf, IsHeapFull}
 use Rattle.nmgc_cli.specs.Status.{status_of}
-use Rattle.nmgc_cli.specs.Task.{Asks, IsWrong}
+use Rattle.nmgc_cli.specs.Task.{Asks, IsWrong, Reads}
+use Rattle.nmgc_cli.specs.declared.answer.Outcome.{Outcome}
+use Rattle.nmgc_cli.specs.declared.answer.Outcome.TheVariants.{Ran, Upgraded}
 use Rattle.nmgc_cli.specs.declared.answer.Refusal.TheVariants as no
 use Rattle.nmgc_cli.specs.declared.status.Status.{Status}
 use Rattle.nmgc_cli.specs.declared.status.Status.TheVariants.{Done, WriteFault, HeapFull, NoMemory}
 use Rattle.nmgc_cli.specs.declared.task.Task.{Task}
-use Rattle.nmgc_cli.specs.declared.task.Task.TheVariants.{Run, Bench}
+use Rattle.nmgc_cli.specs.declared.task.Task.TheVariants.{Run, Bench, Upgrade}
 use Rattle.nmgc_limits.specs.Limits.{most_script_bytes}
 
 -- what a source had left was read to its end, and is no more than a script may have
@@ -39,31 +42,41 @@ pub record SpellsNone (bytes : List ℕ) (line : ℕ) (c : Cause) : Type 0 where
   pub none : (script : Script) → Spells bytes script → ⊥
   pub fault : Tells (end_of bytes) (kept_lines bytes) line c
 
--- the answer to a script's bytes
-abbrev pub AnswersBytes : List ℕ → Reported → Type 0
-AnswersBytes bytes (Ok report) = (script : Script) × SpellsOnly bytes script × IsRunOf script report
-AnswersBytes bytes (Err (no.Bad line c)) = SpellsNone bytes line c
-AnswersBytes bytes (Err no.NoMemory) = Unit {0}
-AnswersBytes bytes (Err _) = ⊥
+-- the script was run, and this is the report
+abbrev pub IsRan : Script → Outcome → Type 0
+IsRan script (Ran report) = IsRunOf script report
+IsRan script _ = ⊥
+
+-- the script was upgraded, and this is the plain spelling of its upgrade
+abbrev pub IsUpgraded : Script → Outcome → Type 0
+IsUpgraded script (Upgraded text) = text.items ≡ plain (upgraded script)
+IsUpgraded script _ = ⊥
+
+-- the answer to a script's bytes, by what a script is to give
+abbrev pub AnswersBytes : (Script → Outcome → Type 0) → List ℕ → Answer → Type 0
+AnswersBytes Gives bytes (Ok outcome) = (script : Script) × SpellsOnly bytes script × Gives script outcome
+AnswersBytes Gives bytes (Err (no.Bad line c)) = SpellsNone bytes line c
+AnswersBytes Gives bytes (Err no.NoMemory) = Unit {0}
+AnswersBytes Gives bytes (Err _) = ⊥
 
 -- the answer to a script that is read, by what a source had left and what it has now, and whether its count of faults rose
-abbrev pub AnswersScript : Option (List ℕ) → Option (List ℕ) → Type 0 → Reported → Type 0
-AnswersScript old new rose (Err no.Usage) = ⊥
-AnswersScript old new rose (Err no.ReadFault) = TakesUpTo old new most_script_bytes × rose
-AnswersScript old new rose (Err no.TooLong) = Takes old new (most_script_bytes + 1)
-AnswersScript old new rose (Err no.NoMemory) = TakesUpTo old new most_script_bytes
-AnswersScript old new rose answer = (bytes : List ℕ) × IsRead old new bytes × AnswersBytes bytes answer
+abbrev pub AnswersScript : (Script → Outcome → Type 0) → Option (List ℕ) → Option (List ℕ) → Type 0 → Answer → Type 0
+AnswersScript Gives old new rose (Err no.Usage) = ⊥
+AnswersScript Gives old new rose (Err no.ReadFault) = TakesUpTo old new most_script_bytes × rose
+AnswersScript Gives old new rose (Err no.TooLong) = Takes old new (most_script_bytes + 1)
+AnswersScript Gives old new rose (Err no.NoMemory) = TakesUpTo old new most_script_bytes
+AnswersScript Gives old new rose answer = (bytes : List ℕ) × IsRead old new bytes × AnswersBytes Gives bytes answer
 
--- the answer to a task: a bench reads nothing
-abbrev pub Answers : Task → Option (List ℕ) → Option (List ℕ) → Type 0 → Reported → Type 0
-Answers Run old new rose answer = AnswersScript old new rose answer
+-- the answer to a task: a bench reads nothing, and an upgrade is read for as a run is
+abbrev pub Answers : Task → Option (List ℕ) → Option (List ℕ) → Type 0 → Answer → Type 0
+Answers Run old new rose answer = AnswersScript IsRan old new rose answer
 Answers (Bench batches) old new rose answer = Keeps old new × AnswersBench batches answer
+Answers Upgrade old new rose answer = AnswersScript IsUpgraded old new rose answer
 
 -- the answer to these words
 abbrev pub IsTold : List (List ℕ) → Option (List ℕ) → Option (List ℕ) → Type 0 → Answer → Type 0
 IsTold words old new rose (Err no.Usage) = IsWrong words × Keeps old new
-IsTold words old new rose (Ok outcome) = Asks words outcome.task × Answers outcome.task old new rose (Ok outcome.report)
-IsTold words old new rose (Err refusal) = (task : Task) × Asks words task × Answers task old new rose (Err refusal)
+IsTold words old new rose answer = (task : Task) × Asks words task × Answers task old new rose answer
 
 -- the text was written whole, or the sink failed and has a front of it
 abbrev pub IsWritten : Option (List ℕ) → Option (List ℕ) → Type 0 → Status → List ℕ → Status → Type 0
@@ -96,6 +109,11 @@ pub record IsReportOfBench (words : List (List ℕ)) (left left' taken taken' : 
 abbrev pub IsReport : List (List ℕ) → Option (List ℕ) → Option (List ℕ) → Option (List ℕ) → Option (List ℕ) → Type 0 → Status → Report → Type 0
 IsReport words left left' taken taken' rose status report = IsReportOfRun words left left' taken taken' rose status report ⊎ IsReportOfBench words left left' taken taken' rose status report
 
+-- words that ask for an upgrade leave no report and tell of no full heap; where it was done, what was left was read to its end and spells one script, and the plain spelling of its upgrade was written
+abbrev pub IsUpgrade : List (List ℕ) → Option (List ℕ) → Option (List ℕ) → Option (List ℕ) → Option (List ℕ) → Status → Option Report → Type 0
+IsUpgrade words left left' taken taken' status report = Asks words Upgrade → (report ≡ None) × (status ≢ HeapFull)
+    × (status ≡ Done → (bytes : List ℕ) × IsRead left left' bytes × (script : Script) × SpellsOnly bytes script × Appends taken taken' (plain (upgraded script)))
+
 -- the report tells a run that ended as heap full, by the cause that `IsRunOf` tells
 abbrev pub IsFullOf : Script → Option Report → Type 0
 IsFullOf script None = ⊥
@@ -114,6 +132,11 @@ IsComplete words left read_fault write_fault status report = (bytes : List ℕ) 
 abbrev pub IsBenchComplete : List (List ℕ) → Type 0 → Status → Option Report → Type 0
 IsBenchComplete words write_fault status report = (batches : ℕ) → Asks words (Bench batches) → (write_fault → ⊥) → IsRunThrough (bench_script batches) status report
 
+-- a script within the limit is upgraded or there was no memory, where neither the source nor the sink fails
+abbrev pub IsUpgradeComplete : List (List ℕ) → Option (List ℕ) → Type 0 → Type 0 → Status → Type 0
+IsUpgradeComplete words left read_fault write_fault status = (bytes : List ℕ) (script : Script) → Asks words Upgrade → left ≡ Some bytes → length bytes ≤ most_script_bytes → Spells bytes script
+    → (read_fault → ⊥) → (write_fault → ⊥) → (status ≡ NoMemory) ⊎ (status ≡ Done)
+
 -- the words ask for nothing that is read
 abbrev pub ReadsNothing : List (List ℕ) → Type 0
-ReadsNothing words = Asks words Run → ⊥
+ReadsNothing words = (task : Task) → Asks words task → Reads task → ⊥

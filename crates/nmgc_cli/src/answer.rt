@@ -1,4 +1,4 @@
-//! What the program answers: a report, or why there is none.
+//! What the program answers: what a task gives, or why it wasn't done.
 //!
 //! An answer is settled before the sink is touched. Its status, its report and its text are functions of
 //! it, so none of them can be at odds with the others: no refusal is `Done`, and no report goes with a
@@ -9,20 +9,24 @@ ghost use Rattle.std.specs.Prelude.{◌≡◌};
 ghost use Rattle.nmgc_cli.specs.Answer.{refusal_status, read_refusal, script_refusal};
 ghost use Rattle.nmgc_cli.specs.declared.answer.Refusal.TheVariants.{NoMemory as no_memory};
 
-use crate::{Status, Task};
+use crate::Status;
 use nmgc_graph::NoMemory;
 use nmgc_io::ReadEnd;
 use nmgc_journal::Report;
 use nmgc_script::{Cause, ScriptFault};
 
-/// A task that was done, and the report of its run.
+/// What a task gives that was done.
 #[derive(Drop)]
-pub struct Outcome {
-    pub task: Task,
-    pub report: Report,
+pub enum Outcome {
+    /// The report of a script's run.
+    Ran(Report),
+    /// The report of a bench of so many batches.
+    Benched { batches: u32, report: Report },
+    /// The plain spelling of a script's upgrade.
+    Upgraded(Vec<u8>),
 }
 
-/// Why there is no report.
+/// Why the task wasn't done.
 #[derive(Clone, Copy, Debug, PartialEq, Eq)]
 pub enum Refusal {
     /// The words ask for no task.

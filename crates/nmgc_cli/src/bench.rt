@@ -4,13 +4,13 @@
 //! a run as any other, so what is proved of runs holds of it; its summary is written in place of its text.
 //! Easy to get wrong: `bench 0` and `bench 01` are wrong words, as `bench 101` is.
 ghost use Rattle.std.specs.Prelude.{◌≡◌, ℕ, [], ◌∷◌, decimal, map, string_bytes, IfOk, IfSome, IfNone};
-ghost use Rattle.nmgc_cli.specs.Bench.{AnswersBench, HasCount};
+ghost use Rattle.nmgc_cli.specs.Bench.{AnswersBench, CanBeWritten, HasCount};
 ghost use Rattle.nmgc_run.specs.Crowded.{IsRunOf};
 ghost use Rattle.nmgc_cli.specs.Task.{Asks, IsBench};
 ghost use Rattle.nmgc_cli.specs.declared.task.Task.TheVariants.{Bench};
 ghost use Rattle.nmgc_script.specs.Bench.{bench_script};
 
-use crate::answer::Refusal;
+use crate::answer::{Outcome, Refusal};
 use crate::top::run_script;
 use nmgc_graph::NoMemory;
 use nmgc_io::read_number;
@@ -55,12 +55,13 @@ fn batches_in(word: &[u8]) -> Option<u32>
 }
 
 /// The answer to a bench of so many batches. A report answers few enough commands to be counted.
-pub fn bench<R: Threads + Sync>(alloc: Global, rt: &R, batches: u32) -> Result<Report, Refusal>
+pub fn bench<R: Threads + Sync>(alloc: Global, rt: &R, batches: u32) -> Result<Outcome, Refusal>
     requires { IsBench batches }
     ensures answer { AnswersBench batches result }
-    ensures count { IfOk result (λ report. HasCount report) }
+    ensures count { IfOk result (λ outcome. CanBeWritten outcome) }
 {
-    Ok(bench_report(alloc, rt, batches)?)
+    let report = bench_report(alloc, rt, batches)?;
+    Ok(Outcome::Benched { batches, report })
 }
 
 // The report of a bench.

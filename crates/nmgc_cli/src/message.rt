@@ -14,7 +14,7 @@ pub fn message(refusal: Refusal) -> &'static [u8]
     ensures { result.now ≡ refusal_text refusal }
 {
     match refusal {
-        Refusal::Usage => b"usage: nmgc run | nmgc bench N\n",
+        Refusal::Usage => b"usage: nmgc run | nmgc bench N | nmgc upgrade\n",
         Refusal::ReadFault => b"read fault\n",
         Refusal::TooLong => b"too long\n",
         Refusal::Bad { .. } => unreachable!(),

@@ -7,7 +7,7 @@ use nmgc_journal::{End, Report};
 /// How the program ended. Each has its own text, and a number with which the process ends.
 #[derive(Clone, Copy, Debug, PartialEq, Eq)]
 pub enum Status {
-    /// The script was run to its end; the report's text or the summary was written. Number 0.
+    /// The script was run to its end, and the report's text or the summary was written; or its upgrade was. Number 0.
     Done,
     /// The words ask for no task; nothing was read. Number 2.
     Usage,

@@ -2,7 +2,7 @@
 //!
 //! A task is read from all words at once, so that a word too many is a wrong word as one too few is.
 //! Another task is a variant here, a line of `Asks` and an arm where it is done.
-ghost use Rattle.std.specs.Prelude.{◌≡◌, ◌↔◌, codes, [], ◌∷◌, map, string_bytes, IsTrue, IfSome, IfNone};
+ghost use Rattle.std.specs.Prelude.{◌≡◌, ◌↔◌, [], ◌∷◌, map, string_bytes, IsTrue, IfSome, IfNone};
 ghost use Rattle.nmgc_cli.specs.Task.{Asks, IsWrong};
 
 use crate::bench::batches_of;
@@ -14,6 +14,8 @@ pub enum Task {
     Run,
     /// `bench N`: runs the bench's script with so many batches, and writes the summary of its report.
     Bench { batches: u32 },
+    /// `upgrade`: reads a script from the source to its end, and writes the plain spelling of it in the last version.
+    Upgrade,
 }
 
 /// The task that the words ask for. `None` comes exactly where they ask for none.
@@ -22,19 +24,22 @@ pub fn task_of(words: &[String]) -> Option<Task>
     ensures asked { IfSome result (λ task. Asks (map string_bytes words.now) task) }
     ensures wrong { IfNone result (IsWrong (map string_bytes words.now)) }
 {
-    if is_run(words) {
+    if is_alone(words, "run") {
         return Some(Task::Run);
+    }
+    if is_alone(words, "upgrade") {
+        return Some(Task::Upgrade);
     }
     let batches = batches_of(words)?;
     Some(Task::Bench { batches })
 }
 
-// Whether the words are `run` alone.
-fn is_run(words: &[String]) -> bool
-    ensures { IsTrue result ↔ (map string_bytes words.now ≡ codes "run" ∷ []) }
+// Whether the words are this one alone.
+fn is_alone(words: &[String], name: &str) -> bool
+    ensures { IsTrue result ↔ (map string_bytes words.now ≡ name.now ∷ []) }
 {
     match words {
-        [word] => word.as_str() == "run",
+        [word] => word.as_str() == name,
         _ => false,
     }
 }

@@ -2,7 +2,7 @@
 //!
 //! - `runs`: scripts that are run or refused, and what is written; `large`: those of the most bytes.
 //! - `faults`: scripts that are cut, and sources and sinks that fail.
-//! - `benches`: benches and their summaries. `lines`: words, command lines, and statuses.
+//! - `benches`: benches and their summaries. `upgrades`: upgrades. `lines`: words, command lines, and statuses.
 //! - `running`: what the others share.
 //!
 //! Tables are looked through by one function each, whose proof sees no row of them.
@@ -12,3 +12,4 @@ mod large;
 mod lines;
 mod running;
 mod runs;
+mod upgrades;

@@ -2,14 +2,14 @@
 //!
 //! The text of a report, its summary and the text of a bad line take memory. Where there is none, the answer is
 //! `NoMemory` in place of the one that was found.
-ghost use Rattle.std.specs.Prelude.{◌≡◌, ◌⊎◌, IfOk, Ok, Err};
-ghost use Rattle.nmgc_cli.specs.Answer.{IsBad, IsToldAs, task_text, text_bytes};
-ghost use Rattle.nmgc_cli.specs.Bench.{CanBeWritten};
+ghost use Rattle.std.specs.Prelude.{◌≡◌, ◌⊎◌, Ok, Err, Some};
+ghost use Rattle.nmgc_cli.specs.Answer.{IsBad, IsToldAs, text_bytes};
+ghost use Rattle.nmgc_cli.specs.Bench.{CanBeWritten, HasCount};
+ghost use Rattle.nmgc_cli.specs.Status.{status_of};
 
+use crate::Status;
 use crate::answer::{Outcome, Refusal};
 use crate::message::{bad_line, message};
-use crate::{Status, Task};
-use nmgc_graph::NoMemory;
 use nmgc_journal::Report;
 use nmgc_journal::summary::summary;
 use nmgc_journal::text::text;
@@ -45,28 +45,51 @@ impl Text {
 
 /// What is told of a task that was done.
 pub fn told_outcome(alloc: Global, outcome: Outcome) -> Told
-    requires { CanBeWritten outcome.task outcome.report }
+    requires { CanBeWritten outcome }
     ensures { IsToldAs (Ok outcome) result ⊎ IsToldAs (Err Refusal.NoMemory) result }
 {
-    let Outcome { task, report } = outcome;
-    match task_text(alloc, task, &report) {
-        Ok(text) => Told {
-            status: Status::of_end(report.end),
-            report: Some(report),
+    match outcome {
+        Outcome::Ran(report) => told_run(alloc, report),
+        Outcome::Benched { batches, report } => told_bench(alloc, batches, report),
+        Outcome::Upgraded(text) => Told {
+            status: Status::Done,
+            report: None,
             text: Text::Made(text),
         },
+    }
+}
+
+// What is told of a run: its report's text.
+fn told_run(alloc: Global, report: Report) -> Told
+    ensures { IsToldAs (Ok (Outcome.Ran report)) result ⊎ IsToldAs (Err Refusal.NoMemory) result }
+{
+    match text(alloc, &report) {
+        Ok(text) => told_report(report, text),
         Err(_) => told_fixed(Refusal::NoMemory),
     }
 }
 
-// What a task writes of its report.
-fn task_text(alloc: Global, task: Task, report: &Report) -> Result<Vec<u8>, NoMemory>
-    requires { CanBeWritten task report.now }
-    ensures { IfOk result (λ text. text.items ≡ task_text task report.now) }
+// What is told of a bench: the summary of its report.
+fn told_bench(alloc: Global, batches: u32, report: Report) -> Told
+    requires { HasCount report }
+    ensures { IsToldAs (Ok (Outcome.Benched batches report)) result ⊎ IsToldAs (Err Refusal.NoMemory) result }
 {
-    match task {
-        Task::Run => text(alloc, report),
-        Task::Bench { batches } => summary(alloc, batches, report),
+    match summary(alloc, batches, &report) {
+        Ok(text) => told_report(report, text),
+        Err(_) => told_fixed(Refusal::NoMemory),
+    }
+}
+
+// What is told of a report by this text.
+fn told_report(report: Report, text: Vec<u8>) -> Told
+    ensures status { result.status ≡ status_of report.end }
+    ensures report { result.report ≡ Some report }
+    ensures text { text_bytes result.text ≡ text.items }
+{
+    Told {
+        status: Status::of_end(report.end),
+        report: Some(report),
+        text: Text::Made(text),
     }
 }
 

@@ -9,14 +9,15 @@ ghost use Rattle.nmgc_run.specs.Crowded.{IsRunOf};
 ghost use Rattle.nmgc_cycle.specs.Limits.{IsInLimits};
 ghost use Rattle.nmgc_cli.specs.Answer.{Answer, IsToldAs};
 ghost use Rattle.nmgc_cli.specs.Bench.{CanBeWritten};
-ghost use Rattle.nmgc_cli.specs.Task.{CanBeDone};
+ghost use Rattle.nmgc_cli.specs.Task.{CanBeDone, Reads};
 ghost use Rattle.nmgc_limits.specs.Limits.{most_script_bytes};
-ghost use Rattle.nmgc_cli.specs.Told.{IsTold, Answers, AnswersScript, AnswersBytes, IsWritten, Ends, IsReport, IsComplete, IsBenchComplete, ReadsNothing};
+ghost use Rattle.nmgc_cli.specs.Told.{IsTold, Answers, AnswersScript, AnswersBytes, IsRan, IsWritten, Ends, IsReport, IsComplete, IsBenchComplete, IsUpgrade, IsUpgradeComplete, ReadsNothing};
 
 use crate::answer::{Outcome, Refusal};
 use crate::bench::bench;
 use crate::task::{Task, task_of};
 use crate::told::{Told, told_outcome, told_refusal};
+use crate::upgrade::upgrade_read;
 use crate::{Ended, Status};
 use nmgc_cycle::Collector;
 use nmgc_graph::NoMemory;
@@ -31,7 +32,8 @@ use std::thread::Threads;
 
 /// Does what the words ask for. For `run`, reads a script from the source to its end, runs it, and writes
 /// the report's text to the sink; for `bench N`, reads nothing, runs the bench's script, and writes the
-/// summary. Answers the status, and the report where a script was run.
+/// summary; for `upgrade`, reads a script as `run` does, and writes the plain spelling of its upgrade.
+/// Answers the status, and the report where a script was run.
 ///
 /// Where something is in the way, the text of the first refusal is written in the report's place:
 /// words, read, length, grammar, run. For wrong words nothing is read. Where the sink fails, the status is
@@ -52,12 +54,16 @@ pub fn nmgc<R: Threads + Sync, S: Source, K: Sink>(
         × Ends (K.taken sink.old) (K.taken sink.new) (Rose (K.faults sink.old) (K.faults sink.new)) answer result.status result.report }
     // A report is lawful for the script that was read, ends by its cause, and its text was written.
     ensures report { IfSome result.report (λ report. IsReport (map string_bytes words.now) (S.left source.old) (S.left source.new) (K.taken sink.old) (K.taken sink.new) (Rose (K.faults sink.old) (K.faults sink.new)) result.status report) }
+    // Where a script was upgraded, the spelling of its upgrade was written; there is no report, and no heap that is full.
+    ensures upgrade { IsUpgrade (map string_bytes words.now) (S.left source.old) (S.left source.new) (K.taken sink.old) (K.taken sink.new) result.status result.report }
     // For wrong words and for a bench nothing is read.
     ensures unread { ReadsNothing (map string_bytes words.now) → source.new ≡ source.old }
     // A script within the limit is run to its end where there is no fault, unless the heap or memory ran out.
     ensures complete { IsComplete (map string_bytes words.now) (S.left source.old) (Rose (S.faults source.old) (S.faults source.new)) (Rose (K.faults sink.old) (K.faults sink.new)) result.status result.report }
     // So is a bench, which has no source that could fail.
     ensures bench { IsBenchComplete (map string_bytes words.now) (Rose (K.faults sink.old) (K.faults sink.new)) result.status result.report }
+    // And a script within the limit is upgraded.
+    ensures upgraded { IsUpgradeComplete (map string_bytes words.now) (S.left source.old) (Rose (S.faults source.old) (S.faults source.new)) (Rose (K.faults sink.old) (K.faults sink.new)) result.status }
 {
     let Told {
         status,
@@ -98,8 +104,8 @@ fn told<R: Threads + Sync, S: Source>(
     }
 }
 
-// The answer to the words. Of a task that was done the report can be written.
-#[tactic(auto, using(crate::proofs::Telling::undone, crate::proofs::Telling::asked_can))]
+// The answer to the words. What a task gave that was done can be written.
+#[tactic(auto, using(crate::proofs::Telling::asked, crate::proofs::Telling::asked_can))]
 fn answer<R: Threads + Sync, S: Source>(
     alloc: Global,
     rt: &R,
@@ -107,33 +113,31 @@ fn answer<R: Threads + Sync, S: Source>(
     source: &mut S,
 ) -> Result<Outcome, Refusal>
     ensures told { IsTold (map string_bytes words.now) (S.left source.old) (S.left source.new) (Rose (S.faults source.old) (S.faults source.new)) result }
-    ensures written { IfOk result (λ outcome. CanBeWritten outcome.task outcome.report) }
+    ensures written { IfOk result (λ outcome. CanBeWritten outcome) }
     ensures unread { ReadsNothing (map string_bytes words.now) → source.new ≡ source.old }
 {
     let Some(task) = task_of(words) else {
         return Err(Refusal::Usage);
     };
-    match report_of(alloc, rt, task, source) {
-        Ok(report) => Ok(Outcome { task, report }),
-        Err(refusal) => Err(refusal),
-    }
+    outcome_of(alloc, rt, task, source)
 }
 
-// The answer to a task, and that its report can be written.
-fn report_of<R: Threads + Sync, S: Source>(
+// The answer to a task, and that what it gives can be written.
+fn outcome_of<R: Threads + Sync, S: Source>(
     alloc: Global,
     rt: &R,
     task: Task,
     source: &mut S,
-) -> Result<Report, Refusal>
+) -> Result<Outcome, Refusal>
     requires { CanBeDone task }
     ensures told { Answers task (S.left source.old) (S.left source.new) (Rose (S.faults source.old) (S.faults source.new)) result }
-    ensures written { IfOk result (λ report. CanBeWritten task report) }
-    ensures unread { (task ≡ Task.Run → ⊥) → source.new ≡ source.old }
+    ensures written { IfOk result (λ outcome. CanBeWritten outcome) }
+    ensures unread { (Reads task → ⊥) → source.new ≡ source.old }
 {
     match task {
         Task::Run => run(alloc, rt, source),
         Task::Bench { batches } => bench(alloc, rt, batches),
+        Task::Upgrade => upgrade_read(alloc, source),
     }
 }
 
@@ -142,20 +146,21 @@ fn run<R: Threads + Sync, S: Source>(
     alloc: Global,
     rt: &R,
     source: &mut S,
-) -> Result<Report, Refusal>
-    ensures { AnswersScript (S.left source.old) (S.left source.new) (Rose (S.faults source.old) (S.faults source.new)) result }
+) -> Result<Outcome, Refusal>
+    ensures { AnswersScript IsRan (S.left source.old) (S.left source.new) (Rose (S.faults source.old) (S.faults source.new)) result }
 {
     let bytes = read_all(alloc, source, MAX_SCRIPT_BYTES)?;
     run_bytes(alloc, rt, &bytes)
 }
 
 // The answer to a script's bytes.
-fn run_bytes<R: Threads + Sync>(alloc: Global, rt: &R, bytes: &[u8]) -> Result<Report, Refusal>
+fn run_bytes<R: Threads + Sync>(alloc: Global, rt: &R, bytes: &[u8]) -> Result<Outcome, Refusal>
     requires { length bytes.now ≤ most_script_bytes }
-    ensures { AnswersBytes bytes.now result }
+    ensures { AnswersBytes IsRan bytes.now result }
 {
     let script = parse(alloc, bytes)?;
-    Ok(run_script(alloc, rt, script)?)
+    let report = run_script(alloc, rt, script)?;
+    Ok(Outcome::Ran(report))
 }
 
 /// The report of a script's run, under a gate that holds nobody back. Asks that the script is within the limits.

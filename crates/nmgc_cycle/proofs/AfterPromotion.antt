@@ -22,7 +22,6 @@ use Rattle.nmgc_blocks.specs.Stopped.{Stopped, IsSettled, young_base}
 use Rattle.nmgc_minor.specs.Placing.{moved_of}
 use Rattle.nmgc_minor.specs.Promotes.{emptied}
 use Rattle.nmgc_minor.specs.Start.{words_of}
-use Rattle.nmgc_mutator.specs.Records.{numbers}
 use Rattle.nmgc_mutator.specs.declared.mutator.Mutator.{Mutator}
 use Rattle.nmgc_script.specs.declared.script.Script.{Script}
 use Rattle.nmgc_run.specs.Collector.{AreNurseries}
@@ -43,6 +42,9 @@ use Rattle.nmgc_cycle.proofs.MutatorLists.{registers_count}
 use Rattle.nmgc_cycle.proofs.NewStops.{stopped_in}
 use Rattle.nmgc_cycle.proofs.RootLists.{seen_at}
 use Rattle.nmgc_cycle.proofs.Views.{registers_seen, queues_seen, serials_seen, nurseries_seen, whole_seen}
+use Rattle.nmgc_updrem.specs.Rings.{Receiver}
+use Rattle.nmgc_cycle.specs.Lined.{IsLined}
+use Rattle.nmgc_mutator.specs.Does.{remembered}
 
 -- the mutators of a collector have all their registers
 pub all_whole : (script : Script) (c : Collector) → IsWellFormed script c → All HasRegisters c.mutators.items
@@ -137,6 +139,7 @@ module _ (script : Script) (old new : Collector) (kept : IsWellFormed script old
           layout = before.layout ∙ sym p.layout;
           whole = record { layout = before.whole.layout; number = before.whole.number; size = size };
           no_replies = before.no_replies;
+          line = subst (λ (l : List Receiver). IsLined l k was.0.sender) (sym (ap (λ (y : Collector). y.inbox) p.rest)) before.line;
         },
         record { recorded = refl; young_weaks = refl },
       )
@@ -152,7 +155,7 @@ module _ (script : Script) (old new : Collector) (kept : IsWellFormed script old
   remembers k m e =
       let x = map_item seen_mutator new.mutators.items k m e in
       let was = one_given p.registers p.queues old.mutators.items new.mutators.items p.given k x.0 x.1 in
-      (seen_mutator was.0, seen_at old.mutators.items k was.0 was.2, ap (λ (y : MutatorSeen). y.entries) x.2 ∙ ap (λ (y : Mutator). numbers y.updrem.items) was.3)
+      (seen_mutator was.0, seen_at old.mutators.items k was.0 was.2, ap (λ (y : MutatorSeen). y.entries) x.2 ∙ ap (λ (y : Mutator). remembered y) was.3)
 
   emptied_are : nurseries_of (seen new) ≡ map emptied (nurseries_of (seen old))
   emptied_are = nurseries_seen new ∙ lists.nurseries_are ∙ ap (λ (ns : List Nursery). map emptied ns) (sym (nurseries_seen old))

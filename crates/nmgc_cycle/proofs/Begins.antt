@@ -1,6 +1,6 @@
 -- What a stop begins with, whether the collector is new or did a round.
 use Rattle.std.proofs.Common.{ℕ, ◌≡◌, ◌+◌, ◌*◌, ◌<◌, ◌≤◌, ◌⊎◌, List, [], ◌∷◌, ◌++◌, length, drop, slice_index_or, arith, refl, sym, ap, subst, ◌∙◌, inl, inr, append-nil, Option, Some, None}
-use Rattle.std.specs.Prelude.{IsSome}
+use Rattle.std.specs.Prelude.{Contains, IsSome}
 use Rattle.std.proofs.Math.Nat.{mul-le-mul_right}
 use Rattle.std.proofs.lemmas.List.{drop-drop, length-map}
 use Rattle.nmgc_graph.specs.declared.command.Command.{Command}
@@ -30,7 +30,7 @@ use Rattle.nmgc_journal.specs.declared.report.StopRow.{StopRow}
 use Rattle.nmgc_script.specs.declared.script.Script.{Script}
 use Rattle.nmgc_run.specs.Collector.{AreNurseries, IsPacedAfterRound, HoldsInCycle, Matches}
 use Rattle.nmgc_run.specs.Course.{IsInCourse, IsStateInCourse}
-use Rattle.nmgc_run.specs.Heap.{registers_of, queues_of}
+use Rattle.nmgc_run.specs.Heap.{IsPlaceAtStop, registers_of, queues_of}
 use Rattle.nmgc_run.specs.Round.{noted}
 use Rattle.nmgc_run.specs.Run.{Run, Turn, IsRun, IsTurn, Tells, last_state, with_turn}
 use Rattle.nmgc_run.specs.Seen.{ends_of, nurseries_of, recorded_in, young_weaks_in}
@@ -44,11 +44,13 @@ use Rattle.nmgc_run.specs.laws.Lefts.{round_left, left_is_told}
 use Rattle.nmgc_run.specs.laws.Remembering.{round_is_remembered}
 use Rattle.nmgc_run.specs.laws.Runs.{states_are_sound, rounds_are_sound, opening_worked, start_programs}
 use Rattle.nmgc_run.specs.laws.Turns.{run_goes_on, last_is_of_turn, tells_one_more}
+use Rattle.nmgc_sweep.specs.Names.{AreNamed}
+use Rattle.nmgc_sweep.specs.laws.Names.{named_first}
 use Rattle.nmgc_cycle.specs.declared.collector.Collector.{Collector}
 use Rattle.nmgc_cycle.specs.Bound.{AreFew}
 use Rattle.nmgc_cycle.specs.declared.progress.Progress.{Progress as Doing}
 use Rattle.nmgc_cycle.specs.Keeps.{CanStop, HasClosingRoom, IsFresh, HasWorked, Sweeps}
-use Rattle.nmgc_cycle.specs.Shown.{seen}
+use Rattle.nmgc_cycle.specs.Shown.{seen, told_cycles}
 use Rattle.nmgc_cycle.specs.Limits.{IsInLimits}
 use Rattle.nmgc_cycle.specs.Stopping.{CanList, StandsStopped}
 use Rattle.nmgc_cycle.proofs.Few.{fresh_few, fresh_begun}
@@ -96,13 +98,15 @@ pub record Begins (script : Script) (c : Collector) : Type 0 where
   pub later : (k : Cycle) → state.progress ≡ marking k → k.from + 1 ≤ state.number
   pub closing : HasClosingRoom c.progress (length c.mutators.items)
   pub sweeper : Sweeps state.progress state c
+  pub named : AreNamed (layout_of (plan_of script)) c.names state.allocation
+  pub low : (p : Place) → Contains places p → p.at < nursery_place (layout_of (plan_of script)) 0 → IsPlaceAtStop (layout_of (plan_of script)) state.allocation p
   pub sound : IsSoundBefore (plan_of script) began state
   pub course : IsStateInCourse state
   pub number : state.number ≡ length c.stops
   pub few : AreFew (state.world ≡ began) script c (length c.stops + 1)
   pub begun : c.begun ≤ length c.stops
   pub left : IsLeft script c.rounds state.left
-  pub goes_on : (t : State) (row : StopRow) (cycles : List CycleRow) → IsStop (plan_of script) began state t row cycles → IsToldBut (plan_of script) c.rounds c.stops (c.cycles ++ cycles) row t
+  pub goes_on : (t : State) (row : StopRow) (cycles : List CycleRow) → IsStop (plan_of script) began state t row cycles → IsToldBut (plan_of script) c.rounds c.stops (told_cycles c ++ cycles) row t
 
 -- the heap at a stop, by the mutators themselves
 stands_of : (t : Stopped) (c : Collector) → IsStopped t c.segments (seen c).words (nurseries_of (seen c)) (registers_of (ends_of (seen c))) (queues_of (ends_of (seen c))) (recorded_in (seen c)) (young_weaks_in (seen c)) → StandsStopped t c
@@ -159,7 +163,7 @@ new_begins script c limits f =
     let plan : Plan = plan_of script in
     let runnable = is_runnable script limits in
     let count : ℕ = length script.threads in
-    let none : (c.rounds ≡ []) × (c.stops ≡ []) × (c.cycles ≡ []) = f.new.nothing in
+    let none : (c.rounds ≡ []) × (c.stops ≡ []) × (told_cycles c ≡ []) = f.new.nothing in
     let no_stops : length c.stops ≡ 0 = ap (λ (stops : List StopRow). length stops) none.1 in
     let opening = opening_worked plan runnable in
     let able = start_programs plan runnable in
@@ -177,6 +181,8 @@ new_begins script c limits f =
       later = λ k e. absurd (let bad : idle ≡ marking k = e in cc);
       closing = subst (λ (p : Doing). HasClosingRoom p (length c.mutators.items)) (sym (when_idle c.progress f.new.matches.phase)) tt;
       sweeper = tt;
+      named = named_first (layout_of plan) c.names script.config.segments;
+      low = λ p there at. (f.new.heap.all p).0 there;
       sound = record {
         world = opening.world;
         able = record { programs = able.count; mutators = opening.mutators; registers = able.registers; serials = opening.made };
@@ -231,7 +237,7 @@ module _ (script : Script) (c : Collector) (limits : IsInLimits script) (h : Has
 
   numbers : h.worked.number ≡ length c.stops
   numbers =
-      let n = run_number plan h.run h.after.before c.stops c.cycles h.after.is_run h.after.tells in
+      let n = run_number plan h.run h.after.before c.stops (told_cycles c) h.after.is_run h.after.tells in
       let more : h.worked.number ≡ before.number + 1 = ap (λ (x : State). x.number) h.after.round.rest in
       omega (arith, n.0, n.1, more)
 
@@ -239,7 +245,7 @@ module _ (script : Script) (c : Collector) (limits : IsInLimits script) (h : Has
   left = record {
     count = ap (λ (x : State). length x.left) h.after.round.rest ∙ length-map before.left _ ∙ (states_are_sound plan h.run (is_runnable script limits) h.after.is_run).able.programs;
     each = λ m.
-        let told = left_is_told plan h.run h.after.before c.stops c.cycles h.after.is_run h.after.tells m in
+        let told = left_is_told plan h.run h.after.before c.stops (told_cycles c) h.after.is_run h.after.tells m in
         let count : ℕ = length (slice_index_or h.replies m []) in
         round_left plan.config before h.worked h.replies h.history m h.after.round
         ∙ ap (λ (program : List Command). drop count program) told
@@ -260,15 +266,15 @@ module _ (script : Script) (c : Collector) (limits : IsInLimits script) (h : Has
       let from = from_before before.progress before.number before.begun before.allocation h.history (runs_are plan h.run h.after.is_run) k is in
       omega (arith, number, from)
 
-  goes_on : (t : State) (row : StopRow) (cycles : List CycleRow) → IsStop plan before.world h.worked t row cycles → IsToldBut plan c.rounds c.stops (c.cycles ++ cycles) row t
+  goes_on : (t : State) (row : StopRow) (cycles : List CycleRow) → IsStop plan before.world h.worked t row cycles → IsToldBut plan c.rounds c.stops (told_cycles c ++ cycles) row t
   goes_on t row cycles stop =
       let turn : Turn = record { replies = rows; history = h.history; worked = h.worked; stop = record { state = t; row = row; cycles = cycles } } in
       let is : IsTurn plan before turn = record { goes_on = h.after.goes_on; round = h.after.round; stop = stop } in
-      let told : Tells (with_turn h.run turn) (h.after.before ++ rows ∷ []) (c.stops ++ row ∷ []) (c.cycles ++ cycles) = tells_one_more h.run turn h.after.before c.stops c.cycles h.after.tells in
+      let told : Tells (with_turn h.run turn) (h.after.before ++ rows ∷ []) (c.stops ++ row ∷ []) (told_cycles c ++ cycles) = tells_one_more h.run turn h.after.before c.stops (told_cycles c) h.after.tells in
       record {
         run = with_turn h.run turn;
         is_run = run_goes_on plan h.run turn h.after.is_run is;
-        tells = subst (λ (r : List RoundRows). Tells (with_turn h.run turn) r (c.stops ++ row ∷ []) (c.cycles ++ cycles)) (sym h.after.rounds) told;
+        tells = subst (λ (r : List RoundRows). Tells (with_turn h.run turn) r (c.stops ++ row ∷ []) (told_cycles c ++ cycles)) (sym h.after.rounds) told;
         last = last_is_of_turn h.run turn;
       }
 
@@ -286,6 +292,11 @@ module _ (script : Script) (c : Collector) (limits : IsInLimits script) (h : Has
     later = later;
     closing = h.closing;
     sweeper = h.sweeper;
+    named = h.named;
+    low = λ p there at. elim (h.after.heap.sound p there) [
+      | inl old ↦ old
+      | inr born ↦ absurd (let from = born.nursery.from in omega (arith, from, at))
+    ];
     sound = sound;
     course = rounds_stay plan.config before h.worked h.replies h.history h.after.round (runs_are plan h.run h.after.is_run);
     number = numbers;

@@ -40,6 +40,7 @@ stands_on script c s goes h = record {
   cycle = in_pace script.config.quota s (seen c) h.heap.places s.progress goes h.cycle;
   closing = h.closing;
   sweeper = h.sweeper;
+  named = h.named;
 }
 
 module _ (law : FinishingLeads) (script : Script) (old new : Collector) (s : State) (limits : IsInLimits script) (h : StandsWithin script old s) (closed : HasClosed Closes s.number old new) where

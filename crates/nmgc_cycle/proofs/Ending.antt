@@ -18,23 +18,23 @@ use Rattle.nmgc_run.specs.State.{State, Cycle, Plan, Progress, idle, marking, sw
 use Rattle.nmgc_run.specs.Stop.{EndsOrWaits, IsSwept}
 use Rattle.nmgc_script.specs.declared.script.Script.{Script}
 use Rattle.nmgc_sweep.specs.Statements.{EndTellsCensus, TellsCensus}
-use Rattle.nmgc_sweep.specs.Sweeper.{AreLeft}
 use Rattle.nmgc_sweep.specs.Work.{IsAtWork}
+use Rattle.std.proofs.lemmas.List.{map-append}
 use Rattle.nmgc_cycle.specs.declared.collector.Collector.{Collector}
 use Rattle.nmgc_cycle.specs.declared.progress.Progress.{Progress as Doing}
 use Rattle.nmgc_cycle.specs.declared.progress.Progress.TheVariants as doing
 use Rattle.nmgc_cycle.specs.declared.progress.Sweeping.{Sweeping}
 use Rattle.nmgc_cycle.specs.Cycles.{row_of, Ends}
 use Rattle.nmgc_cycle.specs.Keeps.{Sweeps}
-use Rattle.nmgc_cycle.specs.Shown.{seen, sweeper_in, cycle_in, phase_in, died}
+use Rattle.nmgc_cycle.specs.Shown.{seen, sweeper_in, cycle_in, phase_in, died, told_row, told_cycles}
 use Rattle.nmgc_cycle.specs.Steps.{StandsAt, EndLeads}
 use Rattle.nmgc_reach.specs.laws.ItemLaws.{nothing_in}
 use Rattle.nmgc_cycle.proofs.StepReady.{none_back}
 use Rattle.nmgc_cycle.proofs.Telling.{kept_told}
 
 -- the collector once the cycle has ended, and its state
-abbrev pub ended : Collector → ℕ → CycleRow → Collector
-ended c turns row = record c { progress = doing.Idle; turns = turns; cycles = c.cycles ++ row ∷ [] }
+abbrev pub ended : Collector → ℕ → ℕ → CycleRow → Collector
+ended c turns upper row = record c { progress = doing.Idle; turns = turns; upper_turns = upper; cycles = c.cycles ++ row ∷ [] }
 
 abbrev pub idled : State → State
 idled s = record s { progress = idle }
@@ -75,9 +75,6 @@ module _ (script : Script) (c : Collector) (s : State) (h : StandsAt script c s)
   swept_by : Sweeps (sweeping k closed) s c
   swept_by = subst (λ (q : Progress). Sweeps q s c) is h.sweeper
 
-  left : AreLeft c.segments w.sweeper.left
-  left = subst (λ (p : Doing). AreLeft c.segments (sweeper_in p).left) at swept_by.0
-
   work : IsAtWork k closed (seen c).words s.allocation c.segments (cycle_in (doing.Sweeping w) (died c.weaks.deaths)) w.sweeper
   work = subst (λ (p : Doing). IsAtWork k closed (seen c).words s.allocation c.segments (cycle_in p (died c.weaks.deaths)) (sweeper_in p)) at swept_by.1
 
@@ -87,9 +84,9 @@ module _ (script : Script) (c : Collector) (s : State) (h : StandsAt script c s)
   abbrev pub row : CycleRow
   row = row_of c.begun s.number w (died c.weaks.deaths)
 
-  census : EndTellsCensus → IsSwept s → IsCensus k closed s.number row
+  census : EndTellsCensus → IsSwept s → IsCensus k closed s.number (told_row row)
   census law swept =
-      let told : TellsCensus k w.sweeper = law k closed (seen c).words s.allocation c.segments (cycle_in (doing.Sweeping w) (died c.weaks.deaths)) w.sweeper work left swept in
+      let told : TellsCensus k w.sweeper = law k closed (seen c).words s.allocation c.segments (cycle_in (doing.Sweeping w) (died c.weaks.deaths)) w.sweeper work swept in
       record {
         number = h.matches.begun ∙ sym course.0.number_is;
         from = work.sweeping.from_is;
@@ -102,10 +99,10 @@ module _ (script : Script) (c : Collector) (s : State) (h : StandsAt script c s)
         kept = work.sweeping.kept;
       }
 
-  stands_then : (turns : ℕ) → IsSwept s → StandsAt script (ended c turns row) (idled s)
+  stands_then : (turns upper : ℕ) → IsSwept s → StandsAt script (ended c turns upper row) (idled s)
   unfolding heap
-  stands_then turns swept = record {
-    kept = kept_told script c (ended c turns row) refl h.kept;
+  stands_then turns upper swept = record {
+    kept = kept_told script c (ended c turns upper row) refl h.kept;
     sound = sound;
     course = swept;
     matches = record { phase = refl; begun = h.matches.begun; collect = h.matches.collect; full = h.matches.full };
@@ -116,29 +113,30 @@ module _ (script : Script) (c : Collector) (s : State) (h : StandsAt script c s)
     cycle = (subst (λ (q : Progress). HoldsInCycle (λ (r : Cycle). IsPacedAtStop script.config.quota r s (seen c)) q s (seen c) h.heap.places) is h.cycle).1;
     closing = tt;
     sweeper = tt;
+    named = h.named;
   }
 
   -- the cycle ended
-  pub ends_now : EndTellsCensus → (new : Collector) → HasNone sought.Sweeping c.segments → new ≡ ended c w.sweeper.turns row → (t : State) × (rows : List CycleRow) × EndsOrWaits s.progress s t rows × (new.cycles ≡ c.cycles ++ rows) × StandsAt script new t
+  pub ends_now : EndTellsCensus → (new : Collector) → HasNone sought.Sweeping c.segments → new ≡ ended c w.sweeper.turns w.sweeper.upper_turns row → (t : State) × (rows : List CycleRow) × EndsOrWaits s.progress s t rows × (told_cycles new ≡ told_cycles c ++ rows) × StandsAt script new t
   ends_now law new waits new_is =
       let swept : IsSwept s = none_to_sweep c.segments (seen c).words s.allocation h.heap.holds.stands waits in (
         idled s,
-        row ∷ [],
-        subst (λ (q : Progress). EndsOrWaits q s (idled s) (row ∷ [])) (sym is) (inl (swept, record { row = row; census = census law swept; told = refl; rest = refl })),
-        ap (λ (x : Collector). x.cycles) new_is,
-        subst (λ (x : Collector). StandsAt script x (idled s)) (sym new_is) (stands_then w.sweeper.turns swept),
+        told_row row ∷ [],
+        subst (λ (q : Progress). EndsOrWaits q s (idled s) (told_row row ∷ [])) (sym is) (inl (swept, record { row = told_row row; census = census law swept; told = refl; rest = refl })),
+        ap told_cycles new_is ∙ map-append told_row c.cycles (row ∷ []),
+        subst (λ (x : Collector). StandsAt script x (idled s)) (sym new_is) (stands_then w.sweeper.turns w.sweeper.upper_turns swept),
       )
 
 module _ (law : EndTellsCensus) (script : Script) (old new : Collector) (s : State) (h : StandsAt script old s) where
   abbrev Leads : Type 0
-  Leads = (t : State) × (rows : List CycleRow) × EndsOrWaits s.progress s t rows × (new.cycles ≡ old.cycles ++ rows) × StandsAt script new t
+  Leads = (t : State) × (rows : List CycleRow) × EndsOrWaits s.progress s t rows × (told_cycles new ≡ told_cycles old ++ rows) × StandsAt script new t
 
   stays : (q : Progress) → s.progress ≡ q → EndsOrWaits q s s [] → new ≡ old → Leads
   stays q is waits same = (
     s,
     [],
     subst (λ (p : Progress). EndsOrWaits p s s []) (sym is) waits,
-    ap (λ (x : Collector). x.cycles) same ∙ sym (append-nil old.cycles),
+    ap told_cycles same ∙ sym (append-nil (told_cycles old)),
     subst (λ (x : Collector). StandsAt script x s) (sym same) h,
   )
 

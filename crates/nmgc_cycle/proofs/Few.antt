@@ -3,6 +3,7 @@ use Rattle.std.proofs.Common.{ℕ, ◌≡◌, ◌+◌, ◌<◌, ◌≤◌, ◌^�
 use Rattle.nmgc_journal.specs.declared.report.RoundRows.{RoundRows}
 use Rattle.nmgc_journal.specs.declared.report.StopRow.{StopRow}
 use Rattle.nmgc_script.specs.declared.script.Script.{Script}
+use Rattle.nmgc_script.specs.laws.Versions.{threads_few}
 use Rattle.nmgc_cycle.specs.declared.collector.Collector.{Collector}
 use Rattle.nmgc_cycle.specs.Bound.{commands_left, most_stops, phase_left, MayFollow, AreFew, NoneIsDue, commands, one_cycle, no_cycle}
 use Rattle.nmgc_cycle.specs.Keeps.{CanStop, IsFresh}
@@ -20,7 +21,7 @@ within N script c stops (no_cycle none nothing due h) = omega (arith, h)
 pub stops_fit : (script : Script) → IsInLimits script → most_stops script < 2 ^ 32
 stops_fit script limits =
     let most = commands_most script limits [] in
-    let threads = limits.fits.threads in
+    let threads = threads_few script limits.fits in
     let total = limits.fits.total in
     let segments = limits.fits.config.segments in
     omega arith

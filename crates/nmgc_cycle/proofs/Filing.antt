@@ -23,6 +23,7 @@ use Rattle.nmgc_run.specs.State.{State, Progress, idle, plan_of, layout_of}
 use Rattle.nmgc_run.specs.Stop.{with_all_retired}
 use Rattle.nmgc_run.specs.laws.Filing.{retired_filed}
 use Rattle.nmgc_script.specs.declared.script.Script.{Script}
+use Rattle.nmgc_sweep.specs.laws.Names.{named_retired}
 use Rattle.nmgc_cycle.specs.declared.collector.Collector.{Collector}
 use Rattle.nmgc_cycle.specs.declared.progress.Progress.{Progress as Doing}
 use Rattle.nmgc_cycle.specs.declared.progress.Progress.TheVariants as doing
@@ -128,9 +129,11 @@ module _ (script : Script) (c : Collector) (st : State) (h : StandsAt script (re
     layout = h.kept.layout;
     sound = sound;
     lists = h.kept.lists;
+    entries = h.kept.entries;
     has_words = h.kept.has_words;
     count = h.kept.count;
-    own = λ n m e. let o = h.kept.own n m e in record { number = o.number; layout = o.layout; whole = o.whole; no_replies = o.no_replies };
+    own = λ n m e. let o = h.kept.own n m e in record { number = o.number; layout = o.layout; whole = o.whole; no_replies = o.no_replies; line = o.line };
+    inbox = h.kept.inbox;
     positions_are = h.kept.positions_are;
     positions = h.kept.positions;
     no_ends = h.kept.no_ends;
@@ -151,6 +154,7 @@ module _ (script : Script) (c : Collector) (st : State) (h : StandsAt script (re
     cycle = settled_then st.begun c.segments h.cycle;
     closing = tt;
     sweeper = tt;
+    named = named_retired layout c.names st.allocation h.named;
   }
 
 pub filing_leads : FilingLeads

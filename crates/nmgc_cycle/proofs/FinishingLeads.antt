@@ -49,6 +49,7 @@ use Rattle.nmgc_weak.specs.declared.weaks.Death.{Death}
 use Rattle.nmgc_weak.specs.Closes.{HasClosed as IsClosedBy}
 use Rattle.nmgc_weak.specs.Resolve.{AreDeaths, HasResolved}
 use Rattle.nmgc_weak.specs.Weaks.{places_of, Weaks}
+use Rattle.nmgc_sweep.specs.Names.{HaveEntries}
 use Rattle.nmgc_cycle.specs.declared.collector.Collector.{Collector}
 use Rattle.nmgc_cycle.specs.declared.progress.Marking.{Marking}
 use Rattle.nmgc_cycle.specs.declared.progress.Progress.{Progress as Doing}
@@ -63,6 +64,7 @@ use Rattle.nmgc_cycle.specs.Shown.{died, phase_in, seen, seen_mutator, words_in}
 use Rattle.nmgc_cycle.specs.Steps.{StandsAt, IsPacedWithin, FinishingLeads}
 use Rattle.nmgc_cycle.proofs.Queued.{AreWith, are_with, new_queues, old_queues, one_with, same_nurseries, same_registers, same_serials, same_whole}
 use Rattle.nmgc_cycle.proofs.StepReady.{StandsInPace, marks, rests_there}
+use Rattle.nmgc_cycle.specs.Lined.{IsLined}
 
 -- the laws on which a closing rests
 pub record ClosingLaws : Type 0 where
@@ -214,10 +216,13 @@ module _ (Paced : Cycle → State → Seen → Type 0) (laws : ClosingLaws) (scr
   tells = record { from_is = now.0.from_is; closed_is = refl; dead_is = died_are (finished_on o cl.between cl.finisher finished) dead weaks.deaths resolved.deaths_are; kept_is = refl }
 
   sweeps_then : IsSweeping k st.number st.allocation segments (seen next).cycle m.sweeper.seen × AreSettled st.begun segments
-  sweeps_then = laws.sweeps k s dead words cl.marked cl.marker (seen next).cycle m.sweeper.seen cl.sound.0 closed_heap.0.holds.stands h.course.0 h.course.1 closed_by epoch_is tells now.0.noted h.sweeper.2
+  sweeps_then = laws.sweeps k s dead words cl.marked cl.marker (seen next).cycle m.sweeper.seen cl.sound.0 closed_heap.0.holds.stands h.course.0 h.course.1 closed_by epoch_is tells now.0.noted h.sweeper.2 h.sweeper.3
 
-  left_then : AreLeft segments m.sweeper.left
-  left_then = laws.left c.segments segments m.sweeper.left (laws.waits c.segments segments before words st.allocation h.heap.holds.stands stands_then) h.sweeper.0.left
+  left_then : AreLeft segments m.sweeper
+  left_then = laws.left c.segments segments m.sweeper (laws.waits c.segments segments before words st.allocation h.heap.holds.stands stands_then) marked_layout h.sweeper.0.left
+
+  left_turned : AreLeft segments (turned m.sweeper m.marker.turns)
+  left_turned = record { numbers = left_then.numbers; room = left_then.room }
 
   closed_now : IsClosedNow k st.number st.allocation segments (seen next).cycle m.sweeper.seen.epoch
   closed_now = record {
@@ -232,10 +237,10 @@ module _ (Paced : Cycle → State → Seen → Type 0) (laws : ClosingLaws) (scr
   }
 
   notes_then : HasNotes k (turned m.sweeper m.marker.turns)
-  notes_then = let was = h.sweeper.0.notes in record { noted = was.noted; notes = was.notes; once = was.once }
+  notes_then = let was = h.sweeper.0.notes in record { noted = was.noted; once = was.once }
 
   at_work : IsAtWork k st.number words st.allocation segments (seen next).cycle (turned m.sweeper m.marker.turns)
-  at_work = laws.works k st.number words st.allocation segments (seen next).cycle (turned m.sweeper m.marker.turns) stands_then notes_then left_then h.sweeper.1 h.sweeper.2 closed_now
+  at_work = laws.works k st.number words st.allocation segments (seen next).cycle (turned m.sweeper m.marker.turns) stands_then notes_then left_turned h.sweeper.1 h.sweeper.2 h.sweeper.3 closed_now
 
   -- the collector keeps what it keeps, and the state is sound
 
@@ -244,6 +249,7 @@ module _ (Paced : Cycle → State → Seen → Type 0) (laws : ClosingLaws) (scr
     layout = layout_is;
     sound = subst (λ (g : Segments). IsSegments g) cl.carried cl.sound.1;
     lists = subst (λ (l : Layout). IsFor l c.promotion) (sym marked_layout) h.kept.lists;
+    entries = subst (λ (l : Layout). HaveEntries l c.names) (sym marked_layout) h.kept.entries;
     has_words = some;
     count = cl.joined.have.count ∙ h.kept.count;
     own = λ i x e.
@@ -255,7 +261,9 @@ module _ (Paced : Cycle → State → Seen → Type 0) (laws : ClosingLaws) (scr
           layout = ap (λ (y : Mutator). y.layout) is ∙ own.layout ∙ sym marked_layout;
           whole = subst IsWhole (sym is) (record { layout = own.whole.layout; number = own.whole.number; size = own.whole.size });
           no_replies = ap (λ (y : Mutator). y.replies.items) is ∙ own.no_replies;
+          line = subst (λ (y : Mutator). IsLined c.inbox i y.sender) (sym is) own.line;
         };
+    inbox = h.kept.inbox;
     positions_are = h.kept.positions_are;
     positions = h.kept.positions;
     no_ends = h.kept.no_ends;
@@ -331,7 +339,8 @@ module _ (Paced : Cycle → State → Seen → Type 0) (laws : ClosingLaws) (scr
       rest = rest_then;
       cycle = sweeps_then;
       closing = tt;
-      sweeper = (left_then, at_work);
+      sweeper = (left_turned, at_work);
+      named = h.named;
     },
   )
 

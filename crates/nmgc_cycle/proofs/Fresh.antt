@@ -26,14 +26,17 @@ use Rattle.nmgc_journal.specs.declared.report.RoundRows.{RoundRows}
 use Rattle.nmgc_heap.specs.Roots.{ListsWeaks, RepresentsRoots}
 use Rattle.nmgc_weak.specs.declared.weaks.OldWeak.{OldWeak}
 use Rattle.nmgc_weak.specs.Weaks.{places_of}
+use Rattle.nmgc_journal.specs.declared.report.CycleRow.{CycleRow}
+use Rattle.nmgc_sweep.specs.Names.{HaveEntries}
 use Rattle.nmgc_cycle.specs.declared.collector.Collector.{Collector}
 use Rattle.nmgc_cycle.specs.Keeps.{IsOwn, IsWellFormed, IsFresh}
 use Rattle.nmgc_cycle.specs.declared.progress.Progress.TheVariants as progress
-use Rattle.nmgc_cycle.specs.Shown.{seen, seen_mutator, phase_in}
+use Rattle.nmgc_cycle.specs.Shown.{seen, seen_mutator, phase_in, told_row}
 use Rattle.nmgc_cycle.proofs.Empty.{fit_blocks, place_of_g, g_has_place, lists_no_weaks, no_marks}
 use Rattle.nmgc_cycle.proofs.News.{AreNew, new_end, ends_are, have_registers, new_roots}
 use Rattle.nmgc_cycle.proofs.Unused.{are_empty, are_nurseries, nothing_left}
 use Rattle.nmgc_heap.specs.Places.{shared_place}
+use Rattle.nmgc_cycle.specs.Lined.{IsLined}
 
 -- what a new collector is made of
 pub record IsMade (layout : Layout) (script : Script) (c : Collector) : Type 0 where
@@ -48,8 +51,12 @@ pub record IsMade (layout : Layout) (script : Script) (c : Collector) : Type 0 w
   pub segments : c.segments ≡ all_free layout
   pub sound : IsSegments c.segments
   pub promotion : IsFor layout c.promotion
+  pub entries : HaveEntries layout c.names
   pub count : length c.mutators.items ≡ layout.mutators
   pub new : AreNew layout c.mutators.items
+  pub inbox : length c.inbox ≡ layout.mutators
+  pub lines : (k : ℕ) (m : Mutator) → slice_get c.mutators.items k ≡ Some m → IsLined c.inbox k m.sender
+  pub unsent : (k : ℕ) (m : Mutator) → slice_get c.mutators.items k ≡ Some m → m.sender.since ≡ []
   pub positions : c.positions.items ≡ replicate layout.mutators 0
   pub no_ends : c.ends.items ≡ []
   pub room : layout.mutators ≤ vec_capacity c.ends
@@ -83,6 +90,7 @@ module _ (script : Script) (c : Collector) (made : IsMade (layout_of (plan_of sc
           size = ap (λ (r : List ℕ). length r) is.registers;
         };
         no_replies = is.replies;
+        line = made.lines k m e;
       }
 
   kept : IsWellFormed script c
@@ -90,9 +98,11 @@ module _ (script : Script) (c : Collector) (made : IsMade (layout_of (plan_of sc
     layout = same_layout;
     sound = made.sound;
     lists = subst (λ (l : Layout). IsFor l c.promotion) (sym same_layout) made.promotion;
+    entries = subst (λ (l : Layout). HaveEntries l c.names) (sym same_layout) made.entries;
     has_words = made.has_words;
     count = made.count;
     own = own;
+    inbox = made.inbox;
     positions_are = ap length made.positions ∙ length-replicate (length script.threads) 0;
     positions = λ k lt. ap (λ (items : List ℕ). slice_index items k) made.positions ∙ get_or-replicate (length script.threads) k 0 0 lt ∙ sym (ap (λ (rounds : List RoundRows). answered_count rounds k) made.nothing.0);
     no_ends = made.no_ends;
@@ -111,7 +121,7 @@ module _ (script : Script) (c : Collector) (made : IsMade (layout_of (plan_of sc
 
   is_new : IsNew (plan_of script) (seen c)
   is_new = record {
-    nothing = made.nothing;
+    nothing = (made.nothing.0, made.nothing.1, ap (λ (rows : List CycleRow). map told_row rows) made.nothing.2);
     matches = record { phase = ap phase_in made.idle.0; begun = made.idle.1; collect = made.idle.2; full = made.idle.3 };
     heap = record {
       places = shared_place ∷ [];
@@ -122,7 +132,7 @@ module _ (script : Script) (c : Collector) (made : IsMade (layout_of (plan_of sc
     at_rest = record {
       nurseries = are_nurseries sizes c.mutators.items made.new (new_world (length script.threads)) made.count;
       empty = are_empty sizes c.mutators.items made.new;
-      nothing = nothing_left sizes c.mutators.items made.new;
+      nothing = nothing_left sizes c.mutators.items made.new made.unsent;
     };
     settled = subst (AreSettled 0) (sym made.segments) (no_marks sizes 0);
   }

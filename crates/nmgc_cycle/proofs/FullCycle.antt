@@ -16,7 +16,7 @@ use Rattle.nmgc_run.specs.Slice.{has_left}
 use Rattle.nmgc_run.specs.State.{Plan, State, Progress, idle, marking, sweeping, cycle_started, free_count, plan_of}
 use Rattle.nmgc_run.specs.Stop.{Finishes, DoesFullCycle, EndsOrWaits, IsFullDue, Proceeds, is_short, with_all_retired}
 use Rattle.nmgc_script.specs.declared.script.Script.{Script}
-use Rattle.nmgc_sweep.specs.declared.notes.Section.{Section}
+use Rattle.nmgc_graph.specs.declared.value.Name.{Name}
 use Rattle.nmgc_cycle.specs.declared.collector.Collector.{Collector}
 use Rattle.nmgc_cycle.specs.declared.progress.Marking.{Marking}
 use Rattle.nmgc_cycle.specs.declared.progress.Progress.{Progress as Doing}
@@ -27,7 +27,7 @@ use Rattle.nmgc_cycle.specs.Full as full
 use Rattle.nmgc_cycle.specs.Full.{HasFinished}
 use Rattle.nmgc_cycle.specs.FullLaws.{StandsAtStop, FinishingNowLeads, SweepingRestLeads, FinishLeads, FilingLeads, FullLeads, ProceedingLeads}
 use Rattle.nmgc_cycle.specs.Roots.{HasRegisters}
-use Rattle.nmgc_cycle.specs.Shown.{words_in}
+use Rattle.nmgc_cycle.specs.Shown.{words_in, told_cycles}
 use Rattle.nmgc_cycle.specs.Limits.{IsInLimits}
 use Rattle.nmgc_cycle.specs.Steps.{StandsAt, StartingLeads, EndLeads, BeginReady, BeginningLeads}
 use Rattle.nmgc_cycle.proofs.AfterPromotion.{all_whole}
@@ -94,20 +94,20 @@ no_marking stop doing.Idle old new at h m is = let bad : doing.Idle ≡ doing.Ma
 no_marking stop (doing.Marking n) old new at h m is = let bad : doing.Sweeping h.0 ≡ doing.Marking m = sym h.1 ∙ is in cc
 no_marking stop (doing.Sweeping w) old new at h m is = let bad : doing.Sweeping w ≡ doing.Marking m = sym at ∙ sym (ap (λ (x : Collector). x.progress) h) ∙ is in cc
 
-still_no_marking : (a b : Segments) (p after : Doing) → full.SweepsRest a b p after → ((m : Marking) → p ≡ doing.Marking m → ⊥) → (m : Marking) → after ≡ doing.Marking m → ⊥
-still_no_marking a b doing.Idle after h never m is = let bad : doing.Idle ≡ doing.Marking m = sym h.0 ∙ is in cc
-still_no_marking a b (doing.Marking n) after h never m is = never n refl
-still_no_marking a b (doing.Sweeping w) after h never m is = let bad : doing.Sweeping h.0 ≡ doing.Marking m = sym h.1 ∙ is in cc
+still_no_marking : (a b : Segments) (names : List Name) (p after : Doing) → full.SweepsRest a b names p after → ((m : Marking) → p ≡ doing.Marking m → ⊥) → (m : Marking) → after ≡ doing.Marking m → ⊥
+still_no_marking a b names doing.Idle after h never m is = let bad : doing.Idle ≡ doing.Marking m = sym h.0 ∙ is in cc
+still_no_marking a b names (doing.Marking n) after h never m is = never n refl
+still_no_marking a b names (doing.Sweeping w) after h never m is = let bad : doing.Sweeping h.0 ≡ doing.Marking m = sym h.1 ∙ is in cc
 
-left_of : Doing → List Section
+left_of : Doing → List ℕ
 left_of doing.Idle = []
 left_of (doing.Marking m) = []
 left_of (doing.Sweeping w) = w.sweeper.left
 
-none_left : (a b : Segments) (p after : Doing) → full.SweepsRest a b p after → (w : Sweeping) → after ≡ doing.Sweeping w → HasNone sought.Sweeping b
-none_left a b doing.Idle after h w is = absurd (let bad : doing.Idle ≡ doing.Sweeping w = sym h.0 ∙ is in cc)
-none_left a b (doing.Marking n) after h w is = absurd (let bad : doing.Marking n ≡ doing.Sweeping w = sym h.0 ∙ is in cc)
-none_left a b (doing.Sweeping v) after h w is = none_waits b h.0.sweeper.left h.2.swept.left (ap (λ (l : List Section). length l) h.2.none)
+none_left : (a b : Segments) (names : List Name) (p after : Doing) → full.SweepsRest a b names p after → (w : Sweeping) → after ≡ doing.Sweeping w → HasNone sought.Sweeping b
+none_left a b names doing.Idle after h w is = absurd (let bad : doing.Idle ≡ doing.Sweeping w = sym h.0 ∙ is in cc)
+none_left a b names (doing.Marking n) after h w is = absurd (let bad : doing.Marking n ≡ doing.Sweeping w = sym h.0 ∙ is in cc)
+none_left a b names (doing.Sweeping v) after h w is = none_waits b h.0.sweeper h.2.swept.left (ap (λ (l : List ℕ). length l) h.2.none)
 
 ended_idle : (stop : ℕ) (p : Doing) (old new : Collector) → old.progress ≡ p → Ends stop p old new → ((m : Marking) → p ≡ doing.Marking m → ⊥) → ((w : Sweeping) → p ≡ doing.Sweeping w → HasNone sought.Sweeping old.segments) → new.progress ≡ doing.Idle
 ended_idle stop doing.Idle old new is h never none = ap (λ (x : Collector). x.progress) h ∙ is
@@ -117,8 +117,8 @@ ended_idle stop (doing.Sweeping w) old new is (inr h) never none = absurd (h.0 (
 
 pub finished_idle : (stop : ℕ) (old new : Collector) → HasFinished stop old new → new.progress ≡ doing.Idle
 finished_idle stop old new f =
-    let never = still_no_marking f.closed.segments f.swept.segments f.closed.progress f.swept.progress f.sweeps.sweeps (no_marking stop old.progress old f.closed refl f.closes.closes) in
-    ended_idle stop f.swept.progress f.swept new refl f.ends never (none_left f.closed.segments f.swept.segments f.closed.progress f.swept.progress f.sweeps.sweeps)
+    let never = still_no_marking f.closed.segments f.swept.segments f.closed.names f.closed.progress f.swept.progress f.sweeps.sweeps (no_marking stop old.progress old f.closed refl f.closes.closes) in
+    ended_idle stop f.swept.progress f.swept new refl f.ends never (none_left f.closed.segments f.swept.segments f.closed.names f.closed.progress f.swept.progress f.sweeps.sweeps)
 
 pub finish_leads : FinishingNowLeads → SweepingRestLeads → EndLeads → FinishLeads
 finish_leads closing sweeping_rest ending script old new s limits h f =
@@ -127,7 +127,7 @@ finish_leads closing sweeping_rest ending script old new s limits h f =
     let swept : State = record first.0 { allocation = rest.0 } in
     let number : first.0.number ≡ s.number = (closing_now_keeps s.progress s first.0 first.1).number in
     let last = ending script f.swept new swept limits rest.2 (subst (λ (n : ℕ). Ends n f.swept.progress f.swept new) (sym number) f.ends) in
-    let before : f.swept.cycles ≡ old.cycles = ap (λ (x : Collector). x.cycles) f.sweeps.rest ∙ ap (λ (x : Collector). x.cycles) f.closes.rest in (
+    let before : told_cycles f.swept ≡ told_cycles old = ap told_cycles f.sweeps.rest ∙ ap told_cycles f.closes.rest in (
       last.0,
       last.1,
       record { closed = first.0; closes = first.1; swept = swept; sweeps = rest.1; others = refl; ends = last.2 },
@@ -138,12 +138,12 @@ finish_leads closing sweeping_rest ending script old new s limits h f =
 
 -- The whole full cycle
 
-started_cycles : (stop : ℕ) (old new : Collector) → HasStarted stop old new → new.cycles ≡ old.cycles
-started_cycles stop old new h = ap (λ (x : Collector). x.cycles) h.is ∙ ap (λ (x : Collector). x.cycles) h.starts.rest
+started_cycles : (stop : ℕ) (old new : Collector) → HasStarted stop old new → told_cycles new ≡ told_cycles old
+started_cycles stop old new h = ap told_cycles h.is ∙ ap told_cycles h.starts.rest
 
-begun_cycles : (trigger stop : ℕ) (old new : Collector) → Begins trigger stop old new → new.cycles ≡ old.cycles
+begun_cycles : (trigger stop : ℕ) (old new : Collector) → Begins trigger stop old new → told_cycles new ≡ told_cycles old
 begun_cycles trigger stop old new (inl h) = started_cycles stop old new h.1
-begun_cycles trigger stop old new (inr h) = ap (λ (x : Collector). x.cycles) h.1
+begun_cycles trigger stop old new (inr h) = ap told_cycles h.1
 
 pub full_leads : FinishLeads → FilingLeads → StartingLeads → FullLeads
 full_leads finish filing starting script old new s limits h d =
@@ -155,11 +155,11 @@ full_leads finish filing starting script old new s limits h d =
     let again = finish script d.started d.last (record (cycle_started (with_all_retired idled)) { collect = false }) limits started (subst (λ (n : ℕ). HasFinished n d.started d.last) (sym number) d.again) in
     let last : State = record again.0 { collect = idled.collect } in
     let own : Finishes (cycle_started (with_all_retired idled)) last again.1 = finishes_asking idled.collect (record (cycle_started (with_all_retired idled)) { collect = false }) again.0 again.1 again.2 in
-    let cycles : new.cycles ≡ old.cycles ++ (first.1 ++ again.1) =
-    ap (λ (x : Collector). x.cycles) d.is
+    let cycles : told_cycles new ≡ told_cycles old ++ (first.1 ++ again.1) =
+    ap told_cycles d.is
     ∙ again.3
     ∙ ap (λ (rows : List CycleRow). rows ++ again.1) (started_cycles s.number (full.with_all_retired d.idled) d.started d.starts ∙ first.3)
-    ∙ append_assoc old.cycles first.1 again.1 in (
+    ∙ append_assoc (told_cycles old) first.1 again.1 in (
       record again.0 { collect = false; full = false },
       first.1 ++ again.1,
       record { idled = idled; before = first.1; finishes = first.2; last = last; own = again.1; again = own; told = refl {a = first.1 ++ again.1}; rest = refl {a = record again.0 { collect = false; full = false }} },
@@ -191,7 +191,7 @@ proceeding_leads whole beginning script old new s left limits h left_is (inl x) 
     (there.0, there.1, inl (full_due script old s left h left_is x.0, there.2), there.3, there.4)
 proceeding_leads whole beginning script old new s left limits h left_is (inr x) =
     let there = beginning script old new s limits h x.1 in
-    (there.0, [], inr ((λ due. x.0 (full_due_back script old s left h left_is due)), there.1, refl), begun_cycles script.config.trigger s.number old new x.1 ∙ sym (append-nil old.cycles), there.2)
+    (there.0, [], inr ((λ due. x.0 (full_due_back script old s left h left_is due)), there.1, refl), begun_cycles script.config.trigger s.number old new x.1 ∙ sym (append-nil (told_cycles old)), there.2)
 
 -- however it goes on, the number of the stop and what is left stay
 pub proceeding_keeps : (plan : Plan) (s t : State) (rows : List CycleRow) → Proceeds plan s t rows → KeepsOn s t

@@ -9,11 +9,10 @@ use Rattle.nmgc_run.specs.State.{Plan, State, Progress, idle, marking, sweeping,
 use Rattle.nmgc_run.specs.Stop.{Finishes, DoesFullCycle, IsFullDue, Proceeds, with_all_retired}
 use Rattle.nmgc_run.specs.Sweep.{SweepsRest}
 use Rattle.nmgc_script.specs.declared.script.Script.{Script}
-use Rattle.nmgc_sweep.specs.Sweeper.{HasStood}
 use Rattle.nmgc_cycle.specs.declared.collector.Collector.{Collector}
 use Rattle.nmgc_cycle.specs.declared.progress.Progress.TheVariants as doing
 use Rattle.nmgc_cycle.specs.Bound.{commands_left, heap_of, phase_left, MayFollow, AreFew, HasMore, NoneIsDue, commands, one_cycle, no_cycle}
-use Rattle.nmgc_cycle.specs.Cycles.{all_prepared}
+use Rattle.nmgc_cycle.specs.Cycles.{all_prepared, HasStood}
 use Rattle.nmgc_cycle.specs.Full.{IsFullDue as IsDueBy, HasDoneFull, Proceeds as ProceedsThen}
 use Rattle.nmgc_cycle.specs.Shown.{words_in}
 use Rattle.nmgc_cycle.proofs.FullCycle.{finished_idle, finished_begun}

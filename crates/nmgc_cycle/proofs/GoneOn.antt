@@ -21,6 +21,7 @@ use Rattle.nmgc_run.specs.Heap.{HoldsAfterRound, snapshots}
 use Rattle.nmgc_run.specs.Seen.{ends_of, nurseries_of, recorded_in, young_weaks_in}
 use Rattle.nmgc_run.specs.State.{Cycle}
 use Rattle.nmgc_run.specs.Sweep.{SweepsBeside}
+use Rattle.nmgc_sweep.specs.Names.{AreNamed}
 use Rattle.nmgc_cycle.specs.declared.collector.Collector.{Collector}
 use Rattle.nmgc_cycle.specs.Keeps.{Sweeps}
 use Rattle.nmgc_cycle.specs.Shown.{seen, phase_in}
@@ -58,3 +59,4 @@ pub record HasGoneOn (script : Script) (c new : Collector) (o : Opening) (x : Is
   pub free : reserve.free_count c.segments.segments ≤ reserve.free_count new.segments.segments
   pub cycle : HoldsInCycle (λ (k : Cycle). IsPacedAfterRound script.config.quota k (t script c new o x blocks) (shown script c new o x)) (t script c new o x blocks).progress (t script c new o x blocks) (shown script c new o x) at
   pub sweeper : Sweeps (t script c new o x blocks).progress (t script c new o x blocks) (last script c new o x)
+  pub named : AreNamed (layout script c new o x) c.names blocks

@@ -24,6 +24,8 @@ use Rattle.nmgc_run.specs.Collector.{IsAfterRound}
 use Rattle.nmgc_run.specs.Seen as run
 use Rattle.nmgc_run.specs.State.{plan_of}
 use Rattle.nmgc_run.specs.Statements.{answered_count}
+use Rattle.nmgc_graph.specs.declared.value.Name.{Name}
+use Rattle.nmgc_sweep.specs.Names.{HaveEntries}
 use Rattle.nmgc_cycle.specs.declared.collector.Collector.{Collector}
 use Rattle.nmgc_cycle.specs.declared.progress.Marking.{Marking}
 use Rattle.nmgc_cycle.specs.declared.progress.Progress.{Progress as Doing}
@@ -42,6 +44,8 @@ use Rattle.nmgc_cycle.proofs.Plans.{is_layout}
 use Rattle.nmgc_cycle.proofs.Reserved.{sweeps_on}
 use Rattle.nmgc_cycle.proofs.RoundFew.{round_few}
 use Rattle.nmgc_cycle.proofs.Rounded.{one_did, told_is}
+use Rattle.nmgc_cycle.specs.Lined.{IsLined}
+use Rattle.nmgc_cycle.proofs.Lining.{lined_on, same_item}
 
 -- contracts see no replies of a mutator
 same_cleared : (ms : List Mutator) → map seen_mutator (map cleared ms) ≡ map seen_mutator ms
@@ -49,13 +53,13 @@ same_cleared [] = refl
 same_cleared (m ∷ ms) = ap (λ (l : List run.MutatorSeen). seen_mutator m ∷ l) (same_cleared ms)
 
 -- the list that takes the queues at the closing is as it was
-closing_on : (round : Round) (quota : ℕ) (from seat : RoundSeat) (old new : Segments) (p q : Doing) (count : ℕ) → HasHelped round quota from seat old new p q → HasClosingRoom p count → HasClosingRoom q count
-closing_on round quota from seat old new doing.Idle q count h room = subst (λ (d : Doing). HasClosingRoom d count) (sym h.2) tt
-closing_on round quota from seat old new (doing.Marking m) q count h room =
+closing_on : (round : Round) (quota : ℕ) (from seat : RoundSeat) (old new : Segments) (names : List Name) (p q : Doing) (count : ℕ) → HasHelped round quota from seat old new names p q → HasClosingRoom p count → HasClosingRoom q count
+closing_on round quota from seat old new names doing.Idle q count h room = subst (λ (d : Doing). HasClosingRoom d count) (sym h.2) tt
+closing_on round quota from seat old new names (doing.Marking m) q count h room =
     let same : h.0.queues ≡ m.queues = ap (λ (n : Marking). n.queues) h.2.rest in
     let kept : HasClosingRoom (doing.Marking h.0) count = subst (λ (queues : Vec FinQueue Global). (queues.items ≡ []) × (count ≤ vec_capacity queues)) (sym same) room in
     subst (λ (d : Doing). HasClosingRoom d count) (sym h.1) kept
-closing_on round quota from seat old new (doing.Sweeping w) q count h room = subst (λ (d : Doing). HasClosingRoom d count) (sym h.1) tt
+closing_on round quota from seat old new names (doing.Sweeping w) q count h room = subst (λ (d : Doing). HasClosingRoom d count) (sym h.1) tt
 
 module _ (laws : HasLaws) (script : Script) (c new : Collector) (o : Opening) (x : IsOver script c new o) (mutators : Vec Mutator Global) (mutators_are : mutators.items ≡ map cleared new.mutators.items) where
   abbrev row : RoundRows
@@ -92,6 +96,11 @@ module _ (laws : HasLaws) (script : Script) (c new : Collector) (o : Opening) (x
           size = did.size;
         };
         no_replies = refl;
+        line =
+            let d = item x.did.done k (let n = done_count script c new o x in let there = slice_get_within new.mutators.items k was.0 was.1 in let many = mutators_count script c new o x in omega (arith, there, many, n)) in
+            let h = one script c new o x k d.0 d.1 in
+            let is : h.1 ≡ was.0 = same_item new.mutators.items k h.1 was.0 h.3 was.1 in
+            subst (λ (y : Mutator). IsLined new.inbox k y.sender) is (lined_on c.inbox new.inbox x.did.polled k h.0.sender h.1.sender h.4.sends.0 h.4.sends.1 (x.still.kept.own k h.0 h.2).line);
       })
 
   position_is : (k : ℕ) → k < length script.threads → slice_index new.positions.items k ≡ answered_count (c.rounds ++ row ∷ []) k
@@ -110,9 +119,11 @@ module _ (laws : HasLaws) (script : Script) (c new : Collector) (o : Opening) (x
     layout = same_layout ∙ x.still.kept.layout;
     sound = x.did.sound;
     lists = subst (λ (l : Layout). IsFor l c.promotion) (sym same_layout) x.still.kept.lists;
+    entries = subst (λ (l : Layout). HaveEntries l c.names) (sym same_layout) x.still.kept.entries;
     has_words = refl;
     count = same_count ∙ x.still.kept.count;
     own = own;
+    inbox = x.did.polled.count ∙ x.still.kept.inbox;
     positions_are = x.did.positions_are ∙ x.still.kept.positions_are;
     positions = position_is;
     no_ends = x.still.kept.no_ends;
@@ -131,8 +142,9 @@ module _ (laws : HasLaws) (script : Script) (c new : Collector) (o : Opening) (x
           history = rows script c new o x;
           worked = t script c new o x g.blocks;
           after = is;
-          closing = closing_on x.did.helped.round script.config.quota x.did.helped.from x.did.helped.seat c.segments new.segments c.progress new.progress (length mutators.items) x.did.helped.helped (subst (HasClosingRoom c.progress) (sym same_count) x.still.closing);
+          closing = closing_on x.did.helped.round script.config.quota x.did.helped.from x.did.helped.seat c.segments new.segments c.names c.progress new.progress (length mutators.items) x.did.helped.helped (subst (HasClosingRoom c.progress) (sym same_count) x.still.closing);
           sweeper = sweeps_on (t script c new o x g.blocks).progress (t script c new o x g.blocks) (last script c new o x) mutators g.sweeper;
+          named = g.named;
           few = round_few script c after x.run (told script c new o x) (rows script c new o x) (t script c new o x g.blocks) x.limits x.still is x.did.helped.round x.did.helped.from x.did.helped.seat x.did.helped.helped;
         },
         x.still,

@@ -23,6 +23,7 @@ use Rattle.nmgc_heap.specs.Moves.{Moved, new_place, old_place, settled}
 use Rattle.nmgc_minor.specs.Promotion.{IsFor}
 use Rattle.nmgc_mutator.specs.declared.mutator.Mutator.{Mutator}
 use Rattle.nmgc_object.specs.FinQueue.{FinQueue}
+use Rattle.nmgc_sweep.specs.Names.{HaveNoted}
 use Rattle.nmgc_cycle.specs.Roots.{AreGivenBack}
 use Rattle.nmgc_heap.specs.Places.{Place}
 use Rattle.nmgc_heap.specs.Roots.{ListsWeaks}
@@ -258,9 +259,10 @@ module _ (left : LeavingLists) (joining : JoiningLists) (fresh : JoinersAreNew) 
     -- and the promotion is that of the whole step
     pub promoted : HasPromoted old new
     promoted = record {
-      rest = new_is ∙ ap (λ (x : Collector). record x { words = new.words; weaks = new.weaks }) p.rest ∙ ap (λ (x : Collector). record x { words = new.words; segments = b.segments; promotion = b.promotion; mutators = b.mutators; weaks = new.weaks }) l.rest
-          ∙ sym (ap (λ (x : Collector). record old { words = new.words; segments = x.segments; promotion = x.promotion; mutators = x.mutators; weaks = new.weaks }) new_is);
+      rest = new_is ∙ ap (λ (x : Collector). record x { words = new.words; weaks = new.weaks }) p.rest ∙ ap (λ (x : Collector). record x { words = new.words; segments = b.segments; promotion = b.promotion; names = b.names; mutators = b.mutators; weaks = new.weaks }) l.rest
+          ∙ sym (ap (λ (x : Collector). record old { words = new.words; segments = x.segments; promotion = x.promotion; names = x.names; mutators = x.mutators; weaks = new.weaks }) new_is);
       has_words = j.words.1;
+      noted = subst (λ (y : Collector × Collector). HaveNoted (moves_of y.1) y.0.names y.1.names) (λ i. (l.rest i, sym new_is i)) p.noted;
       registers = p.registers;
       queues = p.queues;
       given = subst (λ (x : Collector). AreGivenBack p.registers p.queues old.mutators.items x.mutators.items) (sym new_is) (subst (λ (x : Collector). AreGivenBack p.registers p.queues x.mutators.items b.mutators.items) l.rest p.given);

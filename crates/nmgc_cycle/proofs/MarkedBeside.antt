@@ -20,7 +20,7 @@ use Rattle.nmgc_script.specs.declared.script.Script.{Script}
 use Rattle.nmgc_beside.specs.Keeps.{HasLeft, ShowEntries}
 use Rattle.nmgc_beside.specs.Owed.{GoesOn}
 use Rattle.nmgc_beside.specs.Rest.{IsMachineAtRest, with_rows}
-use Rattle.nmgc_sweep.specs.Sweeper.{Sweeper, HasNotes, AreLeft, numbers_of}
+use Rattle.nmgc_sweep.specs.Sweeper.{Sweeper, HasNotes, AreLeft}
 use Rattle.nmgc_run.specs.Census.{interval_of}
 use Rattle.nmgc_run.specs.Collector.{HoldsInCycle, IsMarking, IsPacedAtStop, IsPacedAfterRound}
 use Rattle.nmgc_run.specs.Course.{IsInCourse, IsLastBegun}
@@ -53,8 +53,8 @@ module _ (laws : HasLaws) (script : Script) (c new : Collector) (o : Opening) (x
   pub phase_with : (p : Progress) → (s script c new o x).progress ≡ p → phase_in c.progress ≡ phase_of p
   phase_with p e = x.still.at_stop.matches.phase ∙ ap phase_of e
 
-  pub helped_as : (q : held.Progress) → c.progress ≡ q → HasHelped x.did.helped.round script.config.quota x.did.helped.from x.did.helped.seat c.segments new.segments q new.progress
-  helped_as q e = subst (λ (r : held.Progress). HasHelped x.did.helped.round script.config.quota x.did.helped.from x.did.helped.seat c.segments new.segments r new.progress) e x.did.helped.helped
+  pub helped_as : (q : held.Progress) → c.progress ≡ q → HasHelped x.did.helped.round script.config.quota x.did.helped.from x.did.helped.seat c.segments new.segments c.names q new.progress
+  helped_as q e = subst (λ (r : held.Progress). HasHelped x.did.helped.round script.config.quota x.did.helped.from x.did.helped.seat c.segments new.segments c.names r new.progress) e x.did.helped.helped
 
   -- as many segments are free where they stand for the same blocks
   same_free : StandsFor new.segments (seen c).words (s script c new o x).allocation → reserve.free_count c.segments.segments ≤ reserve.free_count new.segments.segments
@@ -68,7 +68,7 @@ module _ (laws : HasLaws) (script : Script) (c new : Collector) (o : Opening) (x
     is_idle : c.progress ≡ doing.Idle
     is_idle = when_idle c.progress (phase_with idle e)
 
-    nothing : HasHelped x.did.helped.round script.config.quota x.did.helped.from x.did.helped.seat c.segments new.segments doing.Idle new.progress
+    nothing : HasHelped x.did.helped.round script.config.quota x.did.helped.from x.did.helped.seat c.segments new.segments c.names doing.Idle new.progress
     nothing = helped_as doing.Idle is_idle
 
     pub idled : HasGoneOn script c new o x
@@ -84,6 +84,7 @@ module _ (laws : HasLaws) (script : Script) (c new : Collector) (o : Opening) (x
       free = same_free stands_still;
       cycle = subst (λ (p : Progress). HoldsInCycle (λ (k : Cycle). IsPacedAfterRound script.config.quota k (t script c new o x (s script c new o x).allocation) (shown script c new o x)) (noted p (rows script c new o x)) (t script c new o x (s script c new o x).allocation) (shown script c new o x) (places script c new o x)) (sym e) settled;
       sweeper = subst (λ (p : Progress). Sweeps (noted p (rows script c new o x)) (t script c new o x (s script c new o x).allocation) (last script c new o x)) (sym e) tt;
+      named = x.still.named;
     }
       where
         same_layout : new.segments.layout ≡ layout script c new o x
@@ -233,22 +234,22 @@ module _ (laws : HasLaws) (script : Script) (c new : Collector) (o : Opening) (x
     notes_on =
         let h = sweeps_before.0.notes in
         record {
-          noted = record { epoch = h.noted.epoch; swept = h.noted.swept; had = h.noted.had; once = h.noted.once };
-          notes = h.notes;
+          noted = record { epoch = h.noted.epoch; swept = h.noted.swept };
           once = h.once;
         }
 
-    left_on : AreLeft new.segments (sweeper_in c.progress).left
-    left_on = laws.left c.segments new.segments (sweeper_in c.progress).left (laws.waits c.segments new.segments (seen c).words (seen c).words (s script c new o x).allocation x.still.at_stop.heap.holds.stands stands_still) sweeps_before.0.left
+    left_on : AreLeft new.segments (sweeper_in c.progress)
+    left_on = laws.left c.segments new.segments (sweeper_in c.progress) (laws.waits c.segments new.segments (seen c).words (seen c).words (s script c new o x).allocation x.still.at_stop.heap.holds.stands stands_still) marked.layout sweeps_before.0.left
 
     sweeps_on : Sweeps (marking (with_rows k (rows script c new o x))) (t script c new o x (s script c new o x).allocation) (last script c new o x)
     sweeps_on = (
       record {
         notes = subst (HasNotes (with_rows k (rows script c new o x))) (sym same_sweeper) notes_on;
-        left = subst (λ (y : Sweeper). AreLeft new.segments y.left) (sym same_sweeper) left_on;
+        left = subst (λ (y : Sweeper). AreLeft new.segments y) (sym same_sweeper) left_on;
       },
-      subst (λ (y : Sweeper). y.seen.swept ≡ numbers_of y.left) (sym same_sweeper) sweeps_before.1,
-      subst (λ (y : Sweeper). y.seen.freed ≡ []) (sym same_sweeper) sweeps_before.2,
+      subst (λ (y : Sweeper). y.seen.swept ≡ y.left) (sym same_sweeper) sweeps_before.1,
+      subst (λ (y : Sweeper). y.seen.had ≡ []) (sym same_sweeper) sweeps_before.2,
+      subst (λ (y : Sweeper). y.seen.freed ≡ []) (sym same_sweeper) sweeps_before.3,
     )
 
     pub marked_on : HasGoneOn script c new o x
@@ -264,4 +265,5 @@ module _ (laws : HasLaws) (script : Script) (c new : Collector) (o : Opening) (x
       free = same_free stands_still;
       cycle = subst (λ (p : Progress). HoldsInCycle (λ (j : Cycle). IsPacedAfterRound script.config.quota j (t script c new o x (s script c new o x).allocation) (shown script c new o x)) (noted p (rows script c new o x)) (t script c new o x (s script c new o x).allocation) (shown script c new o x) (places script c new o x)) (sym e) (marks_on, paced_on);
       sweeper = subst (λ (p : Progress). Sweeps (noted p (rows script c new o x)) (t script c new o x (s script c new o x).allocation) (last script c new o x)) (sym e) sweeps_on;
+      named = x.still.named;
     }

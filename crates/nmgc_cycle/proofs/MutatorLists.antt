@@ -57,7 +57,7 @@ pub spares_in : (mutators : List Mutator) → map (λ (queue : FinQueue). queue.
 spares_in [] = refl
 spares_in (m ∷ mutators) = ap (λ (rest : List ℕ). m.queue.spare ∷ rest) (spares_in mutators)
 
--- sixteen registers a mutator
+-- so many registers a mutator
 pub registers_count : (mutators : List Mutator) → All HasRegisters mutators → length (registers_of mutators) ≡ REGISTERS * length mutators
 registers_count [] h = refl
 registers_count (m ∷ mutators) h =

@@ -98,6 +98,7 @@ module _ (script : Script) (c new : Collector) (o : Opening) (x : IsOver script 
     progress = new.progress;
     collect = new.collect;
     full = new.full;
+    inbox = new.inbox;
     mutators = new.mutators;
     positions = new.positions;
     rounds = c.rounds ++ record { replies = told } ∷ [];

@@ -13,6 +13,7 @@ use Rattle.nmgc_round.specs.Finishing.{HasAll, Leaves}
 use Rattle.nmgc_mutator.specs.declared.mutator.Mutator.{Mutator}
 use Rattle.nmgc_turn.specs.Turn.{SlicesAreGathered}
 use Rattle.nmgc_script.specs.declared.script.Script.{Script}
+use Rattle.nmgc_graph.specs.declared.value.Name.{Name}
 use Rattle.nmgc_cycle.specs.declared.collector.Collector.{Collector}
 use Rattle.nmgc_cycle.specs.declared.progress.Progress as held
 use Rattle.nmgc_cycle.specs.declared.progress.Progress.TheVariants as doing
@@ -22,10 +23,10 @@ use Rattle.std.specs.List.{list_any}
 use Rattle.nmgc_cycle.specs.Working.{asks_of, asks_full_of, DidSlices, HaveSliceRoom, CanAllWork, HaveAllWorked, workers_of, mutator_of, seat_of, done_by}
 use Rattle.nmgc_cycle.proofs.Ran.{MayBegin, HasBegun, HasRun, can_open, may_work, workers_are, has_run}
 use Rattle.nmgc_cycle.proofs.Readiness.{BeginReady}
-use Rattle.nmgc_cycle.proofs.Resting.{none_noted}
 use Rattle.nmgc_cycle.proofs.RootLists.{seen_at}
 use Rattle.nmgc_cycle.specs.Shown.{seen_mutator}
 use Rattle.nmgc_cycle.proofs.Sliced.{overwritten, asks_told, asks_full_told, each_did}
+use Rattle.nmgc_updrem.specs.Rings.{Receiver, HavePolled}
 
 -- positions that can move on by so many commands
 abbrev pub CanMove : List ℕ → List ℕ → Type 0
@@ -69,21 +70,21 @@ pub record HasScanned (o : Opening) (round : Round) (seat : RoundSeat) : Type 0 
   pub scans : List Scan
   pub knows : seen seat ≡ record (collecting (whole o)) { scans = scans }
 
-pub scanned : (o : Opening) (round : Round) (quota : ℕ) (from seat : RoundSeat) (old new : Segments) (q after : held.Progress) → IsAt round from → seen from ≡ collecting (whole o) → HasHelped round quota from seat old new q after → HasScanned o round seat
-scanned o round quota from seat old new doing.Idle after at knows h = record { at = subst (IsAt round) (sym h.0) at; scans = []; knows = ap seen h.0 ∙ knows }
-scanned o round quota from seat old new (doing.Marking m) after at knows h =
+pub scanned : (o : Opening) (round : Round) (quota : ℕ) (from seat : RoundSeat) (old new : Segments) (names : List Name) (q after : held.Progress) → IsAt round from → seen from ≡ collecting (whole o) → HasHelped round quota from seat old new names q after → HasScanned o round seat
+scanned o round quota from seat old new names doing.Idle after at knows h = record { at = subst (IsAt round) (sym h.0) at; scans = []; knows = ap seen h.0 ∙ knows }
+scanned o round quota from seat old new names (doing.Marking m) after at knows h =
     let worked = h.2.worked in
     record {
       at = worked.collector.0;
       scans = (seen from).scans ++ worked.later.scans;
       knows = worked.later.knows ∙ ap (λ (v : Seen). record v { scans = (seen from).scans ++ worked.later.scans }) knows;
     }
-scanned o round quota from seat old new (doing.Sweeping w) after at knows h = record { at = subst (IsAt round) (sym h.2) at; scans = []; knows = ap seen h.2 ∙ knows }
+scanned o round quota from seat old new names (doing.Sweeping w) after at knows h = record { at = subst (IsAt round) (sym h.2) at; scans = []; knows = ap seen h.2 ∙ knows }
 
 -- what a round leaves, once the words are back
 module _ (script : Script) (c : Collector) (o : Opening) (may : MayBegin script c o) (round : Round) (new : List Worker) (ran : HasRun script c o round new) (seat : RoundSeat) (has : HasScanned o round seat) where
   nothing : owed.RememberNothing c.mutators.items
-  nothing k m e = none_noted m.updrem.items ((may.still.at_stop.at_rest.nothing k (seen_mutator m) (seen_at c.mutators.items k m e)).entries)
+  nothing k m e = (may.still.at_stop.at_rest.nothing k (seen_mutator m) (seen_at c.mutators.items k m e)).entries
 
   gathers : owed.SlicesAreGathered → owed.IsGathered o has.scans (map seat_of new) (map mutator_of new) ran.did.done
   gathers law = law o may.words round c.mutators.items (map mutator_of new) (map seat_of new) ran.did.done has.scans (can_open script c o may) ran.slices
@@ -95,9 +96,9 @@ module _ (script : Script) (c : Collector) (o : Opening) (may : MayBegin script 
   pub seats_at : (seats : List RoundSeat) → seats ≡ map seat_of new → All (IsAt round) seats
   seats_at seats same = subst (λ (l : List RoundSeat). All (IsAt round) l) (sym same) ran.at
 
-  module _ (own : owed.SlicesAreGathered) (owes : owed.SlicesAreOwed) (from : RoundSeat) (began : seen from ≡ collecting (whole o)) (opened : opening_of round ≡ o) (segments : Segments) (sound : IsSegments segments) (progress : held.Progress) (helped : HasHelped round script.config.quota from seat c.segments segments c.progress progress) where
-    pub did_slices : (seats : List RoundSeat) → seats ≡ map seat_of new → (words : List ℕ) → Leaves (opening_of round) words (all_together (seen seat) (map seen seats)) → (collect asked : Bool) → collect ≡ (c.collect || list_any asks_of new) → asked ≡ (c.full || list_any asks_full_of new) → (mutators : Vec Mutator Global) (positions : Vec ℕ Global) → mutators.items ≡ map mutator_of new → length positions.items ≡ length c.positions.items → HaveMoved c.positions.items (map done_by new) positions.items → DidSlices script o c (record c { words = Some words; segments = segments; progress = progress; collect = collect; full = asked; mutators = mutators; positions = positions })
-    did_slices seats seats_are words leaves collect asked collects askeds mutators positions same size moved = record {
+  module _ (own : owed.SlicesAreGathered) (owes : owed.SlicesAreOwed) (from : RoundSeat) (began : seen from ≡ collecting (whole o)) (opened : opening_of round ≡ o) (segments : Segments) (sound : IsSegments segments) (progress : held.Progress) (helped : HasHelped round script.config.quota from seat c.segments segments c.names c.progress progress) where
+    pub did_slices : (seats : List RoundSeat) → seats ≡ map seat_of new → (words : List ℕ) → Leaves (opening_of round) words (all_together (seen seat) (map seen seats)) → (collect asked : Bool) → collect ≡ (c.collect || list_any asks_of new) → asked ≡ (c.full || list_any asks_full_of new) → (inbox : List Receiver) → HavePolled c.inbox inbox → (mutators : Vec Mutator Global) (positions : Vec ℕ Global) → mutators.items ≡ map mutator_of new → length positions.items ≡ length c.positions.items → HaveMoved c.positions.items (map done_by new) positions.items → DidSlices script o c (record c { words = Some words; segments = segments; progress = progress; collect = collect; full = asked; inbox = inbox; mutators = mutators; positions = positions })
+    did_slices seats seats_are words leaves collect asked collects askeds inbox polled mutators positions same size moved = record {
       rest = refl;
       words = words;
       words_are = refl;
@@ -112,8 +113,9 @@ module _ (script : Script) (c : Collector) (o : Opening) (may : MayBegin script 
       owed = subst (λ (l : List Mutator). owed.HaveOwed o (owed.gathered o has.scans (map seat_of new)).parts l) (sym same) (owes o may.words round c.mutators.items (map mutator_of new) (map seat_of new) ran.did.done has.scans (can_open script c o may) ran.slices nothing);
       helped = record { round = round; from = from; seat = seat; began = began; knows = has.knows; helped = helped };
       sound = sound;
+      polled = polled;
       collect = collects ∙ ap (λ (b : Bool). c.collect || b) (asks_told script c may.run may.limits may.still o round new ran.count ran.did);
       full = askeds ∙ ap (λ (b : Bool). c.full || b) (asks_full_told script c may.run may.limits may.still o round new ran.count ran.did);
       positions_are = size;
-      each = each_did script c may.run may.limits may.still o round new ran.count ran.did (Some words) segments progress collect asked mutators positions same moved;
+      each = each_did script c may.run may.limits may.still o round new ran.count ran.did (Some words) segments progress collect asked inbox mutators positions same moved;
     }

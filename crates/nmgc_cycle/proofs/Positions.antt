@@ -13,6 +13,7 @@ use Rattle.nmgc_run.specs.Slice.{program_of, slice, is_next, ends_slice}
 use Rattle.nmgc_run.specs.State.{State, Plan, plan_of, start}
 use Rattle.nmgc_run.specs.Statements.{answered_count}
 use Rattle.nmgc_run.specs.laws.Lefts.{left_is_told, slice_count, round_left, stop_left}
+use Rattle.nmgc_cycle.specs.Shown.{told_cycles}
 use Rattle.nmgc_cycle.specs.declared.collector.Collector.{Collector}
 use Rattle.nmgc_cycle.specs.Keeps.{IsAfterStop}
 use Rattle.nmgc_cycle.specs.Limits.{IsInLimits}
@@ -51,7 +52,7 @@ turns_count plan s (turn ∷ turns) m h =
 module _ (script : Script) (c : Collector) (run : Run) (still : IsAfterStop script c run) (k : ℕ) (exists : k < length script.threads) where
   -- what is left of a program in the run
   pub left_is : program_of (last_state run).left k ≡ left_at script c.positions.items k
-  left_is = left_is_told (plan_of script) run c.rounds c.stops c.cycles still.at_stop.is_run still.at_stop.tells k ∙ ap (λ (n : ℕ). drop n (program_of script.threads k)) (sym (still.kept.positions k exists))
+  left_is = left_is_told (plan_of script) run c.rounds c.stops (told_cycles c) still.at_stop.is_run still.at_stop.tells k ∙ ap (λ (n : ℕ). drop n (program_of script.threads k)) (sym (still.kept.positions k exists))
 
   -- a position lies within its program
   pub position_within : slice_index c.positions.items k ≤ length (program_of script.threads k)

@@ -1,19 +1,22 @@
 -- After its promotion the collector stands for the state that the promotion left: the heap, and the cycle in progress.
-use Rattle.std.proofs.Common.{ℕ, ◌≡◌, ◌≢◌, ◌≤◌, ◌+◌, List, [], ◌∷◌, arith, refl, sym, ap, subst, ◌∙◌, inl, inr, None}
-use Rattle.std.specs.Prelude.{slice_index, Contains, IsSome}
+use Rattle.std.proofs.Common.{ℕ, ◌≡◌, ◌≢◌, ◌⊎◌, ◌<◌, ◌≤◌, ◌+◌, ◌*◌, List, [], ◌∷◌, arith, refl, sym, ap, subst, ◌∙◌, inl, inr, Some, None}
+use Rattle.std.specs.Prelude.{slice_get, slice_index, Contains, IsSome}
 use Rattle.nmgc_graph.specs.declared.value.Name.{Name}
 use Rattle.nmgc_graph.specs.Step.{shared_name}
 use Rattle.nmgc_graph.specs.World.{World, node_of}
 use Rattle.nmgc_graph.specs.laws.Orders.{contains_head}
 use Rattle.nmgc_graph.specs.laws.Worlds.{is_some_of}
 use Rattle.nmgc_reach.specs.laws.HeldSteps.{absent}
+use Rattle.nmgc_blocks.specs.Stopped.{young_base}
 use Rattle.nmgc_object.specs.declared.layout.Layout.{Layout}
-use Rattle.nmgc_alloc.specs.AllocState.{AllocState, Cells, LiesNowhere, HasBlock, cells, name_in}
+use Rattle.nmgc_object.specs.declared.size.TheConstants.{MIN_BLOCK_WORDS}
+use Rattle.nmgc_object.specs.Places.{nursery_place}
+use Rattle.nmgc_alloc.specs.AllocState.{AllocState, Cells, LiesIn, LiesNowhere, HasBlock, cells, name_in}
 use Rattle.nmgc_alloc.specs.Segments.{block_place}
-use Rattle.nmgc_heap.specs.Moves.{Moved, old_place}
+use Rattle.nmgc_heap.specs.Moves.{Moved, new_place, old_place}
 use Rattle.nmgc_heap.specs.Places.{Place}
 use Rattle.nmgc_heap.specs.Tracked.{IsTracked}
-use Rattle.nmgc_heap.specs.laws.Moving.{contains_map}
+use Rattle.nmgc_heap.specs.laws.Moving.{contains_map, settled_cases, settled_comes}
 use Rattle.nmgc_minor.specs.Promotion.{IsFor}
 use Rattle.nmgc_minor.specs.Start.{words_of}
 use Rattle.nmgc_script.specs.declared.script.Script.{Script}
@@ -34,6 +37,8 @@ use Rattle.nmgc_sweep.specs.Statements.{KeepsWaiting}
 use Rattle.nmgc_sweep.specs.Work.{IsAtWork}
 use Rattle.nmgc_weak.specs.Weaks.{place_of, places_of}
 use Rattle.nmgc_weak.specs.declared.weaks.Death.{Death}
+use Rattle.nmgc_sweep.specs.Names.{AreNamed, entry_of, named_at}
+use Rattle.nmgc_sweep.specs.laws.Names.{named_noted}
 use Rattle.nmgc_cycle.specs.declared.collector.Collector.{Collector}
 use Rattle.nmgc_cycle.specs.Keeps.{HasClosingRoom, IsWellFormed, Sweeps}
 use Rattle.nmgc_cycle.specs.Shown.{seen, words_in, sweeper_in, cycle_in, died}
@@ -43,6 +48,8 @@ use Rattle.nmgc_cycle.specs.Stopping.{HasListed, HasPromoted, moves_of, moved_na
 use Rattle.nmgc_cycle.proofs.AfterPromotion as after
 use Rattle.nmgc_cycle.proofs.Begins.{Begins}
 use Rattle.nmgc_cycle.proofs.ListOver.{of_places}
+use Rattle.nmgc_updrem.specs.Rings.{Receiver}
+use Rattle.nmgc_cycle.specs.Lined.{IsLined}
 
 -- a young name lies nowhere, and isn't g
 young_fresh : (began : World) (a : AllocState) → LieKnown began a → (n : Name) → node_of began n ≡ None → LiesNowhere a n × (n ≢ shared_name)
@@ -75,7 +82,7 @@ module _ (laws : HasPromotionLaws) (script : Script) (old new : Collector) (kept
 
   -- the collector, by what the promotion changed
   abbrev mid : Collector
-  mid = record old { words = new.words; segments = new.segments; promotion = new.promotion; mutators = new.mutators; weaks = new.weaks }
+  mid = record old { words = new.words; segments = new.segments; promotion = new.promotion; names = new.names; mutators = new.mutators; weaks = new.weaks }
 
   same_waits : SameWait s.allocation t.allocation
   same_waits = all_placing_waits old.segments.layout s.world s.allocation t.allocation (moved_names new) (after.placed script old new kept b p).1
@@ -101,6 +108,7 @@ module _ (laws : HasPromotionLaws) (script : Script) (old new : Collector) (kept
         let now = p.sound.count in
         let same = ap (λ (l : Layout). l.segments) p.layout in
         omega (arith, before, now, same);
+    layout = p.layout;
   }
 
   -- what moved is in no snapshot
@@ -212,13 +220,48 @@ module _ (laws : HasPromotionLaws) (script : Script) (old new : Collector) (kept
     sweeper : (q : Progress) → Sweeps q s old → Sweeps q t mid
     sweeper idle h = tt
     sweeper (marking k) h = (
-      record { notes = h.0.notes; left = laws.left old.segments new.segments (sweeper_in old.progress).left keeps.waits h.0.left },
+      record { notes = h.0.notes; left = laws.left old.segments new.segments (sweeper_in old.progress) keeps.waits p.layout h.0.left },
       h.1,
       h.2,
+      h.3,
     )
     sweeper (sweeping k closed) h =
         let work = laws.work k closed (seen old).words (words_in new.words) s.allocation t.allocation old.segments new.segments (seen old).cycle (sweeper_in old.progress) h.1 h.0 (after.placed script old new kept b p).2 keeps in
         (work.1, subst (λ (x : CycleSeen). IsAtWork k closed (words_in new.words) t.allocation new.segments x (sweeper_in old.progress)) (sym cycle_same) work.0)
+
+    -- what moved was noted, and the rest has its entries
+
+    -- what moved isn't g
+    moved_other : (m : Moved) → Contains (moves_of new) m → m.name ≢ shared_name
+    moved_other m there = (young_fresh b.began s.allocation b.sound.known m.name ((after.settled_heap script old new kept b p).promoted.sound m.name (contains_map (λ (x : Moved). x.name) (moves_of new) m there)).0.0).1
+
+    moved_lies : (m : Moved) → Contains (moves_of new) m → (number : ℕ) × (block : ℕ) × LiesIn t.allocation number block m.name × (m.to ≡ block_place new.segments.layout number (cells t.allocation number).class block)
+    moved_lies m there = elim (((after.told script old new kept b p laws.back l).1 (new_place m)).0 (settled_comes (young_base new.segments) (moves_of new) b.places m there)) [
+      | inl g ↦ absurd (moved_other m there (ap (λ (q : Place). q.name) g))
+      | inr x ↦ (x.number, x.block, x.lies, x.at)
+    ]
+
+    same_base : young_base new.segments ≡ nursery_place (layout_of plan) 0
+    same_base = ap (λ (y : Layout). nursery_place y 0) (after.layout_is script old new kept b p)
+
+    -- an old place in a segment has its entry
+    old_named : (q : Place) → Contains b.places q → q.at < young_base new.segments → q.name ≢ shared_name → slice_get old.names (entry_of q.at) ≡ Some q.name
+    old_named q there low other = elim (b.low q there (let e = same_base in omega (arith, low, e))) [
+      | inl g ↦ absurd (other (ap (λ (x : Place). x.name) g))
+      | inr x ↦ ap (λ (at : ℕ). slice_get old.names (entry_of at)) x.at ∙ b.named x.number x.block q.name x.lies
+    ]
+
+    came : (number block : ℕ) (name : Name) → LiesIn t.allocation number block name → ((m : Moved) × Contains (moves_of new) m × (m.to ≡ block_place new.segments.layout number (cells t.allocation number).class block)) ⊎ (named_at new.segments.layout old.names number (cells t.allocation number).class block ≡ Some name)
+    came number block name lies =
+        let q : Place = record { at = block_place new.segments.layout number (cells t.allocation number).class block; name = name } in
+        let there = ((after.told script old new kept b p laws.back l).1 q).1 (inr (record { number = number; block = block; lies = lies; at = refl })) in
+        elim (settled_cases (young_base new.segments) (moves_of new) b.places q there) [
+          | inl x ↦ inl (x.0, x.1, sym (ap (λ (y : Place). y.at) x.2))
+          | inr x ↦ inr (old_named q x.0 x.1 (λ g. sound.sound_blocks.shared number block (subst (λ (n : Name). LiesIn t.allocation number block n) g lies)))
+        ]
+
+    named_then : AreNamed (layout_of plan) new.names t.allocation
+    named_then = subst (λ (y : Layout). AreNamed y new.names t.allocation) (after.layout_is script old new kept b p) (named_noted new.segments (words_in new.words) t.allocation (moves_of new) old.names new.names p.sound (after.placed script old new kept b p).2 p.noted moved_lies came)
 
     -- what is kept
 
@@ -227,9 +270,11 @@ module _ (laws : HasPromotionLaws) (script : Script) (old new : Collector) (kept
       layout = after.layout_is script old new kept b p;
       sound = p.sound;
       lists = subst (λ (l : Layout). IsFor l new.promotion) (sym p.layout) p.lists;
+      entries = subst (λ (y : Layout × ℕ). y.0.segments * y.0.words ≤ MIN_BLOCK_WORDS * y.1) (λ i. (sym p.layout i, sym p.noted.count i)) kept.entries;
       has_words = p.has_words;
       count = p.given.count ∙ kept.count;
-      own = λ k m e. let own = (after.own script old new kept b p k m e).0 in record { number = own.number; layout = own.layout; whole = own.whole; no_replies = own.no_replies };
+      own = λ k m e. let own = (after.own script old new kept b p k m e).0 in record { number = own.number; layout = own.layout; whole = own.whole; no_replies = own.no_replies; line = subst (λ (l : List Receiver). IsLined l k m.sender) (ap (λ (y : Collector). y.inbox) p.rest) own.line };
+      inbox = kept.inbox;
       positions_are = kept.positions_are;
       positions = kept.positions;
       no_ends = kept.no_ends;
@@ -249,6 +294,7 @@ module _ (laws : HasPromotionLaws) (script : Script) (old new : Collector) (kept
       cycle = cycle s.progress refl b.sound.cycle b.later b.cycle;
       closing = subst (λ (n : ℕ). HasClosingRoom old.progress n) (sym p.given.count) b.closing;
       sweeper = sweeper s.progress b.sweeper;
+      named = named_then;
     }
 
     pub promoted_stands : StandsPromoted script new t

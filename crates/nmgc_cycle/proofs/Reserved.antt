@@ -1,5 +1,5 @@
 -- Room for a round changes nothing that contracts see of a collector.
-use Rattle.std.proofs.Common.{ℕ, ◌≡◌, List, length, map, sym, ap, subst, ◌∙◌, arith, Some}
+use Rattle.std.proofs.Common.{ℕ, ◌≡◌, ◌++◌, List, length, map, sym, ap, subst, ◌∙◌, arith, Some}
 use Rattle.std.specs.Prelude.{slice_get, slice_index_or}
 use Rattle.std.specs.declared.vec.Vec.{Vec}
 use Rattle.std.proofs.Common.{Global}
@@ -14,7 +14,8 @@ use Rattle.nmgc_script.specs.declared.script.Script.{Script}
 use Rattle.nmgc_run.specs.Collector.{IsAtStop}
 use Rattle.nmgc_run.specs.Run.{Run, last_state}
 use Rattle.nmgc_run.specs.Seen.{MutatorSeen}
-use Rattle.nmgc_run.specs.State.{State, Progress, idle, marking, sweeping, plan_of}
+use Rattle.nmgc_run.specs.State.{State, Progress, idle, marking, sweeping, plan_of, layout_of}
+use Rattle.nmgc_sweep.specs.Names.{AreNamed}
 use Rattle.nmgc_cycle.specs.declared.collector.Collector.{Collector}
 use Rattle.nmgc_cycle.specs.Bound.{MayFollow, commands, one_cycle, no_cycle, AreFewAtStop}
 use Rattle.nmgc_cycle.specs.Keeps.{HasClosingRoom, IsWellFormed, IsOwn, IsAfterStop, HasStopped, Sweeps}
@@ -22,6 +23,8 @@ use Rattle.nmgc_cycle.specs.Shown.{seen, seen_mutator}
 use Rattle.nmgc_cycle.specs.Working.{AreReserved}
 use Rattle.nmgc_cycle.proofs.Items.{item}
 use Rattle.nmgc_cycle.proofs.Mapped.{same_maps}
+use Rattle.nmgc_cycle.specs.Lined.{IsLined}
+use Rattle.nmgc_updrem.specs.Rings.{Sender}
 
 -- a mutator whose lists have more room is seen as before
 noting : Mutator → List Address → List Address → List Address → MutatorSeen
@@ -32,7 +35,7 @@ noting m recorded weaks entries = record {
   nursery = m.nursery;
   recorded = numbers recorded;
   young_weaks = numbers weaks;
-  entries = numbers entries;
+  entries = numbers (m.sender.since ++ entries);
 }
 
 same_seen : (m n : Mutator) → Reserves m n → seen_mutator n ≡ seen_mutator m
@@ -65,7 +68,7 @@ reserved_seen old new r = same_maps seen_mutator seen_mutator new old r.count (�
 -- the mutators are no part of what sweeps
 pub sweeps_on : (p : Progress) (s : State) (c : Collector) (mutators : Vec Mutator Global) → Sweeps p s c → Sweeps p s (record c { mutators = mutators })
 sweeps_on idle s c mutators h = h
-sweeps_on (marking k) s c mutators h = (record { notes = h.0.notes; left = h.0.left }, h.1, h.2)
+sweeps_on (marking k) s c mutators h = (record { notes = h.0.notes; left = h.0.left }, h.1, h.2, h.3)
 sweeps_on (sweeping k closed) s c mutators h = h
 
 -- nor of how many stops may follow
@@ -102,6 +105,7 @@ module _ (script : Script) (c : Collector) (run : Run) (still : IsAfterStop scri
           size = ap (λ (l : List ℕ). length l) registers ∙ before.whole.size;
         };
         no_replies = h.2.replies.items ∙ before.no_replies;
+        line = subst (λ (s : Sender). IsLined c.inbox k s) (sym (ap (λ (x : Mutator). x.sender) h.2.rest)) before.line;
       }
 
   kept : IsWellFormed script roomy
@@ -109,9 +113,11 @@ module _ (script : Script) (c : Collector) (run : Run) (still : IsAfterStop scri
     layout = still.kept.layout;
     sound = still.kept.sound;
     lists = still.kept.lists;
+    entries = still.kept.entries;
     has_words = still.kept.has_words;
     count = reserved.count ∙ still.kept.count;
     own = own;
+    inbox = still.kept.inbox;
     positions_are = still.kept.positions_are;
     positions = still.kept.positions;
     no_ends = still.kept.no_ends;
@@ -124,6 +130,7 @@ module _ (script : Script) (c : Collector) (run : Run) (still : IsAfterStop scri
     at_stop = subst (λ (l : List MutatorSeen). IsAtStop (plan_of script) run (record (seen c) { mutators = l })) (sym (reserved_seen c.mutators.items mutators.items reserved)) still.at_stop;
     closing = subst (HasClosingRoom c.progress) (sym reserved.count) still.closing;
     sweeper = sweeps_on (last_state run).progress (last_state run) c mutators still.sweeper;
+    named = still.named;
     few = few_on script c mutators still.few;
   }
 
@@ -136,6 +143,7 @@ still_before script old new run kept rest reserved still =
       at_stop = subst (IsAtStop (plan_of script) run) same still.at_stop;
       closing = subst (HasClosingRoom old.progress) reserved.count (subst (λ (x : Collector). HasClosingRoom x.progress (length new.mutators.items)) rest still.closing);
       sweeper = sweeps_on (last_state run).progress (last_state run) (record old { mutators = new.mutators }) old.mutators (subst (Sweeps (last_state run).progress (last_state run)) rest still.sweeper);
+      named = subst (λ (x : Collector). AreNamed (layout_of (plan_of script)) x.names (last_state run).allocation) rest still.named;
       few = few_on script (record old { mutators = new.mutators }) old.mutators (subst (AreFewAtStop script) rest still.few);
     }
 

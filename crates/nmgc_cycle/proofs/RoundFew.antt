@@ -13,7 +13,6 @@ use Rattle.nmgc_journal.specs.declared.report.StopRow.{StopRow}
 use Rattle.nmgc_round.specs.declared.table.Round.{Round}
 use Rattle.nmgc_round.specs.Seat.{RoundSeat}
 use Rattle.nmgc_script.specs.declared.script.Script.{Script}
-use Rattle.nmgc_sweep.specs.declared.notes.Section.{Section}
 use Rattle.nmgc_run.specs.Collector.{IsAfterRound}
 use Rattle.nmgc_run.specs.Run.{Run, last_state}
 use Rattle.nmgc_run.specs.Slice.{has_left, program_of}
@@ -21,6 +20,7 @@ use Rattle.nmgc_run.specs.State.{Plan, State, Progress, idle, marking, sweeping,
 use Rattle.nmgc_run.specs.Statements.{answered_count}
 use Rattle.nmgc_run.specs.Stop.{answer_of}
 use Rattle.nmgc_run.specs.laws.Lefts.{left_is_told}
+use Rattle.nmgc_graph.specs.declared.value.Name.{Name}
 use Rattle.nmgc_cycle.specs.declared.collector.Collector.{Collector}
 use Rattle.nmgc_cycle.specs.declared.progress.Marking.{Marking}
 use Rattle.nmgc_cycle.specs.declared.progress.Progress.{Progress as Doing}
@@ -29,14 +29,14 @@ use Rattle.nmgc_cycle.specs.declared.progress.Sweeping.{Sweeping}
 use Rattle.nmgc_cycle.specs.Bound.{commands_left, cycle_most, heap_of, most_stops, phase_left, MayFollow, AreFewBeforeStop, HasMore, NoneIsDue, commands, one_cycle, no_cycle}
 use Rattle.nmgc_cycle.specs.Cycles.{HasHelped, HasScanned, HasSweptSome}
 use Rattle.nmgc_cycle.specs.Keeps.{IsAfterStop}
-use Rattle.nmgc_cycle.specs.Shown.{seen, phase_in}
+use Rattle.nmgc_cycle.specs.Shown.{seen, phase_in, told_cycles}
 use Rattle.nmgc_cycle.specs.Limits.{IsInLimits}
 use Rattle.nmgc_cycle.proofs.Measures.{AreLeft, nothing_left, round_falls, left_then, left_less, left_is}
 use Rattle.nmgc_cycle.proofs.NoneLeft.{DoesNothing, nothing_done, none_has}
 
 -- The collector's part
 
-module _ (segments quota : ℕ) (round : Round) (from seat : RoundSeat) (old new : Segments) (some : 1 ≤ quota) where
+module _ (segments quota : ℕ) (round : Round) (from seat : RoundSeat) (old new : Segments) (names : List Name) (some : 1 ≤ quota) where
   -- scanning leaves less of a cycle that marks
   scanned_falls : (m n : Marking) → m.last.empty ≡ false → HasScanned round quota from seat old new m n → phase_left segments (doing.Marking n) < phase_left segments (doing.Marking m)
   scanned_falls m n goes h =
@@ -57,16 +57,16 @@ module _ (segments quota : ℕ) (round : Round) (from seat : RoundSeat) (old new
           ]
 
   -- and so does sweeping
-  swept_falls : (w v : Sweeping) → 1 ≤ length w.sweeper.left → HasSweptSome quota old new w v → phase_left segments (doing.Sweeping v) < phase_left segments (doing.Sweeping w)
+  swept_falls : (w v : Sweeping) → 1 ≤ length w.sweeper.left → HasSweptSome quota old new names w v → phase_left segments (doing.Sweeping v) < phase_left segments (doing.Sweeping w)
   swept_falls w v more h =
       let count = h.swept.fewer in
       elim (cases_lt h.count quota) [
-        | inl less ↦ let none = ap (λ (l : List Section). length l) (h.least less) in omega (arith, none, more)
+        | inl less ↦ let none = ap (λ (l : List ℕ). length l) (h.least less) in omega (arith, none, more)
         | inr all ↦ omega (arith, count, all)
       ]
 
   -- where the collector did its part there is less left to do, unless there was none
-  helped : (p q : Doing) → HasMore p → HasHelped round quota from seat old new p q → ((p ≡ doing.Idle) × (q ≡ doing.Idle)) ⊎ (phase_left segments q < phase_left segments p)
+  helped : (p q : Doing) → HasMore p → HasHelped round quota from seat old new names p q → ((p ≡ doing.Idle) × (q ≡ doing.Idle)) ⊎ (phase_left segments q < phase_left segments p)
   helped doing.Idle q more h = inl (refl, h.2)
   helped (doing.Marking m) q more h = inr (subst (λ (x : Doing). phase_left segments x < phase_left segments (doing.Marking m)) (sym h.1) (scanned_falls m h.0 more h.2))
   helped (doing.Sweeping w) q more h = inr (subst (λ (x : Doing). phase_left segments x < phase_left segments (doing.Sweeping w)) (sym h.1) (swept_falls w h.0 more h.3))
@@ -85,7 +85,7 @@ not_idle p idle e not is = let bad : true ≡ false = not in cc
 not_idle p (marking k) e not is = let bad : phase.Idle ≡ phase.Marking = ap phase_in (sym is) ∙ e in cc
 not_idle p (sweeping k closed) e not is = let bad : phase.Idle ≡ phase.Sweeping = ap phase_in (sym is) ∙ e in cc
 
-module _ (script : Script) (old new : Collector) (run : Run) (replies : List (List Reply)) (history : List Row) (worked : State) (limits : IsInLimits script) (still : IsAfterStop script old run) (after : IsAfterRound (plan_of script) run replies history worked (seen new)) (round : Round) (from seat : RoundSeat) (help : HasHelped round script.config.quota from seat old.segments new.segments old.progress new.progress) where
+module _ (script : Script) (old new : Collector) (run : Run) (replies : List (List Reply)) (history : List Row) (worked : State) (limits : IsInLimits script) (still : IsAfterStop script old run) (after : IsAfterRound (plan_of script) run replies history worked (seen new)) (round : Round) (from seat : RoundSeat) (help : HasHelped round script.config.quota from seat old.segments new.segments old.names old.progress new.progress) where
   abbrev s : State
   s = last_state run
 
@@ -99,10 +99,10 @@ module _ (script : Script) (old new : Collector) (run : Run) (replies : List (Li
   rounds_are = after.rounds ∙ ap (λ (r : List RoundRows). r ++ told ∷ []) (after.tells.rounds_are ∙ sym still.at_stop.tells.rounds_are)
 
   left : AreLeft (plan_of script) s (answered_count old.rounds)
-  left = left_is_told (plan_of script) run old.rounds old.stops old.cycles still.at_stop.is_run still.at_stop.tells
+  left = left_is_told (plan_of script) run old.rounds old.stops (told_cycles old) still.at_stop.is_run still.at_stop.tells
 
   part : ((old.progress ≡ doing.Idle) × (new.progress ≡ doing.Idle)) ⊎ (phase_left script.config.segments new.progress < phase_left script.config.segments old.progress)
-  part = helped script.config.segments script.config.quota round from seat old.segments new.segments limits.fits.config.some_quota old.progress new.progress still.few.more help
+  part = helped script.config.segments script.config.quota round from seat old.segments new.segments old.names limits.fits.config.some_quota old.progress new.progress still.few.more help
 
   no_longer : phase_left script.config.segments new.progress ≤ phase_left script.config.segments old.progress
   no_longer = elim part [

@@ -39,6 +39,6 @@ worked_after laws script c new o limits goes_on (run, still, is) did mutators sa
     } in
     let h = did_round laws script c new o x mutators same in
     let first = ap (λ (y : Collector). record y { mutators = mutators; rounds = y.rounds ++ rows ∷ [] }) did.rest in
-    let words = ap (λ (w : Option (List ℕ)). record c { words = w; segments = new.segments; progress = new.progress; collect = new.collect; full = new.full; mutators = mutators; positions = new.positions; rounds = c.rounds ++ rows ∷ [] }) did.words_are in
-    let row = ap (λ (replies : List (List Reply)). record c { words = Some did.words; segments = new.segments; progress = new.progress; collect = new.collect; full = new.full; mutators = mutators; positions = new.positions; rounds = c.rounds ++ record { replies = replies } ∷ [] }) told in
+    let words = ap (λ (w : Option (List ℕ)). record c { words = w; segments = new.segments; progress = new.progress; collect = new.collect; full = new.full; inbox = new.inbox; mutators = mutators; positions = new.positions; rounds = c.rounds ++ rows ∷ [] }) did.words_are in
+    let row = ap (λ (replies : List (List Reply)). record c { words = Some did.words; segments = new.segments; progress = new.progress; collect = new.collect; full = new.full; inbox = new.inbox; mutators = mutators; positions = new.positions; rounds = c.rounds ++ record { replies = replies } ∷ [] }) told in
     subst (DidRound script c) (sym (first ∙ words ∙ row)) h

@@ -27,6 +27,7 @@ use Rattle.nmgc_cycle.proofs.Items.{item}
 use Rattle.nmgc_cycle.proofs.Plans.{program_few}
 use Rattle.nmgc_cycle.proofs.Positions.{position_within}
 use Rattle.nmgc_cycle.proofs.Slicing.{commands_of}
+use Rattle.nmgc_updrem.specs.Rings.{Receiver, Sender}
 
 -- a whole list is overwritten
 pub overwritten : {A : Type 0} (n : ℕ) (xs ys : List A) → length ys ≡ length xs → n ≡ length xs → take n (ys ++ drop (length ys) xs) ≡ ys
@@ -77,8 +78,8 @@ module _ (script : Script) (c : Collector) (run : Run) (limits : IsInLimits scri
       ∙ sym (any_mapped (list_any is_full) commands_of did.done)
 
   -- each did its slice
-  pub each_did : (words : Option (List ℕ)) (segments : Segments) (progress : held.Progress) (collect asked : Bool) (mutators : Vec Mutator Global) (positions : Vec ℕ Global) → mutators.items ≡ map mutator_of new → ((k : ℕ) → k < length c.positions.items → slice_index positions.items k ≡ slice_index c.positions.items k + slice_index (map done_by new) k) → (k : ℕ) (m n : Mutator) (d : List Done) → slice_get c.mutators.items k ≡ Some m → slice_get mutators.items k ≡ Some n → slice_get did.done k ≡ Some d → DidSlice script c (record c { words = words; segments = segments; progress = progress; collect = collect; full = asked; mutators = mutators; positions = positions }) k m n d
-  each_did words segments progress collect asked mutators positions same moved k m n d e f g =
+  pub each_did : (words : Option (List ℕ)) (segments : Segments) (progress : held.Progress) (collect asked : Bool) (inbox : List Receiver) (mutators : Vec Mutator Global) (positions : Vec ℕ Global) → mutators.items ≡ map mutator_of new → ((k : ℕ) → k < length c.positions.items → slice_index positions.items k ≡ slice_index c.positions.items k + slice_index (map done_by new) k) → (k : ℕ) (m n : Mutator) (d : List Done) → slice_get c.mutators.items k ≡ Some m → slice_get mutators.items k ≡ Some n → slice_get did.done k ≡ Some d → DidSlice script c (record c { words = words; segments = segments; progress = progress; collect = collect; full = asked; inbox = inbox; mutators = mutators; positions = positions }) k m n d
+  each_did words segments progress collect asked inbox mutators positions same moved k m n d e f g =
       let x = map_item mutator_of new k n (ap (λ (l : List Mutator). slice_get l k) (sym same) ∙ f) in
       let h = did.each k x.0 d x.1 g in
       let old_is = h.old_is in
@@ -96,4 +97,9 @@ module _ (script : Script) (c : Collector) (run : Run) (limits : IsInLimits scri
             let before = ap (λ (u : Mutator). u.queue.spare) old in
             let after = ap (λ (u : Mutator). u.queue.spare) x.2 in
             omega (arith, room, before, after);
+        sends =
+            let line = h.slice.did.sends in
+            let before = ap (λ (u : Mutator). u.sender) old in
+            let after = ap (λ (u : Mutator). u.sender) x.2 in
+            (ap (λ (s : Sender). s.ring) after ∙ line.0 ∙ ap (λ (s : Sender). s.ring) before, ap (λ (s : Sender). s.before) after ∙ line.1 ∙ ap (λ (s : Sender). s.before) before);
       }

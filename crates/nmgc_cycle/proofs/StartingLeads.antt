@@ -46,6 +46,8 @@ use Rattle.nmgc_sweep.specs.Statements.{StartIsNoted, LeftStays}
 use Rattle.nmgc_sweep.specs.Sweeper.{AreLeft, HasNotes}
 use Rattle.nmgc_sweep.specs.Work.{HasBegun}
 use Rattle.nmgc_turn.specs.Worked.{registers_of}
+use Rattle.nmgc_sweep.specs.laws.Names.{named_begun}
+use Rattle.nmgc_sweep.specs.Names.{HaveEntries}
 use Rattle.nmgc_cycle.specs.declared.collector.Collector.{Collector}
 use Rattle.nmgc_cycle.specs.declared.progress.Marking.{Marking}
 use Rattle.nmgc_cycle.specs.declared.progress.Progress.TheVariants as doing
@@ -154,6 +156,7 @@ module _ (laws : BeginningLaws) (script : Script) (c : Collector) (s : State) (h
         layout = own.layout ∙ sym layout_is;
         whole = record { layout = own.whole.layout; number = own.whole.number; size = own_count (registers_of c.mutators.items) (length c.mutators.items) n long one.1 };
         no_replies = own.no_replies;
+        line = own.line;
       })
 
   rest_then : EachMutator (seen next) (λ n mutator. IsAtRest mutator)
@@ -180,9 +183,11 @@ module _ (laws : BeginningLaws) (script : Script) (c : Collector) (s : State) (h
     layout = layout_is ∙ h.kept.layout;
     sound = st.sound;
     lists = subst (λ (l : Layout). IsFor l c.promotion) (sym layout_is) h.kept.lists;
+    entries = subst (λ (l : Layout). HaveEntries l c.names) (sym layout_is) h.kept.entries;
     has_words = h.kept.has_words;
     count = st.queue_room.count ∙ given.count ∙ h.kept.count;
     own = own_then;
+    inbox = h.kept.inbox;
     positions_are = h.kept.positions_are;
     positions = h.kept.positions;
     no_ends = h.kept.no_ends;
@@ -230,14 +235,14 @@ module _ (laws : BeginningLaws) (script : Script) (c : Collector) (s : State) (h
   marked_then : HasMarked (all_prepared c.segments) segments (blank (epoch_of (s.begun + 1)) (most_blocks c.segments.layout)) mk.marker 0
   marked_then = subst (λ (n : ℕ). HasMarked (all_prepared c.segments) segments (blank n (most_blocks c.segments.layout)) mk.marker 0) epoch_is st.marked
 
-  begun_then : HasBegun (all_prepared c.segments) words (epoch_of (s.begun + 1)) mk.sweeper
-  begun_then = subst (λ (n : ℕ). HasBegun (all_prepared c.segments) words n mk.sweeper) epoch_is st.sweeper
+  begun_then : HasBegun (all_prepared c.segments) (epoch_of (s.begun + 1)) mk.sweeper
+  begun_then = subst (λ (n : ℕ). HasBegun (all_prepared c.segments) n mk.sweeper) epoch_is st.sweeper
 
   notes : HasNotes k mk.sweeper
   notes = laws.noted k words (all_prepared c.segments) (epoch_of (s.begun + 1)) mk.sweeper (prepared_shown laws.prepares laws.begins script c s h at) no_wait h.sound.sound_blocks.once refl begun_then
 
-  left_then : AreLeft segments mk.sweeper.left
-  left_then = laws.left (all_prepared c.segments) segments mk.sweeper.left (laws.waits (all_prepared c.segments) segments words words (cycle_begun s.allocation) (prepared_shown laws.prepares laws.begins script c s h at) stands_then) begun_then.left
+  left_then : AreLeft segments mk.sweeper
+  left_then = laws.left (all_prepared c.segments) segments mk.sweeper (laws.waits (all_prepared c.segments) segments words words (cycle_begun s.allocation) (prepared_shown laws.prepares laws.begins script c s h at) stands_then) layout_is begun_then.left
 
   is_marking : (places : List Place) → places ≡ h.heap.places → IsMarking k t (seen next) places
   is_marking places same_places =
@@ -262,7 +267,8 @@ module _ (laws : BeginningLaws) (script : Script) (c : Collector) (s : State) (h
     rest = rest_then;
     cycle = (is_marking heap.0.places heap.1, in_pace);
     closing = st.closing_room;
-    sweeper = (record { notes = notes; left = left_then }, begun_then.swept, begun_then.freed);
+    sweeper = (record { notes = notes; left = left_then }, begun_then.swept, begun_then.had, begun_then.freed);
+    named = named_begun plan c.names s.allocation h.named;
   }
 
 pub starting_leads : BeginningLaws → StartingLeads

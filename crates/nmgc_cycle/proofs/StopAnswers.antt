@@ -10,6 +10,7 @@ use Rattle.nmgc_run.specs.Run.{Tells, last_state}
 use Rattle.nmgc_run.specs.Slice.{has_left}
 use Rattle.nmgc_run.specs.State.{Plan, State, is_idle, plan_of, free_count, reserve_of}
 use Rattle.nmgc_run.specs.Stop.{IsStop, stop_row, answer_of}
+use Rattle.nmgc_cycle.specs.Shown.{told_cycles}
 use Rattle.nmgc_cycle.specs.declared.collector.Collector.{Collector}
 use Rattle.nmgc_cycle.specs.Bound.{AreFewAtStop}
 use Rattle.nmgc_cycle.specs.Keeps.{IsAfterStop}
@@ -22,7 +23,7 @@ use Rattle.nmgc_cycle.proofs.Telling.{stands_told}
 use Rattle.nmgc_cycle.proofs.WholeStop.{whole_stop}
 
 -- with a run that came to a state for which it stands, a collector is still
-still : (script : Script) (c : Collector) (rounds : List RoundRows) (stops : List StopRow) (cycles : List CycleRow) (row : StopRow) (t : State) → c.rounds ≡ rounds → c.stops ≡ stops ++ row ∷ [] → c.cycles ≡ cycles → (told : IsToldBut (plan_of script) rounds stops cycles row t) → StandsAt script c t → AreFewAtStop script c → c.answered ≡ answer_of (plan_of script) t → IsAfterStop script c told.run
+still : (script : Script) (c : Collector) (rounds : List RoundRows) (stops : List StopRow) (cycles : List CycleRow) (row : StopRow) (t : State) → c.rounds ≡ rounds → c.stops ≡ stops ++ row ∷ [] → told_cycles c ≡ cycles → (told : IsToldBut (plan_of script) rounds stops cycles row t) → StandsAt script c t → AreFewAtStop script c → c.answered ≡ answer_of (plan_of script) t → IsAfterStop script c told.run
 still script c rounds stops cycles row t rounds_are stops_are cycles_are told stands few answers =
     let at : StandsAt script c (last_state told.run) = subst (λ (s : State). StandsAt script c s) (sym told.last) stands in
     record {
@@ -30,8 +31,8 @@ still script c rounds stops cycles row t rounds_are stops_are cycles_are told st
       at_stop = record {
         is_run = told.is_run;
         tells =
-            subst (λ (r : List RoundRows). Tells told.run r c.stops c.cycles) (sym rounds_are)
-            (subst (λ (r : List StopRow). Tells told.run rounds r c.cycles) (sym stops_are)
+            subst (λ (r : List RoundRows). Tells told.run r c.stops (told_cycles c)) (sym rounds_are)
+            (subst (λ (r : List StopRow). Tells told.run rounds r (told_cycles c)) (sym stops_are)
             (subst (λ (r : List CycleRow). Tells told.run rounds (stops ++ row ∷ []) r) (sym cycles_are) told.tells));
         matches = at.matches;
         answered = answers ∙ ap (λ (s : State). answer_of (plan_of script) s) (sym told.last);
@@ -41,6 +42,7 @@ still script c rounds stops cycles row t rounds_are stops_are cycles_are told st
       };
       closing = at.closing;
       sweeper = at.sweeper;
+      named = at.named;
       few = few;
     }
 
@@ -75,7 +77,7 @@ module _ (script : Script) (old new : Collector) (b : Begins script old) (many :
       let rows : List CycleRow = led.first ++ led.own in
       let stop : IsStop plan b.began b.state t row rows = whole_stop plan b.began b.state led.promoted led.closed led.ended t many led.first led.own row led.promotes led.closes led.ends led.proceeds row_is in
       let told = b.goes_on t row rows stop in
-      (rows, stop, still script last old.rounds old.stops (old.cycles ++ rows) row t rounds_are stops_are led.cycles told stands few answers)
+      (rows, stop, still script last old.rounds old.stops (told_cycles old ++ rows) row t rounds_are stops_are led.cycles told stands few answers)
 
   -- the end of the run
   pub done : has_left t.left ≡ false → is_idle t.progress ≡ true → answered ≡ Some end.Done → Goes

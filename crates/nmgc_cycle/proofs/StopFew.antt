@@ -19,8 +19,7 @@ use Rattle.nmgc_journal.specs.declared.report.End.{End}
 use Rattle.nmgc_journal.specs.declared.report.RoundRows.{RoundRows}
 use Rattle.nmgc_journal.specs.declared.report.StopRow.{StopRow}
 use Rattle.nmgc_script.specs.declared.script.Script.{Script}
-use Rattle.nmgc_sweep.specs.declared.notes.Section.{Section}
-use Rattle.nmgc_sweep.specs.Sweeper.{AreLeft, HasStood, numbers_of}
+use Rattle.nmgc_sweep.specs.Sweeper.{Sweeper, AreLeft}
 use Rattle.nmgc_run.specs.Listing.{Ascends}
 use Rattle.nmgc_run.specs.Promotion.{Promotes}
 use Rattle.nmgc_run.specs.State.{State}
@@ -30,7 +29,7 @@ use Rattle.nmgc_cycle.specs.declared.progress.Progress.{Progress as Doing}
 use Rattle.nmgc_cycle.specs.declared.progress.Progress.TheVariants as doing
 use Rattle.nmgc_cycle.specs.declared.progress.Sweeping.{Sweeping}
 use Rattle.nmgc_cycle.specs.Bound.{commands_left, heap_of, phase_left, MayFollow, AreFew, AreFewAtStop, HasMore, NoneIsDue, commands, one_cycle, no_cycle}
-use Rattle.nmgc_cycle.specs.Cycles.{HasTaken, AddsTo, HasClosed, Closes, Ends, IsDue, Begins, HasStarted, all_prepared, remembered_by}
+use Rattle.nmgc_cycle.specs.Cycles.{HasTaken, AddsTo, HasClosed, Closes, Ends, IsDue, Begins, HasStarted, all_prepared, remembered_by, HasStood}
 use Rattle.nmgc_cycle.specs.Shown.{words_in, work_in}
 use Rattle.nmgc_cycle.specs.Stopping.{HasPromoted}
 use Rattle.nmgc_cycle.proofs.Few.{leaves_few, same_few}
@@ -122,26 +121,18 @@ waits_in segments number waits = elim (cases_lt number (length segments.segments
   | inr past ↦ absurd (let e : stands.Free ≡ stands.Sweeping = sym (ap (λ (x : Segment). x.state) (get_or_past segments.segments number (free_segment 0) past)) ∙ waits in cc)
 ]
 
-numbers_many : (left : List Section) → length (numbers_of left) ≡ length left
-numbers_many [] = refl
-numbers_many (section ∷ left) = ap suc (numbers_many left)
-
 -- no more segments are left than there are
-pub left_few : (segments : Segments) (left : List Section) → AreLeft segments left → length left ≤ length segments.segments
-left_few segments left h =
-    let few = few_numbers (length segments.segments) (numbers_of left) h.ordered (λ k there. waits_in segments k (h.sound k there)) in
-    let many = numbers_many left in
-    omega (arith, few, many)
+pub left_few : (segments : Segments) (sweeper : Sweeper) → AreLeft segments sweeper → length sweeper.left ≤ length segments.segments
+left_few segments sweeper h = few_numbers (length segments.segments) sweeper.left h.numbers.ordered (λ k there. waits_in segments k (h.numbers.sound k there))
 
 -- where none is left none waits
-pub none_waits : (segments : Segments) (left : List Section) → AreLeft segments left → length left ≡ 0 → HasNone sought.Sweeping segments
-none_waits segments left h none i lt waits =
-    let there = h.complete i waits in
+pub none_waits : (segments : Segments) (sweeper : Sweeper) → AreLeft segments sweeper → length sweeper.left ≡ 0 → HasNone sought.Sweeping segments
+none_waits segments sweeper h none i lt waits =
+    let there = h.numbers.complete i waits in
     let in_it = there.1 in
-    let many = numbers_many left in
-    omega (arith, in_it, many, none)
+    omega (arith, in_it, none)
 
-module _ (script : Script) (old new : Collector) (stops stop : ℕ) (words : List ℕ) (a : AllocState) (st : StandsFor old.segments words a) (count : length old.segments.segments ≡ script.config.segments) (waiting : (m : Marking) → old.progress ≡ doing.Marking m → AreLeft old.segments m.sweeper.left) (closed : HasClosed Closes stop old new) where
+module _ (script : Script) (old new : Collector) (stops stop : ℕ) (words : List ℕ) (a : AllocState) (st : StandsFor old.segments words a) (count : length old.segments.segments ≡ script.config.segments) (waiting : (m : Marking) → old.progress ≡ doing.Marking m → AreLeft old.segments m.sweeper) (closed : HasClosed Closes stop old new) where
   Closed : Type 0
   Closed = (phase_left script.config.segments new.progress ≤ phase_left script.config.segments old.progress) × (new.segments.fresh ≡ old.segments.fresh)
 
@@ -160,7 +151,7 @@ module _ (script : Script) (old new : Collector) (stops stop : ℕ) (words : Lis
       let w : Sweeping = h.1.0 in
       let now : phase_left script.config.segments new.progress ≡ phase_left script.config.segments (doing.Sweeping w) = ap (phase_left script.config.segments) h.1.1 in
       let own : phase_left script.config.segments (doing.Sweeping w) ≡ length m.sweeper.left = ap (λ (x : Sweeping). length x.sweeper.left) h.1.2.is in
-      let few = left_few old.segments m.sweeper.left (waiting m is) in
+      let few = left_few old.segments m.sweeper (waiting m is) in
       let stays : StandAsBefore old.segments h.1.2.marked = λ words b there. h.1.2.second.1.stands words b (h.1.2.first.1.stands words b there) in (
         omega (arith, before, was, now, own, few, count),
         ap (λ (x : Segments). x.fresh) h.1.2.carried ∙ fresh_before old.segments h.1.2.marked words a st stays,
@@ -214,17 +205,17 @@ module _ (script : Script) (old new : Collector) (stops stop : ℕ) (ends : Ends
   pub ending_few : AreFew (Unit {0}) script old stops → AreFew (Unit {0}) script new stops
   ending_few few = ended old.progress ends few
 
-  more : (p : Doing) → old.progress ≡ p → Ends stop p old new → ((m : Marking) → p ≡ doing.Marking m → m.last.empty ≡ false) → ((w : Sweeping) → p ≡ doing.Sweeping w → AreLeft old.segments w.sweeper.left) → HasMore new.progress
+  more : (p : Doing) → old.progress ≡ p → Ends stop p old new → ((m : Marking) → p ≡ doing.Marking m → m.last.empty ≡ false) → ((w : Sweeping) → p ≡ doing.Sweeping w → AreLeft old.segments w.sweeper) → HasMore new.progress
   more doing.Idle is h goes left = subst HasMore (sym (ap (λ (c : Collector). c.progress) h ∙ is)) tt
   more (doing.Marking m) is h goes left = subst HasMore (sym (ap (λ (c : Collector). c.progress) h ∙ is)) (goes m refl)
   more (doing.Sweeping w) is (inl h) goes left = subst HasMore (sym (ap (λ (c : Collector). c.progress) h.1)) tt
   more (doing.Sweeping w) is (inr h) goes left = subst HasMore (sym (ap (λ (c : Collector). c.progress) h.1 ∙ is)) (elim (cases_lt 0 (length w.sweeper.left)) [
     | inl some ↦ omega (arith, some)
-    | inr none ↦ absurd (h.0 (none_waits old.segments w.sweeper.left (left w refl) (omega (arith, none))))
+    | inr none ↦ absurd (h.0 (none_waits old.segments w.sweeper (left w refl) (omega (arith, none))))
   ])
 
   -- a cycle that goes on has something left
-  pub ending_more : ((m : Marking) → old.progress ≡ doing.Marking m → m.last.empty ≡ false) → ((w : Sweeping) → old.progress ≡ doing.Sweeping w → AreLeft old.segments w.sweeper.left) → HasMore new.progress
+  pub ending_more : ((m : Marking) → old.progress ≡ doing.Marking m → m.last.empty ≡ false) → ((w : Sweeping) → old.progress ≡ doing.Sweeping w → AreLeft old.segments w.sweeper) → HasMore new.progress
   ending_more goes left = more old.progress refl ends goes left
 
 -- The beginning of one

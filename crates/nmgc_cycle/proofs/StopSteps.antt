@@ -25,7 +25,7 @@ use Rattle.nmgc_cycle.specs.Bound.{AreFew, HasMore}
 use Rattle.nmgc_cycle.specs.Full.{HasFinished, Proceeds as ProceedsThen}
 use Rattle.nmgc_cycle.specs.FullLaws.{StandsAtStop}
 use Rattle.nmgc_cycle.specs.Keeps.{CanStop, IsWellFormed, Sweeps}
-use Rattle.nmgc_cycle.specs.Shown.{seen, words_in, phase_in, sweeper_in}
+use Rattle.nmgc_cycle.specs.Shown.{seen, words_in, phase_in, sweeper_in, told_cycles}
 use Rattle.nmgc_cycle.specs.Limits.{IsInLimits}
 use Rattle.nmgc_cycle.specs.Steps.{StandsPromoted, StandsWithin, StandsAt}
 use Rattle.nmgc_cycle.specs.StopLaws.{HasStopLaws}
@@ -77,7 +77,7 @@ pub record IsLed (script : Script) (began : World) (s : State) (many : ℕ) (old
   pub state : State
   pub own : List CycleRow
   pub proceeds : Proceeds (plan_of script) ended state own
-  pub cycles : new.cycles ≡ old.cycles ++ (first ++ own)
+  pub cycles : told_cycles new ≡ told_cycles old ++ (first ++ own)
   pub stands : StandsAt script new state
   pub number : state.number ≡ s.number
   pub left : state.left ≡ s.left
@@ -85,16 +85,16 @@ pub record IsLed (script : Script) (began : World) (s : State) (many : ℕ) (old
   pub begun : new.begun ≤ length old.stops + 1
   pub more : HasMore new.progress
 
--- while a cycle is in progress, its sweeper has notes left of all segments that wait
-left_marking : (s : State) (c : Collector) (q : Progress) → phase_in c.progress ≡ phase_of q → Sweeps q s c → (m : Marking) → c.progress ≡ doing.Marking m → AreLeft c.segments m.sweeper.left
+-- while a cycle is in progress, its sweeper has all segments left that wait
+left_marking : (s : State) (c : Collector) (q : Progress) → phase_in c.progress ≡ phase_of q → Sweeps q s c → (m : Marking) → c.progress ≡ doing.Marking m → AreLeft c.segments m.sweeper
 left_marking s c idle e h m is = absurd (let bad : phase.Marking ≡ phase.Idle = ap phase_in (sym is) ∙ e in cc)
-left_marking s c (marking k) e h m is = subst (λ (p : Doing). AreLeft c.segments (sweeper_in p).left) is h.0.left
-left_marking s c (sweeping k closed) e h m is = subst (λ (p : Doing). AreLeft c.segments (sweeper_in p).left) is h.0
+left_marking s c (marking k) e h m is = subst (λ (p : Doing). AreLeft c.segments (sweeper_in p)) is h.0.left
+left_marking s c (sweeping k closed) e h m is = subst (λ (p : Doing). AreLeft c.segments (sweeper_in p)) is h.0
 
-left_sweeping : (s : State) (c : Collector) (q : Progress) → phase_in c.progress ≡ phase_of q → Sweeps q s c → (w : Sweeping) → c.progress ≡ doing.Sweeping w → AreLeft c.segments w.sweeper.left
+left_sweeping : (s : State) (c : Collector) (q : Progress) → phase_in c.progress ≡ phase_of q → Sweeps q s c → (w : Sweeping) → c.progress ≡ doing.Sweeping w → AreLeft c.segments w.sweeper
 left_sweeping s c idle e h w is = absurd (let bad : phase.Sweeping ≡ phase.Idle = ap phase_in (sym is) ∙ e in cc)
-left_sweeping s c (marking k) e h w is = subst (λ (p : Doing). AreLeft c.segments (sweeper_in p).left) is h.0.left
-left_sweeping s c (sweeping k closed) e h w is = subst (λ (p : Doing). AreLeft c.segments (sweeper_in p).left) is h.0
+left_sweeping s c (marking k) e h w is = subst (λ (p : Doing). AreLeft c.segments (sweeper_in p)) is h.0.left
+left_sweeping s c (sweeping k closed) e h w is = subst (λ (p : Doing). AreLeft c.segments (sweeper_in p)) is h.0
 
 module _ (laws : HasStopLaws) (script : Script) (old p : Collector) (limits : IsInLimits script) (can : CanStop script old) (h : HasPromoted old p) (listed : HasListed old p) where
   abbrev b : Begins script old
@@ -134,7 +134,7 @@ module _ (laws : HasStopLaws) (script : Script) (old p : Collector) (limits : Is
           closing_few script a c (length old.stops + 1) number (words_in a.words) first.allocation stands_within.heap.holds.stands count (left_marking first a first.progress stands_within.matches.phase stands_within.sweeper) closed few_within
 
       module _ (e : Collector) (ends : Ends number c.progress c e) where
-        pub end_led : (t : State) × (rows : List CycleRow) × EndsOrWaits close_led.0.progress close_led.0 t rows × (e.cycles ≡ c.cycles ++ rows) × StandsAt script e t
+        pub end_led : (t : State) × (rows : List CycleRow) × EndsOrWaits close_led.0.progress close_led.0 t rows × (told_cycles e ≡ told_cycles c ++ rows) × StandsAt script e t
         end_led = laws.ending script c e close_led.0 limits close_led.2 (subst (λ (n : ℕ). Ends n c.progress c e) (number_is ∙ sym b.number ∙ sym closed_on.0.number) ends)
 
         ended_on : KeepsOn close_led.0 end_led.0 × (end_led.0.allocation ≡ close_led.0.allocation)
@@ -181,7 +181,7 @@ module _ (laws : HasStopLaws) (script : Script) (old p : Collector) (limits : Is
           left_ended : some ≡ has_left last_ended.left
           left_ended = left_told ∙ ap has_left (sym left_on)
 
-          proceed_led : (t : State) × (rows : List CycleRow) × Proceeds (plan_of script) last_ended t rows × (n.cycles ≡ e.cycles ++ rows) × StandsAt script n t
+          proceed_led : (t : State) × (rows : List CycleRow) × Proceeds (plan_of script) last_ended t rows × (told_cycles n ≡ told_cycles e ++ rows) × StandsAt script n t
           proceed_led = laws.proceeding script e n last_ended some limits stands_ended left_ended (subst (λ (k : ℕ). ProceedsThen script.config.trigger some k e n) (number_is ∙ sym b.number ∙ sym number_on) proceeds)
 
           proceeded_on : KeepsOn last_ended proceed_led.0
@@ -209,9 +209,9 @@ module _ (laws : HasStopLaws) (script : Script) (old p : Collector) (limits : Is
             own = proceed_led.1;
             proceeds = proceed_led.2;
             cycles =
-                let before : c.cycles ≡ old.cycles = ap (λ (x : Collector). x.cycles) closed.rest ∙ ap (λ (x : Collector). x.cycles) taken.rest ∙ ap (λ (x : Collector). x.cycles) h.rest in
-                let ended_cycles : e.cycles ≡ old.cycles ++ end_led.1 = end_led.3 ∙ ap (λ (rows : List CycleRow). rows ++ end_led.1) before in
-                proceed_led.3 ∙ ap (λ (rows : List CycleRow). rows ++ proceed_led.1) ended_cycles ∙ append_assoc old.cycles end_led.1 proceed_led.1;
+                let before : told_cycles c ≡ told_cycles old = ap told_cycles closed.rest ∙ ap told_cycles taken.rest ∙ ap told_cycles h.rest in
+                let ended_cycles : told_cycles e ≡ told_cycles old ++ end_led.1 = end_led.3 ∙ ap (λ (rows : List CycleRow). rows ++ end_led.1) before in
+                proceed_led.3 ∙ ap (λ (rows : List CycleRow). rows ++ proceed_led.1) ended_cycles ∙ append_assoc (told_cycles old) end_led.1 proceed_led.1;
             stands = proceed_led.4;
             number = proceeded_on.number ∙ number_on;
             left = proceeded_on.left ∙ left_on;

@@ -31,6 +31,8 @@ use Rattle.nmgc_script.specs.declared.script.Script.{Script}
 use Rattle.nmgc_sweep.specs.Statements.{LeftIsCounted}
 use Rattle.nmgc_sweep.specs.Sweeper.{AreLeft}
 use Rattle.nmgc_sweep.specs.Work.{IsAtWork}
+use Rattle.nmgc_sweep.specs.Names.{AreNamed, HaveEntries}
+use Rattle.nmgc_sweep.specs.laws.Names.{named_swept}
 use Rattle.nmgc_cycle.specs.declared.collector.Collector.{Collector}
 use Rattle.nmgc_cycle.specs.declared.progress.Progress.{Progress as Doing}
 use Rattle.nmgc_cycle.specs.declared.progress.Progress.TheVariants as doing
@@ -75,7 +77,7 @@ fewer_nurseries layout s earlier places fewer seen drops h = record {
 
 module _ (laws : SweepingLaws) (script : Script) (c : Collector) (st : State) (k : Cycle) (since : ℕ) (w v : Sweeping)
     (h : StandsAt script (record c { progress = doing.Sweeping w }) (record st { progress = sweeping k since }))
-    (new : Segments) (sw : HasSweptAll c.segments new w v) where
+    (new : Segments) (sw : HasSweptAll c.segments new c.names w v) where
   abbrev old : Collector
   old = record c { progress = doing.Sweeping w }
 
@@ -91,7 +93,7 @@ module _ (laws : SweepingLaws) (script : Script) (c : Collector) (st : State) (k
   -- the sweeper went through all that is left
 
   pub swept : (b : AllocState) × SweepsSome (IsKeptIn k) (length w.sweeper.left) st.allocation b × IsAtWork k since words b new (cycle_in (doing.Sweeping w) (died c.weaks.deaths)) v.sweeper
-  swept = sw.swept.sweeps k since words st.allocation (cycle_in (doing.Sweeping w) (died c.weaks.deaths)) h.sweeper.1
+  swept = sw.swept.sweeps k since words st.allocation (cycle_in (doing.Sweeping w) (died c.weaks.deaths)) (subst (λ (l : Layout). AreNamed l c.names st.allocation) (sym h.kept.layout) h.named) h.sweeper.1
 
   abbrev pub b : AllocState
   b = swept.0
@@ -103,7 +105,7 @@ module _ (laws : SweepingLaws) (script : Script) (c : Collector) (st : State) (k
   next = record c { segments = new; progress = doing.Sweeping (record w { sweeper = v.sweeper }) }
 
   rest : SweepsSome (IsKeptIn k) (waiting_count st.allocation) st.allocation b
-  rest = subst (λ (count : ℕ). SweepsSome (IsKeptIn k) count st.allocation b) (sym (laws.counted words st.allocation c.segments w.sweeper.left h.heap.holds.stands h.sweeper.0)) swept.1
+  rest = subst (λ (count : ℕ). SweepsSome (IsKeptIn k) count st.allocation b) (sym (laws.counted words st.allocation c.segments w.sweeper h.heap.holds.stands h.sweeper.0)) swept.1
 
   frees : FreesUntracked [] st.world st.world st.allocation b
   frees = laws.frees layout k st.world st.allocation b (waiting_count st.allocation) h.sound.sound_blocks h.sound.known h.sound.cycle.0 h.sound.cycle.1 h.sound.blocks rest
@@ -136,9 +138,11 @@ module _ (laws : SweepingLaws) (script : Script) (c : Collector) (st : State) (k
     layout = layout_is;
     sound = sw.sound;
     lists = subst (λ (l : Layout). IsFor l c.promotion) (sym sw.swept.layout) h.kept.lists;
+    entries = subst (λ (l : Layout). HaveEntries l c.names) (sym sw.swept.layout) h.kept.entries;
     has_words = h.kept.has_words;
     count = h.kept.count;
-    own = λ n x e. let own = h.kept.own n x e in record { number = own.number; layout = own.layout ∙ sym sw.swept.layout; whole = own.whole; no_replies = own.no_replies };
+    own = λ n x e. let own = h.kept.own n x e in record { number = own.number; layout = own.layout ∙ sym sw.swept.layout; whole = own.whole; no_replies = own.no_replies; line = own.line };
+    inbox = h.kept.inbox;
     positions_are = h.kept.positions_are;
     positions = h.kept.positions;
     no_ends = h.kept.no_ends;
@@ -157,7 +161,8 @@ module _ (laws : SweepingLaws) (script : Script) (c : Collector) (st : State) (k
     rest = h.rest;
     cycle = (swept.2.sweeping, subst (λ (n : ℕ). AreSettled n new) h.course.0.number_is swept.2.settled);
     closing = tt;
-    sweeper = (sw.swept.left, swept.2);
+    sweeper = (record { numbers = sw.swept.left.numbers; room = sw.swept.left.room }, swept.2);
+    named = named_swept layout c.names (IsKeptIn k) (length w.sweeper.left) st.allocation b swept.1 h.named;
   }
 
   pub sweeps_rest : SweepsRest (sweeping k since) st.allocation b
@@ -172,7 +177,7 @@ module _ (laws : SweepingLaws) (script : Script) (old new : Collector) (s : Stat
       let same : new ≡ old = segments_are ∙ ap (λ (g : Segments). record old { segments = g; progress = new.progress }) same_segments ∙ ap (λ (x : Doing). record old { progress = x }) (after ∙ sym at) in
       (s.allocation, subst (λ (x : Progress). SweepsRest x s.allocation s.allocation) (sym is) swept_by, subst (λ (x : Collector). StandsAt script x s) (sym same) h)
 
-  by_case : (p : Doing) (q : Progress) → old.progress ≡ p → s.progress ≡ q → phase_in p ≡ phase_of q → SweepsRestBy old.segments new.segments p new.progress → Leads
+  by_case : (p : Doing) (q : Progress) → old.progress ≡ p → s.progress ≡ q → phase_in p ≡ phase_of q → SweepsRestBy old.segments new.segments old.names p new.progress → Leads
   by_case doing.Idle idle at is e step = stays doing.Idle idle at is refl step.0 step.1
   by_case doing.Idle (marking k) at is e step = absurd (let bad : phase.Idle ≡ phase.Marking = e in cc)
   by_case doing.Idle (sweeping k since) at is e step = absurd (let bad : phase.Idle ≡ phase.Sweeping = e in cc)
@@ -197,15 +202,15 @@ module _ (laws : SweepingLaws) (script : Script) (old new : Collector) (s : Stat
 pub sweeping_rest_leads : SweepingLaws → SweepingRestLeads
 sweeping_rest_leads laws script old new s limits h swept = by_case laws script old new s h swept.rest old.progress s.progress refl refl h.matches.phase swept.sweeps
 
--- a sweeper at a stop has notes of all that waits
-ready_by : (script : Script) (c : Collector) (s : State) → StandsAt script c s → (p : Doing) (q : Progress) → c.progress ≡ p → s.progress ≡ q → phase_in p ≡ phase_of q → CanSweepRest c.segments p
+-- a sweeper at a stop has all left that waits
+ready_by : (script : Script) (c : Collector) (s : State) → StandsAt script c s → (p : Doing) (q : Progress) → c.progress ≡ p → s.progress ≡ q → phase_in p ≡ phase_of q → CanSweepRest c.segments c.names p
 ready_by script c s h doing.Idle q at is e = tt
 ready_by script c s h (doing.Marking m) q at is e = tt
 ready_by script c s h (doing.Sweeping w) idle at is e = absurd (let bad : phase.Sweeping ≡ phase.Idle = e in cc)
 ready_by script c s h (doing.Sweeping w) (marking k) at is e = absurd (let bad : phase.Sweeping ≡ phase.Marking = e in cc)
 ready_by script c s h (doing.Sweeping w) (sweeping k since) at is e =
     let held : Sweeps (sweeping k since) s c = subst (λ (q : Progress). Sweeps q s c) is h.sweeper in
-    subst (λ (p : Doing). AreLeft c.segments (sweeper_in p).left) at held.0
+    (subst (λ (p : Doing). AreLeft c.segments (sweeper_in p)) at held.0, h.kept.entries)
 
 pub sweep_rest_ready : SweepRestReady
 sweep_rest_ready script c s h = ready_by script c s h c.progress s.progress refl refl h.matches.phase

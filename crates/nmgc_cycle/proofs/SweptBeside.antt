@@ -28,6 +28,9 @@ use Rattle.nmgc_run.specs.Seen.{CycleSeen, ends_of, nurseries_of, recorded_in, y
 use Rattle.nmgc_run.specs.State.{Cycle, Progress, sweeping, waiting_count}
 use Rattle.nmgc_run.specs.Sweep.{SweepsBeside}
 use Rattle.nmgc_run.specs.laws.Course.{runs_are}
+use Rattle.nmgc_sweep.specs.Names.{AreNamed}
+use Rattle.nmgc_sweep.specs.laws.Names.{named_swept}
+use Rattle.nmgc_object.specs.declared.layout.Layout.{Layout}
 use Rattle.nmgc_cycle.specs.declared.collector.Collector.{Collector}
 use Rattle.nmgc_cycle.specs.declared.progress.Progress as held
 use Rattle.nmgc_cycle.specs.declared.progress.Progress.TheVariants as doing
@@ -55,7 +58,7 @@ module _ (laws : HasLaws) (script : Script) (c new : Collector) (o : Opening) (x
   before : (v : held_sweeping.Sweeping) × (c.progress ≡ doing.Sweeping v)
   before = when_sweeping c.progress (phase_with laws script c new o x (sweeping k closed) e)
 
-  did : (v : held_sweeping.Sweeping) × (new.progress ≡ doing.Sweeping v) × (x.did.helped.seat ≡ x.did.helped.from) × HasSweptSome script.config.quota c.segments new.segments before.0 v
+  did : (v : held_sweeping.Sweeping) × (new.progress ≡ doing.Sweeping v) × (x.did.helped.seat ≡ x.did.helped.from) × HasSweptSome script.config.quota c.segments new.segments c.names before.0 v
   did = helped_as laws script c new o x (doing.Sweeping before.0) before.1
 
   sweeper_was : sweeper_in c.progress ≡ before.0.sweeper
@@ -83,17 +86,17 @@ module _ (laws : HasLaws) (script : Script) (c new : Collector) (o : Opening) (x
   at_work : IsAtWork k closed x.did.words (s script c new o x).allocation c.segments (seen c).cycle before.0.sweeper
   at_work =
       let h = subst (IsAtWork k closed (seen c).words (s script c new o x).allocation c.segments (seen c).cycle) sweeper_was sweeps_before.1 in
-      record { stands = stands_then; notes = h.notes; sweeping = h.sweeping; settled = h.settled; begun = h.begun; ordered = h.ordered }
+      record { stands = stands_then; notes = h.notes; sweeping = h.sweeping; settled = h.settled; begun = h.begun }
 
   swept : (b : AllocState) × SweepsSome (IsKeptIn k) did.3.count (s script c new o x).allocation b × IsAtWork k closed x.did.words b new.segments (seen c).cycle did.0.sweeper
-  swept = did.3.swept.sweeps k closed x.did.words (s script c new o x).allocation (seen c).cycle at_work
+  swept = did.3.swept.sweeps k closed x.did.words (s script c new o x).allocation (seen c).cycle (subst (λ (l : Layout). AreNamed l c.names (s script c new o x).allocation) (sym x.still.kept.layout) x.still.named) at_work
 
-  left_before : AreLeft c.segments before.0.sweeper.left
-  left_before = subst (λ (y : Sweeper). AreLeft c.segments y.left) sweeper_was sweeps_before.0
+  left_before : AreLeft c.segments before.0.sweeper
+  left_before = subst (λ (y : Sweeper). AreLeft c.segments y) sweeper_was sweeps_before.0
 
   as_many : did.3.count ≡ min script.config.quota (waiting_count (s script c new o x).allocation)
   as_many =
-      let waits = laws.counted x.did.words (s script c new o x).allocation c.segments before.0.sweeper.left stands_then left_before in
+      let waits = laws.counted x.did.words (s script c new o x).allocation c.segments before.0.sweeper stands_then left_before in
       let fewer = did.3.swept.fewer in
       swept_min script.config.quota did.3.count (waiting_count (s script c new o x).allocation) (length did.0.sweeper.left) (omega (arith, fewer, waits)) did.3.most (λ less. ap (λ l. length l) (did.3.least less))
 
@@ -142,7 +145,7 @@ module _ (laws : HasLaws) (script : Script) (c new : Collector) (o : Opening) (x
       (subst (IsAtWork k closed x.did.words swept.0 new.segments (seen c).cycle) (sym sweeper_now) swept.2)
 
   sweeps_on : Sweeps (sweeping k closed) (t script c new o x swept.0) (last script c new o x)
-  sweeps_on = (subst (λ (y : Sweeper). AreLeft new.segments y.left) (sym sweeper_now) did.3.swept.left, work_on)
+  sweeps_on = (subst (λ (y : Sweeper). AreLeft new.segments y) (sym sweeper_now) did.3.swept.left, work_on)
 
   settled : AreSettled (s script c new o x).begun new.segments
   settled = subst (λ (number : ℕ). AreSettled number new.segments) course.number_is work_on.settled
@@ -160,4 +163,5 @@ module _ (laws : HasLaws) (script : Script) (c new : Collector) (o : Opening) (x
     free = more_free;
     cycle = subst (λ (p : Progress). HoldsInCycle (λ (j : Cycle). IsPacedAfterRound script.config.quota j (t script c new o x swept.0) (shown script c new o x)) (noted p (rows script c new o x)) (t script c new o x swept.0) (shown script c new o x) fewer.0) (sym e) (work_on.sweeping, settled);
     sweeper = subst (λ (p : Progress). Sweeps (noted p (rows script c new o x)) (t script c new o x swept.0) (last script c new o x)) (sym e) sweeps_on;
+    named = named_swept (layout script c new o x) c.names (IsKeptIn k) did.3.count (s script c new o x).allocation swept.0 swept.1 x.still.named;
   }

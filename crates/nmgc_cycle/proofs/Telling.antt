@@ -11,14 +11,16 @@ use Rattle.nmgc_cycle.specs.Shown.{seen}
 use Rattle.nmgc_cycle.specs.Steps.{StandsAt}
 
 -- its parts are as they are to be, wherever its cycle stands
-pub kept_told : (script : Script) (old new : Collector) → new ≡ record old { stops = new.stops; cycles = new.cycles; progress = new.progress; collect = new.collect; full = new.full; turns = new.turns; answered = new.answered } → IsWellFormed script old → IsWellFormed script new
+pub kept_told : (script : Script) (old new : Collector) → new ≡ record old { stops = new.stops; cycles = new.cycles; progress = new.progress; collect = new.collect; full = new.full; turns = new.turns; upper_turns = new.upper_turns; answered = new.answered } → IsWellFormed script old → IsWellFormed script new
 kept_told script old new rest k = subst (λ (x : Collector). IsWellFormed script x) (sym rest) (record {
   layout = k.layout;
   sound = k.sound;
   lists = k.lists;
+  entries = k.entries;
   has_words = k.has_words;
   count = k.count;
-  own = λ n m e. let o = k.own n m e in record { number = o.number; layout = o.layout; whole = o.whole; no_replies = o.no_replies };
+  own = λ n m e. let o = k.own n m e in record { number = o.number; layout = o.layout; whole = o.whole; no_replies = o.no_replies; line = o.line };
+  inbox = k.inbox;
   positions_are = k.positions_are;
   positions = k.positions;
   no_ends = k.no_ends;
@@ -63,7 +65,7 @@ module _ (script : Script) (old new : Collector) (s t : State) where
 
   sweeper_told : (q : Progress) → Sweeps q s old → Sweeps q then_state told
   sweeper_told idle h = tt
-  sweeper_told (marking k) h = (record { notes = h.0.notes; left = h.0.left }, h.1, h.2)
+  sweeper_told (marking k) h = (record { notes = h.0.notes; left = h.0.left }, h.1, h.2, h.3)
   sweeper_told (sweeping k closed) h = h
 
   stands_there : new.collect ≡ t.collect → new.full ≡ t.full → StandsAt script old s → StandsAt script told then_state
@@ -79,6 +81,7 @@ module _ (script : Script) (old new : Collector) (s t : State) where
     cycle = cycle_told s.progress h.heap.places h.cycle;
     closing = h.closing;
     sweeper = sweeper_told s.progress h.sweeper;
+    named = h.named;
   }
 
   -- a state of which the same is asked

@@ -13,7 +13,7 @@ use Rattle.nmgc_weak.specs.declared.weaks.OldWeak.{OldWeak}
 use Rattle.nmgc_weak.specs.Weaks.{names_of, places_of}
 use Rattle.nmgc_cycle.specs.declared.collector.Collector.{Collector}
 use Rattle.nmgc_cycle.specs.Keeps.{IsWellFormed, HasStopped, HasEnded}
-use Rattle.nmgc_cycle.specs.Shown.{seen, words_in, report_of}
+use Rattle.nmgc_cycle.specs.Shown.{seen, told_cycles, words_in, report_of}
 
 pub stopped_by : (script : Script) (c : Collector) (end : End) → HasEnded script c end → HasStopped script c × (c.answered ≡ Some end)
 stopped_by script c Done h = h
@@ -43,7 +43,7 @@ told script c end h =
     }
 
 -- a report with these parts is the collector's
-pub same_parts : (c : Collector) (end : End) (cycles : List CycleRow) (words : List ℕ) (mutators : List MutatorEnd) (weaks : List Name) → cycles ≡ c.cycles → words ≡ (seen c).words → mutators ≡ ends_of (seen c) → weaks ≡ names_of c.weaks.list → record (report_of c end) { cycles = cycles; words = words; mutators = mutators; weaks = weaks } ≡ report_of c end
+pub same_parts : (c : Collector) (end : End) (cycles : List CycleRow) (words : List ℕ) (mutators : List MutatorEnd) (weaks : List Name) → cycles ≡ told_cycles c → words ≡ (seen c).words → mutators ≡ ends_of (seen c) → weaks ≡ names_of c.weaks.list → record (report_of c end) { cycles = cycles; words = words; mutators = mutators; weaks = weaks } ≡ report_of c end
 same_parts c end cycles words mutators weaks cycles_are words_are mutators_are weaks_are = sym (
     ap (λ (rows : List CycleRow). record (report_of c end) { cycles = rows }) (sym cycles_are)
     ∙ ap (λ (ws : List ℕ). record (report_of c end) { cycles = cycles; words = ws }) (sym words_are)

@@ -1,5 +1,5 @@
 -- The nurseries of new mutators are unused, and nothing is left for a stop.
-use Rattle.std.proofs.Common.{ℕ, zero, suc, ◌≡◌, ◌+◌, ◌<◌, List, [], ◌∷◌, length, map, arith, refl, sym, ap, subst, ◌∙◌, inl, inr, Some}
+use Rattle.std.proofs.Common.{ℕ, zero, suc, ◌≡◌, ◌+◌, ◌<◌, List, [], ◌∷◌, ◌++◌, length, map, arith, refl, sym, ap, subst, ◌∙◌, inl, inr, Some}
 use Rattle.std.specs.Prelude.{slice_get}
 use Rattle.std.proofs.Math.ListN.{length-map}
 use Rattle.std.proofs.lemmas.Bool.{cases_lt}
@@ -17,6 +17,7 @@ use Rattle.nmgc_run.specs.Collector.{IsAtRest, AreNurseries}
 use Rattle.nmgc_run.specs.Seen.{MutatorSeen}
 use Rattle.nmgc_cycle.specs.Shown.{seen_mutator}
 use Rattle.nmgc_cycle.proofs.News.{AreNew}
+use Rattle.nmgc_object.specs.declared.words.Address.{Address}
 
 -- the nurseries of mutators
 abbrev pub nurseries : List Mutator → List Nursery
@@ -62,9 +63,9 @@ module _ (layout : Layout) (mutators : List Mutator) (new : AreNew layout mutato
     ends = λ maker lt. each_nursery (λ (j : ℕ) (n : Nursery). n.end ≡ n.base + layout.nursery) mutators (λ j m e. let is = new j m e in is.unused.end ∙ ap (λ (l : Layout). m.nursery.base + l.nursery) is.layout_is) maker (omega arith);
   }
 
-  pub nothing_left : (k : ℕ) (s : MutatorSeen) → slice_get (map seen_mutator mutators) k ≡ Some s → IsAtRest s
-  nothing_left = each_seen IsAtRest mutators (λ k m e. record {
+  pub nothing_left : ((k : ℕ) (m : Mutator) → slice_get mutators k ≡ Some m → m.sender.since ≡ []) → (k : ℕ) (s : MutatorSeen) → slice_get (map seen_mutator mutators) k ≡ Some s → IsAtRest s
+  nothing_left unsent = each_seen IsAtRest mutators (λ k m e. record {
     recorded = ap numbers (new k m e).recorded;
     young_weaks = ap numbers (new k m e).young_weaks;
-    entries = ap numbers (new k m e).updrem;
+    entries = ap (λ (l : List Address). numbers (l ++ m.updrem.items)) (unsent k m e) ∙ ap numbers (new k m e).updrem;
   })

@@ -1,6 +1,7 @@
 -- The collector beside the mutators, and the steps of a stop that lead a cycle on.
-use Rattle.std.specs.Prelude.{ℕ, ◌≡◌, ◌⊎◌, ◌↔◌, ◌+◌, ◌-◌, ◌≤◌, ◌<◌, ◌++◌, ◌∷◌, List, [], length, map, true, false, IsSome, vec_capacity}
+use Rattle.std.specs.Prelude.{ℕ, ◌≡◌, ◌⊎◌, ◌↔◌, ◌+◌, ◌-◌, ◌/◌, ◌≤◌, ◌<◌, ◌++◌, ◌∷◌, List, [], length, map, slice_get, Some, true, false, IsSome, vec_capacity}
 use Rattle.nmgc_alloc.specs.declared.search.Sought.TheVariants as sought
+use Rattle.nmgc_alloc.specs.AllocState.{AllocState, StandsFor}
 use Rattle.nmgc_alloc.specs.Segments.{Segments, HasNone, IsSegments}
 use Rattle.nmgc_alloc.specs.CycleSteps.{carried_over}
 use Rattle.nmgc_beside.specs.Calls.{all_entries}
@@ -20,7 +21,8 @@ use Rattle.nmgc_round.specs.View.{Opening}
 use Rattle.nmgc_run.specs.Marker.{HasRoomToMark}
 use Rattle.nmgc_run.specs.Marks.{epoch_of}
 use Rattle.nmgc_run.specs.Seen.{MarkerSeen}
-use Rattle.nmgc_sweep.specs.Sweeper.{AreLeft, HasStood, turned}
+use Rattle.nmgc_sweep.specs.Names.{HaveEntries}
+use Rattle.nmgc_sweep.specs.Sweeper.{AreLeft, turned}
 use Rattle.nmgc_sweep.specs.Work.{HasBegun, HasSwept}
 use Rattle.nmgc_cycle.specs.declared.collector.Collector.{Collector}
 use Rattle.nmgc_cycle.specs.declared.progress.Marking.{Marking}
@@ -29,7 +31,8 @@ use Rattle.nmgc_cycle.specs.declared.progress.Progress.TheVariants as progress
 use Rattle.nmgc_cycle.specs.declared.progress.Sweeping.{Sweeping}
 use Rattle.nmgc_core.specs.State.{opening}
 use Rattle.nmgc_turn.specs.Worked.{registers_of}
-use Rattle.nmgc_cycle.specs.Roots.{cleared, queues_in, without_queue, AreGivenBack}
+use Rattle.nmgc_cycle.specs.Roots.{queues_in, without_queue, AreGivenBack}
+use Rattle.nmgc_cycle.specs.Lined.{IsLined, HaveForgotten}
 use Rattle.nmgc_cycle.specs.Listed.{FinalisersQueued, HaveQueueRoom}
 use Rattle.nmgc_cycle.specs.Shown.{died, seen_mutator, words_in}
 use Rattle.nmgc_graph.specs.declared.value.Name.{Name}
@@ -43,11 +46,11 @@ use Rattle.nmgc_weak.specs.Weaks.{Weaks, places_of}
 
 -- In a round
 
--- the collector may do its part of a round: a marker has room for what it marks, and the marks and the queue of its seat's view; a sweeper has notes of all segments that wait
-abbrev pub CanHelp : Round → RoundSeat → Segments → Progress → Type 0
-CanHelp round seat segments progress.Idle = IsCollector round seat
-CanHelp round seat segments (progress.Marking m) = IsCollector round seat × HasRoomToMark segments m.marker × IsTied (seat_seen seat).opening (marks_seen (seat_seen seat)) segments m.marker
-CanHelp round seat segments (progress.Sweeping w) = IsCollector round seat × AreLeft segments w.sweeper.left
+-- the collector may do its part of a round: a marker has room for what it marks, and the marks and the queue of its seat's view; a sweeper has all segments left that wait, and there is an entry of the array of names for each block
+abbrev pub CanHelp : Round → RoundSeat → Segments → List Name → Progress → Type 0
+CanHelp round seat segments names progress.Idle = IsCollector round seat
+CanHelp round seat segments names (progress.Marking m) = IsCollector round seat × HasRoomToMark segments m.marker × IsTied (seat_seen seat).opening (marks_seen (seat_seen seat)) segments m.marker
+CanHelp round seat segments names (progress.Sweeping w) = IsCollector round seat × AreLeft segments w.sweeper × HaveEntries segments.layout names
 
 -- it scanned as much as its last work tells, of at most so many objects, and passed the gate before each
 pub record HasScanned (round : Round) (quota : ℕ) (from seat : RoundSeat) (old new : Segments) (m n : Marking) : Type 0 where
@@ -58,36 +61,42 @@ pub record HasScanned (round : Round) (quota : ℕ) (from seat : RoundSeat) (old
   pub empty : (n.last.empty ≡ true) ↔ (n.marker.queue ≡ [])
   pub turns : n.marker.turns ≡ passed m.marker.turns n.last.scanned
 
--- it swept the lesser of so many segments and those that were left, and passed the gate before each
-pub record HasSweptSome (quota : ℕ) (old new : Segments) (w v : Sweeping) : Type 0 where
+-- it swept the lesser of so many segments and those that were left, and passed the gate before each, in two halves
+pub record HasSweptSome (quota : ℕ) (old new : Segments) (names : List Name) (w v : Sweeping) : Type 0 where
   pub rest : v ≡ record w { sweeper = v.sweeper }
   pub count : ℕ
-  pub swept : HasSwept old new w.sweeper v.sweeper count
+  pub swept : HasSwept old new names w.sweeper v.sweeper count
   pub most : count ≤ quota
   pub least : count < quota → v.sweeper.left ≡ []
-  pub turns : v.sweeper.turns ≡ passed w.sweeper.turns count
+  pub turns : v.sweeper.turns ≡ passed w.sweeper.turns (count - count / 2)
+  pub upper_turns : v.sweeper.upper_turns ≡ passed w.sweeper.upper_turns (count / 2)
 
 -- it did its part
-abbrev pub HasHelped : Round → ℕ → RoundSeat → RoundSeat → Segments → Segments → Progress → Progress → Type 0
-HasHelped round quota from seat old new progress.Idle after = (seat ≡ from) × (new ≡ old) × (after ≡ progress.Idle)
-HasHelped round quota from seat old new (progress.Marking m) after = (n : Marking) × (after ≡ progress.Marking n) × HasScanned round quota from seat old new m n
-HasHelped round quota from seat old new (progress.Sweeping w) after = (v : Sweeping) × (after ≡ progress.Sweeping v) × (seat ≡ from) × HasSweptSome quota old new w v
+abbrev pub HasHelped : Round → ℕ → RoundSeat → RoundSeat → Segments → Segments → List Name → Progress → Progress → Type 0
+HasHelped round quota from seat old new names progress.Idle after = (seat ≡ from) × (new ≡ old) × (after ≡ progress.Idle)
+HasHelped round quota from seat old new names (progress.Marking m) after = (n : Marking) × (after ≡ progress.Marking n) × HasScanned round quota from seat old new m n
+HasHelped round quota from seat old new names (progress.Sweeping w) after = (v : Sweeping) × (after ≡ progress.Sweeping v) × (seat ≡ from) × HasSweptSome quota old new names w v
 
--- on how many objects or segments it worked beside a round, from one progress to the next
+-- how many segments it swept beside a round, from one progress to the next
+abbrev pub swept_beside : Sweeping → Sweeping → ℕ
+swept_beside w v = length w.sweeper.left - length v.sweeper.left
+
+-- on how many objects or segments it worked, but for those in the upper half of a sweep
 abbrev pub worked_on : Progress → Progress → ℕ
 worked_on (progress.Marking m) (progress.Marking n) = n.last.scanned
-worked_on (progress.Sweeping w) (progress.Sweeping v) = length w.sweeper.left - length v.sweeper.left
+worked_on (progress.Sweeping w) (progress.Sweeping v) = swept_beside w v - swept_beside w v / 2
 worked_on _ _ = 0
+
+-- and on how many in that half
+abbrev pub upper_worked_on : Progress → Progress → ℕ
+upper_worked_on (progress.Sweeping w) (progress.Sweeping v) = swept_beside w v / 2
+upper_worked_on _ _ = 0
 
 -- At a stop
 
 -- the places that mutators remember, one mutator after the other
 abbrev pub remembered_by : List Mutator → List ℕ
 remembered_by mutators = all_entries (map seen_mutator mutators)
-
--- the mutator remembers nothing
-abbrev pub remembering_nothing : Mutator → Mutator
-remembering_nothing m = record m { updrem = cleared m.updrem }
 
 -- a marker may be given more
 abbrev pub CanAdd : Segments → Progress → Type 0
@@ -105,10 +114,12 @@ abbrev pub AddsTo : List ℕ → Segments → Segments → Progress → Progress
 AddsTo entries old new (progress.Marking m) after = (marker : MarkerSeen) × (after ≡ progress.Marking (record m { marker = marker })) × HasAdded entries old new m.marker marker × IsSegments new
 AddsTo entries old new p after = (after ≡ p) × (new ≡ old)
 
--- what the mutators remember was added to the marker, and they remember nothing
+-- what the mutators remember was added to the marker, and they remember nothing: the inbox and the rings are empty
 pub record HasTaken (old new : Collector) : Type 0 where
-  pub rest : new ≡ record old { segments = new.segments; progress = new.progress; mutators = new.mutators }
-  pub mutators : new.mutators.items ≡ map remembering_nothing old.mutators.items
+  pub rest : new ≡ record old { segments = new.segments; progress = new.progress; inbox = new.inbox; mutators = new.mutators }
+  pub inbox : length new.inbox ≡ length old.inbox
+  pub mutators : HaveForgotten old.mutators.items new.mutators.items
+  pub lines : (k : ℕ) (n : Mutator) → slice_get new.mutators.items k ≡ Some n → IsLined new.inbox k n.sender
   pub adds : AddsTo (remembered_by old.mutators.items) old.segments new.segments old.progress new.progress
 
 -- a marker may finish: it has room, and its marks and its queue are those of a state that opens a round on these words. After that the weak pointers of the list may be resolved, and the finalisers of those that die have room in the queues; and there is room for the queues themselves
@@ -170,9 +181,9 @@ row_of number stop w dead = record {
 abbrev pub IsSwept : Collector → Type 0
 IsSwept c = (w : Sweeping) × (c.progress ≡ progress.Sweeping w) × HasNone sought.Sweeping c.segments
 
--- a cycle that sweeps ends where no segment waits; the collector keeps the sweeper's count of the gate's passes
+-- a cycle that sweeps ends where no segment waits; the collector keeps the sweeper's counts of the gate's passes
 abbrev pub Ends : ℕ → Progress → Collector → Collector → Type 0
-Ends stop (progress.Sweeping w) old new = (HasNone sought.Sweeping old.segments × (new ≡ record old { progress = progress.Idle; turns = w.sweeper.turns; cycles = old.cycles ++ row_of old.begun stop w (died old.weaks.deaths) ∷ [] })) ⊎ ((HasNone sought.Sweeping old.segments → ⊥) × (new ≡ old))
+Ends stop (progress.Sweeping w) old new = (HasNone sought.Sweeping old.segments × (new ≡ record old { progress = progress.Idle; turns = w.sweeper.turns; upper_turns = w.sweeper.upper_turns; cycles = old.cycles ++ row_of old.begun stop w (died old.weaks.deaths) ∷ [] })) ⊎ ((HasNone sought.Sweeping old.segments → ⊥) × (new ≡ old))
 Ends stop _ old new = new ≡ old
 
 -- a cycle is due: none is in progress, and one was asked for, or enough segments were filled since the last one began
@@ -183,13 +194,17 @@ IsDue trigger c = (c.progress ≡ progress.Idle) × ((c.collect ≡ true) ⊎ ((
 abbrev pub next_epoch : Collector → ℕ
 next_epoch c = epoch_of (c.begun + 1)
 
+-- segments and words stand for some allocation state
+abbrev pub HasStood : Segments → List ℕ → Type 0
+HasStood segments words = (a : AllocState) × StandsFor segments words a
+
 -- where a cycle is due, no segment waits any more, words and segments stand for an allocation state, and marking begins with the roots that the mutators have
 pub record CanBegin (c : Collector) : Type 0 where
   pub none_waits : HasNone sought.Sweeping c.segments
   pub stood : HasStood (all_prepared c.segments) (words_in c.words)
   pub begins : (o : Opening) × IsBeginning o (all_prepared c.segments) (next_epoch c) (words_in c.words) (registers_of c.mutators.items) (queues_in c.mutators.items)
 
--- a marking cycle was started at this stop: the segments were prepared, the sweeper noted what waits, and the marker marked what the roots refer to, both with the collector's count of the gate's passes; the mutators have their roots again, and their queues have room for what the closing adds
+-- a marking cycle was started at this stop: the segments were prepared, the sweeper noted which segments wait, and the marker marked what the roots refer to, both with the collector's count of the gate's passes; the mutators have their roots again, and their queues have room for what the closing adds
 pub record StartsMarking (stop : ℕ) (old new : Collector) (marking : Marking) : Type 0 where
   pub rest : new ≡ record old { words = new.words; segments = new.segments; mutators = new.mutators }
   pub from_is : marking.from ≡ stop
@@ -200,8 +215,8 @@ pub record StartsMarking (stop : ℕ) (old new : Collector) (marking : Marking) 
   pub given : AreGivenBack (registers_of old.mutators.items) (queues_in old.mutators.items) (map without_queue old.mutators.items) between
   pub queue_room : HaveQueueRoom old.weaks.list between new.mutators.items
   pub closing_room : (marking.queues.items ≡ []) × (length new.mutators.items ≤ vec_capacity marking.queues)
-  pub sweeper : HasBegun (all_prepared old.segments) (words_in old.words) (next_epoch old) marking.sweeper
-  pub turns : (marking.marker.turns ≡ old.turns) × (marking.sweeper.turns ≡ old.turns)
+  pub sweeper : HasBegun (all_prepared old.segments) (next_epoch old) marking.sweeper
+  pub turns : (marking.marker.turns ≡ old.turns) × (marking.sweeper.turns ≡ old.turns) × (marking.sweeper.upper_turns ≡ old.upper_turns)
   pub marked : HasMarked (all_prepared old.segments) new.segments (blank (next_epoch old) (most_blocks old.segments.layout)) marking.marker 0
   pub tied : (o : Opening) → IsBeginning o (all_prepared old.segments) (next_epoch old) (words_in old.words) (registers_of old.mutators.items) (queues_in old.mutators.items) → IsTied o (marks_of (opening o.core.snapshot)) new.segments marking.marker
 

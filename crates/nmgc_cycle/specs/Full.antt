@@ -5,6 +5,8 @@ use Rattle.nmgc_alloc.specs.Segments.{Segments, IsSegments}
 use Rattle.nmgc_alloc.specs.CycleSteps.{retired}
 use Rattle.nmgc_object.specs.Places.{reserve_count}
 use Rattle.nmgc_object.specs.FinQueue.{FinQueue}
+use Rattle.nmgc_graph.specs.declared.value.Name.{Name}
+use Rattle.nmgc_sweep.specs.Names.{HaveEntries}
 use Rattle.nmgc_sweep.specs.Sweeper.{AreLeft}
 use Rattle.nmgc_sweep.specs.Work.{HasSwept}
 use Rattle.nmgc_weak.specs.declared.weaks.OldWeak.{OldWeak}
@@ -33,28 +35,28 @@ abbrev pub ClosesNow : ℕ → Progress → Collector → Collector → Type 0
 ClosesNow stop (progress.Marking m) old new = (w : Sweeping) × (new.progress ≡ progress.Sweeping w) × IsClosed stop (words_in old.words) (words_in new.words) old.segments new.segments old.weaks new.weaks old.mutators.items new.mutators.items m w
 ClosesNow stop p old new = new ≡ old
 
--- a sweeper has notes of all segments that wait
-abbrev pub CanSweepRest : Segments → Progress → Type 0
-CanSweepRest segments (progress.Sweeping w) = AreLeft segments w.sweeper.left
-CanSweepRest segments _ = Unit {0}
+-- a sweeper has all segments left that wait, and there is an entry of the array of names for each block
+abbrev pub CanSweepRest : Segments → List Name → Progress → Type 0
+CanSweepRest segments names (progress.Sweeping w) = AreLeft segments w.sweeper × HaveEntries segments.layout names
+CanSweepRest segments names _ = Unit {0}
 
 -- all that waited were swept, and the gate wasn't passed
-pub record HasSweptAll (old new : Segments) (w v : Sweeping) : Type 0 where
+pub record HasSweptAll (old new : Segments) (names : List Name) (w v : Sweeping) : Type 0 where
   pub rest : v ≡ record w { sweeper = v.sweeper }
-  pub swept : HasSwept old new w.sweeper v.sweeper (length w.sweeper.left)
+  pub swept : HasSwept old new names w.sweeper v.sweeper (length w.sweeper.left)
   pub none : v.sweeper.left ≡ []
-  pub turns : v.sweeper.turns ≡ w.sweeper.turns
+  pub turns : (v.sweeper.turns ≡ w.sweeper.turns) × (v.sweeper.upper_turns ≡ w.sweeper.upper_turns)
   pub sound : IsSegments new
 
 -- a cycle that sweeps was swept to its end, and any other is as it was
-abbrev pub SweepsRest : Segments → Segments → Progress → Progress → Type 0
-SweepsRest old new (progress.Sweeping w) after = (v : Sweeping) × (after ≡ progress.Sweeping v) × HasSweptAll old new w v
-SweepsRest old new p after = (after ≡ p) × (new ≡ old)
+abbrev pub SweepsRest : Segments → Segments → List Name → Progress → Progress → Type 0
+SweepsRest old new names (progress.Sweeping w) after = (v : Sweeping) × (after ≡ progress.Sweeping v) × HasSweptAll old new names w v
+SweepsRest old new names p after = (after ≡ p) × (new ≡ old)
 
 -- nothing else of the collector changed
 pub record HasSweptRest (old new : Collector) : Type 0 where
   pub rest : new ≡ record old { segments = new.segments; progress = new.progress }
-  pub sweeps : SweepsRest old.segments new.segments old.progress new.progress
+  pub sweeps : SweepsRest old.segments new.segments old.names old.progress new.progress
 
 -- the cycle in progress was closed, swept and ended at this stop
 pub record HasFinished (stop : ℕ) (old new : Collector) : Type 0 where

@@ -14,7 +14,7 @@ use Rattle.nmgc_cycle.specs.declared.progress.Progress.TheVariants as doing
 use Rattle.nmgc_cycle.specs.Cycles.{HasClosed}
 use Rattle.nmgc_cycle.specs.Full.{CanCloseNow, ClosesNow, CanSweepRest, HasSweptRest, HasFinished, with_all_retired, HasDoneFull, Proceeds}
 use Rattle.nmgc_cycle.specs.Roots.{queues_in}
-use Rattle.nmgc_cycle.specs.Shown.{words_in}
+use Rattle.nmgc_cycle.specs.Shown.{told_cycles, words_in}
 use Rattle.nmgc_cycle.specs.Limits.{IsInLimits}
 use Rattle.nmgc_cycle.specs.Steps.{StandsAt}
 
@@ -32,7 +32,7 @@ SweepingRestLeads = (script : Script) (old new : Collector) (s : State) → IsIn
 
 -- so a cycle in progress is finished, and then none is in progress
 abbrev pub FinishLeads : Type 0
-FinishLeads = (script : Script) (old new : Collector) (s : State) → IsInLimits script → StandsAt script old s → HasFinished s.number old new → (t : State) × (rows : List CycleRow) × run.Finishes s t rows × (new.cycles ≡ old.cycles ++ rows) × StandsAt script new t × (new.progress ≡ doing.Idle)
+FinishLeads = (script : Script) (old new : Collector) (s : State) → IsInLimits script → StandsAt script old s → HasFinished s.number old new → (t : State) × (rows : List CycleRow) × run.Finishes s t rows × (told_cycles new ≡ told_cycles old ++ rows) × StandsAt script new t × (new.progress ≡ doing.Idle)
 
 -- segments that are filed stand for the state with them filed
 abbrev pub FilingLeads : Type 0
@@ -40,11 +40,11 @@ FilingLeads = (script : Script) (c : Collector) (s : State) → IsInLimits scrip
 
 -- the whole full cycle
 abbrev pub FullLeads : Type 0
-FullLeads = (script : Script) (old new : Collector) (s : State) → IsInLimits script → StandsAt script old s → HasDoneFull s.number old new → (t : State) × (rows : List CycleRow) × run.DoesFullCycle s t rows × (new.cycles ≡ old.cycles ++ rows) × StandsAt script new t
+FullLeads = (script : Script) (old new : Collector) (s : State) → IsInLimits script → StandsAt script old s → HasDoneFull s.number old new → (t : State) × (rows : List CycleRow) × run.DoesFullCycle s t rows × (told_cycles new ≡ told_cycles old ++ rows) × StandsAt script new t
 
 -- the stop goes on as the run does
 abbrev pub ProceedingLeads : Type 0
-ProceedingLeads = (script : Script) (old new : Collector) (s : State) (left : Bool) → IsInLimits script → StandsAt script old s → left ≡ has_left s.left → Proceeds script.config.trigger left s.number old new → (t : State) × (rows : List CycleRow) × run.Proceeds (plan_of script) s t rows × (new.cycles ≡ old.cycles ++ rows) × StandsAt script new t
+ProceedingLeads = (script : Script) (old new : Collector) (s : State) (left : Bool) → IsInLimits script → StandsAt script old s → left ≡ has_left s.left → Proceeds script.config.trigger left s.number old new → (t : State) × (rows : List CycleRow) × run.Proceeds (plan_of script) s t rows × (told_cycles new ≡ told_cycles old ++ rows) × StandsAt script new t
 
 -- What the parts ask for
 
@@ -54,4 +54,4 @@ CloseNowReady = (script : Script) (c : Collector) (s : State) → StandsAt scrip
 
 -- what waits may be swept
 abbrev pub SweepRestReady : Type 0
-SweepRestReady = (script : Script) (c : Collector) (s : State) → StandsAt script c s → CanSweepRest c.segments c.progress
+SweepRestReady = (script : Script) (c : Collector) (s : State) → StandsAt script c s → CanSweepRest c.segments c.names c.progress

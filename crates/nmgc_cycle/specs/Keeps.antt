@@ -18,9 +18,11 @@ use Rattle.nmgc_cycle.specs.declared.progress.Progress.{Progress as Doing}
 use Rattle.nmgc_cycle.specs.declared.progress.Progress.TheVariants as doing
 use Rattle.nmgc_cycle.specs.declared.stop.StopEnd.{StopEnd}
 use Rattle.nmgc_cycle.specs.declared.stop.StopEnd.TheVariants as answer
-use Rattle.nmgc_sweep.specs.Sweeper.{HasNotes, AreLeft, numbers_of}
+use Rattle.nmgc_sweep.specs.Names.{AreNamed, HaveEntries}
+use Rattle.nmgc_sweep.specs.Sweeper.{HasNotes, AreLeft}
 use Rattle.nmgc_sweep.specs.Work.{IsAtWork}
 use Rattle.nmgc_cycle.specs.Bound.{AreFewAtStop, AreFewBeforeStop}
+use Rattle.nmgc_cycle.specs.Lined.{IsLined}
 use Rattle.nmgc_cycle.specs.Shown.{seen, sweeper_in}
 
 -- while a cycle marks, there is a list with room for the queues of so many mutators, for its closing
@@ -28,32 +30,35 @@ abbrev pub HasClosingRoom : Doing → ℕ → Type 0
 HasClosingRoom (doing.Marking m) count = (m.queues.items ≡ []) × (count ≤ vec_capacity m.queues)
 HasClosingRoom p count = Unit {0}
 
--- the sweeper of a cycle that marks: it noted what lay in the segments that are to be swept, and has notes left of all segments that wait
+-- the sweeper of a cycle that marks: it noted the segments that are to be swept, and all that wait are left
 pub record HasSweeper (k : Cycle) (c : Collector) : Type 0 where
   pub notes : HasNotes k (sweeper_in c.progress)
-  pub left : AreLeft c.segments (sweeper_in c.progress).left
+  pub left : AreLeft c.segments (sweeper_in c.progress)
 
--- while a cycle marks, its sweeper has swept nothing; once it was closed, the sweeper is at work, still with notes left of all that wait
+-- while a cycle marks, its sweeper has swept nothing; once it was closed, the sweeper is at work, and all that wait are left still
 abbrev pub Sweeps : Progress → State → Collector → Type 0
 Sweeps idle s c = Unit {0}
-Sweeps (marking k) s c = HasSweeper k c × ((sweeper_in c.progress).seen.swept ≡ numbers_of (sweeper_in c.progress).left) × ((sweeper_in c.progress).seen.freed ≡ [])
-Sweeps (sweeping k closed) s c = AreLeft c.segments (sweeper_in c.progress).left × IsAtWork k closed (seen c).words s.allocation c.segments (seen c).cycle (sweeper_in c.progress)
+Sweeps (marking k) s c = HasSweeper k c × ((sweeper_in c.progress).seen.swept ≡ (sweeper_in c.progress).left) × ((sweeper_in c.progress).seen.had ≡ []) × ((sweeper_in c.progress).seen.freed ≡ [])
+Sweeps (sweeping k closed) s c = AreLeft c.segments (sweeper_in c.progress) × IsAtWork k closed (seen c).words s.allocation c.segments (seen c).cycle (sweeper_in c.progress)
 
--- a mutator between two calls: it has its number and the layout of the heap, and its replies were told
+-- a mutator between two calls: it has its number and the layout of the heap, its replies were told, and the inbox has the other end of its ring
 pub record IsOwn (c : Collector) (k : ℕ) (m : Mutator) : Type 0 where
   pub number : m.number ≡ k
   pub layout : m.layout ≡ c.segments.layout
   pub whole : IsWhole m
   pub no_replies : m.replies.items ≡ []
+  pub line : IsLined c.inbox k m.sender
 
--- what is true of a collector whatever its run: its parts are for one layout, and it knows how many commands of each program were answered
+-- what is true of a collector whatever its run: its parts are for one layout, with an entry of the array of names for each block, and it knows how many commands of each program were answered
 pub record IsWellFormed (script : Script) (c : Collector) : Type 0 where
   pub layout : c.segments.layout ≡ layout_of (plan_of script)
   pub sound : IsSegments c.segments
   pub lists : IsFor c.segments.layout c.promotion
+  pub entries : HaveEntries c.segments.layout c.names
   pub has_words : IsSome c.words
   pub count : length c.mutators.items ≡ length script.threads
   pub own : (k : ℕ) (m : Mutator) → slice_get c.mutators.items k ≡ Some m → IsOwn c k m
+  pub inbox : length c.inbox ≡ length script.threads
   pub positions_are : length c.positions.items ≡ length script.threads
   pub positions : (k : ℕ) → k < length script.threads → slice_index c.positions.items k ≡ answered_count c.rounds k
   pub no_ends : c.ends.items ≡ []
@@ -71,6 +76,7 @@ pub record IsAfterStop (script : Script) (c : Collector) (run : Run) : Type 0 wh
   pub at_stop : IsAtStop (plan_of script) run (seen c)
   pub closing : HasClosingRoom c.progress (length c.mutators.items)
   pub sweeper : Sweeps (last_state run).progress (last_state run) c
+  pub named : AreNamed (layout_of (plan_of script)) c.names (last_state run).allocation
   pub few : AreFewAtStop script c
 
 -- after a stop
@@ -88,6 +94,7 @@ pub record HasWorked (script : Script) (c : Collector) : Type 0 where
   pub after : IsAfterRound (plan_of script) run replies history worked (seen c)
   pub closing : HasClosingRoom c.progress (length c.mutators.items)
   pub sweeper : Sweeps worked.progress worked c
+  pub named : AreNamed (layout_of (plan_of script)) c.names worked.allocation
   pub few : AreFewBeforeStop script c (last_state run).world worked.world
 
 -- the collector after did a round, and the one before stood after the last stop of the same run

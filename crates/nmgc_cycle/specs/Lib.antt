@@ -4,6 +4,7 @@ pub mod Full
 pub mod FullLaws
 pub mod Keeps
 pub mod Limits
+pub mod Lined
 pub mod Listed
 pub mod Roots
 pub mod Shown

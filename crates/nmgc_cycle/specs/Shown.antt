@@ -2,10 +2,12 @@
 use Rattle.std.specs.Prelude.{ℕ, List, [], map, Bool, true, false, Option, Some, None}
 use Rattle.nmgc_journal.specs.declared.report.Phase.{Phase}
 use Rattle.nmgc_journal.specs.declared.report.Phase.TheVariants as phase
+use Rattle.nmgc_journal.specs.declared.report.CycleRow.{CycleRow}
 use Rattle.nmgc_journal.specs.declared.report.Report.{Report}
 use Rattle.nmgc_journal.specs.declared.report.End.{End}
 use Rattle.nmgc_run.specs.Seen.{Seen, MarkerSeen, WorkSeen, CycleSeen, ends_of}
 pub use Rattle.nmgc_beside.specs.Heaps.{seen_mutator}
+use Rattle.nmgc_sweep.specs.Order.{in_order}
 use Rattle.nmgc_sweep.specs.Sweeper.{Sweeper}
 use Rattle.nmgc_graph.specs.declared.value.Name.{Name}
 use Rattle.nmgc_weak.specs.declared.weaks.Death.{Death}
@@ -44,7 +46,7 @@ work_in (progress.Marking m) = record { scanned = m.last.scanned; empty = m.last
 work_in _ = record { scanned = 0; empty = false }
 
 abbrev pub no_sweeper : Sweeper
-no_sweeper = record { seen = record { epoch = 0; swept = []; had = []; freed = [] }; left = []; turns = 0 }
+no_sweeper = record { seen = record { epoch = 0; swept = []; had = []; freed = [] }; left = []; most = 0; turns = 0; upper_turns = 0 }
 
 abbrev pub sweeper_in : Progress → Sweeper
 sweeper_in progress.Idle = no_sweeper
@@ -65,12 +67,28 @@ turns_by (progress.Sweeping w) turns = w.sweeper.turns
 abbrev pub turns_of : Collector → ℕ
 turns_of c = turns_by c.progress c.turns
 
+-- how often its second sweeping half did: the sweeper of a cycle in progress counts it
+abbrev pub upper_turns_by : Progress → ℕ → ℕ
+upper_turns_by progress.Idle turns = turns
+upper_turns_by (progress.Marking m) turns = m.sweeper.upper_turns
+upper_turns_by (progress.Sweeping w) turns = w.sweeper.upper_turns
+
+abbrev pub upper_turns_of : Collector → ℕ
+upper_turns_of c = upper_turns_by c.progress c.upper_turns
+
+-- a row as a report tells it: the collector keeps the names of a row as they were listed, and a report has them in order
+abbrev pub told_row : CycleRow → CycleRow
+told_row row = record row { had = in_order row.had; freed = in_order row.freed }
+
+abbrev pub told_cycles : Collector → List CycleRow
+told_cycles c = map told_row c.cycles
+
 -- the collector, as `IsAtStop` and `IsAfterRound` speak of it
 abbrev pub seen : Collector → Seen
 seen c = record {
   rounds = c.rounds;
   stops = c.stops;
-  cycles = c.cycles;
+  cycles = told_cycles c;
   words = words_in c.words;
   segments = c.segments;
   mutators = map seen_mutator c.mutators.items;
@@ -91,7 +109,7 @@ abbrev pub report_of : Collector → End → Report
 report_of c end = record {
   rounds = c.rounds;
   stops = c.stops;
-  cycles = c.cycles;
+  cycles = told_cycles c;
   words = (seen c).words;
   segments = c.segments;
   mutators = ends_of (seen c);

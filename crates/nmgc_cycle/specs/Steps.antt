@@ -16,6 +16,7 @@ use Rattle.nmgc_run.specs.Stop.{EndsOrWaits, BeginsOrWaits}
 use Rattle.nmgc_blocks.specs.Nurseries.{AreEmpty}
 use Rattle.nmgc_journal.specs.declared.report.CycleRow.{CycleRow}
 use Rattle.nmgc_script.specs.declared.script.Script.{Script}
+use Rattle.nmgc_sweep.specs.Names.{AreNamed}
 use Rattle.nmgc_cycle.specs.declared.collector.Collector.{Collector}
 use Rattle.nmgc_cycle.specs.declared.progress.Marking.{Marking}
 use Rattle.nmgc_cycle.specs.declared.progress.Progress.TheVariants as doing
@@ -23,7 +24,7 @@ use Rattle.nmgc_cycle.specs.declared.progress.Sweeping.{Sweeping}
 use Rattle.nmgc_cycle.specs.Cycles.{HasTaken, CanClose, Closes as ClosesThen, HasClosed, IsClosed, Ends, CanBegin, HasStarted, Begins}
 use Rattle.nmgc_cycle.specs.Keeps.{IsWellFormed, HasClosingRoom, Sweeps}
 use Rattle.nmgc_cycle.specs.Roots.{queues_in}
-use Rattle.nmgc_cycle.specs.Shown.{seen, words_in}
+use Rattle.nmgc_cycle.specs.Shown.{seen, told_cycles, words_in}
 use Rattle.nmgc_cycle.specs.Limits.{IsInLimits}
 
 -- the pace of marking once what was remembered was added: where the last work left something the cycle goes on in pace, and else it may be closed
@@ -54,6 +55,7 @@ pub record StandsForState (Paced : Cycle → State → Seen → Type 0) (Rests :
   pub cycle : HoldsInCycle (λ k. Paced k s (seen c)) s.progress s (seen c) heap.places
   pub closing : HasClosingRoom c.progress (length c.mutators.items)
   pub sweeper : Sweeps s.progress s c
+  pub named : AreNamed (layout_of (plan_of script)) c.names s.allocation
 
 -- after the promotion; once what was remembered was added; and from the closing on
 abbrev pub StandsPromoted : Script → Collector → State → Type 0
@@ -81,7 +83,7 @@ ClosingLeads = (script : Script) (old new : Collector) (s : State) → IsInLimit
 
 -- a cycle's row tells its census
 abbrev pub EndLeads : Type 0
-EndLeads = (script : Script) (old new : Collector) (s : State) → IsInLimits script → StandsAt script old s → Ends s.number old.progress old new → (t : State) × (rows : List CycleRow) × EndsOrWaits s.progress s t rows × (new.cycles ≡ old.cycles ++ rows) × StandsAt script new t
+EndLeads = (script : Script) (old new : Collector) (s : State) → IsInLimits script → StandsAt script old s → Ends s.number old.progress old new → (t : State) × (rows : List CycleRow) × EndsOrWaits s.progress s t rows × (told_cycles new ≡ told_cycles old ++ rows) × StandsAt script new t
 
 -- where none is in progress, what was started is the next cycle
 abbrev pub StartingLeads : Type 0

@@ -23,6 +23,7 @@ use Rattle.nmgc_object.specs.FinQueue.{FinQueue}
 use Rattle.nmgc_mutator.specs.declared.mutator.Mutator.{Mutator}
 use Rattle.nmgc_object.specs.Places.{reserve_count}
 use Rattle.nmgc_script.specs.declared.script.Script.{Script}
+use Rattle.nmgc_sweep.specs.Names.{HaveNoted}
 use Rattle.nmgc_turn.specs.Worked.{registers_of, queues_of, nurseries_of, recorded_of}
 pub use Rattle.nmgc_turn.specs.Worked.{weaks_of as young_weaks_of}
 use Rattle.nmgc_cycle.specs.declared.collector.Collector.{Collector}
@@ -44,10 +45,11 @@ moves_of c = map moved_of c.promotion.moves
 abbrev pub moved_names : Collector → List Name
 moved_names c = map (λ (m : Moved). m.name) (moves_of c)
 
--- what the round made was promoted: of the collector only words, segments, what mutators hold and the list of weak pointers changed, and what moved is told
+-- what the round made was promoted: of the collector only words, segments, names of objects in them, what mutators hold and the list of weak pointers changed, and what moved is told and noted
 pub record HasPromoted (old new : Collector) : Type 0 where
-  pub rest : new ≡ record old { words = new.words; segments = new.segments; promotion = new.promotion; mutators = new.mutators; weaks = new.weaks }
+  pub rest : new ≡ record old { words = new.words; segments = new.segments; promotion = new.promotion; names = new.names; mutators = new.mutators; weaks = new.weaks }
   pub has_words : IsSome new.words
+  pub noted : HaveNoted (moves_of new) old.names new.names
   pub registers : List ℕ
   pub queues : List FinQueue
   pub given : AreGivenBack registers queues old.mutators.items new.mutators.items

@@ -16,7 +16,9 @@ use Rattle.nmgc_round.specs.Finishing.{Leaves}
 use Rattle.nmgc_mutator.specs.declared.mutator.Mutator.{Mutator}
 use Rattle.nmgc_mutator.specs.declared.mutator.SliceEnd.{SliceEnd}
 use Rattle.nmgc_mutator.specs.declared.mutator.SliceEnd.TheVariants as ending
+use Rattle.nmgc_mutator.specs.Does.{SameLine}
 use Rattle.nmgc_mutator.specs.Ready.{IsReady, Reserves}
+use Rattle.nmgc_updrem.specs.Rings.{HavePolled}
 use Rattle.nmgc_mutator.specs.Slice.{HasRoom, HasRun, Ended}
 use Rattle.nmgc_turn.specs.Rest.{opening_at}
 use Rattle.nmgc_turn.specs.Worked.{Done}
@@ -121,12 +123,13 @@ OpensIn _ s c places o = o ≡ opening_at c.segments.layout s.world places c.mut
 abbrev pub OpensAt : Script → Collector → Opening → Type 0
 OpensAt script c o = (run : Run) × (h : IsAfterStop script c run) × OpensIn (last_state run).progress (last_state run) c h.at_stop.heap.places o
 
--- what mutator k did in a round: its slice of what was left, with these replies; its finaliser queue has no less room
+-- what mutator k did in a round: its slice of what was left, with these replies; its finaliser queue has no less room, and its sender is that of the same ring
 pub record DidSlice (script : Script) (old new : Collector) (k : ℕ) (m n : Mutator) (done : List Done) : Type 0 where
   pub commands : map (λ (d : Done). d.0) done ≡ slice_of script.config (left_at script old.positions.items k)
   pub replies : n.replies.items ≡ m.replies.items ++ map (λ (d : Done). d.1) done
   pub position : slice_index new.positions.items k ≡ slice_index old.positions.items k + length done
   pub queue_room : m.queue.spare ≤ n.queue.spare
+  pub sends : SameLine m n
 
 -- beside the slices the collector did its part, with these scans
 pub record HasHelpedBeside (quota : ℕ) (o : Opening) (scans : List Scan) (old new : Collector) : Type 0 where
@@ -135,7 +138,7 @@ pub record HasHelpedBeside (quota : ℕ) (o : Opening) (scans : List Scan) (old 
   pub seat : RoundSeat
   pub began : seen from ≡ collecting (whole o)
   pub knows : seen seat ≡ record (collecting (whole o)) { scans = scans }
-  pub helped : HasHelped round quota from seat old.segments new.segments old.progress new.progress
+  pub helped : HasHelped round quota from seat old.segments new.segments old.names old.progress new.progress
 
 -- what was done, without the replies
 abbrev pub commands_in : List (List Done) → List (List Command)
@@ -143,7 +146,7 @@ commands_in done = map (λ (d : List Done). map (λ (x : Done). x.0) d) done
 
 -- a round is over, and its replies aren't told yet: the words are those that it left, each mutator did its slice and remembers what it owes, and the collector did its part; a cycle, or a full one, is asked for where it was, or where a slice asked for one
 pub record DidSlices (script : Script) (o : Opening) (old new : Collector) : Type 0 where
-  pub rest : new ≡ record old { words = new.words; segments = new.segments; progress = new.progress; collect = new.collect; full = new.full; mutators = new.mutators; positions = new.positions }
+  pub rest : new ≡ record old { words = new.words; segments = new.segments; progress = new.progress; collect = new.collect; full = new.full; inbox = new.inbox; mutators = new.mutators; positions = new.positions }
   pub words : List ℕ
   pub words_are : new.words ≡ Some words
   pub scans : List Scan
@@ -154,6 +157,7 @@ pub record DidSlices (script : Script) (o : Opening) (old new : Collector) : Typ
   pub owed : HaveOwed o (gathered o scans seats).parts new.mutators.items
   pub helped : HasHelpedBeside script.config.quota o scans old new
   pub sound : IsSegments new.segments
+  pub polled : HavePolled old.inbox new.inbox
   pub collect : new.collect ≡ (old.collect || some_asks is_collect (commands_in done))
   pub full : new.full ≡ (old.full || some_asks is_full (commands_in done))
   pub positions_are : length new.positions.items ≡ length old.positions.items

@@ -27,12 +27,14 @@ ghost use Rattle.nmgc_script.specs.Limits.{FitsScript};
 ghost use Rattle.nmgc_run.specs.State.{plan_of, layout_of as planned_layout};
 ghost use Rattle.nmgc_run.specs.Seen.{end_of as told_end};
 ghost use Rattle.nmgc_beside.specs.Heaps.{seen_mutator};
-ghost use Rattle.nmgc_cycle.specs.Shown.{report_of, turns_of};
+ghost use Rattle.nmgc_cycle.specs.Shown.{report_of, turns_of, upper_turns_of};
 ghost use Rattle.nmgc_run.specs.Crowded.{IsRunOf};
 ghost use Rattle.nmgc_run.specs.Lawful.{IsLawful};
 ghost use Rattle.nmgc_cycle.specs.Limits.{IsInLimits};
+ghost use Rattle.nmgc_cycle.specs.Lined.{IsLined};
 ghost use Rattle.nmgc_cycle.specs.Keeps.{IsFresh, HasEnded};
 
+use crate::names::put_rows_in_order;
 use crate::progress::Progress;
 use crate::stop::StopEnd;
 use nmgc_alloc::Segments;
@@ -47,6 +49,8 @@ use nmgc_object::{Header, Layout};
 use nmgc_round::laws::empty_heap_opens;
 use nmgc_round::{Gate, Words};
 use nmgc_script::Script;
+use nmgc_sweep::Names;
+use nmgc_updrem::{Inbox, link};
 use nmgc_weak::Weaks;
 use std::alloc::Global;
 use std::thread::Threads;
@@ -59,10 +63,14 @@ pub struct Collector {
     pub(crate) words: Option<Words>,
     pub(crate) segments: Segments,
     pub(crate) promotion: Promotion,
+    // Of each object in a segment, by its place.
+    pub(crate) names: Names,
     // The weak pointers that are alive and have a block.
     pub(crate) weaks: Weaks,
     // By their numbers.
     pub(crate) mutators: Vec<Mutator>,
+    // The other ends of the mutators' rings, and what was taken out of each since the last stop.
+    pub(crate) inbox: Inbox,
     // How many commands of each program were answered.
     pub(crate) positions: Vec<u32>,
     pub(crate) rounds: List<RoundRows>,
@@ -78,6 +86,8 @@ pub struct Collector {
     pub(crate) full: bool,
     // While no cycle is in progress: how often the collector passed the gate.
     pub(crate) turns: u64,
+    // And how often its second sweeping half did.
+    pub(crate) upper_turns: u64,
     // The end that the last stop answered, if it was one.
     pub(crate) answered: Option<End>,
     // Empty, with room for what each mutator has in hand in the end.
@@ -137,17 +147,22 @@ fn empty_words(alloc: Global, layout: Layout) -> Result<Vec<u64>, NoMemory>
     Ok(words)
 }
 
-// As many mutators as the layout has, by their numbers, which did nothing yet.
-fn new_mutators(alloc: Global, layout: Layout) -> Result<Vec<Mutator>, NoMemory>
+// As many mutators as the layout has, by their numbers, which did nothing yet, and the other ends of their rings.
+fn new_mutators(alloc: Global, layout: Layout) -> Result<(Vec<Mutator>, Inbox), NoMemory>
     requires { IsLayout layout }
-    ensures count { IfOk result (λ mutators. length mutators.items ≡ layout.mutators) }
-    ensures new { IfOk result (λ mutators. (k : ℕ) (m : MutatorShown) → slice_get mutators.items k ≡ Some m → IsNew k layout m) }
+    ensures count { IfOk result (λ made. (length made.0.items ≡ layout.mutators) × (length made.1 ≡ layout.mutators)) }
+    ensures new { IfOk result (λ made. (k : ℕ) (m : MutatorShown) → slice_get made.0.items k ≡ Some m → IsNew k layout m) }
+    ensures lines { IfOk result (λ made. (k : ℕ) (m : MutatorShown) → slice_get made.0.items k ≡ Some m → IsLined made.1 k m.sender) }
+    ensures unsent { IfOk result (λ made. (k : ℕ) (m : MutatorShown) → slice_get made.0.items k ≡ Some m → m.sender.since ≡ []) }
 {
     let mut mutators = Vec::with_capacity(alloc, layout.mutators as usize)?;
+    let mut receivers = List::new(alloc);
     for number in 0..layout.mutators {
-        mutators.push(Mutator::new(alloc, number, layout)?)?;
+        let (sender, receiver) = link(alloc)?;
+        mutators.push(Mutator::new(alloc, number, layout, sender)?)?;
+        receivers.push(receiver)?;
     }
-    Ok(mutators)
+    Ok((mutators, Inbox::new(receivers)))
 }
 
 // The words of a new run, in their table. The list that they are copied from is given back.
@@ -161,22 +176,24 @@ fn new_words(alloc: Global, layout: Layout) -> Result<Words, NoMemory>
 
 impl Collector {
     /// The collector of a script's run, before its first stop: no command was answered, the registers and g are
-    /// full of nil, every segment is free, and the collector passed no gate.
+    /// full of nil, every segment is free, the collector passed no gate, and each mutator's ring is empty.
     ///
     /// Asks that the script is within the limits. Takes memory for the words, and for as many again until they lie in
-    /// their table, for the segments with their marks, and for what the promotion of full nurseries needs; what a
-    /// cycle needs is taken as it begins.
+    /// their table, for the segments with their marks, for what the promotion of full nurseries needs, and for a ring of
+    /// 64 blocks for each mutator; what a cycle needs is taken as it begins.
     pub fn new(alloc: Global, script: &Script) -> Result<Collector, NoMemory>
         requires { IsInLimits script.now }
         ensures fresh { IfOk result (λ collector. IsFresh script.now collector) }
         ensures turns { IfOk result (λ collector. turns_of collector ≡ 0) }
+        ensures upper_turns { IfOk result (λ collector. upper_turns_of collector ≡ 0) }
     {
         empty_heap_opens();
         let layout = layout_of(script);
         let words = new_words(alloc, layout)?;
         let segments = Segments::new(alloc, layout)?;
         let promotion = Promotion::reserve(alloc, layout)?;
-        let mutators = new_mutators(alloc, layout)?;
+        let names = Names::new(alloc, layout)?;
+        let (mutators, inbox) = new_mutators(alloc, layout)?;
         let count = layout.mutators as usize;
         let positions = vec![in alloc; 0u32; count]?;
         let ends = Vec::with_capacity(alloc, count)?;
@@ -186,8 +203,10 @@ impl Collector {
             words: Some(words),
             segments,
             promotion,
+            names,
             weaks: Weaks::new(alloc),
             mutators,
+            inbox,
             positions,
             rounds: List::new(alloc),
             stops: List::new(alloc),
@@ -197,6 +216,7 @@ impl Collector {
             collect: false,
             full: false,
             turns: 0,
+            upper_turns: 0,
             answered: None,
             ends,
             places,
@@ -222,7 +242,7 @@ impl Collector {
     {
         let mut collector = Collector::new(alloc, script)?;
         'stops: loop {
-            match collector.stop(script)? {
+            match collector.stop(rt, script)? {
                 StopEnd::GoOn => collector.round(rt, script, gate)?,
                 StopEnd::Done => return Ok(collector.into_report(End::Done)),
                 StopEnd::HeapFull { free, reserve } => {
@@ -242,27 +262,31 @@ impl Collector {
         ensures told { (script : ScriptSeen) → HasEnded script self end → IsLawful script result }
     {
         let Collector {
-            alloc: _,
+            alloc,
             words,
             segments,
             promotion: _,
+            names: _,
             weaks,
             mutators,
+            inbox: _,
             positions: _,
             rounds,
             stops,
-            cycles,
+            mut cycles,
             progress: _,
             begun: _,
             collect: _,
             full: _,
             turns: _,
+            upper_turns: _,
             answered: _,
             ends,
             places,
         } = self;
         let words = words.unwrap().close();
         let ends = all_ends(mutators, ends);
+        put_rows_in_order(cycles.items_mut(), alloc);
         Report {
             rounds,
             stops,
@@ -306,6 +330,7 @@ fn end_of(mutator: Mutator) -> MutatorEnd
         recorded: _,
         young_weaks: _,
         updrem: _,
+        ..
     } = mutator;
     MutatorEnd {
         registers,

@@ -3,10 +3,14 @@
 //! They come after the promotion, in this order, so at one stop a cycle may be closed and end, and another begin. All
 //! that takes memory here may fail, since the words are back from the round.
 //!
+//! What a mutator remembers is in three places: what was taken out of its ring, then the ring, then what it keeps. In this
+//! order it goes to the marker; then all three are empty, whether a cycle marks or not, so that the two ends of the ring
+//! are level at each stop.
+//!
 //! Easy to get wrong: the marker gets what the mutators remember at each stop while it marks, also where the cycle
 //! goes on, and before it is asked whether the cycle is to be closed. The closing itself goes by what the last work
 //! answered: what was just added is scanned by the closing.
-ghost use Rattle.std.specs.Prelude.{◌≡◌, ◌↔◌, ◌+◌, ◌*◌, ◌<◌, ◌≤◌, ◌^◌, All, IfOk, OnOk, IsSome, IsTrue, length, map};
+ghost use Rattle.std.specs.Prelude.{ℕ, ◌≡◌, ◌↔◌, ◌+◌, ◌*◌, ◌<◌, ◌≤◌, ◌^◌, All, IfOk, IfSome, IfNone, OnOk, IsSome, IsTrue, Some, length, slice_get};
 ghost use Rattle.nmgc_graph.specs.declared.value.TheConstants.{MAKERS};
 ghost use Rattle.nmgc_object.specs.declared.layout.TheConstants.{FIRST_PLACE};
 ghost use Rattle.nmgc_alloc.specs.Segments.{IsSegments};
@@ -15,7 +19,12 @@ ghost use Rattle.nmgc_run.specs.Marks.{epoch_of as epoch_by};
 ghost use Rattle.nmgc_segment.specs.Marks.{IsEpoch};
 ghost use Rattle.nmgc_cycle.specs.Roots.{HasRegisters, queues_in};
 ghost use Rattle.nmgc_cycle.specs.Shown.{words_in};
-ghost use Rattle.nmgc_cycle.specs.Cycles.{remembered_by, remembering_nothing, CanAdd, HasAdded, HasTaken, CanClose, Closes, HasClosed, IsClosed, IsReadyToClose, row_of as row_shown, IsSwept, Ends, IsDue, CanBegin, StartsMarking, HasStarted, Begins};
+ghost use Rattle.nmgc_updrem.specs.Lines.{TakesRestSo, IsLevelSo};
+ghost use Rattle.nmgc_updrem.specs.Rings.{AtLine};
+ghost use Rattle.nmgc_mutator.specs.declared.mutator.Mutator.{Mutator as MutatorSeen};
+ghost use Rattle.nmgc_mutator.specs.Does.{remembered};
+ghost use Rattle.nmgc_cycle.specs.Lined.{IsLined, IsPaired, AnyLine, HasForgotten, HaveForgottenSoFar, HaveLines};
+ghost use Rattle.nmgc_cycle.specs.Cycles.{remembered_by, CanAdd, HasAdded, HasTaken, CanClose, Closes, HasClosed, IsClosed, IsReadyToClose, row_of as row_shown, IsSwept, Ends, IsDue, CanBegin, StartsMarking, HasStarted, Begins};
 
 use crate::progress::{Marking, Progress, Sweeping};
 use crate::{Collector, roots, weaks};
@@ -25,6 +34,7 @@ use nmgc_journal::CycleRow;
 use nmgc_mark::{Marker, Work};
 use nmgc_mutator::Mutator;
 use nmgc_sweep::{Census, Sweeper};
+use nmgc_updrem::{Inbox, UpdBlock};
 use std::alloc::Global;
 use std::mem;
 
@@ -36,49 +46,101 @@ fn epoch_of(number: u32) -> u8
     if number % 2 == 0 { 2 } else { 1 }
 }
 
-// What the mutators remember goes to the marker, one mutator after the other.
-fn add_all(marker: &mut Marker, segments: &mut Segments, mutators: &[Mutator])
-    requires { HasRoomToMark segments.old marker.old }
-    ensures added { HasAdded (remembered_by mutators.now) segments.old segments.new marker.old marker.new }
+// The oldest block in a mutator's ring, if there is one.
+fn take_block(inbox: &mut Inbox, number: u8, mutator: &mut Mutator) -> Option<UpdBlock>
+    requires { IsPaired inbox.old number mutator.old.sender }
+    ensures rest { mutator.new ≡ record mutator.old { sender = mutator.new.sender } }
+    ensures some { IfSome result (λ block. AtLine (TakesRestSo mutator.old.sender mutator.new.sender block) number inbox.old inbox.new) }
+    ensures none { IfNone result (AtLine (IsLevelSo mutator.old.sender mutator.new.sender) number inbox.old inbox.new) }
+{
+    inbox.take_rest(number, mutator.sender())
+}
+
+// What a mutator remembers goes to the marker: what was taken out of its ring, then what the ring has, then what the
+// mutator keeps.
+fn add_one(
+    marker: &mut Marker,
+    segments: &mut Segments,
+    inbox: &mut Inbox,
+    number: u8,
+    mutator: &mut Mutator,
+)
+    requires room { HasRoomToMark segments.old marker.old }
+    requires line { IsLined inbox.old number mutator.old.sender }
+    ensures added { HasAdded (remembered mutator.old) segments.old segments.new marker.old marker.new }
+    ensures mutator { mutator.new ≡ record mutator.old { sender = mutator.new.sender } }
+    ensures inbox { AtLine AnyLine number inbox.old inbox.new }
+    ensures pair { IsPaired inbox.new number mutator.new.sender }
+{
+    marker.add(segments, inbox.entries(number));
+    while let Some(block) = take_block(inbox, number, mutator) {
+        marker.add(segments, block.entries());
+    }
+    marker.add(segments, mutator.updrem.entries());
+}
+
+// A mutator remembers nothing any more, and its ring is empty.
+fn forget(inbox: &mut Inbox, number: u8, mutator: &mut Mutator)
+    requires { IsPaired inbox.old number mutator.old.sender }
+    ensures forgot { HasForgotten mutator.old mutator.new }
+    ensures inbox { AtLine AnyLine number inbox.old inbox.new }
+    ensures line { IsLined inbox.new number mutator.new.sender }
+{
+    while let Some(_block) = take_block(inbox, number, mutator) {}
+    inbox.clear(number);
+    mutator.updrem.clear();
+}
+
+// What the mutators remember goes to the marker, one mutator after the other, and they remember nothing any more.
+fn add_all(
+    marker: &mut Marker,
+    segments: &mut Segments,
+    inbox: &mut Inbox,
+    mutators: &mut [Mutator],
+)
+    requires room { HasRoomToMark segments.old marker.old }
+    requires lines { HaveLines inbox.old mutators.old }
+    ensures added { HasAdded (remembered_by mutators.old) segments.old segments.new marker.old marker.new }
+    ensures forgot { HaveForgottenSoFar (length mutators.old) inbox.old inbox.new mutators.old mutators.new }
     ensures sound { IsSegments segments.new }
 {
-    for mutator in mutators {
-        marker.add(segments, mutator.updrem.entries());
+    for number in 0..mutators.len() {
+        let mutator = &mut mutators[number];
+        add_one(marker, segments, inbox, number as u8, mutator);
+        forget(inbox, number as u8, mutator);
     }
     // What is true of all segments is true of these.
     let _ = segments.layout();
 }
 
-// The mutator remembers nothing.
-fn forget(mutator: &mut Mutator)
-    ensures { mutator.new ≡ remembering_nothing mutator.old }
-{
-    mutator.updrem.clear();
-}
-
 // The mutators remember nothing.
-fn forget_all(mutators: &mut [Mutator])
-    ensures { mutators.new ≡ map remembering_nothing mutators.old }
+fn forget_all(inbox: &mut Inbox, mutators: &mut [Mutator])
+    requires lines { HaveLines inbox.old mutators.old }
+    ensures { HaveForgottenSoFar (length mutators.old) inbox.old inbox.new mutators.old mutators.new }
 {
-    for mutator in mutators {
-        forget(mutator);
+    for number in 0..mutators.len() {
+        forget(inbox, number as u8, &mut mutators[number]);
     }
 }
 
 impl Collector {
     // What the mutators remember goes to the marker, if one marks, and is cleared.
     pub(crate) fn add_remembered(&mut self)
-        requires { CanAdd self.old.segments self.old.progress }
+        requires can { CanAdd self.old.segments self.old.progress }
+        requires lines { HaveLines self.old.inbox self.old.mutators.items }
         ensures { HasTaken self.old self.new }
     {
+        let mutators = self.mutators.as_mut_slice();
         if let Progress::Marking(marking) = &mut self.progress {
             add_all(
                 &mut marking.marker,
                 &mut self.segments,
-                self.mutators.as_slice(),
+                &mut self.inbox,
+                mutators,
             );
+            return;
         }
-        forget_all(self.mutators.as_mut_slice());
+        forget_all(&mut self.inbox, mutators);
     }
 
     // The cycle is closed where the marker's last work left nothing.
@@ -158,6 +220,7 @@ impl Collector {
             unreachable!();
         };
         self.turns = sweeping.sweeper.turns;
+        self.upper_turns = sweeping.sweeper.upper_turns;
         let row = row_of(self.begun, sweeping, dead, stop)?;
         self.cycles.push(row)
     }
@@ -206,7 +269,7 @@ impl Collector {
         Ok(())
     }
 
-    // What is to be swept is noted, and what the roots refer to is marked.
+    // Which segments are to be swept is noted, and what the roots refer to is marked.
     fn start_marking(&mut self, stop: u32) -> Result<Marking, NoMemory>
         requires words { IsSome self.old.words }
         requires inside { FIRST_PLACE ≤ length (words_in self.old.words) }
@@ -222,7 +285,7 @@ impl Collector {
         let Some(words) = &mut self.words else {
             unreachable!()
         };
-        let mut sweeper = Sweeper::start(self.alloc, words, &self.segments, epoch)?;
+        let mut sweeper = Sweeper::start(self.alloc, &self.segments, epoch)?;
         let mut marker = Marker::snapshot(
             self.alloc,
             words,
@@ -237,6 +300,7 @@ impl Collector {
         let queues = Vec::with_capacity(self.alloc, self.mutators.len())?;
         marker.turns = self.turns;
         sweeper.turns = self.turns;
+        sweeper.upper_turns = self.upper_turns;
         Ok(Marking {
             from: stop,
             marker,

@@ -19,6 +19,7 @@ use crate::leading::{a_finish_leads, a_full_cycle_leads};
 use crate::progress::Progress;
 use nmgc_graph::NoMemory;
 use std::mem;
+use std::thread::Threads;
 
 impl Collector {
     // Whether commands are left, and fewer segments are free than the reserve.
@@ -48,54 +49,60 @@ impl Collector {
     }
 
     // All segments that wait are swept.
-    fn sweep_rest(&mut self)
-        requires { CanSweepRest self.old.segments self.old.progress }
+    fn sweep_rest<R: Threads + Sync>(&mut self, rt: &R)
+        requires can { CanSweepRest self.old.segments self.old.names self.old.progress }
         ensures { HasSweptRest self.old self.new }
     {
         if let Progress::Sweeping(sweeping) = &mut self.progress {
-            sweeping.sweeper.finish(&mut self.segments);
+            sweeping.sweeper.finish(rt, &mut self.segments, &self.names);
             // What is true of all segments is true of these.
             let _ = self.segments.layout();
         }
     }
 
     // The cycle in progress is closed, swept and ended at this stop.
-    fn finish_cycle(&mut self, stop: u32) -> Result<(), NoMemory>
-        requires { StandsAtStop stop self.old }
+    fn finish_cycle<R: Threads + Sync>(&mut self, rt: &R, stop: u32) -> Result<(), NoMemory>
+        requires stands { StandsAtStop stop self.old }
         ensures { OnOk result (HasFinished stop self.old self.new) }
     {
         a_finish_leads();
         self.close_now(stop);
-        self.sweep_rest();
+        self.sweep_rest(rt);
         self.end(stop)?;
         Ok(())
     }
 
     // A full cycle is done at this stop, and nothing is asked for any more.
-    fn full_cycle(&mut self, stop: u32) -> Result<(), NoMemory>
+    fn full_cycle<R: Threads + Sync>(&mut self, rt: &R, stop: u32) -> Result<(), NoMemory>
         requires stands { StandsAtStop stop self.old }
         requires number { self.old.begun + 1 < 2 ^ 32 }
         ensures { OnOk result (HasDoneFull stop self.old self.new) }
     {
         a_full_cycle_leads();
-        self.finish_cycle(stop)?;
+        self.finish_cycle(rt, stop)?;
         self.segments.retire_all();
         self.start(stop)?;
-        self.finish_cycle(stop)?;
+        self.finish_cycle(rt, stop)?;
         self.collect = false;
         self.full = false;
         Ok(())
     }
 
     // A full cycle is done where one is due, and else a cycle begins where one is due.
-    pub(crate) fn proceed(&mut self, left: bool, trigger: u32, stop: u32) -> Result<(), NoMemory>
+    pub(crate) fn proceed<R: Threads + Sync>(
+        &mut self,
+        rt: &R,
+        left: bool,
+        trigger: u32,
+        stop: u32,
+    ) -> Result<(), NoMemory>
         requires stands { StandsAtStop stop self.old }
         requires number { self.old.begun + 1 < 2 ^ 32 }
         ensures { OnOk result (Proceeds trigger left stop self.old self.new) }
     {
         a_full_cycle_leads();
         if self.is_full_due(left) {
-            self.full_cycle(stop)?;
+            self.full_cycle(rt, stop)?;
             Ok(())
         } else {
             self.begin(trigger, stop)?;

@@ -27,6 +27,7 @@ mod collector;
 mod cycle;
 mod full;
 mod leading;
+mod names;
 mod progress;
 mod roots;
 mod round;

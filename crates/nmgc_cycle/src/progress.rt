@@ -2,11 +2,14 @@
 //!
 //! In a round it works on a thread of its own, and what it writes then are marks and segments that wait to be
 //! swept; the mutators look at neither. It passes the gate before each object that it scans and before each segment
-//! that it sweeps, and counts these turns through the whole run: marker and sweeper hand the count on.
+//! that it sweeps, and counts these turns through the whole run: marker and sweeper hand the count on. Segments are swept
+//! in two halves, and the upper one is on one more thread, which passes the gate under its own number and by its own
+//! count.
 //!
-//! The sweeper starts as its cycle begins, since it notes what lay in segments then; it works once the cycle was
-//! closed.
-ghost use Rattle.std.specs.Prelude.{◌≡◌};
+//! The sweeper starts as its cycle begins, since it notes which segments are to be swept then; it works once the cycle
+//! was closed. What lies in these segments it reads from the array of names, which nobody writes in a round.
+ghost use Rattle.std.specs.Prelude.{◌≡◌, ◌≤◌, length};
+ghost use Rattle.nmgc_updrem.specs.Rings.{HavePolled};
 ghost use Rattle.nmgc_cycle.specs.Shown.{phase_in, is_marking_in};
 ghost use Rattle.nmgc_cycle.specs.Cycles.{CanHelp, HasHelped};
 
@@ -15,7 +18,9 @@ use nmgc_journal::Phase;
 use nmgc_mark::{Marker, Work};
 use nmgc_object::FinQueue;
 use nmgc_round::{CollectorSeat, Gate, Round};
-use nmgc_sweep::Sweeper;
+use nmgc_sweep::{Names, Sweeper};
+use nmgc_updrem::Inbox;
+use std::thread::Threads;
 
 /// A cycle that is marking.
 #[derive(Drop)]
@@ -25,7 +30,7 @@ pub struct Marking {
     pub marker: Marker,
     /// What the marker's last work answered.
     pub last: Work,
-    /// It noted, as the cycle began, what is to be swept.
+    /// It noted, as the cycle began, which segments are to be swept.
     pub sweeper: Sweeper,
     /// Empty, with room for the finaliser queues of all mutators: the closing has them in hand, and takes no memory.
     pub queues: Vec<FinQueue>,
@@ -73,27 +78,34 @@ impl Progress {
         }
     }
 
-    /// The collector's part of a round: scans at most `quota` objects, or sweeps at most `quota` segments. What the
-    /// marker answers is kept for the stop. Takes no memory but, with the last segment, a buffer to sort the names,
-    /// without which it is only slower; and waits for nobody but the gate.
-    pub fn work<G: Gate>(
+    /// The collector's part of a round: scans at most `quota` objects, or sweeps at most `quota` segments. Before each
+    /// object it polls the ring of each mutator. What the marker answers is kept for the stop. Takes no memory, and waits
+    /// for nobody but the gate.
+    pub fn work<R: Threads + Sync, G: Gate>(
         &mut self,
+        rt: &R,
         round: &Round,
         seat: &mut CollectorSeat,
         segments: &mut Segments,
+        names: &Names,
+        inbox: &mut Inbox,
         quota: u32,
         gate: &G,
     )
-        requires { CanHelp round.now seat.old segments.old self.old }
-        ensures { HasHelped round.now quota seat.old seat.new segments.old segments.new self.old self.new }
+        requires help { CanHelp round.now seat.old segments.old names.now self.old }
+        requires inbox { segments.old.layout.mutators ≤ length inbox.old }
+        ensures helped { HasHelped round.now quota seat.old seat.new segments.old segments.new names.now self.old self.new }
+        ensures polled { HavePolled inbox.old inbox.new }
     {
         match self {
             Progress::Idle => {}
             Progress::Marking(marking) => {
-                marking.last = marking.marker.work(round, seat, segments, quota, gate);
+                marking.last = marking
+                    .marker
+                    .work(round, seat, segments, inbox, quota, gate);
             }
             Progress::Sweeping(sweeping) => {
-                let _ = sweeping.sweeper.work(segments, quota, gate);
+                let _ = sweeping.sweeper.work(rt, segments, names, quota, gate);
             }
         }
     }

@@ -15,16 +15,20 @@
 //!
 //! Easy to get wrong: a request for a cycle or a full one that an earlier round made stands until a stop grants it, so
 //! a round may only add to the requests.
-ghost use Rattle.std.specs.Prelude.{ℕ, ◌≡◌, ◌||◌, ◌<◌, ◌≤◌, ◌+◌, ◌^◌, [], ◌∷◌, ◌++◌, None, IfOk, OnOk, length, map, min, slice_index, slice_index_or};
+ghost use Rattle.std.specs.Prelude.{ℕ, ◌≡◌, ◌||◌, ◌<◌, ◌≤◌, ◌+◌, ◌^◌, [], ◌∷◌, ◌++◌, None, Some, IfOk, OnOk, length, map, min, slice_get, slice_index, slice_index_or};
 ghost use Rattle.std.specs.List.{list_any};
 ghost use Rattle.nmgc_alloc.specs.Segments.{IsSegments};
 ghost use Rattle.nmgc_round.specs.Gate.{passed};
 ghost use Rattle.nmgc_mutator.specs.declared.mutator.Mutator.{Mutator as MutatorSeen};
 ghost use Rattle.nmgc_run.specs.Slice.{program_of};
+ghost use Rattle.nmgc_graph.specs.declared.value.TheConstants.{MAKERS};
+ghost use Rattle.nmgc_updrem.specs.Lines.{HasMetSo};
+ghost use Rattle.nmgc_updrem.specs.Rings.{AtLine, HavePolled};
 ghost use Rattle.nmgc_cycle.specs.Limits.{IsInLimits};
+ghost use Rattle.nmgc_cycle.specs.Lined.{IsLined, HasMetSender, HaveLines, HaveMet, RememberInOrder};
 ghost use Rattle.nmgc_cycle.specs.Keeps.{HasStopped, DidRound};
-ghost use Rattle.nmgc_cycle.specs.Cycles.{CanHelp, HasHelped, worked_on};
-ghost use Rattle.nmgc_cycle.specs.Shown.{turns_of};
+ghost use Rattle.nmgc_cycle.specs.Cycles.{CanHelp, HasHelped, worked_on, upper_worked_on};
+ghost use Rattle.nmgc_cycle.specs.Shown.{turns_of, upper_turns_of};
 ghost use Rattle.nmgc_cycle.specs.Working.{left_at, HaveRoom, HasLists, HaveSliceRoom, AreReserved, CanAllWork, HaveAllWorked, OpensAt, DidSlices, asks_of, asks_full_of, cleared, replies_of};
 
 use crate::Collector;
@@ -35,7 +39,7 @@ use nmgc_beside::laws::{
     freed_places_go, slices_are_owed, the_heap_goes_on, the_machine_goes_on,
     the_marker_leads_a_cycle, the_pace_is_kept,
 };
-use nmgc_graph::{List, NoMemory, Place};
+use nmgc_graph::{List, MAKERS, NoMemory, Place};
 use nmgc_journal::{Replies, RoundRows};
 use nmgc_mutator::Mutator;
 use nmgc_mutator::laws::a_round_finds_mutators_ready;
@@ -46,9 +50,13 @@ use nmgc_sweep::laws::segments_are_left;
 use nmgc_turn::laws::{
     a_rest_opens_a_round, a_round_is_a_history, a_round_is_stopped, slices_are_gathered,
 };
+use nmgc_updrem::{BLOCK_ENTRIES, Inbox};
 use std::alloc::Global;
 use std::mem;
 use std::thread::Threads;
+
+// The most entries that a command pushes.
+const PUSHED_MOST: u32 = 8;
 
 // The lists that a round fills, and where the seats that it gives and takes will lie.
 #[derive(Drop)]
@@ -98,10 +106,13 @@ fn opening_of(script: &Script, collector: &Collector) -> Chosen<Opened>
 impl Collector {
     /// One round: each mutator with commands left does a slice, in a thread of its own, and passes `gate` before each
     /// command that it tries. Beside them the collector scans as many objects as the quota says while a cycle marks, or
-    /// sweeps as many segments of a closed one, or fewer where no more are left; it passes `gate` before each, and
-    /// counts this through the whole run: the clause `turns` tells the count. Where a slice asks for a cycle, one is due
+    /// sweeps as many segments of a closed one, or fewer where no more are left, in two halves; it passes `gate` before
+    /// each, and counts this through the whole run: the clauses `turns` and `upper_turns` tell the counts. Where a slice asks for a cycle, one is due
     /// at the next stop that finds none in progress, and where it asks for a full cycle, that is due at the next stop.
     /// The replies of the round are told after those of the rounds before.
+    ///
+    /// While a cycle marks, mutators send full blocks of what they remember through their rings, and the collector takes
+    /// them out beside them; afterwards each mutator remembers what was taken, then what its ring has, then what it keeps.
     ///
     /// Asks that the last stop answered `GoOn`, and that no round was done since. After `NoMemory` nothing
     /// is known of the collector.
@@ -117,6 +128,37 @@ impl Collector {
         ensures told { OnOk result ((rows : RoundRows) × (self.new.rounds ≡ self.old.rounds ++ rows ∷ [])) }
         ensures stops { OnOk result (self.new.stops ≡ self.old.stops) }
         ensures turns { OnOk result (turns_of self.new ≡ passed (turns_of self.old) (worked_on self.old.progress self.new.progress)) }
+        ensures upper_turns { OnOk result (upper_turns_of self.new ≡ passed (upper_turns_of self.old) (upper_worked_on self.old.progress self.new.progress)) }
+        ensures remembered { OnOk result (RememberInOrder self.new.inbox self.new.mutators.items) }
+    {
+        self.play(rt, script, gate)?;
+        self.meet_all();
+        Ok(())
+    }
+
+    // The two ends of each ring meet, now that one thread has both: what a mutator remembers is known in order.
+    fn meet_all(&mut self)
+        requires { HaveLines self.old.inbox self.old.mutators.items }
+        ensures rest { self.new ≡ record self.old { inbox = self.new.inbox; mutators = self.new.mutators } }
+        ensures met { HaveMet (length self.old.mutators.items) self.old.inbox self.new.inbox self.old.mutators.items self.new.mutators.items }
+    {
+        meet_each(&mut self.inbox, self.mutators.as_mut_slice());
+    }
+
+    // The round, but for what the ends of the rings know of one another.
+    fn play<R: Threads + Sync, G: Gate>(
+        &mut self,
+        rt: &R,
+        script: &Script,
+        gate: &G,
+    ) -> Result<(), NoMemory>
+        requires limits { IsInLimits script.now }
+        requires stopped { HasStopped script.now self.old × (self.old.answered ≡ None) }
+        ensures worked { OnOk result (DidRound script.now self.old self.new) }
+        ensures told { OnOk result ((rows : RoundRows) × (self.new.rounds ≡ self.old.rounds ++ rows ∷ [])) }
+        ensures stops { OnOk result (self.new.stops ≡ self.old.stops) }
+        ensures turns { OnOk result (turns_of self.new ≡ passed (turns_of self.old) (worked_on self.old.progress self.new.progress)) }
+        ensures upper_turns { OnOk result (upper_turns_of self.new ≡ passed (upper_turns_of self.old) (upper_worked_on self.old.progress self.new.progress)) }
     {
         a_rest_opens_a_round();
         opens_beside();
@@ -131,6 +173,7 @@ impl Collector {
         a_closed_cycle_sweeps();
         segments_are_left();
         self.make_room(script)?;
+        self.make_inbox_room(script)?;
         let lists = Lists::new(self.alloc, self.mutators.len())?;
         let opening = opening_of(script, self);
         self.do_slices(rt, script, gate, &opening, lists);
@@ -151,6 +194,19 @@ impl Collector {
             script,
             self.positions.as_slice(),
         )
+    }
+
+    // Makes room in the inbox for all that the mutators may send in the round, while a cycle marks.
+    fn make_inbox_room(&mut self, script: &Script) -> Result<(), NoMemory>
+        requires limits { IsInLimits script.now }
+        requires stopped { HasStopped script.now self.old }
+        ensures rest { OnOk result (self.new ≡ record self.old { inbox = self.new.inbox }) }
+        ensures lists { OnOk result (HavePolled self.old.inbox self.new.inbox) }
+    {
+        if !self.progress.is_marking() {
+            return Ok(());
+        }
+        reserve_inbox(&mut self.inbox, script, self.positions.as_slice())
     }
 
     // The slices of all mutators, and the collector's part beside them. Nothing here can fail.
@@ -219,11 +275,13 @@ impl Collector {
         script: &Script,
         gate: &G,
     )
-        requires collector { CanHelp round.now seat.old self.old.segments self.old.progress }
+        requires inbox { self.old.segments.layout.mutators ≤ length self.old.inbox }
+        requires collector { CanHelp round.now seat.old self.old.segments self.old.names self.old.progress }
         requires mutators { CanAllWork round.now script.now self.old.positions.items workers.old }
-        ensures rest { self.new ≡ record self.old { segments = self.new.segments; progress = self.new.progress; collect = self.new.collect; full = self.new.full } }
-        ensures collector { HasHelped round.now script.now.config.quota seat.old seat.new self.old.segments self.new.segments self.old.progress self.new.progress }
+        ensures rest { self.new ≡ record self.old { segments = self.new.segments; progress = self.new.progress; collect = self.new.collect; full = self.new.full; inbox = self.new.inbox } }
+        ensures collector { HasHelped round.now script.now.config.quota seat.old seat.new self.old.segments self.new.segments self.old.names self.old.progress self.new.progress }
         ensures mutators { HaveAllWorked round.now script.now self.old.positions.items workers.old workers.new }
+        ensures polled { HavePolled self.old.inbox self.new.inbox }
         ensures sound { IsSegments self.new.segments }
         ensures collect { self.new.collect ≡ (self.old.collect || list_any asks_of workers.new) }
         ensures full { self.new.full ≡ (self.old.full || list_any asks_full_of workers.new) }
@@ -234,6 +292,8 @@ impl Collector {
             &mut self.progress,
             seat,
             &mut self.segments,
+            &self.names,
+            &mut self.inbox,
             workers,
             script,
             self.positions.as_slice(),
@@ -243,6 +303,43 @@ impl Collector {
         self.collect = is_asked(self.collect, some_asks(workers));
         self.full = is_asked(self.full, some_ask_full(workers));
     }
+}
+
+// The two ends of a mutator's ring meet.
+fn meet(inbox: &mut Inbox, number: u8, mutator: &mut Mutator)
+    requires { IsLined inbox.old number mutator.old.sender }
+    ensures mutator { HasMetSender mutator.old mutator.new }
+    ensures receiver { AtLine (HasMetSo mutator.old.sender mutator.new.sender) number inbox.old inbox.new }
+{
+    inbox.meet(number, mutator.sender());
+}
+
+// The two ends of each ring meet.
+fn meet_each(inbox: &mut Inbox, mutators: &mut [Mutator])
+    requires lines { HaveLines inbox.old mutators.old }
+    ensures { HaveMet (length mutators.old) inbox.old inbox.new mutators.old mutators.new }
+{
+    for number in 0..mutators.len() {
+        meet(inbox, number as u8, &mut mutators[number]);
+    }
+}
+
+// The inbox gets room for what a mutator may send in its slice of what is left of its program, in whole blocks.
+fn reserve_inbox(inbox: &mut Inbox, script: &Script, positions: &[u32]) -> Result<(), NoMemory>
+    requires threads { length script.now.threads ≡ length inbox.old }
+    requires positions { length positions.now ≡ length inbox.old }
+    requires few { length inbox.old ≤ MAKERS }
+    requires slice { script.now.config.slice ≤ 65536 }
+    ensures { HavePolled inbox.old inbox.new }
+{
+    for number in 0..positions.len() {
+        let program = script.threads.items()[number].items();
+        let left = program.len().saturating_sub(positions[number] as usize);
+        let commands = left.min(script.config.slice as usize) as u32;
+        let blocks = (PUSHED_MOST * commands).div_ceil(BLOCK_ENTRIES as u32);
+        inbox.reserve(number as u8, blocks * BLOCK_ENTRIES as u32)?;
+    }
+    Ok(())
 }
 
 // Whether something is asked for that was before, or is now.

@@ -18,18 +18,21 @@ ghost use Rattle.nmgc_blocks.specs.Stopped.{Stopped};
 ghost use Rattle.nmgc_minor.specs.Promotion.{IsFor};
 ghost use Rattle.nmgc_cycle.specs.Limits.{IsInLimits};
 ghost use Rattle.nmgc_cycle.specs.Roots.{HasRegisters};
-ghost use Rattle.nmgc_cycle.specs.Shown.{turns_of};
+ghost use Rattle.nmgc_cycle.specs.Shown.{turns_of, upper_turns_of};
 ghost use Rattle.nmgc_cycle.specs.declared.stop.StopEnd.TheVariants as answer;
+ghost use Rattle.nmgc_sweep.specs.Names.{HaveEntries};
 ghost use Rattle.nmgc_cycle.specs.Keeps.{CanStop, HasAnswered, StopsAfter};
 ghost use Rattle.nmgc_cycle.specs.Stopping.{StandsStopped, CanList, HasListed, HasPromoted, SomeIsLeft, IsDone, IsHeapFullAt, ended_by};
 
 use crate::leading::a_stop_leads;
+use crate::names::note_moves;
 use crate::{Collector, roots};
 use nmgc_beside::laws::the_list_is_joined;
 use nmgc_graph::NoMemory;
 use nmgc_journal::{End, Phase, StopRow};
 use nmgc_script::Script;
 use nmgc_weak::laws::the_list_is_left;
+use std::thread::Threads;
 
 /// What a stop answers.
 #[derive(Clone, Copy, Debug, PartialEq, Eq)]
@@ -51,15 +54,16 @@ impl Collector {
     ///
     /// Asks that no stop was done yet, or a round since the last one. Afterwards words, segments, mutators and list of weak
     /// pointers stand for the state of the same run after this stop: the world is as it was but for weak pointers that
-    /// died, where a cycle was closed. The collector passes no gate here, and hands on how often it did.
+    /// died, where a cycle was closed. A full cycle sweeps in two halves, each in a thread of its own. The collector
+    /// passes no gate here, and hands on how often it did.
     ///
     /// Takes memory for the roots and the recorded fields, for weak pointers that join the list, for the row of a cycle that
-    /// ends, and where one begins for its marker's queue, its sweeper's notes and room in the finaliser queues. Takes time
+    /// ends, and where one begins for its marker's queue, its sweeper's lists and room in the finaliser queues. Takes time
     /// for what is promoted, the roots, the list of weak pointers, the recorded and the remembered fields and the number of
-    /// segments; at a closing for what is left to scan, and for the list once for each pass over it; where a cycle
-    /// begins for the blocks of the segments that it will sweep, and where one ends for the names of its row; a full cycle
-    /// takes time for all that is reached and for every block. After `NoMemory` nothing is known of the collector.
-    pub fn stop(&mut self, script: &Script) -> Result<StopEnd, NoMemory>
+    /// segments; at a closing for what is left to scan, for the list once for each pass over it, and for the mark bytes of
+    /// the segments in use that don't wait to be swept; a full cycle takes time for all that is reached and for every
+    /// block. After `NoMemory` nothing is known of the collector.
+    pub fn stop<R: Threads + Sync>(&mut self, rt: &R, script: &Script) -> Result<StopEnd, NoMemory>
         requires limits { IsInLimits script.now }
         requires can { CanStop script.now self.old }
         ensures answered { IfOk result (λ end. HasAnswered script.now self.new end) }
@@ -69,6 +73,7 @@ impl Collector {
         ensures rounds { OnOk result (self.new.rounds ≡ self.old.rounds) }
         ensures stops { OnOk result ((row : StopRow) × (self.new.stops ≡ self.old.stops ++ row ∷ [])) }
         ensures turns { OnOk result (turns_of self.new ≡ turns_of self.old) }
+        ensures upper_turns { OnOk result (upper_turns_of self.new ≡ upper_turns_of self.old) }
     {
         a_stop_leads();
         let number = self.stops.items().len() as u32;
@@ -77,7 +82,7 @@ impl Collector {
         self.close(number);
         self.end(number)?;
         let left = self.has_left(script);
-        self.proceed(left, script.config.trigger, number)?;
+        self.proceed(rt, left, script.config.trigger, number)?;
         let free = self.segments.free_count();
         let row = StopRow {
             number,
@@ -117,6 +122,7 @@ impl Collector {
         requires whole { All HasRegisters self.old.mutators.items }
         requires words { IsSome self.old.words }
         requires lists { IsFor self.old.segments.layout self.old.promotion }
+        requires entries { HaveEntries self.old.segments.layout self.old.names }
         requires stopped { (t : Stopped) × StandsStopped t self.old × CanList t self.old }
         ensures promoted { OnOk result (HasPromoted self.old self.new) }
         ensures listed { OnOk result (HasListed self.old self.new) }
@@ -130,11 +136,12 @@ impl Collector {
         Ok(self.promotion.moves().len() as u32)
     }
 
-    // Moves what is promoted.
+    // Moves what is promoted, and notes its names.
     fn move_promoted(&mut self) -> Result<(), NoMemory>
         requires whole { All HasRegisters self.old.mutators.items }
         requires words { IsSome self.old.words }
         requires lists { IsFor self.old.segments.layout self.old.promotion }
+        requires entries { HaveEntries self.old.segments.layout self.old.names }
         requires stopped { (t : Stopped) × StandsStopped t self.old }
         ensures promoted { OnOk result (HasPromoted self.old self.new) }
         ensures weaks { OnOk result (self.new.weaks ≡ self.old.weaks) }
@@ -155,6 +162,7 @@ impl Collector {
             recorded.as_slice(),
             young.as_slice(),
         );
+        note_moves(&mut self.names, self.promotion.moves());
         roots::give_back(self.mutators.as_mut_slice(), roots);
         Ok(())
     }

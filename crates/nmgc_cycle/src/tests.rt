@@ -8,7 +8,7 @@ ghost use Rattle.std.specs.Prelude.{IfOk};
 ghost use Rattle.nmgc_cycle.specs.Limits.{IsInLimits};
 
 use crate::Collector;
-use nmgc_graph::{Reply, Value};
+use nmgc_graph::{MAKERS, Reply, Value};
 use nmgc_journal::Report;
 use nmgc_journal::text::text;
 use nmgc_limits::MAX_SCRIPT_BYTES;
@@ -21,18 +21,18 @@ use std::thread::Threads;
 
 // Two mutators, each of which reads what the other stored in the round before.
 const EXCHANGE: &str =
-    "nmgc 1\nheap 32 64 64 100 1000 0\nthread 0\nnum r1 5\ncon r0 0 r1\nset g 0 r0\nyield\nget r2 g 1\nthread 1\nnum r1 6\ncon r0 0 r1\nset g 1 r0\nyield\nget r2 g 0\nget r3 r2 0\n";
+    "nmgc 1\nheap 64 64 64 100 1000 0\nthread 0\nnum r1 5\ncon r0 0 r1\nset g 0 r0\nyield\nget r2 g 1\nthread 1\nnum r1 6\ncon r0 0 r1\nset g 1 r0\nyield\nget r2 g 0\nget r3 r2 0\n";
 
 const EXCHANGE_REPORT: &str =
-    "report 1\nstop 0 idle free 32 filled 0 sweep 0 promoted 0\nround 1\n0 ok\n0 0.0\n0 ok\n0 ok\n1 ok\n1 1.0\n1 ok\n1 ok\nstop 1 idle free 30 filled 0 sweep 0 promoted 2\nround 2\n0 1.0\n1 0.0\n1 5\nstop 2 idle free 30 filled 0 sweep 0 promoted 0\nend done\n";
+    "report 1\nstop 0 idle free 64 filled 0 sweep 0 promoted 0\nround 1\n0 ok\n0 0.0\n0 ok\n0 ok\n1 ok\n1 1.0\n1 ok\n1 ok\nstop 1 idle free 62 filled 0 sweep 0 promoted 2\nround 2\n0 1.0\n1 0.0\n1 5\nstop 2 idle free 62 filled 0 sweep 0 promoted 0\nend done\n";
 
 // Two mutators, each of which stores its number into the first slot of g and reads that slot.
 const RACE: &str =
-    "nmgc 1\nheap 32 64 64 100 1000 0\nthread 0\nnum r1 1\nset g 0 r1\nget r2 g 0\nthread 1\nnum r1 2\nset g 0 r1\nget r2 g 0\n";
+    "nmgc 1\nheap 64 64 64 100 1000 0\nthread 0\nnum r1 1\nset g 0 r1\nget r2 g 0\nthread 1\nnum r1 2\nset g 0 r1\nget r2 g 0\n";
 
 // Scripts, each with the text of its report. A nursery of 64 words is filled by 16 constructors of 4 words. With
-// segments and nurseries of 64 words the reserve is 7 for one thread, and 14 for two.
-const RUNS: [(&str, &str); 12] = [
+// segments and nurseries of 64 words the reserve is 17 for one thread, and 34 for two.
+const RUNS: [(&str, &str); 13] = [
     (
         "nmgc 1\nheap 32 64 64 100 1000 0\nthread 0\n",
         "report 1\nstop 0 idle free 32 filled 0 sweep 0 promoted 0\nend done\n",
@@ -49,32 +49,37 @@ const RUNS: [(&str, &str); 12] = [
         "nmgc 1\nheap 32 64 64 100 1000 0\nthread 0\ncon r0 0 r1 r1\ncon r0 0 r1 r1\ncon r0 0 r1 r1\ncon r0 0 r1 r1\ncon r0 0 r1 r1\ncon r0 0 r1 r1\ncon r0 0 r1 r1\ncon r0 0 r1 r1\ncon r0 0 r1 r1\ncon r0 0 r1 r1\ncon r0 0 r1 r1\ncon r0 0 r1 r1\ncon r0 0 r1 r1\ncon r0 0 r1 r1\ncon r0 0 r1 r1\ncon r0 0 r1 r1\nvar r2 r0\n",
         "report 1\nstop 0 idle free 32 filled 0 sweep 0 promoted 0\nround 1\n0 0.0\n0 0.1\n0 0.2\n0 0.3\n0 0.4\n0 0.5\n0 0.6\n0 0.7\n0 0.8\n0 0.9\n0 0.10\n0 0.11\n0 0.12\n0 0.13\n0 0.14\n0 0.15\nstop 1 idle free 31 filled 0 sweep 0 promoted 1\nround 2\n0 0.16\nstop 2 idle free 31 filled 0 sweep 0 promoted 1\nend done\n",
     ),
+    // Twelve objects of five words fill a segment of 64 words, since the four that are left over hold none.
+    (
+        "nmgc 1\nheap 32 64 64 100 1000 0\nthread 0\ncon r0 0 r0 r0 r1\ncon r0 0 r0 r0 r1\ncon r0 0 r0 r0 r1\ncon r0 0 r0 r0 r1\ncon r0 0 r0 r0 r1\ncon r0 0 r0 r0 r1\ncon r0 0 r0 r0 r1\ncon r0 0 r0 r0 r1\ncon r0 0 r0 r0 r1\ncon r0 0 r0 r0 r1\ncon r0 0 r0 r0 r1\ncon r0 0 r0 r0 r1\ncon r0 0 r0 r0 r1\n",
+        "report 1\nstop 0 idle free 32 filled 0 sweep 0 promoted 0\nround 1\n0 0.0\n0 0.1\n0 0.2\n0 0.3\n0 0.4\n0 0.5\n0 0.6\n0 0.7\n0 0.8\n0 0.9\n0 0.10\n0 0.11\nstop 1 idle free 31 filled 1 sweep 0 promoted 12\nround 2\n0 0.12\nstop 2 idle free 30 filled 1 sweep 0 promoted 1\nend done\n",
+    ),
     (EXCHANGE, EXCHANGE_REPORT),
     // A slice of one command, and a thread without commands.
     (
-        "nmgc 1\nheap 32 64 64 1 1000 0\nthread 0\nthread 1\nnum r1 5\nshow r1\n",
-        "report 1\nstop 0 idle free 32 filled 0 sweep 0 promoted 0\nround 1\n1 ok\nstop 1 idle free 32 filled 0 sweep 0 promoted 0\nround 2\n1 5\nstop 2 idle free 32 filled 0 sweep 0 promoted 0\nend done\n",
+        "nmgc 1\nheap 64 64 64 1 1000 0\nthread 0\nthread 1\nnum r1 5\nshow r1\n",
+        "report 1\nstop 0 idle free 64 filled 0 sweep 0 promoted 0\nround 1\n1 ok\nstop 1 idle free 64 filled 0 sweep 0 promoted 0\nround 2\n1 5\nstop 2 idle free 64 filled 0 sweep 0 promoted 0\nend done\n",
     ),
     // Fewer free segments than the reserve end a run only while commands are left.
     (
-        "nmgc 1\nheap 6 64 64 100 1000 0\nthread 0\nnil r0\n",
-        "report 1\nstop 0 idle free 6 filled 0 sweep 0 promoted 0\ncycle 1 from 0 closed 0 swept 0 had 0 freed 0 kept 0 dead 0\nend heapfull free 6 reserve 7\n",
+        "nmgc 1\nheap 16 64 64 100 1000 0\nthread 0\nnil r0\n",
+        "report 1\nstop 0 idle free 16 filled 0 sweep 0 promoted 0\ncycle 1 from 0 closed 0 swept 0 had 0 freed 0 kept 0 dead 0\nend heapfull free 16 reserve 17\n",
     ),
     (
-        "nmgc 1\nheap 6 64 64 100 1000 0\nthread 0\n",
-        "report 1\nstop 0 idle free 6 filled 0 sweep 0 promoted 0\nend done\n",
+        "nmgc 1\nheap 16 64 64 100 1000 0\nthread 0\n",
+        "report 1\nstop 0 idle free 16 filled 0 sweep 0 promoted 0\nend done\n",
     ),
     (
-        "nmgc 1\nheap 7 64 64 100 1000 0\nthread 0\ncon r0 0 r1\n",
-        "report 1\nstop 0 idle free 7 filled 0 sweep 0 promoted 0\nround 1\n0 0.0\nstop 1 idle free 6 filled 0 sweep 0 promoted 1\nend done\n",
+        "nmgc 1\nheap 17 64 64 100 1000 0\nthread 0\ncon r0 0 r1\n",
+        "report 1\nstop 0 idle free 17 filled 0 sweep 0 promoted 0\nround 1\n0 0.0\nstop 1 idle free 16 filled 0 sweep 0 promoted 1\nend done\n",
     ),
     (
-        "nmgc 1\nheap 7 64 64 100 1000 0\nthread 0\ncon r0 0 r1\nyield\nshow r0\n",
-        "report 1\nstop 0 idle free 7 filled 0 sweep 0 promoted 0\nround 1\n0 0.0\n0 ok\nstop 1 idle free 6 filled 0 sweep 0 promoted 1\ncycle 1 from 1 closed 1 swept 1 had 1 freed 0 kept 1 dead 0\nend heapfull free 6 reserve 7\n",
+        "nmgc 1\nheap 17 64 64 100 1000 0\nthread 0\ncon r0 0 r1\nyield\nshow r0\n",
+        "report 1\nstop 0 idle free 17 filled 0 sweep 0 promoted 0\nround 1\n0 0.0\n0 ok\nstop 1 idle free 16 filled 0 sweep 0 promoted 1\ncycle 1 from 1 closed 1 swept 1 had 1 freed 0 kept 1 dead 0\nend heapfull free 16 reserve 17\n",
     ),
     (
-        "nmgc 1\nheap 14 64 64 100 1000 0\nthread 0\ncon r0 0 r1\nyield\nshow r0\nthread 1\nshow r0\n",
-        "report 1\nstop 0 idle free 14 filled 0 sweep 0 promoted 0\nround 1\n0 0.0\n0 ok\n1 nil\nstop 1 idle free 13 filled 0 sweep 0 promoted 1\ncycle 1 from 1 closed 1 swept 1 had 1 freed 0 kept 1 dead 0\nend heapfull free 13 reserve 14\n",
+        "nmgc 1\nheap 34 64 64 100 1000 0\nthread 0\ncon r0 0 r1\nyield\nshow r0\nthread 1\nshow r0\n",
+        "report 1\nstop 0 idle free 34 filled 0 sweep 0 promoted 0\nround 1\n0 0.0\n0 ok\n1 nil\nstop 1 idle free 33 filled 0 sweep 0 promoted 1\ncycle 1 from 1 closed 1 swept 1 had 1 freed 0 kept 1 dead 0\nend heapfull free 33 reserve 34\n",
     ),
     // As many segments as there may be.
     (
@@ -84,7 +89,7 @@ const RUNS: [(&str, &str); 12] = [
 ];
 
 // Scripts whose cycles mark beside the mutators and sweep beside them, each with the text of its report.
-const CYCLES: [(&str, &str); 10] = [
+const CYCLES: [(&str, &str); 11] = [
     // The sixteenth block fills a segment, and the second cycle has it to sweep.
     (
         "nmgc 1\nheap 32 64 64 100 1000 0\nthread 0\ncon r0 0 r0 r1\ncon r0 0 r0 r1\ncon r0 0 r0 r1\ncon r0 0 r0 r1\ncon r0 0 r0 r1\ncon r0 0 r0 r1\ncon r0 0 r0 r1\ncon r0 0 r0 r1\ncon r0 0 r0 r1\ncon r0 0 r0 r1\ncon r0 0 r0 r1\ncon r0 0 r0 r1\ncon r0 0 r0 r1\ncon r0 0 r0 r1\ncon r0 0 r0 r1\ncollect\ncon r0 0 r0 r1\ncollect\n",
@@ -117,13 +122,13 @@ const CYCLES: [(&str, &str); 10] = [
     ),
     // A full cycle frees nothing, since everything is reached, so the heap is full.
     (
-        "nmgc 1\nheap 5 16 16 100 1000 0\nthread 0\ncon r0 0 r0 r1\ncon r0 0 r0 r1\ncon r0 0 r0 r1\ncon r0 0 r0 r1\ncon r0 0 r0 r1\ncon r0 0 r0 r1\ncon r0 0 r0 r1\ncon r0 0 r0 r1\nshow r0\n",
-        "report 1\nstop 0 idle free 5 filled 0 sweep 0 promoted 0\nround 1\n0 0.0\n0 0.1\n0 0.2\n0 0.3\nstop 1 idle free 4 filled 1 sweep 0 promoted 4\ncycle 1 from 1 closed 1 swept 1 had 4 freed 0 kept 4 dead 0\nend heapfull free 4 reserve 5\n",
+        "nmgc 1\nheap 15 16 16 100 1000 0\nthread 0\ncon r0 0 r0 r1\ncon r0 0 r0 r1\ncon r0 0 r0 r1\ncon r0 0 r0 r1\ncon r0 0 r0 r1\ncon r0 0 r0 r1\ncon r0 0 r0 r1\ncon r0 0 r0 r1\nshow r0\n",
+        "report 1\nstop 0 idle free 15 filled 0 sweep 0 promoted 0\nround 1\n0 0.0\n0 0.1\n0 0.2\n0 0.3\nstop 1 idle free 14 filled 1 sweep 0 promoted 4\ncycle 1 from 1 closed 1 swept 1 had 4 freed 0 kept 4 dead 0\nend heapfull free 14 reserve 15\n",
     ),
     // With a segment more it isn't.
     (
-        "nmgc 1\nheap 6 16 16 100 1000 0\nthread 0\ncon r0 0 r0 r1\ncon r0 0 r0 r1\ncon r0 0 r0 r1\ncon r0 0 r0 r1\ncon r0 0 r0 r1\ncon r0 0 r0 r1\ncon r0 0 r0 r1\ncon r0 0 r0 r1\nshow r0\n",
-        "report 1\nstop 0 idle free 6 filled 0 sweep 0 promoted 0\nround 1\n0 0.0\n0 0.1\n0 0.2\n0 0.3\nstop 1 idle free 5 filled 1 sweep 0 promoted 4\nround 2\n0 0.4\n0 0.5\n0 0.6\n0 0.7\n0 0.7\nstop 2 idle free 4 filled 2 sweep 0 promoted 4\nend done\n",
+        "nmgc 1\nheap 16 16 16 100 1000 0\nthread 0\ncon r0 0 r0 r1\ncon r0 0 r0 r1\ncon r0 0 r0 r1\ncon r0 0 r0 r1\ncon r0 0 r0 r1\ncon r0 0 r0 r1\ncon r0 0 r0 r1\ncon r0 0 r0 r1\nshow r0\n",
+        "report 1\nstop 0 idle free 16 filled 0 sweep 0 promoted 0\nround 1\n0 0.0\n0 0.1\n0 0.2\n0 0.3\nstop 1 idle free 15 filled 1 sweep 0 promoted 4\nround 2\n0 0.4\n0 0.5\n0 0.6\n0 0.7\n0 0.7\nstop 2 idle free 14 filled 2 sweep 0 promoted 4\nend done\n",
     ),
     // A full cycle that was asked for.
     (
@@ -132,8 +137,13 @@ const CYCLES: [(&str, &str); 10] = [
     ),
     // The heap gets short of segments while a cycle marks.
     (
-        "nmgc 1\nheap 6 16 16 100 1 0\nthread 0\ncon r0 0 r0 r1\ncon r0 0 r0 r1\ncon r0 0 r0 r1\ncollect\ncon r0 0 r0 r1\ncon r0 0 r0 r1\ncon r0 0 r0 r1\ncon r0 0 r0 r1\ncon r0 0 r0 r1\nshow r0\n",
-        "report 1\nstop 0 idle free 6 filled 0 sweep 0 promoted 0\nround 1\n0 0.0\n0 0.1\n0 0.2\n0 ok\nstop 1 marking free 5 filled 0 sweep 0 promoted 3\nround 2\n0 0.3\n0 0.4\n0 0.5\n0 0.6\nstop 2 idle free 4 filled 1 sweep 0 promoted 4\ncycle 1 from 1 closed 2 swept 0 had 0 freed 0 kept 3 dead 0\ncycle 2 from 2 closed 2 swept 2 had 7 freed 0 kept 7 dead 0\nend heapfull free 4 reserve 5\n",
+        "nmgc 1\nheap 16 16 16 100 1 0\nthread 0\ncon r0 0 r0 r1\ncon r0 0 r0 r1\ncon r0 0 r0 r1\ncollect\ncon r0 0 r0 r1\ncon r0 0 r0 r1\ncon r0 0 r0 r1\ncon r0 0 r0 r1\ncon r0 0 r0 r1\nshow r0\n",
+        "report 1\nstop 0 idle free 16 filled 0 sweep 0 promoted 0\nround 1\n0 0.0\n0 0.1\n0 0.2\n0 ok\nstop 1 marking free 15 filled 0 sweep 0 promoted 3\nround 2\n0 0.3\n0 0.4\n0 0.5\n0 0.6\nstop 2 idle free 14 filled 1 sweep 0 promoted 4\ncycle 1 from 1 closed 2 swept 0 had 0 freed 0 kept 3 dead 0\ncycle 2 from 2 closed 2 swept 2 had 7 freed 0 kept 7 dead 0\nend heapfull free 14 reserve 15\n",
+    ),
+    // So many overwrites that three blocks of what is remembered go through the ring.
+    (
+        "nmgc 1\nheap 32 64 64 1000 1000 0\nthread 0\nnum r1 5\ncon r4 0 r1\ncon r5 0 r1\nvar r0 r4\ncon r3 0 r3 r1\ncon r3 0 r3 r1\ncon r3 0 r3 r1\ncon r3 0 r3 r1\ncon r3 0 r3 r1\ncon r3 0 r3 r1\ncon r3 0 r3 r1\ncon r3 0 r3 r1\ncon r3 0 r3 r1\ncon r3 0 r3 r1\ncon r3 0 r3 r1\ncon r3 0 r3 r1\ncon r3 0 r3 r1\ncollect\nset r0 0 r5\nset r0 0 r4\nset r0 0 r5\nset r0 0 r4\nset r0 0 r5\nset r0 0 r4\nset r0 0 r5\nset r0 0 r4\nset r0 0 r5\nset r0 0 r4\nset r0 0 r5\nset r0 0 r4\nset r0 0 r5\nset r0 0 r4\nset r0 0 r5\nset r0 0 r4\nset r0 0 r5\nset r0 0 r4\nset r0 0 r5\nset r0 0 r4\nset r0 0 r5\nset r0 0 r4\nset r0 0 r5\nset r0 0 r4\nset r0 0 r5\nset r0 0 r4\nset r0 0 r5\nset r0 0 r4\nset r0 0 r5\nset r0 0 r4\nset r0 0 r5\nset r0 0 r4\nset r0 0 r5\nset r0 0 r4\nset r0 0 r5\nset r0 0 r4\nset r0 0 r5\nset r0 0 r4\nset r0 0 r5\nset r0 0 r4\nset r0 0 r5\nset r0 0 r4\nset r0 0 r5\nset r0 0 r4\nset r0 0 r5\nset r0 0 r4\nset r0 0 r5\nset r0 0 r4\nset r0 0 r5\nset r0 0 r4\nset r0 0 r5\nset r0 0 r4\nset r0 0 r5\nset r0 0 r4\nset r0 0 r5\nset r0 0 r4\nset r0 0 r5\nset r0 0 r4\nset r0 0 r5\nset r0 0 r4\nset r0 0 r5\nset r0 0 r4\nset r0 0 r5\nset r0 0 r4\nset r0 0 r5\nset r0 0 r4\nset r0 0 r5\nset r0 0 r4\nset r0 0 r5\nset r0 0 r4\nset r0 0 r5\nset r0 0 r4\nset r0 0 r5\nset r0 0 r4\nset r0 0 r5\nset r0 0 r4\nset r0 0 r5\nset r0 0 r4\nset r0 0 r5\nset r0 0 r4\nset r0 0 r5\nset r0 0 r4\nset r0 0 r5\nset r0 0 r4\nset r0 0 r5\nset r0 0 r4\nset r0 0 r5\nset r0 0 r4\nset r0 0 r5\nset r0 0 r4\nset r0 0 r5\nset r0 0 r4\nset r0 0 r5\nset r0 0 r4\nset r0 0 r5\nset r0 0 r4\nset r0 0 r5\nset r0 0 r4\nset r0 0 r5\nset r0 0 r4\nset r0 0 r5\nset r0 0 r4\nset r0 0 r5\nset r0 0 r4\nset r0 0 r5\nset r0 0 r4\nset r0 0 r5\nset r0 0 r4\nset r0 0 r5\nset r0 0 r4\nset r0 0 r5\nset r0 0 r4\nset r0 0 r5\nset r0 0 r4\nset r0 0 r5\nset r0 0 r4\nset r0 0 r5\nset r0 0 r4\nset r0 0 r5\nset r0 0 r4\nset r0 0 r5\nset r0 0 r4\nset r0 0 r5\nset r0 0 r4\nset r0 0 r5\nset r0 0 r4\nset r0 0 r5\nset r0 0 r4\nset r0 0 r5\nset r0 0 r4\nset r0 0 r5\nset r0 0 r4\nset r0 0 r5\nset r0 0 r4\nset r0 0 r5\nset r0 0 r4\nset r0 0 r5\nset r0 0 r4\nset r0 0 r5\nset r0 0 r4\nset r0 0 r5\nset r0 0 r4\nset r0 0 r5\nset r0 0 r4\nset r0 0 r5\nset r0 0 r4\nset r0 0 r5\nset r0 0 r4\nset r0 0 r5\nset r0 0 r4\nset r0 0 r5\nset r0 0 r4\nset r0 0 r5\nset r0 0 r4\nset r0 0 r5\nset r0 0 r4\nset r0 0 r5\nset r0 0 r4\nset r0 0 r5\nset r0 0 r4\nset r0 0 r5\nset r0 0 r4\nset r0 0 r5\nset r0 0 r4\nset r0 0 r5\nset r0 0 r4\nset r0 0 r5\nset r0 0 r4\nset r0 0 r5\nset r0 0 r4\nset r0 0 r5\nset r0 0 r4\nset r0 0 r5\nset r0 0 r4\nset r0 0 r5\nset r0 0 r4\nset r0 0 r5\nset r0 0 r4\nset r0 0 r5\nset r0 0 r4\nset r0 0 r5\nset r0 0 r4\nset r0 0 r5\nset r0 0 r4\nset r0 0 r5\nset r0 0 r4\nset r0 0 r5\nset r0 0 r4\nset r0 0 r5\nset r0 0 r4\nset r0 0 r5\nset r0 0 r4\nset r0 0 r5\nset r0 0 r4\nset r0 0 r5\nset r0 0 r4\nset r0 0 r5\nset r0 0 r4\nset r0 0 r5\nset r0 0 r4\ncollect\n",
+        "report 1\nstop 0 idle free 32 filled 0 sweep 0 promoted 0\nround 1\n0 ok\n0 0.0\n0 0.1\n0 0.2\n0 0.3\n0 0.4\n0 0.5\n0 0.6\n0 0.7\n0 0.8\n0 0.9\n0 0.10\n0 0.11\n0 0.12\n0 0.13\n0 0.14\n0 0.15\n0 ok\nstop 1 marking free 31 filled 0 sweep 1 promoted 16\nround 2\n0 ok\n0 ok\n0 ok\n0 ok\n0 ok\n0 ok\n0 ok\n0 ok\n0 ok\n0 ok\n0 ok\n0 ok\n0 ok\n0 ok\n0 ok\n0 ok\n0 ok\n0 ok\n0 ok\n0 ok\n0 ok\n0 ok\n0 ok\n0 ok\n0 ok\n0 ok\n0 ok\n0 ok\n0 ok\n0 ok\n0 ok\n0 ok\n0 ok\n0 ok\n0 ok\n0 ok\n0 ok\n0 ok\n0 ok\n0 ok\n0 ok\n0 ok\n0 ok\n0 ok\n0 ok\n0 ok\n0 ok\n0 ok\n0 ok\n0 ok\n0 ok\n0 ok\n0 ok\n0 ok\n0 ok\n0 ok\n0 ok\n0 ok\n0 ok\n0 ok\n0 ok\n0 ok\n0 ok\n0 ok\n0 ok\n0 ok\n0 ok\n0 ok\n0 ok\n0 ok\n0 ok\n0 ok\n0 ok\n0 ok\n0 ok\n0 ok\n0 ok\n0 ok\n0 ok\n0 ok\n0 ok\n0 ok\n0 ok\n0 ok\n0 ok\n0 ok\n0 ok\n0 ok\n0 ok\n0 ok\n0 ok\n0 ok\n0 ok\n0 ok\n0 ok\n0 ok\n0 ok\n0 ok\n0 ok\n0 ok\n0 ok\n0 ok\n0 ok\n0 ok\n0 ok\n0 ok\n0 ok\n0 ok\n0 ok\n0 ok\n0 ok\n0 ok\n0 ok\n0 ok\n0 ok\n0 ok\n0 ok\n0 ok\n0 ok\n0 ok\n0 ok\n0 ok\n0 ok\n0 ok\n0 ok\n0 ok\n0 ok\n0 ok\n0 ok\n0 ok\n0 ok\n0 ok\n0 ok\n0 ok\n0 ok\n0 ok\n0 ok\n0 ok\n0 ok\n0 ok\n0 ok\n0 ok\n0 ok\n0 ok\n0 ok\n0 ok\n0 ok\n0 ok\n0 ok\n0 ok\n0 ok\n0 ok\n0 ok\n0 ok\n0 ok\n0 ok\n0 ok\n0 ok\n0 ok\n0 ok\n0 ok\n0 ok\n0 ok\n0 ok\n0 ok\n0 ok\n0 ok\n0 ok\n0 ok\n0 ok\n0 ok\n0 ok\n0 ok\n0 ok\n0 ok\n0 ok\n0 ok\n0 ok\n0 ok\n0 ok\n0 ok\n0 ok\n0 ok\n0 ok\n0 ok\n0 ok\n0 ok\n0 ok\n0 ok\n0 ok\n0 ok\n0 ok\n0 ok\n0 ok\n0 ok\n0 ok\n0 ok\n0 ok\n0 ok\n0 ok\n0 ok\nstop 2 sweeping free 31 filled 0 sweep 1 promoted 0\nround 3\nstop 3 marking free 31 filled 0 sweep 1 promoted 0\ncycle 1 from 1 closed 2 swept 1 had 16 freed 0 kept 16 dead 0\nround 4\nstop 4 sweeping free 31 filled 0 sweep 1 promoted 0\nround 5\nstop 5 idle free 31 filled 1 sweep 0 promoted 0\ncycle 2 from 3 closed 4 swept 1 had 16 freed 0 kept 16 dead 0\nend done\n",
     ),
 ];
 
@@ -145,8 +155,8 @@ const OBJECTS: [(&str, &str); 5] = [
     ),
     // A stack of the other mutator.
     (
-        "nmgc 1\nheap 32 64 64 100 1000 0\nthread 0\nstack r0 2\nset g 0 r0\nyield\nthread 1\nyield\nget r0 g 0\npush r0 r0\n",
-        "report 1\nstop 0 idle free 32 filled 0 sweep 0 promoted 0\nround 1\n0 0.0\n0 ok\n0 ok\n1 ok\nstop 1 idle free 31 filled 0 sweep 0 promoted 1\nround 2\n1 0.0\n1 notowner\nstop 2 idle free 31 filled 0 sweep 0 promoted 0\nend done\n",
+        "nmgc 1\nheap 64 64 64 100 1000 0\nthread 0\nstack r0 2\nset g 0 r0\nyield\nthread 1\nyield\nget r0 g 0\npush r0 r0\n",
+        "report 1\nstop 0 idle free 64 filled 0 sweep 0 promoted 0\nround 1\n0 0.0\n0 ok\n0 ok\n1 ok\nstop 1 idle free 63 filled 0 sweep 0 promoted 1\nround 2\n1 0.0\n1 notowner\nstop 2 idle free 63 filled 0 sweep 0 promoted 0\nend done\n",
     ),
     (
         "nmgc 1\nheap 32 64 64 100 1000 0\nthread 0\nvar r0 r1\nnum r2 4\ncas r0 0 r1 r2\ncas r0 0 r1 r2\ncas r0 1 r1 r2\nsame r2 r0\nget r3 r0 0\nsame r2 r3\n",
@@ -166,13 +176,13 @@ const OBJECTS: [(&str, &str); 5] = [
 
 // Two mutators that update one thunk, each with a number of its own. One comes first, and both then read its number.
 const THUNK: &str =
-    "nmgc 1\nheap 32 64 64 100 1000 0\nthread 0\nnum r1 5\nthunk r0 r1\nset g 0 r0\nyield\nupdate r0 r1\nforce r2 r0\nthread 1\nyield\nget r0 g 0\nnum r1 6\nupdate r0 r1\nforce r2 r0\n";
+    "nmgc 1\nheap 64 64 64 100 1000 0\nthread 0\nnum r1 5\nthunk r0 r1\nset g 0 r0\nyield\nupdate r0 r1\nforce r2 r0\nthread 1\nyield\nget r0 g 0\nnum r1 6\nupdate r0 r1\nforce r2 r0\n";
 
 const FIRST_UPDATED_REPORT: &str =
-    "report 1\nstop 0 idle free 32 filled 0 sweep 0 promoted 0\nround 1\n0 ok\n0 0.0\n0 ok\n0 ok\n1 ok\nstop 1 idle free 31 filled 0 sweep 0 promoted 1\nround 2\n0 updated\n0 5\n1 0.0\n1 ok\n1 already\n1 5\nstop 2 idle free 31 filled 0 sweep 0 promoted 0\nend done\n";
+    "report 1\nstop 0 idle free 64 filled 0 sweep 0 promoted 0\nround 1\n0 ok\n0 0.0\n0 ok\n0 ok\n1 ok\nstop 1 idle free 63 filled 0 sweep 0 promoted 1\nround 2\n0 updated\n0 5\n1 0.0\n1 ok\n1 already\n1 5\nstop 2 idle free 63 filled 0 sweep 0 promoted 0\nend done\n";
 
 const SECOND_UPDATED_REPORT: &str =
-    "report 1\nstop 0 idle free 32 filled 0 sweep 0 promoted 0\nround 1\n0 ok\n0 0.0\n0 ok\n0 ok\n1 ok\nstop 1 idle free 31 filled 0 sweep 0 promoted 1\nround 2\n0 already\n0 6\n1 0.0\n1 ok\n1 updated\n1 6\nstop 2 idle free 31 filled 0 sweep 0 promoted 0\nend done\n";
+    "report 1\nstop 0 idle free 64 filled 0 sweep 0 promoted 0\nround 1\n0 ok\n0 0.0\n0 ok\n0 ok\n1 ok\nstop 1 idle free 63 filled 0 sweep 0 promoted 1\nround 2\n0 already\n0 6\n1 0.0\n1 ok\n1 updated\n1 6\nstop 2 idle free 63 filled 0 sweep 0 promoted 0\nend done\n";
 
 // The only reference to an object is overwritten while the cycle marks: the cycle keeps it, and the next one frees it.
 const OVERWRITTEN: &str =
@@ -257,9 +267,9 @@ fn a_report_has_the_words_of_the_heap(rt: HostRuntime) -> Result<(), Fail> {
     let script = script_of(rt.alloc(), EXCHANGE)?;
     let report = Collector::run(rt.alloc(), &rt, &script, &OpenGate)?;
     let words = &report.words;
-    // 32 words with g, 32 segments of 64 words, and a nursery of 64 words for each of two mutators.
-    assert_eq!(rt; words.len(), 32 + 32 * 64 + 2 * 64);
-    for (place, word) in [0, 32771, 8, 64, 192, 1].iter().enumerate() {
+    // 32 words with g, 64 segments of 64 words, and a nursery of 64 words for each of two mutators.
+    assert_eq!(rt; words.len(), 32 + 64 * 64 + 2 * 64);
+    for (place, word) in [0, 32771, 32, 64, 192, 1].iter().enumerate() {
         assert!(rt; place < words.len() && words.word(place) == *word);
     }
     Ok(())
@@ -344,19 +354,21 @@ fn two_mutators_read_by_one_order(rt: HostRuntime) -> Result<(), Fail> {
     Ok(())
 }
 
-// A gate at which each of two waits, with some turn of its own, until the other has reached some turn. One is mutator 0,
-// the other mutator 1 or the collector.
+// A gate at which each of two waits, with some turn of its own, until the other has reached some turn.
 #[derive(Drop)]
 struct Meet {
-    // Of mutator 0 and of the other: the turn that waits, and the turn of the other that it waits for.
+    // The two: mutators, the collector or its second sweeping half.
+    who: [u8; 2],
+    // Of each: the turn that waits, and the turn of the other that it waits for.
     waits: [(u64, u64); 2],
     reached: [AtomicU64; 2],
     given_up: AtomicU64,
 }
 
 impl Meet {
-    fn new(waits: [(u64, u64); 2]) -> Meet {
+    fn new(who: [u8; 2], waits: [(u64, u64); 2]) -> Meet {
         Meet {
+            who,
             waits,
             reached: [AtomicU64::new(0), AtomicU64::new(0)],
             given_up: AtomicU64::new(0),
@@ -366,11 +378,25 @@ impl Meet {
     fn has_met(&self) -> bool {
         self.given_up.load(Ordering::SeqCst) == 0
     }
+
+    // The last turn of each.
+    fn reached(&self) -> (u64, u64) {
+        (
+            self.reached[0].load(Ordering::SeqCst),
+            self.reached[1].load(Ordering::SeqCst),
+        )
+    }
 }
 
 impl Gate for Meet {
     fn pass(&self, who: u8, turn: u64) {
-        let own = if who == 0 { 0 } else { 1 };
+        let own = if who == self.who[0] {
+            0
+        } else if who == self.who[1] {
+            1
+        } else {
+            return;
+        };
         self.reached[own].store(turn, Ordering::SeqCst);
         let (waits, until) = self.waits[own];
         if turn != waits {
@@ -388,7 +414,7 @@ impl Gate for Meet {
 // The first command of each waits for that of the other.
 #[test]
 fn mutators_run_beside_each_other(rt: HostRuntime) -> Result<(), Fail> {
-    let meet = Meet::new([(1, 1), (1, 1)]);
+    let meet = Meet::new([0, 1], [(1, 1), (1, 1)]);
     assert!(rt; tells(rt.alloc(), &rt, EXCHANGE, EXCHANGE_REPORT, &meet)?);
     assert!(rt; meet.has_met());
     Ok(())
@@ -399,7 +425,7 @@ fn mutators_run_beside_each_other(rt: HostRuntime) -> Result<(), Fail> {
 #[test]
 fn the_gate_is_passed_before_each_command(rt: HostRuntime) -> Result<(), Fail> {
     for (waits, number) in [([(3, 3), (2, 3)], 2u64), ([(2, 3), (3, 3)], 1u64)] {
-        let meet = Meet::new(waits);
+        let meet = Meet::new([0, 1], waits);
         let read = race(rt.alloc(), &rt, &meet)?;
         assert_eq!(rt; read, (number, number));
         assert!(rt; meet.has_met());
@@ -411,9 +437,21 @@ fn the_gate_is_passed_before_each_command(rt: HostRuntime) -> Result<(), Fail> {
 // the reference while the collector marks.
 #[test]
 fn the_collector_marks_beside_a_mutator(rt: HostRuntime) -> Result<(), Fail> {
-    let meet = Meet::new([(20, 1), (1, 20)]);
+    let meet = Meet::new([0, MAKERS], [(20, 1), (1, 20)]);
     assert!(rt; tells(rt.alloc(), &rt, OVERWRITTEN, OVERWRITTEN_REPORT, &OpenGate)?);
     assert!(rt; tells(rt.alloc(), &rt, OVERWRITTEN, OVERWRITTEN_REPORT, &meet)?);
     assert!(rt; meet.has_met());
+    Ok(())
+}
+
+// The second script of the cycles has three segments to sweep, once 31 objects were scanned: two of them are in the
+// lower half, whose first waits for that of the upper half, and the other way round.
+#[test]
+fn the_halves_of_a_sweep_run_beside_each_other(rt: HostRuntime) -> Result<(), Fail> {
+    let (script, report) = CYCLES[1];
+    let meet = Meet::new([MAKERS, MAKERS + 1], [(32, 1), (1, 32)]);
+    assert!(rt; tells(rt.alloc(), &rt, script, report, &meet)?);
+    assert!(rt; meet.has_met());
+    assert_eq!(rt; meet.reached(), (33, 1));
     Ok(())
 }

@@ -9,6 +9,7 @@ ghost use Rattle.std.specs.Prelude.{◌≡◌, ◌<◌, ◌≤◌, [], length, m
 ghost use Rattle.nmgc_run.specs.Slice.{program_of};
 ghost use Rattle.std.specs.Thread.{IsSync};
 ghost use Rattle.std.specs.List.{list_any};
+ghost use Rattle.nmgc_updrem.specs.Rings.{HavePolled};
 ghost use Rattle.nmgc_cycle.specs.Cycles.{CanHelp, HasHelped};
 ghost use Rattle.nmgc_cycle.specs.Working.{asks_of, asks_full_of, left_at, CanWork, HasWorkedOn, CanAllWork, HaveAllWorked, workers_of, mutator_of, seat_of, done_by};
 
@@ -18,6 +19,8 @@ use nmgc_graph::{Command, List, MAKERS};
 use nmgc_mutator::{Mutator, SliceEnd};
 use nmgc_round::{CollectorSeat, Gate, MutatorSeat, Round};
 use nmgc_script::Script;
+use nmgc_sweep::Names;
+use nmgc_updrem::Inbox;
 use std::thread;
 use std::thread::Threads;
 
@@ -83,15 +86,19 @@ pub fn work_beside<R: Threads + Sync, G: Gate>(
     progress: &mut Progress,
     seat: &mut CollectorSeat,
     segments: &mut Segments,
+    names: &Names,
+    inbox: &mut Inbox,
     workers: &mut [Worker],
     script: &Script,
     positions: &[u32],
     gate: &G,
 )
-    requires collector { CanHelp round.now seat.old segments.old progress.old }
+    requires inbox { segments.old.layout.mutators ≤ length inbox.old }
+    requires collector { CanHelp round.now seat.old segments.old names.now progress.old }
     requires mutators { CanAllWork round.now script.now positions.now workers.old }
-    ensures collector { HasHelped round.now script.now.config.quota seat.old seat.new segments.old segments.new progress.old progress.new }
+    ensures collector { HasHelped round.now script.now.config.quota seat.old seat.new segments.old segments.new names.now progress.old progress.new }
     ensures mutators { HaveAllWorked round.now script.now positions.now workers.old workers.new }
+    ensures polled { HavePolled inbox.old inbox.new }
 {
     if let Progress::Idle = progress {
         work_all(rt, round, workers, script, positions, gate);
@@ -100,9 +107,20 @@ pub fn work_beside<R: Threads + Sync, G: Gate>(
     thread::join_mut(
         rt,
         &mut ||
-            requires { CanHelp round.now seat.now segments.now progress.now }
-            ensures { HasHelped round.entry.now script.entry.now.config.quota seat.entry.now seat.exit.now segments.entry.now segments.exit.now progress.entry.now progress.exit.now }
-        { progress.work(round, seat, segments, script.config.quota, gate) },
+            requires { IsSync R.row × CanHelp round.now seat.now segments.now names.now progress.now × (segments.now.layout.mutators ≤ length inbox.now) }
+            ensures { HasHelped round.entry.now script.entry.now.config.quota seat.entry.now seat.exit.now segments.entry.now segments.exit.now names.entry.now progress.entry.now progress.exit.now × HavePolled inbox.entry.now inbox.exit.now }
+        {
+            progress.work(
+                rt,
+                round,
+                seat,
+                segments,
+                names,
+                inbox,
+                script.config.quota,
+                gate,
+            )
+        },
         &mut ||
             requires { IsSync R.row × CanAllWork round.now script.now positions.now workers.now }
             ensures { HaveAllWorked round.entry.now script.entry.now positions.entry.now workers.entry.now workers.exit.now }

@@ -9,41 +9,53 @@ use Rattle.nmgc_graph.specs.declared.command.Operand.TheVariants.{Register, Shar
 use Rattle.nmgc_graph.specs.declared.command.Command.{Command}
 use Rattle.nmgc_graph.specs.declared.command.Command.TheVariants.{Num, Nil, Mov, Con, Var, Arr, Thunk, Weak, Stack, Get, Set, Cas, Update, Force, Push, Pop, Deref, Finalise, NextFin, Show, Same, Yield, Collect, Full}
 
+-- the register is one of so many
+abbrev pub IsRegisterBelow : ℕ → ℕ → Type 0
+IsRegisterBelow bound r = r < bound
+
+-- the operand's register is, if it has one
+abbrev pub IsOperandBelow : ℕ → Operand → Type 0
+IsOperandBelow bound (Register r) = IsRegisterBelow bound r
+IsOperandBelow bound Shared = Unit {0}
+
+-- the registers of a command are
+abbrev pub HasRegistersBelow : ℕ → Command → Type 0
+HasRegistersBelow b (Num dest number) = IsRegisterBelow b dest
+HasRegistersBelow b (Nil dest) = IsRegisterBelow b dest
+HasRegistersBelow b (Mov dest value) = IsRegisterBelow b dest × IsOperandBelow b value
+HasRegistersBelow b (Con dest tag fields) = IsRegisterBelow b dest × All (IsOperandBelow b) fields
+HasRegistersBelow b (Var dest value) = IsRegisterBelow b dest × IsOperandBelow b value
+HasRegistersBelow b (Arr dest count value) = IsRegisterBelow b dest × IsOperandBelow b value
+HasRegistersBelow b (Thunk dest free) = IsRegisterBelow b dest × All (IsOperandBelow b) free
+HasRegistersBelow b (Weak dest key value finaliser) = IsRegisterBelow b dest × IsOperandBelow b key × IsOperandBelow b value × IsOperandBelow b finaliser
+HasRegistersBelow b (Stack dest size) = IsRegisterBelow b dest
+HasRegistersBelow b (Get dest object index) = IsRegisterBelow b dest × IsOperandBelow b object
+HasRegistersBelow b (Set object index value) = IsOperandBelow b object × IsOperandBelow b value
+HasRegistersBelow b (Cas object index expected value) = IsOperandBelow b object × IsOperandBelow b expected × IsOperandBelow b value
+HasRegistersBelow b (Update object value) = IsOperandBelow b object × IsOperandBelow b value
+HasRegistersBelow b (Force dest object) = IsRegisterBelow b dest × IsOperandBelow b object
+HasRegistersBelow b (Push object value) = IsOperandBelow b object × IsOperandBelow b value
+HasRegistersBelow b (Pop dest object) = IsRegisterBelow b dest × IsOperandBelow b object
+HasRegistersBelow b (Deref dest object) = IsRegisterBelow b dest × IsOperandBelow b object
+HasRegistersBelow b (Finalise dest object) = IsRegisterBelow b dest × IsOperandBelow b object
+HasRegistersBelow b (NextFin dest) = IsRegisterBelow b dest
+HasRegistersBelow b (Show value) = IsOperandBelow b value
+HasRegistersBelow b (Same left right) = IsOperandBelow b left × IsOperandBelow b right
+HasRegistersBelow b Yield = Unit {0}
+HasRegistersBelow b Collect = Unit {0}
+HasRegistersBelow b Full = Unit {0}
+
 -- the register exists
 abbrev pub IsRegister : ℕ → Type 0
-IsRegister r = r < REGISTERS
+IsRegister = IsRegisterBelow REGISTERS
 
 -- the operand's register exists, if it has one
 abbrev pub IsOperand : Operand → Type 0
-IsOperand (Register r) = IsRegister r
-IsOperand Shared = Unit {0}
+IsOperand = IsOperandBelow REGISTERS
 
 -- the registers of a command exist
 abbrev pub HasRegisters : Command → Type 0
-HasRegisters (Num dest number) = IsRegister dest
-HasRegisters (Nil dest) = IsRegister dest
-HasRegisters (Mov dest value) = IsRegister dest × IsOperand value
-HasRegisters (Con dest tag fields) = IsRegister dest × All IsOperand fields
-HasRegisters (Var dest value) = IsRegister dest × IsOperand value
-HasRegisters (Arr dest count value) = IsRegister dest × IsOperand value
-HasRegisters (Thunk dest free) = IsRegister dest × All IsOperand free
-HasRegisters (Weak dest key value finaliser) = IsRegister dest × IsOperand key × IsOperand value × IsOperand finaliser
-HasRegisters (Stack dest size) = IsRegister dest
-HasRegisters (Get dest object index) = IsRegister dest × IsOperand object
-HasRegisters (Set object index value) = IsOperand object × IsOperand value
-HasRegisters (Cas object index expected value) = IsOperand object × IsOperand expected × IsOperand value
-HasRegisters (Update object value) = IsOperand object × IsOperand value
-HasRegisters (Force dest object) = IsRegister dest × IsOperand object
-HasRegisters (Push object value) = IsOperand object × IsOperand value
-HasRegisters (Pop dest object) = IsRegister dest × IsOperand object
-HasRegisters (Deref dest object) = IsRegister dest × IsOperand object
-HasRegisters (Finalise dest object) = IsRegister dest × IsOperand object
-HasRegisters (NextFin dest) = IsRegister dest
-HasRegisters (Show value) = IsOperand value
-HasRegisters (Same left right) = IsOperand left × IsOperand right
-HasRegisters Yield = Unit {0}
-HasRegisters Collect = Unit {0}
-HasRegisters Full = Unit {0}
+HasRegisters = HasRegistersBelow REGISTERS
 
 -- the numbers of a command are within their limits
 abbrev pub HasNumbers : Command → Type 0

@@ -8,13 +8,13 @@
 ghost use Rattle.std.specs.Prelude.{◌≡◌};
 
 /// The number of registers of a mutator.
-pub const REGISTERS: u8 = 16;
+pub const REGISTERS: u8 = 64;
 
 /// The greatest number of mutators. A mutator's number is below it.
-pub const MAKERS: u8 = 8;
+pub const MAKERS: u8 = 32;
 
 /// The maker in the name of the shared array.
-pub const SHARED_MAKER: u8 = 8;
+pub const SHARED_MAKER: u8 = 32;
 
 /// The number of slots of the shared array.
 pub const SHARED_SLOTS: u8 = 16;
@@ -22,9 +22,9 @@ pub const SHARED_SLOTS: u8 = 16;
 /// Each constant is this number, and all contracts speak of it by its name. It does nothing: its contract
 /// is the law.
 pub fn constants_are_these()
-    ensures registers { REGISTERS ≡ 16 }
-    ensures makers { MAKERS ≡ 8 }
-    ensures shared_maker { SHARED_MAKER ≡ 8 }
+    ensures registers { REGISTERS ≡ 64 }
+    ensures makers { MAKERS ≡ 32 }
+    ensures shared_maker { SHARED_MAKER ≡ 32 }
     ensures shared_slots { SHARED_SLOTS ≡ 16 }
 {}
 

@@ -3,8 +3,9 @@ use Rattle.std.proofs.Common.{◌≡◌, inl, inr, ℕ, zero, suc, ◌+◌, ◌*
 use Rattle.std.specs.Prelude.{slice_get, Contains}
 use Rattle.std.proofs.lemmas.Option.{slice_get-get_or}
 use Rattle.nmgc_graph.specs.declared.value.Name.{Name}
+use Rattle.nmgc_graph.specs.declared.value.TheConstants.{REGISTERS}
 use Rattle.nmgc_graph.specs.declared.value.Value.{Value}
-use Rattle.nmgc_graph.specs.declared.value.Value.TheVariants.{Ref}
+use Rattle.nmgc_graph.specs.declared.value.Value.TheVariants.{Nil, Ref}
 use Rattle.nmgc_graph.specs.declared.node.Node.{Node}
 use Rattle.nmgc_graph.specs.declared.node.Node.TheVariants.{Var, Weak}
 use Rattle.nmgc_graph.specs.declared.node.Parts.{Parts}
@@ -24,23 +25,23 @@ use Rattle.nmgc_heap.specs.Samples.{small_layout, own, block, places_of, object_
 use Rattle.nmgc_heap.specs.laws.Kinds.{slots_mean}
 use Rattle.nmgc_heap.specs.laws.Tracking.{reached_in}
 use Rattle.nmgc_heap.specs.laws.Meanings.{placed_at}
-use Rattle.nmgc_heap.proofs.Stood.{Each, each_at, EachFills, fills_from, only_known, stands, sixteen}
+use Rattle.nmgc_heap.proofs.Stood.{Each, each_at, EachFills, fills_from, fills_nil, only_known, stands, sixteen}
 
 -- registers stand for their values, one by one
 rows_mean : (P : Place → Type 0) (words : List ℕ) (values : List Value) → EachFills P words (map holds values) → AllMean P words 0 values
 rows_mean P words values h = slots_mean P words 0 values (fills_from P words 0 (map holds values) h)
 
 -- the roots of a world of one mutator, whose queue is empty
-roots_of : (places : List Place) (w : World) (registers : List ℕ) (serial : ℕ) → length w.mutators ≡ 1 → length registers ≡ 16 → (state_of w 0).queue ≡ [] → serial_of w 0 ≡ serial → AllMean (Contains places) registers 0 (state_of w 0).registers → RepresentsRoots places w registers ([] ∷ []) (serial ∷ [])
+roots_of : (places : List Place) (w : World) (registers : List ℕ) (serial : ℕ) → length w.mutators ≡ 1 → length registers ≡ REGISTERS → (state_of w 0).queue ≡ [] → serial_of w 0 ≡ serial → AllMean (Contains places) registers 0 (state_of w 0).registers → RepresentsRoots places w registers ([] ∷ []) (serial ∷ [])
 roots_of places w registers serial one count queue made mean = record {
-  count = let z : length registers ≡ 16 * 1 = count in z ∙ ap (λ (n : ℕ). 16 * n) (sym one);
+  count = let z : length registers ≡ REGISTERS * 1 = count in z ∙ ap (λ (n : ℕ). REGISTERS * n) (sym one);
   mutators = (sym one, sym one);
   held = held;
   queued = queued;
   next = next;
 }
   where
-    held : (m : ℕ) → m < length w.mutators → AllMean (Contains places) registers (16 * m) (state_of w m).registers
+    held : (m : ℕ) → m < length w.mutators → AllMean (Contains places) registers (REGISTERS * m) (state_of w m).registers
     held zero lt = mean
     held (suc m) lt = absurd (omega (arith, lt, one))
 
@@ -79,8 +80,8 @@ one_object rest count = (represents, roots, listed)
         ((refl, (lit< tt, lit≤ tt), lit≤ tt, refl, (refl, tt), refl), tt)
         none_earlier
 
-    roots : RepresentsRoots (places_of object_serials) object_world (64 ∷ 13 ∷ 13 ∷ replicate 13 1) ([] ∷ []) (1 ∷ [])
-    roots = roots_of (places_of object_serials) object_world (64 ∷ 13 ∷ 13 ∷ replicate 13 1) 1 refl refl refl refl (rows_mean (Contains (places_of object_serials)) (64 ∷ 13 ∷ 13 ∷ replicate 13 1) object_state.registers ((32, refl, (1, lit< tt, refl)), (refl, (refl, (refl, (refl, (refl, (refl, (refl, (refl, (refl, (refl, (refl, (refl, (refl, (refl, (refl, tt)))))))))))))))))
+    roots : RepresentsRoots (places_of object_serials) object_world (64 ∷ 13 ∷ 13 ∷ replicate 61 1) ([] ∷ []) (1 ∷ [])
+    roots = roots_of (places_of object_serials) object_world (64 ∷ 13 ∷ 13 ∷ replicate 61 1) 1 refl refl refl refl (rows_mean (Contains (places_of object_serials)) (64 ∷ 13 ∷ 13 ∷ replicate 61 1) object_state.registers ((32, refl, (1, lit< tt, refl)), (refl, (refl, fills_nil (Contains (places_of object_serials)) 61))))
 
     listed : ListsWeaks small_layout (places_of object_serials) object_world []
     listed = record {
@@ -106,8 +107,8 @@ snapshot_stands rest count = (represents, roots)
         ((refl, (lit< tt, lit≤ tt), lit≤ tt, refl, (refl, tt), refl), ((refl, (refl, refl), lit≤ tt, refl, ((32, refl, (1, lit< tt, refl)), tt), refl), ((refl, (lit< tt, lit≤ tt), lit≤ tt, refl, (refl, (refl, tt)), refl), ((refl, (lit< tt, lit≤ tt), lit≤ tt, refl, ((40, refl, (3, lit< tt, refl)), (refl, tt)), refl), ((refl, (lit< tt, lit≤ tt), lit≤ tt, refl, ((44, refl, (4, lit< tt, refl)), (refl, tt)), refl), ((refl, (lit< tt, lit≤ tt), lit≤ tt, refl, ((48, refl, (5, lit< tt, refl)), (refl, tt)), refl), ((refl, (lit< tt, lit≤ tt), lit≤ tt, refl, ((52, refl, (6, lit< tt, refl)), (refl, tt)), refl), ((refl, (lit< tt, lit≤ tt), lit≤ tt, refl, ((56, refl, (7, lit< tt, refl)), (refl, tt)), refl), ((refl, (lit< tt, lit≤ tt), lit≤ tt, refl, ((60, refl, (8, lit< tt, refl)), (refl, tt)), refl), ((refl, (lit< tt, lit≤ tt), lit≤ tt, refl, ((64, refl, (9, lit< tt, refl)), (refl, tt)), refl), ((refl, (lit< tt, lit≤ tt), lit≤ tt, refl, ((68, refl, (10, lit< tt, refl)), (refl, tt)), refl), ((refl, (lit< tt, lit≤ tt), lit≤ tt, refl, ((72, refl, (11, lit< tt, refl)), (refl, tt)), refl), ((refl, (lit< tt, lit≤ tt), lit≤ tt, refl, ((76, refl, (12, lit< tt, refl)), (refl, tt)), refl), ((refl, (lit< tt, lit≤ tt), lit≤ tt, refl, ((80, refl, (13, lit< tt, refl)), (refl, tt)), refl), ((refl, (lit< tt, lit≤ tt), lit≤ tt, refl, ((84, refl, (14, lit< tt, refl)), (refl, tt)), refl), ((refl, (lit< tt, lit≤ tt), lit≤ tt, refl, ((88, refl, (15, lit< tt, refl)), (refl, tt)), refl), tt))))))))))))))))
         none_earlier
 
-    roots : RepresentsRoots (places_of chain_serials) snapshot (72 ∷ 13 ∷ 1 ∷ 184 ∷ replicate 12 1) ([] ∷ []) (16 ∷ [])
-    roots = roots_of (places_of chain_serials) snapshot (72 ∷ 13 ∷ 1 ∷ 184 ∷ replicate 12 1) 16 refl refl refl refl (rows_mean (Contains (places_of chain_serials)) (72 ∷ 13 ∷ 1 ∷ 184 ∷ replicate 12 1) snapshot_state.registers ((36, refl, (2, lit< tt, refl)), (refl, (refl, ((92, refl, (16, lit< tt, refl)), (refl, (refl, (refl, (refl, (refl, (refl, (refl, (refl, (refl, (refl, (refl, (refl, tt)))))))))))))))))
+    roots : RepresentsRoots (places_of chain_serials) snapshot (72 ∷ 13 ∷ 1 ∷ 184 ∷ replicate 60 1) ([] ∷ []) (16 ∷ [])
+    roots = roots_of (places_of chain_serials) snapshot (72 ∷ 13 ∷ 1 ∷ 184 ∷ replicate 60 1) 16 refl refl refl refl (rows_mean (Contains (places_of chain_serials)) (72 ∷ 13 ∷ 1 ∷ 184 ∷ replicate 60 1) snapshot_state.registers ((36, refl, (2, lit< tt, refl)), (refl, (refl, ((92, refl, (16, lit< tt, refl)), fills_nil (Contains (places_of chain_serials)) 60)))))
 
 -- no thunk waits in the snapshot
 no_thunk : (e : World) (name : Name) (before : Node) → Contains (snapshot ∷ []) e → node_of e name ≡ Some before → free_slots before ≡ []
@@ -153,8 +154,13 @@ all_away = (((λ e. cc), tt), (((λ e. cc), tt), (((λ e. cc), ((λ e. cc), tt))
 shared_away : IsAway 0 sixteen
 shared_away = ((λ e. cc), ((λ e. cc), ((λ e. cc), ((λ e. cc), ((λ e. cc), ((λ e. cc), ((λ e. cc), ((λ e. cc), ((λ e. cc), ((λ e. cc), ((λ e. cc), ((λ e. cc), ((λ e. cc), ((λ e. cc), ((λ e. cc), ((λ e. cc), tt))))))))))))))))
 
+-- nor does nil
+nils_away : (k count : ℕ) → Each Differs k (replicate count Nil)
+nils_away k zero = tt
+nils_away k (suc count) = ((λ e. cc), nils_away (k + 1) count)
+
 registers_away : Each Differs 0 (later_state.registers ++ later_state.queue)
-registers_away = (another 1 (λ z. omega arith), ((λ e. cc), ((λ e. cc), (another 15 (λ z. omega arith), ((λ e. cc), ((λ e. cc), ((λ e. cc), ((λ e. cc), ((λ e. cc), ((λ e. cc), ((λ e. cc), ((λ e. cc), ((λ e. cc), ((λ e. cc), ((λ e. cc), ((λ e. cc), tt))))))))))))))))
+registers_away = (another 1 (λ z. omega arith), ((λ e. cc), ((λ e. cc), (another 15 (λ z. omega arith), nils_away 4 60))))
 
 makers_differ : shared_name ≡ own 0 → ⊥
 makers_differ e = let makers = ap (λ (n : Name). n.maker) e in omega arith

@@ -5,6 +5,7 @@ use Rattle.std.proofs.lemmas.Bool.{cases_lt, eqb-true}
 use Rattle.std.proofs.lemmas.List.{get_or-drop}
 use Rattle.std.proofs.lemmas.Option.{slice_get-get_or, slice_get_within}
 use Rattle.nmgc_graph.specs.declared.value.Name.{Name}
+use Rattle.nmgc_graph.specs.declared.value.TheConstants.{SHARED_MAKER}
 use Rattle.nmgc_graph.specs.declared.value.Value.TheVariants.{Nil}
 use Rattle.nmgc_graph.specs.declared.node.Node.{Node}
 use Rattle.nmgc_graph.specs.declared.node.Node.TheVariants.{Arr}
@@ -13,9 +14,10 @@ use Rattle.nmgc_graph.specs.World.{World, node_of}
 use Rattle.nmgc_graph.specs.Step.{shared_name}
 use Rattle.nmgc_graph.specs.laws.Orders.{contains_head, contains_tail, contains_cases}
 use Rattle.nmgc_graph.specs.laws.Worlds.{is_some_get, is_some_of}
+use Rattle.nmgc_object.specs.declared.words.TheConstants.{SERIAL_UNIT}
 use Rattle.nmgc_object.specs.Words.{header_word, IsHeader}
 use Rattle.nmgc_object.specs.Places.{InNursery, word_total}
-use Rattle.nmgc_heap.specs.Shape.{Slot, header_of, size_of, slots_of, free_slots}
+use Rattle.nmgc_heap.specs.Shape.{Slot, header_of, holds, size_of, slots_of, free_slots}
 use Rattle.nmgc_heap.specs.Places.{Place, Fills, HasSlots, LiesWell, LiesInSegment, shared_place}
 use Rattle.nmgc_heap.specs.Represents.{NoNode, IsNamed, IsPlaced, Represents}
 use Rattle.nmgc_heap.specs.Samples.{small_layout, own, block, places_of}
@@ -46,6 +48,11 @@ each_fills P [] (s ∷ slots) h i slot e = absurd h
 each_fills P (w ∷ words) (s ∷ slots) h zero slot e = let same : s ≡ slot = cc in subst (λ (u : Slot). Fills P w u) same h.0
 each_fills P (w ∷ words) (s ∷ slots) h (suc i) slot e = each_fills P words slots h.1 i slot e
 
+-- so many nils
+pub fills_nil : (P : Place → Type 0) (count : ℕ) → EachFills P (replicate count 1) (map holds (replicate count Nil))
+fills_nil P zero = tt
+fills_nil P (suc count) = (refl, fills_nil P count)
+
 pub fills_from : (P : Place → Type 0) (words : List ℕ) (from : ℕ) (slots : List Slot) → EachFills P (drop from words) slots → HasSlots P words from slots
 fills_from P words from slots h i slot e = subst (λ (k : ℕ). Fills P k slot) (get_or-drop from words i 0) (each_fills P (drop from words) slots h i slot e)
 
@@ -65,13 +72,13 @@ shared_or false d shared node serial A is e = absurd (not_known serial node e)
 
 pub only_known : (shared : Node) (state : MutatorState) (maker serial : ℕ) (node : Node) → node_of (record { shared = shared; mutators = state ∷ [] }) (record { maker = maker; serial = serial }) ≡ Some node → ((shared_name ≡ record { maker = maker; serial = serial }) × (shared ≡ node)) ⊎ IsKnown state.nodes (record { maker = maker; serial = serial }) node
 only_known shared state zero serial node e = inr (record { serial = serial; is = refl; there = e })
-only_known shared state (suc maker) serial node e = shared_or (suc maker == 8) (serial == 0) shared node serial _
-    (λ b d s. inl (ap (λ (m : ℕ). record { maker = m; serial = 0 }) (sym (eqb-true (suc maker) 8 b)) ∙ ap (λ (n : ℕ). record { maker = suc maker; serial = n }) (sym (eqb-true serial 0 d)), cc))
+only_known shared state (suc maker) serial node e = shared_or (suc maker == SHARED_MAKER) (serial == 0) shared node serial _
+    (λ b d s. inl (ap (λ (m : ℕ). record { maker = m; serial = 0 }) (sym (eqb-true (suc maker) SHARED_MAKER b)) ∙ ap (λ (n : ℕ). record { maker = suc maker; serial = n }) (sym (eqb-true serial 0 d)), cc))
     e
 
 -- an object with its words, where it isn't a thunk that waits
 abbrev pub Stood : (Place → Type 0) → List ℕ → ℕ → Node → Type 0
-Stood P words k node = (slice_index words (32 + 4 * k) ≡ header_word (header_of node)) × IsHeader (header_of node) × (size_of node ≤ 4) × (slice_index words (32 + 4 * k + 1) ≡ 16 * k) × EachFills P (drop (34 + 4 * k) words) (slots_of node) × (free_slots node ≡ [])
+Stood P words k node = (slice_index words (32 + 4 * k) ≡ header_word (header_of node)) × IsHeader (header_of node) × (size_of node ≤ 4) × (slice_index words (32 + 4 * k + 1) ≡ SERIAL_UNIT * k) × EachFills P (drop (34 + 4 * k) words) (slots_of node) × (free_slots node ≡ [])
 
 abbrev pub sixteen : Node
 sixteen = Arr (replicate 16 Nil)
@@ -79,7 +86,7 @@ sixteen = Arr (replicate 16 Nil)
 module _ (serials : List ℕ) (few : length serials ≤ 16) (each : Each (λ i x. x ≡ i) 0 serials) (state : MutatorState) (earlier : List World) (words : List ℕ)
     (count : length state.nodes ≡ length serials)
     (total : length words ≡ word_total small_layout)
-    (g_header : slice_index words 1 ≡ 32771) (g_name : slice_index words 2 ≡ 8) (g_fields : EachFills (Contains (places_of serials)) (drop 3 words) (slots_of sixteen))
+    (g_header : slice_index words 1 ≡ 32771) (g_name : slice_index words 2 ≡ SHARED_MAKER) (g_fields : EachFills (Contains (places_of serials)) (drop 3 words) (slots_of sixteen))
     (stood : Each (Stood (Contains (places_of serials)) words) 0 state.nodes)
     (free : (e : World) (name : Name) (before : Node) → Contains earlier e → node_of e name ≡ Some before → free_slots before ≡ []) where
   abbrev w : World
@@ -168,7 +175,7 @@ module _ (serials : List ℕ) (few : length serials ≤ 16) (each : Each (λ i x
       record {
         known = subst (λ y. IsSome y) (sym n.1) refl;
         valid = (lit≤ tt, omega (arith, few), λ e. absurd (omega (arith, e)));
-        name = h.3 ∙ (let z : 16 * k ≡ 16 * k + 0 = omega arith in z);
+        name = h.3 ∙ (let z : SERIAL_UNIT * k ≡ SERIAL_UNIT * k + 0 = omega arith in z);
         lies = lies k 2 lt (lit≤ tt);
       }
 

@@ -7,7 +7,7 @@ use Rattle.nmgc_object.specs.Places.{InSegment}
 use Rattle.nmgc_object.specs.declared.layout.Layout.{Layout}
 use Rattle.nmgc_heap.specs.Places.{Place, AllMean, ListMeans}
 
--- registers and queues as field words, and the next serials: the registers of all mutators are one list, sixteen a mutator
+-- registers and queues as field words, and the next serials: the registers of all mutators are one list, `REGISTERS` a mutator
 pub record RepresentsRoots (places : List Place) (w : World) (registers : List ℕ) (queues : List (List ℕ)) (serials : List ℕ) : Type 0 where
   pub count : length registers ≡ REGISTERS * length w.mutators
   pub mutators : (length queues ≡ length w.mutators) × (length serials ≡ length w.mutators)

@@ -39,7 +39,7 @@ places_of serials = shared_place ∷ map block serials
 
 -- the words up to the first segment: word 0, g with nil in each slot, and thirteen words that nobody has
 abbrev pub first_words : List ℕ
-first_words = 0 ∷ 32771 ∷ 8 ∷ (replicate 16 1 ++ replicate 13 0)
+first_words = 0 ∷ 32771 ∷ 32 ∷ (replicate 16 1 ++ replicate 13 0)
 
 -- one object: a constructor of tag 7 with the number 5
 
@@ -54,7 +54,7 @@ object_serials = 0 ∷ []
 
 -- words, registers and the empty list of weak pointers stand for it, whatever the other words are
 abbrev pub OneObject : Type 0
-OneObject = (rest : List ℕ) → length rest ≡ 2109 → Represents small_layout [] NoNode (places_of object_serials) object_world (object_words rest) × RepresentsRoots (places_of object_serials) object_world (64 ∷ 13 ∷ 13 ∷ replicate 13 1) ([] ∷ []) (1 ∷ []) × ListsWeaks small_layout (places_of object_serials) object_world []
+OneObject = (rest : List ℕ) → length rest ≡ 2109 → Represents small_layout [] NoNode (places_of object_serials) object_world (object_words rest) × RepresentsRoots (places_of object_serials) object_world (64 ∷ 13 ∷ 13 ∷ replicate 61 1) ([] ∷ []) (1 ∷ []) × ListsWeaks small_layout (places_of object_serials) object_world []
 
 -- overwritten during marking: a variable that holds the only reference to a constructor, and a chain of fourteen more; a cycle begins, and then the variable is overwritten
 
@@ -73,18 +73,18 @@ chain_serials = 0 ∷ 1 ∷ 2 ∷ 3 ∷ 4 ∷ 5 ∷ 6 ∷ 7 ∷ 8 ∷ 9 ∷ 10 �
 
 -- the words of a link of the chain: header, name, a pointer to the link before, and the number 5
 abbrev pub link : ℕ → List ℕ → List ℕ
-link serial rest = 4097 ∷ 16 * serial ∷ 2 * (FIRST_PLACE + 4 * serial - 4) ∷ 13 ∷ rest
+link serial rest = 4097 ∷ 64 * serial ∷ 2 * (FIRST_PLACE + 4 * serial - 4) ∷ 13 ∷ rest
 
 abbrev pub links : List ℕ
 links = link 3 (link 4 (link 5 (link 6 (link 7 (link 8 (link 9 (link 10 (link 11 (link 12 (link 13 (link 14 (link 15 []))))))))))))
 
 -- with this word in the variable
 abbrev pub chain_words : ℕ → List ℕ → List ℕ
-chain_words word rest = first_words ++ (2049 ∷ 0 ∷ 13 ∷ 0 ∷ 2050 ∷ 16 ∷ word ∷ 0 ∷ 4097 ∷ 32 ∷ 1 ∷ 13 ∷ (links ++ rest))
+chain_words word rest = first_words ++ (2049 ∷ 0 ∷ 13 ∷ 0 ∷ 2050 ∷ 64 ∷ word ∷ 0 ∷ 4097 ∷ 128 ∷ 1 ∷ 13 ∷ (links ++ rest))
 
 -- at the snapshot the variable has a pointer to word 32
 abbrev pub SnapshotStands : Type 0
-SnapshotStands = (rest : List ℕ) → length rest ≡ 2048 → Represents small_layout [] NoNode (places_of chain_serials) snapshot (chain_words 64 rest) × RepresentsRoots (places_of chain_serials) snapshot (72 ∷ 13 ∷ 1 ∷ 184 ∷ replicate 12 1) ([] ∷ []) (16 ∷ [])
+SnapshotStands = (rest : List ℕ) → length rest ≡ 2048 → Represents small_layout [] NoNode (places_of chain_serials) snapshot (chain_words 64 rest) × RepresentsRoots (places_of chain_serials) snapshot (72 ∷ 13 ∷ 1 ∷ 184 ∷ replicate 60 1) ([] ∷ []) (16 ∷ [])
 
 -- once it was overwritten, it has the number; what it referred to is outside the wide reach, and tracked for the snapshot alone: its words stand there still
 abbrev pub OverwrittenStands : Type 0
@@ -92,7 +92,7 @@ OverwrittenStands = (rest : List ℕ) → length rest ≡ 2048 → Represents sm
 
 -- whatever words stand for the snapshot with these places have this pointer, header and name for the variable: with a wrong one they don't
 abbrev pub WordsAreTold : (Name → Node → Type 0) → Type 0
-WordsAreTold K = (earlier : List World) (words : List ℕ) → Represents small_layout earlier K (places_of chain_serials) snapshot words → (slice_index words 36 ≡ 2050) × (slice_index words 37 ≡ 16) × (slice_index words 38 ≡ 64)
+WordsAreTold K = (earlier : List World) (words : List ℕ) → Represents small_layout earlier K (places_of chain_serials) snapshot words → (slice_index words 36 ≡ 2050) × (slice_index words 37 ≡ 64) × (slice_index words 38 ≡ 64)
 
 -- with a second place for a name no words do
 abbrev pub NoSecondPlace : (Name → Node → Type 0) → Type 0

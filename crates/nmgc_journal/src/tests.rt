@@ -33,7 +33,7 @@ const LINES: [(Reply, &str); 19] = [
             maker: SHARED_MAKER,
             serial: 1,
         })),
-        "8.1",
+        "32.1",
     ),
     (Reply::NoPointer, "nopointer"),
     (Reply::NoField, "nofield"),

@@ -3,6 +3,7 @@ use Rattle.std.proofs.Common.{◌≡◌, inl, inr, ℕ, zero, suc, ◌+◌, ◌*
 use Rattle.std.specs.Prelude.{Contains, IsSome, slice_get}
 use Rattle.std.specs.List.{flat_map}
 use Rattle.std.proofs.lemmas.List.{get_or-take, get_or-drop, length-take-le, take-append-drop}
+use Rattle.nmgc_graph.specs.declared.value.TheConstants.{REGISTERS, SHARED_SLOTS}
 use Rattle.nmgc_graph.specs.declared.value.Name.{Name}
 use Rattle.nmgc_graph.specs.declared.value.Value.{Value}
 use Rattle.nmgc_graph.specs.declared.node.Node.{Node}
@@ -58,27 +59,27 @@ list_means P (w ∷ ws) [] e h = absurd (omega arith)
 list_means P (w ∷ ws) (v ∷ vs) e h = (h 0 v refl, list_means P ws vs (omega arith) (λ i u g. h (suc i) u g))
 
 -- the registers of all mutators as one list
-flat_registers : (P : Place → Type 0) (xs : List MutatorState) (ws : List ℕ) → length ws ≡ 16 * length xs → ((m : ℕ) → m < length xs → (length (get_or xs m no_mutator).registers ≡ 16) × AllMean P ws (16 * m) (get_or xs m no_mutator).registers) → ListMeans P ws (flat_map (λ (state : MutatorState). state.registers) xs)
+flat_registers : (P : Place → Type 0) (xs : List MutatorState) (ws : List ℕ) → length ws ≡ REGISTERS * length xs → ((m : ℕ) → m < length xs → (length (get_or xs m no_mutator).registers ≡ REGISTERS) × AllMean P ws (REGISTERS * m) (get_or xs m no_mutator).registers) → ListMeans P ws (flat_map (λ (state : MutatorState). state.registers) xs)
 flat_registers P [] [] size h = tt
 flat_registers P [] (w ∷ ws) size h = absurd (omega arith)
 flat_registers P (x ∷ xs) ws size h =
     let first = h 0 (omega arith) in
-    let n : length (take 16 ws) ≡ 16 = length-take-le 16 ws (omega arith) in
-    let d = length-drop 16 ws in
-    let a : ListMeans P (take 16 ws) x.registers = list_means P (take 16 ws) x.registers (n ∙ sym first.0)
+    let n : length (take REGISTERS ws) ≡ REGISTERS = length-take-le REGISTERS ws (omega arith) in
+    let d = length-drop REGISTERS ws in
+    let a : ListMeans P (take REGISTERS ws) x.registers = list_means P (take REGISTERS ws) x.registers (n ∙ sym first.0)
     (λ i v e.
     let lt = got_below x.registers i v e in
-    let same : get_or ws (16 * 0 + i) 0 ≡ get_or (take 16 ws) i 0 = (let z : 16 * 0 + i ≡ i = omega arith in ap (λ j. get_or ws j 0) z) ∙ sym (get_or-take 16 ws i 0 (let f = first.0 in omega arith)) in
+    let same : get_or ws (REGISTERS * 0 + i) 0 ≡ get_or (take REGISTERS ws) i 0 = (let z : REGISTERS * 0 + i ≡ i = omega arith in ap (λ j. get_or ws j 0) z) ∙ sym (get_or-take REGISTERS ws i 0 (let f = first.0 in omega arith)) in
     subst (λ y. Means P y v) same (first.1 i v e)) in
-    let b = flat_registers P xs (drop 16 ws) (omega arith)
+    let b = flat_registers P xs (drop REGISTERS ws) (omega arith)
     (λ m lt.
     let r = h (suc m) (omega arith) in (
       r.0,
       λ i v e.
-          let z : 16 * suc m + i ≡ 16 + (16 * m + i) = omega arith in
-          subst (λ y. Means P y v) (ap (λ j. get_or ws j 0) z ∙ sym (get_or-drop 16 ws (16 * m + i) 0)) (r.1 i v e),
+          let z : REGISTERS * suc m + i ≡ REGISTERS + (REGISTERS * m + i) = omega arith in
+          subst (λ y. Means P y v) (ap (λ j. get_or ws j 0) z ∙ sym (get_or-drop REGISTERS ws (REGISTERS * m + i) 0)) (r.1 i v e),
     )) in
-    subst (λ l. ListMeans P l (flat_map (λ (state : MutatorState). state.registers) (x ∷ xs))) (take-append-drop 16 ws) (means_append P (take 16 ws) (drop 16 ws) x.registers (flat_map (λ (state : MutatorState). state.registers) xs) a b)
+    subst (λ l. ListMeans P l (flat_map (λ (state : MutatorState). state.registers) (x ∷ xs))) (take-append-drop REGISTERS ws) (means_append P (take REGISTERS ws) (drop REGISTERS ws) x.registers (flat_map (λ (state : MutatorState). state.registers) xs) a b)
 
 -- the finaliser queues of all mutators
 flat_queues : (P : Place → Type 0) (qs : List FinQueue) (xs : List MutatorState) → length qs ≡ length xs → ((m : ℕ) (own : List ℕ) → slice_get (map (λ (q : FinQueue). q.words) qs) m ≡ Some own → ListMeans P own (get_or xs m no_mutator).queue) → ListMeans P (flat_map (λ (q : FinQueue). q.words) qs) (flat_map (λ (state : MutatorState). state.queue) xs)
@@ -93,7 +94,7 @@ held_slot [] i v e = absurd cc
 held_slot (x ∷ xs) zero v e = let same : x ≡ v = cc in ap (λ y. Some (holds y)) same
 held_slot (x ∷ xs) (suc i) v e = held_slot xs i v e
 
-shared_fields : (node : Node) → IsShared node → (length (strong_fields node) ≡ 16) × ((i : ℕ) (v : Value) → slice_get (strong_fields node) i ≡ Some v → slice_get (slots_in node) i ≡ Some (holds v))
+shared_fields : (node : Node) → IsShared node → (length (strong_fields node) ≡ SHARED_SLOTS) × ((i : ℕ) (v : Value) → slice_get (strong_fields node) i ≡ Some v → slice_get (slots_in node) i ≡ Some (holds v))
 shared_fields (Con tag values) h = absurd h
 shared_fields (Var v) h = absurd h
 shared_fields (Arr values) h = (h, λ i v e. held_slot values i v e)

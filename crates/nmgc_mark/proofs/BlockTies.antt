@@ -3,12 +3,12 @@ use Rattle.std.proofs.Common.{◌≡◌, ◌≢◌, inl, inr, ℕ, ◌<◌, ◌�
 use Rattle.std.specs.Prelude.{Contains, IsSome, All}
 use Rattle.std.proofs.Math.ListN.{get_or-eq_default}
 use Rattle.std.proofs.lemmas.Bool.{cases_lt}
-use Rattle.std.proofs.lemmas.Nat.{pow_pos}
 use Rattle.std.proofs.lemmas.List.Elements.{All-nil, All-cons, All-head, All-tail}
 use Rattle.nmgc_graph.specs.declared.value.Name.{Name}
 use Rattle.nmgc_graph.specs.World.{World, node_of}
 use Rattle.nmgc_graph.specs.Step.{shared_name}
 use Rattle.nmgc_object.specs.Size.{block_size}
+use Rattle.nmgc_object.specs.laws.Classes.{least_block}
 use Rattle.nmgc_segment.specs.Segment.{Segment, InSnapshot, IsMarked, mark_of, free_segment}
 use Rattle.nmgc_segment.specs.declared.state.State.TheVariants.{Free}
 use Rattle.nmgc_core.specs.declared.event.Entry.{Entry}
@@ -81,7 +81,7 @@ module _ (o : Opening) (c : Cycle) (s : Segments) (words : List ℕ) (a : AllocS
   -- no block begins where g is
   above : (n b at : ℕ) → IsBlockAt s n b at → 32 ≤ at
   above n b at g =
-      let lies = lies_in s n b at at k.sound g (omega arith) (let pos : 0 < block_size (nth s.segments n).class = omega (arith, pow_pos (nth s.segments n).class) in omega arith) in
+      let lies = lies_in s n b at at k.sound g (omega arith) (let pos : 0 < block_size (nth s.segments n).class = omega (arith, least_block (nth s.segments n).class) in omega arith) in
       let from = lies.from in
       omega arith
 

@@ -1,62 +1,92 @@
--- A blank marker has room for every block: blocks begin at multiples of their least size.
-use Rattle.std.proofs.Common.{◌≡◌, ℕ, zero, suc, ◌+◌, ◌*◌, ◌/◌, ◌^◌, ◌<◌, List, [], ◌∷◌, length, refl, sym, ap, subst, ◌∙◌, arith}
+-- A blank marker has room for every block: no segment has more blocks than a quarter of its words.
+use Rattle.std.proofs.Common.{◌≡◌, ℕ, zero, suc, ◌+◌, ◌*◌, ◌/◌, ◌<◌, ◌≤◌, List, [], ◌∷◌, ◌++◌, length, inl, inr, refl, sym, subst, arith, length-append}
 use Rattle.std.specs.Prelude.{Contains}
-use Rattle.std.proofs.lemmas.Nat.{pow_pos}
+use Rattle.std.proofs.Math.Nat.{mul-le-mul_left}
+use Rattle.std.proofs.lemmas.Bool.{cases_eq}
+use Rattle.std.proofs.lemmas.Nat.{div-add-mod'}
+use Rattle.std.proofs.lemmas.List.Elements.{Contains-append_left, Contains-append_right}
 use Rattle.nmgc_graph.specs.laws.Orders.{contains_head, contains_tail}
 use Rattle.nmgc_object.specs.Size.{block_size}
+use Rattle.nmgc_object.specs.laws.Classes.{least_block}
 use Rattle.nmgc_alloc.specs.Search.{nth}
 use Rattle.nmgc_alloc.specs.Segments.{Segments, IsSegments, IsBlockAt}
-use Rattle.nmgc_alloc.specs.laws.Apart.{lies_in}
-use Rattle.nmgc_alloc.specs.laws.Placing.{step}
-use Rattle.nmgc_alloc.specs.laws.Reserve.{whole_blocks}
 use Rattle.nmgc_run.specs.Marker.{HasRoomToMark}
 use Rattle.nmgc_mark.specs.Beginning.{most_blocks}
 use Rattle.nmgc_mark.specs.Marker.{blank}
 
--- so many places from one on, four words apart
-steps_from : ℕ → ℕ → List ℕ
-steps_from at zero = []
-steps_from at (suc n) = at ∷ steps_from (at + 4) n
+-- so many places from one on, each so many words after the one before
+steps_from : ℕ → ℕ → ℕ → List ℕ
+steps_from at size zero = []
+steps_from at size (suc n) = at ∷ steps_from (at + size) size n
 
-steps_count : (n at : ℕ) → length (steps_from at n) ≡ n
+steps_count : (n at size : ℕ) → length (steps_from at size n) ≡ n
 unfolding steps_from
-steps_count zero at = refl
-steps_count (suc n) at = let e = steps_count n (at + 4) in omega arith
+steps_count zero at size = refl
+steps_count (suc n) at size = let e = steps_count n (at + size) size in omega arith
 
-steps_have : (n at k : ℕ) → k < n → Contains (steps_from at n) (at + 4 * k)
+steps_have : (n at size k : ℕ) → k < n → Contains (steps_from at size n) (at + k * size)
 unfolding steps_from
-steps_have zero at k lt = absurd (omega arith)
-steps_have (suc n) at zero lt = let e : at ≡ at + 4 * 0 = omega arith in subst (λ x. Contains (at ∷ steps_from (at + 4) n) x) e (contains_head at (steps_from (at + 4) n))
-steps_have (suc n) at (suc k) lt =
-    let e : at + 4 + 4 * k ≡ at + 4 * suc k = omega arith in
-    subst (λ x. Contains (at ∷ steps_from (at + 4) n) x) e (contains_tail at (steps_from (at + 4) n) (at + 4 + 4 * k) (steps_have n (at + 4) k (omega arith)))
+steps_have zero at size k lt = absurd (omega arith)
+steps_have (suc n) at size zero lt = let e : at ≡ at + 0 * size = omega arith in subst (λ x. Contains (at ∷ steps_from (at + size) size n) x) e (contains_head at (steps_from (at + size) size n))
+steps_have (suc n) at size (suc k) lt =
+    let e : at + size + k * size ≡ at + suc k * size = omega arith in
+    subst (λ x. Contains (at ∷ steps_from (at + size) size n) x) e (contains_tail at (steps_from (at + size) size n) (at + size + k * size) (steps_have n (at + size) size k (omega arith)))
 
--- a number of multiples of four is one
-four_times : (n words : ℕ) → (k : ℕ) × (words ≡ 4 * k) → (j : ℕ) × (n * words ≡ 4 * j)
-four_times n words h = let e = h.1 in (n * h.0, ap (λ x. n * x) e ∙ (let z : n * (4 * h.0) ≡ 4 * (n * h.0) = grind arith in z))
+module _ (s : Segments) where
+  -- the words of a segment's blocks, how many it has, and where they begin
+  abbrev size_in : ℕ → ℕ
+  size_in n = block_size (nth s.segments n).class
 
--- where a block begins
-block_step : (s : Segments) (at : ℕ) → IsSegments s → (n b : ℕ) → IsBlockAt s n b at → (k : ℕ) × (at ≡ 32 + 4 * k) × (k < most_blocks s.layout)
-block_step s at sound n b g =
-    let c : ℕ = (nth s.segments n).class in
-    let whole = whole_blocks s.layout.words 0 sound.layout.words (let low = sound.layout.words.least in omega arith) in
-    let x = four_times n s.layout.words (s.layout.words / 4, (omega (arith, whole))) in
-    let y = four_times b (block_size c) (2 ^ c, refl) in
-    let total = four_times s.layout.segments s.layout.words (s.layout.words / 4, (omega (arith, whole))) in
-    let pos : 0 < block_size c = omega (arith, pow_pos c) in
-    let lies = lies_in s n b at at sound g (omega arith) (omega arith) in
-    let last = step n s.layout.segments s.layout.words lies.exists in
-    let before = lies.before in
-    let place : at ≡ 32 + n * s.layout.words + b * block_size c = g.place in
-    let a = x.1 in
-    let d = y.1 in
-    let e = total.1 in
-    let is : at ≡ 32 + 4 * (x.0 + y.0) = omega (arith, place, a, d) in
-    (x.0 + y.0, is, omega (arith, is, before, last, e))
+  abbrev count_in : ℕ → ℕ
+  count_in n = s.layout.words / size_in n
+
+  abbrev blocks_in : ℕ → List ℕ
+  blocks_in n = steps_from (32 + n * s.layout.words) (size_in n) (count_in n)
+
+  -- the blocks of the first so many segments
+  blocks_to : ℕ → List ℕ
+  blocks_to zero = []
+  blocks_to (suc n) = blocks_to n ++ blocks_in n
+
+  few_in : (n : ℕ) → 4 * count_in n ≤ s.layout.words
+  few_in n =
+      let whole = div-add-mod' s.layout.words (size_in n) in
+      let up = mul-le-mul_left (count_in n) (least_block (nth s.segments n).class) in
+      omega (arith, whole, up)
+
+  few_to : (n : ℕ) → 4 * length (blocks_to n) ≤ n * s.layout.words
+  unfolding blocks_to
+  few_to zero = omega arith
+  few_to (suc n) =
+      let before = few_to n in
+      let here = few_in n in
+      let count = steps_count (count_in n) (32 + n * s.layout.words) (size_in n) in
+      let all = length-append (blocks_to n) (blocks_in n) in
+      let next : suc n * s.layout.words ≡ n * s.layout.words + s.layout.words = omega arith in
+      omega (arith, before, here, count, all, next)
+
+  have_to : (k n b : ℕ) → n < k → b < count_in n → Contains (blocks_to k) (32 + n * s.layout.words + b * size_in n)
+  unfolding blocks_to
+  have_to zero n b lt inside = absurd (omega arith)
+  have_to (suc m) n b lt inside = elim (cases_eq n m) [
+    | inl e ↦
+        let there = steps_have (count_in n) (32 + n * s.layout.words) (size_in n) b inside in
+        let here = subst (λ (i : ℕ). Contains (blocks_in i) (32 + n * s.layout.words + b * size_in n)) e there in
+        Contains-append_right (blocks_to m) (blocks_in m) (32 + n * s.layout.words + b * size_in n) here
+    | inr ne ↦ Contains-append_left (blocks_to m) (blocks_in m) (32 + n * s.layout.words + b * size_in n) (have_to m n b (omega arith) inside)
+  ]
+
+  -- where a block begins
+  block_there : (at : ℕ) → IsSegments s → (n b : ℕ) → IsBlockAt s n b at → Contains (blocks_to s.layout.segments) at
+  block_there at sound n b g =
+      let exists = g.exists in
+      let count = sound.count in
+      let inside : b < count_in n = subst (λ (k : ℕ). b < k / size_in n) (sound.members n exists).words g.within in
+      subst (λ x. Contains (blocks_to s.layout.segments) x) (sym g.place) (have_to s.layout.segments n b (omega (arith, exists, count)) inside)
 
 pub blank_room : (s : Segments) (epoch : ℕ) → IsSegments s → HasRoomToMark s (blank epoch (most_blocks s.layout))
 blank_room s epoch sound = record {
-  places = steps_from 32 (most_blocks s.layout);
-  all = λ at g fresh. let k = block_step s at sound g.0 g.1 g.2 in subst (λ x. Contains (steps_from 32 (most_blocks s.layout)) x) (sym k.1) (steps_have (most_blocks s.layout) 32 k.0 k.2);
-  room = let e = steps_count (most_blocks s.layout) 32 in omega arith;
+  places = blocks_to s s.layout.segments;
+  all = λ at g fresh. block_there s at sound g.0 g.1 g.2;
+  room = let e = few_to s s.layout.segments in omega (arith, e);
 }

@@ -2,7 +2,6 @@
 use Rattle.std.proofs.Common.{ne_eqb, eq-eqb, ◌≡◌, inr, ℕ, ◌*◌, ◌/◌, ◌%◌, true, false, eqb, List, [], ◌∷◌, ◌++◌, ◌+◌, ◌≤◌, ◌<◌, refl, sym, ap, ◌∙◌, arith, Option, Some, None, inl}
 use Rattle.std.specs.Prelude.{Contains}
 use Rattle.std.specs.List.{flat_map}
-use Rattle.std.proofs.lemmas.Nat.{pow_pos}
 use Rattle.nmgc_graph.specs.declared.value.Name.{Name}
 use Rattle.nmgc_graph.specs.declared.mutator_state.MutatorState.{MutatorState}
 use Rattle.nmgc_graph.specs.Step.{shared_name}
@@ -12,6 +11,7 @@ use Rattle.nmgc_reach.specs.laws.ItemLaws.{contains_flat}
 use Rattle.nmgc_object.specs.FinQueue.{FinQueue}
 use Rattle.nmgc_object.specs.Places.{word_total}
 use Rattle.nmgc_object.specs.Size.{block_size}
+use Rattle.nmgc_object.specs.laws.Classes.{least_block}
 use Rattle.nmgc_alloc.specs.Search.{nth}
 use Rattle.nmgc_alloc.specs.Segments.{Segments, IsSegments}
 use Rattle.nmgc_alloc.specs.laws.Apart.{lies_in}
@@ -120,7 +120,7 @@ blank_tied o s epoch spare words registers queues sound h = record {
           let same = h.right.apart.one shared_place p h.shared c (inl e) in
           let at : 1 ≡ p.at = ap (λ (q : Place). q.at) same in
           let begins = g.2 in
-          let lies = lies_in s g.0 g.1 p.at p.at sound g.2 (omega arith) (let pos : 0 < block_size (nth s.segments g.0).class = omega (arith, pow_pos (nth s.segments g.0).class) in omega arith) in
+          let lies = lies_in s g.0 g.1 p.at p.at sound g.2 (omega arith) (let pos : 0 < block_size (nth s.segments g.0).class = omega (arith, least_block (nth s.segments g.0).class) in omega arith) in
           absurd (let from = lies.from in omega arith)
       | inr d ↦ absurd (let lt = d.1 in omega arith)
     ],

@@ -4,15 +4,19 @@
 //! field after field. What a field refers to is marked before the next one is read. An object is scanned to its
 //! end once it was begun, so between two calls every queued object is still to be scanned from its header on.
 //!
+//! Before each object the rings of all mutators are polled once: a block of remembered places that is there goes to the
+//! collector's own list, and is marked at the stop. So a mutator finds its ring empty again, however much it writes.
+//!
 //! Easy to get wrong: whether anything is left is told by the queue on return, and not by the quota: a round that
 //! scans its whole quota may leave nothing.
-ghost use Rattle.std.specs.Prelude.{◌≡◌, ◌+◌, ◌<◌, ◌≤◌, [], ◌↔◌, IsTrue};
+ghost use Rattle.std.specs.Prelude.{◌≡◌, ◌+◌, ◌<◌, ◌≤◌, [], ◌↔◌, IsTrue, length};
 ghost use Rattle.nmgc_object.specs.declared.size.TheConstants.{HEADER_WORDS};
 ghost use Rattle.nmgc_round.specs.Gate.{next_turn, passed};
 ghost use Rattle.nmgc_round.specs.Marking.{with_name, name_meant};
 ghost use Rattle.nmgc_round.specs.Ready.{scanned_by};
 ghost use Rattle.nmgc_round.specs.Seat.{Knows, seen, word_count};
 ghost use Rattle.nmgc_run.specs.Marker.{HasRoomToMark};
+ghost use Rattle.nmgc_updrem.specs.Rings.{HavePolled};
 ghost use Rattle.nmgc_mark.specs.Marker.{HasMarked, turned};
 ghost use Rattle.nmgc_mark.specs.Tie.{IsTied};
 ghost use Rattle.nmgc_mark.specs.Work.{IsCollector, IsScanning, HasWorked, marks_seen, rest_of, fields_scanned, is_result};
@@ -22,6 +26,7 @@ use nmgc_alloc::Segments;
 use nmgc_graph::{Kind, MAKERS};
 use nmgc_object::{Address, HEADER_WORDS, Header, header_of};
 use nmgc_round::{CollectorSeat, Gate, Round};
+use nmgc_updrem::Inbox;
 
 /// How many fields of an object are scanned.
 pub(crate) fn fields_scanned(header: Header) -> u32
@@ -40,6 +45,16 @@ pub(crate) fn is_result(header: Header, field: u32, word: u64) -> bool
     match header.kind {
         Kind::Thunk => field == 0 && word != 0,
         Kind::Con | Kind::Var | Kind::Arr | Kind::Weak | Kind::Stack => false,
+    }
+}
+
+// Polls the ring of each mutator once.
+fn poll_all(inbox: &mut Inbox, mutators: u8)
+    requires { mutators ≤ length inbox.old }
+    ensures { HavePolled inbox.old inbox.new }
+{
+    for mutator in 0..mutators {
+        let _ = inbox.poll(mutator);
     }
 }
 
@@ -102,7 +117,8 @@ impl Marker {
     }
 
     /// Scans objects from the queue's front beside the mutators, at most so many, each to its end and each word
-    /// by the scan load. Before each the gate is passed and counted: the clause `turns` tells the count.
+    /// by the scan load. Before each the gate is passed and counted, as the clause `turns` tells, and each mutator's
+    /// ring is polled once. The inbox has a receiver for each mutator of the layout.
     ///
     /// Marks and queue are the machine's before and after, as the collector's view tells them. Each object is
     /// scanned once in a cycle: what was marked and doesn't wait was scanned. `empty` is false exactly where
@@ -112,9 +128,11 @@ impl Marker {
         round: &Round,
         seat: &mut CollectorSeat,
         segments: &mut Segments,
+        inbox: &mut Inbox,
         quota: u32,
         gate: &G,
     ) -> Work
+        requires inbox { segments.old.layout.mutators ≤ length inbox.old }
         requires collector { IsCollector round.now seat.old }
         requires room { HasRoomToMark segments.old self.old }
         requires tied { IsTied (seen seat.old).opening (marks_seen (seen seat.old)) segments.old self.old }
@@ -123,7 +141,9 @@ impl Marker {
         ensures most { result.scanned ≤ quota }
         ensures least { result.scanned < quota → self.new.queue ≡ [] }
         ensures empty { IsTrue result.empty ↔ (self.new.queue ≡ []) }
+        ensures polled { HavePolled inbox.old inbox.new }
     {
+        let mutators = segments.layout().mutators;
         for scanned in 0..quota {
             match self.take_first() {
                 None => {
@@ -134,6 +154,7 @@ impl Marker {
                 }
                 Some(at) => {
                     self.pass(gate);
+                    poll_all(inbox, mutators);
                     self.scan(round, seat, segments, at);
                 }
             }

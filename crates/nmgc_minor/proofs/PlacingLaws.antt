@@ -7,7 +7,7 @@ use Rattle.std.proofs.lemmas.Bool.{cases_lt}
 use Rattle.std.proofs.lemmas.List.{map-append, get_or-set_same, get_or-set_other}
 use Rattle.std.proofs.lemmas.List.Elements.{Contains-append_left, Contains-append_right, Contains-append_cases, Contains-push, Contains-push_cases}
 use Rattle.nmgc_graph.specs.laws.Orders.{contains_head, contains_tail, contains_cases}
-use Rattle.nmgc_object.specs.laws.Classes.{class_counted, object_half}
+use Rattle.nmgc_object.specs.laws.Classes.{class_counted}
 use Rattle.nmgc_object.specs.declared.layout.Layout.{Layout}
 use Rattle.nmgc_object.specs.declared.words.Header.{Header}
 use Rattle.nmgc_object.specs.declared.size.TheConstants.{HEADER_WORDS}
@@ -293,11 +293,11 @@ reaches_more layout base words t cur next before from at to maker m sound same l
     let is : HasHeaderWord words at header = (o.object.valid, o.object.read) in
     let size : ℕ = HEADER_WORDS + header.fields in
     let there : HasHeaderWord words m.from.0 header = subst (λ (n : ℕ). HasHeaderWord words n header) (sym here) is in
-    let half = object_half size p.class (omega arith) (p.class_is header there) in
+    let fits : size ≤ cur.layout.words = let small = o.small in subst (λ (l : Layout). size ≤ l.words) (sym same) small in
     let words_ok : IsSegmentSize cur.layout.words = sound.layout.words in
     let counted = (class_counted cur.layout p.class words_ok).1 p.fits in
     let mutator : maker < cur.layout.mutators = subst (λ (l : Layout). maker < l.mutators) (sym same) low in
-    let kept = placing_keeps cur next maker p.class m.to.0 (before + (r.reach - from)) size sound p.allocates mutator counted p.fits half (subst (λ (l : Layout). KeepsReserve l cur.segments (before + (r.reach - from))) (sym same) r.reserve) in
+    let kept = placing_keeps cur next maker p.class m.to.0 (before + (r.reach - from)) size sound p.allocates mutator counted (omega arith) fits (p.class_is header there) (subst (λ (l : Layout). KeepsReserve l cur.segments (before + (r.reach - from))) (sym same) r.reserve) in
     let kept' = subst (λ (l : Layout). KeepsReserve l next.segments (before + (r.reach - from) + size)) same kept in
     let reached = r.next at (omega arith) lt mark in
     let above = r.above in

@@ -57,8 +57,8 @@ module _ (places : List Place) (w : World) (registers : List ℕ) (queues : List
   held : (word : ℕ) → Contains registers word → (m : ℕ) × (v : Value) × Contains (state_of w m).registers v × Means (Contains places) word v
   held word c =
       let count = r.count in
-      let m : ℕ = c.0 / 16 in
-      let i : ℕ = c.0 % 16 in
+      let m : ℕ = c.0 / REGISTERS in
+      let i : ℕ = c.0 % REGISTERS in
       let lt : m < length w.mutators = omega (arith, c.1, count) in
       let size = world.registers m lt in
       let own = (state_of w m).registers in

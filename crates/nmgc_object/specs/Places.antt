@@ -1,5 +1,5 @@
 -- Layouts within the limits, and whose a word is.
-use Rattle.std.specs.Prelude.{ℕ, ◌+◌, ◌*◌, ◌/◌, ◌<◌, ◌≤◌, count_by, nat_le}
+use Rattle.std.specs.Prelude.{ℕ, ◌+◌, ◌*◌, ◌/◌, ◌%◌, ◌<◌, ◌≤◌, count_by, nat_le}
 use Rattle.std.specs.List.{range_with_len}
 use Rattle.nmgc_limits.specs.Limits.{most_heap_words, most_segments}
 pub use Rattle.nmgc_limits.specs.Limits.{IsSegmentSize}
@@ -33,6 +33,10 @@ word_total layout = FIRST_PLACE + layout.segments * layout.words + layout.mutato
 -- how many classes have a block that fits into a segment
 abbrev pub class_count : Layout → ℕ
 class_count layout = count_by (λ class. nat_le (block_size class) layout.words) (range_with_len 0 (MAX_CLASS + 1))
+
+-- the words after the last block of a segment of blocks of the class, which belong to nobody
+abbrev pub left_over : Layout → ℕ → ℕ
+left_over layout class = layout.words % block_size class
 
 -- how many free segments suffice to promote every nursery
 abbrev pub reserve_count : Layout → ℕ

@@ -5,7 +5,7 @@ ghost use Rattle.std.specs.Prelude.{ℕ, ◌≡◌, ◌↔◌, ◌+◌, ◌*◌,
 ghost use Rattle.nmgc_graph.specs.declared.value.Name.{Name};
 ghost use Rattle.nmgc_object.specs.Words.{header_word, name_word, field_word, IsHeader, IsName, IsField};
 ghost use Rattle.nmgc_object.specs.Parts.{header_place, name_place, field_place, object_size};
-ghost use Rattle.nmgc_object.specs.Places.{IsLayout, InSegment, InNursery, InHeap, class_count};
+ghost use Rattle.nmgc_object.specs.Places.{IsLayout, InSegment, InNursery, InHeap, class_count, left_over};
 ghost use Rattle.nmgc_object.specs.Size.{block_size, IsClassOf};
 ghost use Rattle.nmgc_object.specs.declared.words.Header.{Header};
 ghost use Rattle.nmgc_object.specs.declared.words.Field.{Field};
@@ -13,7 +13,8 @@ ghost use Rattle.nmgc_object.specs.declared.layout.Layout.{Layout};
 
 use crate::layout::{FIRST_PLACE, SHARED_PLACE};
 use crate::size::{
-    HEADER_WORDS, MAX_BLOCK_WORDS, MAX_CLASS, MAX_PARTS, MIN_BLOCK_WORDS, NAME_OFFSET,
+    DENSE_CLASS, DENSE_WORDS, HEADER_WORDS, MAX_BLOCK_WORDS, MAX_CLASS, MAX_PARTS, MIN_BLOCK_WORDS,
+    NAME_OFFSET,
 };
 use crate::words::{
     FIELDS_UNIT, MAX_FIELDS, MAX_THUNK_FIELDS, NIL_WORD, NUMBER_LIMIT, SERIAL_UNIT, TAG_UNIT, TAGS,
@@ -27,10 +28,10 @@ pub fn constants_are_these()
     ensures fields { (MAX_FIELDS ≡ 4094) × (MAX_PARTS ≡ 4094) }
     ensures fixed_fields { (VAR_FIELDS ≡ 1) × (WEAK_FIELDS ≡ 3) × (MAX_THUNK_FIELDS ≡ 9) }
     ensures numbers { NUMBER_LIMIT ≡ 2 ^ 62 }
-    ensures units { (TAG_UNIT ≡ 8) × (FIELDS_UNIT ≡ 2048) × (SERIAL_UNIT ≡ 16) }
+    ensures units { (TAG_UNIT ≡ 8) × (FIELDS_UNIT ≡ 2048) × (SERIAL_UNIT ≡ 64) }
     ensures words { (NIL_WORD ≡ 1) × (ZERO_WORD ≡ 3) }
-    ensures sizes { (HEADER_WORDS ≡ 2) × (NAME_OFFSET ≡ 1) × (MIN_BLOCK_WORDS ≡ 4) × (MAX_BLOCK_WORDS ≡ 4096) }
-    ensures classes { MAX_CLASS ≡ 10 }
+    ensures sizes { (HEADER_WORDS ≡ 2) × (NAME_OFFSET ≡ 1) × (MIN_BLOCK_WORDS ≡ 4) × (DENSE_WORDS ≡ 16) × (MAX_BLOCK_WORDS ≡ 4096) }
+    ensures classes { (DENSE_CLASS ≡ 12) × (MAX_CLASS ≡ 20) }
     ensures places { (SHARED_PLACE ≡ 1) × (FIRST_PLACE ≡ 32) }
 {}
 
@@ -59,10 +60,10 @@ pub fn parts_lie_apart()
 
 /// The class of an object that fits into a segment is one of the layout's, and its block fits into a
 /// segment too. An object has at least two words, at most those of the greatest block, and at least
-/// half the words of its block.
+/// half of those of its block and of what is left over in a segment of such blocks.
 pub fn objects_have_classes()
     ensures fits { (layout : Layout) (words class : ℕ) → IsLayout layout → words ≤ layout.words → IsClassOf words class → (block_size class ≤ layout.words) × (class < class_count layout) }
     ensures object { (header : Header) → IsHeader header → (2 ≤ object_size header) × (object_size header ≤ MAX_BLOCK_WORDS) }
-    ensures half { (words class : ℕ) → 2 ≤ words → IsClassOf words class → block_size class ≤ 2 * words }
+    ensures half { (layout : Layout) (words class : ℕ) → IsLayout layout → 2 ≤ words → words ≤ layout.words → IsClassOf words class → left_over layout class + block_size class ≤ 2 * words }
     ensures classes { (layout : Layout) (class : ℕ) → IsLayout layout → (class < class_count layout) ↔ (block_size class ≤ layout.words) }
 {}

@@ -1,9 +1,11 @@
 //! How many words an object has, and the classes of blocks.
 //!
-//! Blocks have 4, 8, 16 words and so on, one class for each size up to a whole segment. An object
-//! goes into a block of the least class that holds it, so less than half of a block of more than 4
-//! words is wasted.
-ghost use Rattle.std.specs.Prelude.{ℕ, ◌≡◌, ◌+◌, ◌*◌, ◌^◌, ◌<◌, ◌≤◌};
+//! Blocks have 4 to 16 words, one class for each size, and then 32, 64 words and so on, up to a whole
+//! segment. An object goes into a block of the least class that holds it: one of 4 to 16 words fills
+//! its block, and a larger one more than half of it. Easy to get wrong: where the words of a block
+//! aren't a power of two, some words of a segment lie after its last block and belong to nobody, so a
+//! segment that is full of objects has fewer words of objects than it has words.
+ghost use Rattle.std.specs.Prelude.{ℕ, ◌≡◌, ◌<◌, ◌≤◌};
 ghost use Rattle.nmgc_object.specs.Parts.{object_size};
 ghost use Rattle.nmgc_object.specs.Size.{word_count, block_size};
 ghost use Rattle.nmgc_object.specs.Words.{IsHeader};
@@ -24,13 +26,22 @@ pub const MAX_PARTS: u32 = MAX_FIELDS;
 /// The words of a block of class 0.
 pub const MIN_BLOCK_WORDS: u32 = 4;
 
+/// The greatest dense class. Up to it each class has blocks of one word more than the class below;
+/// above it, of twice as many.
+pub const DENSE_CLASS: u8 = 12;
+
+/// The words of a block of the greatest dense class.
+pub const DENSE_WORDS: u32 = 16;
+
 /// The greatest class. Its block is the largest segment.
-pub const MAX_CLASS: u8 = 10;
+pub const MAX_CLASS: u8 = 20;
 
 /// The words of a block of the greatest class: those of the largest segment.
 pub const MAX_BLOCK_WORDS: u32 = MAX_SEGMENT_WORDS;
 
-const _: () = prove!(MAX_BLOCK_WORDS == MIN_BLOCK_WORDS << MAX_CLASS);
+const _: () = prove!(DENSE_WORDS == MIN_BLOCK_WORDS + DENSE_CLASS as u32);
+
+const _: () = prove!(MAX_BLOCK_WORDS == DENSE_WORDS << (MAX_CLASS - DENSE_CLASS));
 
 const _: () = prove!(MAX_BLOCK_WORDS == HEADER_WORDS + MAX_FIELDS);
 
@@ -63,13 +74,19 @@ pub fn object_words(header: Header) -> u32
 pub fn block_words(class: u8) -> u32
     requires { class ≤ MAX_CLASS }
     ensures size { result ≡ block_size class }
+    ensures least { MIN_BLOCK_WORDS ≤ result }
     ensures most { result ≤ MAX_BLOCK_WORDS }
 {
-    MIN_BLOCK_WORDS << class
+    if class <= DENSE_CLASS {
+        MIN_BLOCK_WORDS + u32::from(class)
+    } else {
+        DENSE_WORDS << (class - DENSE_CLASS)
+    }
 }
 
-/// The least class whose block holds so many words. A block of class c has 4 * 2^c words, so this is
-/// the number of binary digits of `(words - 1) / 4`. Takes no memory, and constant time.
+/// The least class whose block holds so many words. Above the dense classes the words of a block are
+/// 16, 32, 64 and so on, so what is to be added is the number of binary digits of `(words - 1) / 16`.
+/// Takes no memory, and constant time.
 pub fn class_of(words: u32) -> u8
     requires least { 2 ≤ words }
     requires most { words ≤ MAX_BLOCK_WORDS }
@@ -77,6 +94,9 @@ pub fn class_of(words: u32) -> u8
     ensures least { (class : ℕ) → class < result → block_size class < words }
     ensures most { result ≤ MAX_CLASS }
 {
-    let full = (words - 1) / MIN_BLOCK_WORDS;
-    (u32::BITS - full.leading_zeros()) as u8
+    if words <= DENSE_WORDS {
+        return words.saturating_sub(MIN_BLOCK_WORDS) as u8;
+    }
+    let full = (words - 1) / DENSE_WORDS;
+    DENSE_CLASS + (u32::BITS - full.leading_zeros()) as u8
 }

@@ -40,14 +40,14 @@ fn headers(rt: HostRuntime) {
 
 #[test]
 fn names(rt: HostRuntime) {
-    for (maker, serial, word) in [(3, 10, 163), (8, 0, 8)] {
+    for (maker, serial, word) in [(3, 10, 643), (32, 0, 32)] {
         let name = Name { maker, serial };
-        assert!(rt; maker < 8 || serial == 0);
+        assert!(rt; maker < 32 || serial == 0);
         assert_eq!(rt; encode_name(name), word);
         assert_eq!(rt; decode_name(word), Some(name));
         assert_eq!(rt; name_of(encode_name(name)), name);
     }
-    for word in [9, 24, 16 * 4_294_967_296] {
+    for word in [33, 96, 64 * 4_294_967_296] {
         assert_eq!(rt; decode_name(word), None, "at {word}");
     }
 }
@@ -81,16 +81,19 @@ fn fields(rt: HostRuntime) {
 fn sizes(rt: HostRuntime) {
     let rows = [
         (Kind::Con, 2, 4, 0, 4),
-        (Kind::Weak, 3, 5, 1, 8),
+        (Kind::Weak, 3, 5, 1, 5),
         (Kind::Var, 1, 3, 0, 4),
         (Kind::Arr, 0, 2, 0, 4),
-        (Kind::Thunk, 8, 11, 2, 16),
-        (Kind::Stack, 4094, 4096, 10, 4096),
+        (Kind::Thunk, 8, 11, 7, 11),
+        (Kind::Con, 14, 16, 12, 16),
+        (Kind::Arr, 15, 17, 13, 32),
+        (Kind::Arr, 31, 33, 14, 64),
+        (Kind::Stack, 4094, 4096, 20, 4096),
     ];
     for (kind, parts, words, class, block) in rows {
         assert!(rt; parts <= 4094);
         assert_eq!(rt; words_of(kind, parts), words);
-        assert!(rt; 2 <= words && words <= 4096 && class <= 10);
+        assert!(rt; 2 <= words && words <= 4096 && class <= 20);
         assert_eq!(rt; class_of(words), class);
         assert_eq!(rt; block_words(class), block);
     }
@@ -98,7 +101,7 @@ fn sizes(rt: HostRuntime) {
 
 #[test]
 fn places(rt: HostRuntime) {
-    for (nursery, total, reserve) in [(64, 2144, 7), (128, 2208, 9), (256, 2336, 13)] {
+    for (nursery, total, reserve) in [(64, 2144, 17), (128, 2208, 19), (256, 2336, 23)] {
         assert!(rt; 64 <= nursery && nursery <= 1000);
         let layout = Layout {
             segments: 32,
@@ -111,7 +114,7 @@ fn places(rt: HostRuntime) {
         assert_eq!(rt; layout.segment_base(31), 2016);
         assert_eq!(rt; layout.nursery_base(0), 2080);
         assert_eq!(rt; layout.total(), total);
-        assert_eq!(rt; layout.classes(), 5);
+        assert_eq!(rt; layout.classes(), 15);
         assert_eq!(rt; layout.reserve(), reserve);
     }
     let nursery = Nursery {

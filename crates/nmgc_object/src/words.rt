@@ -43,7 +43,7 @@ pub const TAG_UNIT: u64 = 8;
 pub const FIELDS_UNIT: u64 = 2048;
 
 /// What one more object of the same maker adds to a name. The maker is below it.
-pub const SERIAL_UNIT: u64 = 16;
+pub const SERIAL_UNIT: u64 = 64;
 
 /// The field word of nil.
 pub const NIL_WORD: u64 = 1;

@@ -4,6 +4,7 @@ use mathlib.Core.Option.{some}
 use lib.ListN.{get_elem?}
 use Rattle.nmgc_graph.specs.laws.Orders.{same_name}
 use Rattle.nmgc_graph.specs.declared.value.Name.{Name}
+use Rattle.nmgc_graph.specs.declared.value.TheConstants.{SHARED_MAKER}
 use Rattle.nmgc_graph.specs.declared.value.Value.{Value}
 use Rattle.nmgc_graph.specs.declared.value.Value.TheVariants as value
 use Rattle.nmgc_graph.specs.declared.command.Command.{Command}
@@ -20,7 +21,7 @@ use Rattle.nmgc_round.specs.Finishing.{IsFinished}
 use Rattle.nmgc_round.specs.Naming.{IsNamed, Replies, AllReply}
 use Rattle.nmgc_round.proofs.Standing.{placed}
 
-one_name : (a b : Name) → a.maker ≤ 8 → b.maker ≤ 8 → name_word a ≡ name_word b → a ≡ b
+one_name : (a b : Name) → a.maker ≤ SHARED_MAKER → b.maker ≤ SHARED_MAKER → name_word a ≡ name_word b → a ≡ b
 one_name a b la lb e = same_name a b (omega arith) (omega arith)
 
 module _ (o : Opening) (words : List ℕ) (v : Seen) (h : IsFinished o words v) (k : ℕ) (p : Part) (here : get_elem? v.parts k ≡ some p) where

@@ -1,5 +1,5 @@
 -- What the mutators of the tests do: each makes a variable, stores it into its slot of g and reads it back.
-use Rattle.std.proofs.Common.{◌≡◌, ℕ, zero, suc, ◌+◌, ◌*◌, ◌<◌, true, false, List, [], ◌∷◌, ◌++◌, map, length, get_or, set, take, drop, All, refl, sym, ap, subst, ◌∙◌, arith, Some, inl}
+use Rattle.std.proofs.Common.{◌≡◌, ℕ, zero, suc, ◌+◌, ◌*◌, ◌<◌, ◌≤◌, true, false, List, [], ◌∷◌, ◌++◌, map, length, get_or, set, take, drop, All, refl, sym, ap, subst, ◌∙◌, arith, Some, inl}
 use Rattle.std.specs.Prelude.{Contains, slice_get, slice_index_or}
 use Rattle.std.proofs.lemmas.List.{length-replicate}
 use mathlib.Core.Option.{some, some-injective, some-ne-none}
@@ -103,9 +103,6 @@ module _ (layout : Layout) (is : IsLayout layout) (m : ℕ) (mine : m < layout.m
   hand_is : new_hand ≡ hand_of o.hands m
   hand_is = sym (all_equal layout.mutators m new_hand no_hand mine)
 
-  few : m < 16
-  few = let le = is.mutators.1 in omega arith
-
   pub header_fixed : (p : Part) → CanFix o p 1 0
   header_fixed p = inl (Shared, refl, omega arith)
 
@@ -146,7 +143,10 @@ module _ (layout : Layout) (is : IsLayout layout) (m : ℕ) (mine : m < layout.m
           subst (λ (u : UnbornWord). Contains (after_field layout m base h n).unborn u) (λ j. record { at = at j; word = one j }) (contains_head (record { at = base + 2; word = 1 }) (after_name layout m base h n).unborn)
       field (suc i) w e = absurd cc
 
-  module _ (h n : ℕ) (is_array : h ≡ 32771) where
+  module _ (h n : ℕ) (is_array : h ≡ 32771) (most : layout.mutators ≤ 16) where
+    few : m < 16
+    few = omega arith
+
     -- the header of g is named after the birth
     named : (fixed : List FixedWord) → Contains fixed (record { at = 1; offset = 0; word = h }) → (p : Part) → p.fixed ≡ fixed → Names p 1 array
     named fixed c p e = record { valid = (refl, omega arith); there = subst (λ l. Contains l (record { at = 1; offset = 0; word = 32771 })) (sym e) (subst (λ w. Contains fixed (record { at = 1; offset = 0; word = w })) is_array c) }

@@ -1,4 +1,4 @@
-//! Rounds from the heap of which nothing was made, with one to eight mutators in threads of their own.
+//! Rounds from the heap of which nothing was made, with one to sixteen mutators in threads of their own.
 ghost use Rattle.std.specs.Prelude.{◌≡◌, ◌<◌, ◌≤◌, ℕ, [], All, IfOk, length, map, vec_capacity, slice_index_or};
 ghost use Rattle.nmgc_object.specs.Places.{IsLayout, word_total};
 ghost use Rattle.nmgc_round.specs.Seat.{RoundSeat, IsAt, seen, word_count, opening_of};
@@ -29,14 +29,14 @@ fn first_of(layout: &Layout) -> Chosen<Opened>
 }
 
 // The heap of which nothing was made. The header word of an array with 16 fields is 3 + 2048 * 16, the name
-// word of g is 8, and nil is 1.
+// word of g is 32, and nil is 1.
 fn empty_heap(alloc: Global, layout: &Layout) -> Result<Words, NoMemory>
     requires { IsLayout layout.now }
     ensures { IfOk result (IsEmptyHeap layout.now) }
 {
     let mut words = Vec::from_elem(alloc, 1u64, layout.total() as usize)?;
     words[1] = 32771;
-    words[2] = 8;
+    words[2] = 32;
     Words::new(alloc, words.as_slice())
 }
 
@@ -46,6 +46,7 @@ fn work(round: &Round, seat: &mut MutatorSeat, layout: Layout, number: u8) -> (u
     requires seat { IsAt round.now seat.old × (seen seat.old ≡ alone (first_opening layout) number) }
     requires round { word_count round.now ≡ word_total layout }
     requires layout { IsLayout layout × (number < layout.mutators) }
+    requires few { layout.mutators ≤ 16 }
     ensures { IsAt round.now seat.new × HasPart (seen seat.new) number }
 {
     OpenGate.pass(number, 1);
@@ -85,7 +86,7 @@ fn work(round: &Round, seat: &mut MutatorSeat, layout: Layout, number: u8) -> (u
 // Each in a thread of its own.
 fn work_all<R: Threads + Sync>(rt: &R, round: &Round, seats: &mut [MutatorSeat], layout: Layout)
     requires round { word_count round.now ≡ word_total layout }
-    requires layout { IsLayout layout }
+    requires layout { IsLayout layout × (layout.mutators ≤ 16) }
     requires seats { (length seats.old ≡ layout.mutators) × ((k : ℕ) (d : RoundSeat) → k < length seats.old → IsAt round.now (slice_index_or seats.old k d) × (seen (slice_index_or seats.old k d) ≡ alone (first_opening layout) k)) }
     ensures count { length seats.new ≡ length seats.old }
     ensures seats { (k : ℕ) (d : RoundSeat) → k < length seats.old → IsAt round.now (slice_index_or seats.new k d) × HasPart (seen (slice_index_or seats.new k d)) k }
@@ -93,9 +94,9 @@ fn work_all<R: Threads + Sync>(rt: &R, round: &Round, seats: &mut [MutatorSeat],
     thread::for_each_mut(
         rt,
         seats,
-        8,
+        16,
         &|number, seat: &mut MutatorSeat|
-            requires { IsAt round.now seat.now × (seen seat.now ≡ alone (first_opening layout) number) × (word_count round.now ≡ word_total layout) × IsLayout layout × (number < layout.mutators) }
+            requires { IsAt round.now seat.now × (seen seat.now ≡ alone (first_opening layout) number) × (word_count round.now ≡ word_total layout) × IsLayout layout × (number < layout.mutators) × (layout.mutators ≤ 16) }
             ensures { IsAt round.entry.now seat.exit.now × HasPart (seen seat.exit.now) number }
         {
             work(round, seat, layout, number as u8);
@@ -112,6 +113,7 @@ fn worked<R: Threads + Sync>(
     place: Place<MutatorSeat>,
 ) -> (Words, bool)
     requires layout { IsLayout layout }
+    requires few { layout.mutators ≤ 16 }
     requires heap { IsEmptyHeap layout words }
     requires room { (room.items ≡ []) × (layout.mutators ≤ vec_capacity room) }
     ensures { length result.0 ≡ word_total layout }
@@ -140,7 +142,7 @@ fn is_done(words: &[u64], layout: &Layout, mutator: u8) -> bool
 }
 
 fn small(mutators: u8) -> Layout
-    requires { (0 < mutators) × (mutators ≤ 8) }
+    requires { (0 < mutators) × (mutators ≤ 16) }
     ensures layout { IsLayout result }
     ensures count { result.mutators ≡ mutators }
 {
@@ -167,7 +169,7 @@ fn words_of(alloc: Global, words: Words) -> Result<Vec<u64>, NoMemory> {
 
 #[test]
 fn what_each_mutator_did_stands_in_the_words(rt: HostRuntime) -> Result<(), Fail> {
-    for mutators in 1..9u8 {
+    for mutators in 1..17u8 {
         let layout = small(mutators);
         let words = empty_heap(rt.alloc(), &layout)?;
         let room = Vec::with_capacity(rt.alloc(), usize::from(mutators))?;

@@ -1,6 +1,7 @@
 -- The run of a script that makes an array and asks for a cycle: it begins, is closed, sweeps and ends.
-use Rattle.std.proofs.Common.{ℕ, zero, suc, ◌≡◌, ◌≢◌, ◌⊎◌, ◌*◌, ◌^◌, ◌<◌, List, [], ◌∷◌, ◌++◌, replicate, arith, refl, sym, ap, subst, inl, inr, Some, None, true, false, lit≤, lit<}
+use Rattle.std.proofs.Common.{ℕ, zero, suc, ◌≡◌, ◌≢◌, ◌⊎◌, ◌<◌, List, [], ◌∷◌, ◌++◌, replicate, arith, refl, sym, ap, subst, inl, inr, Some, None, true, false, lit≤, lit<}
 use Rattle.std.specs.Prelude.{Contains, ◌==◌}
+use Rattle.nmgc_graph.specs.declared.value.TheConstants.{SHARED_MAKER}
 use Rattle.nmgc_graph.specs.declared.value.Name.{Name}
 use Rattle.nmgc_graph.specs.declared.value.Value.TheVariants.{Ref}
 use Rattle.nmgc_graph.specs.declared.command.Command.TheVariants.{Arr, Collect}
@@ -11,6 +12,8 @@ use Rattle.nmgc_graph.specs.Step.{shared_name}
 use Rattle.nmgc_graph.specs.History.{Row, replayed, IsOrderOf}
 use Rattle.nmgc_graph.specs.Reach.{IsRoot, IsReached, IsLive, IsKept, IsAlive, RefersTo}
 use Rattle.nmgc_graph.specs.laws.Orders.{contains_cases}
+use Rattle.nmgc_object.specs.Size.{block_size}
+use Rattle.nmgc_object.specs.laws.Classes.{block_rises}
 use Rattle.nmgc_segment.specs.declared.state.State.{State as Stands}
 use Rattle.nmgc_segment.specs.declared.state.State.TheVariants as stands
 use Rattle.nmgc_alloc.specs.AllocState.{AllocState, Cells, all_empty, no_cells, cells, name_in, NoneIs, IsOf, IsFull, Sweeps, HoldsKept}
@@ -42,7 +45,7 @@ born = record opened { number = 1; world = replayed opened.world rows; collect =
 
 -- the array lies in the only block of the first segment
 abbrev pub held : Stands → ℕ → AllocState
-held state fresh = record { segments = record { state = state; class = 2; names = Some object_name ∷ [] } ∷ replicate 7 no_cells; fresh = fresh }
+held state fresh = record { segments = record { state = state; class = 5; names = Some object_name ∷ [] } ∷ replicate 17 no_cells; fresh = fresh }
 
 abbrev pub promoted : State
 promoted = record born { allocation = held stands.Filled 1 }
@@ -88,7 +91,7 @@ fine_field name target (inr e) r = let P : Name → Type 0 = λ n. Contains (ref
 no_weak_at : (maker serial : ℕ) (parts : Parts) → IsAlive c.snapshot (record { maker = maker; serial = serial }) parts → ⊥
 no_weak_at zero zero parts e = cc
 no_weak_at zero (suc serial) parts e = cc
-no_weak_at (suc maker) serial parts e = not_weak (suc maker == 8) (serial == 0) _ _ parts (λ e. cc) e
+no_weak_at (suc maker) serial parts e = not_weak (suc maker == SHARED_MAKER) (serial == 0) _ _ parts (λ e. cc) e
 
 pub no_weak : (n : Name) (parts : Parts) → IsAlive c.snapshot n parts → ⊥
 no_weak n parts e = no_weak_at n.maker n.serial parts e
@@ -134,12 +137,12 @@ may_close = (
 
 pub only_filled : (n : ℕ) → IsSweptIn c n → 0 ≡ n
 only_filled zero h = refl
-only_filled (suc n) h = let free = ap (λ (x : Cells). x.state) (all_same 7 no_cells n) in let e = h.1 in absurd cc
+only_filled (suc n) h = let free = ap (λ (x : Cells). x.state) (all_same 17 no_cells n) in let e = h.1 in absurd cc
 
 pub only_block : (state : Stands) (fresh number block : ℕ) (n : Name) → name_in (cells (held state fresh) number) block ≡ Some n → (0 ≡ number) × (0 ≡ block) × (object_name ≡ n)
 only_block state fresh zero zero n e = (refl, refl, cc)
 only_block state fresh zero (suc block) n e = absurd cc
-only_block state fresh (suc number) block n e = let none = ap (λ (x : Cells). name_in x block) (all_same 7 no_cells number) in absurd cc
+only_block state fresh (suc number) block n e = let none = ap (λ (x : Cells). name_in x block) (all_same 17 no_cells number) in absurd cc
 
 pub had_one : IsHadIn c object_name
 had_one = (0, 0, (lit< tt, refl), refl)
@@ -190,24 +193,24 @@ sweeps = record {
 
 nothing_waits : IsSwept swept
 nothing_waits zero exists is = cc
-nothing_waits (suc n) exists is = let free = ap (λ (x : Cells). x.state) (all_same 7 no_cells n) in cc
+nothing_waits (suc n) exists is = let free = ap (λ (x : Cells). x.state) (all_same 17 no_cells n) in cc
 
 one_waits : IsSwept was_closed → ⊥
 one_waits none = none 0 (lit< tt) refl
 
 -- the array is placed
 
-none_current : NoneIs (IsOf (stands.Current 0) 2) (all_empty 8)
-none_current number exists is = let free = ap (λ (c : Cells). c.state) (all_same 8 no_cells number) in let same = is.0 in cc
+none_current : NoneIs (IsOf (stands.Current 0) 5) (all_empty 18)
+none_current number exists is = let free = ap (λ (c : Cells). c.state) (all_same 18 no_cells number) in let same = is.0 in cc
 
-none_active : NoneIs (IsOf stands.Active 2) (all_empty 8)
-none_active number exists is = let free = ap (λ (c : Cells). c.state) (all_same 8 no_cells number) in let same = is.0 in cc
+none_active : NoneIs (IsOf stands.Active 5) (all_empty 18)
+none_active number exists is = let free = ap (λ (c : Cells). c.state) (all_same 18 no_cells number) in let same = is.0 in cc
 
-place : PlacesObject array_layout born.world (all_empty 8) (held stands.Filled 1) object_name
+place : PlacesObject array_layout born.world (all_empty 18) (held stands.Filled 1) object_name
 place = record {
   node = _;
   there = refl;
-  class = 2;
+  class = 5;
   fits = record { holds = lit≤ tt; least = least };
   places = record {
     number = 0;
@@ -220,15 +223,13 @@ place = record {
   };
 }
   where
-    least : (smaller : ℕ) → smaller < 2 → 4 * 2 ^ smaller < 9
-    least zero lt = lit< tt
-    least (suc zero) lt = lit< tt
-    least (suc (suc k)) lt = absurd (omega (arith, lt))
+    least : (smaller : ℕ) → smaller < 5 → block_size smaller < 9
+    least smaller lt = block_rises smaller 5 lt
 
 only_young : (maker serial : ℕ) → IsYoung opened.world born.world (record { maker = maker; serial = serial }) → object_name ≡ record { maker = maker; serial = serial }
 only_young zero zero y = refl
 only_young zero (suc serial) y = absurd (nothing_at serial y.1)
-only_young (suc maker) serial y = absurd (nothing_at serial (not_shared (suc maker == 8) _ _ _ y.0 y.1))
+only_young (suc maker) serial y = absurd (nothing_at serial (not_shared (suc maker == SHARED_MAKER) _ _ _ y.0 y.1))
 
 pub young_is : (n : Name) → IsYoung opened.world born.world n → object_name ≡ n
 young_is n y = only_young n.maker n.serial y
@@ -251,16 +252,16 @@ no_trigger s none d = elim d.1 [ inl e ↦ cc | inr both ↦ omega (arith, both.
 -- the opening stop, and the turns
 
 abbrev pub opening : Stop
-opening = record { state = opened; row = array_stop 0 Idle 8 0 0 0; cycles = [] }
+opening = record { state = opened; row = array_stop 0 Idle 18 0 0 0; cycles = [] }
 
 abbrev pub first_turn : Turn
-first_turn = record { replies = replied array_replies; history = rows; worked = born; stop = record { state = begun; row = array_stop 1 Marking 7 0 1 1; cycles = [] } }
+first_turn = record { replies = replied array_replies; history = rows; worked = born; stop = record { state = begun; row = array_stop 1 Marking 17 0 1 1; cycles = [] } }
 
 abbrev pub second_turn : Turn
-second_turn = record { replies = replied []; history = []; worked = scanned; stop = record { state = was_closed; row = array_stop 2 Sweeping 7 0 1 0; cycles = [] } }
+second_turn = record { replies = replied []; history = []; worked = scanned; stop = record { state = was_closed; row = array_stop 2 Sweeping 17 0 1 0; cycles = [] } }
 
 abbrev pub third_turn : Turn
-third_turn = record { replies = replied []; history = []; worked = swept; stop = record { state = ended; row = array_stop 3 Idle 7 1 0 0; cycles = array_row ∷ [] } }
+third_turn = record { replies = replied []; history = []; worked = swept; stop = record { state = ended; row = array_stop 3 Idle 17 1 0 0; cycles = array_row ∷ [] } }
 
 -- a run with so many of the turns
 abbrev pub run_of : List Turn → Run

@@ -3,6 +3,7 @@ use Rattle.std.proofs.Common.{ℕ, zero, suc, ◌≡◌, ◌≢◌, ◌⊎◌, �
 use Rattle.std.specs.Prelude.{IsSome, Contains, slice_get, ◌==◌}
 use Rattle.std.proofs.lemmas.List.Elements.{All-cons, All-nil}
 use Rattle.std.proofs.lemmas.Bool.{eqb-true}
+use Rattle.nmgc_graph.specs.declared.value.TheConstants.{REGISTERS, SHARED_MAKER}
 use Rattle.nmgc_graph.specs.declared.value.Name.{Name}
 use Rattle.nmgc_graph.specs.declared.value.Value.TheVariants.{Nil}
 use Rattle.nmgc_graph.specs.declared.node.Node.{Node}
@@ -44,8 +45,8 @@ array_node = Arr (replicate 7 Nil)
 only_names : (maker serial : ℕ) (node : Node) → node_of born.world (record { maker = maker; serial = serial }) ≡ Some node → (shared_name ≡ record { maker = maker; serial = serial }) ⊎ (object_name ≡ record { maker = maker; serial = serial })
 only_names zero zero node e = inr refl
 only_names zero (suc serial) node e = absurd (not_known serial node e)
-only_names (suc maker) serial node e = shared_or (suc maker == 8) (serial == 0) _ _ node _
-    (λ b d. inl (ap (λ (m : ℕ). record { maker = m; serial = 0 }) (sym (eqb-true (suc maker) 8 b)) ∙ ap (λ (s : ℕ). record { maker = suc maker; serial = s }) (sym (eqb-true serial 0 d))))
+only_names (suc maker) serial node e = shared_or (suc maker == SHARED_MAKER) (serial == 0) _ _ node _
+    (λ b d. inl (ap (λ (m : ℕ). record { maker = m; serial = 0 }) (sym (eqb-true (suc maker) SHARED_MAKER b)) ∙ ap (λ (s : ℕ). record { maker = suc maker; serial = s }) (sym (eqb-true serial 0 d))))
     (λ o. absurd (not_known serial node o)) e
 
 pub each_name : (P : Name → Node → Type 0) → P shared_name shared_node → P object_name array_node → (n : Name) (node : Node) → node_of born.world n ≡ Some node → P n node
@@ -60,8 +61,8 @@ each_name P shared object n node e = elim (only_names n.maker n.serial node e) [
 
 only_shared : (maker serial : ℕ) (node : Node) → node_of opened.world (record { maker = maker; serial = serial }) ≡ Some node → shared_name ≡ record { maker = maker; serial = serial }
 only_shared zero serial node e = absurd (not_known serial node e)
-only_shared (suc maker) serial node e = shared_or (suc maker == 8) (serial == 0) _ _ node _
-    (λ b d. ap (λ (m : ℕ). record { maker = m; serial = 0 }) (sym (eqb-true (suc maker) 8 b)) ∙ ap (λ (s : ℕ). record { maker = suc maker; serial = s }) (sym (eqb-true serial 0 d)))
+only_shared (suc maker) serial node e = shared_or (suc maker == SHARED_MAKER) (serial == 0) _ _ node _
+    (λ b d. ap (λ (m : ℕ). record { maker = m; serial = 0 }) (sym (eqb-true (suc maker) SHARED_MAKER b)) ∙ ap (λ (s : ℕ). record { maker = suc maker; serial = s }) (sym (eqb-true serial 0 d)))
     (λ o. absurd (not_known serial node o)) e
 
 pub each_first : (P : Name → Node → Type 0) → P shared_name shared_node → (n : Name) (node : Node) → node_of opened.world n ≡ Some node → P n node
@@ -104,9 +105,9 @@ array_in at = contains_tail shared_place (array_place at ∷ []) (array_place at
 
 -- the words there
 pub record HasWords (at : ℕ) (words : List ℕ) : Type 0 where
-  pub total : length words ≡ 176
+  pub total : length words ≡ 336
   pub shared_header : slice_index words 1 ≡ 32771
-  pub shared_second : slice_index words 2 ≡ 8
+  pub shared_second : slice_index words 2 ≡ SHARED_MAKER
   pub shared_fields : HasSlots (Contains (places_at at)) words 3 (map holds (replicate 16 Nil))
   pub header : slice_index words at ≡ 14339
   pub second : slice_index words (at + 1) ≡ 0
@@ -117,15 +118,15 @@ pub record HasWords (at : ℕ) (words : List ℕ) : Type 0 where
 own_maker : object_name.maker ≢ shared_name.maker
 own_maker e = absurd (omega (arith, e))
 
-pub young_has : HasWords 160 young_words
+pub young_has : HasWords 320 young_words
 young_has = record {
   total = refl;
   shared_header = refl;
   shared_second = refl;
-  shared_fields = has_slots (Contains (places_at 160)) (0 ∷ 32771 ∷ 8 ∷ []) (replicate 16 1) (replicate 141 0 ++ (14339 ∷ 0 ∷ (replicate 7 1 ++ replicate 7 0))) (map holds (replicate 16 Nil)) (fills_nil (Contains (places_at 160)) 16);
+  shared_fields = has_slots (Contains (places_at 320)) (0 ∷ 32771 ∷ 32 ∷ []) (replicate 16 1) (replicate 301 0 ++ (14339 ∷ 0 ∷ (replicate 7 1 ++ replicate 7 0))) (map holds (replicate 16 Nil)) (fills_nil (Contains (places_at 320)) 16);
   header = refl;
   second = refl;
-  fields = has_slots (Contains (places_at 160)) (0 ∷ 32771 ∷ 8 ∷ (replicate 16 1 ++ (replicate 141 0 ++ (14339 ∷ 0 ∷ [])))) (replicate 7 1) (replicate 7 0) (map holds (replicate 7 Nil)) (fills_nil (Contains (places_at 160)) 7);
+  fields = has_slots (Contains (places_at 320)) (0 ∷ 32771 ∷ 32 ∷ (replicate 16 1 ++ (replicate 301 0 ++ (14339 ∷ 0 ∷ [])))) (replicate 7 1) (replicate 7 0) (map holds (replicate 7 Nil)) (fills_nil (Contains (places_at 320)) 7);
   high = lit≤ tt;
   lies = λ size most. inr (own_maker, inr (omega (arith, most), λ i from before. record { exists = lit< tt; from = omega (arith, from); before = omega (arith, before, most) }));
 }
@@ -135,10 +136,10 @@ old_has = record {
   total = refl;
   shared_header = refl;
   shared_second = refl;
-  shared_fields = has_slots (Contains (places_at 32)) (0 ∷ 32771 ∷ 8 ∷ []) (replicate 16 1) (replicate 13 0 ++ (14339 ∷ 0 ∷ (replicate 7 1 ++ replicate 135 0))) (map holds (replicate 16 Nil)) (fills_nil (Contains (places_at 32)) 16);
+  shared_fields = has_slots (Contains (places_at 32)) (0 ∷ 32771 ∷ 32 ∷ []) (replicate 16 1) (replicate 13 0 ++ (14339 ∷ 0 ∷ (replicate 7 1 ++ replicate 295 0))) (map holds (replicate 16 Nil)) (fills_nil (Contains (places_at 32)) 16);
   header = refl;
   second = refl;
-  fields = has_slots (Contains (places_at 32)) (0 ∷ 32771 ∷ 8 ∷ (replicate 16 1 ++ (replicate 13 0 ++ (14339 ∷ 0 ∷ [])))) (replicate 7 1) (replicate 135 0) (map holds (replicate 7 Nil)) (fills_nil (Contains (places_at 32)) 7);
+  fields = has_slots (Contains (places_at 32)) (0 ∷ 32771 ∷ 32 ∷ (replicate 16 1 ++ (replicate 13 0 ++ (14339 ∷ 0 ∷ [])))) (replicate 7 1) (replicate 295 0) (map holds (replicate 7 Nil)) (fills_nil (Contains (places_at 32)) 7);
   high = lit≤ tt;
   lies = λ size most. inr (own_maker, inl (0, λ i from before. record { exists = lit< tt; from = omega (arith, from); before = omega (arith, before, most) }));
 }
@@ -210,11 +211,11 @@ module _ (at : ℕ) (words : List ℕ) (h : HasWords at words) (earlier : List W
 -- roots
 
 module _ (at : ℕ) where
-  registers_mean : EachMeans (Contains (places_at at)) (2 * at ∷ replicate 15 1) (state_of born.world 0).registers
-  registers_mean = ((at, refl, array_in at), means_nil (Contains (places_at at)) 15)
+  registers_mean : EachMeans (Contains (places_at at)) (2 * at ∷ replicate 63 1) (state_of born.world 0).registers
+  registers_mean = ((at, refl, array_in at), means_nil (Contains (places_at at)) 63)
 
-  held_by : (m : ℕ) → m < 1 → AllMean (Contains (places_at at)) (2 * at ∷ replicate 15 1) (16 * m) (state_of born.world m).registers
-  held_by zero lt = all_mean (Contains (places_at at)) (2 * at ∷ replicate 15 1) (state_of born.world 0).registers registers_mean
+  held_by : (m : ℕ) → m < 1 → AllMean (Contains (places_at at)) (2 * at ∷ replicate 63 1) (REGISTERS * m) (state_of born.world m).registers
+  held_by zero lt = all_mean (Contains (places_at at)) (2 * at ∷ replicate 63 1) (state_of born.world 0).registers registers_mean
   held_by (suc m) lt = absurd (omega (arith, lt))
 
   queued : (m : ℕ) (own : List ℕ) → slice_get ([] ∷ []) m ≡ Some own → ListMeans (Contains (places_at at)) own (state_of born.world m).queue
@@ -225,7 +226,7 @@ module _ (at : ℕ) where
   next zero serial e = sym (some_is 1 serial e)
   next (suc m) serial e = absurd cc
 
-  pub roots : RepresentsRoots (places_at at) born.world (2 * at ∷ replicate 15 1) ([] ∷ []) (1 ∷ [])
+  pub roots : RepresentsRoots (places_at at) born.world (2 * at ∷ replicate 63 1) ([] ∷ []) (1 ∷ [])
   roots = record { count = refl; mutators = (refl, refl); held = held_by; queued = queued; next = next }
 
 -- segments
@@ -258,12 +259,12 @@ used_then done (suc block) = (λ some. absurd cc, λ used. elim used [ inl below
 first_shows : (form : Form) → Shows (segments_of (segment_in form)) old_words 0 (cells (allocation_in form) 0)
 first_shows waits = record { state = refl; free = λ e. absurd cc; class = λ used. refl; blocks = λ used. refl; used = used_then waits; named = named }
   where
-    named : (block : ℕ) (n : Name) → name_in (cells (allocation_in waits) 0) block ≡ Some n → slice_index old_words (block_place array_layout 0 2 block + 1) ≡ name_word n
+    named : (block : ℕ) (n : Name) → name_in (cells (allocation_in waits) 0) block ≡ Some n → slice_index old_words (block_place array_layout 0 5 block + 1) ≡ name_word n
     named zero n e = ap name_word (some_is object_name n e)
     named (suc block) n e = absurd cc
 first_shows done = record { state = refl; free = λ e. absurd cc; class = λ used. refl; blocks = λ used. refl; used = used_then done; named = named }
   where
-    named : (block : ℕ) (n : Name) → name_in (cells (allocation_in done) 0) block ≡ Some n → slice_index old_words (block_place array_layout 0 2 block + 1) ≡ name_word n
+    named : (block : ℕ) (n : Name) → name_in (cells (allocation_in done) 0) block ≡ Some n → slice_index old_words (block_place array_layout 0 5 block + 1) ≡ name_word n
     named zero n e = ap name_word (some_is object_name n e)
     named (suc block) n e = absurd cc
 
@@ -284,11 +285,11 @@ old_stands new form = record { total = refl; count = refl; names = names_valid f
 pub old_fit : (form : Form) → FitBlocks born.world (allocation_in form)
 old_fit form number block n node lies there =
     let is = only_block (state_in form) 0 number block n lies in
-    let size : size_of node ≤ 16 = each_name (λ m x. object_name ≡ m → size_of x ≤ 16) (λ e. absurd (not_g e)) (λ e. lit≤ tt) n node there is.2 in
+    let size : size_of node ≤ 9 = each_name (λ m x. object_name ≡ m → size_of x ≤ 9) (λ e. absurd (not_g e)) (λ e. lit≤ tt) n node there is.2 in
     subst (λ k. size_of node ≤ block_size (cells (allocation_in form) k).class) is.0 size
 
 abbrev pub mutator_with : ℕ → MutatorEnd
-mutator_with word = record { registers = word ∷ replicate 15 1; queue = []; serial = 1 }
+mutator_with word = record { registers = word ∷ replicate 63 1; queue = []; serial = 1 }
 
 pub old_holds : NewStands → (form : Form) (earlier : List World) → AreThese earlier → HeapStandsFor array_layout earlier (places_at 32) born.world (allocation_in form) old_words (segments_of (segment_in form)) (mutator_with 64 ∷ [])
 old_holds new form earlier these = record {
@@ -310,19 +311,19 @@ old_places form p = (each_place 32 (IsPlaceAtStop array_layout (allocation_in fo
     back form (inl e) = subst (λ q. Contains (places_at 32) q) (sym e) (shared_in 32)
     back form (inr b) =
         let is = only_block (state_in form) 0 b.number b.block p.name b.lies in
-        let at : p.at ≡ 32 = b.at ∙ ap (λ (k : ℕ). block_place array_layout k (cells (allocation_in form) k).class b.block) (sym is.0) ∙ ap (λ (k : ℕ). block_place array_layout 0 2 k) (sym is.1) in
+        let at : p.at ≡ 32 = b.at ∙ ap (λ (k : ℕ). block_place array_layout k (cells (allocation_in form) k).class b.block) (sym is.0) ∙ ap (λ (k : ℕ). block_place array_layout 0 5 k) (sym is.1) in
         subst (λ q. Contains (places_at 32) q) (same_place p (sym at) is.2) (array_in 32)
 
 -- nothing lies in an empty heap
-pub nothing_lies : (number block : ℕ) (n : Name) → LiesIn (all_empty 8) number block n → ⊥
-nothing_lies number block n lies = let none = ap (λ c. name_in c block) (all_same 8 no_cells number) in cc
+pub nothing_lies : (number block : ℕ) (n : Name) → LiesIn (all_empty 18) number block n → ⊥
+nothing_lies number block n lies = let none = ap (λ c. name_in c block) (all_same 18 no_cells number) in cc
 
-pub young_holds : NewStands → HeapStandsFor array_layout (opened.world ∷ []) (places_at 160) born.world (all_empty 8) young_words (all_free array_layout) (mutator_with 320 ∷ [])
+pub young_holds : NewStands → HeapStandsFor array_layout (opened.world ∷ []) (places_at 320) born.world (all_empty 18) young_words (all_free array_layout) (mutator_with 640 ∷ [])
 young_holds new = record {
   fit = λ number block n node lies there. absurd (nothing_lies number block n lies);
-  represents = represents 160 young_words young_has (opened.world ∷ []) first_only;
-  registers = All-cons HasAllRegisters (mutator_with 320) [] refl (All-nil HasAllRegisters);
-  roots = roots 160;
+  represents = represents 320 young_words young_has (opened.world ∷ []) first_only;
+  registers = All-cons HasAllRegisters (mutator_with 640) [] refl (All-nil HasAllRegisters);
+  roots = roots 320;
   layout_is = refl;
   stands = new array_layout young_words refl;
 }

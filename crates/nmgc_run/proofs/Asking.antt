@@ -1,6 +1,7 @@
 -- A script that asks for a cycle: it begins at one stop, and is closed within its bounds and ended at the next.
 use Rattle.std.proofs.Common.{ℕ, zero, suc, ◌≡◌, ◌≢◌, ◌⊎◌, List, [], ◌∷◌, ◌++◌, set, replicate, arith, refl, sym, ap, subst, inl, inr, Option, Some, None, true, false, lit≤, lit<}
 use Rattle.std.specs.Prelude.{Contains, ◌==◌}
+use Rattle.nmgc_graph.specs.declared.value.TheConstants.{SHARED_MAKER}
 use Rattle.nmgc_graph.specs.declared.value.Name.{Name}
 use Rattle.nmgc_graph.specs.declared.value.Value.TheVariants.{Ref}
 use Rattle.nmgc_graph.specs.declared.node.Parts.{Parts}
@@ -78,7 +79,7 @@ fine_field name target (inr e) r = let P : Name → Type 0 = λ n. Contains (ref
 no_weak_at : (maker serial : ℕ) (parts : Parts) → IsAlive c.snapshot (record { maker = maker; serial = serial }) parts → ⊥
 no_weak_at zero zero parts e = cc
 no_weak_at zero (suc serial) parts e = cc
-no_weak_at (suc maker) serial parts e = not_weak (suc maker == 8) (serial == 0) _ _ parts (λ e. cc) e
+no_weak_at (suc maker) serial parts e = not_weak (suc maker == SHARED_MAKER) (serial == 0) _ _ parts (λ e. cc) e
 
 no_weak : (n : Name) (parts : Parts) → IsAlive c.snapshot n parts → ⊥
 no_weak n parts e = no_weak_at n.maker n.serial parts e
@@ -159,7 +160,7 @@ place = record {
 only_young : (maker serial : ℕ) → IsYoung opened.world after_first.world (record { maker = maker; serial = serial }) → object_name ≡ record { maker = maker; serial = serial }
 only_young zero zero y = refl
 only_young zero (suc serial) y = absurd (nothing_at serial y.1)
-only_young (suc maker) serial y = absurd (nothing_at serial (not_shared (suc maker == 8) _ _ _ y.0 y.1))
+only_young (suc maker) serial y = absurd (nothing_at serial (not_shared (suc maker == SHARED_MAKER) _ _ _ y.0 y.1))
 
 order_first : IsOrderOf (own_rows (slices small_heap opened.left) (asking_replies ∷ [])) first_rows
 order_first zero = refl

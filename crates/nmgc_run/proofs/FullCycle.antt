@@ -1,6 +1,7 @@
 -- A script that asks for a full cycle: what was dropped is freed, and what a register holds is kept.
 use Rattle.std.proofs.Common.{ℕ, zero, suc, ◌≡◌, ◌≢◌, ◌<◌, ◌⊎◌, List, [], ◌∷◌, ◌++◌, set, replicate, slice_index_or, get_or, arith, refl, sym, ap, subst, ◌∙◌, inl, inr, Option, Some, None, Bool, true, false, lit≤, lit<}
 use Rattle.std.specs.Prelude.{IsSome, Contains, slice_get, ◌==◌, if◌then◌else◌}
+use Rattle.nmgc_graph.specs.declared.value.TheConstants.{SHARED_MAKER}
 use Rattle.nmgc_graph.specs.declared.value.Name.{Name}
 use Rattle.nmgc_graph.specs.declared.value.Value.{Value}
 use Rattle.nmgc_graph.specs.declared.value.Value.TheVariants.{Ref}
@@ -102,7 +103,7 @@ no_weak_at : (maker serial : ℕ) (parts : Parts) → IsAlive c.snapshot (record
 no_weak_at zero zero parts e = cc
 no_weak_at zero (suc zero) parts e = cc
 no_weak_at zero (suc (suc serial)) parts e = cc
-no_weak_at (suc maker) serial parts e = not_weak (suc maker == 8) (serial == 0) _ _ parts (λ e. cc) e
+no_weak_at (suc maker) serial parts e = not_weak (suc maker == SHARED_MAKER) (serial == 0) _ _ parts (λ e. cc) e
 
 no_weak : (n : Name) (parts : Parts) → IsAlive c.snapshot n parts → ⊥
 no_weak n parts e = no_weak_at n.maker n.serial parts e
@@ -271,7 +272,7 @@ both_young : (maker serial : ℕ) → IsYoung opened.world after_first.world (re
 both_young zero zero y = inl refl
 both_young zero (suc zero) y = inr refl
 both_young zero (suc (suc serial)) y = absurd (nothing_at serial y.1)
-both_young (suc maker) serial y = absurd (nothing_at serial (not_shared (suc maker == 8) _ _ _ y.0 y.1))
+both_young (suc maker) serial y = absurd (nothing_at serial (not_shared (suc maker == SHARED_MAKER) _ _ _ y.0 y.1))
 
 -- the second round makes nothing
 same_nodes : (maker : ℕ) → (state_of at_first.world maker).nodes ≡ (state_of after_second.world maker).nodes
@@ -280,7 +281,7 @@ same_nodes (suc maker) = refl
 
 none_made : (n : Name) → IsYoung at_first.world after_second.world n → ⊥
 none_made n y =
-    let same : node_of at_first.world n ≡ node_of after_second.world n = ap (λ (nodes : List Node). if n.maker == 8 then (if n.serial == 0 then Some at_first.world.shared else None) else slice_get nodes n.serial) (same_nodes n.maker) in
+    let same : node_of at_first.world n ≡ node_of after_second.world n = ap (λ (nodes : List Node). if n.maker == SHARED_MAKER then (if n.serial == 0 then Some at_first.world.shared else None) else slice_get nodes n.serial) (same_nodes n.maker) in
     not_there (node_of after_second.world n) (sym same ∙ y.0) y.1
   where
     not_there : {A : Type 0} (o : Option A) → o ≡ None → IsSome o → ⊥

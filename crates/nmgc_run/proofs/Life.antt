@@ -6,7 +6,7 @@ use Rattle.std.proofs.lemmas.Bool.{cases_lt}
 use Rattle.std.proofs.lemmas.List.{get_or-replicate}
 use Rattle.std.proofs.lemmas.List.Elements.{All-cons, All-nil}
 use Rattle.nmgc_graph.specs.declared.value.Name.{Name}
-use Rattle.nmgc_graph.specs.declared.value.TheConstants.{SHARED_MAKER}
+use Rattle.nmgc_graph.specs.declared.value.TheConstants.{REGISTERS, SHARED_MAKER}
 use Rattle.nmgc_graph.specs.declared.value.Value.TheVariants.{Nil}
 use Rattle.nmgc_graph.specs.declared.node.Node.{Node}
 use Rattle.nmgc_graph.specs.declared.node.Node.TheVariants.{Arr, Weak}
@@ -36,12 +36,12 @@ use Rattle.nmgc_blocks.specs.Nurseries.{AreEmpty as NurseriesEmpty, LieInOrder, 
 use Rattle.nmgc_blocks.specs.Promoted.{IsYoung}
 use Rattle.nmgc_blocks.specs.Remembers.{Remembers}
 use Rattle.nmgc_journal.specs.declared.report.MutatorEnd.{MutatorEnd}
-use Rattle.nmgc_run.specs.Census.{IsKeptIn, IsKeptObject, IsSweptIn, IsHadIn, IsDeadIn}
+use Rattle.nmgc_run.specs.Census.{IsKeptIn, IsKeptObject, IsSweptIn, IsDeadIn}
 use Rattle.nmgc_run.specs.Collector.{AreNurseries, AreAtRest, IsAtRest, IsMarking, IsAtStop, IsAfterRound, IsNew}
 use Rattle.nmgc_run.specs.Heap.{IsPlaceAtStop, IsPlaceAfterRound, HasAllRegisters, HoldsAtStop, HoldsAfterRound, HeapStandsFor, snapshots}
 use Rattle.nmgc_run.specs.Life.{LifeIsSeen, array_plan, array_layout, array_replies, new_words, old_words, young_words, segments_of, waiting_segment, swept_segment, hand, new_seen, opened_seen, born_seen, marking_seen, scanned_seen, closed_seen, swept_seen, ended_seen, replied}
 use Rattle.nmgc_run.specs.Marker.{IsRightSnapshot, AreMarked, AreRemembered, HasRoomToMark, IsFresh}
-use Rattle.nmgc_run.specs.Marks.{AreSettled, HasNoted, AreAsNoted, AreKeptMarked, IsFreedSoFar, IsSweeping}
+use Rattle.nmgc_run.specs.Marks.{AreSettled, HasNoted, AreAsNoted, AreKeptMarked, IsHadSoFar, IsFreedSoFar, IsSweeping}
 use Rattle.nmgc_run.specs.Samples.{object_name}
 use Rattle.nmgc_run.specs.Seen.{Seen, MutatorSeen, MarkerSeen}
 use Rattle.nmgc_run.specs.State.{State}
@@ -67,7 +67,7 @@ shared_placed = record {
   at = 1;
   there = contains_head shared_place [];
   object = record { header = refl; valid = (refl, lit≤ tt); lies = inl (refl, refl, lit≤ tt); alone = only_place (λ q. (q.at ≤ 1) ⊎ (1 + 18 ≤ q.at)) (inl (lit≤ tt)) };
-  fields = has_slots (Contains alone) (0 ∷ 32771 ∷ 8 ∷ []) (replicate 16 1) (replicate 157 0) (map holds (replicate 16 Nil)) (fills_nil (Contains alone) 16);
+  fields = has_slots (Contains alone) (0 ∷ 32771 ∷ 32 ∷ []) (replicate 16 1) (replicate 317 0) (map holds (replicate 16 Nil)) (fills_nil (Contains alone) 16);
   free = λ e before d. absurd (none_in e d);
   kept = λ before none. absurd none;
 }
@@ -81,11 +81,11 @@ new_represents = record {
   born = λ p node d inside there. absurd (only_place (λ q. InNursery array_layout q.name.maker q.at → ⊥) (λ k. omega (arith, k.exists)) p d inside);
 }
 
-new_roots : RepresentsRoots alone opened.world (replicate 16 1) ([] ∷ []) (0 ∷ [])
+new_roots : RepresentsRoots alone opened.world (replicate REGISTERS 1) ([] ∷ []) (0 ∷ [])
 new_roots = record { count = refl; mutators = (refl, refl); held = held_by; queued = queued; next = next }
   where
-    held_by : (m : ℕ) → m < 1 → AllMean (Contains alone) (replicate 16 1) (16 * m) (state_of opened.world m).registers
-    held_by zero lt = all_mean (Contains alone) (replicate 16 1) (replicate 16 Nil) (means_nil (Contains alone) 16)
+    held_by : (m : ℕ) → m < 1 → AllMean (Contains alone) (replicate REGISTERS 1) (REGISTERS * m) (state_of opened.world m).registers
+    held_by zero lt = all_mean (Contains alone) (replicate REGISTERS 1) (replicate REGISTERS Nil) (means_nil (Contains alone) REGISTERS)
     held_by (suc m) lt = absurd (omega (arith, lt))
 
     queued : (m : ℕ) (own : List ℕ) → slice_get ([] ∷ []) m ≡ Some own → ListMeans (Contains alone) own (state_of opened.world m).queue
@@ -96,14 +96,14 @@ new_roots = record { count = refl; mutators = (refl, refl); held = held_by; queu
     next zero serial e = sym (some_is 0 serial e)
     next (suc m) serial e = absurd cc
 
-new_heap : NewStands → HoldsAtStop array_layout opened new_words (all_free array_layout) (record { registers = replicate 16 1; queue = []; serial = 0 } ∷ []) []
+new_heap : NewStands → HoldsAtStop array_layout opened new_words (all_free array_layout) (record { registers = replicate REGISTERS 1; queue = []; serial = 0 } ∷ []) []
 new_heap new = record {
   places = alone;
-  all = λ p. (only_place (IsPlaceAtStop array_layout (all_empty 8)) (inl refl) p, back p);
+  all = λ p. (only_place (IsPlaceAtStop array_layout (all_empty 18)) (inl refl) p, back p);
   holds = record {
     fit = λ number block n node lies there. absurd (nothing_lies number block n lies);
     represents = new_represents;
-    registers = All-cons HasAllRegisters (record { registers = replicate 16 1; queue = []; serial = 0 }) [] refl (All-nil HasAllRegisters);
+    registers = All-cons HasAllRegisters (record { registers = replicate REGISTERS 1; queue = []; serial = 0 }) [] refl (All-nil HasAllRegisters);
     roots = new_roots;
     layout_is = refl;
     stands = new array_layout new_words refl;
@@ -111,18 +111,18 @@ new_heap new = record {
   listed = none_listed alone opened.world no_weak_first;
 }
   where
-    back : (p : Place) → IsPlaceAtStop array_layout (all_empty 8) p → Contains alone p
+    back : (p : Place) → IsPlaceAtStop array_layout (all_empty 18) p → Contains alone p
     back p (inl e) = subst (λ q. Contains alone q) (sym e) (contains_head shared_place [])
     back p (inr b) = absurd (nothing_lies b.number b.block p.name b.lies)
 
 -- mark bytes
 
-past_free : (number : ℕ) → 7 ≤ number → get_or (replicate 7 (free_segment 16)) number (free_segment 0) ≡ free_segment 0
-past_free number ge = get_or-eq_default (replicate 7 (free_segment 16)) (free_segment 0) {n = number} (omega (arith, ge))
+past_free : (number : ℕ) → 17 ≤ number → get_or (replicate 17 (free_segment 16)) number (free_segment 0) ≡ free_segment 0
+past_free number ge = get_or-eq_default (replicate 17 (free_segment 16)) (free_segment 0) {n = number} (omega (arith, ge))
 
-free_zero : (number block : ℕ) → mark_of (get_or (replicate 7 (free_segment 16)) number (free_segment 0)) block ≡ 0
-free_zero number block = elim (cases_lt number 7) [
-  | inl lt ↦ ap (λ (s : Segment). mark_of s block) (get_or-replicate 7 number (free_segment 16) (free_segment 0) lt) ∙ all_same 4 0 block
+free_zero : (number block : ℕ) → mark_of (get_or (replicate 17 (free_segment 16)) number (free_segment 0)) block ≡ 0
+free_zero number block = elim (cases_lt number 17) [
+  | inl lt ↦ ap (λ (s : Segment). mark_of s block) (get_or-replicate 17 number (free_segment 16) (free_segment 0) lt) ∙ all_same 4 0 block
   | inr ge ↦ ap (λ (s : Segment). mark_of s block) (past_free number ge)
 ]
 
@@ -143,50 +143,50 @@ old_settled done (suc number) block has waiting = inl (free_zero number block)
 -- nurseries
 
 nursery : ℕ → List Nursery
-nursery top = record { base = 160; top = top; end = 176 } ∷ []
+nursery top = record { base = 320; top = top; end = 336 } ∷ []
 
-module _ (top : ℕ) (from : 160 ≤ top) (most : top ≤ 176) where
-  bases : (maker : ℕ) → maker < 1 → (nursery_at (record { base = 160; top = top; end = 176 } ∷ []) maker).base ≡ nursery_place array_layout maker
+module _ (top : ℕ) (from : 320 ≤ top) (most : top ≤ 336) where
+  bases : (maker : ℕ) → maker < 1 → (nursery_at (record { base = 320; top = top; end = 336 } ∷ []) maker).base ≡ nursery_place array_layout maker
   bases zero lt = refl
   bases (suc maker) lt = absurd (omega (arith, lt))
 
-  tops : (maker : ℕ) → maker < 1 → ((nursery_at (record { base = 160; top = top; end = 176 } ∷ []) maker).base ≤ (nursery_at (record { base = 160; top = top; end = 176 } ∷ []) maker).top) × ((nursery_at (record { base = 160; top = top; end = 176 } ∷ []) maker).top ≤ (nursery_at (record { base = 160; top = top; end = 176 } ∷ []) maker).base + 16)
+  tops : (maker : ℕ) → maker < 1 → ((nursery_at (record { base = 320; top = top; end = 336 } ∷ []) maker).base ≤ (nursery_at (record { base = 320; top = top; end = 336 } ∷ []) maker).top) × ((nursery_at (record { base = 320; top = top; end = 336 } ∷ []) maker).top ≤ (nursery_at (record { base = 320; top = top; end = 336 } ∷ []) maker).base + 16)
   tops zero lt = (from, most)
   tops (suc maker) lt = absurd (omega (arith, lt))
 
-  ends : (maker : ℕ) → maker < 1 → (nursery_at (record { base = 160; top = top; end = 176 } ∷ []) maker).end ≡ (nursery_at (record { base = 160; top = top; end = 176 } ∷ []) maker).base + 16
+  ends : (maker : ℕ) → maker < 1 → (nursery_at (record { base = 320; top = top; end = 336 } ∷ []) maker).end ≡ (nursery_at (record { base = 320; top = top; end = 336 } ∷ []) maker).base + 16
   ends zero lt = refl
   ends (suc maker) lt = absurd (omega (arith, lt))
 
-  are_nurseries : (places : List Place) (w : World) → ((p : Place) (node : Node) → Contains places p → 160 ≤ p.at → node_of w p.name ≡ Some node → p.at + size_of node ≤ (nursery_at (record { base = 160; top = top; end = 176 } ∷ []) p.name.maker).top) → AreNurseries array_layout places w (record { base = 160; top = top; end = 176 } ∷ [])
+  are_nurseries : (places : List Place) (w : World) → ((p : Place) (node : Node) → Contains places p → 320 ≤ p.at → node_of w p.name ≡ Some node → p.at + size_of node ≤ (nursery_at (record { base = 320; top = top; end = 336 } ∷ []) p.name.maker).top) → AreNurseries array_layout places w (record { base = 320; top = top; end = 336 } ∷ [])
   are_nurseries places w used = record { used = record { count = refl; places_are = bases; tops = tops; used = used }; ends = ends }
 
 abbrev AreLow : List Place → Type 0
-AreLow places = (p : Place) → Contains places p → 160 ≤ p.at → ⊥
+AreLow places = (p : Place) → Contains places p → 320 ≤ p.at → ⊥
 
 alone_low : AreLow alone
-alone_low p d high = only_place (λ q. 160 ≤ q.at → ⊥) (λ h. omega (arith, h)) p d high
+alone_low p d high = only_place (λ q. 320 ≤ q.at → ⊥) (λ h. omega (arith, h)) p d high
 
 old_low : AreLow (places_at 32)
-old_low p d high = each_place 32 (λ q. 160 ≤ q.at → ⊥) (λ h. omega (arith, h)) (λ h. omega (arith, h)) p d high
+old_low p d high = each_place 32 (λ q. 320 ≤ q.at → ⊥) (λ h. omega (arith, h)) (λ h. omega (arith, h)) p d high
 
-low_nurseries : (places : List Place) (w : World) → AreLow places → AreNurseries array_layout places w (record { base = 160; top = 160; end = 176 } ∷ [])
-low_nurseries places w low = are_nurseries 160 (lit≤ tt) (lit≤ tt) places w (λ p node d high there. absurd (low p d high))
+low_nurseries : (places : List Place) (w : World) → AreLow places → AreNurseries array_layout places w (record { base = 320; top = 320; end = 336 } ∷ [])
+low_nurseries places w low = are_nurseries 320 (lit≤ tt) (lit≤ tt) places w (λ p node d high there. absurd (low p d high))
 
 -- at a stop the mutator is at rest
-at_rest : (word serial : ℕ) (places : List Place) (w : World) → AreLow places → (seen : Seen) → seen.mutators ≡ hand word serial 160 ∷ [] → AreAtRest array_layout places w seen
+at_rest : (word serial : ℕ) (places : List Place) (w : World) → AreLow places → (seen : Seen) → seen.mutators ≡ hand word serial 320 ∷ [] → AreAtRest array_layout places w seen
 at_rest word serial places w low seen e = record {
   nurseries = subst (λ (ms : List MutatorSeen). AreNurseries array_layout places w (map (λ (m : MutatorSeen). m.nursery) ms)) (sym e) (low_nurseries places w low);
   empty = subst (λ (ms : List MutatorSeen). NurseriesEmpty (map (λ (m : MutatorSeen). m.nursery) ms)) (sym e) empty;
   nothing = subst (λ (ms : List MutatorSeen). (m : ℕ) (mutator : MutatorSeen) → slice_get ms m ≡ Some mutator → IsAtRest mutator) (sym e) nothing;
 }
   where
-    empty : NurseriesEmpty (record { base = 160; top = 160; end = 176 } ∷ [])
+    empty : NurseriesEmpty (record { base = 320; top = 320; end = 336 } ∷ [])
     empty zero = refl
     empty (suc maker) = refl
 
-    nothing : (m : ℕ) (mutator : MutatorSeen) → slice_get (hand word serial 160 ∷ []) m ≡ Some mutator → IsAtRest mutator
-    nothing zero mutator is = subst IsAtRest (some_is (hand word serial 160) mutator is) (record { recorded = refl; young_weaks = refl; entries = refl })
+    nothing : (m : ℕ) (mutator : MutatorSeen) → slice_get (hand word serial 320 ∷ []) m ≡ Some mutator → IsAtRest mutator
+    nothing zero mutator is = subst IsAtRest (some_is (hand word serial 320) mutator is) (record { recorded = refl; young_weaks = refl; entries = refl })
     nothing (suc m) mutator is = absurd cc
 
 -- the beginning
@@ -215,16 +215,16 @@ opened_is new = record {
 
 -- the first round: the array was born
 
-born_used : (p : Place) (node : Node) → Contains (places_at 160) p → 160 ≤ p.at → node_of born.world p.name ≡ Some node → p.at + size_of node ≤ (nursery_at (record { base = 160; top = 169; end = 176 } ∷ []) p.name.maker).top
-born_used p node d high there = each_place 160 (λ q. 160 ≤ q.at → node_of born.world q.name ≡ Some node → q.at + size_of node ≤ (nursery_at (record { base = 160; top = 169; end = 176 } ∷ []) q.name.maker).top)
+born_used : (p : Place) (node : Node) → Contains (places_at 320) p → 320 ≤ p.at → node_of born.world p.name ≡ Some node → p.at + size_of node ≤ (nursery_at (record { base = 320; top = 329; end = 336 } ∷ []) p.name.maker).top
+born_used p node d high there = each_place 320 (λ q. 320 ≤ q.at → node_of born.world q.name ≡ Some node → q.at + size_of node ≤ (nursery_at (record { base = 320; top = 329; end = 336 } ∷ []) q.name.maker).top)
     (λ h e. absurd (omega (arith, h)))
-    (λ h e. let is : Arr (replicate 7 Nil) ≡ node = some_is (Arr (replicate 7 Nil)) node e in subst (λ x. 160 + size_of x ≤ 169) is (lit≤ tt)) p d high there
+    (λ h e. let is : Arr (replicate 7 Nil) ≡ node = some_is (Arr (replicate 7 Nil)) node e in subst (λ x. 320 + size_of x ≤ 329) is (lit≤ tt)) p d high there
 
-born_ordered : LieInOrder 160 (places_at 160)
-born_ordered a b in_a in_b high lower = each_place 160 (λ q. a.at < q.at → IsBefore a.name q.name) (λ h. absurd (omega (arith, h, high))) (λ h. absurd (omega (arith, h, high))) b in_b lower
+born_ordered : LieInOrder 320 (places_at 320)
+born_ordered a b in_a in_b high lower = each_place 320 (λ q. a.at < q.at → IsBefore a.name q.name) (λ h. absurd (omega (arith, h, high))) (λ h. absurd (omega (arith, h, high))) b in_b lower
 
 -- nothing was recorded, and there is no weak pointer
-nothing_left : (at : ℕ) (earlier : List World) → (160 ≤ at) ⊎ (at < 160) → Remembers 160 earlier (places_at at) born.world [] []
+nothing_left : (at : ℕ) (earlier : List World) → (320 ≤ at) ⊎ (at < 320) → Remembers 320 earlier (places_at at) born.world [] []
 nothing_left at earlier side = record {
   fields = λ a d. absurd (none_in a d);
   all_fields = λ p q node i d low own tracked there slot e high. absurd (no_field at side p q d low own e high);
@@ -232,21 +232,21 @@ nothing_left at earlier side = record {
   all_weaks = λ p parts d high alive. absurd (no_weak p.name parts alive);
 }
   where
-    no_field : (at : ℕ) → (160 ≤ at) ⊎ (at < 160) → (p q : Place) → Contains (places_at at) p → p.at < 160 → p.name.maker ≢ SHARED_MAKER → Contains (places_at at) q → 160 ≤ q.at → ⊥
-    no_field at (inl high) p q d low own e up = each_place at (λ x. x.at < 160 → x.name.maker ≢ SHARED_MAKER → ⊥) (λ l o. o refl) (λ l o. omega (arith, l, high)) p d low own
-    no_field at (inr below) p q d low own e up = each_place at (λ x. 160 ≤ x.at → ⊥) (λ h. omega (arith, h)) (λ h. omega (arith, h, below)) q e up
+    no_field : (at : ℕ) → (320 ≤ at) ⊎ (at < 320) → (p q : Place) → Contains (places_at at) p → p.at < 320 → p.name.maker ≢ SHARED_MAKER → Contains (places_at at) q → 320 ≤ q.at → ⊥
+    no_field at (inl high) p q d low own e up = each_place at (λ x. x.at < 320 → x.name.maker ≢ SHARED_MAKER → ⊥) (λ l o. o refl) (λ l o. omega (arith, l, high)) p d low own
+    no_field at (inr below) p q d low own e up = each_place at (λ x. 320 ≤ x.at → ⊥) (λ h. omega (arith, h)) (λ h. omega (arith, h, below)) q e up
 
-born_heap : NewStands → HoldsAfterRound array_layout opened born (places_at 160) young_words (all_free array_layout) (record { registers = 320 ∷ replicate 15 1; queue = []; serial = 1 } ∷ []) []
+born_heap : NewStands → HoldsAfterRound array_layout opened born (places_at 320) young_words (all_free array_layout) (record { registers = 640 ∷ replicate 63 1; queue = []; serial = 1 } ∷ []) []
 born_heap new = record {
-  sound = each_place 160 (IsPlaceAfterRound array_layout opened born) (inl (inl refl)) (inr (record { young = (refl, refl); nursery = record { exists = lit< tt; from = lit≤ tt; before = lit< tt } }));
+  sound = each_place 320 (IsPlaceAfterRound array_layout opened born) (inl (inl refl)) (inr (record { young = (refl, refl); nursery = record { exists = lit< tt; from = lit≤ tt; before = lit< tt } }));
   old = old;
-  born = λ n y. (160, subst (λ x. Contains (places_at 160) (record { at = 160; name = x })) (young_is n y) (array_in 160));
+  born = λ n y. (320, subst (λ x. Contains (places_at 320) (record { at = 320; name = x })) (young_is n y) (array_in 320));
   holds = young_holds new;
-  listed = none_listed (places_at 160) opened.world no_weak_first;
+  listed = none_listed (places_at 320) opened.world no_weak_first;
 }
   where
-    old : (p : Place) → IsPlaceAtStop array_layout (all_empty 8) p → Contains (places_at 160) p
-    old p (inl e) = subst (λ q. Contains (places_at 160) q) (sym e) (shared_in 160)
+    old : (p : Place) → IsPlaceAtStop array_layout (all_empty 18) p → Contains (places_at 320) p
+    old p (inl e) = subst (λ q. Contains (places_at 320) q) (sym e) (shared_in 320)
     old p (inr b) = absurd (nothing_lies b.number b.block p.name b.lies)
 
 pub born_is : NewStands → IsAfterRound array_plan (run_of []) (array_replies ∷ []) rows born born_seen
@@ -258,11 +258,11 @@ born_is new = record {
   tells = record { rounds_are = refl; stops_are = refl; cycles_are = refl };
   rounds = refl;
   matches = record { phase = refl; begun = refl; collect = refl; full = refl };
-  places = places_at 160;
+  places = places_at 320;
   heap = born_heap new;
-  nurseries = are_nurseries 169 (lit≤ tt) (lit≤ tt) (places_at 160) born.world born_used;
+  nurseries = are_nurseries 329 (lit≤ tt) (lit≤ tt) (places_at 320) born.world born_used;
   ordered = born_ordered;
-  left = nothing_left 160 (opened.world ∷ []) (inl (lit≤ tt));
+  left = nothing_left 320 (opened.world ∷ []) (inl (lit≤ tt));
   reserve = inl (lit≤ tt);
   cycle = new_settled;
 }
@@ -279,7 +279,7 @@ these_none : AreThese []
 these_none e d = absurd (none_in e d)
 
 abbrev mutator : MutatorEnd
-mutator = record { registers = 64 ∷ replicate 15 1; queue = []; serial = 1 }
+mutator = record { registers = 64 ∷ replicate 63 1; queue = []; serial = 1 }
 
 stop_heap : NewStands → (form : Form) (s : State) → s.world ≡ born.world → s.allocation ≡ allocation_in form → HeapStandsFor array_layout (snapshots s.progress) (places_at 32) born.world (allocation_in form) old_words (segments_of (segment_in form)) (mutator ∷ []) → HoldsAtStop array_layout s old_words (segments_of (segment_in form)) (mutator ∷ []) []
 stop_heap new form s w a h = record {
@@ -298,7 +298,7 @@ round_heap new form s t began w a h = record {
   listed = subst (λ x. ListsWeaks array_layout (places_at 32) x []) (sym began) (none_listed (places_at 32) born.world no_weak);
 }
 
-low_ordered : LieInOrder 160 (places_at 32)
+low_ordered : LieInOrder 320 (places_at 32)
 low_ordered a b in_a in_b high lower = absurd (old_low a in_a high)
 
 -- marking
@@ -309,9 +309,9 @@ one_block number block n lies = only_block stands.Sweeping 0 number block n lies
 right_snapshot : IsRightSnapshot c (held stands.Sweeping 0) (segments_of waiting_segment)
 right_snapshot number block = (sound number block, complete number block)
   where
-    past : (number block : ℕ) → InSnapshot (get_or (replicate 7 (free_segment 16)) number (free_segment 0)) block → ⊥
-    past number block i = elim (cases_lt number 7) [
-      | inl lt ↦ unused (free_segment 16) (all_same 4 0) refl block (subst (λ (s : Segment). InSnapshot s block) (get_or-replicate 7 number (free_segment 16) (free_segment 0) lt) i)
+    past : (number block : ℕ) → InSnapshot (get_or (replicate 17 (free_segment 16)) number (free_segment 0)) block → ⊥
+    past number block i = elim (cases_lt number 17) [
+      | inl lt ↦ unused (free_segment 16) (all_same 4 0) refl block (subst (λ (s : Segment). InSnapshot s block) (get_or-replicate 17 number (free_segment 16) (free_segment 0) lt) i)
       | inr ge ↦ unused (free_segment 0) (all_same 0 0) refl block (subst (λ (s : Segment). InSnapshot s block) (past_free number ge) i)
     ]
       where
@@ -334,14 +334,7 @@ noted : HasNoted c marking_seen.sweeper
 noted = record {
   epoch = refl;
   swept = numbers_one (IsSweptIn c) 0 (lit< tt, refl) only_filled;
-  had = λ n. (λ d. elim (contains_cases object_name [] n d) [ inl e ↦ subst (IsHadIn c) e had_one | inr none ↦ absurd (none_in n none) ], λ h. let C : Name → Type 0 = Contains (object_name ∷ []) in subst C (only_had n h) (contains_head object_name []));
-  once = once;
 }
-  where
-    once : (i j : ℕ) (n : Name) → slice_get (object_name ∷ []) i ≡ Some n → slice_get (object_name ∷ []) j ≡ Some n → i ≡ j
-    once zero zero n a b = refl
-    once zero (suc j) n a b = absurd cc
-    once (suc i) j n a b = absurd cc
 
 -- the block of the snapshot is marked, so no room is needed
 no_room : (marker : MarkerSeen) → marker.epoch ≡ 1 → HasRoomToMark (segments_of waiting_segment) marker
@@ -376,16 +369,16 @@ marked_names core e number block n lies =
       λ m. subst (λ k. IsMarked (nth (segments_of waiting_segment).segments k) 1 block) is.0 (subst (λ k. IsMarked waiting_segment 1 k) is.1 refl),
     )
 
-nothing_pushed : (m : ℕ) (mutator_seen : MutatorSeen) → slice_get (hand 64 1 160 ∷ []) m ≡ Some mutator_seen → AreRemembered c (places_at 32) mutator_seen.entries []
-nothing_pushed zero mutator_seen e = subst (λ (x : MutatorSeen). AreRemembered c (places_at 32) x.entries []) (some_is (hand 64 1 160) mutator_seen e) (record { names = []; at = tt; counted = refl })
+nothing_pushed : (m : ℕ) (mutator_seen : MutatorSeen) → slice_get (hand 64 1 320 ∷ []) m ≡ Some mutator_seen → AreRemembered c (places_at 32) mutator_seen.entries []
+nothing_pushed zero mutator_seen e = subst (λ (x : MutatorSeen). AreRemembered c (places_at 32) x.entries []) (some_is (hand 64 1 320) mutator_seen e) (record { names = []; at = tt; counted = refl })
 nothing_pushed (suc m) mutator_seen e = absurd cc
 
 -- no place is remembered
-none_high : (m : ℕ) (mutator_seen : MutatorSeen) → slice_get (hand 64 1 160 ∷ []) m ≡ Some mutator_seen → (at : ℕ) → Contains mutator_seen.entries at → at < nursery_place array_layout 0
-none_high zero mutator_seen e at there = let none : mutator_seen.entries ≡ [] = ap (λ (x : MutatorSeen). x.entries) (sym (some_is (hand 64 1 160) mutator_seen e)) in absurd (none_in at (subst (λ (l : List ℕ). Contains l at) none there))
+none_high : (m : ℕ) (mutator_seen : MutatorSeen) → slice_get (hand 64 1 320 ∷ []) m ≡ Some mutator_seen → (at : ℕ) → Contains mutator_seen.entries at → at < nursery_place array_layout 0
+none_high zero mutator_seen e at there = let none : mutator_seen.entries ≡ [] = ap (λ (x : MutatorSeen). x.entries) (sym (some_is (hand 64 1 320) mutator_seen e)) in absurd (none_in at (subst (λ (l : List ℕ). Contains l at) none there))
 none_high (suc m) mutator_seen e at there = absurd cc
 
-each_waits : (m : ℕ) (mutator_seen : MutatorSeen) → slice_get (hand 64 1 160 ∷ []) m ≡ Some mutator_seen → 0 ≤ mutator_seen.queue.spare
+each_waits : (m : ℕ) (mutator_seen : MutatorSeen) → slice_get (hand 64 1 320 ∷ []) m ≡ Some mutator_seen → 0 ≤ mutator_seen.queue.spare
 each_waits m mutator_seen e = omega arith
 
 pushed_none : (m : ℕ) → names_of first_core.pushed m ≡ []
@@ -478,7 +471,7 @@ scanned_is new = record {
 
 as_noted : AreAsNoted c (held stands.Sweeping 0)
 as_noted zero is = ((lit< tt, refl), refl)
-as_noted (suc number) is = let free = ap (λ x. x.state) (all_same 7 no_cells number) in absurd cc
+as_noted (suc number) is = let free = ap (λ x. x.state) (all_same 17 no_cells number) in absurd cc
 
 kept_marked : AreKeptMarked c (held stands.Sweeping 0) (segments_of waiting_segment) 1
 kept_marked number block n waiting lies =
@@ -500,6 +493,8 @@ closed_cycle = record {
   noted = noted;
   as_noted = as_noted;
   marked = kept_marked;
+  had = λ n. (λ d. absurd (none_in n d), λ h. absurd (h.3 (ap (λ k. (cells (held stands.Sweeping 0) k).state) (sym (only_filled h.0 h.2)))));
+  had_once = λ i j n a b. absurd cc;
   freed = λ n. (λ d. absurd (none_in n d), λ f. absurd (none_freed (held stands.Sweeping 0) n f));
   freed_once = λ i j n a b. absurd cc;
 }
@@ -518,7 +513,12 @@ closed_is new = record {
 
 none_waits : (number : ℕ) → IsIn stands.Sweeping (cells (held stands.Filled 0) number) → ⊥
 none_waits zero is = cc
-none_waits (suc number) is = let free = ap (λ x. x.state) (all_same 7 no_cells number) in cc
+none_waits (suc number) is = let free = ap (λ x. x.state) (all_same 17 no_cells number) in cc
+
+listed_once : (i j : ℕ) (n : Name) → slice_get (object_name ∷ []) i ≡ Some n → slice_get (object_name ∷ []) j ≡ Some n → i ≡ j
+listed_once zero zero n a b = refl
+listed_once zero (suc j) n a b = absurd cc
+listed_once (suc i) j n a b = absurd cc
 
 swept_cycle : IsSweeping c 2 (held stands.Filled 0) (segments_of swept_segment) swept_seen.cycle swept_seen.sweeper
 swept_cycle = record {
@@ -526,9 +526,11 @@ swept_cycle = record {
   closed_is = refl;
   dead = lists_none (IsDeadIn c) dead_none;
   kept = (object_name ∷ [], lists_one (IsKeptObject c) object_name (object_kept, not_g) kept_is, refl);
-  noted = noted;
+  noted = record { epoch = noted.epoch; swept = noted.swept };
   as_noted = λ number is. absurd (none_waits number is);
   marked = λ number block n waiting lies. absurd (none_waits number waiting);
+  had = λ n. (λ d. elim (contains_cases object_name [] n d) [ inl e ↦ subst (IsHadSoFar c (held stands.Filled 0)) e (had_one.0, had_one.1, had_one.2, none_waits had_one.0, had_one.3) | inr none ↦ absurd (none_in n none) ], λ h. let C : Name → Type 0 = Contains (object_name ∷ []) in subst C (only_had n (h.0, h.1, h.2, h.4)) (contains_head object_name []));
+  had_once = listed_once;
   freed = λ n. (λ d. absurd (none_in n d), λ f. absurd (none_freed (held stands.Filled 0) n f));
   freed_once = λ i j n a b. absurd cc;
 }

@@ -2,6 +2,7 @@
 use Rattle.std.proofs.Common.{ℕ, zero, suc, ◌≡◌, List, [], ◌∷◌, set, replicate, arith, refl, ap, inl, inr, Option, Some, None, Bool, true, false, lit≤, lit<}
 use Rattle.std.specs.Prelude.{IsSome, slice_get, ◌==◌, if◌then◌else◌}
 use Rattle.std.proofs.lemmas.Bool.{eqb-true, false_from_ne_true}
+use Rattle.nmgc_graph.specs.declared.value.TheConstants.{SHARED_MAKER}
 use Rattle.nmgc_graph.specs.declared.node.Node.{Node}
 use Rattle.nmgc_graph.specs.History.{Row, replayed, IsOrderOf}
 use Rattle.nmgc_graph.specs.Reach.{start as begins}
@@ -103,7 +104,7 @@ not_shared false shared old new none some = some
 only_young : (maker serial : ℕ) → IsYoung opened.world worked.world (record { maker = maker; serial = serial }) → object_name ≡ record { maker = maker; serial = serial }
 only_young zero zero y = refl
 only_young zero (suc serial) y = absurd (nothing_at serial y.1)
-only_young (suc maker) serial y = absurd (nothing_at serial (not_shared (suc maker == 8) _ _ _ y.0 y.1))
+only_young (suc maker) serial y = absurd (nothing_at serial (not_shared (suc maker == SHARED_MAKER) _ _ _ y.0 y.1))
 
 -- the run: the opening stop, and one round with its stop
 abbrev pub object_run : Run

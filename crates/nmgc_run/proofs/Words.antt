@@ -2,6 +2,7 @@
 use Rattle.std.proofs.Common.{ℕ, zero, suc, ◌≡◌, ◌+◌, ◌*◌, ◌<◌, ◌≤◌, ◌⊎◌, ◌↔◌, List, [], ◌∷◌, ◌++◌, length, map, replicate, get_or, slice_index, arith, refl, sym, ap, subst, ◌∙◌, inl, inr, Option, Some, None, lit≤, lit<}
 use Rattle.std.specs.Prelude.{IsSome, Contains, slice_get, ◌==◌}
 use Rattle.std.proofs.lemmas.List.{get_or-replicate}
+use Rattle.nmgc_graph.specs.declared.value.TheConstants.{REGISTERS, SHARED_MAKER}
 use Rattle.nmgc_graph.specs.declared.value.Name.{Name}
 use Rattle.nmgc_graph.specs.declared.value.Value.TheVariants.{Nil, Number}
 use Rattle.nmgc_graph.specs.declared.node.Node.{Node}
@@ -32,7 +33,7 @@ use Rattle.nmgc_run.specs.State.{layout_of}
 use Rattle.nmgc_heap.specs.Roots.{ListsWeaks}
 use Rattle.nmgc_run.specs.Heap.{IsPlaceAtStop, FitBlocks, HasAllRegisters, HoldsAtStop}
 use Rattle.nmgc_run.specs.Samples.{ObjectIsLawful, ObjectIsSeen, object_seen, small_plan, object_program, object_name, object_words, object_segments, object_mutator}
-use Rattle.nmgc_run.proofs.Reading.{some_is, not_known, shared_or, EachMeans, has_slots, all_mean, fills_nil}
+use Rattle.nmgc_run.proofs.Reading.{some_is, not_known, shared_or, EachMeans, has_slots, all_mean, fills_nil, means_nil}
 use Rattle.nmgc_run.proofs.Listed.{all_same, none_in}
 use Rattle.nmgc_run.proofs.Object.{worked, placed, last, object_run, object_is_run}
 
@@ -85,8 +86,8 @@ all_places p = (each_place (IsPlaceAtStop layout placed) (inl refl) (inr (record
 only_names : (maker serial : ℕ) (node : Node) → node_of worked.world (record { maker = maker; serial = serial }) ≡ Some node → (shared_name ≡ record { maker = maker; serial = serial }) ⊎ (object_name ≡ record { maker = maker; serial = serial })
 only_names zero zero node e = inr refl
 only_names zero (suc serial) node e = absurd (not_known serial node e)
-only_names (suc maker) serial node e = shared_or (suc maker == 8) (serial == 0) _ _ node _
-    (λ b d. inl (ap (λ (m : ℕ). record { maker = m; serial = 0 }) (sym (eqb-true (suc maker) 8 b)) ∙ ap (λ (s : ℕ). record { maker = suc maker; serial = s }) (sym (eqb-true serial 0 d))))
+only_names (suc maker) serial node e = shared_or (suc maker == SHARED_MAKER) (serial == 0) _ _ node _
+    (λ b d. inl (ap (λ (m : ℕ). record { maker = m; serial = 0 }) (sym (eqb-true (suc maker) SHARED_MAKER b)) ∙ ap (λ (s : ℕ). record { maker = suc maker; serial = s }) (sym (eqb-true serial 0 d))))
     (λ o. absurd (not_known serial node o)) e
 
 each_name : (P : Name → Node → Type 0) → P shared_name (Arr (replicate 16 Nil)) → P object_name (Con 7 (Number 5 ∷ [])) → (n : Name) (node : Node) → node_of worked.world n ≡ Some node → P n node
@@ -100,10 +101,10 @@ each_name P shared object n node e = elim (only_names n.maker n.serial node e) [
 ]
 
 shared_fields : HasSlots (Contains places) object_words 3 (map holds (replicate 16 Nil))
-shared_fields = has_slots (Contains places) (0 ∷ 32771 ∷ 8 ∷ []) (replicate 16 1) (replicate 13 0 ++ (2105 ∷ 0 ∷ 13 ∷ replicate 2109 0)) (map holds (replicate 16 Nil)) (fills_nil (Contains places) 16)
+shared_fields = has_slots (Contains places) (0 ∷ 32771 ∷ 32 ∷ []) (replicate 16 1) (replicate 13 0 ++ (2105 ∷ 0 ∷ 13 ∷ replicate 2109 0)) (map holds (replicate 16 Nil)) (fills_nil (Contains places) 16)
 
 object_fields : HasSlots (Contains places) object_words 34 (holds (Number 5) ∷ [])
-object_fields = has_slots (Contains places) (0 ∷ 32771 ∷ 8 ∷ (replicate 16 1 ++ (replicate 13 0 ++ (2105 ∷ 0 ∷ [])))) (13 ∷ []) (replicate 2109 0) (holds (Number 5) ∷ []) (refl, tt)
+object_fields = has_slots (Contains places) (0 ∷ 32771 ∷ 32 ∷ (replicate 16 1 ++ (replicate 13 0 ++ (2105 ∷ 0 ∷ [])))) (13 ∷ []) (replicate 2109 0) (holds (Number 5) ∷ []) (refl, tt)
 
 makers_differ : object_name ≡ shared_name → ⊥
 makers_differ e = let makers = ap (λ (n : Name). n.maker) e in omega arith
@@ -183,9 +184,9 @@ fit number block n node lies there =
     subst (λ k. size_of node ≤ block_size (cells placed k).class) is.0 size
 
 registers_mean : EachMeans (Contains places) object_mutator.registers (state_of worked.world 0).registers
-registers_mean = ((32, refl, contains_tail shared_place (object_place ∷ []) object_place (contains_head object_place [])), (refl, (refl, (refl, (refl, (refl, (refl, (refl, (refl, (refl, (refl, (refl, (refl, (refl, (refl, (refl, tt))))))))))))))))
+registers_mean = ((32, refl, contains_tail shared_place (object_place ∷ []) object_place (contains_head object_place [])), (refl, (refl, means_nil (Contains places) 61)))
 
-held : (m : ℕ) → m < 1 → AllMean (Contains places) object_mutator.registers (16 * m) (state_of worked.world m).registers
+held : (m : ℕ) → m < 1 → AllMean (Contains places) object_mutator.registers (REGISTERS * m) (state_of worked.world m).registers
 held zero lt = all_mean (Contains places) object_mutator.registers (state_of worked.world 0).registers registers_mean
 held (suc m) lt = absurd (omega (arith, lt))
 

@@ -27,11 +27,11 @@ use Rattle.nmgc_run.specs.Samples.{object_name}
 use Rattle.nmgc_run.specs.Seen.{Seen, MutatorSeen}
 use Rattle.nmgc_run.specs.Collector.{IsNew, IsAtStop, IsAfterRound}
 
--- 8 segments of 16 words, and a nursery as large as a segment; an array of seven fields fills a segment's only block
+-- 18 segments of 16 words, and a nursery as large as a segment; an array of seven fields fills a segment's only block of its class
 abbrev pub array_script : Script
 array_script = record {
   version = 1;
-  config = record { segments = 8; words = 16; nursery = 16; slice = 100; quota = 1000; trigger = 0 };
+  config = record { segments = 18; words = 16; nursery = 16; slice = 100; quota = 1000; trigger = 0 };
   threads = (Arr 0 7 (Register 1) ∷ Collect ∷ []) ∷ [];
 }
 
@@ -46,7 +46,7 @@ array_replies = Given (Ref object_name) ∷ Fine ∷ []
 
 -- the words of word 0 and of g, whose slots are nil
 abbrev pub shared_words : List ℕ
-shared_words = 0 ∷ 32771 ∷ 8 ∷ replicate 16 1
+shared_words = 0 ∷ 32771 ∷ 32 ∷ replicate 16 1
 
 -- the words of the array: its header, its name, and seven nils
 abbrev pub array_words : List ℕ
@@ -54,28 +54,28 @@ array_words = 14339 ∷ 0 ∷ replicate 7 1
 
 -- the words of the heap at the beginning, with the array in the nursery, and with the array in its block
 abbrev pub new_words : List ℕ
-new_words = shared_words ++ replicate 157 0
+new_words = shared_words ++ replicate 317 0
 
 abbrev pub young_words : List ℕ
-young_words = shared_words ++ (replicate 141 0 ++ (array_words ++ replicate 7 0))
+young_words = shared_words ++ (replicate 301 0 ++ (array_words ++ replicate 7 0))
 
 abbrev pub old_words : List ℕ
-old_words = shared_words ++ (replicate 13 0 ++ (array_words ++ replicate 135 0))
+old_words = shared_words ++ (replicate 13 0 ++ (array_words ++ replicate 295 0))
 
 -- the segment of the array as it waits to be swept, and once it was
 abbrev pub waiting_segment : Segment
-waiting_segment = record { class = 2; state = stands.Sweeping; marks = 1 ∷ replicate 3 0; next_free = 1; snap = 1 }
+waiting_segment = record { class = 5; state = stands.Sweeping; marks = 1 ∷ replicate 3 0; next_free = 1; snap = 1 }
 
 abbrev pub swept_segment : Segment
-swept_segment = record { class = 2; state = stands.Filled; marks = 1 ∷ replicate 3 0; next_free = 1; snap = 0 }
+swept_segment = record { class = 5; state = stands.Filled; marks = 1 ∷ replicate 3 0; next_free = 1; snap = 0 }
 
 -- all segments with this first one
 abbrev pub segments_of : Segment → Segments
-segments_of first = record { layout = array_layout; segments = first ∷ replicate 7 (free_segment 16); fresh = 0 }
+segments_of first = record { layout = array_layout; segments = first ∷ replicate 17 (free_segment 16); fresh = 0 }
 
 -- a mutator with this word in its first register and nil in the others, a next serial, and the end of what is used in its nursery
 abbrev pub hand : ℕ → ℕ → ℕ → MutatorSeen
-hand word serial top = record { registers = word ∷ replicate 15 1; queue = record { words = []; spare = 0 }; serial = serial; nursery = record { base = 160; top = top; end = 176 }; recorded = []; young_weaks = []; entries = [] }
+hand word serial top = record { registers = word ∷ replicate 63 1; queue = record { words = []; spare = 0 }; serial = serial; nursery = record { base = 320; top = top; end = 336 }; recorded = []; young_weaks = []; entries = [] }
 
 abbrev pub array_stop : ℕ → Phase → ℕ → ℕ → ℕ → ℕ → StopRow
 array_stop number phase free filled sweep promoted = record { number = number; phase = phase; free = free; filled = filled; sweep = sweep; promoted = promoted }
@@ -92,7 +92,7 @@ new_seen = record {
   cycles = [];
   words = new_words;
   segments = all_free array_layout;
-  mutators = hand 1 0 160 ∷ [];
+  mutators = hand 1 0 320 ∷ [];
   weaks = [];
   phase = Idle;
   begun = 0;
@@ -107,24 +107,24 @@ new_seen = record {
 
 -- after its opening stop
 abbrev pub opened_seen : Seen
-opened_seen = record new_seen { stops = array_stop 0 Idle 8 0 0 0 ∷ [] }
+opened_seen = record new_seen { stops = array_stop 0 Idle 18 0 0 0 ∷ [] }
 
 -- after the first round: the array was born
 abbrev pub born_seen : Seen
-born_seen = record opened_seen { rounds = replied array_replies ∷ []; words = young_words; mutators = hand 320 1 169 ∷ []; collect = true }
+born_seen = record opened_seen { rounds = replied array_replies ∷ []; words = young_words; mutators = hand 640 1 329 ∷ []; collect = true }
 
 -- after the first stop: the array was promoted, and a cycle began, which has marked the array and is to scan it
 abbrev pub marking_seen : Seen
 marking_seen = record born_seen {
-  stops = array_stop 0 Idle 8 0 0 0 ∷ array_stop 1 Marking 7 0 1 1 ∷ [];
+  stops = array_stop 0 Idle 18 0 0 0 ∷ array_stop 1 Marking 17 0 1 1 ∷ [];
   words = old_words;
   segments = segments_of waiting_segment;
-  mutators = hand 64 1 160 ∷ [];
+  mutators = hand 64 1 320 ∷ [];
   phase = Marking;
   begun = 1;
   collect = false;
   marker = record { epoch = 1; queue = 32 ∷ []; spare = 0; marked = 1; turns = 0 };
-  sweeper = record { epoch = 1; swept = 0 ∷ []; had = object_name ∷ []; freed = [] };
+  sweeper = record { epoch = 1; swept = 0 ∷ []; had = []; freed = [] };
   cycle = record { from = 1; closed = 0; dead = []; kept = 0 };
 }
 
@@ -139,14 +139,18 @@ scanned_seen = record marking_seen {
 -- after the second stop: the cycle was closed, and keeps the array
 abbrev pub closed_seen : Seen
 closed_seen = record scanned_seen {
-  stops = array_stop 0 Idle 8 0 0 0 ∷ array_stop 1 Marking 7 0 1 1 ∷ array_stop 2 Sweeping 7 0 1 0 ∷ [];
+  stops = array_stop 0 Idle 18 0 0 0 ∷ array_stop 1 Marking 17 0 1 1 ∷ array_stop 2 Sweeping 17 0 1 0 ∷ [];
   phase = Sweeping;
   cycle = record { from = 1; closed = 2; dead = []; kept = 1 };
 }
 
--- after the third round: the segment was swept
+-- after the third round: the segment was swept, and the array listed
 abbrev pub swept_seen : Seen
-swept_seen = record closed_seen { rounds = replied array_replies ∷ replied [] ∷ replied [] ∷ []; segments = segments_of swept_segment }
+swept_seen = record closed_seen {
+  rounds = replied array_replies ∷ replied [] ∷ replied [] ∷ [];
+  segments = segments_of swept_segment;
+  sweeper = record { epoch = 1; swept = 0 ∷ []; had = object_name ∷ []; freed = [] };
+}
 
 -- the cycle's row
 abbrev pub array_row : CycleRow
@@ -155,7 +159,7 @@ array_row = record { number = 1; from = 1; closed = 2; ended = 3; swept = 0 ∷ 
 -- after the third stop: the cycle has ended, and the run is done
 abbrev pub ended_seen : Seen
 ended_seen = record swept_seen {
-  stops = array_stop 0 Idle 8 0 0 0 ∷ array_stop 1 Marking 7 0 1 1 ∷ array_stop 2 Sweeping 7 0 1 0 ∷ array_stop 3 Idle 7 1 0 0 ∷ [];
+  stops = array_stop 0 Idle 18 0 0 0 ∷ array_stop 1 Marking 17 0 1 1 ∷ array_stop 2 Sweeping 17 0 1 0 ∷ array_stop 3 Idle 17 1 0 0 ∷ [];
   cycles = array_row ∷ [];
   phase = Idle;
   answered = Some Done;

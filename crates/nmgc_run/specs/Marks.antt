@@ -8,7 +8,7 @@ use Rattle.nmgc_alloc.specs.Search.{nth}
 use Rattle.nmgc_alloc.specs.Segments.{Segments, HasNumber}
 use Rattle.nmgc_alloc.specs.AllocState.{AllocState, LiesIn, IsIn, cells}
 use Rattle.nmgc_run.specs.Listing.{ListsNumbers, Counts}
-use Rattle.nmgc_run.specs.Census.{IsDeadIn, IsKeptIn, IsKeptObject, IsSweptIn, IsHadIn}
+use Rattle.nmgc_run.specs.Census.{IsDeadIn, IsKeptIn, IsKeptObject, IsSweptIn}
 use Rattle.nmgc_run.specs.State.{Cycle}
 use Rattle.nmgc_run.specs.Seen.{SweeperSeen, CycleSeen}
 
@@ -28,12 +28,10 @@ AreSettled begun segments = (number block : ℕ) → HasNumber segments number �
 abbrev pub IsWithoutDoubles : {A : Type 0} → List A → Type 0
 IsWithoutDoubles {A} items = (i j : ℕ) (item : A) → slice_get items i ≡ Some item → slice_get items j ≡ Some item → i ≡ j
 
--- what the sweeper noted as the cycle began: the segments to sweep, and the names in them, in any order
+-- what the sweeper noted as the cycle began: the segments to sweep
 pub record HasNoted (c : Cycle) (sweeper : SweeperSeen) : Type 0 where
   pub epoch : sweeper.epoch ≡ epoch_of c.number
   pub swept : ListsNumbers (IsSweptIn c) sweeper.swept
-  pub had : (name : Name) → Contains sweeper.had name ↔ IsHadIn c name
-  pub once : IsWithoutDoubles sweeper.had
 
 -- a waiting segment is one that the cycle had, and as it was then
 abbrev pub AreAsNoted : Cycle → AllocState → Type 0
@@ -43,11 +41,15 @@ AreAsNoted c allocation = (number : ℕ) → IsIn stands.Sweeping (cells allocat
 abbrev pub AreKeptMarked : Cycle → AllocState → Segments → ℕ → Type 0
 AreKeptMarked c allocation segments epoch = (number block : ℕ) (name : Name) → IsIn stands.Sweeping (cells allocation number) → LiesIn allocation number block name → IsMarked (nth segments.segments number) epoch block ↔ IsKeptIn c name
 
+-- a name that was listed so far: it lay in a segment that was swept since
+abbrev pub IsHadSoFar : Cycle → AllocState → Name → Type 0
+IsHadSoFar c allocation name = (number block : ℕ) × IsSweptIn c number × (IsIn stands.Sweeping (cells allocation number) → ⊥) × LiesIn c.heap number block name
+
 -- a name that was freed so far: it lay in a segment that was swept since, and isn't kept
 abbrev pub IsFreedSoFar : Cycle → AllocState → Name → Type 0
 IsFreedSoFar c allocation name = (number block : ℕ) × IsSweptIn c number × (IsIn stands.Sweeping (cells allocation number) → ⊥) × LiesIn c.heap number block name × (IsKeptIn c name → ⊥)
 
--- a cycle that was closed: what contracts see of it is its census, and the sweeper has freed what it is to
+-- a cycle that was closed: what contracts see of it is its census, and the sweeper has listed and freed what it is to, each name once and in any order
 pub record IsSweeping (c : Cycle) (closed : ℕ) (allocation : AllocState) (segments : Segments) (cycle : CycleSeen) (sweeper : SweeperSeen) : Type 0 where
   pub from_is : cycle.from ≡ c.from
   pub closed_is : cycle.closed ≡ closed
@@ -56,5 +58,7 @@ pub record IsSweeping (c : Cycle) (closed : ℕ) (allocation : AllocState) (segm
   pub noted : HasNoted c sweeper
   pub as_noted : AreAsNoted c allocation
   pub marked : AreKeptMarked c allocation segments sweeper.epoch
+  pub had : (name : Name) → Contains sweeper.had name ↔ IsHadSoFar c allocation name
+  pub had_once : IsWithoutDoubles sweeper.had
   pub freed : (name : Name) → Contains sweeper.freed name ↔ IsFreedSoFar c allocation name
   pub freed_once : IsWithoutDoubles sweeper.freed

@@ -63,7 +63,7 @@ object_replies = Fine ∷ Given (Ref object_name) ∷ Given (Number 5) ∷ Given
 
 -- the words after it: word 0; g, whose slots are nil, and the unused words up to 31; in the first block of the first segment the object's header, name and field; and nothing else
 abbrev pub object_words : List ℕ
-object_words = 0 ∷ 32771 ∷ 8 ∷ (replicate 16 1 ++ (replicate 13 0 ++ (2105 ∷ 0 ∷ 13 ∷ replicate 2109 0)))
+object_words = 0 ∷ 32771 ∷ 32 ∷ (replicate 16 1 ++ (replicate 13 0 ++ (2105 ∷ 0 ∷ 13 ∷ replicate 2109 0)))
 
 -- the segments after it
 abbrev pub object_segments : Segments
@@ -75,7 +75,7 @@ object_segments = record {
 
 -- the mutator after it: its registers hold the object, two fives and nil
 abbrev pub object_mutator : MutatorEnd
-object_mutator = record { registers = 64 ∷ 13 ∷ 13 ∷ replicate 13 1; queue = []; serial = 1 }
+object_mutator = record { registers = 64 ∷ 13 ∷ 13 ∷ replicate 61 1; queue = []; serial = 1 }
 
 -- the whole report
 abbrev pub object_report : Report
@@ -179,7 +179,7 @@ cycle_stop_text = codes "stop 2 idle free 31 filled 0 sweep 0 promoted 0\ncycle 
 pub record HaveTexts : Type 0 where
   pub whole : report_text object_report ≡ object_text
   pub stop : stop_line (quiet_stop 2 31 0) ++ cycle_text full_row ≡ cycle_stop_text
-  pub full : end_text (HeapFull 4 5) ≡ codes "end heapfull free 4 reserve 5\n"
+  pub full : end_text (HeapFull 14 15) ≡ codes "end heapfull free 14 reserve 15\n"
 
 -- how many segments must stay free in a small heap with this nursery
 abbrev pub small_reserve : ℕ → ℕ
@@ -187,7 +187,7 @@ small_reserve nursery = reserve_of (record { config = record small_heap { nurser
 
 -- the reserves are as they should be; the last is that of four threads with segments and nurseries of 4,096 words
 pub record HaveReserves : Type 0 where
-  pub one : small_reserve 64 ≡ 7
-  pub two : small_reserve 128 ≡ 9
-  pub four : small_reserve 256 ≡ 13
-  pub large : reserve_count (record { segments = 128; words = 4096; nursery = 4096; mutators = 4 }) ≡ 52
+  pub one : small_reserve 64 ≡ 17
+  pub two : small_reserve 128 ≡ 19
+  pub four : small_reserve 256 ≡ 23
+  pub large : reserve_count (record { segments = 128; words = 4096; nursery = 4096; mutators = 4 }) ≡ 92

@@ -36,7 +36,7 @@ pub record WorkSeen : Type 0 where
   pub scanned : ℕ
   pub empty : Bool
 
--- the sweeper of a cycle in progress: its epoch, the segments to sweep, whose objects were in them, and which of these it freed so far
+-- the sweeper of a cycle in progress: its epoch, the segments to sweep, whose objects were in those that it swept so far, and which of these it freed
 pub record SweeperSeen : Type 0 where
   pub epoch : ℕ
   pub swept : List ℕ

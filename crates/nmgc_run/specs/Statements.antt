@@ -4,6 +4,7 @@ use Rattle.nmgc_segment.specs.declared.state.State.TheVariants as stands
 use Rattle.nmgc_segment.specs.Segment.{Segment}
 use Rattle.nmgc_alloc.specs.Search.{is}
 use Rattle.nmgc_journal.specs.declared.report.RoundRows.{RoundRows}
+use Rattle.nmgc_script.specs.Limits.{upgraded}
 use Rattle.nmgc_script.specs.declared.script.Script.{Script}
 use Rattle.nmgc_journal.specs.declared.report.Report.{Report}
 use Rattle.nmgc_journal.specs.declared.report.StopRow.{StopRow}
@@ -37,6 +38,10 @@ FreeIsReal = (plan : Plan) (report : Report) → IsLawfulFor plan report → fre
 -- a report is lawful for a script whatever its version: the plan is the same
 abbrev pub VersionIsNothing : Type 0
 VersionIsNothing = (script : Script) (version : ℕ) (report : Report) → IsLawful script report ↔ IsLawful (record script { version = version }) report
+
+-- so a report is lawful for a script exactly where it is lawful for its upgrade
+abbrev pub UpgradeIsNothing : Type 0
+UpgradeIsNothing = (script : Script) (report : Report) → IsLawful script report ↔ IsLawful (upgraded script) report
 
 -- once a run has ended, there is a row for each cycle that was begun
 abbrev pub EachCycleHasItsRow : Type 0

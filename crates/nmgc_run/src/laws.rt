@@ -11,7 +11,7 @@ ghost use Rattle.nmgc_run.specs.Places.{BlocksAtStop, BlocksAfterRound, BlocksAr
 ghost use Rattle.nmgc_run.specs.Life.{LifeIsSeen};
 ghost use Rattle.nmgc_run.specs.Limits.{ScriptsHaveGoodPlans, StatesAreWithin, RoundsAreWithin};
 ghost use Rattle.nmgc_run.specs.Leaving.{RoundIsRemembered, RoundIsForgotten, RowsKeepHeaders};
-ghost use Rattle.nmgc_run.specs.Statements.{LeftIsTold, FreeIsReal, VersionIsNothing, EachCycleHasItsRow, RunGoesOn, TellsOneMore, LastIsOfTurn};
+ghost use Rattle.nmgc_run.specs.Statements.{LeftIsTold, FreeIsReal, VersionIsNothing, UpgradeIsNothing, EachCycleHasItsRow, RunGoesOn, TellsOneMore, LastIsOfTurn};
 
 use nmgc_alloc::laws::{self, counts};
 use nmgc_object::laws::words_differ;
@@ -90,9 +90,11 @@ pub fn counts_are_real()
     counts();
 }
 
-/// The version of a script says nothing of its reports.
+/// The version of a script says nothing of its reports: a report is lawful for a script exactly where it is lawful for
+/// its upgrade.
 pub fn version_is_nothing()
-    ensures { VersionIsNothing }
+    ensures version { VersionIsNothing }
+    ensures upgrade { UpgradeIsNothing }
 {}
 
 /// Once a run has ended, its report has a row for each cycle that was begun.

@@ -7,11 +7,12 @@ use Rattle.nmgc_graph.specs.declared.command.Operand.{Operand}
 use Rattle.nmgc_graph.specs.declared.command.Operand.TheVariants.{Shared}
 use Rattle.nmgc_graph.specs.declared.command.Command.{Command}
 use Rattle.nmgc_graph.specs.declared.command.Command.TheVariants.{Num, Nil, Mov, Con, Var, Arr, Thunk, Weak, Stack, Get, Set, Cas, Update, Force, Push, Pop, Deref, Finalise, NextFin, Show, Same, Yield, Collect, Full}
-use Rattle.nmgc_graph.specs.Command.{IsOperand, HasRegisters, HasNumbers}
+use Rattle.nmgc_graph.specs.Command.{IsOperandBelow, HasRegistersBelow, HasNumbers}
 use Rattle.nmgc_script.specs.declared.fault.Cause.{Cause}
 use Rattle.nmgc_script.specs.declared.verbs.Verb.{Verb}
 use Rattle.nmgc_script.specs.declared.verbs.Verb.TheVariants as verb
-use Rattle.nmgc_script.specs.Limits.{version_1}
+use Rattle.nmgc_script.specs.declared.version.Version.{Version}
+use Rattle.nmgc_script.specs.laws.Versions.{IsUsable}
 use Rattle.nmgc_script.specs.Spelling.{operand_word, verb_name, command_words}
 use Rattle.nmgc_script.specs.Faults.{first_of, HasArity}
 use Rattle.nmgc_script.specs.Reading.{verb_at, operands_at}
@@ -25,12 +26,12 @@ pub right_of : (P : Type 0) (c : Command) (r : Result Command Cause) → r ≡ O
 right_of P c r is tells = rw is at tells
 
 -- a command of the verb's name has a number of words that the verb is read with
-pub count_of : (v : Verb) (c : Command) → HasRegisters c → HasNumbers c → first_of (command_words c) ≡ verb_name v → HasCount v (length (command_words c))
-count_of v c registers numbers named =
-    let r = words_read c registers numbers in
+pub count_of : (ver : Version) (usable : IsUsable ver) (v : Verb) (c : Command) → HasRegistersBelow ver.registers c → HasNumbers c → first_of (command_words c) ≡ verb_name v → HasCount v (length (command_words c))
+count_of ver usable v c registers numbers named =
+    let r = words_read ver usable c registers numbers in
     let name : verb_name r.0 ≡ verb_name v = sym (ap first_of r.2) ∙ named in
     let same : r.0 ≡ v = ok_is {E = Cause} r.0 v (sym (verb_again r.0) ∙ ap verb_at name ∙ verb_again v) in
-    let count : HasCount r.0 (length (verb_name r.0 ∷ r.1)) = right_of (HasCount r.0 (length (verb_name r.0 ∷ r.1))) c (operands_at version_1 r.0 r.1) r.3 (operands_tell r.0 (verb_name r.0) r.1) in
+    let count : HasCount r.0 (length (verb_name r.0 ∷ r.1)) = right_of (HasCount r.0 (length (verb_name r.0 ∷ r.1))) c (operands_at ver r.0 r.1) r.3 (operands_tell ver usable r.0 (verb_name r.0) r.1) in
     subst (λ (n : ℕ). HasCount v n) (sym (ap length r.2)) (subst (λ (k : Verb). HasCount k (length (verb_name r.0 ∷ r.1))) same count)
 
 -- so many operands
@@ -43,40 +44,40 @@ unfolding shared
 length_shared zero = refl
 length_shared (suc n) = ap (λ k. suc k) (length_shared n)
 
-all_shared : (n : ℕ) → AllByRecursion IsOperand (shared n)
+all_shared : (ver : Version) (usable : IsUsable ver) (n : ℕ) → AllByRecursion (IsOperandBelow ver.registers) (shared n)
 unfolding shared
-all_shared zero = tt
-all_shared (suc n) = (tt, all_shared n)
+all_shared ver usable zero = tt
+all_shared ver usable (suc n) = (tt, all_shared ver usable n)
 
-con_some : (m n : ℕ) → n ≡ 3 + m → HasArity (codes "con") n
-con_some m n e = (Con 0 0 (shared m), (omega arith, All-from_recursion IsOperand (shared m) (all_shared m)), omega arith, refl, omega (arith, e, length-map (shared m) operand_word, length_shared m))
+con_some : (ver : Version) (usable : IsUsable ver) (m n : ℕ) → n ≡ 3 + m → HasArity ver (codes "con") n
+con_some ver usable m n e = (Con 0 0 (shared m), (omega (arith, usable.some_register), All-from_recursion (IsOperandBelow ver.registers) (shared m) (all_shared ver usable m)), omega arith, refl, omega (arith, e, length-map (shared m) operand_word, length_shared m))
 
-thunk_some : (m n : ℕ) → n ≡ 2 + m → n ≤ 10 → HasArity (codes "thunk") n
-thunk_some m n e most = (Thunk 0 (shared m), (omega arith, All-from_recursion IsOperand (shared m) (all_shared m)), omega (arith, e, most, length_shared m), refl, omega (arith, e, length-map (shared m) operand_word, length_shared m))
+thunk_some : (ver : Version) (usable : IsUsable ver) (m n : ℕ) → n ≡ 2 + m → n ≤ 10 → HasArity ver (codes "thunk") n
+thunk_some ver usable m n e most = (Thunk 0 (shared m), (omega (arith, usable.some_register), All-from_recursion (IsOperandBelow ver.registers) (shared m) (all_shared ver usable m)), omega (arith, e, most, length_shared m), refl, omega (arith, e, length-map (shared m) operand_word, length_shared m))
 
 -- some command of the verb's name has a number of words that the verb is read with
-pub count_some : (v : Verb) (n : ℕ) → HasCount v n → HasArity (verb_name v) n
-count_some verb.Num n h = (Num 0 0, omega arith, omega arith, refl, sym h)
-count_some verb.Nil n h = (Nil 0, omega arith, tt, refl, sym h)
-count_some verb.Mov n h = (Mov 0 Shared, (omega arith, tt), tt, refl, sym h)
-count_some verb.Con n h = con_some (n - 3) n (omega (arith, h))
-count_some verb.Var n h = (Var 0 Shared, (omega arith, tt), tt, refl, sym h)
-count_some verb.Arr n h = (Arr 0 0 Shared, (omega arith, tt), omega arith, refl, sym h)
-count_some verb.Thunk n h = thunk_some (n - 2) n (omega (arith, h.0)) h.1
-count_some verb.Weak n h = (Weak 0 Shared Shared Shared, (omega arith, tt, tt, tt), tt, refl, sym h)
-count_some verb.Stack n h = (Stack 0 0, omega arith, omega arith, refl, sym h)
-count_some verb.Get n h = (Get 0 Shared 0, (omega arith, tt), omega arith, refl, sym h)
-count_some verb.Set n h = (Set Shared 0 Shared, (tt, tt), omega arith, refl, sym h)
-count_some verb.Cas n h = (Cas Shared 0 Shared Shared, (tt, tt, tt), omega arith, refl, sym h)
-count_some verb.Update n h = (Update Shared Shared, (tt, tt), tt, refl, sym h)
-count_some verb.Force n h = (Force 0 Shared, (omega arith, tt), tt, refl, sym h)
-count_some verb.Push n h = (Push Shared Shared, (tt, tt), tt, refl, sym h)
-count_some verb.Pop n h = (Pop 0 Shared, (omega arith, tt), tt, refl, sym h)
-count_some verb.Deref n h = (Deref 0 Shared, (omega arith, tt), tt, refl, sym h)
-count_some verb.Finalise n h = (Finalise 0 Shared, (omega arith, tt), tt, refl, sym h)
-count_some verb.NextFin n h = (NextFin 0, omega arith, tt, refl, sym h)
-count_some verb.Show n h = (Show Shared, tt, tt, refl, sym h)
-count_some verb.Same n h = (Same Shared Shared, (tt, tt), tt, refl, sym h)
-count_some verb.Yield n h = (Yield, tt, tt, refl, sym h)
-count_some verb.Collect n h = (Collect, tt, tt, refl, sym h)
-count_some verb.Full n h = (Full, tt, tt, refl, sym h)
+pub count_some : (ver : Version) (usable : IsUsable ver) (v : Verb) (n : ℕ) → HasCount v n → HasArity ver (verb_name v) n
+count_some ver usable verb.Num n h = (Num 0 0, omega (arith, usable.some_register), omega arith, refl, sym h)
+count_some ver usable verb.Nil n h = (Nil 0, omega (arith, usable.some_register), tt, refl, sym h)
+count_some ver usable verb.Mov n h = (Mov 0 Shared, (omega (arith, usable.some_register), tt), tt, refl, sym h)
+count_some ver usable verb.Con n h = con_some ver usable (n - 3) n (omega (arith, h))
+count_some ver usable verb.Var n h = (Var 0 Shared, (omega (arith, usable.some_register), tt), tt, refl, sym h)
+count_some ver usable verb.Arr n h = (Arr 0 0 Shared, (omega (arith, usable.some_register), tt), omega arith, refl, sym h)
+count_some ver usable verb.Thunk n h = thunk_some ver usable (n - 2) n (omega (arith, h.0)) h.1
+count_some ver usable verb.Weak n h = (Weak 0 Shared Shared Shared, (omega (arith, usable.some_register), tt, tt, tt), tt, refl, sym h)
+count_some ver usable verb.Stack n h = (Stack 0 0, omega (arith, usable.some_register), omega arith, refl, sym h)
+count_some ver usable verb.Get n h = (Get 0 Shared 0, (omega (arith, usable.some_register), tt), omega arith, refl, sym h)
+count_some ver usable verb.Set n h = (Set Shared 0 Shared, (tt, tt), omega arith, refl, sym h)
+count_some ver usable verb.Cas n h = (Cas Shared 0 Shared Shared, (tt, tt, tt), omega arith, refl, sym h)
+count_some ver usable verb.Update n h = (Update Shared Shared, (tt, tt), tt, refl, sym h)
+count_some ver usable verb.Force n h = (Force 0 Shared, (omega (arith, usable.some_register), tt), tt, refl, sym h)
+count_some ver usable verb.Push n h = (Push Shared Shared, (tt, tt), tt, refl, sym h)
+count_some ver usable verb.Pop n h = (Pop 0 Shared, (omega (arith, usable.some_register), tt), tt, refl, sym h)
+count_some ver usable verb.Deref n h = (Deref 0 Shared, (omega (arith, usable.some_register), tt), tt, refl, sym h)
+count_some ver usable verb.Finalise n h = (Finalise 0 Shared, (omega (arith, usable.some_register), tt), tt, refl, sym h)
+count_some ver usable verb.NextFin n h = (NextFin 0, omega (arith, usable.some_register), tt, refl, sym h)
+count_some ver usable verb.Show n h = (Show Shared, tt, tt, refl, sym h)
+count_some ver usable verb.Same n h = (Same Shared Shared, (tt, tt), tt, refl, sym h)
+count_some ver usable verb.Yield n h = (Yield, tt, tt, refl, sym h)
+count_some ver usable verb.Collect n h = (Collect, tt, tt, refl, sym h)
+count_some ver usable verb.Full n h = (Full, tt, tt, refl, sym h)

@@ -5,7 +5,7 @@ use Rattle.std.proofs.lemmas.List.Elements.{All-append, All-cons, All-nil, All-r
 use Rattle.std.specs.Prelude.{All, replicate}
 use lib.Count.{ones}
 use Rattle.nmgc_limits.specs.Limits.{most_script_bytes}
-use Rattle.nmgc_graph.specs.Command.{Fits, IsOperand}
+use Rattle.nmgc_graph.specs.Command.{Fits, HasRegistersBelow, IsOperand, IsOperandBelow}
 use Rattle.nmgc_graph.specs.declared.command.Command.{Command}
 use Rattle.nmgc_graph.specs.declared.command.Command.TheVariants.{Nil, Set}
 use Rattle.nmgc_graph.specs.declared.command.Operand.TheVariants.{Register, Shared}
@@ -44,13 +44,23 @@ cell_fits = record {
 set_fits : (mutator : ℕ) → mutator < 65536 → Fits 4096 (Set Shared mutator (Register 0))
 set_fits mutator h = record { registers = (tt, lit< tt); numbers = h; size = lit≤ tt }
 
-batch_fits : (mutator : ℕ) → mutator < 65536 → All (Fits 4096) (batch mutator)
-batch_fits mutator h =
+-- what holds of its three commands holds of a batch
+batch_has : (P : Command → Type 0) (mutator : ℕ) → P (Nil 0) → P cell → P (Set Shared mutator (Register 0)) → All P (batch mutator)
+batch_has P mutator first each last =
     let end : List Command = Set Shared mutator (Register 0) ∷ [] in
-    All-cons (Fits 4096) (Nil 0) (replicate list_cells cell ++ end) nil_fits
-    (All-append (Fits 4096) (replicate list_cells cell) end
-    (All-replicate (Fits 4096) list_cells cell cell_fits)
-    (All-cons (Fits 4096) (Set Shared mutator (Register 0)) [] (set_fits mutator h) (All-nil (Fits 4096))))
+    All-cons P (Nil 0) (replicate list_cells cell ++ end) first
+    (All-append P (replicate list_cells cell) end (All-replicate P list_cells cell each)
+    (All-cons P (Set Shared mutator (Register 0)) [] last (All-nil P)))
+
+batch_fits : (mutator : ℕ) → mutator < 65536 → All (Fits 4096) (batch mutator)
+batch_fits mutator h = batch_has (Fits 4096) mutator nil_fits cell_fits (set_fits mutator h)
+
+-- its registers are below 16
+cell_names : HasRegistersBelow 16 cell
+cell_names = (lit< tt, All-cons (IsOperandBelow 16) (Register 0) (Register 1 ∷ []) (lit< tt) (All-cons (IsOperandBelow 16) (Register 1) [] (lit< tt) (All-nil (IsOperandBelow 16))))
+
+program_names : (batches mutator : ℕ) → All (HasRegistersBelow 16) (bench_program batches mutator)
+program_names batches mutator = All-repeated (HasRegistersBelow 16) batches (batch mutator) (batch_has (HasRegistersBelow 16) mutator (lit< tt) cell_names (tt, lit< tt))
 
 length-batch : (mutator : ℕ) → length (batch mutator) ≡ 1026
 length-batch mutator = omega (arith, length-append (replicate list_cells cell) (Set Shared mutator (Register 0) ∷ []), length-replicate list_cells cell, cells_are)
@@ -94,6 +104,7 @@ bench_fits batches = record {
   threads = lit≤ tt;
   total = lit≤ tt;
   commands = each_program (λ program. All (Fits 4096) program) batches (λ mutator h. program_fits batches mutator (omega (arith, h)));
+  registers = each_program (λ program. All (HasRegistersBelow 16) program) batches (λ mutator h. program_names batches mutator);
 }
 
 -- its programs are short

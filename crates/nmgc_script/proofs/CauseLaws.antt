@@ -9,7 +9,8 @@ use Rattle.nmgc_script.specs.declared.fault.Cause.{Cause}
 use Rattle.nmgc_script.specs.declared.fault.Cause.TheVariants as cause
 use Rattle.nmgc_script.specs.declared.verbs.Verb.{Verb}
 use Rattle.nmgc_script.specs.declared.verbs.Verb.TheVariants as verb
-use Rattle.nmgc_script.specs.Limits.{version_1}
+use Rattle.nmgc_script.specs.declared.version.Version.{Version}
+use Rattle.nmgc_script.specs.laws.Versions.{IsUsable}
 use Rattle.nmgc_script.specs.Reading.{◌>>=◌, number_at, register_at, operand_at, long_at, short_at, each_at, none_at, one_at, two_at, three_at, four_at, con_at, thunk_at, operands_at}
 use Rattle.nmgc_script.proofs.WordLaws.{FailsBy, fails_choose}
 
@@ -29,19 +30,19 @@ number_fails : (limit : ℕ) (word : List ℕ) → FailsBy cause.Operand (number
 unfolding number_at
 number_fails limit word = fails_choose cause.Operand _ (Ok (digits_value 10 word)) (Err cause.Operand) tt refl
 
-register_fails : (word : List ℕ) → FailsBy cause.Operand (register_at version_1 word)
+register_fails : (ver : Version) (usable : IsUsable ver) (word : List ℕ) → FailsBy cause.Operand (register_at ver word)
 unfolding register_at
-register_fails [] = refl
-register_fails (b ∷ digits) = fails_choose cause.Operand (eqb b 114) (number_at _ digits) (Err cause.Operand) (number_fails _ digits) refl
+register_fails ver usable [] = refl
+register_fails ver usable (b ∷ digits) = fails_choose cause.Operand (eqb b 114) (number_at _ digits) (Err cause.Operand) (number_fails _ digits) refl
 
-operand_fails : (word : List ℕ) → FailsBy cause.Operand (operand_at version_1 word)
+operand_fails : (ver : Version) (usable : IsUsable ver) (word : List ℕ) → FailsBy cause.Operand (operand_at ver word)
 unfolding operand_at
-operand_fails word = fails_choose cause.Operand (bytes_eq word (codes "g")) _ (register_at version_1 word >>= λ r. _) tt (fails_then cause.Operand (register_at version_1 word) _ (register_fails word) (λ a. tt))
+operand_fails ver usable word = fails_choose cause.Operand (bytes_eq word (codes "g")) _ (register_at ver word >>= λ r. _) tt (fails_then cause.Operand (register_at ver word) _ (register_fails ver usable word) (λ a. tt))
 
-each_fails : (words : List (List ℕ)) → FailsBy cause.Operand (each_at (operand_at version_1) words)
+each_fails : (ver : Version) (usable : IsUsable ver) (words : List (List ℕ)) → FailsBy cause.Operand (each_at (operand_at ver) words)
 unfolding each_at
-each_fails [] = tt
-each_fails (w ∷ ws) = fails_then cause.Operand (operand_at version_1 w) _ (operand_fails w) (λ a. fails_then cause.Operand (each_at (operand_at version_1) ws) _ (each_fails ws) (λ b. tt))
+each_fails ver usable [] = tt
+each_fails ver usable (w ∷ ws) = fails_then cause.Operand (operand_at ver w) _ (operand_fails ver usable w) (λ a. fails_then cause.Operand (each_at (operand_at ver) ws) _ (each_fails ver usable ws) (λ b. tt))
 
 -- the cause is the number of words where that is wrong, and else a word
 abbrev pub TellsArity : {A : Type 0} → Result A Cause → Type 0 → Type 0
@@ -100,25 +101,25 @@ four_tells f rf g rg h rh i ri (x ∷ y ∷ z ∷ []) = inl (refl, λ e. absurd 
 four_tells f rf g rg h rh i ri (x ∷ y ∷ z ∷ t ∷ other ∷ others) = inl (refl, λ e. absurd (omega arith))
 four_tells f rf g rg h rh i ri (x ∷ y ∷ z ∷ t ∷ []) = word_then (two_at f g (x ∷ y ∷ [])) _ _ refl (two_fail f rf g rg x y) (λ a. word_then (two_at h i (z ∷ t ∷ [])) _ _ refl (two_fail h rh i ri z t) (λ b. refl))
 
-con_tells : (words : List (List ℕ)) → TellsArity (con_at version_1 words) (3 ≤ suc (length words))
+con_tells : (ver : Version) (usable : IsUsable ver) (words : List (List ℕ)) → TellsArity (con_at ver words) (3 ≤ suc (length words))
 unfolding con_at
-con_tells [] = inl (refl, λ e. absurd (omega arith))
-con_tells (dest ∷ []) = inl (refl, λ e. absurd (omega arith))
-con_tells (dest ∷ tag ∷ fields) =
+con_tells ver usable [] = inl (refl, λ e. absurd (omega arith))
+con_tells ver usable (dest ∷ []) = inl (refl, λ e. absurd (omega arith))
+con_tells ver usable (dest ∷ tag ∷ fields) =
     let right : 3 ≤ suc (suc (suc (length fields))) = omega arith in
-    word_then (register_at version_1 dest) _ _ right (register_fails dest) (λ d. word_then (number_at 255 tag) _ _ right (number_fails 255 tag) (λ t. word_then (each_at (operand_at version_1) fields) _ _ right (each_fails fields) (λ fs. right)))
+    word_then (register_at ver dest) _ _ right (register_fails ver usable dest) (λ d. word_then (number_at 255 tag) _ _ right (number_fails 255 tag) (λ t. word_then (each_at (operand_at ver) fields) _ _ right (each_fails ver usable fields) (λ fs. right)))
 
 arity_choose : {A : Type 0} (b : Bool) (r : Result A Cause) (P : Type 0) → (b ≡ true → TellsArity r P) → (b ≡ false → P → ⊥) → TellsArity (cond b r (Err cause.Arity)) P
 arity_choose true r P h k = h refl
 arity_choose false r P h k = inl (refl, k refl)
 
-thunk_tells : (words : List (List ℕ)) → TellsArity (thunk_at version_1 words) ((2 ≤ suc (length words)) × (suc (length words) ≤ 10))
+thunk_tells : (ver : Version) (usable : IsUsable ver) (words : List (List ℕ)) → TellsArity (thunk_at ver words) ((2 ≤ suc (length words)) × (suc (length words) ≤ 10))
 unfolding thunk_at
-thunk_tells [] = inl (refl, λ e. absurd (omega (arith, e.0)))
-thunk_tells (dest ∷ free) =
+thunk_tells ver usable [] = inl (refl, λ e. absurd (omega (arith, e.0)))
+thunk_tells ver usable (dest ∷ free) =
     arity_choose (leb (length free) 8) _ _
     (λ e. let right : (2 ≤ suc (suc (length free))) × (suc (suc (length free)) ≤ 10) = (omega arith, omega (arith, leb-true (length free) 8 e)) in
-    word_then (register_at version_1 dest) _ _ right (register_fails dest) (λ d. word_then (each_at (operand_at version_1) free) _ _ right (each_fails free) (λ fs. right)))
+    word_then (register_at ver dest) _ _ right (register_fails ver usable dest) (λ d. word_then (each_at (operand_at ver) free) _ _ right (each_fails ver usable free) (λ fs. right)))
     (λ e p. let le : length free ≤ 8 = omega (arith, p.1) in absurd (let never : false ≡ true = sym e ∙ le-leb (length free) 8 le in cc))
 
 -- the verb is read with so many words, its name included
@@ -148,28 +149,28 @@ HasCount verb.Yield n = n ≡ 1
 HasCount verb.Collect n = n ≡ 1
 HasCount verb.Full n = n ≡ 1
 
-pub operands_tell : (v : Verb) (name : List ℕ) (words : List (List ℕ)) → TellsArity (operands_at version_1 v words) (HasCount v (length (name ∷ words)))
-operands_tell verb.Num name words = made_tells (two_at (register_at version_1) long_at words) (λ p. Num p.0 p.1) _ (two_tells (register_at version_1) register_fails long_at (number_fails (2 ^ 62 - 1)) words)
-operands_tell verb.Nil name words = made_tells (one_at (register_at version_1) words) (λ p. Nil p) _ (one_tells (register_at version_1) register_fails words)
-operands_tell verb.Mov name words = made_tells (two_at (register_at version_1) (operand_at version_1) words) (λ p. Mov p.0 p.1) _ (two_tells (register_at version_1) register_fails (operand_at version_1) operand_fails words)
-operands_tell verb.Con name words = made_tells (con_at version_1 words) (λ p. Con p.0 p.1 p.2) _ (con_tells words)
-operands_tell verb.Var name words = made_tells (two_at (register_at version_1) (operand_at version_1) words) (λ p. Var p.0 p.1) _ (two_tells (register_at version_1) register_fails (operand_at version_1) operand_fails words)
-operands_tell verb.Arr name words = made_tells (three_at (register_at version_1) short_at (operand_at version_1) words) (λ p. Arr p.0 p.1 p.2) _ (three_tells (register_at version_1) register_fails short_at (number_fails 65535) (operand_at version_1) operand_fails words)
-operands_tell verb.Thunk name words = made_tells (thunk_at version_1 words) (λ p. Thunk p.0 p.1) _ (thunk_tells words)
-operands_tell verb.Weak name words = made_tells (four_at (register_at version_1) (operand_at version_1) (operand_at version_1) (operand_at version_1) words) (λ p. Weak p.0 p.1 p.2 p.3) _ (four_tells (register_at version_1) register_fails (operand_at version_1) operand_fails (operand_at version_1) operand_fails (operand_at version_1) operand_fails words)
-operands_tell verb.Stack name words = made_tells (two_at (register_at version_1) short_at words) (λ p. Stack p.0 p.1) _ (two_tells (register_at version_1) register_fails short_at (number_fails 65535) words)
-operands_tell verb.Get name words = made_tells (three_at (register_at version_1) (operand_at version_1) short_at words) (λ p. Get p.0 p.1 p.2) _ (three_tells (register_at version_1) register_fails (operand_at version_1) operand_fails short_at (number_fails 65535) words)
-operands_tell verb.Set name words = made_tells (three_at (operand_at version_1) short_at (operand_at version_1) words) (λ p. Set p.0 p.1 p.2) _ (three_tells (operand_at version_1) operand_fails short_at (number_fails 65535) (operand_at version_1) operand_fails words)
-operands_tell verb.Cas name words = made_tells (four_at (operand_at version_1) short_at (operand_at version_1) (operand_at version_1) words) (λ p. Cas p.0 p.1 p.2 p.3) _ (four_tells (operand_at version_1) operand_fails short_at (number_fails 65535) (operand_at version_1) operand_fails (operand_at version_1) operand_fails words)
-operands_tell verb.Update name words = made_tells (two_at (operand_at version_1) (operand_at version_1) words) (λ p. Update p.0 p.1) _ (two_tells (operand_at version_1) operand_fails (operand_at version_1) operand_fails words)
-operands_tell verb.Force name words = made_tells (two_at (register_at version_1) (operand_at version_1) words) (λ p. Force p.0 p.1) _ (two_tells (register_at version_1) register_fails (operand_at version_1) operand_fails words)
-operands_tell verb.Push name words = made_tells (two_at (operand_at version_1) (operand_at version_1) words) (λ p. Push p.0 p.1) _ (two_tells (operand_at version_1) operand_fails (operand_at version_1) operand_fails words)
-operands_tell verb.Pop name words = made_tells (two_at (register_at version_1) (operand_at version_1) words) (λ p. Pop p.0 p.1) _ (two_tells (register_at version_1) register_fails (operand_at version_1) operand_fails words)
-operands_tell verb.Deref name words = made_tells (two_at (register_at version_1) (operand_at version_1) words) (λ p. Deref p.0 p.1) _ (two_tells (register_at version_1) register_fails (operand_at version_1) operand_fails words)
-operands_tell verb.Finalise name words = made_tells (two_at (register_at version_1) (operand_at version_1) words) (λ p. Finalise p.0 p.1) _ (two_tells (register_at version_1) register_fails (operand_at version_1) operand_fails words)
-operands_tell verb.NextFin name words = made_tells (one_at (register_at version_1) words) (λ p. NextFin p) _ (one_tells (register_at version_1) register_fails words)
-operands_tell verb.Show name words = made_tells (one_at (operand_at version_1) words) (λ p. Show p) _ (one_tells (operand_at version_1) operand_fails words)
-operands_tell verb.Same name words = made_tells (two_at (operand_at version_1) (operand_at version_1) words) (λ p. Same p.0 p.1) _ (two_tells (operand_at version_1) operand_fails (operand_at version_1) operand_fails words)
-operands_tell verb.Yield name words = none_tells Yield words
-operands_tell verb.Collect name words = none_tells Collect words
-operands_tell verb.Full name words = none_tells Full words
+pub operands_tell : (ver : Version) (usable : IsUsable ver) (v : Verb) (name : List ℕ) (words : List (List ℕ)) → TellsArity (operands_at ver v words) (HasCount v (length (name ∷ words)))
+operands_tell ver usable verb.Num name words = made_tells (two_at (register_at ver) long_at words) (λ p. Num p.0 p.1) _ (two_tells (register_at ver) (register_fails ver usable) long_at (number_fails (2 ^ 62 - 1)) words)
+operands_tell ver usable verb.Nil name words = made_tells (one_at (register_at ver) words) (λ p. Nil p) _ (one_tells (register_at ver) (register_fails ver usable) words)
+operands_tell ver usable verb.Mov name words = made_tells (two_at (register_at ver) (operand_at ver) words) (λ p. Mov p.0 p.1) _ (two_tells (register_at ver) (register_fails ver usable) (operand_at ver) (operand_fails ver usable) words)
+operands_tell ver usable verb.Con name words = made_tells (con_at ver words) (λ p. Con p.0 p.1 p.2) _ (con_tells ver usable words)
+operands_tell ver usable verb.Var name words = made_tells (two_at (register_at ver) (operand_at ver) words) (λ p. Var p.0 p.1) _ (two_tells (register_at ver) (register_fails ver usable) (operand_at ver) (operand_fails ver usable) words)
+operands_tell ver usable verb.Arr name words = made_tells (three_at (register_at ver) short_at (operand_at ver) words) (λ p. Arr p.0 p.1 p.2) _ (three_tells (register_at ver) (register_fails ver usable) short_at (number_fails 65535) (operand_at ver) (operand_fails ver usable) words)
+operands_tell ver usable verb.Thunk name words = made_tells (thunk_at ver words) (λ p. Thunk p.0 p.1) _ (thunk_tells ver usable words)
+operands_tell ver usable verb.Weak name words = made_tells (four_at (register_at ver) (operand_at ver) (operand_at ver) (operand_at ver) words) (λ p. Weak p.0 p.1 p.2 p.3) _ (four_tells (register_at ver) (register_fails ver usable) (operand_at ver) (operand_fails ver usable) (operand_at ver) (operand_fails ver usable) (operand_at ver) (operand_fails ver usable) words)
+operands_tell ver usable verb.Stack name words = made_tells (two_at (register_at ver) short_at words) (λ p. Stack p.0 p.1) _ (two_tells (register_at ver) (register_fails ver usable) short_at (number_fails 65535) words)
+operands_tell ver usable verb.Get name words = made_tells (three_at (register_at ver) (operand_at ver) short_at words) (λ p. Get p.0 p.1 p.2) _ (three_tells (register_at ver) (register_fails ver usable) (operand_at ver) (operand_fails ver usable) short_at (number_fails 65535) words)
+operands_tell ver usable verb.Set name words = made_tells (three_at (operand_at ver) short_at (operand_at ver) words) (λ p. Set p.0 p.1 p.2) _ (three_tells (operand_at ver) (operand_fails ver usable) short_at (number_fails 65535) (operand_at ver) (operand_fails ver usable) words)
+operands_tell ver usable verb.Cas name words = made_tells (four_at (operand_at ver) short_at (operand_at ver) (operand_at ver) words) (λ p. Cas p.0 p.1 p.2 p.3) _ (four_tells (operand_at ver) (operand_fails ver usable) short_at (number_fails 65535) (operand_at ver) (operand_fails ver usable) (operand_at ver) (operand_fails ver usable) words)
+operands_tell ver usable verb.Update name words = made_tells (two_at (operand_at ver) (operand_at ver) words) (λ p. Update p.0 p.1) _ (two_tells (operand_at ver) (operand_fails ver usable) (operand_at ver) (operand_fails ver usable) words)
+operands_tell ver usable verb.Force name words = made_tells (two_at (register_at ver) (operand_at ver) words) (λ p. Force p.0 p.1) _ (two_tells (register_at ver) (register_fails ver usable) (operand_at ver) (operand_fails ver usable) words)
+operands_tell ver usable verb.Push name words = made_tells (two_at (operand_at ver) (operand_at ver) words) (λ p. Push p.0 p.1) _ (two_tells (operand_at ver) (operand_fails ver usable) (operand_at ver) (operand_fails ver usable) words)
+operands_tell ver usable verb.Pop name words = made_tells (two_at (register_at ver) (operand_at ver) words) (λ p. Pop p.0 p.1) _ (two_tells (register_at ver) (register_fails ver usable) (operand_at ver) (operand_fails ver usable) words)
+operands_tell ver usable verb.Deref name words = made_tells (two_at (register_at ver) (operand_at ver) words) (λ p. Deref p.0 p.1) _ (two_tells (register_at ver) (register_fails ver usable) (operand_at ver) (operand_fails ver usable) words)
+operands_tell ver usable verb.Finalise name words = made_tells (two_at (register_at ver) (operand_at ver) words) (λ p. Finalise p.0 p.1) _ (two_tells (register_at ver) (register_fails ver usable) (operand_at ver) (operand_fails ver usable) words)
+operands_tell ver usable verb.NextFin name words = made_tells (one_at (register_at ver) words) (λ p. NextFin p) _ (one_tells (register_at ver) (register_fails ver usable) words)
+operands_tell ver usable verb.Show name words = made_tells (one_at (operand_at ver) words) (λ p. Show p) _ (one_tells (operand_at ver) (operand_fails ver usable) words)
+operands_tell ver usable verb.Same name words = made_tells (two_at (operand_at ver) (operand_at ver) words) (λ p. Same p.0 p.1) _ (two_tells (operand_at ver) (operand_fails ver usable) (operand_at ver) (operand_fails ver usable) words)
+operands_tell ver usable verb.Yield name words = none_tells Yield words
+operands_tell ver usable verb.Collect name words = none_tells Collect words
+operands_tell ver usable verb.Full name words = none_tells Full words

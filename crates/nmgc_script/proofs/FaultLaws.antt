@@ -5,7 +5,7 @@ use Rattle.std.proofs.lemmas.Bool.{leb-false, eq-eqb, eqb-true}
 use Rattle.std.proofs.lemmas.Slice.Eq.{bytes_eq-Decides}
 use Rattle.nmgc_limits.specs.Limits.{most_heap_words}
 use Rattle.nmgc_graph.specs.declared.command.Command.{Command}
-use Rattle.nmgc_graph.specs.Command.{HasRegisters, HasNumbers, words_made}
+use Rattle.nmgc_graph.specs.Command.{HasRegistersBelow, HasNumbers, words_made}
 use Rattle.nmgc_script.specs.declared.fault.Cause.{Cause}
 use Rattle.nmgc_script.specs.declared.fault.Cause.TheVariants as cause
 use Rattle.nmgc_script.specs.declared.fault.ScriptFault.{ScriptFault}
@@ -16,8 +16,9 @@ use Rattle.nmgc_script.specs.declared.version.Version.{Version}
 use Rattle.nmgc_script.specs.declared.sections.Entry.{Entry}
 use Rattle.nmgc_script.specs.declared.sections.Entry.TheVariants as entry
 use Rattle.nmgc_script.specs.declared.verbs.Verb.{Verb}
-use Rattle.nmgc_script.specs.Limits.{total_words, version_1}
-use Rattle.nmgc_script.specs.Spelling.{spaced, verb_name, command_words, heap_words, section_words}
+use Rattle.nmgc_script.specs.laws.Versions.{IsUsable, usable_version, registers_wider}
+use Rattle.nmgc_script.specs.Limits.{IsVersion, total_words, version_1, version_2}
+use Rattle.nmgc_script.specs.Spelling.{spaced, verb_name, command_words, heap_words, section_words, version_words}
 use Rattle.nmgc_script.specs.Text.{words_of, kept_lines, end_of}
 use Rattle.nmgc_script.specs.Faults.{first_of, HasArity, HasToBegin, HasFault, order_of, IsFirstFault, IsFaultless, begun_with, TellsRest, TellsHeap, Tells, IsToldOf}
 use Rattle.nmgc_script.specs.Reading.{◌>>=◌, or_cause, verb_at, operands_at, sized, command_at, thread_at, section_at, is_section, entry_at, begun_after, with_entry, rest_at, programs_at, threads_at, version_at, heap_words_at, numbers_at, heap_at, script_at, at_line, GivesAt}
@@ -26,7 +27,7 @@ use Rattle.nmgc_script.proofs.VerbLaws.{verb_takes, verb_again, verb_fails, verb
 use Rattle.nmgc_script.proofs.CommandLaws.{Spell, operands_spell, sized_takes, command_again}
 use Rattle.nmgc_script.proofs.CauseLaws.{result_cases, fails_is, HasCount, TellsArity, operands_tell}
 use Rattle.nmgc_script.proofs.ArityLaws.{right_of, count_of, count_some}
-use Rattle.nmgc_script.proofs.LineLaws.{spaced-words_of, words_of-line, heap_line_words}
+use Rattle.nmgc_script.proofs.LineLaws.{spaced-words_of, words_of-line, heap_line_words, first_line, second_line}
 use Rattle.nmgc_script.proofs.ConfigLaws.{heap_takes, heap_again}
 use Rattle.nmgc_script.proofs.SectionLaws.{at_line_ok, thread_reads, Begins, section_takes}
 
@@ -52,12 +53,12 @@ or_cause_fails : {A : Type 0} (c : Cause) (r : Result A Cause) → FailsBy c (or
 or_cause_fails c (Ok a) = tt
 or_cause_fails c (Err e) = refl
 
-thread_fails : (words : List (List ℕ)) → FailsBy cause.Thread (thread_at version_1 words)
+thread_fails : (ver : Version) (usable : IsUsable ver) (words : List (List ℕ)) → FailsBy cause.Thread (thread_at ver words)
 unfolding thread_at
-thread_fails [] = refl
-thread_fails (name ∷ []) = refl
-thread_fails (name ∷ number ∷ other ∷ others) = refl
-thread_fails (name ∷ number ∷ []) = fails_choose cause.Thread (bytes_eq name (codes "thread")) (or_cause cause.Thread _) (Err cause.Thread) (or_cause_fails cause.Thread _) refl
+thread_fails ver usable [] = refl
+thread_fails ver usable (name ∷ []) = refl
+thread_fails ver usable (name ∷ number ∷ other ∷ others) = refl
+thread_fails ver usable (name ∷ number ∷ []) = fails_choose cause.Thread (bytes_eq name (codes "thread")) (or_cause cause.Thread _) (Err cause.Thread) (or_cause_fails cause.Thread _) refl
 
 heap_fails : (words : List (List ℕ)) → FailsBy cause.Heap (heap_words_at words)
 unfolding heap_words_at
@@ -67,15 +68,15 @@ heap_fails (name ∷ words) = fails_choose cause.Heap (bytes_eq name (codes "hea
 -- THE LINE OF A COMMAND
 
 -- words are read as the verb and the words after its name
-read_as : (size : ℕ) (name : List ℕ) (words : List (List ℕ)) (v : Verb) → verb_at name ≡ Ok v → command_at version_1 size (name ∷ words) ≡ (operands_at version_1 v words >>= λ c. sized size c)
+read_as : (ver : Version) (usable : IsUsable ver) (size : ℕ) (name : List ℕ) (words : List (List ℕ)) (v : Verb) → verb_at name ≡ Ok v → command_at ver size (name ∷ words) ≡ (operands_at ver v words >>= λ c. sized size c)
 unfolding command_at
-read_as size name words v is = rw is refl
+read_as ver usable size name words v is = rw is refl
 
 -- words that spell a command within the limits of registers and numbers are read as it, before its size is looked at
-read_operands : (name : List ℕ) (words : List (List ℕ)) (v : Verb) (c : Command) → verb_at name ≡ Ok v → HasRegisters c → HasNumbers c → name ∷ words ≡ command_words c → operands_at version_1 v words ≡ Ok c
-read_operands name words v c is registers numbers same =
-    let whole : command_at version_1 (words_made c) (name ∷ words) ≡ Ok c = ap (command_at version_1 (words_made c)) same ∙ command_again (words_made c) c (record { registers = registers; numbers = numbers; size = omega arith }) in
-    let b = bind_ok (operands_at version_1 v words) (λ k. sized (words_made c) k) c (sym (read_as (words_made c) name words v is) ∙ whole) in
+read_operands : (ver : Version) (usable : IsUsable ver) (name : List ℕ) (words : List (List ℕ)) (v : Verb) (c : Command) → verb_at name ≡ Ok v → HasRegistersBelow ver.registers c → HasNumbers c → name ∷ words ≡ command_words c → operands_at ver v words ≡ Ok c
+read_operands ver usable name words v c is registers numbers same =
+    let whole : command_at ver (words_made c) (name ∷ words) ≡ Ok c = ap (command_at ver (words_made c)) same ∙ command_again ver usable (words_made c) c (record { registers = registers_wider ver.registers usable.registers c registers; numbers = numbers; size = omega arith }, registers) in
+    let b = bind_ok (operands_at ver v words) (λ k. sized (words_made c) k) c (sym (read_as ver usable (words_made c) name words v is) ∙ whole) in
     let s = sized_takes (words_made c) b.0 c b.2 in
     b.1 ∙ ap Ok s.0
 
@@ -86,12 +87,12 @@ sized_fails size c e is = elim (chosen (leb (words_made c) size) (Ok c) (Err cau
   | inr p ↦ (sym (err_is {A = Command} cause.Size e p.1), leb-false (words_made c) size p.0)
 ]
 
-module _ (h : Config) (n : ℕ) where
+module _ (ver : Version) (usable : IsUsable ver) (h : Config) (n : ℕ) where
   -- a name that no verb has
-  command_fault : (words : List (List ℕ)) → (HasToBegin n words → ⊥) → ((v : Verb) → first_of words ≢ verb_name v) → IsFirstFault h n words cause.Command
+  command_fault : (words : List (List ℕ)) → (HasToBegin n words → ⊥) → ((v : Verb) → first_of words ≢ verb_name v) → IsFirstFault ver h n words cause.Command
   command_fault words apart no_verb = record { here = (apart, no_verb); none_before = before }
     where
-      before : (e : Cause) → order_of e < 4 → HasFault h n words e → ⊥
+      before : (e : Cause) → order_of e < 4 → HasFault ver h n words e → ⊥
       before cause.Version lt f = f
       before cause.Heap lt f = f
       before cause.Thread lt f = apart f.0
@@ -101,10 +102,10 @@ module _ (h : Config) (n : ℕ) where
       before cause.Operand lt f = absurd (omega arith)
       before cause.Size lt f = absurd (omega arith)
 
-  arity_fault : (name : List ℕ) (words : List (List ℕ)) (v : Verb) → (HasToBegin n (name ∷ words) → ⊥) → name ≡ verb_name v → (HasCount v (length (name ∷ words)) → ⊥) → IsFirstFault h n (name ∷ words) cause.Arity
-  arity_fault name words v apart is wrong = record { here = (apart, (v, is), λ some. wrong (subst (λ (k : ℕ). HasCount v k) some.4 (count_of v some.0 some.1 some.2 (some.3 ∙ is)))); none_before = before }
+  arity_fault : (name : List ℕ) (words : List (List ℕ)) (v : Verb) → (HasToBegin n (name ∷ words) → ⊥) → name ≡ verb_name v → (HasCount v (length (name ∷ words)) → ⊥) → IsFirstFault ver h n (name ∷ words) cause.Arity
+  arity_fault name words v apart is wrong = record { here = (apart, (v, is), λ some. wrong (subst (λ (k : ℕ). HasCount v k) some.4 (count_of ver usable v some.0 some.1 some.2 (some.3 ∙ is)))); none_before = before }
     where
-      before : (e : Cause) → order_of e < 5 → HasFault h n (name ∷ words) e → ⊥
+      before : (e : Cause) → order_of e < 5 → HasFault ver h n (name ∷ words) e → ⊥
       before cause.Version lt f = f
       before cause.Heap lt f = f
       before cause.Thread lt f = apart f.0
@@ -115,13 +116,13 @@ module _ (h : Config) (n : ℕ) where
       before cause.Size lt f = absurd (omega arith)
 
   -- the number of words is that of a command with the name
-  right_arity : (name : List ℕ) (words : List (List ℕ)) (v : Verb) → verb_at name ≡ Ok v → HasCount v (length (name ∷ words)) → HasArity name (length (name ∷ words))
-  right_arity name words v is right = subst (λ (k : List ℕ). HasArity k (length (name ∷ words))) (sym (verb_takes name v is)) (count_some v (length (name ∷ words)) right)
+  right_arity : (name : List ℕ) (words : List (List ℕ)) (v : Verb) → verb_at name ≡ Ok v → HasCount v (length (name ∷ words)) → HasArity ver name (length (name ∷ words))
+  right_arity name words v is right = subst (λ (k : List ℕ). HasArity ver k (length (name ∷ words))) (sym (verb_takes name v is)) (count_some ver usable v (length (name ∷ words)) right)
 
-  operand_fault : (name : List ℕ) (words : List (List ℕ)) (v : Verb) → (HasToBegin n (name ∷ words) → ⊥) → verb_at name ≡ Ok v → HasCount v (length (name ∷ words)) → operands_at version_1 v words ≡ Err cause.Operand → IsFirstFault h n (name ∷ words) cause.Operand
-  operand_fault name words v apart is right bad = record { here = (apart, λ c registers numbers same. two_results (operands_at version_1 v words) c cause.Operand (read_operands name words v c is registers numbers same) bad); none_before = before }
+  operand_fault : (name : List ℕ) (words : List (List ℕ)) (v : Verb) → (HasToBegin n (name ∷ words) → ⊥) → verb_at name ≡ Ok v → HasCount v (length (name ∷ words)) → operands_at ver v words ≡ Err cause.Operand → IsFirstFault ver h n (name ∷ words) cause.Operand
+  operand_fault name words v apart is right bad = record { here = (apart, λ c registers numbers same. two_results (operands_at ver v words) c cause.Operand (read_operands ver usable name words v c is registers numbers same) bad); none_before = before }
     where
-      before : (e : Cause) → order_of e < 6 → HasFault h n (name ∷ words) e → ⊥
+      before : (e : Cause) → order_of e < 6 → HasFault ver h n (name ∷ words) e → ⊥
       before cause.Version lt f = f
       before cause.Heap lt f = f
       before cause.Thread lt f = apart f.0
@@ -131,10 +132,10 @@ module _ (h : Config) (n : ℕ) where
       before cause.Operand lt f = absurd (omega arith)
       before cause.Size lt f = absurd (omega arith)
 
-  size_fault : (name : List ℕ) (words : List (List ℕ)) (v : Verb) (c : Command) → (HasToBegin n (name ∷ words) → ⊥) → verb_at name ≡ Ok v → HasCount v (length (name ∷ words)) → HasRegisters c → HasNumbers c → name ∷ words ≡ command_words c → h.words < words_made c → IsFirstFault h n (name ∷ words) cause.Size
+  size_fault : (name : List ℕ) (words : List (List ℕ)) (v : Verb) (c : Command) → (HasToBegin n (name ∷ words) → ⊥) → verb_at name ≡ Ok v → HasCount v (length (name ∷ words)) → HasRegistersBelow ver.registers c → HasNumbers c → name ∷ words ≡ command_words c → h.words < words_made c → IsFirstFault ver h n (name ∷ words) cause.Size
   size_fault name words v c apart is right registers numbers same large = record { here = (apart, (c, registers, numbers, same, large)); none_before = before }
     where
-      before : (e : Cause) → order_of e < 7 → HasFault h n (name ∷ words) e → ⊥
+      before : (e : Cause) → order_of e < 7 → HasFault ver h n (name ∷ words) e → ⊥
       before cause.Version lt f = f
       before cause.Heap lt f = f
       before cause.Thread lt f = apart f.0
@@ -144,67 +145,67 @@ module _ (h : Config) (n : ℕ) where
       before cause.Operand lt f = f.1 c registers numbers same
       before cause.Size lt f = absurd (omega arith)
 
-  arity_or_operand : (name : List ℕ) (words : List (List ℕ)) (v : Verb) (e : Cause) (r : Result Command Cause) → r ≡ operands_at version_1 v words → (HasToBegin n (name ∷ words) → ⊥) → verb_at name ≡ Ok v → TellsArity r (HasCount v (length (name ∷ words))) → r ≡ Err e → IsFirstFault h n (name ∷ words) e
+  arity_or_operand : (name : List ℕ) (words : List (List ℕ)) (v : Verb) (e : Cause) (r : Result Command Cause) → r ≡ operands_at ver v words → (HasToBegin n (name ∷ words) → ⊥) → verb_at name ≡ Ok v → TellsArity r (HasCount v (length (name ∷ words))) → r ≡ Err e → IsFirstFault ver h n (name ∷ words) e
   arity_or_operand name words v e (Ok c) same apart is tells bad = absurd cc
   arity_or_operand name words v e (Err d) same apart is tells bad = elim tells [
-    | inl p ↦ subst (IsFirstFault h n (name ∷ words)) (sym p.0 ∙ err_is {A = Command} d e bad) (arity_fault name words v apart (verb_takes name v is) p.1)
-    | inr p ↦ subst (IsFirstFault h n (name ∷ words)) (sym p.0 ∙ err_is {A = Command} d e bad) (operand_fault name words v apart is p.1 (sym same ∙ ap Err p.0))
+    | inl p ↦ subst (IsFirstFault ver h n (name ∷ words)) (sym p.0 ∙ err_is {A = Command} d e bad) (arity_fault name words v apart (verb_takes name v is) p.1)
+    | inr p ↦ subst (IsFirstFault ver h n (name ∷ words)) (sym p.0 ∙ err_is {A = Command} d e bad) (operand_fault name words v apart is p.1 (sym same ∙ ap Err p.0))
   ]
 
-  pub command_told : (words : List (List ℕ)) (e : Cause) → (HasToBegin n words → ⊥) → command_at version_1 h.words words ≡ Err e → IsFirstFault h n words e
+  pub command_told : (words : List (List ℕ)) (e : Cause) → (HasToBegin n words → ⊥) → command_at ver h.words words ≡ Err e → IsFirstFault ver h n words e
   unfolding command_at
   command_told [] e apart bad =
-      subst (IsFirstFault h n []) (err_is {A = Command} cause.Command e bad) (command_fault [] apart (λ v is. two_results (verb_at []) v cause.Command (ap verb_at is ∙ verb_again v) verb_of_nothing))
+      subst (IsFirstFault ver h n []) (err_is {A = Command} cause.Command e bad) (command_fault [] apart (λ v is. two_results (verb_at []) v cause.Command (ap verb_at is ∙ verb_again v) verb_of_nothing))
   command_told (name ∷ words) e apart bad =
       elim (result_cases (verb_at name)) [
         | inr p ↦
             let is_command : p.0 ≡ cause.Command = fails_is cause.Command p.0 (verb_at name) (verb_fails name) p.1 in
-            let stops : command_at version_1 h.words (name ∷ words) ≡ Err p.0 = stops_at (verb_at name) _ p.0 p.1 in
+            let stops : command_at ver h.words (name ∷ words) ≡ Err p.0 = stops_at (verb_at name) _ p.0 p.1 in
             let same : p.0 ≡ e = err_is {A = Command} p.0 e (sym stops ∙ bad) in
-            subst (IsFirstFault h n (name ∷ words)) (sym is_command ∙ same) (command_fault (name ∷ words) apart (λ v is. two_results (verb_at name) v p.0 (ap verb_at is ∙ verb_again v) p.1))
+            subst (IsFirstFault ver h n (name ∷ words)) (sym is_command ∙ same) (command_fault (name ∷ words) apart (λ v is. two_results (verb_at name) v p.0 (ap verb_at is ∙ verb_again v) p.1))
         | inl v ↦
-            let goes : command_at version_1 h.words (name ∷ words) ≡ (operands_at version_1 v.0 words >>= λ c. sized h.words c) = read_as h.words name words v.0 v.1 in
-            let tells = operands_tell v.0 name words in
-            elim (result_cases (operands_at version_1 v.0 words)) [
+            let goes : command_at ver h.words (name ∷ words) ≡ (operands_at ver v.0 words >>= λ c. sized h.words c) = read_as ver usable h.words name words v.0 v.1 in
+            let tells = operands_tell ver usable v.0 name words in
+            elim (result_cases (operands_at ver v.0 words)) [
               | inr p ↦
-                  let same : p.0 ≡ e = err_is {A = Command} p.0 e (sym (stops_at (operands_at version_1 v.0 words) (λ c. sized h.words c) p.0 p.1) ∙ sym goes ∙ bad) in
-                  subst (IsFirstFault h n (name ∷ words)) same (arity_or_operand name words v.0 p.0 (operands_at version_1 v.0 words) refl apart v.1 tells p.1)
+                  let same : p.0 ≡ e = err_is {A = Command} p.0 e (sym (stops_at (operands_at ver v.0 words) (λ c. sized h.words c) p.0 p.1) ∙ sym goes ∙ bad) in
+                  subst (IsFirstFault ver h n (name ∷ words)) same (arity_or_operand name words v.0 p.0 (operands_at ver v.0 words) refl apart v.1 tells p.1)
               | inl c ↦
-                  let size = sized_fails h.words c.0 e (sym (goes_to (operands_at version_1 v.0 words) (λ k. sized h.words k) c.0 c.1) ∙ sym goes ∙ bad) in
-                  let spelled = operands_spell v.0 words c.0 c.1 in
+                  let size = sized_fails h.words c.0 e (sym (goes_to (operands_at ver v.0 words) (λ k. sized h.words k) c.0 c.1) ∙ sym goes ∙ bad) in
+                  let spelled = operands_spell ver usable v.0 words c.0 c.1 in
                   let same : name ∷ words ≡ command_words c.0 = ap (λ (w : List ℕ). w ∷ words) (verb_takes name v.0 v.1) ∙ spelled.0 in
-                  subst (IsFirstFault h n (name ∷ words)) (sym size.0) (size_fault name words v.0 c.0 apart v.1 (right_of (HasCount v.0 (length (name ∷ words))) c.0 (operands_at version_1 v.0 words) c.1 tells) spelled.1 spelled.2 same size.1)
+                  subst (IsFirstFault ver h n (name ∷ words)) (sym size.0) (size_fault name words v.0 c.0 apart v.1 (right_of (HasCount v.0 (length (name ∷ words))) c.0 (operands_at ver v.0 words) c.1 tells) spelled.1 spelled.2 same size.1)
             ]
       ]
 
   -- a command that is read has no fault
-  pub command_faultless : (words : List (List ℕ)) (c : Command) → (HasToBegin n words → ⊥) → command_at version_1 h.words words ≡ Ok c → IsFaultless h n words
+  pub command_faultless : (words : List (List ℕ)) (c : Command) → (HasToBegin n words → ⊥) → command_at ver h.words words ≡ Ok c → IsFaultless ver h n words
   unfolding command_at
   command_faultless [] c apart good = absurd cc
   command_faultless (name ∷ words) c apart good = faultless
     where
-      v : (k : Verb) × (verb_at name ≡ Ok k) × ((operands_at version_1 k words >>= λ d. sized h.words d) ≡ Ok c)
+      v : (k : Verb) × (verb_at name ≡ Ok k) × ((operands_at ver k words >>= λ d. sized h.words d) ≡ Ok c)
       v = bind_ok (verb_at name) _ c good
 
-      o : (d : Command) × (operands_at version_1 v.0 words ≡ Ok d) × (sized h.words d ≡ Ok c)
-      o = bind_ok (operands_at version_1 v.0 words) (λ d. sized h.words d) c v.2
+      o : (d : Command) × (operands_at ver v.0 words ≡ Ok d) × (sized h.words d ≡ Ok c)
+      o = bind_ok (operands_at ver v.0 words) (λ d. sized h.words d) c v.2
 
       s : (o.0 ≡ c) × (words_made c ≤ h.words)
       s = sized_takes h.words o.0 c o.2
 
-      read : operands_at version_1 v.0 words ≡ Ok c
+      read : operands_at ver v.0 words ≡ Ok c
       read = o.1 ∙ ap Ok s.0
 
-      spelled : Spell (verb_name v.0) words c
-      spelled = operands_spell v.0 words c read
+      spelled : Spell ver (verb_name v.0) words c
+      spelled = operands_spell ver usable v.0 words c read
 
       named : name ≡ verb_name v.0
       named = verb_takes name v.0 v.1
 
       right : HasCount v.0 (length (name ∷ words))
-      right = right_of (HasCount v.0 (length (name ∷ words))) c (operands_at version_1 v.0 words) read (operands_tell v.0 name words)
+      right = right_of (HasCount v.0 (length (name ∷ words))) c (operands_at ver v.0 words) read (operands_tell ver usable v.0 name words)
 
-      faultless : (e : Cause) → HasFault h n (name ∷ words) e → ⊥
+      faultless : (e : Cause) → HasFault ver h n (name ∷ words) e → ⊥
       faultless cause.Version f = f
       faultless cause.Heap f = f
       faultless cause.Thread f = apart f.0
@@ -213,17 +214,17 @@ module _ (h : Config) (n : ℕ) where
       faultless cause.Arity f = f.2 (right_arity name words v.0 v.1 right)
       faultless cause.Operand f = f.1 c spelled.1 spelled.2 (ap (λ (w : List ℕ). w ∷ words) named ∙ spelled.0)
       faultless cause.Size f =
-          let other : operands_at version_1 v.0 words ≡ Ok f.1.0 = read_operands name words v.0 f.1.0 v.1 f.1.1 f.1.2 f.1.3 in
+          let other : operands_at ver v.0 words ≡ Ok f.1.0 = read_operands ver usable name words v.0 f.1.0 v.1 f.1.1 f.1.2 f.1.3 in
           let same : c ≡ f.1.0 = ok_is {E = Cause} c f.1.0 (sym read ∙ other) in
           let large : h.words < words_made c = subst (λ (k : Command). h.words < words_made k) (sym same) f.1.4 in
           absurd (omega (arith, s.1, large))
 
   -- A LINE THAT HAS TO BEGIN A SECTION
 
-  thread_fault : (words : List (List ℕ)) → HasToBegin n words → (n < version_1.threads → words ≢ section_words n) → IsFirstFault h n words cause.Thread
+  thread_fault : (words : List (List ℕ)) → HasToBegin n words → (n < ver.threads → words ≢ section_words n) → IsFirstFault ver h n words cause.Thread
   thread_fault words begins wrong = record { here = (begins, wrong); none_before = before }
     where
-      before : (e : Cause) → order_of e < 2 → HasFault h n words e → ⊥
+      before : (e : Cause) → order_of e < 2 → HasFault ver h n words e → ⊥
       before cause.Version lt f = f
       before cause.Heap lt f = f
       before cause.Thread lt f = absurd (omega arith)
@@ -233,10 +234,10 @@ module _ (h : Config) (n : ℕ) where
       before cause.Operand lt f = absurd (omega arith)
       before cause.Size lt f = absurd (omega arith)
 
-  total_fault : (words : List (List ℕ)) → HasToBegin n words → n < version_1.threads → words ≡ section_words n → most_heap_words < total_words h (n + 1) → IsFirstFault h n words cause.Total
+  total_fault : (words : List (List ℕ)) → HasToBegin n words → n < ver.threads → words ≡ section_words n → most_heap_words < total_words h (n + 1) → IsFirstFault ver h n words cause.Total
   total_fault words begins few same large = record { here = (begins, large); none_before = before }
     where
-      before : (e : Cause) → order_of e < 3 → HasFault h n words e → ⊥
+      before : (e : Cause) → order_of e < 3 → HasFault ver h n words e → ⊥
       before cause.Version lt f = f
       before cause.Heap lt f = f
       before cause.Thread lt f = f.1 few same
@@ -246,7 +247,7 @@ module _ (h : Config) (n : ℕ) where
       before cause.Operand lt f = absurd (omega arith)
       before cause.Size lt f = absurd (omega arith)
 
-  pub section_faultless : (words : List (List ℕ)) → HasToBegin n words → Begins h n words → IsFaultless h n words
+  pub section_faultless : (words : List (List ℕ)) → HasToBegin n words → Begins ver h n words → IsFaultless ver h n words
   section_faultless words begins good cause.Version f = f
   section_faultless words begins good cause.Heap f = f
   section_faultless words begins good cause.Thread f = f.1 good.1 good.0
@@ -256,29 +257,29 @@ module _ (h : Config) (n : ℕ) where
   section_faultless words begins good cause.Operand f = f.0 begins
   section_faultless words begins good cause.Size f = f.0 begins
 
-  section_told : (words : List (List ℕ)) (e : Cause) → HasToBegin n words → section_at version_1 h n words ≡ Err e → IsFirstFault h n words e
+  section_told : (words : List (List ℕ)) (e : Cause) → HasToBegin n words → section_at ver h n words ≡ Err e → IsFirstFault ver h n words e
   unfolding section_at
   section_told words e begins bad =
-      elim (result_cases (thread_at version_1 words)) [
+      elim (result_cases (thread_at ver words)) [
         | inr p ↦
-            let is_thread : p.0 ≡ cause.Thread = fails_is cause.Thread p.0 (thread_at version_1 words) (thread_fails words) p.1 in
-            let stops : section_at version_1 h n words ≡ Err p.0 = stops_at (thread_at version_1 words) _ p.0 p.1 in
+            let is_thread : p.0 ≡ cause.Thread = fails_is cause.Thread p.0 (thread_at ver words) (thread_fails ver usable words) p.1 in
+            let stops : section_at ver h n words ≡ Err p.0 = stops_at (thread_at ver words) _ p.0 p.1 in
             let same : p.0 ≡ e = err_is {A = Entry} p.0 e (sym stops ∙ bad) in
-            subst (IsFirstFault h n words) (sym is_thread ∙ same) (thread_fault words begins (λ few is. two_results (thread_at version_1 words) n p.0 (ap (thread_at version_1) is ∙ thread_reads.again n few) p.1))
+            subst (IsFirstFault ver h n words) (sym is_thread ∙ same) (thread_fault words begins (λ few is. two_results (thread_at ver words) n p.0 (ap (thread_at ver) is ∙ (thread_reads ver usable).again n few) p.1))
         | inl t ↦
             let rest : Result Entry Cause = cond (leb (total_words h (n + 1)) most_heap_words) (Ok entry.Section) (Err cause.Total) in
-            let goes : section_at version_1 h n words ≡ cond (eqb t.0 n) rest (Err cause.Thread) = goes_to (thread_at version_1 words) _ t.0 t.1 in
+            let goes : section_at ver h n words ≡ cond (eqb t.0 n) rest (Err cause.Thread) = goes_to (thread_at ver words) _ t.0 t.1 in
             elim (chosen (eqb t.0 n) rest (Err cause.Thread) (Err e) (sym goes ∙ bad)) [
-              | inr p ↦ subst (IsFirstFault h n words) (err_is {A = Entry} cause.Thread e p.1) (thread_fault words begins (λ few is.
-                  let read : Ok t.0 ≡ Ok n = sym t.1 ∙ ap (thread_at version_1) is ∙ thread_reads.again n few in
+              | inr p ↦ subst (IsFirstFault ver h n words) (err_is {A = Entry} cause.Thread e p.1) (thread_fault words begins (λ few is.
+                  let read : Ok t.0 ≡ Ok n = sym t.1 ∙ ap (thread_at ver) is ∙ (thread_reads ver usable).again n few in
                   let same : eqb t.0 n ≡ true = eq-eqb t.0 n (ok_is {E = Cause} t.0 n read) in
                   absurd (let never : false ≡ true = sym p.0 ∙ same in cc)))
               | inl p ↦
                   let same : t.0 ≡ n = eqb-true t.0 n p.0 in
-                  let takes = thread_reads.takes words t.0 t.1 in
+                  let takes = (thread_reads ver usable).takes words t.0 t.1 in
                   elim (chosen (leb (total_words h (n + 1)) most_heap_words) (Ok entry.Section) (Err cause.Total) (Err e) p.1) [
                     | inl q ↦ absurd (let never : Ok entry.Section ≡ Err e = q.1 in cc)
-                    | inr q ↦ subst (IsFirstFault h n words) (err_is {A = Entry} cause.Total e q.1) (total_fault words begins (subst (λ (k : ℕ). k < version_1.threads) same takes.1) (subst (λ (k : ℕ). words ≡ section_words k) same takes.0) (leb-false (total_words h (n + 1)) most_heap_words q.0))
+                    | inr q ↦ subst (IsFirstFault ver h n words) (err_is {A = Entry} cause.Total e q.1) (total_fault words begins (subst (λ (k : ℕ). k < ver.threads) same takes.1) (subst (λ (k : ℕ). words ≡ section_words k) same takes.0) (leb-false (total_words h (n + 1)) most_heap_words q.0))
                   ]
             ]
       ]
@@ -294,27 +295,27 @@ module _ (h : Config) (n : ℕ) where
   apart_of [] some e (inl same) = absurd cc
   apart_of (name ∷ words) some e (inl same) = absurd (let never : false ≡ true = sym e ∙ (bytes_eq-Decides name (codes "thread")).1 same in cc)
 
-  entry_told : (words : List (List ℕ)) (e : Cause) → n ≢ 0 → entry_at version_1 h n words ≡ Err e → IsFirstFault h n words e
+  entry_told : (words : List (List ℕ)) (e : Cause) → n ≢ 0 → entry_at ver h n words ≡ Err e → IsFirstFault ver h n words e
   unfolding entry_at
   entry_told words e some bad =
-      elim (chosen (is_section words) (section_at version_1 h n words) (command_at version_1 h.words words >>= λ c. Ok (entry.Order c)) (Err e) bad) [
+      elim (chosen (is_section words) (section_at ver h n words) (command_at ver h.words words >>= λ c. Ok (entry.Order c)) (Err e) bad) [
         | inl p ↦ section_told words e (begins_of words p.0) p.1
-        | inr p ↦ command_told words e (apart_of words some p.0) (err_map (command_at version_1 h.words words) (λ c. entry.Order c) e p.1)
+        | inr p ↦ command_told words e (apart_of words some p.0) (err_map (command_at ver h.words words) (λ c. entry.Order c) e p.1)
       ]
 
   begun_is : (words : List (List ℕ)) (b : Bool) → is_section words ≡ b → begun_with n words ≡ cond b (n + 1) n
   begun_is [] b e = rw (← e) refl
   begun_is (name ∷ words) b e = rw e refl
 
-  pub entry_good : (words : List (List ℕ)) (x : Entry) → n ≢ 0 → entry_at version_1 h n words ≡ Ok x → IsFaultless h n words × (begun_with n words ≡ begun_after x n)
+  pub entry_good : (words : List (List ℕ)) (x : Entry) → n ≢ 0 → entry_at ver h n words ≡ Ok x → IsFaultless ver h n words × (begun_with n words ≡ begun_after x n)
   unfolding entry_at
   entry_good words x some good =
-      elim (chosen (is_section words) (section_at version_1 h n words) (command_at version_1 h.words words >>= λ c. Ok (entry.Order c)) (Ok x) good) [
+      elim (chosen (is_section words) (section_at ver h n words) (command_at ver h.words words >>= λ c. Ok (entry.Order c)) (Ok x) good) [
         | inl p ↦
-            let t = section_takes h n words x p.1 in
+            let t = section_takes ver usable h n words x p.1 in
             (section_faultless words (begins_of words p.0) t.0, begun_is words true p.0 ∙ ap (λ (y : Entry). begun_after y n) (sym t.1))
         | inr p ↦
-            let b = bind_ok (command_at version_1 h.words words) (λ c. Ok (entry.Order c)) x p.1 in
+            let b = bind_ok (command_at ver h.words words) (λ c. Ok (entry.Order c)) x p.1 in
             (command_faultless words b.0 (apart_of words some p.0) b.1, begun_is words false p.0 ∙ ap (λ (y : Entry). begun_after y n) (ok_is {E = Cause} (entry.Order b.0) x b.2))
       ]
 
@@ -332,78 +333,94 @@ pub some_after : (x : Entry) (n : ℕ) → n ≢ 0 → begun_after x n ≢ 0
 some_after entry.Section n some = λ e. omega arith
 some_after (entry.Order c) n some = some
 
-rest_told : (h : Config) (end n : ℕ) (lines : List (ℕ × List ℕ)) (number : ℕ) (c : Cause) → n ≢ 0 → rest_at version_1 h n lines ≡ Err (number, c) → TellsRest h n end lines number c
+rest_told : (ver : Version) (usable : IsUsable ver) (h : Config) (end n : ℕ) (lines : List (ℕ × List ℕ)) (number : ℕ) (c : Cause) → n ≢ 0 → rest_at ver h n lines ≡ Err (number, c) → TellsRest ver h n end lines number c
 unfolding rest_at
-rest_told h end n [] number c some bad = absurd cc
-rest_told h end n (line ∷ lines) number c some bad =
+rest_told ver usable h end n [] number c some bad = absurd cc
+rest_told ver usable h end n (line ∷ lines) number c some bad =
     let words = words_of line.1 in
-    elim (result_cases (at_line line.0 (entry_at version_1 h n words))) [
+    elim (result_cases (at_line line.0 (entry_at ver h n words))) [
       | inr p ↦
-          let stops : rest_at version_1 h n (line ∷ lines) ≡ Err p.0 = stops_at (at_line line.0 (entry_at version_1 h n words)) _ p.0 p.1 in
+          let stops : rest_at ver h n (line ∷ lines) ≡ Err p.0 = stops_at (at_line line.0 (entry_at ver h n words)) _ p.0 p.1 in
           let same : p.0 ≡ (number, c) = err_is {A = List Command × List (List Command)} p.0 (number, c) (sym stops ∙ bad) in
-          let at = at_line_err line.0 (entry_at version_1 h n words) number c (p.1 ∙ ap Err same) in
-          inl (at.0, entry_told h n words c some at.1)
+          let at = at_line_err line.0 (entry_at ver h n words) number c (p.1 ∙ ap Err same) in
+          inl (at.0, entry_told ver usable h n words c some at.1)
       | inl x ↦
-          let good = entry_good h n words x.0 some (at_line_ok line.0 (entry_at version_1 h n words) x.0 x.1) in
-          let goes : rest_at version_1 h n (line ∷ lines) ≡ (rest_at version_1 h (begun_after x.0 n) lines >>= λ others. Ok (with_entry x.0 others)) = goes_to (at_line line.0 (entry_at version_1 h n words)) _ x.0 x.1 in
-          let later = rest_told h end (begun_after x.0 n) lines number c (some_after x.0 n some) (err_of (rest_at version_1 h (begun_after x.0 n) lines) _ number c (λ a e. absurd cc) (sym goes ∙ bad)) in
-          inr (good.0, subst (λ (k : ℕ). TellsRest h k end lines number c) (sym good.1) later)
+          let good = entry_good ver usable h n words x.0 some (at_line_ok line.0 (entry_at ver h n words) x.0 x.1) in
+          let goes : rest_at ver h n (line ∷ lines) ≡ (rest_at ver h (begun_after x.0 n) lines >>= λ others. Ok (with_entry x.0 others)) = goes_to (at_line line.0 (entry_at ver h n words)) _ x.0 x.1 in
+          let later = rest_told ver usable h end (begun_after x.0 n) lines number c (some_after x.0 n some) (err_of (rest_at ver h (begun_after x.0 n) lines) _ number c (λ a e. absurd cc) (sym goes ∙ bad)) in
+          inr (good.0, subst (λ (k : ℕ). TellsRest ver h k end lines number c) (sym good.1) later)
     ]
 
-threads_told : (h : Config) (end : ℕ) (lines : List (ℕ × List ℕ)) (number : ℕ) (c : Cause) → threads_at version_1 end h lines ≡ Err (number, c) → TellsRest h 0 end lines number c
+threads_told : (ver : Version) (usable : IsUsable ver) (h : Config) (end : ℕ) (lines : List (ℕ × List ℕ)) (number : ℕ) (c : Cause) → threads_at ver end h lines ≡ Err (number, c) → TellsRest ver h 0 end lines number c
 unfolding threads_at programs_at
-threads_told h end [] number c bad = let same : ◌≡◌ {A = ℕ × Cause} (end, cause.Thread) (number, c) = err_is {A = List (List Command)} (end, cause.Thread) (number, c) bad in (refl, sym (ap (λ (p : ℕ × Cause). p.0) same), sym (ap (λ (p : ℕ × Cause). p.1) same))
-threads_told h end (line ∷ lines) number c bad =
+threads_told ver usable h end [] number c bad = let same : ◌≡◌ {A = ℕ × Cause} (end, cause.Thread) (number, c) = err_is {A = List (List Command)} (end, cause.Thread) (number, c) bad in (refl, sym (ap (λ (p : ℕ × Cause). p.0) same), sym (ap (λ (p : ℕ × Cause). p.1) same))
+threads_told ver usable h end (line ∷ lines) number c bad =
     let words = words_of line.1 in
-    elim (result_cases (at_line line.0 (section_at version_1 h 0 words))) [
+    elim (result_cases (at_line line.0 (section_at ver h 0 words))) [
       | inr p ↦
-          let stops : threads_at version_1 end h (line ∷ lines) ≡ Err p.0 = stops_at (at_line line.0 (section_at version_1 h 0 words)) _ p.0 p.1 in
+          let stops : threads_at ver end h (line ∷ lines) ≡ Err p.0 = stops_at (at_line line.0 (section_at ver h 0 words)) _ p.0 p.1 in
           let same : p.0 ≡ (number, c) = err_is {A = List (List Command)} p.0 (number, c) (sym stops ∙ bad) in
-          let at = at_line_err line.0 (section_at version_1 h 0 words) number c (p.1 ∙ ap Err same) in
-          inl (at.0, section_told h 0 words c (inr refl) at.1)
+          let at = at_line_err line.0 (section_at ver h 0 words) number c (p.1 ∙ ap Err same) in
+          inl (at.0, section_told ver usable h 0 words c (inr refl) at.1)
       | inl x ↦
-          let good = section_takes h 0 words x.0 (at_line_ok line.0 (section_at version_1 h 0 words) x.0 x.1) in
-          let goes : threads_at version_1 end h (line ∷ lines) ≡ programs_at version_1 h lines = goes_to (at_line line.0 (section_at version_1 h 0 words)) _ x.0 x.1 in
-          let later = rest_told h end 1 lines number c (λ e. omega arith) (err_of (rest_at version_1 h 1 lines) _ number c (λ a e. absurd cc) (sym goes ∙ bad)) in
+          let good = section_takes ver usable h 0 words x.0 (at_line_ok line.0 (section_at ver h 0 words) x.0 x.1) in
+          let goes : threads_at ver end h (line ∷ lines) ≡ programs_at ver h lines = goes_to (at_line line.0 (section_at ver h 0 words)) _ x.0 x.1 in
+          let later = rest_told ver usable h end 1 lines number c (λ e. omega arith) (err_of (rest_at ver h 1 lines) _ number c (λ a e. absurd cc) (sym goes ∙ bad)) in
           let begun : 1 ≡ begun_with 0 words = sym (ap (begun_with 0) good.0.0) in
-          inr (section_faultless h 0 words (inr refl) good.0, subst (λ (k : ℕ). TellsRest h k end lines number c) begun later)
+          inr (section_faultless ver usable h 0 words (inr refl) good.0, subst (λ (k : ℕ). TellsRest ver h k end lines number c) begun later)
     ]
 
-heap_told : (end : ℕ) (lines : List (ℕ × List ℕ)) (number : ℕ) (c : Cause) → (heap_at end lines >>= λ p. threads_at version_1 end p.0 p.1) ≡ Err (number, c) → TellsHeap end lines number c
+heap_told : (ver : Version) (usable : IsUsable ver) (end : ℕ) (lines : List (ℕ × List ℕ)) (number : ℕ) (c : Cause) → (heap_at end lines >>= λ p. threads_at ver end p.0 p.1) ≡ Err (number, c) → TellsHeap ver end lines number c
 unfolding heap_at
-heap_told end [] number c bad = let same : ◌≡◌ {A = ℕ × Cause} (end, cause.Heap) (number, c) = err_is {A = List (List Command)} (end, cause.Heap) (number, c) bad in (sym (ap (λ (p : ℕ × Cause). p.0) same), sym (ap (λ (p : ℕ × Cause). p.1) same))
-heap_told end (line ∷ lines) number c bad =
+heap_told ver usable end [] number c bad = let same : ◌≡◌ {A = ℕ × Cause} (end, cause.Heap) (number, c) = err_is {A = List (List Command)} (end, cause.Heap) (number, c) bad in (sym (ap (λ (p : ℕ × Cause). p.0) same), sym (ap (λ (p : ℕ × Cause). p.1) same))
+heap_told ver usable end (line ∷ lines) number c bad =
     let words = words_of line.1 in
     elim (result_cases (heap_words_at words)) [
       | inr p ↦
           let is_heap : p.0 ≡ cause.Heap = fails_is cause.Heap p.0 (heap_words_at words) (heap_fails words) p.1 in
-          let stops : (heap_at end (line ∷ lines) >>= λ q. threads_at version_1 end q.0 q.1) ≡ Err (line.0, p.0) = rw p.1 refl in
+          let stops : (heap_at end (line ∷ lines) >>= λ q. threads_at ver end q.0 q.1) ≡ Err (line.0, p.0) = rw p.1 refl in
           let same : ◌≡◌ {A = ℕ × Cause} (line.0, p.0) (number, c) = err_is {A = List (List Command)} (line.0, p.0) (number, c) (sym stops ∙ bad) in
           inl (sym (ap (λ (q : ℕ × Cause). q.0) same), sym (ap (λ (q : ℕ × Cause). q.1) same) ∙ is_heap, λ h fits is. two_results (heap_words_at words) h p.0 (ap (λ (l : List ℕ). heap_words_at (words_of l)) is ∙ ap heap_words_at (words_of-line (heap_words h) (heap_line_words h fits)) ∙ heap_again h fits) p.1)
       | inl h ↦
           let t = heap_takes words h.0 h.1 in
-          let goes : (heap_at end (line ∷ lines) >>= λ q. threads_at version_1 end q.0 q.1) ≡ threads_at version_1 end h.0 lines = rw h.1 refl in
-          inr (h.0, t.1, sym (spaced-words_of line.1) ∙ ap spaced t.0, threads_told h.0 end lines number c (sym goes ∙ bad))
+          let goes : (heap_at end (line ∷ lines) >>= λ q. threads_at ver end q.0 q.1) ≡ threads_at ver end h.0 lines = rw h.1 refl in
+          inr (h.0, t.1, sym (spaced-words_of line.1) ∙ ap spaced t.0, threads_told ver usable h.0 end lines number c (sym goes ∙ bad))
     ]
 
 err_inner : {A B C E : Type 0} (r : Result A E) (f : A → Result B E) (g : A → B → C) (e : E) → (r >>= λ a. f a >>= λ b. Ok (g a b)) ≡ Err e → (r >>= f) ≡ Err e
 err_inner (Ok a) f g e h = err_map (f a) (g a) e h
 err_inner {A} {B} {C} (Err d) f g e h = ap Err (err_is {A = C} d e h)
 
--- version 1, and the lines after its line
-abbrev first_version : List (ℕ × List ℕ) → Version × List (ℕ × List ℕ)
-first_version lines = (version_1, lines)
+-- a version, and the lines after its line
+abbrev versioned : Version → List (ℕ × List ℕ) → Result (Version × List (ℕ × List ℕ)) (ℕ × Cause)
+versioned ver lines = Ok (ver, lines)
+
+-- what is read after the line of a version
+abbrev script_after : ℕ → Version × List (ℕ × List ℕ) → Result Script (ℕ × Cause)
+script_after end v = heap_at end v.1 >>= λ heap. threads_at v.0 end heap.0 heap.1 >>= λ threads. Ok (let made : Script = record { version = v.0.number; config = heap.0; threads = threads } in made)
+
+version_told : (ver : Version) → IsVersion ver → (end : ℕ) (line : ℕ × List ℕ) (lines : List (ℕ × List ℕ)) (number : ℕ) (c : Cause) → line.1 ≡ spaced (version_words ver.number) → script_after end (ver, lines) ≡ Err (number, c) → Tells end (line ∷ lines) number c
+version_told ver known end line lines number c is h = inr (ver, known, is, heap_told ver (usable_version ver known) end lines number c (err_inner (heap_at end lines) (λ heap. threads_at ver end heap.0 heap.1) (λ heap threads. let made : Script = record { version = ver.number; config = heap.0; threads = threads } in made) (number, c) h))
 
 script_told : (end : ℕ) (lines : List (ℕ × List ℕ)) (number : ℕ) (c : Cause) → script_at end lines ≡ Err (number, c) → Tells end lines number c
 unfolding script_at version_at
 script_told end [] number c bad = let same : ◌≡◌ {A = ℕ × Cause} (end, cause.Version) (number, c) = err_is {A = Script} (end, cause.Version) (number, c) bad in (sym (ap (λ (p : ℕ × Cause). p.0) same), sym (ap (λ (p : ℕ × Cause). p.1) same))
-script_told end (line ∷ lines) number c bad = go (bytes_eq line.1 (codes "nmgc 1")) refl bad
+script_told end (line ∷ lines) number c bad = go (bytes_eq line.1 (codes "nmgc 1")) (bytes_eq line.1 (codes "nmgc 2")) refl refl bad
   where
-    go : (b : Bool) → bytes_eq line.1 (codes "nmgc 1") ≡ b → (cond b (Ok (first_version lines)) (Err (line.0, cause.Version)) >>= λ v. heap_at end v.1 >>= λ heap. threads_at v.0 end heap.0 heap.1 >>= λ threads. Ok (let made : Script = record { version = v.0.number; config = heap.0; threads = threads } in made)) ≡ Err (number, c) → Tells end (line ∷ lines) number c
-    go true is h = inr ((bytes_eq-Decides line.1 (codes "nmgc 1")).0 is, heap_told end lines number c (err_inner (heap_at end lines) (λ heap. threads_at version_1 end heap.0 heap.1) (λ heap threads. let made : Script = record { version = version_1.number; config = heap.0; threads = threads } in made) (number, c) h))
-    go false is h =
+    -- the line differs from that of a version
+    differs : (text : List ℕ) → bytes_eq line.1 text ≡ false → line.1 ≡ text → ⊥
+    differs text is other = absurd (let never : false ≡ true = sym is ∙ (bytes_eq-Decides line.1 text).1 other in cc)
+
+    no_version : bytes_eq line.1 (codes "nmgc 1") ≡ false → bytes_eq line.1 (codes "nmgc 2") ≡ false → (v : Version) → IsVersion v → line.1 ≢ spaced (version_words v.number)
+    no_version is also v (inl e) other = differs (codes "nmgc 1") is (other ∙ ap (λ (w : Version). spaced (version_words w.number)) e ∙ first_line)
+    no_version is also v (inr e) other = differs (codes "nmgc 2") also (other ∙ ap (λ (w : Version). spaced (version_words w.number)) e ∙ second_line)
+
+    go : (b d : Bool) → bytes_eq line.1 (codes "nmgc 1") ≡ b → bytes_eq line.1 (codes "nmgc 2") ≡ d → (cond b (versioned version_1 lines) (cond d (versioned version_2 lines) (Err (line.0, cause.Version))) >>= script_after end) ≡ Err (number, c) → Tells end (line ∷ lines) number c
+    go true d is also h = version_told version_1 (inl refl) end line lines number c ((bytes_eq-Decides line.1 (codes "nmgc 1")).0 is ∙ sym first_line) h
+    go false true is also h = version_told version_2 (inr refl) end line lines number c ((bytes_eq-Decides line.1 (codes "nmgc 2")).0 also ∙ sym second_line) h
+    go false false is also h =
         let same : ◌≡◌ {A = ℕ × Cause} (line.0, cause.Version) (number, c) = err_is {A = Script} (line.0, cause.Version) (number, c) h in
-        inl (sym (ap (λ (p : ℕ × Cause). p.0) same), sym (ap (λ (p : ℕ × Cause). p.1) same), λ other. absurd (let never : false ≡ true = sym is ∙ (bytes_eq-Decides line.1 (codes "nmgc 1")).1 other in cc))
+        inl (sym (ap (λ (p : ℕ × Cause). p.0) same), sym (ap (λ (p : ℕ × Cause). p.1) same), no_version is also)
 
 -- what is told is the first bad line and its first cause
 pub told : (bytes : List ℕ) (r : Result Script ScriptFault) → GivesAt (λ s. s) r (script_at (end_of bytes) (kept_lines bytes)) → IfErr r (λ fault. IsToldOf bytes fault)

@@ -1,9 +1,9 @@
 -- A line of words, and the words of a line.
-use Rattle.std.proofs.Common.{◌≡◌, ◌<◌, ◌≤◌, ◌+◌, ◌^◌, ◌%◌, ℕ, List, [], ◌∷◌, ◌++◌, map, refl, ap, arith, Bool, true, false, cond, eqb, leb, decimal, codes, inl, inr}
+use Rattle.std.proofs.Common.{◌≡◌, ◌<◌, ◌≤◌, ◌+◌, ◌^◌, ◌%◌, ℕ, List, [], ◌∷◌, ◌++◌, map, refl, ap, arith, Bool, true, false, cond, eqb, leb, decimal, codes, inl, inr, lit<}
 use Rattle.std.specs.List.{AllByRecursion}
 use Rattle.std.proofs.lemmas.Bool.{ne_eqb, leb-true}
 use Rattle.std.proofs.lemmas.Bool.Decides.{eqb_tells}
-use Rattle.std.proofs.lemmas.Fmt.{decimal_by_steps}
+use Rattle.std.proofs.lemmas.Fmt.{decimal_by_steps, decimal_digit}
 use Rattle.std.proofs.lemmas.List.Elements.{recursion_from_All}
 use Rattle.nmgc_graph.specs.declared.command.Operand.{Operand}
 use Rattle.nmgc_graph.specs.declared.command.Operand.TheVariants.{Register, Shared}
@@ -13,7 +13,7 @@ use Rattle.nmgc_graph.specs.Command.{IsRegister, IsOperand, Fits}
 use Rattle.nmgc_script.specs.declared.script.Config.{Config}
 use Rattle.nmgc_script.specs.Limits.{FitsConfig}
 use Rattle.nmgc_script.specs.Text.{words_of, onto_first}
-use Rattle.nmgc_script.specs.Spelling.{spaced, operand_word, register_word, command_words, heap_words, section_words}
+use Rattle.nmgc_script.specs.Spelling.{spaced, operand_word, register_word, command_words, heap_words, section_words, version_words}
 
 onto_first_spaced : (b : ℕ) (words : List (List ℕ)) → spaced (onto_first b words) ≡ b ∷ spaced words
 onto_first_spaced b [] = refl
@@ -133,3 +133,13 @@ heap_line_words c h = (tested (codes "heap") refl, (decimal_bare c.segments (ome
 
 pub section_line_words : (n : ℕ) → n < 2 ^ 64 → MakeLine (section_words n)
 section_line_words n h = (tested (codes "thread") refl, (decimal_bare n h, tt))
+
+pub version_line_words : (n : ℕ) → n < 2 ^ 64 → MakeLine (version_words n)
+version_line_words n h = (tested (codes "nmgc") refl, (decimal_bare n h, tt))
+
+-- the lines of the versions
+pub first_line : spaced (version_words 1) ≡ codes "nmgc 1"
+first_line = ap (λ (word : List ℕ). codes "nmgc " ++ word) (decimal_digit 1 (lit< tt))
+
+pub second_line : spaced (version_words 2) ≡ codes "nmgc 2"
+second_line = ap (λ (word : List ℕ). codes "nmgc " ++ word) (decimal_digit 2 (lit< tt))

@@ -1,24 +1,23 @@
 -- A text spells a script or has one first bad line with one first cause, and never both.
-use Rattle.std.proofs.Common.{◌≡◌, ◌≢◌, ℕ, zero, suc, List, [], ◌∷◌, refl, sym, ap, subst, ◌∙◌, arith, inl, inr, codes, Ok}
-use Rattle.std.specs.Str.{bytes_eq}
+use Rattle.std.proofs.Common.{◌≡◌, ◌≢◌, ℕ, zero, suc, List, [], ◌∷◌, get_or, refl, sym, ap, subst, ◌∙◌, arith, inl, inr, codes, Ok}
 use Rattle.std.proofs.lemmas.Bool.{cases_order}
-use Rattle.std.proofs.lemmas.Slice.Eq.{bytes_eq-Decides}
 use Rattle.nmgc_graph.specs.declared.command.Command.{Command}
 use Rattle.nmgc_script.specs.declared.fault.Cause.{Cause}
 use Rattle.nmgc_script.specs.declared.fault.Cause.TheVariants as cause
 use Rattle.nmgc_script.specs.declared.script.Config.{Config}
 use Rattle.nmgc_script.specs.declared.script.Script.{Script}
 use Rattle.nmgc_script.specs.declared.version.Version.{Version}
-use Rattle.nmgc_script.specs.Limits.{FitsConfig, version_1}
-use Rattle.nmgc_script.specs.Spelling.{spaced, heap_words, Spells}
+use Rattle.nmgc_script.specs.laws.Versions.{IsUsable, usable_version}
+use Rattle.nmgc_script.specs.Limits.{FitsConfig, IsVersion}
+use Rattle.nmgc_script.specs.Spelling.{spaced, heap_words, version_words, Spells}
 use Rattle.nmgc_script.specs.Text.{words_of, kept_lines, end_of}
 use Rattle.nmgc_script.specs.Faults.{order_of, IsFirstFault, begun_with, TellsRest, TellsHeap, Tells}
 use Rattle.nmgc_script.specs.Reading.{heap_words_at, section_at, entry_at, begun_after, at_line, rest_at, programs_at, threads_at, version_at, heap_at, script_at}
-use Rattle.nmgc_script.proofs.WordLaws.{bind_ok, guard_ok, ok_is}
+use Rattle.nmgc_script.proofs.WordLaws.{bind_ok, ok_is}
 use Rattle.nmgc_script.proofs.ConfigLaws.{heap_takes, heap_again}
-use Rattle.nmgc_script.proofs.LineLaws.{spaced-words_of, words_of-line, heap_line_words}
+use Rattle.nmgc_script.proofs.LineLaws.{spaced-words_of, words_of-line, heap_line_words, first_line, second_line}
 use Rattle.nmgc_script.proofs.SectionLaws.{at_line_ok, section_takes}
-use Rattle.nmgc_script.proofs.ScriptLaws.{script_again}
+use Rattle.nmgc_script.proofs.ScriptLaws.{script_again, version_found}
 use Rattle.nmgc_script.proofs.FaultLaws.{entry_good, section_faultless, some_after}
 
 -- the cause at a place of the order
@@ -44,8 +43,8 @@ cause_back cause.Operand = refl
 cause_back cause.Size = refl
 
 -- a line has one first fault
-one_first : (h : Config) (n : ℕ) (words : List (List ℕ)) (c d : Cause) → IsFirstFault h n words c → IsFirstFault h n words d → c ≡ d
-one_first h n words c d p q =
+one_first : (ver : Version) (usable : IsUsable ver) (h : Config) (n : ℕ) (words : List (List ℕ)) (c d : Cause) → IsFirstFault ver h n words c → IsFirstFault ver h n words d → c ≡ d
+one_first ver usable h n words c d p q =
     elim (cases_order (order_of c) (order_of d)) [
       | inl same ↦ sym (cause_back c) ∙ ap cause_of same ∙ cause_back d
       | inr other ↦ elim other [
@@ -58,12 +57,12 @@ one_first h n words c d p q =
 abbrev pub Same : ℕ → Cause → ℕ → Cause → Type 0
 Same a c b d = (a ≡ b) × (c ≡ d)
 
-one_rest : (h : Config) (n end : ℕ) (lines : List (ℕ × List ℕ)) (a : ℕ) (c : Cause) (b : ℕ) (d : Cause) → TellsRest h n end lines a c → TellsRest h n end lines b d → Same a c b d
-one_rest h n end [] a c b d p q = (p.1 ∙ sym q.1, p.2 ∙ sym q.2)
-one_rest h n end (line ∷ lines) a c b d (inl p) (inl q) = (p.0 ∙ sym q.0, one_first h n (words_of line.1) c d p.1 q.1)
-one_rest h n end (line ∷ lines) a c b d (inl p) (inr q) = absurd (q.0 c p.1.here)
-one_rest h n end (line ∷ lines) a c b d (inr p) (inl q) = absurd (p.0 d q.1.here)
-one_rest h n end (line ∷ lines) a c b d (inr p) (inr q) = one_rest h (begun_with n (words_of line.1)) end lines a c b d p.1 q.1
+one_rest : (ver : Version) (usable : IsUsable ver) (h : Config) (n end : ℕ) (lines : List (ℕ × List ℕ)) (a : ℕ) (c : Cause) (b : ℕ) (d : Cause) → TellsRest ver h n end lines a c → TellsRest ver h n end lines b d → Same a c b d
+one_rest ver usable h n end [] a c b d p q = (p.1 ∙ sym q.1, p.2 ∙ sym q.2)
+one_rest ver usable h n end (line ∷ lines) a c b d (inl p) (inl q) = (p.0 ∙ sym q.0, one_first ver usable h n (words_of line.1) c d p.1 q.1)
+one_rest ver usable h n end (line ∷ lines) a c b d (inl p) (inr q) = absurd (q.0 c p.1.here)
+one_rest ver usable h n end (line ∷ lines) a c b d (inr p) (inl q) = absurd (p.0 d q.1.here)
+one_rest ver usable h n end (line ∷ lines) a c b d (inr p) (inr q) = one_rest ver usable h (begun_with n (words_of line.1)) end lines a c b d p.1 q.1
 
 -- a heap line has one config
 one_config : (line : List ℕ) (g h : Config) → FitsConfig g → FitsConfig h → line ≡ spaced (heap_words g) → line ≡ spaced (heap_words h) → g ≡ h
@@ -72,73 +71,92 @@ one_config line g h fg fh eg eh =
     let rh : heap_words_at (words_of line) ≡ Ok h = ap (λ (l : List ℕ). heap_words_at (words_of l)) eh ∙ ap heap_words_at (words_of-line (heap_words h) (heap_line_words h fh)) ∙ heap_again h fh in
     ok_is {E = Cause} g h (sym rg ∙ rh)
 
-one_heap : (end : ℕ) (lines : List (ℕ × List ℕ)) (a : ℕ) (c : Cause) (b : ℕ) (d : Cause) → TellsHeap end lines a c → TellsHeap end lines b d → Same a c b d
-one_heap end [] a c b d p q = (p.0 ∙ sym q.0, p.1 ∙ sym q.1)
-one_heap end (line ∷ lines) a c b d (inl p) (inl q) = (p.0 ∙ sym q.0, p.1 ∙ sym q.1)
-one_heap end (line ∷ lines) a c b d (inl p) (inr q) = absurd (p.2 q.0 q.1 q.2)
-one_heap end (line ∷ lines) a c b d (inr p) (inl q) = absurd (q.2 p.0 p.1 p.2)
-one_heap end (line ∷ lines) a c b d (inr p) (inr q) =
+one_heap : (ver : Version) (usable : IsUsable ver) (end : ℕ) (lines : List (ℕ × List ℕ)) (a : ℕ) (c : Cause) (b : ℕ) (d : Cause) → TellsHeap ver end lines a c → TellsHeap ver end lines b d → Same a c b d
+one_heap ver usable end [] a c b d p q = (p.0 ∙ sym q.0, p.1 ∙ sym q.1)
+one_heap ver usable end (line ∷ lines) a c b d (inl p) (inl q) = (p.0 ∙ sym q.0, p.1 ∙ sym q.1)
+one_heap ver usable end (line ∷ lines) a c b d (inl p) (inr q) = absurd (p.2 q.0 q.1 q.2)
+one_heap ver usable end (line ∷ lines) a c b d (inr p) (inl q) = absurd (q.2 p.0 p.1 p.2)
+one_heap ver usable end (line ∷ lines) a c b d (inr p) (inr q) =
     let same : p.0 ≡ q.0 = one_config line.1 p.0 q.0 p.1 q.1 p.2 q.2 in
-    one_rest q.0 0 end lines a c b d (subst (λ (k : Config). TellsRest k 0 end lines a c) same p.3) q.3
+    one_rest ver usable q.0 0 end lines a c b d (subst (λ (k : Config). TellsRest ver k 0 end lines a c) same p.3) q.3
+
+abbrev text_of : Version → List ℕ
+text_of v = spaced (version_words v.number)
+
+numbers_differ : codes "nmgc 1" ≡ codes "nmgc 2" → ⊥
+numbers_differ e = let last : 49 ≡ 50 = ap (λ (l : List ℕ). get_or l 5 0) e in omega (arith, last)
+
+-- a line has one version
+one_version : (line : List ℕ) (v w : Version) → IsVersion v → IsVersion w → line ≡ spaced (version_words v.number) → line ≡ spaced (version_words w.number) → v ≡ w
+one_version line v w (inl a) (inl b) e f = a ∙ sym b
+one_version line v w (inr a) (inr b) e f = a ∙ sym b
+one_version line v w (inl a) (inr b) e f = absurd (numbers_differ (sym (e ∙ ap text_of a ∙ first_line) ∙ f ∙ ap text_of b ∙ second_line))
+one_version line v w (inr a) (inl b) e f = absurd (numbers_differ (sym (f ∙ ap text_of b ∙ first_line) ∙ e ∙ ap text_of a ∙ second_line))
 
 pub one_fault : (end : ℕ) (lines : List (ℕ × List ℕ)) (a : ℕ) (c : Cause) (b : ℕ) (d : Cause) → Tells end lines a c → Tells end lines b d → Same a c b d
 one_fault end [] a c b d p q = (p.0 ∙ sym q.0, p.1 ∙ sym q.1)
 one_fault end (line ∷ lines) a c b d (inl p) (inl q) = (p.0 ∙ sym q.0, p.1 ∙ sym q.1)
-one_fault end (line ∷ lines) a c b d (inl p) (inr q) = absurd (p.2 q.0)
-one_fault end (line ∷ lines) a c b d (inr p) (inl q) = absurd (q.2 p.0)
-one_fault end (line ∷ lines) a c b d (inr p) (inr q) = one_heap end lines a c b d p.1 q.1
+one_fault end (line ∷ lines) a c b d (inl p) (inr q) = absurd (p.2 q.0 q.1 q.2)
+one_fault end (line ∷ lines) a c b d (inr p) (inl q) = absurd (q.2 p.0 p.1 p.2)
+one_fault end (line ∷ lines) a c b d (inr p) (inr q) =
+    let same : p.0 ≡ q.0 = one_version line.1 p.0 q.0 p.1 q.1 p.2 q.2 in
+    one_heap q.0 (usable_version q.0 q.1) end lines a c b d (subst (λ (v : Version). TellsHeap v end lines a c) same p.3) q.3
 
 -- NEVER BOTH
 
-rest_good : (h : Config) (n end : ℕ) (lines : List (ℕ × List ℕ)) (p : List Command × List (List Command)) (a : ℕ) (c : Cause) → n ≢ 0 → rest_at version_1 h n lines ≡ Ok p → TellsRest h n end lines a c → ⊥
+rest_good : (ver : Version) (usable : IsUsable ver) (h : Config) (n end : ℕ) (lines : List (ℕ × List ℕ)) (p : List Command × List (List Command)) (a : ℕ) (c : Cause) → n ≢ 0 → rest_at ver h n lines ≡ Ok p → TellsRest ver h n end lines a c → ⊥
 unfolding rest_at
-rest_good h n end [] p a c some good t = some t.0
-rest_good h n end (line ∷ lines) p a c some good t =
+rest_good ver usable h n end [] p a c some good t = some t.0
+rest_good ver usable h n end (line ∷ lines) p a c some good t =
     let words = words_of line.1 in
-    let b = bind_ok (at_line line.0 (entry_at version_1 h n words)) _ p good in
-    let o = bind_ok (rest_at version_1 h (begun_after b.0 n) lines) _ p b.2 in
-    let g = entry_good h n words b.0 some (at_line_ok line.0 (entry_at version_1 h n words) b.0 b.1) in
+    let b = bind_ok (at_line line.0 (entry_at ver h n words)) _ p good in
+    let o = bind_ok (rest_at ver h (begun_after b.0 n) lines) _ p b.2 in
+    let g = entry_good ver usable h n words b.0 some (at_line_ok line.0 (entry_at ver h n words) b.0 b.1) in
     elim t [
       | inl q ↦ g.0 c q.1.here
-      | inr q ↦ rest_good h (begun_after b.0 n) end lines o.0 a c (some_after b.0 n some) o.1 (subst (λ (k : ℕ). TellsRest h k end lines a c) g.1 q.1)
+      | inr q ↦ rest_good ver usable h (begun_after b.0 n) end lines o.0 a c (some_after b.0 n some) o.1 (subst (λ (k : ℕ). TellsRest ver h k end lines a c) g.1 q.1)
     ]
 
-threads_good : (h : Config) (end : ℕ) (lines : List (ℕ × List ℕ)) (threads : List (List Command)) (a : ℕ) (c : Cause) → threads_at version_1 end h lines ≡ Ok threads → TellsRest h 0 end lines a c → ⊥
+threads_good : (ver : Version) (usable : IsUsable ver) (h : Config) (end : ℕ) (lines : List (ℕ × List ℕ)) (threads : List (List Command)) (a : ℕ) (c : Cause) → threads_at ver end h lines ≡ Ok threads → TellsRest ver h 0 end lines a c → ⊥
 unfolding threads_at programs_at
-threads_good h end [] threads a c good t = absurd cc
-threads_good h end (line ∷ lines) threads a c good t =
+threads_good ver usable h end [] threads a c good t = absurd cc
+threads_good ver usable h end (line ∷ lines) threads a c good t =
     let words = words_of line.1 in
-    let b = bind_ok (at_line line.0 (section_at version_1 h 0 words)) _ threads good in
-    let o = bind_ok (rest_at version_1 h 1 lines) _ threads b.2 in
-    let g = section_takes h 0 words b.0 (at_line_ok line.0 (section_at version_1 h 0 words) b.0 b.1) in
+    let b = bind_ok (at_line line.0 (section_at ver h 0 words)) _ threads good in
+    let o = bind_ok (rest_at ver h 1 lines) _ threads b.2 in
+    let g = section_takes ver usable h 0 words b.0 (at_line_ok line.0 (section_at ver h 0 words) b.0 b.1) in
     let begun : begun_with 0 words ≡ 1 = ap (begun_with 0) g.0.0 in
     elim t [
-      | inl q ↦ section_faultless h 0 words (inr refl) g.0 c q.1.here
-      | inr q ↦ rest_good h 1 end lines o.0 a c (λ e. omega arith) o.1 (subst (λ (k : ℕ). TellsRest h k end lines a c) begun q.1)
+      | inl q ↦ section_faultless ver usable h 0 words (inr refl) g.0 c q.1.here
+      | inr q ↦ rest_good ver usable h 1 end lines o.0 a c (λ e. omega arith) o.1 (subst (λ (k : ℕ). TellsRest ver h k end lines a c) begun q.1)
     ]
 
-heap_good : (end : ℕ) (lines : List (ℕ × List ℕ)) (h : Config × List (ℕ × List ℕ)) (threads : List (List Command)) (a : ℕ) (c : Cause) → heap_at end lines ≡ Ok h → threads_at version_1 end h.0 h.1 ≡ Ok threads → TellsHeap end lines a c → ⊥
+heap_good : (ver : Version) (usable : IsUsable ver) (end : ℕ) (lines : List (ℕ × List ℕ)) (h : Config × List (ℕ × List ℕ)) (threads : List (List Command)) (a : ℕ) (c : Cause) → heap_at end lines ≡ Ok h → threads_at ver end h.0 h.1 ≡ Ok threads → TellsHeap ver end lines a c → ⊥
 unfolding heap_at
-heap_good end [] h threads a c good more t = absurd cc
-heap_good end (line ∷ lines) h threads a c good more t =
+heap_good ver usable end [] h threads a c good more t = absurd cc
+heap_good ver usable end (line ∷ lines) h threads a c good more t =
     let b = bind_ok (at_line line.0 (heap_words_at (words_of line.1))) (λ config. Ok (config, lines)) h good in
     let g = heap_takes (words_of line.1) b.0 (at_line_ok line.0 (heap_words_at (words_of line.1)) b.0 b.1) in
     let is : line.1 ≡ spaced (heap_words b.0) = sym (spaced-words_of line.1) ∙ ap spaced g.0 in
     let parts : (b.0, lines) ≡ h = ok_is {E = ℕ × Cause} (b.0, lines) h b.2 in
-    let later : threads_at version_1 end b.0 lines ≡ Ok threads = rw (← parts) at more in
+    let later : threads_at ver end b.0 lines ≡ Ok threads = rw (← parts) at more in
     elim t [
       | inl q ↦ q.2 b.0 g.1 is
-      | inr q ↦ threads_good b.0 end lines threads a c later (subst (λ (k : Config). TellsRest k 0 end lines a c) (one_config line.1 q.0 b.0 q.1 g.1 q.2 is) q.3)
+      | inr q ↦ threads_good ver usable b.0 end lines threads a c later (subst (λ (k : Config). TellsRest ver k 0 end lines a c) (one_config line.1 q.0 b.0 q.1 g.1 q.2 is) q.3)
     ]
 
-version_good : (end : ℕ) (lines : List (ℕ × List ℕ)) (p : Version × List (ℕ × List ℕ)) (h : Config × List (ℕ × List ℕ)) (threads : List (List Command)) (a : ℕ) (c : Cause) → version_at end lines ≡ Ok p → heap_at end p.1 ≡ Ok h → threads_at p.0 end h.0 h.1 ≡ Ok threads → Tells end lines a c → ⊥
+-- a text without lines names no version
+no_version : (end : ℕ) (p : Version × List (ℕ × List ℕ)) → version_at end [] ≡ Ok p → ⊥
 unfolding version_at
-version_good end [] p h threads a c good heap more t = absurd cc
+no_version end p good = absurd cc
+
+version_good : (end : ℕ) (lines : List (ℕ × List ℕ)) (p : Version × List (ℕ × List ℕ)) (h : Config × List (ℕ × List ℕ)) (threads : List (List Command)) (a : ℕ) (c : Cause) → version_at end lines ≡ Ok p → heap_at end p.1 ≡ Ok h → threads_at p.0 end h.0 h.1 ≡ Ok threads → Tells end lines a c → ⊥
+version_good end [] p h threads a c good heap more t = no_version end p good
 version_good end (line ∷ lines) p h threads a c good heap more t =
-    let g = guard_ok (bytes_eq line.1 (codes "nmgc 1")) (line.0, cause.Version) (version_1, lines) p good in
+    let f = version_found end line lines p good in
     elim t [
-      | inl q ↦ q.2 ((bytes_eq-Decides line.1 (codes "nmgc 1")).0 g.0)
-      | inr q ↦ heap_good end lines h threads a c (rw (← g.1) at heap) (rw (← g.1) at more) q.1
+      | inl q ↦ q.2 p.0 f.0 f.1
+      | inr q ↦ heap_good p.0 (usable_version p.0 f.0) end p.1 h threads a c heap more (subst (λ (v : Version). TellsHeap v end p.1 a c) (one_version line.1 q.0 p.0 q.1 f.0 q.2 f.1) (subst (λ (l : List (ℕ × List ℕ)). TellsHeap q.0 end l a c) f.2 q.3))
     ]
 
 -- lines that are read as a script have no fault to tell

@@ -8,12 +8,13 @@ use Rattle.nmgc_graph.specs.declared.command.Command.{Command}
 use Rattle.nmgc_graph.specs.Command.{Fits}
 use Rattle.nmgc_script.specs.declared.script.Script.{Script}
 use Rattle.nmgc_script.specs.Limits.{FitsScript}
+use Rattle.nmgc_script.specs.laws.Versions.{threads_few, usable_number}
 use Rattle.nmgc_script.specs.Text.{lines_of, kept_from, is_passed}
 use Rattle.nmgc_script.specs.Printing.{after_spaces}
-use Rattle.nmgc_script.specs.Spelling.{spaced, command_words, heap_words, section_words, program_lines, section_lines, script_lines, ended, plain, Spells}
+use Rattle.nmgc_script.specs.Spelling.{spaced, command_words, heap_words, section_words, version_words, program_lines, section_lines, script_lines, ended, plain, Spells}
 use Rattle.nmgc_script.proofs.Cut.{cut_on, lines_cut}
 use Rattle.nmgc_script.proofs.SectionLaws.{text}
-use Rattle.nmgc_script.proofs.LineLaws.{IsBare, MakeLine, command_line_words, heap_line_words, section_line_words}
+use Rattle.nmgc_script.proofs.LineLaws.{IsBare, MakeLine, command_line_words, heap_line_words, section_line_words, version_line_words}
 
 pub spaced_after : (word : List ℕ) (words : List (List ℕ)) → spaced (word ∷ words) ≡ word ++ after_spaces words
 spaced_after word [] = sym (append-nil word)
@@ -84,10 +85,10 @@ sections_kept size n (program ∷ programs) few h =
 
 script_kept : (s : Script) → FitsScript s → AllByRecursion IsKept (script_lines s)
 script_kept s fits = (
-  record { one = ((λ e. omega arith), ((λ e. omega arith), ((λ e. omega arith), ((λ e. omega arith), ((λ e. omega arith), ((λ e. omega arith), tt)))))); kept = refl },
+  made_kept (version_words s.version) (version_line_words s.version (let usable = usable_number s.version in omega (arith, fits.version, usable.number))),
   (
     made_kept (heap_words s.config) (heap_line_words s.config fits.config),
-    sections_kept s.config.words 0 s.threads (omega (arith, fits.threads)) (recursion_from_All (λ program. All (Fits s.config.words) program) s.threads fits.commands),
+    sections_kept s.config.words 0 s.threads (omega (arith, threads_few s fits)) (recursion_from_All (λ program. All (Fits s.config.words) program) s.threads fits.commands),
   ),
 )
 

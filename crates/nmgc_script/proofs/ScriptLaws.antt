@@ -5,11 +5,11 @@ use Rattle.std.specs.Str.{bytes_eq}
 use Rattle.std.proofs.lemmas.Bool.Decides.{eqb_tells}
 use Rattle.std.proofs.lemmas.List.{length-map, length-append}
 use Rattle.std.proofs.lemmas.List.Sums.{sum_by-cons}
-use Rattle.std.proofs.lemmas.List.Elements.{All-from_recursion, recursion_from_All}
+use Rattle.std.proofs.lemmas.List.Elements.{All-from_recursion, All-weaker, recursion_from_All}
 use Rattle.std.proofs.lemmas.Slice.Eq.{bytes_eq-Decides}
 use Rattle.nmgc_limits.specs.Limits.{most_heap_words}
 use Rattle.nmgc_graph.specs.declared.command.Command.{Command}
-use Rattle.nmgc_graph.specs.Command.{Fits}
+use Rattle.nmgc_graph.specs.Command.{Fits, HasRegistersBelow}
 use Rattle.nmgc_script.specs.declared.fault.Cause.{Cause}
 use Rattle.nmgc_script.specs.declared.fault.Cause.TheVariants as cause
 use Rattle.nmgc_script.specs.declared.fault.ScriptFault.{ScriptFault}
@@ -18,31 +18,81 @@ use Rattle.nmgc_script.specs.declared.script.Config.{Config}
 use Rattle.nmgc_script.specs.declared.script.Script.{Script}
 use Rattle.nmgc_script.specs.declared.version.Version.{Version}
 use Rattle.nmgc_script.specs.declared.sections.Entry.TheVariants as entry
-use Rattle.nmgc_script.specs.Limits.{FitsConfig, FitsScript, total_words, version_1}
+use Rattle.nmgc_script.specs.laws.Versions.{IsUsable, usable_version, usable_number, version_is}
+use Rattle.nmgc_script.specs.Limits.{FitsConfig, FitsScript, IsVersion, total_words, version_1, version_2, version_of}
 use Rattle.nmgc_script.specs.Text.{lines_of, words_of, kept_from, kept_lines, end_of, onto_first, is_passed}
-use Rattle.nmgc_script.specs.Spelling.{spaced, heap_words, section_words, command_words, program_lines, section_lines, script_lines, Spells}
+use Rattle.nmgc_script.specs.Spelling.{spaced, heap_words, section_words, version_words, command_words, program_lines, section_lines, script_lines, Spells}
 use Rattle.nmgc_script.specs.Reading.{heap_words_at, section_at, rest_at, programs_at, threads_at, version_at, heap_at, script_at, at_line, GivesAt}
-use Rattle.nmgc_script.proofs.WordLaws.{bind_ok, guard_ok, ok_is}
-use Rattle.nmgc_script.proofs.LineLaws.{spaced-words_of, words_of-line, heap_line_words, section_line_words}
+use Rattle.nmgc_script.proofs.WordLaws.{bind_ok, guard_ok, chosen, ok_is}
+use Rattle.nmgc_script.proofs.CommandLaws.{Fit}
+use Rattle.nmgc_script.proofs.LineLaws.{spaced-words_of, words_of-line, heap_line_words, section_line_words, first_line, second_line}
 use Rattle.nmgc_script.proofs.ConfigLaws.{heap_takes, heap_again}
 use Rattle.nmgc_script.proofs.SectionLaws.{text, at_line_ok, section_takes, section_again, rest_takes, rest_again, fewer}
 
 -- `All` and the same by recursion, in two levels
-all_from : {X : Type 0} (P : X → Type 0) (xss : List (List X)) → AllByRecursion (AllByRecursion P) xss → AllByRecursion (All P) xss
-all_from P [] h = tt
-all_from P (xs ∷ xss) h = (All-from_recursion P xs h.0, all_from P xss h.1)
+all_of : {X : Type 0} (P Q : X → Type 0) → ((x : X) → P x → Q x) → (xss : List (List X)) → AllByRecursion (AllByRecursion P) xss → All (λ xs. All Q xs) xss
+all_of {X} P Q f xss h = All-from_recursion (λ xs. All Q xs) xss (each xss h)
+  where
+    each : (xss : List (List X)) → AllByRecursion (AllByRecursion P) xss → AllByRecursion (λ xs. All Q xs) xss
+    each [] h = tt
+    each (xs ∷ xss) h = (All-weaker P Q f xs (All-from_recursion P xs h.0), each xss h.1)
 
-all_to : {X : Type 0} (P : X → Type 0) (xss : List (List X)) → AllByRecursion (All P) xss → AllByRecursion (AllByRecursion P) xss
-all_to P [] h = tt
-all_to P (xs ∷ xss) h = (recursion_from_All P xs h.0, all_to P xss h.1)
+both_to : {X : Type 0} (P Q : X → Type 0) (xss : List (List X)) → All (λ xs. All P xs) xss → All (λ xs. All Q xs) xss → AllByRecursion (AllByRecursion (λ x. P x × Q x)) xss
+both_to {X} P Q xss h k = each xss (recursion_from_All (λ xs. All P xs) xss h) (recursion_from_All (λ xs. All Q xs) xss k)
+  where
+    both : (xs : List X) → AllByRecursion P xs → AllByRecursion Q xs → AllByRecursion (λ x. P x × Q x) xs
+    both [] h k = tt
+    both (x ∷ xs) h k = ((h.0, k.0), both xs h.1 k.1)
 
-version_takes : (end : ℕ) (lines : List (ℕ × List ℕ)) (p : Version × List (ℕ × List ℕ)) → version_at end lines ≡ Ok p → (map text lines ≡ codes "nmgc 1" ∷ map text p.1) × (p.0 ≡ version_1)
+    each : (xss : List (List X)) → AllByRecursion (λ xs. All P xs) xss → AllByRecursion (λ xs. All Q xs) xss → AllByRecursion (AllByRecursion (λ x. P x × Q x)) xss
+    each [] h k = tt
+    each (xs ∷ xss) h k = (both xs (recursion_from_All P xs h.0) (recursion_from_All Q xs k.0), each xss h.1 k.1)
+
+-- the script with this version
+abbrev numbered : ℕ → Script → Script
+numbered n s = record { version = n; config = s.config; threads = s.threads }
+
+-- a text without lines names no version
+nothing : (end : ℕ) (p : Version × List (ℕ × List ℕ)) → version_at end [] ≡ Ok p → ⊥
 unfolding version_at
-version_takes end [] p e = absurd cc
+nothing end p e = absurd cc
+
+-- a line that is read as one of a version is its line
+pub version_found : (end : ℕ) (line : ℕ × List ℕ) (lines : List (ℕ × List ℕ)) (p : Version × List (ℕ × List ℕ)) → version_at end (line ∷ lines) ≡ Ok p → IsVersion p.0 × (line.1 ≡ spaced (version_words p.0.number)) × (lines ≡ p.1)
+unfolding version_at
+version_found end line lines p e =
+    elim (chosen (bytes_eq line.1 (codes "nmgc 1")) (Ok (version_1, lines)) (cond (bytes_eq line.1 (codes "nmgc 2")) (Ok (version_2, lines)) (Err (line.0, cause.Version))) (Ok p) e) [
+      | inl q ↦
+          let here : line.1 ≡ codes "nmgc 1" = (bytes_eq-Decides line.1 (codes "nmgc 1")).0 q.0 in
+          subst Found (ok_is {E = ℕ × Cause} (version_1, lines) p q.1) (inl refl, here ∙ sym first_line, refl)
+      | inr q ↦
+          let g = guard_ok (bytes_eq line.1 (codes "nmgc 2")) (line.0, cause.Version) (version_2, lines) p q.1 in
+          let here : line.1 ≡ codes "nmgc 2" = (bytes_eq-Decides line.1 (codes "nmgc 2")).0 g.0 in
+          subst Found g.1 (inr refl, here ∙ sym second_line, refl)
+    ]
+  where
+    Found : Version × List (ℕ × List ℕ) → Type 0
+    Found r = IsVersion r.0 × (line.1 ≡ spaced (version_words r.0.number)) × (lines ≡ r.1)
+
+version_takes : (end : ℕ) (lines : List (ℕ × List ℕ)) (p : Version × List (ℕ × List ℕ)) → version_at end lines ≡ Ok p → (map text lines ≡ spaced (version_words p.0.number) ∷ map text p.1) × IsVersion p.0
+version_takes end [] p e = absurd (nothing end p e)
 version_takes end (line ∷ lines) p e =
-    let g = guard_ok (bytes_eq line.1 (codes "nmgc 1")) (line.0, cause.Version) (version_1, lines) p e in
-    let here : line.1 ≡ codes "nmgc 1" = (bytes_eq-Decides line.1 (codes "nmgc 1")).0 g.0 in
-    subst (λ (q : Version × List (ℕ × List ℕ)). (map text (line ∷ lines) ≡ codes "nmgc 1" ∷ map text q.1) × (q.0 ≡ version_1)) g.1 (ap (λ (l : List ℕ). l ∷ map text lines) here, refl)
+    let f = version_found end line lines p e in
+    (cc (f.1, f.2), f.0)
+
+-- the line of a version is read as it
+version_again : (end : ℕ) (line : ℕ × List ℕ) (lines : List (ℕ × List ℕ)) (n : ℕ) → n ≡ (version_of n).number → line.1 ≡ spaced (version_words n) → version_at end (line ∷ lines) ≡ Ok (version_of n, lines)
+unfolding version_at
+version_again end line lines n is e = elim (eqb_tells n 1) [
+  | inl p ↦
+      let here : line.1 ≡ codes "nmgc 1" = e ∙ ap (λ (k : ℕ). spaced (version_words k)) p.1 ∙ first_line in
+      rw (p.0, (bytes_eq-Decides line.1 (codes "nmgc 1")).1 here) refl
+  | inr p ↦
+      let two : n ≡ 2 = is ∙ ap (λ (b : Bool). (cond b version_1 version_2).number) p.0 in
+      let here : line.1 ≡ codes "nmgc 2" = e ∙ ap (λ (k : ℕ). spaced (version_words k)) two ∙ second_line in
+      let other : bytes_eq line.1 (codes "nmgc 1") ≡ false = ap (λ (l : List ℕ). bytes_eq l (codes "nmgc 1")) here in
+      rw (p.0, other, (bytes_eq-Decides line.1 (codes "nmgc 2")).1 here) refl
+]
 
 heap_at_takes : (end : ℕ) (lines : List (ℕ × List ℕ)) (p : Config × List (ℕ × List ℕ)) → heap_at end lines ≡ Ok p → (map text lines ≡ spaced (heap_words p.0) ∷ map text p.1) × FitsConfig p.0
 unfolding heap_at
@@ -54,31 +104,31 @@ heap_at_takes end (line ∷ lines) p e =
     subst (λ (q : Config × List (ℕ × List ℕ)). (map text (line ∷ lines) ≡ spaced (heap_words q.0) ∷ map text q.1) × FitsConfig q.0) (ok_is {E = ℕ × Cause} (b.0, lines) p b.2) (ap (λ (l : List ℕ). l ∷ map text lines) here, t.1)
 
 -- the lines spell the programs, which are within the limits
-record ThreadsSpelled (h : Config) (lines : List (ℕ × List ℕ)) (threads : List (List Command)) : Type 0 where
+record ThreadsSpelled (ver : Version) (h : Config) (lines : List (ℕ × List ℕ)) (threads : List (List Command)) : Type 0 where
   lines_are : map text lines ≡ section_lines 0 threads
   some : 1 ≤ length threads
-  few : length threads ≤ version_1.threads
+  few : length threads ≤ ver.threads
   total : total_words h (length threads) ≤ most_heap_words
-  fit : AllByRecursion (AllByRecursion (Fits h.words)) threads
+  fit : AllByRecursion (AllByRecursion (Fit ver h.words)) threads
 
-threads_takes : (end : ℕ) (h : Config) (lines : List (ℕ × List ℕ)) (threads : List (List Command)) → threads_at version_1 end h lines ≡ Ok threads → ThreadsSpelled h lines threads
+threads_takes : (ver : Version) (usable : IsUsable ver) (end : ℕ) (h : Config) (lines : List (ℕ × List ℕ)) (threads : List (List Command)) → threads_at ver end h lines ≡ Ok threads → ThreadsSpelled ver h lines threads
 unfolding threads_at programs_at
-threads_takes end h [] threads e = absurd cc
-threads_takes end h (line ∷ lines) threads e =
-    let b = bind_ok (at_line line.0 (section_at version_1 h 0 (words_of line.1))) _ threads e in
-    let p = bind_ok (rest_at version_1 h 1 lines) _ threads b.2 in
-    let s = section_takes h 0 (words_of line.1) b.0 (at_line_ok line.0 (section_at version_1 h 0 (words_of line.1)) b.0 b.1) in
-    let r = rest_takes h 1 lines p.0 (omega arith) s.0.2 p.1 in
+threads_takes ver usable end h [] threads e = absurd cc
+threads_takes ver usable end h (line ∷ lines) threads e =
+    let b = bind_ok (at_line line.0 (section_at ver h 0 (words_of line.1))) _ threads e in
+    let p = bind_ok (rest_at ver h 1 lines) _ threads b.2 in
+    let s = section_takes ver usable h 0 (words_of line.1) b.0 (at_line_ok line.0 (section_at ver h 0 (words_of line.1)) b.0 b.1) in
+    let r = rest_takes ver usable h 1 lines p.0 (omega (arith, usable.some_thread)) s.0.2 p.1 in
     let here : line.1 ≡ spaced (section_words 0) = sym (spaced-words_of line.1) ∙ ap spaced s.0.0 in
     let more : 1 + length p.0.1 ≡ length (p.0.0 ∷ p.0.1) = omega arith in
-    let all : ThreadsSpelled h (line ∷ lines) (p.0.0 ∷ p.0.1) = record {
+    let all : ThreadsSpelled ver h (line ∷ lines) (p.0.0 ∷ p.0.1) = record {
       lines_are = cc (here, r.lines_are);
       some = omega (arith, more);
       few = omega (arith, r.few, more);
       total = subst (λ (k : ℕ). total_words h k ≤ most_heap_words) more r.total;
       fit = (r.first, r.others);
     } in
-    subst (ThreadsSpelled h (line ∷ lines)) (ok_is {E = ℕ × Cause} (p.0.0 ∷ p.0.1) threads p.2) all
+    subst (ThreadsSpelled ver h (line ∷ lines)) (ok_is {E = ℕ × Cause} (p.0.0 ∷ p.0.1) threads p.2) all
 
 script_takes : (end : ℕ) (lines : List (ℕ × List ℕ)) (s : Script) → script_at end lines ≡ Ok s → (map text lines ≡ script_lines s) × FitsScript s
 unfolding script_at
@@ -88,45 +138,48 @@ script_takes end lines s e =
     let t = bind_ok (threads_at b.0.0 end h.0.0 h.0.1) _ s h.2 in
     let first = version_takes end lines b.0 b.1 in
     let second = heap_at_takes end b.0.1 h.0 h.1 in
-    let third = threads_takes end h.0.0 h.0.1 t.0 (subst (λ (v : Version). threads_at v end h.0.0 h.0.1 ≡ Ok t.0) first.1 t.1) in
+    let third = threads_takes b.0.0 (usable_version b.0.0 first.1) end h.0.0 h.0.1 t.0 t.1 in
+    let same : b.0.0 ≡ version_of b.0.0.number = sym (version_is b.0.0 first.1) in
     let made : Script = record { version = b.0.0.number; config = h.0.0; threads = t.0 } in
     let fits : FitsScript made = record {
-      version = ap (λ (v : Version). v.number) first.1;
+      version = ap (λ (v : Version). v.number) same;
       config = second.1;
       some_thread = third.some;
-      threads = third.few;
+      threads = subst (λ (v : Version). length t.0 ≤ v.threads) same third.few;
       total = third.total;
-      commands = All-from_recursion (λ program. All (Fits h.0.0.words) program) t.0 (all_from (Fits h.0.0.words) t.0 third.fit);
+      commands = all_of (Fit b.0.0 h.0.0.words) (Fits h.0.0.words) (λ c fit. fit.0) t.0 third.fit;
+      registers = subst (λ (v : Version). All (λ program. All (HasRegistersBelow v.registers) program) t.0) same (all_of (Fit b.0.0 h.0.0.words) (HasRegistersBelow b.0.0.registers) (λ c fit. fit.1) t.0 third.fit);
     } in
     subst (λ (k : Script). (map text lines ≡ script_lines k) × FitsScript k) (ok_is {E = ℕ × Cause} made s t.2) (cc (first.0, second.0, third.lines_are), fits)
 
-threads_again : (end : ℕ) (h : Config) (lines : List (ℕ × List ℕ)) (threads : List (List Command)) → 1 ≤ length threads → length threads ≤ version_1.threads → total_words h (length threads) ≤ most_heap_words → AllByRecursion (AllByRecursion (Fits h.words)) threads → map text lines ≡ section_lines 0 threads → threads_at version_1 end h lines ≡ Ok threads
+threads_again : (ver : Version) (usable : IsUsable ver) (end : ℕ) (h : Config) (lines : List (ℕ × List ℕ)) (threads : List (List Command)) → 1 ≤ length threads → length threads ≤ ver.threads → total_words h (length threads) ≤ most_heap_words → AllByRecursion (AllByRecursion (Fit ver h.words)) threads → map text lines ≡ section_lines 0 threads → threads_at ver end h lines ≡ Ok threads
 unfolding threads_at programs_at
-threads_again end h lines [] some few total fit e = absurd (omega arith)
-threads_again end h [] (program ∷ programs) some few total fit e = absurd cc
-threads_again end h (line ∷ lines) (program ∷ programs) some few total fit e =
+threads_again ver usable end h lines [] some few total fit e = absurd (omega arith)
+threads_again ver usable end h [] (program ∷ programs) some few total fit e = absurd cc
+threads_again ver usable end h (line ∷ lines) (program ∷ programs) some few total fit e =
     let more : 1 + length programs ≡ length (program ∷ programs) = omega arith in
     let here : line.1 ≡ spaced (section_words 0) = cc in
     let words : words_of line.1 ≡ section_words 0 = ap words_of here ∙ words_of-line (section_words 0) (section_line_words 0 (omega arith)) in
     let room : total_words h 1 ≤ most_heap_words = fewer h 1 (length (program ∷ programs)) most_heap_words (omega (arith, more)) total in
-    let read : section_at version_1 h 0 (words_of line.1) ≡ Ok entry.Section = ap (section_at version_1 h 0) words ∙ section_again h 0 (omega arith) room in
+    let read : section_at ver h 0 (words_of line.1) ≡ Ok entry.Section = ap (section_at ver h 0) words ∙ section_again ver usable h 0 (omega (arith, usable.some_thread)) room in
     let after : map text lines ≡ program_lines program ++ section_lines 1 programs = cc in
-    rw (read, rest_again h 1 lines program programs fit.0 fit.1 (omega (arith, few, more)) (subst (λ (k : ℕ). total_words h k ≤ most_heap_words) (sym more) total) after) refl
+    rw (read, rest_again ver usable h 1 lines program programs fit.0 fit.1 (omega (arith, few, more)) (subst (λ (k : ℕ). total_words h k ≤ most_heap_words) (sym more) total) after) refl
 
 pub script_again : (end : ℕ) (lines : List (ℕ × List ℕ)) (s : Script) → FitsScript s → map text lines ≡ script_lines s → script_at end lines ≡ Ok s
-unfolding script_at version_at heap_at
+unfolding script_at heap_at
 script_again end [] s fits e = absurd cc
 script_again end (first ∷ []) s fits e = absurd cc
 script_again end (first ∷ second ∷ lines) s fits e =
-    let is_first : first.1 ≡ codes "nmgc 1" = cc in
+    let ver : Version = version_of s.version in
+    let is_first : first.1 ≡ spaced (version_words s.version) = cc in
     let is_second : second.1 ≡ spaced (heap_words s.config) = cc in
     let after : map text lines ≡ section_lines 0 s.threads = cc in
     let words : words_of second.1 ≡ heap_words s.config = ap words_of is_second ∙ words_of-line (heap_words s.config) (heap_line_words s.config fits.config) in
-    let version : bytes_eq first.1 (codes "nmgc 1") ≡ true = (bytes_eq-Decides first.1 (codes "nmgc 1")).1 is_first in
+    let version : version_at end (first ∷ second ∷ lines) ≡ Ok (ver, second ∷ lines) = version_again end first (second ∷ lines) s.version fits.version is_first in
     let config : heap_words_at (words_of second.1) ≡ Ok s.config = ap heap_words_at words ∙ heap_again s.config fits.config in
-    let threads : threads_at version_1 end s.config lines ≡ Ok s.threads = threads_again end s.config lines s.threads fits.some_thread fits.threads fits.total (all_to (Fits s.config.words) s.threads (recursion_from_All (λ program. All (Fits s.config.words) program) s.threads fits.commands)) after in
-    let one : 1 ≡ s.version = sym fits.version in
-    rw (version, config, threads, one) refl
+    let threads : threads_at ver end s.config lines ≡ Ok s.threads = threads_again ver (usable_number s.version) end s.config lines s.threads fits.some_thread fits.threads fits.total (both_to (Fits s.config.words) (HasRegistersBelow ver.registers) s.threads fits.commands fits.registers) after in
+    let read : script_at end (first ∷ second ∷ lines) ≡ Ok (numbered ver.number s) = rw (version, config, threads) refl in
+    read ∙ ap (λ (n : ℕ). Ok (numbered n s)) (sym fits.version)
 
 -- what was read is spelled so
 pub found : (bytes : List ℕ) (r : Result Script ScriptFault) → GivesAt (λ s. s) r (script_at (end_of bytes) (kept_lines bytes)) → IfOk r (λ s. Spells bytes s)

@@ -7,7 +7,6 @@ use Rattle.std.proofs.Math.Nat.{mul-le-mul_right}
 use Rattle.std.proofs.lemmas.Slice.Eq.{bytes_eq-Decides}
 use Rattle.nmgc_limits.specs.Limits.{most_heap_words}
 use Rattle.nmgc_graph.specs.declared.command.Command.{Command}
-use Rattle.nmgc_graph.specs.Command.{Fits}
 use Rattle.nmgc_script.specs.declared.fault.Cause.{Cause}
 use Rattle.nmgc_script.specs.declared.fault.Cause.TheVariants as cause
 use Rattle.nmgc_script.specs.declared.script.Config.{Config}
@@ -15,12 +14,14 @@ use Rattle.nmgc_script.specs.declared.verbs.Verb.{Verb}
 use Rattle.nmgc_script.specs.declared.verbs.Verb.TheVariants as verb
 use Rattle.nmgc_script.specs.declared.sections.Entry.{Entry}
 use Rattle.nmgc_script.specs.declared.sections.Entry.TheVariants as entry
-use Rattle.nmgc_script.specs.Limits.{total_words, version_1}
+use Rattle.nmgc_script.specs.declared.version.Version.{Version}
+use Rattle.nmgc_script.specs.laws.Versions.{IsUsable}
+use Rattle.nmgc_script.specs.Limits.{total_words}
 use Rattle.nmgc_script.specs.Text.{words_of}
 use Rattle.nmgc_script.specs.Spelling.{spaced, verb_name, command_words, section_words, program_lines, section_lines}
 use Rattle.nmgc_script.specs.Reading.{◌>>=◌, number_at, or_cause, thread_at, section_at, is_section, entry_at, command_at, at_line, with_entry, begun_after, rest_at}
 use Rattle.nmgc_script.proofs.WordLaws.{Reads, bind_ok, guard_ok, chosen, ok_is, number_reads}
-use Rattle.nmgc_script.proofs.CommandLaws.{words_read, command_reads}
+use Rattle.nmgc_script.proofs.CommandLaws.{Fit, words_read, command_reads}
 use Rattle.nmgc_script.proofs.LineLaws.{spaced-words_of, words_of-line, command_line_words, section_line_words}
 
 pub at_line_ok : {A : Type 0} (n : ℕ) (r : Result A Cause) (x : A) → at_line n r ≡ Ok x → r ≡ Ok x
@@ -31,60 +32,60 @@ pub or_cause_ok : {A : Type 0} (c : Cause) (r : Result A Cause) (x : A) → or_c
 or_cause_ok c (Ok y) x e = e
 or_cause_ok c (Err d) x e = absurd cc
 
-pub thread_reads : Reads (thread_at version_1) section_words (λ n. n < version_1.threads)
+pub thread_reads : (ver : Version) (usable : IsUsable ver) → Reads (thread_at ver) section_words (λ n. n < ver.threads)
 unfolding thread_at
-thread_reads = record { takes = takes; again = again }
+thread_reads ver usable = record { takes = takes; again = again }
   where
-    takes : (words : List (List ℕ)) (n : ℕ) → thread_at version_1 words ≡ Ok n → (words ≡ section_words n) × (n < version_1.threads)
+    takes : (words : List (List ℕ)) (n : ℕ) → thread_at ver words ≡ Ok n → (words ≡ section_words n) × (n < ver.threads)
     takes [] n e = absurd cc
     takes (name ∷ []) n e = absurd cc
     takes (name ∷ number ∷ other ∷ others) n e = absurd cc
     takes (name ∷ number ∷ []) n e =
-        elim (chosen (bytes_eq name (codes "thread")) (or_cause cause.Thread (number_at (version_1.threads - 1) number)) (Err cause.Thread) (Ok n) e) [
+        elim (chosen (bytes_eq name (codes "thread")) (or_cause cause.Thread (number_at (ver.threads - 1) number)) (Err cause.Thread) (Ok n) e) [
           | inl p ↦
-              let t = (number_reads (version_1.threads - 1) (omega arith)).takes number n (or_cause_ok cause.Thread (number_at (version_1.threads - 1) number) n p.1) in
+              let t = (number_reads (ver.threads - 1) (omega (arith, usable.threads))).takes number n (or_cause_ok cause.Thread (number_at (ver.threads - 1) number) n p.1) in
               let first : name ≡ codes "thread" = (bytes_eq-Decides name (codes "thread")).0 p.0 in
-              (cc (first, t.0), omega (arith, t.1))
+              (cc (first, t.0), omega (arith, t.1, usable.some_thread))
           | inr p ↦ absurd (let never : Err cause.Thread ≡ Ok n = p.1 in cc)
         ]
 
-    again : (n : ℕ) → n < version_1.threads → thread_at version_1 (section_words n) ≡ Ok n
-    again n h = rw ((number_reads (version_1.threads - 1) (omega arith)).again n (omega arith)) refl
+    again : (n : ℕ) → n < ver.threads → thread_at ver (section_words n) ≡ Ok n
+    again n h = rw ((number_reads (ver.threads - 1) (omega (arith, usable.threads))).again n (omega arith)) refl
 
 -- the section line of thread n, for which there is room
-abbrev pub Begins : Config → ℕ → List (List ℕ) → Type 0
-Begins h n words = (words ≡ section_words n) × (n < version_1.threads) × (total_words h (n + 1) ≤ most_heap_words)
+abbrev pub Begins : Version → Config → ℕ → List (List ℕ) → Type 0
+Begins ver h n words = (words ≡ section_words n) × (n < ver.threads) × (total_words h (n + 1) ≤ most_heap_words)
 
-pub section_takes : (h : Config) (n : ℕ) (words : List (List ℕ)) (e : Entry) → section_at version_1 h n words ≡ Ok e → Begins h n words × (e ≡ entry.Section)
+pub section_takes : (ver : Version) (usable : IsUsable ver) (h : Config) (n : ℕ) (words : List (List ℕ)) (e : Entry) → section_at ver h n words ≡ Ok e → Begins ver h n words × (e ≡ entry.Section)
 unfolding section_at
-section_takes h n words e read =
-    let b = bind_ok (thread_at version_1 words) _ e read in
-    let t = thread_reads.takes words b.0 b.1 in
+section_takes ver usable h n words e read =
+    let b = bind_ok (thread_at ver words) _ e read in
+    let t = (thread_reads ver usable).takes words b.0 b.1 in
     elim (chosen (eqb b.0 n) _ (Err cause.Thread) (Ok e) b.2) [
       | inl p ↦
           let g = guard_ok (leb (total_words h (n + 1)) most_heap_words) cause.Total entry.Section e p.1 in
           let same : b.0 ≡ n = eqb-true b.0 n p.0 in
-          ((subst (λ (k : ℕ). words ≡ section_words k) same t.0, subst (λ (k : ℕ). k < version_1.threads) same t.1, leb-true (total_words h (n + 1)) most_heap_words g.0), sym g.1)
+          ((subst (λ (k : ℕ). words ≡ section_words k) same t.0, subst (λ (k : ℕ). k < ver.threads) same t.1, leb-true (total_words h (n + 1)) most_heap_words g.0), sym g.1)
       | inr p ↦ absurd (let never : Err cause.Thread ≡ Ok e = p.1 in cc)
     ]
 
-pub section_again : (h : Config) (n : ℕ) → n < version_1.threads → total_words h (n + 1) ≤ most_heap_words → section_at version_1 h n (section_words n) ≡ Ok entry.Section
+pub section_again : (ver : Version) (usable : IsUsable ver) (h : Config) (n : ℕ) → n < ver.threads → total_words h (n + 1) ≤ most_heap_words → section_at ver h n (section_words n) ≡ Ok entry.Section
 unfolding section_at
-section_again h n few total = rw (thread_reads.again n few, eq-eqb n n refl, le-leb (total_words h (n + 1)) most_heap_words total) refl
+section_again ver usable h n few total = rw ((thread_reads ver usable).again n few, eq-eqb n n refl, le-leb (total_words h (n + 1)) most_heap_words total) refl
 
 -- the words spell the entry
-abbrev EntrySpelled : Config → ℕ → List (List ℕ) → Entry → Type 0
-EntrySpelled h n words entry.Section = Begins h n words
-EntrySpelled h n words (entry.Order c) = (words ≡ command_words c) × Fits h.words c
+abbrev EntrySpelled : Version → Config → ℕ → List (List ℕ) → Entry → Type 0
+EntrySpelled ver h n words entry.Section = Begins ver h n words
+EntrySpelled ver h n words (entry.Order c) = (words ≡ command_words c) × Fit ver h.words c
 
-entry_takes : (h : Config) (n : ℕ) (words : List (List ℕ)) (e : Entry) → entry_at version_1 h n words ≡ Ok e → EntrySpelled h n words e
+entry_takes : (ver : Version) (usable : IsUsable ver) (h : Config) (n : ℕ) (words : List (List ℕ)) (e : Entry) → entry_at ver h n words ≡ Ok e → EntrySpelled ver h n words e
 unfolding entry_at
-entry_takes h n words e read =
-    elim (chosen (is_section words) (section_at version_1 h n words) (command_at version_1 h.words words >>= λ c. Ok (entry.Order c)) (Ok e) read) [
-      | inl p ↦ let t = section_takes h n words e p.1 in subst (EntrySpelled h n words) (sym t.1) t.0
+entry_takes ver usable h n words e read =
+    elim (chosen (is_section words) (section_at ver h n words) (command_at ver h.words words >>= λ c. Ok (entry.Order c)) (Ok e) read) [
+      | inl p ↦ let t = section_takes ver usable h n words e p.1 in subst (EntrySpelled ver h n words) (sym t.1) t.0
       | inr p ↦
-          let b = bind_ok (command_at version_1 h.words words) _ e p.1 in
-          subst (EntrySpelled h n words) (ok_is {E = Cause} (entry.Order b.0) e b.2) ((command_reads h.words).takes words b.0 b.1)
+          let b = bind_ok (command_at ver h.words words) _ e p.1 in
+          subst (EntrySpelled ver h n words) (ok_is {E = Cause} (entry.Order b.0) e b.2) ((command_reads ver usable h.words).takes words b.0 b.1)
     ]
 
 -- a verb's name doesn't begin a section
@@ -114,31 +115,31 @@ verb_apart verb.Yield = refl
 verb_apart verb.Collect = refl
 verb_apart verb.Full = refl
 
-not_section : (size : ℕ) (c : Command) → Fits size c → is_section (command_words c) ≡ false
-not_section size c fits = let r = words_read c fits.registers fits.numbers in ap is_section r.2 ∙ verb_apart r.0
+not_section : (ver : Version) (usable : IsUsable ver) (size : ℕ) (c : Command) → Fit ver size c → is_section (command_words c) ≡ false
+not_section ver usable size c fits = let r = words_read ver usable c fits.1 fits.0.numbers in ap is_section r.2 ∙ verb_apart r.0
 
-order_again : (h : Config) (n : ℕ) (c : Command) → Fits h.words c → entry_at version_1 h n (command_words c) ≡ Ok (entry.Order c)
+order_again : (ver : Version) (usable : IsUsable ver) (h : Config) (n : ℕ) (c : Command) → Fit ver h.words c → entry_at ver h n (command_words c) ≡ Ok (entry.Order c)
 unfolding entry_at
-order_again h n c fits = rw (not_section h.words c fits, (command_reads h.words).again c fits) refl
+order_again ver usable h n c fits = rw (not_section ver usable h.words c fits, (command_reads ver usable h.words).again c fits) refl
 
-begin_again : (h : Config) (n : ℕ) → n < version_1.threads → total_words h (n + 1) ≤ most_heap_words → entry_at version_1 h n (section_words n) ≡ Ok entry.Section
+begin_again : (ver : Version) (usable : IsUsable ver) (h : Config) (n : ℕ) → n < ver.threads → total_words h (n + 1) ≤ most_heap_words → entry_at ver h n (section_words n) ≡ Ok entry.Section
 unfolding entry_at
-begin_again h n few total = section_again h n few total
+begin_again ver usable h n few total = section_again ver usable h n few total
 
 -- the line's text
 abbrev pub text : ℕ × List ℕ → List ℕ
 text line = line.1
 
 -- the lines spell the commands of the section that is read and the programs after it
-pub record RestSpelled (h : Config) (n : ℕ) (lines : List (ℕ × List ℕ)) (p : List Command × List (List Command)) : Type 0 where
+pub record RestSpelled (ver : Version) (h : Config) (n : ℕ) (lines : List (ℕ × List ℕ)) (p : List Command × List (List Command)) : Type 0 where
   pub lines_are : map text lines ≡ program_lines p.0 ++ section_lines n p.1
-  pub first : AllByRecursion (Fits h.words) p.0
-  pub others : AllByRecursion (AllByRecursion (Fits h.words)) p.1
-  pub few : n + length p.1 ≤ version_1.threads
+  pub first : AllByRecursion (Fit ver h.words) p.0
+  pub others : AllByRecursion (AllByRecursion (Fit ver h.words)) p.1
+  pub few : n + length p.1 ≤ ver.threads
   pub total : total_words h (n + length p.1) ≤ most_heap_words
 
-entry_more : (h : Config) (n : ℕ) (line : ℕ × List ℕ) (lines : List (ℕ × List ℕ)) (e : Entry) (p : List Command × List (List Command)) → EntrySpelled h n (words_of line.1) e → RestSpelled h (begun_after e n) lines p → RestSpelled h n (line ∷ lines) (with_entry e p)
-entry_more h n line lines entry.Section p s r =
+entry_more : (ver : Version) (usable : IsUsable ver) (h : Config) (n : ℕ) (line : ℕ × List ℕ) (lines : List (ℕ × List ℕ)) (e : Entry) (p : List Command × List (List Command)) → EntrySpelled ver h n (words_of line.1) e → RestSpelled ver h (begun_after e n) lines p → RestSpelled ver h n (line ∷ lines) (with_entry e p)
+entry_more ver usable h n line lines entry.Section p s r =
     let more : (n + 1) + length p.1 ≡ n + length (p.0 ∷ p.1) = omega arith in
     let here : line.1 ≡ spaced (section_words n) = sym (spaced-words_of line.1) ∙ ap spaced s.0 in
     record {
@@ -148,7 +149,7 @@ entry_more h n line lines entry.Section p s r =
       few = omega (arith, r.few, more);
       total = subst (λ (k : ℕ). total_words h k ≤ most_heap_words) more r.total;
     }
-entry_more h n line lines (entry.Order c) p s r =
+entry_more ver usable h n line lines (entry.Order c) p s r =
     let here : line.1 ≡ spaced (command_words c) = sym (spaced-words_of line.1) ∙ ap spaced s.0 in
     record {
       lines_are = cc (here, r.lines_are);
@@ -159,29 +160,29 @@ entry_more h n line lines (entry.Order c) p s r =
     }
 
 -- after an entry there is still room
-room_after : (h : Config) (n : ℕ) (words : List (List ℕ)) (e : Entry) → EntrySpelled h n words e → n ≤ version_1.threads → total_words h n ≤ most_heap_words → (begun_after e n ≤ version_1.threads) × (total_words h (begun_after e n) ≤ most_heap_words)
-room_after h n words entry.Section s few total = (omega (arith, s.1), s.2)
-room_after h n words (entry.Order c) s few total = (few, total)
+room_after : (ver : Version) (usable : IsUsable ver) (h : Config) (n : ℕ) (words : List (List ℕ)) (e : Entry) → EntrySpelled ver h n words e → n ≤ ver.threads → total_words h n ≤ most_heap_words → (begun_after e n ≤ ver.threads) × (total_words h (begun_after e n) ≤ most_heap_words)
+room_after ver usable h n words entry.Section s few total = (omega (arith, s.1), s.2)
+room_after ver usable h n words (entry.Order c) s few total = (few, total)
 
-pub rest_takes : (h : Config) (n : ℕ) (lines : List (ℕ × List ℕ)) (p : List Command × List (List Command)) → n ≤ version_1.threads → total_words h n ≤ most_heap_words → rest_at version_1 h n lines ≡ Ok p → RestSpelled h n lines p
+pub rest_takes : (ver : Version) (usable : IsUsable ver) (h : Config) (n : ℕ) (lines : List (ℕ × List ℕ)) (p : List Command × List (List Command)) → n ≤ ver.threads → total_words h n ≤ most_heap_words → rest_at ver h n lines ≡ Ok p → RestSpelled ver h n lines p
 unfolding rest_at
-rest_takes h n [] p few total e =
-    let none : RestSpelled h n [] ([], []) = record { lines_are = refl; first = tt; others = tt; few = omega arith; total = let same : n ≡ n + 0 = omega arith in subst (λ (k : ℕ). total_words h k ≤ most_heap_words) same total } in
-    subst (RestSpelled h n []) (ok_is {E = ℕ × Cause} ([], []) p e) none
-rest_takes h n (line ∷ lines) p few total e =
-    let b = bind_ok (at_line line.0 (entry_at version_1 h n (words_of line.1))) _ p e in
-    let o = bind_ok (rest_at version_1 h (begun_after b.0 n) lines) _ p b.2 in
-    let spelled = entry_takes h n (words_of line.1) b.0 (at_line_ok line.0 (entry_at version_1 h n (words_of line.1)) b.0 b.1) in
-    let room = room_after h n (words_of line.1) b.0 spelled few total in
-    let r = rest_takes h (begun_after b.0 n) lines o.0 room.0 room.1 o.1 in
-    subst (RestSpelled h n (line ∷ lines)) (ok_is {E = ℕ × Cause} (with_entry b.0 o.0) p o.2) (entry_more h n line lines b.0 o.0 spelled r)
+rest_takes ver usable h n [] p few total e =
+    let none : RestSpelled ver h n [] ([], []) = record { lines_are = refl; first = tt; others = tt; few = omega arith; total = let same : n ≡ n + 0 = omega arith in subst (λ (k : ℕ). total_words h k ≤ most_heap_words) same total } in
+    subst (RestSpelled ver h n []) (ok_is {E = ℕ × Cause} ([], []) p e) none
+rest_takes ver usable h n (line ∷ lines) p few total e =
+    let b = bind_ok (at_line line.0 (entry_at ver h n (words_of line.1))) _ p e in
+    let o = bind_ok (rest_at ver h (begun_after b.0 n) lines) _ p b.2 in
+    let spelled = entry_takes ver usable h n (words_of line.1) b.0 (at_line_ok line.0 (entry_at ver h n (words_of line.1)) b.0 b.1) in
+    let room = room_after ver usable h n (words_of line.1) b.0 spelled few total in
+    let r = rest_takes ver usable h (begun_after b.0 n) lines o.0 room.0 room.1 o.1 in
+    subst (RestSpelled ver h n (line ∷ lines)) (ok_is {E = ℕ × Cause} (with_entry b.0 o.0) p o.2) (entry_more ver usable h n line lines b.0 o.0 spelled r)
 
 -- fewer threads have fewer words
 pub fewer : (h : Config) (n m limit : ℕ) → n ≤ m → total_words h m ≤ limit → total_words h n ≤ limit
 fewer h n m limit le total = omega (arith, mul-le-mul_right h.nursery le)
 
-module _ (h : Config) where
-  pub rest_again : (n : ℕ) (lines : List (ℕ × List ℕ)) (cs : List Command) (ts : List (List Command)) → AllByRecursion (Fits h.words) cs → AllByRecursion (AllByRecursion (Fits h.words)) ts → n + length ts ≤ version_1.threads → total_words h (n + length ts) ≤ most_heap_words → map text lines ≡ program_lines cs ++ section_lines n ts → rest_at version_1 h n lines ≡ Ok (cs, ts)
+module _ (ver : Version) (usable : IsUsable ver) (h : Config) where
+  pub rest_again : (n : ℕ) (lines : List (ℕ × List ℕ)) (cs : List Command) (ts : List (List Command)) → AllByRecursion (Fit ver h.words) cs → AllByRecursion (AllByRecursion (Fit ver h.words)) ts → n + length ts ≤ ver.threads → total_words h (n + length ts) ≤ most_heap_words → map text lines ≡ program_lines cs ++ section_lines n ts → rest_at ver h n lines ≡ Ok (cs, ts)
   unfolding rest_at
   rest_again n [] [] [] fit fits few total e = refl
   rest_again n [] [] (t ∷ ts) fit fits few total e = absurd cc
@@ -189,16 +190,16 @@ module _ (h : Config) where
   rest_again n (line ∷ lines) [] [] fit fits few total e = absurd cc
   rest_again n (line ∷ lines) (c ∷ cs) ts fit fits few total e =
       let here : line.1 ≡ spaced (command_words c) = cc in
-      let words : words_of line.1 ≡ command_words c = ap words_of here ∙ words_of-line (command_words c) (command_line_words h.words c fit.0) in
-      let read : entry_at version_1 h n (words_of line.1) ≡ Ok (entry.Order c) = ap (entry_at version_1 h n) words ∙ order_again h n c fit.0 in
+      let words : words_of line.1 ≡ command_words c = ap words_of here ∙ words_of-line (command_words c) (command_line_words h.words c fit.0.0) in
+      let read : entry_at ver h n (words_of line.1) ≡ Ok (entry.Order c) = ap (entry_at ver h n) words ∙ order_again ver usable h n c fit.0 in
       let after : map text lines ≡ program_lines cs ++ section_lines n ts = cc in
       rw (read, rest_again n lines cs ts fit.1 fits few total after) refl
   rest_again n (line ∷ lines) [] (t ∷ ts) fit fits few total e =
       let more : (n + 1) + length ts ≡ n + length (t ∷ ts) = omega arith in
       let here : line.1 ≡ spaced (section_words n) = cc in
-      let lt : n < version_1.threads = omega (arith, few, more) in
-      let words : words_of line.1 ≡ section_words n = ap words_of here ∙ words_of-line (section_words n) (section_line_words n (omega arith)) in
+      let lt : n < ver.threads = omega (arith, few, more) in
+      let words : words_of line.1 ≡ section_words n = ap words_of here ∙ words_of-line (section_words n) (section_line_words n (omega (arith, lt, usable.threads))) in
       let room : total_words h (n + 1) ≤ most_heap_words = fewer h (n + 1) (n + length (t ∷ ts)) most_heap_words (omega arith) total in
-      let read : entry_at version_1 h n (words_of line.1) ≡ Ok entry.Section = ap (entry_at version_1 h n) words ∙ begin_again h n lt room in
+      let read : entry_at ver h n (words_of line.1) ≡ Ok entry.Section = ap (entry_at ver h n) words ∙ begin_again ver usable h n lt room in
       let after : map text lines ≡ program_lines t ++ section_lines (n + 1) ts = cc in
       rw (read, rest_again (n + 1) lines t ts fits.0 fits.1 (omega (arith, few, more)) (subst (λ (k : ℕ). total_words h k ≤ most_heap_words) (sym more) total) after) refl

@@ -4,11 +4,12 @@ use Rattle.std.specs.List.{AllByRecursion}
 use Rattle.std.proofs.lemmas.Bool.{le-leb, leb-true}
 use Rattle.std.proofs.lemmas.List.{length-map}
 use Rattle.nmgc_graph.specs.declared.command.Operand.{Operand}
-use Rattle.nmgc_graph.specs.Command.{IsRegister, IsOperand}
+use Rattle.nmgc_graph.specs.Command.{IsRegisterBelow, IsOperandBelow}
 use Rattle.nmgc_script.specs.declared.fault.Cause.{Cause}
 use Rattle.nmgc_script.specs.declared.fault.Cause.TheVariants as cause
 use Rattle.nmgc_script.specs.declared.fault.LineFault.{LineFault}
-use Rattle.nmgc_script.specs.Limits.{version_1}
+use Rattle.nmgc_script.specs.declared.version.Version.{Version}
+use Rattle.nmgc_script.specs.laws.Versions.{IsUsable}
 use Rattle.nmgc_script.specs.Spelling.{register_word, operand_word}
 use Rattle.nmgc_script.specs.Reading.{◌>>=◌, Fails, register_at, operand_at, long_at, short_at, tag_at, each_at, one_at, two_at, three_at, four_at, con_at, thunk_at}
 use Rattle.nmgc_script.proofs.WordLaws.{Reads, bind_ok, chosen, ok_is, number_reads, register_reads, operand_reads, each_reads}
@@ -98,50 +99,50 @@ four_reads {A} {B} {C} {D} {f} {wf} {P} {g} {wg} {Q} {h} {wh} {R} {i} {wi} {S} r
     again : (p : A × B × C × D) → (P p.0 × Q p.1 × R p.2 × S p.3) → four_at f g h i (wf p.0 ∷ wg p.1 ∷ wh p.2 ∷ wi p.3 ∷ []) ≡ Ok p
     again p k = rw ((two_reads rf rg).again (p.0, p.1) (k.0, k.1), (two_reads rh ri).again (p.2, p.3) (k.2, k.3)) refl
 
-fields_reads : Reads (each_at (operand_at version_1)) (map operand_word) (AllByRecursion IsOperand)
-fields_reads = each_reads (operand_at version_1) operand_word IsOperand operand_reads
+fields_reads : (ver : Version) (usable : IsUsable ver) → Reads (each_at (operand_at ver)) (map operand_word) (AllByRecursion (IsOperandBelow ver.registers))
+fields_reads ver usable = each_reads (operand_at ver) operand_word (IsOperandBelow ver.registers) (operand_reads ver usable)
 
-pub con_reads : Reads (con_at version_1) (λ p. register_word p.0 ∷ decimal p.1 ∷ map operand_word p.2) (λ p. IsRegister p.0 × (p.1 < 256) × AllByRecursion IsOperand p.2)
+pub con_reads : (ver : Version) (usable : IsUsable ver) → Reads (con_at ver) (λ p. register_word p.0 ∷ decimal p.1 ∷ map operand_word p.2) (λ p. IsRegisterBelow ver.registers p.0 × (p.1 < 256) × AllByRecursion (IsOperandBelow ver.registers) p.2)
 unfolding con_at
-con_reads = record { takes = takes; again = again }
+con_reads ver usable = record { takes = takes; again = again }
   where
-    takes : (words : List (List ℕ)) (p : ℕ × ℕ × List Operand) → con_at version_1 words ≡ Ok p → (words ≡ register_word p.0 ∷ decimal p.1 ∷ map operand_word p.2) × (IsRegister p.0 × (p.1 < 256) × AllByRecursion IsOperand p.2)
+    takes : (words : List (List ℕ)) (p : ℕ × ℕ × List Operand) → con_at ver words ≡ Ok p → (words ≡ register_word p.0 ∷ decimal p.1 ∷ map operand_word p.2) × (IsRegisterBelow ver.registers p.0 × (p.1 < 256) × AllByRecursion (IsOperandBelow ver.registers) p.2)
     takes [] p e = absurd cc
     takes (dest ∷ []) p e = absurd cc
     takes (dest ∷ tag ∷ fields) p e =
-        let d = bind_ok (register_at version_1 dest) _ p e in
+        let d = bind_ok (register_at ver dest) _ p e in
         let t = bind_ok (tag_at tag) _ p d.2 in
-        let f = bind_ok (each_at (operand_at version_1) fields) _ p t.2 in
-        let dw = register_reads.takes dest d.0 d.1 in
+        let f = bind_ok (each_at (operand_at ver) fields) _ p t.2 in
+        let dw = (register_reads ver usable).takes dest d.0 d.1 in
         let tw = tag_reads.takes tag t.0 t.1 in
-        let fw = fields_reads.takes fields f.0 f.1 in
+        let fw = (fields_reads ver usable).takes fields f.0 f.1 in
         let same : dest ∷ tag ∷ fields ≡ register_word d.0 ∷ decimal t.0 ∷ map operand_word f.0 = cc (dw.0, tw.0, fw.0) in
-        subst (λ (q : ℕ × ℕ × List Operand). (dest ∷ tag ∷ fields ≡ register_word q.0 ∷ decimal q.1 ∷ map operand_word q.2) × (IsRegister q.0 × (q.1 < 256) × AllByRecursion IsOperand q.2)) (ok_is {E = Cause} (d.0, t.0, f.0) p f.2) (same, (dw.1, tw.1, fw.1))
+        subst (λ (q : ℕ × ℕ × List Operand). (dest ∷ tag ∷ fields ≡ register_word q.0 ∷ decimal q.1 ∷ map operand_word q.2) × (IsRegisterBelow ver.registers q.0 × (q.1 < 256) × AllByRecursion (IsOperandBelow ver.registers) q.2)) (ok_is {E = Cause} (d.0, t.0, f.0) p f.2) (same, (dw.1, tw.1, fw.1))
 
-    again : (p : ℕ × ℕ × List Operand) → (IsRegister p.0 × (p.1 < 256) × AllByRecursion IsOperand p.2) → con_at version_1 (register_word p.0 ∷ decimal p.1 ∷ map operand_word p.2) ≡ Ok p
-    again p h = rw (register_reads.again p.0 h.0, tag_reads.again p.1 h.1, fields_reads.again p.2 h.2) refl
+    again : (p : ℕ × ℕ × List Operand) → (IsRegisterBelow ver.registers p.0 × (p.1 < 256) × AllByRecursion (IsOperandBelow ver.registers) p.2) → con_at ver (register_word p.0 ∷ decimal p.1 ∷ map operand_word p.2) ≡ Ok p
+    again p h = rw ((register_reads ver usable).again p.0 h.0, tag_reads.again p.1 h.1, (fields_reads ver usable).again p.2 h.2) refl
 
-pub thunk_reads : Reads (thunk_at version_1) (λ p. register_word p.0 ∷ map operand_word p.1) (λ p. IsRegister p.0 × AllByRecursion IsOperand p.1 × (length p.1 ≤ 8))
+pub thunk_reads : (ver : Version) (usable : IsUsable ver) → Reads (thunk_at ver) (λ p. register_word p.0 ∷ map operand_word p.1) (λ p. IsRegisterBelow ver.registers p.0 × AllByRecursion (IsOperandBelow ver.registers) p.1 × (length p.1 ≤ 8))
 unfolding thunk_at
-thunk_reads = record { takes = takes; again = again }
+thunk_reads ver usable = record { takes = takes; again = again }
   where
-    takes : (words : List (List ℕ)) (p : ℕ × List Operand) → thunk_at version_1 words ≡ Ok p → (words ≡ register_word p.0 ∷ map operand_word p.1) × (IsRegister p.0 × AllByRecursion IsOperand p.1 × (length p.1 ≤ 8))
+    takes : (words : List (List ℕ)) (p : ℕ × List Operand) → thunk_at ver words ≡ Ok p → (words ≡ register_word p.0 ∷ map operand_word p.1) × (IsRegisterBelow ver.registers p.0 × AllByRecursion (IsOperandBelow ver.registers) p.1 × (length p.1 ≤ 8))
     takes [] p e = absurd cc
     takes (dest ∷ free) p e =
-        elim (chosen (leb (length free) 8) (register_at version_1 dest >>= λ d. each_at (operand_at version_1) free >>= λ fs. Ok (d, fs)) (Err cause.Arity) (Ok p) e) [
+        elim (chosen (leb (length free) 8) (register_at ver dest >>= λ d. each_at (operand_at ver) free >>= λ fs. Ok (d, fs)) (Err cause.Arity) (Ok p) e) [
           | inl c ↦
-              let d = bind_ok (register_at version_1 dest) _ p c.1 in
-              let f = bind_ok (each_at (operand_at version_1) free) _ p d.2 in
-              let dw = register_reads.takes dest d.0 d.1 in
-              let fw = fields_reads.takes free f.0 f.1 in
+              let d = bind_ok (register_at ver dest) _ p c.1 in
+              let f = bind_ok (each_at (operand_at ver) free) _ p d.2 in
+              let dw = (register_reads ver usable).takes dest d.0 d.1 in
+              let fw = (fields_reads ver usable).takes free f.0 f.1 in
               let few : length f.0 ≤ 8 = omega (arith, leb-true (length free) 8 c.0, ap length fw.0, length-map f.0 operand_word) in
               let same : dest ∷ free ≡ register_word d.0 ∷ map operand_word f.0 = cc (dw.0, fw.0) in
-              subst (λ (q : ℕ × List Operand). (dest ∷ free ≡ register_word q.0 ∷ map operand_word q.1) × (IsRegister q.0 × AllByRecursion IsOperand q.1 × (length q.1 ≤ 8))) (ok_is {E = Cause} (d.0, f.0) p f.2) (same, (dw.1, fw.1, few))
+              subst (λ (q : ℕ × List Operand). (dest ∷ free ≡ register_word q.0 ∷ map operand_word q.1) × (IsRegisterBelow ver.registers q.0 × AllByRecursion (IsOperandBelow ver.registers) q.1 × (length q.1 ≤ 8))) (ok_is {E = Cause} (d.0, f.0) p f.2) (same, (dw.1, fw.1, few))
           | inr c ↦ absurd (let never : Err cause.Arity ≡ Ok p = c.1 in cc)
         ]
 
-    again : (p : ℕ × List Operand) → (IsRegister p.0 × AllByRecursion IsOperand p.1 × (length p.1 ≤ 8)) → thunk_at version_1 (register_word p.0 ∷ map operand_word p.1) ≡ Ok p
-    again p h = rw (length-map p.1 operand_word, le-leb (length p.1) 8 h.2, register_reads.again p.0 h.0, fields_reads.again p.1 h.1) refl
+    again : (p : ℕ × List Operand) → (IsRegisterBelow ver.registers p.0 × AllByRecursion (IsOperandBelow ver.registers) p.1 × (length p.1 ≤ 8)) → thunk_at ver (register_word p.0 ∷ map operand_word p.1) ≡ Ok p
+    again p h = rw (length-map p.1 operand_word, le-leb (length p.1) 8 h.2, (register_reads ver usable).again p.0 h.0, (fields_reads ver usable).again p.1 h.1) refl
 
 -- a fault of the first two of four words is one of all
 pub front_fails : {W A B C D : Type 0} (view : W → List ℕ) (f : List ℕ → Result A Cause) (g : List ℕ → Result B Cause) (h : List ℕ → Result C Cause) (i : List ℕ → Result D Cause) (words : List W) (first second : W) (e : LineFault) → 4 ≤ length words → length words < 5 → Fails e (two_at f g (view (get_or words 0 first) ∷ view (get_or words 1 second) ∷ [])) → Fails e (four_at f g h i (map view words))

@@ -10,8 +10,9 @@ use Rattle.nmgc_graph.specs.declared.command.Operand.{Operand}
 use Rattle.nmgc_graph.specs.declared.command.Operand.TheVariants.{Register, Shared}
 use Rattle.nmgc_script.specs.declared.fault.Cause.{Cause}
 use Rattle.nmgc_script.specs.declared.fault.Cause.TheVariants as cause
-use Rattle.nmgc_script.specs.Limits.{version_1}
-use Rattle.nmgc_graph.specs.Command.{IsRegister, IsOperand}
+use Rattle.nmgc_script.specs.declared.version.Version.{Version}
+use Rattle.nmgc_script.specs.laws.Versions.{IsUsable}
+use Rattle.nmgc_graph.specs.Command.{IsRegisterBelow, IsOperandBelow}
 use Rattle.nmgc_script.specs.Spelling.{register_word, operand_word}
 use Rattle.nmgc_script.specs.Reading.{◌>>=◌, number_at, register_at, operand_at, each_at}
 
@@ -72,38 +73,38 @@ number_takes limit word n e =
 pub number_reads : (limit : ℕ) → limit < 2 ^ 64 → Reads (number_at limit) decimal (λ n. n ≤ limit)
 number_reads limit small = record { takes = number_takes limit; again = λ n le. number_again limit n le (omega arith) }
 
-pub register_reads : Reads (register_at version_1) register_word IsRegister
+pub register_reads : (ver : Version) (usable : IsUsable ver) → Reads (register_at ver) register_word (IsRegisterBelow ver.registers)
 unfolding register_at
-register_reads = record { takes = takes; again = again }
+register_reads ver usable = record { takes = takes; again = again }
   where
-    takes : (x : List ℕ) (r : ℕ) → register_at version_1 x ≡ Ok r → (x ≡ register_word r) × IsRegister r
+    takes : (x : List ℕ) (r : ℕ) → register_at ver x ≡ Ok r → (x ≡ register_word r) × IsRegisterBelow ver.registers r
     takes [] r e = absurd cc
     takes (b ∷ digits) r e =
-        elim (chosen (eqb b 114) (number_at (version_1.registers - 1) digits) (Err cause.Operand) (Ok r) e) [
-          | inl p ↦ let t = number_takes (version_1.registers - 1) digits r p.1 in let first : b ≡ 114 = eqb-true b 114 p.0 in (cc (first, t.0), omega (arith, t.1))
+        elim (chosen (eqb b 114) (number_at (ver.registers - 1) digits) (Err cause.Operand) (Ok r) e) [
+          | inl p ↦ let t = number_takes (ver.registers - 1) digits r p.1 in let first : b ≡ 114 = eqb-true b 114 p.0 in (cc (first, t.0), omega (arith, t.1, usable.some_register))
           | inr p ↦ absurd (let never : Err cause.Operand ≡ Ok r = p.1 in cc)
         ]
 
-    again : (r : ℕ) → IsRegister r → register_at version_1 (register_word r) ≡ Ok r
-    again r le = number_again (version_1.registers - 1) r (omega arith) (omega arith)
+    again : (r : ℕ) → IsRegisterBelow ver.registers r → register_at ver (register_word r) ≡ Ok r
+    again r le = number_again (ver.registers - 1) r (omega arith) (omega (arith, usable.registers))
 
-pub operand_reads : Reads (operand_at version_1) operand_word IsOperand
+pub operand_reads : (ver : Version) (usable : IsUsable ver) → Reads (operand_at ver) operand_word (IsOperandBelow ver.registers)
 unfolding operand_at
-operand_reads = record { takes = takes; again = again }
+operand_reads ver usable = record { takes = takes; again = again }
   where
-    takes : (x : List ℕ) (o : Operand) → operand_at version_1 x ≡ Ok o → (x ≡ operand_word o) × IsOperand o
+    takes : (x : List ℕ) (o : Operand) → operand_at ver x ≡ Ok o → (x ≡ operand_word o) × IsOperandBelow ver.registers o
     takes x o e =
-        elim (chosen (bytes_eq x (codes "g")) (Ok Shared) (register_at version_1 x >>= λ r. Ok (Register r)) (Ok o) e) [
-          | inl p ↦ subst (λ (k : Operand). (x ≡ operand_word k) × IsOperand k) (ok_is {E = Cause} Shared o p.1) ((bytes_eq-Decides x (codes "g")).0 p.0, tt)
+        elim (chosen (bytes_eq x (codes "g")) (Ok Shared) (register_at ver x >>= λ r. Ok (Register r)) (Ok o) e) [
+          | inl p ↦ subst (λ (k : Operand). (x ≡ operand_word k) × IsOperandBelow ver.registers k) (ok_is {E = Cause} Shared o p.1) ((bytes_eq-Decides x (codes "g")).0 p.0, tt)
           | inr p ↦
-              let b = bind_ok (register_at version_1 x) (λ r. Ok (Register r)) o p.1 in
-              let t = register_reads.takes x b.0 b.1 in
-              subst (λ (k : Operand). (x ≡ operand_word k) × IsOperand k) (ok_is {E = Cause} (Register b.0) o b.2) t
+              let b = bind_ok (register_at ver x) (λ r. Ok (Register r)) o p.1 in
+              let t = (register_reads ver usable).takes x b.0 b.1 in
+              subst (λ (k : Operand). (x ≡ operand_word k) × IsOperandBelow ver.registers k) (ok_is {E = Cause} (Register b.0) o b.2) t
         ]
 
-    again : (o : Operand) → IsOperand o → operand_at version_1 (operand_word o) ≡ Ok o
+    again : (o : Operand) → IsOperandBelow ver.registers o → operand_at ver (operand_word o) ≡ Ok o
     again Shared h = refl
-    again (Register r) h = rw (register_reads.again r h) refl
+    again (Register r) h = rw ((register_reads ver usable).again r h) refl
 
 pub each_reads : {A B E : Type 0} (f : A → Result B E) (g : B → A) (P : B → Type 0) → Reads f g P → Reads (each_at f) (map g) (AllByRecursion P)
 unfolding each_at

@@ -5,3 +5,4 @@ pub mod Printing
 pub mod Reading
 pub mod Spelling
 pub mod Text
+pub mod laws

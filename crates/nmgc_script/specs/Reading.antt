@@ -26,7 +26,7 @@ use Rattle.nmgc_script.specs.declared.verbs.TheConstants.{VERBS}
 use Rattle.nmgc_script.specs.declared.version.Version.{Version}
 use Rattle.nmgc_script.specs.declared.sections.Entry.{Entry}
 use Rattle.nmgc_script.specs.declared.sections.Entry.TheVariants as entry
-use Rattle.nmgc_script.specs.Limits.{total_words, version_1}
+use Rattle.nmgc_script.specs.Limits.{total_words, version_1, version_2}
 use Rattle.nmgc_script.specs.Spelling.{verb_name}
 use Rattle.nmgc_script.specs.Text.{words_of}
 
@@ -284,7 +284,7 @@ threads_at v end h (line ∷ lines) = at_line line.0 (section_at v h 0 (words_of
 -- the version that its line names, and what comes after it
 unfoldable pub version_at : ℕ → List (ℕ × List ℕ) → Result (Version × List (ℕ × List ℕ)) (ℕ × Cause)
 version_at end [] = Err (end, cause.Version)
-version_at end (line ∷ lines) = if bytes_eq line.1 (codes "nmgc 1") then Ok (version_1, lines) else Err (line.0, cause.Version)
+version_at end (line ∷ lines) = if bytes_eq line.1 (codes "nmgc 1") then Ok (version_1, lines) else (if bytes_eq line.1 (codes "nmgc 2") then Ok (version_2, lines) else Err (line.0, cause.Version))
 
 -- the heap line, and what comes after it
 unfoldable pub heap_at : ℕ → List (ℕ × List ℕ) → Result (Config × List (ℕ × List ℕ)) (ℕ × Cause)

@@ -95,9 +95,13 @@ abbrev pub section_lines : ℕ → List (List Command) → List (List ℕ)
 section_lines n [] = []
 section_lines n (program ∷ programs) = spaced (section_words n) ∷ program_lines program ++ section_lines (n + 1) programs
 
+-- the words of the line that names a version
+abbrev pub version_words : ℕ → List (List ℕ)
+version_words n = codes "nmgc" ∷ decimal n ∷ []
+
 -- the lines of a script
 abbrev pub script_lines : Script → List (List ℕ)
-script_lines s = codes "nmgc 1" ∷ spaced (heap_words s.config) ∷ section_lines 0 s.threads
+script_lines s = spaced (version_words s.version) ∷ spaced (heap_words s.config) ∷ section_lines 0 s.threads
 
 -- the bytes spell the script: it is within the limits, and the lines that aren't passed over are its lines
 pub record Spells (bytes : List ℕ) (s : Script) : Type 0 where

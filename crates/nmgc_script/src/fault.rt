@@ -13,7 +13,7 @@ use thiserror::Error;
 /// What is wrong with a line, in the order in which it is tried.
 #[derive(Clone, Copy, Debug, PartialEq, Eq, Error)]
 pub enum Cause {
-    /// The first line isn't `nmgc 1`.
+    /// The first line isn't `nmgc 1` or `nmgc 2`.
     #[error("version")]
     Version,
     /// The second line isn't a heap line within the limits.

@@ -32,4 +32,4 @@ pub(crate) use fault::LineFault;
 pub use fault::{Cause, ScriptFault};
 pub use parsing::{parse, spells_one_script};
 pub use printing::print;
-pub use script::{Config, Script};
+pub use script::{Config, Script, upgrade};

@@ -84,13 +84,16 @@ fn version_line(lines: &mut Lines) -> Result<Version, ScriptFault>
             cause: Cause::Version,
         });
     };
-    if line != b"nmgc 1".as_slice() {
-        return Err(ScriptFault::Bad {
-            line: number,
-            cause: Cause::Version,
-        });
+    if line == b"nmgc 1".as_slice() {
+        return Ok(Version::first());
     }
-    Ok(Version::first())
+    if line == b"nmgc 2".as_slice() {
+        return Ok(Version::second());
+    }
+    Err(ScriptFault::Bad {
+        line: number,
+        cause: Cause::Version,
+    })
 }
 
 // Reads the heap line.

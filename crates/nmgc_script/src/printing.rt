@@ -6,7 +6,7 @@
 ghost use Rattle.std.specs.Prelude.{◌≡◌, ◌∷◌, [], ◌++◌, decimal, map, IfOk, OnOk};
 ghost use Rattle.nmgc_script.specs.Limits.{FitsScript};
 ghost use Rattle.nmgc_script.specs.Printing.{word_text, after_spaces};
-ghost use Rattle.nmgc_script.specs.Spelling.{Spells, command_words, ended, heap_words, operand_word, plain, program_lines, section_lines, section_words, spaced};
+ghost use Rattle.nmgc_script.specs.Spelling.{Spells, command_words, ended, heap_words, operand_word, plain, program_lines, section_lines, section_words, spaced, version_words};
 
 use crate::verbs::Verb;
 use crate::{Config, Script};
@@ -33,10 +33,19 @@ pub fn print(alloc: Global, script: &Script) -> Result<Vec<u8>, NoMemory>
     ensures back { IfOk result (λ bytes. Spells bytes.items script.now) }
 {
     let mut out = Vec::new(alloc);
-    out.extend_from_slice(b"nmgc 1\n")?;
+    push_version(&mut out, script.version)?;
     push_heap(&mut out, &script.config)?;
     push_sections(&mut out, script.threads.items())?;
     Ok(out)
+}
+
+// Appends the line that names a version.
+fn push_version(out: &mut Vec<u8>, version: u8) -> Result<(), NoMemory>
+    ensures { OnOk result (out.new.items ≡ out.old.items ++ (spaced (version_words version) ++ 10 ∷ [])) }
+{
+    push_line(out, b"nmgc", &[Word::Number(version as u64)])?;
+    out.push(b'\n')?;
+    Ok(())
 }
 
 // Appends a word.

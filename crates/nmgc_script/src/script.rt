@@ -4,6 +4,10 @@
 //! A config alone can't keep the limit of the whole heap: the nurseries are as many as the threads, so
 //! the total is a limit of the script. Easy to get wrong: the least nursery depends on the words of a
 //! segment, since an object that fills a segment has to fit in a nursery first.
+ghost use Rattle.std.specs.Prelude.{◌≡◌};
+ghost use Rattle.nmgc_script.specs.Limits.{FitsScript, upgraded};
+
+use crate::version::Version;
 use nmgc_graph::{Command, List};
 
 /// The numbers of the heap line. Segments and nurseries are measured in words.
@@ -29,4 +33,16 @@ pub struct Script {
     pub version: u8,
     pub config: Config,
     pub threads: List<List<Command>>,
+}
+
+/// The script in version 2, with the same config and programs. Takes no memory.
+pub fn upgrade(script: Script) -> Script
+    ensures is { result ≡ upgraded script }
+    ensures fits { FitsScript script → FitsScript result }
+{
+    Script {
+        version: Version::second().number,
+        config: script.config,
+        threads: script.threads,
+    }
 }

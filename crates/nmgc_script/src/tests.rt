@@ -1,5 +1,5 @@
 //! Scripts, good and bad, as tables.
-use crate::{Cause, ScriptFault, generate, parse, print, spells_one_script};
+use crate::{Cause, ScriptFault, generate, parse, print, spells_one_script, upgrade};
 use std::alloc::Global;
 use std::process::Abort;
 use std::test::Fail;
@@ -18,10 +18,12 @@ const SPACED: &str =
 const PLAIN: &str = "nmgc 1\nheap 1 16 16 1 1 65536\nthread 0\nthread 1\nyield\nthread 2\n";
 
 // Whole texts, with the line and the cause that are told.
-const TEXTS: [(&str, u32, Cause); 32] = [
+const TEXTS: [(&str, u32, Cause); 34] = [
     ("", 1, Cause::Version),
     ("#a\n#b", 3, Cause::Version),
-    ("\n\nnmgc 2\n", 3, Cause::Version),
+    ("\n\nnmgc 3\n", 3, Cause::Version),
+    ("nmgc 02\n", 1, Cause::Version),
+    ("nmgc 2", 2, Cause::Heap),
     ("nmgc 1 \n", 1, Cause::Version),
     (" nmgc 1\n", 1, Cause::Version),
     ("nmgc 01\n", 1, Cause::Version),
@@ -324,6 +326,54 @@ fn prints_what_it_reads_back(rt: HostRuntime) -> Result<(), Fail> {
     assert_eq!(rt; same.as_slice(), all.as_bytes());
     let plain = reprinted(&rt, rt.alloc(), SPACED)?;
     assert_eq!(rt; plain.as_slice(), PLAIN.as_bytes());
+    Ok(())
+}
+
+// A script of version 2 whose commands name registers that version 1 can't name.
+const SECOND: &str =
+    "nmgc 2\nheap 32 64 64 100 1000 0\nthread 0\nnum r63 5\ncon r40 0 r63\nget r41 r40 0\n";
+
+// Sections of no commands, after the line of a version and the heap line.
+fn sections(alloc: Global, version: u32, count: u32) -> Result<String, Fail> {
+    let mut text = format!(in alloc; "nmgc {version}\nheap 1 16 16 1 1 0\n")?;
+    for thread in 0..count {
+        text.push_str(format!(in alloc; "thread {thread}\n")?.as_str())?;
+    }
+    Ok(text)
+}
+
+#[test]
+fn reads_the_second_version(rt: HostRuntime) -> Result<(), Fail> {
+    let same = reprinted(&rt, rt.alloc(), SECOND)?;
+    assert_eq!(rt; same.as_slice(), SECOND.as_bytes());
+    let large = joined(rt.alloc(), SECOND, "num r64 5\n")?;
+    assert_eq!(rt;
+        told(&rt, rt.alloc(), large.as_bytes()),
+        Some((7, Cause::Operand))
+    );
+    for (version, most) in [(1u32, 8u32), (2, 32)] {
+        let few = sections(rt.alloc(), version, most)?;
+        assert_eq!(rt; told(&rt, rt.alloc(), few.as_bytes()), None, "{version}");
+        let many = sections(rt.alloc(), version, most + 1)?;
+        assert_eq!(rt;
+            told(&rt, rt.alloc(), many.as_bytes()),
+            Some((most + 3, Cause::Thread)),
+            "{version}"
+        );
+    }
+    Ok(())
+}
+
+#[test]
+fn upgrades_to_the_second_version(rt: HostRuntime) -> Result<(), Fail> {
+    let script = upgrade(parse(rt.alloc(), PLAIN.as_bytes())?);
+    let text = print(rt.alloc(), &script)?;
+    let want = joined(
+        rt.alloc(),
+        "nmgc 2\n",
+        "heap 1 16 16 1 1 65536\nthread 0\nthread 1\nyield\nthread 2\n",
+    )?;
+    assert_eq!(rt; text.as_slice(), want.as_bytes());
     Ok(())
 }
 

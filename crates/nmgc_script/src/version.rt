@@ -4,7 +4,9 @@
 //! which the functions that read a line are given: how many threads a script has, and which registers
 //! a command names. A world may have more of both than an old version can name.
 ghost use Rattle.std.specs.Prelude.{◌≡◌};
-ghost use Rattle.nmgc_script.specs.Limits.{version_1};
+ghost use Rattle.nmgc_script.specs.Limits.{version_1, version_2};
+
+use nmgc_graph::{MAKERS, REGISTERS};
 
 /// What a script of a version may name.
 #[derive(Clone, Copy, Debug, PartialEq, Eq)]
@@ -26,6 +28,17 @@ impl Version {
             number: 1,
             threads: 8,
             registers: 16,
+        }
+    }
+
+    /// Version 2. Takes no memory.
+    pub fn second() -> Version
+        ensures { result ≡ version_2 }
+    {
+        Version {
+            number: 2,
+            threads: MAKERS,
+            registers: REGISTERS,
         }
     }
 }

@@ -4,12 +4,11 @@ use Rattle.std.proofs.lemmas.List.{take_at}
 use Rattle.std.proofs.lemmas.Bool.{cases_eq, cases_lt}
 use Rattle.std.proofs.Math.Nat.{le-div_iff_mul-le}
 use Rattle.std.proofs.Math.ListN.{length-map, get_or-eq_default}
-use Rattle.std.proofs.lemmas.Nat.{pow_pos}
 use Rattle.nmgc_object.specs.Size.{block_size}
 use Rattle.nmgc_segment.specs.declared.state.State.{State}
 use Rattle.nmgc_segment.specs.declared.state.State.TheVariants.{Free, Current}
 use Rattle.nmgc_segment.specs.Marks.{IsEpoch, carried, swept, IsFirstUnmarked}
-use Rattle.nmgc_object.specs.laws.Classes.{class_few}
+use Rattle.nmgc_object.specs.laws.Classes.{class_few, least_block}
 use Rattle.nmgc_segment.specs.laws.Segments.{few_blocks, mark-map, all_carried, swept_bounds, zero_swept}
 use Rattle.nmgc_segment.specs.Segment.{Segment, IsSegment, IsUnused, HasBlocks, InUse, IsMarked, block_count, segment_words, mark_of}
 
@@ -138,7 +137,7 @@ finds_none now epoch any e found = (
 -- there is a block
 some_block : (s : Segment) → IsSegment s → 0 < block_count s
 some_block s h =
-    let pos : 0 < block_size s.class = omega (arith, pow_pos s.class) in
+    let pos : 0 < block_size s.class = omega (arith, least_block s.class) in
     (le-div_iff_mul-le pos).1 (omega (arith, h.fits))
 
 -- a sweep finds all exactly where every block was of the epoch
@@ -167,3 +166,32 @@ filled_from s now blocks epoch at any slice marks slice_after P seen e h is foun
     let here = subst (λ (ms : List ℕ). IsTrue any ↔ HasMark ms epoch) is found in
     let first_here = subst (λ (ms : List ℕ). IsFirstUnmarked ms 0 blocks at) (same ∙ sym swept_is) first in
     subst (λ (t : Segment). P ↔ ((b : ℕ) → b < block_count t → IsMarked t epoch b)) seen (through answer (finds_all s blocks epoch at any e h.0 h.1 here first_here))
+
+-- where the blocks in use are those of the epoch, none and all are told by the mark bytes too
+pub unused_as : (now : Segment) (epoch : ℕ) (P : Type 0) → ((b : ℕ) → InUse now b ↔ IsMarked now epoch b) → P ↔ ((b : ℕ) → IsMarked now epoch b → ⊥) → P ↔ ((b : ℕ) → InUse now b → ⊥)
+unused_as now epoch P same answer = (
+  (λ p b used. answer.0 p b ((same b).0 used)),
+  (λ none. answer.1 (λ b marked. none b ((same b).1 marked))),
+)
+
+all_used : (s : Segment) (blocks epoch : ℕ) (any : Bool) → IsSegment s → HasBlocks s blocks → IsTrue any ↔ HasMark s.marks epoch → ((b : ℕ) → InUse s b ↔ IsMarked s epoch b) → (IsTrue any × (s.next_free ≡ blocks)) ↔ ((b : ℕ) → b < block_count s → InUse s b)
+all_used s blocks epoch any h n found same = (
+  (λ all b inside. inl (omega (arith, all.1, n.count, inside))),
+  (λ all.
+      let some : 0 < blocks = omega (arith, some_block s h, n.count) in (
+        found.1 (0, omega (arith, n.marked, some), (same 0).0 (all 0 (some_block s h))),
+        elim (cases_lt s.next_free (block_count s)) [
+          | inl lt ↦ elim (all s.next_free lt) [
+            | inl below ↦ absurd (omega (arith, below))
+            | inr marked ↦ absurd (marked h.next_unmarked)
+          ]
+          | inr ge ↦ omega (arith, ge, h.next_free, n.count)
+        ],
+      )),
+)
+
+pub used_from : (s now : Segment) (blocks epoch : ℕ) (any : Bool) (slice : List ℕ) (P : Type 0) → s ≡ now → IsSegment s × HasBlocks s blocks → slice ≡ s.marks → IsTrue any ↔ HasMark slice epoch → ((b : ℕ) → InUse now b ↔ IsMarked now epoch b) → P ↔ (IsTrue any × (s.next_free ≡ blocks)) → P ↔ ((b : ℕ) → b < block_count now → InUse now b)
+used_from s now blocks epoch any slice P seen h is found same answer =
+    let here = subst (λ (ms : List ℕ). IsTrue any ↔ HasMark ms epoch) is found in
+    let same_here = subst (λ (t : Segment). (b : ℕ) → InUse t b ↔ IsMarked t epoch b) (sym seen) same in
+    subst (λ (t : Segment). P ↔ ((b : ℕ) → b < block_count t → InUse t b)) seen (through answer (all_used s blocks epoch any h.0 h.1 here same_here))

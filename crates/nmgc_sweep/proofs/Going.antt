@@ -42,6 +42,11 @@ module _ (c : Cycle) (closed : ℕ) (words after : List ℕ) (a b : AllocState) 
       marked = λ n block name is lies.
           let lay : LiesIn a n block name = ap (λ (names : List (Option Name)). name_in (record (cells a n) { names = names }) block) (sym (k.names n (waited n is))) ∙ lies in
           subst (λ (m : ℕ). (m ≡ sweeper.seen.epoch) ↔ IsKeptIn c name) (sym (k.marks n block)) (work.sweeping.marked n block name (waited n is) lay);
+      had = λ n. (
+        (λ has. let f = (work.sweeping.had n).0 has in (f.0, f.1, f.2, (λ w. f.3 (waited f.0 w)), f.4)),
+        (λ f. (work.sweeping.had n).1 (f.0, f.1, f.2, (λ w. f.3 (waits_still f.0 w)), f.4)),
+      );
+      had_once = work.sweeping.had_once;
       freed = λ n. (
         (λ has. let f = (work.sweeping.freed n).0 has in (f.0, f.1, f.2, (λ w. f.3 (waited f.0 w)), f.4, f.5)),
         (λ f. (work.sweeping.freed n).1 (f.0, f.1, f.2, (λ w. f.3 (waits_still f.0 w)), f.4, f.5)),
@@ -53,11 +58,10 @@ module _ (c : Cycle) (closed : ℕ) (words after : List ℕ) (a b : AllocState) 
         let there_before : HasNumber old n = omega (arith, there, count) in
         subst (λ (m : ℕ). IsSettledByte c.number m) (sym (k.marks n block)) (work.settled n block there_before (λ w. not_waiting ((k.waits n).1 w)));
     begun = work.begun;
-    ordered = work.ordered;
   }
 
 pub work_goes_on : WorkGoesOn
-work_goes_on c closed words after a b old new cycle sweeper work left stands k = (goes_on c closed words after a b old new cycle sweeper work stands k, left_stays old new sweeper.left k.waits left)
+work_goes_on c closed words after a b old new cycle sweeper work left stands k = (goes_on c closed words after a b old new cycle sweeper work stands k, left_stays old new sweeper k.waits k.layout left)
 
 -- the segment for the next name doesn't wait
 chosen_not : (s : Segments) (m class n : ℕ) → IsChosen s m class n → IsWaiting s n → ⊥
@@ -101,4 +105,5 @@ placing_keeps_waiting layout old new a b mutator class at name h p =
             | inr room ↦ ap (λ (x : AllocState). (cells x i).names) room.1 ∙ ap (λ (x : Cells). x.names) (get_or-set_other a.segments p.number i _ no_cells ne)
           ];
       count = ap (λ (l : List Segment). length l) h.others ∙ length-set old.segments h.number (nth new.segments h.number);
+      layout = h.layout;
     }

@@ -1,7 +1,5 @@
 pub mod Begins
 pub mod Going
+pub mod Listed
 pub mod Lists
-pub mod Noting
-pub mod Orders
-pub mod Starts
 pub mod Steps

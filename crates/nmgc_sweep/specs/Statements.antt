@@ -13,17 +13,17 @@ use Rattle.nmgc_run.specs.Listing.{ListsNumbers, Counts}
 use Rattle.nmgc_run.specs.Marks.{AreAsNoted, AreKeptMarked, AreSettled, epoch_of}
 use Rattle.nmgc_run.specs.Seen.{CycleSeen}
 use Rattle.nmgc_run.specs.State.{Cycle}
-use Rattle.nmgc_sweep.specs.declared.notes.Section.{Section}
-use Rattle.nmgc_sweep.specs.Sweeper.{Sweeper, AreLeft, HasNotes, numbers_of}
+use Rattle.nmgc_sweep.specs.Order.{in_order}
+use Rattle.nmgc_sweep.specs.Sweeper.{Sweeper, AreLeft, HasNotes}
 use Rattle.nmgc_sweep.specs.Work.{HasBegun, IsAtWork}
 
 -- a sweeper that starts as a cycle begins is the cycle's
 abbrev pub StartIsNoted : Type 0
-StartIsNoted = (c : Cycle) (words : List ℕ) (segments : Segments) (epoch : ℕ) (sweeper : Sweeper) → StandsFor segments words (cycle_begun c.heap) → NoneIs (IsIn stands.Sweeping) c.heap → LieOnce c.heap → epoch ≡ epoch_of c.number → HasBegun segments words epoch sweeper → HasNotes c sweeper
+StartIsNoted = (c : Cycle) (words : List ℕ) (segments : Segments) (epoch : ℕ) (sweeper : Sweeper) → StandsFor segments words (cycle_begun c.heap) → NoneIs (IsIn stands.Sweeping) c.heap → LieOnce c.heap → epoch ≡ epoch_of c.number → HasBegun segments epoch sweeper → HasNotes c sweeper
 
 -- what is left stays while the same segments wait
 abbrev pub LeftStays : Type 0
-LeftStays = (old new : Segments) (left : List Section) → ((number : ℕ) → IsWaiting new number ↔ IsWaiting old number) → AreLeft old left → AreLeft new left
+LeftStays = (old new : Segments) (sweeper : Sweeper) → ((number : ℕ) → IsWaiting new number ↔ IsWaiting old number) → new.layout ≡ old.layout → AreLeft old sweeper → AreLeft new sweeper
 
 -- what the closing knows of the marks and of what it counted
 pub record IsClosedNow (c : Cycle) (closed : ℕ) (a : AllocState) (segments : Segments) (cycle : CycleSeen) (epoch : ℕ) : Type 0 where
@@ -38,21 +38,21 @@ pub record IsClosedNow (c : Cycle) (closed : ℕ) (a : AllocState) (segments : S
 
 -- at the closing nothing was swept yet: then the sweeper is at work
 abbrev pub ClosingBeginsWork : Type 0
-ClosingBeginsWork = (c : Cycle) (closed : ℕ) (words : List ℕ) (a : AllocState) (segments : Segments) (cycle : CycleSeen) (sweeper : Sweeper) → StandsFor segments words a → HasNotes c sweeper → AreLeft segments sweeper.left → sweeper.seen.swept ≡ numbers_of sweeper.left → sweeper.seen.freed ≡ [] → IsClosedNow c closed a segments cycle sweeper.seen.epoch → IsAtWork c closed words a segments cycle sweeper
+ClosingBeginsWork = (c : Cycle) (closed : ℕ) (words : List ℕ) (a : AllocState) (segments : Segments) (cycle : CycleSeen) (sweeper : Sweeper) → StandsFor segments words a → HasNotes c sweeper → AreLeft segments sweeper → sweeper.seen.swept ≡ sweeper.left → sweeper.seen.had ≡ [] → sweeper.seen.freed ≡ [] → IsClosedNow c closed a segments cycle sweeper.seen.epoch → IsAtWork c closed words a segments cycle sweeper
 
--- what the sweeper has once nothing waits is the census of its cycle
+-- what the sweeper has once nothing waits is the census of its cycle, with the names put in order
 pub record TellsCensus (c : Cycle) (sweeper : Sweeper) : Type 0 where
   pub swept : ListsNumbers (IsSweptIn c) sweeper.seen.swept
-  pub had : Lists (IsHadIn c) sweeper.seen.had
-  pub freed : Lists (IsFreedIn c) sweeper.seen.freed
+  pub had : Lists (IsHadIn c) (in_order sweeper.seen.had)
+  pub freed : Lists (IsFreedIn c) (in_order sweeper.seen.freed)
 
 -- so it is with a sweeper at work, once no segment waits
 abbrev pub EndTellsCensus : Type 0
-EndTellsCensus = (c : Cycle) (closed : ℕ) (words : List ℕ) (a : AllocState) (segments : Segments) (cycle : CycleSeen) (sweeper : Sweeper) → IsAtWork c closed words a segments cycle sweeper → AreLeft segments sweeper.left → NoneIs (IsIn stands.Sweeping) a → TellsCensus c sweeper
+EndTellsCensus = (c : Cycle) (closed : ℕ) (words : List ℕ) (a : AllocState) (segments : Segments) (cycle : CycleSeen) (sweeper : Sweeper) → IsAtWork c closed words a segments cycle sweeper → NoneIs (IsIn stands.Sweeping) a → TellsCensus c sweeper
 
 -- as many wait as are left
 abbrev pub LeftIsCounted : Type 0
-LeftIsCounted = (words : List ℕ) (a : AllocState) (segments : Segments) (left : List Section) → StandsFor segments words a → AreLeft segments left → count_in stands.Sweeping a ≡ length left
+LeftIsCounted = (words : List ℕ) (a : AllocState) (segments : Segments) (sweeper : Sweeper) → StandsFor segments words a → AreLeft segments sweeper → count_in stands.Sweeping a ≡ length sweeper.left
 
 -- segments and blocks changed, but neither what waits and its names, nor a mark
 pub record KeepsWaiting (old new : Segments) (a b : AllocState) : Type 0 where
@@ -60,6 +60,7 @@ pub record KeepsWaiting (old new : Segments) (a b : AllocState) : Type 0 where
   pub marks : (number block : ℕ) → mark_of (nth new.segments number) block ≡ mark_of (nth old.segments number) block
   pub names : (number : ℕ) → IsIn stands.Sweeping (cells a number) → (cells b number).names ≡ (cells a number).names
   pub count : length new.segments ≡ length old.segments
+  pub layout : new.layout ≡ old.layout
 
 -- as a cycle begins, and while nothing changes in what waits, a waiting segment is one that the cycle had, and as it was then
 abbrev pub StartIsAsNoted : Type 0
@@ -70,7 +71,7 @@ StaysAsNoted = (c : Cycle) (words after : List ℕ) (a b : AllocState) (old new 
 
 -- then a sweeper at work is at work still, and its segments are left
 abbrev pub WorkGoesOn : Type 0
-WorkGoesOn = (c : Cycle) (closed : ℕ) (words after : List ℕ) (a b : AllocState) (old new : Segments) (cycle : CycleSeen) (sweeper : Sweeper) → IsAtWork c closed words a old cycle sweeper → AreLeft old sweeper.left → StandsFor new after b → KeepsWaiting old new a b → IsAtWork c closed after b new cycle sweeper × AreLeft new sweeper.left
+WorkGoesOn = (c : Cycle) (closed : ℕ) (words after : List ℕ) (a b : AllocState) (old new : Segments) (cycle : CycleSeen) (sweeper : Sweeper) → IsAtWork c closed words a old cycle sweeper → AreLeft old sweeper → StandsFor new after b → KeepsWaiting old new a b → IsAtWork c closed after b new cycle sweeper × AreLeft new sweeper
 
 -- a placing is such a change
 abbrev pub PlacingKeepsWaiting : Type 0

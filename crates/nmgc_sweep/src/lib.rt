@@ -1,27 +1,30 @@
 //! The sweeper: after a cycle was closed, blocks that it didn't keep are used again.
 //!
-//! As a cycle begins, the filled segments wait to be swept, and the sweeper notes for each of them whose
-//! objects lie in it (`notes`). Names are noted then, while the mutators stand still: beside a round the
-//! words of the heap are theirs, and once a block was swept, another object may lie in it. Once the cycle was
-//! closed, the sweeper sweeps the waiting segments one after the other, least number first, beside the
-//! mutators or at a stop, and lists the noted names whose blocks were lost (`sweeper`). With the last one both
-//! lists are put in order (`order`), so that a stop needn't do it.
+//! As a cycle begins, the filled segments wait to be swept. Once the cycle was closed, the sweeper sweeps the waiting
+//! segments one after the other, least number first, beside the mutators or at a stop (`sweeper`). Just before it
+//! sweeps one it lists the names in it and those of the blocks that the sweep frees (`listing`). It reads them from an
+//! array that has the name of each object in a segment by its place (`names`): beside a round the words of the heap are
+//! the mutators', and to read all names at a stop takes time that grows with the heap. The array is written as objects
+//! move into segments. So neither the stop at which a cycle begins nor any other takes time for the blocks of the heap.
+//! The lists are put in order once the run is over (`order`), so that no mutator waits for that either.
 //!
 //! The promise is the census of the cycle: had are the names in the segments that were filled as the cycle
 //! began, and freed are those of them that the cycle doesn't keep. It speaks of the cycle and of the allocation
-//! state (`specs/Sweeper.antt`, `specs/Work.antt`); `laws` leads from the cycle's beginning to its end.
+//! state (`specs/Sweeper.antt`, `specs/Work.antt`); `laws` leads from the cycle's beginning to its end, and
+//! `specs/laws` says that the array has the names in blocks all along, and what names in order are.
 //!
-//! Easy to get wrong: a segment that waits isn't full if it was retired before a full cycle, so each name is
-//! noted with its block. And a block is lost where it isn't in use after the sweep: a mark of an earlier cycle
-//! keeps nothing.
+//! Easy to get wrong: a segment that waits isn't full if it was retired before a full cycle, so each block is looked at.
+//! And a block is kept only where it has this cycle's mark: a mark of an earlier cycle keeps nothing.
 #![tactic(auto)]
 
 mod blocks;
 pub mod laws;
-pub mod notes;
-mod order;
+mod listing;
+pub mod names;
+pub mod order;
 pub mod sweeper;
 
+pub use names::Names;
 pub use sweeper::{Census, SweepWork, Sweeper};
 
 #[cfg(test)]

@@ -1,31 +1,37 @@
-//! The sweeper of one cycle: what it noted, what is left to be swept, and what it freed.
+//! The sweeper of one cycle: which segments it has to sweep, and what it listed and freed.
 //!
-//! The segments that wait are exactly those that are left, in the same order, so each sweep takes the notes at
-//! the front. Each name is judged once: its block is looked at after its segment's sweep, when a block is in use
-//! exactly where it was marked in this cycle, and before anything can be placed there. Room for all freed names
-//! is taken at the start, so that sweeping beside the mutators takes no memory but a buffer for the sort, without
-//! which it is only slower.
+//! The segments that wait are exactly those that are left, in the same order. Each name is judged once, before its
+//! segment's sweep: the sweep leaves in use exactly the blocks that are marked with this cycle's epoch. So a call lists
+//! what is in all segments that it is to sweep, and then sweeps them in two halves, each in a thread of its own: no
+//! sweep touches the marks of another segment. Room for all names is taken at the start, so that sweeping beside the
+//! mutators takes no memory; memory that is reserved isn't touched, and the start takes time for the number of segments
+//! alone.
+//!
+//! Each half passes the gate under a number of its own, so the sweeper has two counts: its lower half goes on with the
+//! count of the marker, and its upper half counts what upper halves passed before.
 //!
 //! Easy to get wrong: the names that were had and freed lie in order of blocks, and several makers' segments
-//! alternate. They are sorted with the last segment, and by maker before serial. Each maker's names lie in a few
-//! runs, so the sort is one that keeps runs.
-ghost use Rattle.std.specs.Prelude.{ℕ, ◌≡◌, ◌≢◌, ◌+◌, ◌≤◌, [], length, min, IsTrue, IfOk, OnOk, ◌↔◌};
+//! alternate. So a cycle's row, as a report tells it, has them in order, and the sweeper's lists haven't (`order`).
+ghost use Rattle.std.specs.Prelude.{ℕ, ◌≡◌, ◌≢◌, ◌-◌, ◌/◌, ◌<◌, ◌≤◌, [], length, min, IsTrue, IfOk, ◌↔◌};
 ghost use Rattle.nmgc_segment.specs.Marks.{IsEpoch};
-ghost use Rattle.nmgc_alloc.specs.Segments.{HasNumber, IsWaiting};
-ghost use Rattle.nmgc_round.specs.Gate.{next_turn, passed};
-ghost use Rattle.nmgc_sweep.specs.Sweeper.{HasStood, AreLeft, turned};
-ghost use Rattle.nmgc_sweep.specs.Work.{AddsSection, HasBegun, HasSwept};
+ghost use Rattle.nmgc_alloc.specs.Halves.{IsInHalf};
+ghost use Rattle.nmgc_alloc.specs.Segments.{IsWaiting};
+ghost use Rattle.nmgc_run.specs.Listing.{ListsNumbers};
+ghost use Rattle.nmgc_round.specs.Gate.{passed};
+ghost use Rattle.nmgc_sweep.specs.Names.{HaveEntries};
+ghost use Rattle.nmgc_sweep.specs.Sweeper.{AreLeft, CanList};
+ghost use Rattle.nmgc_sweep.specs.Work.{HasBegun, HasListed, HaveListed, HasSwept};
 
-use crate::notes::{self, Section};
-use crate::order;
+use crate::listing::list_segment;
+use crate::names::Names;
 use nmgc_alloc::Segments;
 use nmgc_graph::{MAKERS, Name, NoMemory};
-use nmgc_heap::HeapWords;
+use nmgc_object::MIN_BLOCK_WORDS;
 use nmgc_round::Gate;
 use nmgc_segment::State;
 use std::alloc::Global;
-use std::collections::VecDeque;
 use std::marker::Model;
+use std::thread::Threads;
 
 /// What the sweeper did in a round: how many segments it swept, and whether none is left.
 #[derive(Clone, Copy, Debug, PartialEq, Eq)]
@@ -34,7 +40,7 @@ pub struct SweepWork {
     pub finished: bool,
 }
 
-/// What a cycle's row tells of its sweep.
+/// What a cycle's row tells of its sweep. The names are in no order.
 #[derive(Drop)]
 pub struct Census {
     /// The numbers of the segments noted at the snapshot, in order.
@@ -45,137 +51,112 @@ pub struct Census {
     pub freed: Vec<Name>,
 }
 
-/// The sweeper of a cycle. Contracts see its epoch, the segments that it noted, whose objects were in them and
-/// which of these it freed, the notes of the segments that it hasn't swept, and how often the gate was passed.
+/// The sweeper of a cycle. Contracts see its epoch, the segments that it noted, whose objects were in those that it
+/// swept and which of these it freed, the segments that it hasn't swept, for how many names of each it has room, and how
+/// often the gate was passed.
 #[derive(Drop)]
 pub struct Sweeper {
-    /// How often the collector passed the gate in the whole run. Stands still at 2^64 - 1.
+    /// How often the collector passed the gate as `MAKERS` in the whole run. Stands still at 2^64 - 1.
     pub turns: u64,
+    /// How often its second sweeping half passed it, as `MAKERS + 1`. Stands still at 2^64 - 1.
+    pub upper_turns: u64,
     epoch: u8,
     swept: Vec<u32>,
-    left: VecDeque<Section>,
+    done: usize,
+    most: u32,
     had: Vec<Name>,
     freed: Vec<Name>,
 }
 
 impl Model for Sweeper {
-    ghost use Rattle.std.specs.Prelude.{◌+◌, ◌≤◌, vec_len, vec_capacity};
+    ghost use Rattle.std.specs.Prelude.{◌+◌, ◌-◌, ◌*◌, ◌≤◌, length, drop, vec_len, vec_capacity};
     ghost use Rattle.nmgc_segment.specs.Marks.{IsEpoch};
-    ghost use Rattle.nmgc_sweep.specs.Sweeper.{Sweeper as Shown, note_count};
+    ghost use Rattle.nmgc_sweep.specs.Sweeper.{Sweeper as Shown};
 
     ghost Value = { Shown };
 
     ghost view = { λ s. record {
       seen = record { epoch = s.epoch; swept = s.swept.items; had = s.had.items; freed = s.freed.items };
-      left = s.left.items;
+      left = drop s.done s.swept.items;
+      most = s.most;
       turns = s.turns;
+      upper_turns = s.upper_turns;
     } };
 
-    ghost invariant = { λ s. IsEpoch s.epoch × (vec_len s.freed + note_count s.left.items ≤ vec_capacity s.freed) };
+    ghost invariant = { λ s. IsEpoch s.epoch × (s.done ≤ length s.swept.items) × (vec_len s.had + (length s.swept.items - s.done) * s.most ≤ vec_capacity s.had) × (vec_len s.freed + (length s.swept.items - s.done) * s.most ≤ vec_capacity s.freed) };
 }
 
-// Notes a segment that waits to be swept: its number, whose objects lie in it, and their names.
-fn note<W: HeapWords>(
-    alloc: Global,
-    words: &mut W,
-    segments: &Segments,
-    number: u32,
-    swept: &mut Vec<u32>,
-    left: &mut VecDeque<Section>,
-    had: &mut Vec<Name>,
-) -> Result<(), NoMemory>
-    requires exists { HasNumber segments.now number }
-    requires waits { IsWaiting segments.now number }
-    requires stands { HasStood segments.now (W.words words.old) }
-    ensures words { W.words words.new ≡ W.words words.old }
-    ensures adds { OnOk result (AddsSection segments.now (W.words words.old) number swept.old.items swept.new.items left.old.items left.new.items had.old.items had.new.items) }
+// The numbers of the segments that wait to be swept, in order.
+fn waiting(alloc: Global, segments: &Segments) -> Result<Vec<u32>, NoMemory>
+    ensures { IfOk result (λ numbers. ListsNumbers (IsWaiting segments.now) numbers.items) }
 {
-    let notes = notes::of_segment(alloc, words, segments, number)?;
-    let items = notes.items();
-    had.reserve(items.len())?;
-    for note in items {
-        had.push_reserved(note.name);
-    }
-    swept.push(number)?;
-    left.push_back(Section { number, notes })?;
-    Ok(())
-}
-
-// How many blocks the segments have that wait to be swept: there are no more names in them.
-fn waiting_blocks(segments: &Segments) -> usize {
-    let mut blocks: usize = 0;
+    let mut numbers = Vec::new(alloc);
     for number in 0..segments.layout().segments {
-        let segment = segments.segment(number);
-        if segment.state() == State::Sweeping {
-            blocks = blocks.saturating_add(segment.blocks() as usize);
+        if segments.segment(number).state() == State::Sweeping {
+            numbers.push(number)?;
         }
     }
-    blocks
+    Ok(numbers)
+}
+
+// How often the gate was passed, after so many passes more.
+fn counted(turns: u64, passes: u32) -> u64
+    ensures { result ≡ passed turns passes }
+{
+    turns.saturating_add(u64::from(passes))
 }
 
 impl Sweeper {
-    /// Notes, as a cycle begins, the segments to be swept and the name of each block in use in them, and makes
-    /// room for the names that will be freed: the only memory that a sweeper keeps. `Segments::prepare` was just
-    /// called, and segments and words stand for an allocation state. `turns` is 0 then. No word changes.
-    pub fn start<W: HeapWords>(
-        alloc: Global,
-        words: &mut W,
-        segments: &Segments,
-        epoch: u8,
-    ) -> Result<Sweeper, NoMemory>
+    /// Notes, as a cycle begins, the segments to be swept, and makes room for their names and for those that will be
+    /// freed: the only memory that a sweeper takes. `Segments::prepare` was just called. `turns` and `upper_turns` are 0
+    /// then. Takes time for the number of segments.
+    pub fn start(alloc: Global, segments: &Segments, epoch: u8) -> Result<Sweeper, NoMemory>
         requires epoch { IsEpoch epoch }
-        requires stands { HasStood segments.now (W.words words.old) }
-        ensures words { W.words words.new ≡ W.words words.old }
-        ensures begun { IfOk result (λ sweeper. HasBegun segments.now (W.words words.old) epoch sweeper) }
+        ensures begun { IfOk result (λ sweeper. HasBegun segments.now epoch sweeper) }
         ensures turns { IfOk result (λ sweeper. sweeper.turns ≡ 0) }
+        ensures upper_turns { IfOk result (λ sweeper. sweeper.upper_turns ≡ 0) }
     {
-        let mut swept = Vec::new(alloc);
-        let mut left = VecDeque::new(alloc);
-        let mut had = Vec::with_capacity(alloc, waiting_blocks(segments))?;
-        let count = segments.layout().segments;
-        for number in 0..count {
-            if segments.segment(number).state() == State::Sweeping {
-                note(
-                    alloc, words, segments, number, &mut swept, &mut left, &mut had,
-                )?;
-            }
-        }
-        let mut freed = Vec::new(alloc);
-        freed.reserve(had.len())?;
+        let swept = waiting(alloc, segments)?;
+        let most = segments.layout().words / MIN_BLOCK_WORDS;
+        // No heap has so many that this fails.
+        let Some(names) = swept.len().checked_mul(most as usize) else {
+            return Err(NoMemory);
+        };
         Ok(Sweeper {
             turns: 0,
+            upper_turns: 0,
             epoch,
             swept,
-            left,
-            had,
-            freed,
+            done: 0,
+            most,
+            had: Vec::with_capacity(alloc, names)?,
+            freed: Vec::with_capacity(alloc, names)?,
         })
     }
 
-    /// The numbers of the segments noted at the snapshot, in order. Takes no memory, as every call but `start` and
-    /// those that sweep.
+    /// The numbers of the segments noted at the snapshot, in order. Takes no memory, as every call but `start`.
     pub fn swept(&self) -> &[u32]
         ensures { result.now ≡ self.now.seen.swept }
     {
         self.swept.as_slice()
     }
 
-    /// The names of the blocks in use in these segments at the snapshot. They are in order once no segment is
-    /// left.
+    /// The names of the blocks in use at the snapshot in those of these segments that were swept, in no order.
     pub fn had(&self) -> &[Name]
         ensures { result.now ≡ self.now.seen.had }
     {
         self.had.as_slice()
     }
 
-    /// The names that were freed so far. They are in order once no segment is left.
+    /// The names that were freed so far, in no order.
     pub fn freed(&self) -> &[Name]
         ensures { result.now ≡ self.now.seen.freed }
     {
         self.freed.as_slice()
     }
 
-    /// What it noted and freed, for the cycle's row, in lists that have no more room than they need. Takes no memory.
+    /// What it noted, listed and freed, for the cycle's row, in lists that have no more room than they need. Takes no
+    /// memory.
     pub fn into_census(self) -> Census
         ensures swept { result.swept.items ≡ self.seen.swept }
         ensures had { result.had.items ≡ self.seen.had }
@@ -183,9 +164,11 @@ impl Sweeper {
     {
         let Sweeper {
             turns: _,
+            upper_turns: _,
             epoch: _,
             swept,
-            left: _,
+            done: _,
+            most: _,
             mut had,
             mut freed,
         } = self;
@@ -198,60 +181,102 @@ impl Sweeper {
     fn has_left(&self) -> bool
         ensures { IsTrue result ↔ (self.now.left ≢ []) }
     {
-        !self.left.is_empty()
+        self.done < self.swept.len()
     }
 
-    // Passes the gate.
-    fn pass<G: Gate>(&mut self, gate: &G)
-        ensures { self.new ≡ turned self.old (next_turn self.old.turns) }
-    {
-        self.turns = self.turns.saturating_add(1);
-        gate.pass(MAKERS, self.turns);
-    }
-
-    // Sweeps the waiting segment of least number, and lists what was lost in it. The last one puts the lists in
-    // order.
-    fn sweep_one(&mut self, segments: &mut Segments)
-        requires left { AreLeft segments.old self.old.left }
+    // Lists what is in the first segment that is left, and what a sweep frees of it.
+    fn list_next(&mut self, segments: &Segments, names: &Names)
+        requires can { CanList segments.now self.old }
         requires some { self.old.left ≢ [] }
-        ensures swept { HasSwept segments.old segments.new self.old self.new 1 }
-        ensures turns { self.new.turns ≡ self.old.turns }
+        requires entries { HaveEntries segments.now.layout names.now }
+        ensures { HasListed segments.now names.now self.old self.new }
     {
-        let Some(number) = segments.sweep_next(self.epoch) else {
-            unreachable!();
-        };
-        let Some(section) = self.left.pop_front() else {
-            unreachable!();
-        };
-        let segment = segments.segment(number);
-        notes::free(segment, section.notes.items(), &mut self.freed);
-        if self.left.is_empty() {
-            let alloc = *self.had.allocator();
-            order::sort(self.had.as_mut_slice(), alloc);
-            order::sort(self.freed.as_mut_slice(), alloc);
+        let number = self.swept[self.done];
+        list_segment(
+            names,
+            segments,
+            number,
+            self.epoch,
+            &mut self.had,
+            &mut self.freed,
+        );
+        self.done += 1;
+    }
+
+    // The same for so many of them.
+    fn list_first(&mut self, segments: &Segments, names: &Names, count: u32)
+        requires can { CanList segments.now self.old }
+        requires enough { count ≤ length self.old.left }
+        requires entries { HaveEntries segments.now.layout names.now }
+        ensures { HaveListed segments.now names.now count self.old self.new }
+    {
+        for _listed in 0..count {
+            self.list_next(segments, names);
         }
     }
 
-    /// Sweeps beside the mutators, once the cycle was closed: at most `quota` segments, those of least number
-    /// first. Before each the gate is passed and counted: the clause `turns` tells the count.
+    // Lists what is in the waiting segments of least number, at most so many, and what is lost of it, and sweeps them.
+    // Answers how many these were. Before each it does `before`, with the half and the number within it.
+    fn sweep_some<R: Threads + Sync, F: Fn(u8, u32) + Sync>(
+        &mut self,
+        rt: &R,
+        segments: &mut Segments,
+        names: &Names,
+        quota: u32,
+        before: &F,
+    ) -> u32
+        requires left { AreLeft segments.old self.old }
+        requires entries { HaveEntries segments.old.layout names.now }
+        requires before { (half i : ℕ) → IsInHalf (min quota (length self.old.left)) half i → F.pre before.now half i }
+        ensures swept { HasSwept segments.old segments.new names.now self.old self.new result }
+        ensures many { result ≡ min quota (length self.old.left) }
+        ensures turns { (self.new.turns ≡ self.old.turns) × (self.new.upper_turns ≡ self.old.upper_turns) }
+    {
+        let count = quota.min(segments.sweep_count());
+        self.list_first(segments, names, count);
+        segments.sweep_many(rt, self.epoch, count, before)
+    }
+
+    /// Sweeps beside the mutators, once the cycle was closed: at most `quota` segments, those of least number, in two
+    /// halves, each in a thread of its own; one segment alone starts no thread. The gate is passed before each, as
+    /// `MAKERS` in the lower half, which has one segment more where they are odd, and as `MAKERS + 1` in the upper one;
+    /// the clauses `turns` and `upper_turns` tell the counts. Where `names` has the names in blocks, what was in these
+    /// segments is listed, and what is freed of it.
     ///
     /// `swept` is the lesser of `quota` and the number of those that waited. `finished` is false exactly where one
     /// is left. The segments that wait are exactly those that this sweeper noted and hasn't swept. Takes no
-    /// memory but, with the last segment, a buffer for the sort, without which it is only slower; and waits for
-    /// nobody but the gate.
-    pub fn work<G: Gate>(&mut self, segments: &mut Segments, quota: u32, gate: &G) -> SweepWork
-        requires left { AreLeft segments.old self.old.left }
-        ensures swept { HasSwept segments.old segments.new self.old self.new result.swept }
-        ensures turns { self.new.turns ≡ passed self.old.turns result.swept }
+    /// memory, and waits for nobody but the gate.
+    pub fn work<R: Threads + Sync, G: Gate>(
+        &mut self,
+        rt: &R,
+        segments: &mut Segments,
+        names: &Names,
+        quota: u32,
+        gate: &G,
+    ) -> SweepWork
+        requires left { AreLeft segments.old self.old }
+        requires entries { HaveEntries segments.old.layout names.now }
+        ensures swept { HasSwept segments.old segments.new names.now self.old self.new result.swept }
+        ensures turns { self.new.turns ≡ passed self.old.turns (result.swept - result.swept / 2) }
+        ensures upper_turns { self.new.upper_turns ≡ passed self.old.upper_turns (result.swept / 2) }
         ensures many { result.swept ≡ min quota (length self.old.left) }
         ensures finished { IsTrue result.finished ↔ (self.new.left ≡ []) }
     {
-        let mut swept = 0;
-        while swept < quota && self.has_left() {
-            self.pass(gate);
-            self.sweep_one(segments);
-            swept += 1;
-        }
+        let (lower, upper) = (self.turns, self.upper_turns);
+        let swept = self.sweep_some(
+            rt,
+            segments,
+            names,
+            quota,
+            &|half: u8, i: u32|
+                requires { half < 2 }
+            {
+                let turns = if half == 0 { lower } else { upper };
+                gate.pass(MAKERS + half, turns.saturating_add(u64::from(i) + 1));
+            },
+        );
+        self.turns = counted(lower, swept - swept / 2);
+        self.upper_turns = counted(upper, swept / 2);
         SweepWork {
             swept,
             finished: !self.has_left(),
@@ -259,15 +284,15 @@ impl Sweeper {
     }
 
     /// Sweeps all segments that are left, as `work` does, with the mutators stopped. The gate isn't passed, and its
-    /// count stays.
-    pub fn finish(&mut self, segments: &mut Segments)
-        requires left { AreLeft segments.old self.old.left }
-        ensures swept { HasSwept segments.old segments.new self.old self.new (length self.old.left) }
-        ensures turns { self.new.turns ≡ self.old.turns }
+    /// counts stay.
+    pub fn finish<R: Threads + Sync>(&mut self, rt: &R, segments: &mut Segments, names: &Names)
+        requires left { AreLeft segments.old self.old }
+        requires entries { HaveEntries segments.old.layout names.now }
+        ensures swept { HasSwept segments.old segments.new names.now self.old self.new (length self.old.left) }
+        ensures turns { (self.new.turns ≡ self.old.turns) × (self.new.upper_turns ≡ self.old.upper_turns) }
         ensures finished { self.new.left ≡ [] }
     {
-        while self.has_left() {
-            self.sweep_one(segments);
-        }
+        let waiting = segments.sweep_count();
+        let _ = self.sweep_some(rt, segments, names, waiting, &|_half: u8, _i: u32| {});
     }
 }

@@ -2,21 +2,24 @@
 //! least number first; had are the names in them, freed those whose blocks aren't marked with the epoch, both
 //! by maker and then by serial; a segment is then free, filled or active.
 ghost use Rattle.std.specs.Prelude.{◌≡◌};
-ghost use Rattle.nmgc_sweep.specs.Sweeper.{HasStood};
+ghost use Rattle.nmgc_sweep.specs.Names.{HaveEntries};
+ghost use Rattle.nmgc_sweep.specs.Sweeper.{AreLeft};
 
-use crate::Sweeper;
+use crate::order::put_in_order;
+use crate::{Names, Sweeper};
 use nmgc_alloc::{Segments, laws};
 use nmgc_graph::{MAKERS, Name};
-use nmgc_object::{Address, Layout, NAME_OFFSET, block_words, encode_name};
+use nmgc_object::{Address, FIRST_PLACE, Layout, block_words};
 use nmgc_round::OpenGate;
 use nmgc_segment::State;
 use std::alloc::Global;
 use std::process::Abort;
 use std::test::Fail;
+use std::thread::Threads;
 
 // A cycle: the objects placed in this order, whether current segments are retired before, which of them have a
-// mark of the cycle before and which one of this cycle; and what is expected: how many calls with a quota of 1
-// sweep a segment, the lists, and the states of the first segments after the sweep.
+// mark of the cycle before and which one of this cycle; and what is expected: how many calls with this quota
+// sweep as many segments, the lists, and the states of the first segments after the sweep.
 #[derive(Drop)]
 struct Row {
     placed: &'static [Name],
@@ -24,6 +27,7 @@ struct Row {
     stale: &'static [usize],
     marked: &'static [usize],
     works: u32,
+    quota: u32,
     swept: &'static [u32],
     had: &'static [Name],
     freed: &'static [Name],
@@ -167,31 +171,26 @@ const UNMARKED_OF_FOUR: [Name; 3] = [
     },
 ];
 
-// Places an object of four words and writes its name's word.
-fn place(rt: &impl Abort, words: &mut Vec<u64>, segments: &mut Segments, name: Name) -> Address
-    requires { HasStood segments.old words.old.items }
-    ensures { HasStood segments.new words.new.items }
+// Places an object of four words, and notes its name.
+fn place(rt: &impl Abort, names: &mut Names, segments: &mut Segments, name: Name) -> Address
+    requires { HaveEntries segments.old.layout names.old }
+    ensures { HaveEntries segments.new.layout names.new }
 {
-    laws::allocate();
     let layout = segments.layout();
     assert!(rt; name.maker < MAKERS);
     assert!(rt; name.maker < layout.mutators);
     assert!(rt; block_words(0) <= layout.words);
     assert!(rt; segments.has_room(name.maker, 0));
     let at = segments.allocate(name.maker, 0);
-    let second = at.0 as usize + NAME_OFFSET as usize;
-    assert!(rt; second < words.len());
-    words[second] = encode_name(name);
+    assert!(rt; at.0 < FIRST_PLACE + layout.segments * layout.words);
+    names.note(at, name);
     at
 }
 
 // Begins a cycle.
-fn begin(rt: &impl Abort, words: &[u64], segments: &mut Segments, retired: bool)
-    requires { HasStood segments.old words.now }
-    ensures { HasStood segments.new words.now }
+fn begin(rt: &impl Abort, segments: &mut Segments, retired: bool)
+    ensures { segments.new.layout ≡ segments.old.layout }
 {
-    laws::prepare();
-    laws::retire_all();
     laws::counts_tell();
     if retired {
         segments.retire_all();
@@ -201,22 +200,12 @@ fn begin(rt: &impl Abort, words: &[u64], segments: &mut Segments, retired: bool)
 }
 
 // Marks objects by their places.
-fn mark(
-    rt: &impl Abort,
-    words: &[u64],
-    segments: &mut Segments,
-    places: &[Address],
-    marked: &[usize],
-    epoch: u8,
-)
-    requires { HasStood segments.old words.now }
-    ensures { HasStood segments.new words.now }
+fn mark(rt: &impl Abort, segments: &mut Segments, places: &[Address], marked: &[usize], epoch: u8)
+    ensures { segments.new.layout ≡ segments.old.layout }
 {
-    laws::mark_at();
     assert!(rt; 1 <= epoch);
     assert!(rt; epoch <= 2);
     for index in marked {
-        let _ = segments.layout();
         assert!(rt; *index < places.len());
         let at = places[*index];
         assert!(rt; segments.block_at(at).is_some());
@@ -225,8 +214,7 @@ fn mark(
 }
 
 // Does the cycle, and compares.
-fn check(rt: &impl Abort, alloc: Global, row: Row) -> Result<(), Fail> {
-    laws::new();
+fn check<R: Abort + Threads + Sync>(rt: &R, alloc: Global, row: Row) -> Result<(), Fail> {
     let layout = Layout {
         segments: 8,
         words: 16,
@@ -234,31 +222,41 @@ fn check(rt: &impl Abort, alloc: Global, row: Row) -> Result<(), Fail> {
         mutators: 2,
     };
     assert!(rt; layout.words.is_power_of_two());
-    let mut words = vec![in alloc; 0u64; layout.total() as usize]?;
+    let mut names = Names::new(alloc, layout)?;
     let mut segments = Segments::new(alloc, layout)?;
     let mut places = Vec::new(alloc);
     for name in row.placed {
-        places.push(place(rt, &mut words, &mut segments, *name))?;
+        places.push(place(rt, &mut names, &mut segments, *name))?;
     }
-    begin(rt, words.as_slice(), &mut segments, row.retired);
+    begin(rt, &mut segments, row.retired);
     let at = places.as_slice();
-    mark(rt, words.as_slice(), &mut segments, at, row.stale, 1);
-    mark(rt, words.as_slice(), &mut segments, at, row.marked, 2);
-    let mut sweeper = Sweeper::start(alloc, &mut words, &segments, 2)?;
+    mark(rt, &mut segments, at, row.stale, 1);
+    mark(rt, &mut segments, at, row.marked, 2);
+    let mut sweeper = Sweeper::start(alloc, &segments, 2)?;
+    assert_eq!(rt; sweeper.had().len(), 0);
     assert_eq!(rt; sweeper.freed().len(), 0);
     for turn in 0..row.works {
         let _ = turn;
-        let done = sweeper.work(&mut segments, 1, &OpenGate);
-        assert_eq!(rt; done.swept, 1);
+        let done = sweeper.work(rt, &mut segments, &names, row.quota, &OpenGate);
+        assert_eq!(rt; done.swept, row.quota);
     }
-    assert_eq!(rt; sweeper.turns, u64::from(row.works));
-    let done = sweeper.work(&mut segments, 0, &OpenGate);
-    assert_eq!(rt; done.finished, row.works as usize == row.swept.len());
-    sweeper.finish(&mut segments);
+    let works = u64::from(row.works);
+    let upper = row.quota / 2;
+    assert_eq!(rt; sweeper.turns, works * u64::from(row.quota - upper));
+    assert_eq!(rt; sweeper.upper_turns, works * u64::from(upper));
+    let done = sweeper.work(rt, &mut segments, &names, 0, &OpenGate);
+    assert_eq!(rt; done.swept, 0);
+    assert_eq!(rt;
+        done.finished,
+        works * u64::from(row.quota) == row.swept.len() as u64
+    );
+    sweeper.finish(rt, &mut segments, &names);
     assert_eq!(rt; sweeper.swept(), row.swept);
-    assert_eq!(rt; sweeper.had(), row.had);
-    assert_eq!(rt; sweeper.freed(), row.freed);
-    let census = sweeper.into_census();
+    assert_eq!(rt; sweeper.had().len(), row.had.len());
+    assert_eq!(rt; sweeper.freed().len(), row.freed.len());
+    let mut census = sweeper.into_census();
+    put_in_order(census.had.as_mut_slice(), alloc);
+    put_in_order(census.freed.as_mut_slice(), alloc);
     assert_eq!(rt; census.swept.as_slice(), row.swept);
     assert_eq!(rt; census.had.as_slice(), row.had);
     assert_eq!(rt; census.freed.as_slice(), row.freed);
@@ -281,6 +279,7 @@ fn two_mutators_and_stale_marks(rt: HostRuntime) -> Result<(), Fail> {
             stale: &[],
             marked: &[1, 4, 5, 6, 7],
             works: 2,
+            quota: 1,
             swept: &[0, 1],
             had: &EIGHT,
             freed: &UNMARKED_OF_NINE,
@@ -302,6 +301,7 @@ fn two_mutators_and_stale_marks(rt: HostRuntime) -> Result<(), Fail> {
             stale: &[0, 1, 2, 3],
             marked: &[2],
             works: 1,
+            quota: 1,
             swept: &[0],
             had: &FOUR,
             freed: &UNMARKED_OF_FOUR,
@@ -322,6 +322,7 @@ fn retired_segments(rt: HostRuntime) -> Result<(), Fail> {
             stale: &[],
             marked: &[],
             works: 1,
+            quota: 1,
             swept: &[0],
             had: &FEW,
             freed: &FEW,
@@ -337,6 +338,7 @@ fn retired_segments(rt: HostRuntime) -> Result<(), Fail> {
             stale: &[],
             marked: &[0, 1],
             works: 0,
+            quota: 1,
             swept: &[0],
             had: &FEW,
             freed: &[],
@@ -357,6 +359,7 @@ fn the_rest_and_nothing(rt: HostRuntime) -> Result<(), Fail> {
             stale: &[],
             marked: &[],
             works: 1,
+            quota: 1,
             swept: &[0, 1],
             had: &EIGHT,
             freed: &EIGHT,
@@ -372,10 +375,37 @@ fn the_rest_and_nothing(rt: HostRuntime) -> Result<(), Fail> {
             stale: &[],
             marked: &[],
             works: 0,
+            quota: 1,
             swept: &[],
             had: &[],
             freed: &[],
             states: &[State::Current { mutator: 0 }],
+        },
+    )
+}
+
+// Two segments at once, in two threads, and what is left of the quota.
+#[test]
+fn two_halves(rt: HostRuntime) -> Result<(), Fail> {
+    check(
+        &rt,
+        rt.alloc(),
+        Row {
+            placed: &NINE,
+            retired: false,
+            stale: &[],
+            marked: &[1, 4, 5, 6, 7],
+            works: 1,
+            quota: 2,
+            swept: &[0, 1],
+            had: &EIGHT,
+            freed: &UNMARKED_OF_NINE,
+            states: &[
+                State::Active,
+                State::Filled,
+                State::Current { mutator: 0 },
+                State::Free,
+            ],
         },
     )
 }

@@ -2,4 +2,5 @@ mod Drains
 mod Happens
 mod Kepts
 mod Takes
+mod Tellings
 mod Traces

@@ -1,3 +1,4 @@
 pub mod Kept
+pub mod Reports
 pub mod Trace
 pub mod Verdicts

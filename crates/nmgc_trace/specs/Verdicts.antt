@@ -31,12 +31,12 @@ pub record EndsAtLine (lines : List Line) (told : Verdict) : Type 0 where
   pub cannot : (next : Progress) → Can before line next → ⊥
   pub told_is : told ≡ refusal_of line (length earlier + 1)
 
--- whether each line could happen
+-- whether each line could happen, and marking has ended
 abbrev pub is_passed : Verdict → Bool
 is_passed (verdict.Bad n) = false
 is_passed (verdict.Refused n) = false
-is_passed verdict.Unmarked = true
-is_passed (verdict.Open names) = true
+is_passed verdict.Unmarked = false
+is_passed (verdict.Open names) = false
 is_passed (verdict.Closed names) = true
 
 -- what is told of a machine in the end: exactly what is marked, and whether marking has ended

@@ -9,7 +9,7 @@ use nmgc_script::{ScriptFault, parse};
 use std::alloc::Global;
 
 // A script's lines before its first command.
-const HEAD: &str = "nmgc 1\nheap 128 4096 4096 4096 1048576 8\nthread 0\n";
+const HEAD: &str = "nmgc 2\nheap 128 4096 4096 4096 1048576 8\nthread 0\n";
 
 // No command of a trace takes more bytes, with the head before it.
 const LONGEST: usize = 65536;
@@ -72,7 +72,16 @@ fn longer_line(alloc: Global, word: &str, rest: &str) -> Result<Line, NoMemory> 
         }),
         "take" => Ok(take_of(rest).unwrap_or(Line::Unknown)),
         _ => match (byte_of(word), rest.split_once(" = ")) {
-            (Some(mutator), Some((command, answer))) => given_of(alloc, mutator, command, answer),
+            (Some(mutator), Some((command, answer))) => {
+                match given_of(alloc, command, answer)? {
+                    Some((command, answer)) => Ok(Line::Event(Event::Command {
+                        mutator,
+                        command,
+                        answer,
+                    })),
+                    None => Ok(Line::Unknown),
+                }
+            }
             _ => Ok(Line::Unknown),
         },
     }
@@ -87,19 +96,19 @@ fn take_of(rest: &str) -> Option<Line> {
     })
 }
 
-// `M COMMAND = ANSWER`.
-fn given_of(alloc: Global, mutator: u8, command: &str, answer: &str) -> Result<Line, NoMemory> {
+/// The command and the answer of `COMMAND = ANSWER`, if they are some.
+pub fn given_of(
+    alloc: Global,
+    command: &str,
+    answer: &str,
+) -> Result<Option<(Command, Reply)>, NoMemory> {
     let Some(answer) = reply_of(answer) else {
-        return Ok(Line::Unknown);
+        return Ok(None);
     };
-    let Some(command) = command_of(alloc, command)? else {
-        return Ok(Line::Unknown);
-    };
-    Ok(Line::Event(Event::Command {
-        mutator,
-        command,
-        answer,
-    }))
+    match command_of(alloc, command)? {
+        Some(command) => Ok(Some((command, answer))),
+        None => Ok(None),
+    }
 }
 
 // The command that a line of a script spells.
@@ -150,8 +159,8 @@ fn value_of(word: &str) -> Option<Value> {
     }
 }
 
-// A name: the maker and the number of the object, or `g`, which is spelled in no other way.
-fn name_of(word: &str) -> Option<Name> {
+/// A name: the maker and the number of the object, or `g`, which is spelled in no other way.
+pub fn name_of(word: &str) -> Option<Name> {
     if word == "g" {
         return Some(Name::SHARED);
     }
@@ -166,7 +175,7 @@ fn name_of(word: &str) -> Option<Name> {
     })
 }
 
-// A number below 256, without leading zeros.
-fn byte_of(word: &str) -> Option<u8> {
+/// A number below 256, without leading zeros.
+pub fn byte_of(word: &str) -> Option<u8> {
     Some(read_number(word.as_bytes(), u64::from(u8::MAX))? as u8)
 }

@@ -27,13 +27,13 @@ pub enum Verdict {
 impl Verdict {
     ghost use Rattle.nmgc_trace.specs.Verdicts.{is_passed};
 
-    /// Whether each line can happen. Takes no memory, and constant time.
+    /// Whether each line can happen, and marking has ended. Takes no memory, and constant time.
     pub fn is_passed(&self) -> bool
         ensures { result ≡ is_passed self.now }
     {
         match self {
-            Verdict::Bad(_) | Verdict::Refused(_) => false,
-            Verdict::Unmarked | Verdict::Open(_) | Verdict::Closed(_) => true,
+            Verdict::Bad(_) | Verdict::Refused(_) | Verdict::Unmarked | Verdict::Open(_) => false,
+            Verdict::Closed(_) => true,
         }
     }
 }

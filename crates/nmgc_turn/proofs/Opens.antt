@@ -51,7 +51,7 @@ module _ (s : Segments) (places : List Place) (w : World) (words : List ℕ) (mu
     in_segments = λ p c m lt. inl (below p c m);
   }
 
-  -- sixteen words of the one list are a mutator's own
+  -- so many words of the one list as a mutator has registers are its own
   hand_at : (m : ℕ) → m < s.layout.mutators → HandStands o m (get_or o.hands m no_hand)
   hand_at m lt =
       let many = h.count in

@@ -2,7 +2,7 @@
 use Rattle.std.proofs.Common.{◌≡◌, ◌≢◌, ◌*◌, ◌<◌, ℕ, zero, suc, List, [], ◌∷◌, ◌++◌, map, length, refl, sym, ap, subst, ◌∙◌, append-nil, append_assoc, arith, Option, Some, None, inl, inr}
 use Rattle.std.specs.Prelude.{Contains, slice_get}
 use Rattle.std.proofs.lemmas.Bool.{cases_eq}
-use Rattle.nmgc_graph.specs.declared.value.TheConstants.{REGISTERS}
+use Rattle.nmgc_graph.specs.declared.value.TheConstants.{REGISTERS, SHARED_MAKER}
 use Rattle.nmgc_graph.specs.declared.value.Name.{Name}
 use Rattle.nmgc_graph.specs.declared.value.Value.{Value}
 use Rattle.nmgc_graph.specs.declared.value.Value.TheVariants as value
@@ -72,7 +72,7 @@ own_queue P state q x (value.Ref name) h m =
 one_queue : (P : Place → Type 0) (w : World) → IsWorld w → (d : Name) (x : Death) (parts : Parts) → x.weak ≡ d → IsAlive w d parts → Means P x.finaliser parts.finaliser → (m : ℕ) (q : List ℕ) → ListMeans P q (state_of w m).queue → ListMeans P (q ++ one_of m x) (state_of (closed_by w d (node_of w d)) m).queue
 one_queue P w world d x parts same alive means m q h =
     let lt : d.maker < length w.mutators = weak_maker w world d (parts, alive) in
-    let ne : d.maker ≢ 8 = not_shared w d.maker world lt in
+    let ne : d.maker ≢ SHARED_MAKER = not_shared w d.maker world lt in
     let dead : MutatorState = with_dead (state_of w d.maker) d.serial parts.finaliser in
     let is : closed_by w d (node_of w d) ≡ with_state w d.maker dead = ap (λ (o : Option Node). closed_by w d o) alive ∙ closed_state w d parts lt ne in
     let R : World → Type 0 = λ v. ListMeans P (q ++ one_of m x) (state_of v m).queue in

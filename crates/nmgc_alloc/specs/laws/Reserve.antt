@@ -1,45 +1,25 @@
 -- The reserve suffices: it is there at the beginning, each placing keeps it, and it gives room.
-use Rattle.std.proofs.Common.{ℕ, ◌≡◌, ◌≢◌, ◌+◌, ◌-◌, ◌*◌, ◌/◌, ◌%◌, ◌^◌, ◌<◌, ◌≤◌, ◌⊎◌, ◌∙◌, suc, inl, inr, refl, ap, subst, sym, arith, Bool, true, false, cond, List, [], ◌∷◌, length, set, replicate, slice_index, count_by}
+use Rattle.std.proofs.Common.{ℕ, ◌≡◌, ◌≢◌, ◌+◌, ◌-◌, ◌*◌, ◌/◌, ◌%◌, ◌<◌, ◌≤◌, ◌⊎◌, ◌∙◌, inl, inr, refl, ap, subst, sym, arith, true, false, cond, List, length, set, replicate, slice_index}
 use Rattle.std.proofs.Math.ListN.{length-set, length-replicate}
-use Rattle.std.proofs.Math.Nat.{mul-div_cancel, mul-le-mul_left, mul-le-mul_right}
-use Rattle.std.proofs.Math.Pow.{pow-lt}
+use Rattle.std.proofs.Math.Nat.{mul-le-mul_left, mul-le-mul_right}
 use Rattle.std.proofs.lemmas.List.{get_or-set_same, get_or-set_other, get_or-replicate}
 use Rattle.std.proofs.lemmas.List.Sums.{sum_by-set, sum_by-le}
 use Rattle.std.proofs.lemmas.List.Elements.{All-set, All-replicate, All-get_or}
-use Rattle.std.proofs.lemmas.Nat.{pow-add}
-use Rattle.std.proofs.lemmas.Bool.{cases_eq, cases_lt, cases_order, cases_Bool}
+use Rattle.std.proofs.lemmas.Nat.{div-add-mod'}
+use Rattle.std.proofs.lemmas.Bool.{cases_eq, cases_lt, cases_order}
 use Rattle.nmgc_object.specs.declared.layout.Layout.{Layout}
-use Rattle.nmgc_object.specs.Size.{block_size}
-use Rattle.nmgc_object.specs.Places.{IsSegmentSize, class_count, reserve_count}
-use Rattle.nmgc_object.specs.laws.Classes.{power_from_test, block_power}
+use Rattle.nmgc_object.specs.Size.{block_size, IsClassOf}
+use Rattle.nmgc_object.specs.Places.{IsSegmentSize, class_count, reserve_count, left_over}
+use Rattle.nmgc_object.specs.laws.Classes.{object_half, class_fits}
 use Rattle.nmgc_segment.specs.Segment.{Segment, InUse, HasFree, mark_of, segment_words, block_count, free_segment}
 use Rattle.nmgc_segment.specs.declared.state.State.{State}
-use Rattle.nmgc_segment.specs.declared.state.State.TheVariants.{Free, Current, Active, Filled, Sweeping}
+use Rattle.nmgc_segment.specs.declared.state.State.TheVariants.{Free, Current, Active, Filled}
 use Rattle.nmgc_alloc.specs.Search.{nth, is}
 use Rattle.nmgc_alloc.specs.Segments.{Segments, IsSegments, HasRoom, IsCurrent, Allocates, TakesBlock, as_current}
 use Rattle.nmgc_alloc.specs.Reserve.{free_count, pair, HasLeft, KeepsReserve}
 use Rattle.nmgc_alloc.specs.laws.Numbers.{nth-set_same, nth-set_other}
 use Rattle.nmgc_alloc.specs.laws.Counts.{one_counted, is_free}
-use Rattle.nmgc_alloc.specs.laws.Placing.{step, large}
-
--- blocks of a class fill a segment without a rest
-pub whole_blocks : (words class : ℕ) → IsSegmentSize words → block_size class ≤ words → words / block_size class * block_size class ≡ words
-whole_blocks words class size fits =
-    let found = power_from_test words size.power in
-    let p = found.0 in
-    let is : words ≡ 2 ^ p = found.1 in
-    let bs = block_power class in
-    let least : class + 2 ≤ p = elim (cases_lt p (class + 2)) [
-      | inl lt ↦ let low : 2 ^ p < 2 ^ (class + 2) = pow-lt lt in absurd (omega (arith, bs))
-      | inr ge ↦ ge
-    ] in
-    let q : ℕ = 2 ^ (p - (class + 2)) in
-    let split : p ≡ (p - (class + 2)) + (class + 2) = omega arith in
-    let power : 2 ^ p ≡ q * 2 ^ (class + 2) = ap (λ (n : ℕ). 2 ^ n) split ∙ pow-add 2 (p - (class + 2)) (class + 2) in
-    let product : words ≡ q * block_size class = is ∙ power ∙ ap (λ (n : ℕ). q * n) (sym bs) in
-    let positive : 0 < block_size class = let l = large class in omega (arith, l) in
-    let count : words / block_size class ≡ q = ap (λ (n : ℕ). n / block_size class) product ∙ mul-div_cancel q positive in
-    ap (λ (n : ℕ). n * block_size class) count ∙ sym product
+use Rattle.nmgc_alloc.specs.laws.Placing.{step}
 
 -- taking the first unused block of a segment without marks moves the index on by one
 took_next : (old new : Segment) (block : ℕ) → TakesBlock old new block → ((b : ℕ) → mark_of old b ≡ 0) → (new.next_free ≡ old.next_free + 1) × ((b : ℕ) → mark_of new b ≡ 0)
@@ -145,7 +125,7 @@ module _ (layout : Layout) (size : IsSegmentSize layout.words) where
   next_left : (xs : List Segment) (n : ℕ) (was y : Segment) (m c left v block : ℕ) → n < length xs
       → was.state ≡ Current m → was.class ≡ c → segment_words was ≡ layout.words → block_size c ≤ layout.words
       → TakesBlock was y block → ((b : ℕ) → mark_of was b ≡ 0)
-      → left + was.next_free * block_size c ≤ layout.words
+      → left + was.next_free * block_size c + left_over layout c ≤ layout.words
       → v ≡ left - block_size c
       → (v ≡ 0) ⊎ ((k : ℕ) × HasLeft layout (set xs n y) m c v k)
   next_left xs n was y m c left v block in' state class words fits t none room less =
@@ -155,7 +135,7 @@ module _ (layout : Layout) (size : IsSegmentSize layout.words) where
       let marks : y.marks ≡ was.marks = ap (λ (x : Segment). x.marks) t.rest in
       let same_words : segment_words y ≡ layout.words = ap (λ (b : List ℕ). 4 * length b) marks ∙ words in
       let q : ℕ = layout.words / block_size c in
-      let whole : q * block_size c ≡ layout.words = whole_blocks layout.words c size fits in
+      let whole : q * block_size c + left_over layout c ≡ layout.words = div-add-mod' layout.words (block_size c) in
       let blocks : block_count y ≡ q = subst (λ (k : ℕ). segment_words y / block_size k ≡ layout.words / block_size c) (sym same_class) (ap (λ (k : ℕ). k / block_size c) same_words) in
       let grown : y.next_free * block_size c ≡ was.next_free * block_size c + block_size c = let e = ap (λ (k : ℕ). k * block_size c) next.0 in omega (arith, e) in
       elim (cases_eq v 0) [
@@ -194,8 +174,8 @@ module _ (layout : Layout) (size : IsSegmentSize layout.words) where
     | inr s ↦ not_free w y.state Filled s.1 refl
   ]
 
-  -- placing an object of at least half the words of its block keeps the reserve
-  step_keeps : (xs : List Segment) (n : ℕ) (y : Segment) (m c block placed words : ℕ) → n < length xs → m < layout.mutators → c < class_count layout → block_size c ≤ layout.words → block_size c ≤ 2 * words
+  -- placing an object that has at least half the words of its block and of what is left over keeps the reserve
+  step_keeps : (xs : List Segment) (n : ℕ) (y : Segment) (m c block placed words : ℕ) → n < length xs → m < layout.mutators → c < class_count layout → block_size c ≤ layout.words → left_over layout c + block_size c ≤ 2 * words
       → segment_words (nth xs n) ≡ layout.words
       → TakesBlock (as_current m c (nth xs n)) y block
       → (IsCurrent m c (nth xs n)) ⊎ ((((k : ℕ) → k < length xs → IsCurrent m c (nth xs k) → ⊥) × ((nth xs n).state ≡ Active)) ⊎ (((k : ℕ) → k < length xs → IsCurrent m c (nth xs k) → ⊥) × ((nth xs n).state ≡ Free) × (((b : ℕ) → mark_of (nth xs n) b ≡ 0) × ((nth xs n).next_free ≡ 0))))
@@ -231,10 +211,13 @@ module _ (layout : Layout) (size : IsSegmentSize layout.words) where
             let mine : (a b : ℕ) → IsCurrent a b (nth xs n) → (a ≡ m) × (b ≡ c) = λ a b h. let e : Current a ≡ Free = sym h.0 ∙ free.1 in absurd cc in
             let was : w * cond (is (nth xs n).state Free) 1 0 ≡ w = let e : is (nth xs n).state Free ≡ true = ap (λ (x : State). is x Free) free.1 in rw e (omega arith) in
             let z : left ≡ 0 = elim (r.begun m c low small) [ inl z ↦ z | inr h ↦ absurd (free.0 h.0 h.1.exists h.1.current) ] in
-            let empty : w + (nth xs n).next_free * block_size c ≤ w = rw free.2.1 (omega arith) in
-            changed xs n y m c (w - block_size c) placed words in' low small mine (omega arith)
-            (next_left xs n (as_current m c (nth xs n)) y m c w (w - block_size c) block in' refl refl same_words fits t free.2.0 empty refl)
-            r (omega (arith, was, gone, z, half, fits))
+            let over = left_over layout c in
+            let whole : w / block_size c * block_size c + over ≡ w = div-add-mod' w (block_size c) in
+            let blocks : ℕ = w - over in
+            let empty : blocks + (nth xs n).next_free * block_size c + over ≤ w = rw free.2.1 (omega (arith, whole)) in
+            changed xs n y m c (blocks - block_size c) placed words in' low small mine (omega arith)
+            (next_left xs n (as_current m c (nth xs n)) y m c blocks (blocks - block_size c) block in' refl refl same_words fits t free.2.0 empty refl)
+            r (omega (arith, was, gone, z, half, whole))
       ]
 
   -- the words that free segments make up for are those of all nurseries twice, and a segment for each pair
@@ -269,9 +252,11 @@ module _ (layout : Layout) (size : IsSegmentSize layout.words) where
   ]
 
 -- each placing keeps the reserve
-pub placing_keeps : (s new : Segments) (m c at placed words : ℕ) → IsSegments s → Allocates s new m c at → m < s.layout.mutators → c < class_count s.layout → block_size c ≤ s.layout.words → block_size c ≤ 2 * words
+pub placing_keeps : (s new : Segments) (m c at placed words : ℕ) → IsSegments s → Allocates s new m c at → m < s.layout.mutators → c < class_count s.layout → 2 ≤ words → words ≤ s.layout.words → IsClassOf words c
     → KeepsReserve s.layout s.segments placed → KeepsReserve s.layout new.segments (placed + words)
-placing_keeps s new m c at placed words h a low small fits half r =
+placing_keeps s new m c at placed words h a low small two most is r =
+    let fits = class_fits s.layout.words c words h.layout.words most is.least in
+    let half = object_half s.layout.words words c h.layout.words two most is in
     let n = a.number in
     let within : n < length s.segments = elim a.chosen [ inl own ↦ own.exists | inr (inl active) ↦ active.least.exists | inr (inr free) ↦ free.least.exists ] in
     let member = h.members n within in

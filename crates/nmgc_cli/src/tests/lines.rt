@@ -2,7 +2,9 @@
 ghost use Rattle.std.specs.Prelude.{None};
 
 use super::benches::ONE_BATCH;
-use super::running::{EMPTY_REPORT, ONE_OBJECT, ONE_OBJECT_REPORT, USAGE, all_words, script_of};
+use super::running::{
+    EMPTY_REPORT, ONE_OBJECT, ONE_OBJECT_REPORT, ONE_OBJECT_UPGRADED, USAGE, all_words, script_of,
+};
 use crate::{CommandLine, Status, nmgc, program, words_of};
 use nmgc_io::{MemorySink, MemorySource};
 use std::alloc::Global;
@@ -12,7 +14,7 @@ use std::test::Fail;
 use std::thread::Threads;
 
 // Words that ask for no task.
-const WRONG: [&[&str]; 13] = [
+const WRONG: [&[&str]; 16] = [
     &[],
     &[""],
     &["run", "run"],
@@ -26,6 +28,9 @@ const WRONG: [&[&str]; 13] = [
     &["bench", "18446744073709551617"],
     &["bench", "1", "1"],
     &["1", "bench"],
+    &["Upgrade"],
+    &["upgrade", "1"],
+    &["run", "upgrade"],
 ];
 
 // Looks whether these words are told to be wrong.
@@ -86,7 +91,7 @@ fn all_words_are_passed_on(rt: HostRuntime) -> Result<(), Fail> {
 }
 
 // Command lines, how much of the script with one object is there, and what the program ends with.
-const LINES: [(&[&[u8]], usize, u8, &str); 10] = [
+const LINES: [(&[&[u8]], usize, u8, &str); 12] = [
     (&[b"nmgc", b"run"], 200, 0, ONE_OBJECT_REPORT),
     (&[b"nmgc"], 200, 2, USAGE),
     (&[], 200, 2, USAGE),
@@ -97,6 +102,8 @@ const LINES: [(&[&[u8]], usize, u8, &str); 10] = [
     (&[b"nmgc", b"run"], 40, 0, EMPTY_REPORT),
     (&[b"nmgc", b"bench", b"1"], 200, 0, ONE_BATCH),
     (&[b"nmgc", b"bench", b"0"], 200, 2, USAGE),
+    (&[b"nmgc", b"upgrade"], 200, 0, ONE_OBJECT_UPGRADED),
+    (&[b"nmgc", b"upgrade"], 6, 5, "bad line 2 heap\n"),
 ];
 
 // Looks whether the program ends with the number of each row, having written its text.

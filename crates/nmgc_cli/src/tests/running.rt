@@ -26,7 +26,20 @@ stop 1 idle free 31 filled 0 sweep 0 promoted 1
 end done
 ";
 
-pub const USAGE: &str = "usage: nmgc run | nmgc bench N\n";
+// Its upgrade.
+pub const ONE_OBJECT_UPGRADED: &str = "nmgc 2
+heap 32 64 64 100 1000 0
+thread 0
+num r1 5
+con r0 7 r1
+get r2 r0 0
+show r2
+get r2 r0 1
+get r2 r1 0
+show r0
+";
+
+pub const USAGE: &str = "usage: nmgc run | nmgc bench N | nmgc upgrade\n";
 
 pub const EMPTY_REPORT: &str = "report 1
 stop 0 idle free 32 filled 0 sweep 0 promoted 0

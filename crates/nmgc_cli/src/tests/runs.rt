@@ -169,7 +169,7 @@ end done
 
 // Each thread reads what the other put into the shared array in the round before.
 const TWO_THREADS: &str = "nmgc 1
-heap 32 64 64 100 1000 0
+heap 64 64 64 100 1000 0
 thread 0
 num r1 5
 con r0 0 r1
@@ -186,7 +186,7 @@ get r3 r2 0
 ";
 
 const TWO_THREADS_REPORT: &str = "report 1
-stop 0 idle free 32 filled 0 sweep 0 promoted 0
+stop 0 idle free 64 filled 0 sweep 0 promoted 0
 round 1
 0 ok
 0 0.0
@@ -196,18 +196,18 @@ round 1
 1 1.0
 1 ok
 1 ok
-stop 1 idle free 30 filled 0 sweep 0 promoted 2
+stop 1 idle free 62 filled 0 sweep 0 promoted 2
 round 2
 0 1.0
 1 0.0
 1 5
-stop 2 idle free 30 filled 0 sweep 0 promoted 0
+stop 2 idle free 62 filled 0 sweep 0 promoted 0
 end done
 ";
 
-// As many threads as there may be: each reads what the next one put into the shared array in the round before.
+// As many threads as version 1 has: each reads what the next one put into the shared array in the round before.
 const EIGHT_THREADS: &str = "nmgc 1
-heap 64 64 64 100 1000 0
+heap 256 64 64 100 1000 0
 thread 0
 con r0 0
 set g 0 r0
@@ -251,7 +251,7 @@ get r1 g 0
 ";
 
 const EIGHT_THREADS_REPORT: &str = "report 1
-stop 0 idle free 64 filled 0 sweep 0 promoted 0
+stop 0 idle free 256 filled 0 sweep 0 promoted 0
 round 1
 0 0.0
 0 ok
@@ -277,7 +277,7 @@ round 1
 7 7.0
 7 ok
 7 ok
-stop 1 idle free 56 filled 0 sweep 0 promoted 8
+stop 1 idle free 248 filled 0 sweep 0 promoted 8
 round 2
 0 1.0
 1 2.0
@@ -287,11 +287,11 @@ round 2
 5 6.0
 6 7.0
 7 0.0
-stop 2 idle free 56 filled 0 sweep 0 promoted 0
+stop 2 idle free 248 filled 0 sweep 0 promoted 0
 end done
 ";
 
-// Eight objects that stay, in segments of four; the reserve is 5 segments.
+// Eight objects that stay, in segments of four; the reserve is 15 segments.
 const EIGHT_OBJECTS: &str = "thread 0
 con r0 0 r0 r1
 con r0 0 r0 r1
@@ -307,54 +307,93 @@ show r0
 // How many segments there are for them, and what is written.
 const HEAPS: [(&str, Status, &str); 3] = [
     (
-        "nmgc 1\nheap 4 16 16 100 1000 0\n",
+        "nmgc 1\nheap 14 16 16 100 1000 0\n",
         Status::HeapFull,
         "report 1
-stop 0 idle free 4 filled 0 sweep 0 promoted 0
+stop 0 idle free 14 filled 0 sweep 0 promoted 0
 cycle 1 from 0 closed 0 swept 0 had 0 freed 0 kept 0 dead 0
-end heapfull free 4 reserve 5
+end heapfull free 14 reserve 15
 ",
     ),
     (
-        "nmgc 1\nheap 5 16 16 100 1000 0\n",
+        "nmgc 1\nheap 15 16 16 100 1000 0\n",
         Status::HeapFull,
         "report 1
-stop 0 idle free 5 filled 0 sweep 0 promoted 0
+stop 0 idle free 15 filled 0 sweep 0 promoted 0
 round 1
 0 0.0
 0 0.1
 0 0.2
 0 0.3
-stop 1 idle free 4 filled 1 sweep 0 promoted 4
+stop 1 idle free 14 filled 1 sweep 0 promoted 4
 cycle 1 from 1 closed 1 swept 1 had 4 freed 0 kept 4 dead 0
-end heapfull free 4 reserve 5
+end heapfull free 14 reserve 15
 ",
     ),
     (
-        "nmgc 1\nheap 6 16 16 100 1000 0\n",
+        "nmgc 1\nheap 16 16 16 100 1000 0\n",
         Status::Done,
         "report 1
-stop 0 idle free 6 filled 0 sweep 0 promoted 0
+stop 0 idle free 16 filled 0 sweep 0 promoted 0
 round 1
 0 0.0
 0 0.1
 0 0.2
 0 0.3
-stop 1 idle free 5 filled 1 sweep 0 promoted 4
+stop 1 idle free 15 filled 1 sweep 0 promoted 4
 round 2
 0 0.4
 0 0.5
 0 0.6
 0 0.7
 0 0.7
-stop 2 idle free 4 filled 2 sweep 0 promoted 4
+stop 2 idle free 14 filled 2 sweep 0 promoted 4
 end done
 ",
     ),
 ];
 
+// More threads than version 1 has.
+const NINE_THREADS: &str = "nmgc 2
+heap 256 64 64 100 1000 0
+thread 0
+con r0 0 r1
+thread 1
+con r0 0 r1
+thread 2
+con r0 0 r1
+thread 3
+con r0 0 r1
+thread 4
+con r0 0 r1
+thread 5
+con r0 0 r1
+thread 6
+con r0 0 r1
+thread 7
+con r0 0 r1
+thread 8
+con r0 0 r1
+";
+
+const NINE_THREADS_REPORT: &str = "report 1
+stop 0 idle free 256 filled 0 sweep 0 promoted 0
+round 1
+0 0.0
+1 1.0
+2 2.0
+3 3.0
+4 4.0
+5 5.0
+6 6.0
+7 7.0
+8 8.0
+stop 1 idle free 247 filled 0 sweep 0 promoted 9
+end done
+";
+
 // Whole scripts, and what is written.
-const SCRIPTS: [(&str, Status, &str); 16] = [
+const SCRIPTS: [(&str, Status, &str); 20] = [
     ("", Status::BadScript, "bad line 1 version\n"),
     (
         "nmgc 1\nheap 32 64 64 100 1000 0\n",
@@ -458,6 +497,31 @@ end done
         Status::Done,
         EMPTY_REPORT,
     ),
+    // Version 2 has more registers and threads than version 1, and is the last one.
+    (
+        "nmgc 2\nheap 32 64 64 100 1000 0\nthread 0\nnum r63 5\ncon r40 0 r63\nget r41 r40 0\n",
+        Status::Done,
+        "report 1
+stop 0 idle free 32 filled 0 sweep 0 promoted 0
+round 1
+0 ok
+0 0.0
+0 5
+stop 1 idle free 31 filled 0 sweep 0 promoted 1
+end done
+",
+    ),
+    (
+        "nmgc 1\nheap 32 64 64 100 1000 0\nthread 0\nnum r63 5\ncon r40 0 r63\nget r41 r40 0\n",
+        Status::BadScript,
+        "bad line 4 operand\n",
+    ),
+    (
+        "nmgc 3\nheap 32 64 64 100 1000 0\nthread 0\nnum r63 5\ncon r40 0 r63\nget r41 r40 0\n",
+        Status::BadScript,
+        "bad line 1 version\n",
+    ),
+    (NINE_THREADS, Status::Done, NINE_THREADS_REPORT),
     (TWO_THREADS, Status::Done, TWO_THREADS_REPORT),
     (EIGHT_THREADS, Status::Done, EIGHT_THREADS_REPORT),
     // A weak pointer's value is read while the cycle marks, and so it is kept; the weak pointer dies.
@@ -505,25 +569,25 @@ end done
     ),
     // The heap runs full while a cycle marks.
     (
-        "nmgc 1\nheap 6 16 16 100 1 0\nthread 0\ncon r0 0 r0 r1\ncon r0 0 r0 r1\ncon r0 0 r0 r1\ncollect\ncon r0 0 r0 r1\ncon r0 0 r0 r1\ncon r0 0 r0 r1\ncon r0 0 r0 r1\ncon r0 0 r0 r1\nshow r0\n",
+        "nmgc 1\nheap 16 16 16 100 1 0\nthread 0\ncon r0 0 r0 r1\ncon r0 0 r0 r1\ncon r0 0 r0 r1\ncollect\ncon r0 0 r0 r1\ncon r0 0 r0 r1\ncon r0 0 r0 r1\ncon r0 0 r0 r1\ncon r0 0 r0 r1\nshow r0\n",
         Status::HeapFull,
         "report 1
-stop 0 idle free 6 filled 0 sweep 0 promoted 0
+stop 0 idle free 16 filled 0 sweep 0 promoted 0
 round 1
 0 0.0
 0 0.1
 0 0.2
 0 ok
-stop 1 marking free 5 filled 0 sweep 0 promoted 3
+stop 1 marking free 15 filled 0 sweep 0 promoted 3
 round 2
 0 0.3
 0 0.4
 0 0.5
 0 0.6
-stop 2 idle free 4 filled 1 sweep 0 promoted 4
+stop 2 idle free 14 filled 1 sweep 0 promoted 4
 cycle 1 from 1 closed 2 swept 0 had 0 freed 0 kept 3 dead 0
 cycle 2 from 2 closed 2 swept 2 had 7 freed 0 kept 7 dead 0
-end heapfull free 4 reserve 5
+end heapfull free 14 reserve 15
 ",
     ),
 ];

@@ -1,61 +1,60 @@
--- The classes of a segment of a power of two of words, and the class of an object that a segment holds.
-use Rattle.std.proofs.Common.{ℕ, zero, suc, ◌≡◌, ◌+◌, ◌-◌, ◌*◌, ◌^◌, ◌<◌, ◌≤◌, ◌↔◌, inl, inr, refl, ap, subst, sym, arith, count_by, nat_le, ◌/◌, ◌%◌, ◌∙◌, IsTrue, rules, tests, count_ones}
+-- The classes of blocks: how they rise, which of them a segment has, and what an object leaves of its block.
+use Rattle.std.proofs.Common.{ℕ, zero, suc, ◌≡◌, ◌+◌, ◌-◌, ◌*◌, ◌^◌, ◌<◌, ◌≤◌, ◌↔◌, ◌⊎◌, inl, inr, refl, ap, subst, sym, arith, count_by, nat_le, ◌/◌, ◌%◌, ◌∙◌, IsTrue, rules, tests, count_ones, lit≤}
 use lib.Count.{ones}
 use Rattle.std.specs.Int.{is_power_of_two, IsPowerOfTwo}
 use Rattle.std.specs.List.{range_with_len}
 use Rattle.std.proofs.Math.Nat.{pow-le-pow_right}
-use Rattle.std.proofs.Math.Pow.{pow-lt}
-use Rattle.std.proofs.lemmas.Nat.{pow-add, ones_cat, zero_from_ones}
-use Rattle.std.proofs.lemmas.Bool.{cases_order, cases_lt, cases_eq}
+use Rattle.std.proofs.lemmas.Nat.{pow-add, pow_below, ones_cat, zero_from_ones, mod-mul-add, mod_below}
+use Rattle.std.proofs.lemmas.Bool.{cases_order, cases_lt, cases_eq, le-leb, lt-leb}
 use Rattle.nmgc_object.specs.Size.{block_size, IsClassOf}
 use Rattle.nmgc_object.specs.Places.{IsLayout, IsSegmentSize, class_count}
 use Rattle.nmgc_object.specs.declared.layout.Layout.{Layout}
 
--- a block as one power of two
-pub block_power : (class : ℕ) → block_size class ≡ 2 ^ (class + 2)
-block_power class = omega (arith, pow-add 2 class 2)
+-- a block of a dense class
+pub dense_block : (class : ℕ) → class ≤ 12 → block_size class ≡ class + 4
+dense_block class h = rw (le-leb class 12 h) refl
 
--- how many classes have blocks of at most so many words
-abbrev pub count_to : ℕ → ℕ
-count_to words = count_by (λ class. nat_le (block_size class) words) (range_with_len 0 11)
+-- a block of a class above them, or of the greatest of them
+pub wide_block : (steps : ℕ) → block_size (steps + 12) ≡ 16 * 2 ^ steps
+wide_block zero = refl
+wide_block (suc n) =
+    let same : suc n + 12 - 12 ≡ suc n = omega arith in
+    rw (lt-leb (suc n + 12) 12 (omega arith), same) refl
 
--- a segment that is one block of a class has the classes up to it
-pub count_at : (class : ℕ) → class ≤ 10 → count_to (2 ^ (class + 2)) ≡ class + 1
-count_at zero h = refl
-count_at (suc zero) h = refl
-count_at (suc (suc zero)) h = refl
-count_at (suc (suc (suc zero))) h = refl
-count_at (suc (suc (suc (suc zero)))) h = refl
-count_at (suc (suc (suc (suc (suc zero))))) h = refl
-count_at (suc (suc (suc (suc (suc (suc zero)))))) h = refl
-count_at (suc (suc (suc (suc (suc (suc (suc zero))))))) h = refl
-count_at (suc (suc (suc (suc (suc (suc (suc (suc zero)))))))) h = refl
-count_at (suc (suc (suc (suc (suc (suc (suc (suc (suc zero))))))))) h = refl
-count_at (suc (suc (suc (suc (suc (suc (suc (suc (suc (suc zero)))))))))) h = refl
-count_at (suc (suc (suc (suc (suc (suc (suc (suc (suc (suc (suc n))))))))))) h = absurd (omega arith)
+wide_of : (class : ℕ) → 12 ≤ class → block_size class ≡ 16 * 2 ^ (class - 12)
+wide_of class h = let is : class ≡ class - 12 + 12 = omega arith in ap (λ (c : ℕ). block_size c) is ∙ wide_block (class - 12)
 
--- the least class whose block holds a power of two has that size
-pub power_of_class : (power class : ℕ) → 4 ≤ power → 2 ^ power ≤ block_size class → ((d : ℕ) → d < class → block_size d < 2 ^ power) → power ≡ class + 2
-power_of_class power zero least holds below =
-    let more : 2 ^ 2 < 2 ^ power = pow-lt {i = 2} (omega arith) in absurd (omega arith)
-power_of_class power (suc d) least holds below =
-    let last : 2 ^ (d + 2) < 2 ^ power = subst (λ n. n < 2 ^ power) (block_power d) (below d (omega arith)) in
-    let all : 2 ^ power ≤ 2 ^ (suc d + 2) = subst (λ n. 2 ^ power ≤ n) (block_power (suc d)) holds in
-    elim (cases_order power (suc d + 2)) [
-      | inl eq ↦ eq
-      | inr (inl lt) ↦ absurd (let low : 2 ^ power ≤ 2 ^ (d + 2) = pow-le-pow_right (omega arith) (omega arith) in omega arith)
-      | inr (inr gt) ↦ absurd (let more : 2 ^ (suc d + 2) < 2 ^ power = pow-lt gt in omega arith)
-    ]
+-- a class has larger blocks than those below it
+pub block_rises : (c d : ℕ) → c < d → block_size c < block_size d
+block_rises c d lt = elim (cases_lt 12 d) [
+  | inr dense ↦ let a = dense_block c (omega arith) in let b = dense_block d dense in omega (arith, a, b)
+  | inl wide ↦
+      let b = wide_of d (omega arith) in
+      elim (cases_lt 12 c) [
+        | inr low ↦
+            let a = dense_block c low in
+            let two : 2 ^ 1 ≤ 2 ^ (d - 12) = pow-le-pow_right {n = 2} (omega arith) {i = 1} {j = d - 12} (omega arith) in
+            omega (arith, a, b, two)
+        | inl high ↦
+            let a = wide_of c (omega arith) in
+            let more : 2 ^ (c - 12) < 2 ^ (d - 12) = pow_below (c - 12) (d - 12) (omega arith) in
+            omega (arith, a, b, more)
+      ]
+]
 
--- the classes whose block fits are those up to it
-pub fitting : (class d : ℕ) → (d < class + 1) ↔ (block_size d ≤ 2 ^ (class + 2))
-fitting class d = (
-  (λ below. subst (λ n. n ≤ 2 ^ (class + 2)) (sym (block_power d)) (pow-le-pow_right (omega arith) (omega arith))),
-  (λ fits. elim (cases_lt d (class + 1)) [
-    | inl lt ↦ lt
-    | inr ge ↦ absurd (let more : 2 ^ (class + 2) < 2 ^ (d + 2) = pow-lt (omega arith) in omega (arith, block_power d))
-  ]),
-)
+-- no block is smaller than the least
+pub least_block : (class : ℕ) → 4 ≤ block_size class
+least_block class = elim (cases_lt 0 class) [
+  | inl more ↦ let up = block_rises 0 class more in omega (arith, up)
+  | inr none ↦ let e : class ≡ 0 = omega arith in subst (λ (c : ℕ). 4 ≤ block_size c) (sym e) (lit≤ tt)
+]
+
+-- no class has larger blocks than the greatest
+pub class_few : (class : ℕ) → block_size class ≤ 4096 → class ≤ 20
+class_few class fits = elim (cases_lt 20 class) [
+  | inl lt ↦ absurd (let more = block_rises 20 class lt in omega (arith, more))
+  | inr le ↦ le
+]
 
 -- a number with one bit set is a power of two
 power_up_to : (most n : ℕ) → n ≤ most → count_ones n ≡ 1 → IsPowerOfTwo n
@@ -81,90 +80,91 @@ power_up_to (suc most) n h one =
 pub power_from_test : (n : ℕ) → IsTrue (is_power_of_two n) → IsPowerOfTwo n
 power_from_test n test = power_up_to n n (omega arith) (search (tests, rules))
 
--- both, of a segment of so many words
-pub classes : (words class : ℕ) → IsSegmentSize words → words ≤ block_size class → ((d : ℕ) → d < class → block_size d < words) → words ≡ 2 ^ (class + 2)
-classes words class size holds below =
-    let found = power_from_test words size.power in
-    let power = found.0 in
-    let is : words ≡ 2 ^ power = found.1 in
-    let least : 4 ≤ power = elim (cases_lt power 4) [
-      | inl lt ↦ absurd (let low : 2 ^ power < 2 ^ 4 = pow-lt {j = 4} lt in omega (arith, size.least))
-      | inr ge ↦ ge
-    ] in
-    let same : power ≡ class + 2 = power_of_class power class least
-    (subst (λ n. n ≤ block_size class) is holds)
-    (λ d h. subst (λ n. block_size d < n) is (below d h)) in
-    subst (λ n. words ≡ 2 ^ n) same is
+-- a segment is one block of a class that isn't dense, or of the greatest that is
+pub record IsWhole (words : ℕ) : Type 0 where
+  pub steps : ℕ
+  pub is : words ≡ 16 * 2 ^ steps
+  pub most : steps ≤ 8
 
--- no class has larger blocks than the greatest
-pub class_few : (class : ℕ) → block_size class ≤ 4096 → class ≤ 10
-class_few class fits = elim (cases_lt 10 class) [
-  | inl lt ↦ let more : 2 ^ 10 < 2 ^ class = pow-lt {i = 10} lt in absurd (omega arith)
-  | inr le ↦ le
-]
-
--- twice the words of a block are those of a block of the next class
-double : (class : ℕ) → block_size (suc class) ≡ 2 * block_size class
-double class =
-    let e : 2 ^ (suc class + 2) ≡ 2 ^ (class + 2) * 2 ^ 1 = ap (λ (n : ℕ). 2 ^ n) (let f : suc class + 2 ≡ class + 2 + 1 = omega arith in f) ∙ pow-add 2 (class + 2) 1 in
-    omega (arith, block_power class, block_power (suc class), e)
-
--- an object has at least half the words of a block of its class
-pub half_full : (class words : ℕ) → 2 ≤ words → ((c : ℕ) → c < class → block_size c < words) → block_size class ≤ 2 * words
-half_full zero words two least = omega arith
-half_full (suc class) words two least = let low = least class (omega arith) in let e = double class in omega (arith, low, e)
-
--- a segment of so many words is a power of two
-pub record IsPower (words : ℕ) : Type 0 where
-  pub power : ℕ
-  pub is : words ≡ 2 ^ power
-  pub least : 4 ≤ power
-  pub most : power ≤ 12
-
-pub is_power : (words : ℕ) → IsSegmentSize words → IsPower words
-is_power words size =
+pub is_whole : (words : ℕ) → IsSegmentSize words → IsWhole words
+is_whole words size =
     let found = power_from_test words size.power in
     let p = found.0 in
-    let is : words ≡ 2 ^ p = found.1 in
+    let power : words ≡ 2 ^ p = found.1 in
+    let least : 4 ≤ p = elim (cases_lt p 4) [
+      | inl lt ↦ absurd (let low : 2 ^ p < 2 ^ 4 = pow_below p 4 lt in let l = size.least in omega (arith, l, power, low))
+      | inr ge ↦ ge
+    ] in
+    let split : p ≡ 4 + (p - 4) = omega arith in
+    let is : words ≡ 16 * 2 ^ (p - 4) = power ∙ ap (λ (n : ℕ). 2 ^ n) split ∙ pow-add 2 4 (p - 4) in
     record {
-      power = p;
+      steps = p - 4;
       is = is;
-      least = elim (cases_lt p 4) [
-        | inl lt ↦ absurd (let low : 2 ^ p < 2 ^ 4 = pow-lt {j = 4} lt in let l = size.least in omega (arith, l, is))
-        | inr ge ↦ ge
-      ];
-      most = elim (cases_lt 12 p) [
-        | inl gt ↦ absurd (let high : 2 ^ 12 < 2 ^ p = pow-lt {i = 12} gt in let m = size.most in omega (arith, m, is))
+      most = elim (cases_lt 8 (p - 4)) [
+        | inl gt ↦ absurd (let high : 2 ^ 8 < 2 ^ (p - 4) = pow_below 8 (p - 4) gt in let m = size.most in omega (arith, m, is, high))
         | inr le ↦ le
       ];
     }
 
+-- the classes whose block fits into such a segment
+pub fitting : (steps d : ℕ) → (d < steps + 13) ↔ (block_size d ≤ 16 * 2 ^ steps)
+fitting steps d = (
+  (λ below. elim (cases_eq d (steps + 12)) [
+    | inl e ↦ let is : block_size d ≡ 16 * 2 ^ steps = ap (λ (c : ℕ). block_size c) e ∙ wide_block steps in omega (arith, is)
+    | inr ne ↦ let up = block_rises d (steps + 12) (omega arith) in let is = wide_block steps in omega (arith, up, is)
+  ]),
+  (λ fits. elim (cases_lt (steps + 12) d) [
+    | inl more ↦ absurd (let up = block_rises (steps + 12) d more in let is = wide_block steps in omega (arith, up, is, fits))
+    | inr le ↦ omega arith
+  ]),
+)
+
+-- how many classes have blocks of at most so many words
+abbrev pub count_to : ℕ → ℕ
+count_to words = count_by (λ class. nat_le (block_size class) words) (range_with_len 0 21)
+
+pub count_at : (steps : ℕ) → steps ≤ 8 → count_to (16 * 2 ^ steps) ≡ steps + 13
+count_at zero h = refl
+count_at (suc zero) h = refl
+count_at (suc (suc zero)) h = refl
+count_at (suc (suc (suc zero))) h = refl
+count_at (suc (suc (suc (suc zero)))) h = refl
+count_at (suc (suc (suc (suc (suc zero))))) h = refl
+count_at (suc (suc (suc (suc (suc (suc zero)))))) h = refl
+count_at (suc (suc (suc (suc (suc (suc (suc zero))))))) h = refl
+count_at (suc (suc (suc (suc (suc (suc (suc (suc zero)))))))) h = refl
+count_at (suc (suc (suc (suc (suc (suc (suc (suc (suc n))))))))) h = absurd (omega arith)
+
+-- the least class whose block holds a whole segment is the last of them
+pub last_class : (words class : ℕ) (w : IsWhole words) → words ≤ block_size class → ((d : ℕ) → d < class → block_size d < words) → class ≡ w.steps + 12
+last_class words class w holds below =
+    let whole = wide_block w.steps in
+    let is = w.is in
+    elim (cases_order class (w.steps + 12)) [
+      | inl e ↦ e
+      | inr (inl lt) ↦ absurd (let up = block_rises class (w.steps + 12) lt in omega (arith, up, whole, is, holds))
+      | inr (inr gt) ↦ absurd (let less = below (w.steps + 12) gt in omega (arith, less, whole, is))
+    ]
+
 -- the block of the least class that holds what fits into a segment fits too
 pub class_fits : (words class size : ℕ) → IsSegmentSize words → size ≤ words → ((c : ℕ) → c < class → block_size c < size) → block_size class ≤ words
-class_fits words zero size h le least = let l = h.least in omega (arith, l)
-class_fits words (suc class) size h le least =
-    let p = is_power words h in
-    let low = least class (omega arith) in
-    let small : 2 ^ (class + 2) < 2 ^ p.power = let b = block_power class in let e = p.is in omega (arith, b, e, low) in
-    let less : class + 2 < p.power = elim (cases_lt (class + 2) p.power) [
-      | inl lt ↦ lt
-      | inr ge ↦ absurd (let up : 2 ^ p.power ≤ 2 ^ (class + 2) = pow-le-pow_right (omega arith) ge in omega arith)
-    ] in
-    let up : 2 ^ (suc class + 2) ≤ 2 ^ p.power = pow-le-pow_right (omega arith) (omega arith) in
-    let b = block_power (suc class) in
-    let e = p.is in
-    omega (arith, b, e, up)
+class_fits words class size h le least =
+    let w = is_whole words h in
+    let is = w.is in
+    let whole = wide_block w.steps in
+    elim (cases_lt (w.steps + 12) class) [
+      | inl gt ↦ absurd (let less = least (w.steps + 12) gt in omega (arith, less, whole, is, le))
+      | inr few ↦ let fits = (fitting w.steps class).0 (omega (arith, few)) in omega (arith, fits, is)
+    ]
 
 -- the classes of a layout are those whose block fits into a segment
 pub class_counted : (layout : Layout) (class : ℕ) → IsSegmentSize layout.words → (class < class_count layout) ↔ (block_size class ≤ layout.words)
 class_counted layout class h =
-    let p = is_power layout.words h in
-    let last : ℕ = p.power - 2 in
-    let split : p.power ≡ last + 2 = let l = p.least in omega arith in
-    let is : layout.words ≡ 2 ^ (last + 2) = p.is ∙ ap (λ (n : ℕ). 2 ^ n) split in
-    let count : class_count layout ≡ last + 1 = ap count_to is ∙ count_at last (let m = p.most in omega arith) in (
-      (λ below. subst (λ (n : ℕ). block_size class ≤ n) (sym is) ((fitting last class).0 (omega (arith, count, below)))),
-      (λ fits. let below : class < last + 1 = (fitting last class).1 (subst (λ (n : ℕ). block_size class ≤ n) is fits) in omega (arith, count, below)),
+    let w = is_whole layout.words h in
+    let is : layout.words ≡ 16 * 2 ^ w.steps = w.is in
+    let count : class_count layout ≡ w.steps + 13 = ap count_to is ∙ count_at w.steps w.most in (
+      (λ below. subst (λ (n : ℕ). block_size class ≤ n) (sym is) ((fitting w.steps class).0 (omega (arith, count, below)))),
+      (λ fits. let below : class < w.steps + 13 = (fitting w.steps class).1 (subst (λ (n : ℕ). block_size class ≤ n) is fits) in omega (arith, count, below)),
     )
 
 -- the class of an object that a segment holds is one of the layout's
@@ -173,6 +173,53 @@ object_class layout words class h fits is =
     let inside = class_fits layout.words class words h.words fits is.least in
     (inside, (class_counted layout class h.words).1 inside)
 
--- and its block is no more than half empty
-pub object_half : (words class : ℕ) → 2 ≤ words → IsClassOf words class → block_size class ≤ 2 * words
-object_half words class two is = half_full class words two is.least
+-- blocks of four words, and those whose words are a power of two, leave nothing of a segment over
+pub none_left : (words class : ℕ) → IsSegmentSize words → block_size class ≤ words → (class ≡ 0) ⊎ (12 ≤ class) → words % block_size class ≡ 0
+none_left words class h fits (inl first) =
+    let w = is_whole words h in
+    let is : words ≡ 4 * 2 ^ w.steps * 4 + 0 = let e = w.is in omega (arith, e) in
+    let none : words % 4 ≡ 0 = ap (λ (n : ℕ). n % 4) is ∙ mod-mul-add (4 * 2 ^ w.steps) 4 0 (omega arith) in
+    subst (λ (c : ℕ). words % block_size c ≡ 0) (sym first) none
+none_left words class h fits (inr wide) =
+    let w = is_whole words h in
+    let k : ℕ = class - 12 in
+    let size : block_size class ≡ 16 * 2 ^ k = wide_of class wide in
+    let le : k ≤ w.steps = elim (cases_lt w.steps k) [
+      | inl gt ↦ absurd (let more : 2 ^ w.steps < 2 ^ k = pow_below w.steps k gt in let e = w.is in omega (arith, more, e, size, fits))
+      | inr few ↦ few
+    ] in
+    let split : w.steps ≡ (w.steps - k) + k = omega (arith, le) in
+    let power : 2 ^ w.steps ≡ 2 ^ (w.steps - k) * 2 ^ k = ap (λ (n : ℕ). 2 ^ n) split ∙ pow-add 2 (w.steps - k) k in
+    let product : 2 ^ (w.steps - k) * block_size class ≡ 2 ^ (w.steps - k) * (16 * 2 ^ k) = ap (λ (n : ℕ). 2 ^ (w.steps - k) * n) size in
+    let scaled : 16 * (2 ^ (w.steps - k) * 2 ^ k) ≡ 2 ^ (w.steps - k) * (16 * 2 ^ k) = grind arith in
+    let is : words ≡ 2 ^ (w.steps - k) * block_size class + 0 = let e = w.is in omega (arith, e, power, product, scaled) in
+    let positive : 0 < block_size class = let l = least_block class in omega (arith, l) in
+    ap (λ (n : ℕ). n % block_size class) is ∙ mod-mul-add (2 ^ (w.steps - k)) (block_size class) 0 positive
+
+-- twice the words of an object make up for its block, and for what such blocks leave of a segment over
+pub object_half : (words size class : ℕ) → IsSegmentSize words → 2 ≤ size → size ≤ words → IsClassOf size class → words % block_size class + block_size class ≤ 2 * size
+object_half words size class h two fits is =
+    let inside = class_fits words class size h fits is.least in
+    elim (cases_lt 12 class) [
+      | inl wide ↦
+          let none = none_left words class h inside (inr (omega arith)) in
+          let here = wide_of class (omega arith) in
+          let under = wide_of (class - 1) (omega arith) in
+          let low = is.least (class - 1) (omega arith) in
+          let next : class - 12 ≡ (class - 1 - 12) + 1 = omega arith in
+          let twice : 2 ^ (class - 12) ≡ 2 ^ (class - 1 - 12) * 2 ^ 1 = ap (λ (n : ℕ). 2 ^ n) next ∙ pow-add 2 (class - 1 - 12) 1 in
+          omega (arith, none, here, under, low, twice)
+      | inr dense ↦ elim (cases_eq class 0) [
+        | inl first ↦
+            let none = none_left words class h inside (inl first) in
+            let here = dense_block class dense in
+            omega (arith, none, here, first, two)
+        | inr more ↦
+            let here = dense_block class dense in
+            let under = dense_block (class - 1) (omega arith) in
+            let low = is.least (class - 1) (omega arith) in
+            let rest = mod_below words (block_size class) (omega (arith, here)) in
+            let most = is.holds in
+            omega (arith, here, under, low, rest, most)
+      ]
+    ]

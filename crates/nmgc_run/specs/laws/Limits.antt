@@ -23,6 +23,7 @@ use Rattle.nmgc_run.specs.laws.Programs.{HasPrograms, rows_have, left_has}
 use Rattle.nmgc_run.specs.laws.Runs.{turn_holds, round_holds, opening_holds, opening_worked, sound_of, rounds_are_sound}
 use Rattle.nmgc_run.specs.laws.States.{IsSoundHere, Worked, lefts}
 use Rattle.nmgc_run.specs.laws.Stops.{stop_holds, full_begins}
+use Rattle.nmgc_script.specs.laws.Versions.{threads_few}
 
 -- worlds through a stop
 
@@ -125,13 +126,13 @@ scripts_have_good_plans script h =
         segments = config.segments;
         words = config.words;
         nursery = config.some_nursery;
-        mutators = (h.some_thread, h.threads);
+        mutators = (h.some_thread, threads_few script h);
         heap = h.total;
       };
       fit = fit;
       runnable = λ short. record {
         some = h.some_thread;
-        few = h.threads;
+        few = threads_few script h;
         registers = λ m. All-weaker (Fits script.config.words) HasRegisters (λ c f. f.registers) (program_of script.threads m) (fit m);
         short = short;
       };

@@ -1,17 +1,51 @@
-use Rattle.std.proofs.Common.{ℕ, ◌≡◌, arith, subst, sym, List, slice_get, Some}
+use Rattle.std.proofs.Common.{ℕ, ◌≡◌, ◌∙◌, arith, subst, sym, ap, List, [], ◌∷◌, ◌++◌, length, slice_get, Some}
 use Rattle.std.proofs.lemmas.Grind.{common_steps}
+use Rattle.nmgc_object.specs.declared.layout.Layout.{Layout}
 use Rattle.nmgc_mutator.specs.declared.mutator.Mutator.{Mutator}
 use Rattle.nmgc_mutator.specs.Ready.{IsNew}
+use Rattle.nmgc_updrem.specs.Rings.{Sender, Receiver, AreNew}
+use Rattle.nmgc_updrem.specs.declared.ring.TheConstants.{RING_BLOCKS}
+use Rattle.nmgc_cycle.specs.Lined.{IsLined}
+use Rattle.nmgc_cycle.proofs.Lining.{lined_grown, lined_new}
 use Rattle.nmgc_cycle.proofs.Lists.{each_pushed}
 use Rattle.nmgc_cycle.proofs.collector.new_mutators.Goals as goal
 
+-- what the first so many mutators are, with the other ends of their rings
+record AreMade (layout : Layout) (mutators : List Mutator) (receivers : List Receiver) : Type 0 where
+  new : (k : ℕ) (m : Mutator) → slice_get mutators k ≡ Some m → IsNew k layout m
+  lines : (k : ℕ) (m : Mutator) → slice_get mutators k ≡ Some m → IsLined receivers k m.sender
+  unsent : (k : ℕ) (m : Mutator) → slice_get mutators k ≡ Some m → m.sender.since ≡ []
+
+-- one more
+made_more : {s : Sender} {r : Receiver} (layout : Layout) (number : ℕ) (mutators : List Mutator) (receivers : List Receiver) (m : Mutator) → length mutators ≡ number → length receivers ≡ number → AreMade layout mutators receivers → AreNew RING_BLOCKS s r → m.sender ≡ s → IsNew number layout m → AreMade layout (mutators ++ m ∷ []) (receivers ++ r ∷ [])
+made_more {s} {r} layout number mutators receivers m count many h linked sender new =
+    let last : IsLined (receivers ++ r ∷ []) number m.sender = subst (λ (x : Sender). IsLined (receivers ++ r ∷ []) number x) (sym sender) (lined_new receivers r s RING_BLOCKS number many linked) in
+    record {
+      new = each_pushed (λ (k : ℕ) (x : Mutator). IsNew k layout x) mutators m h.new (subst (λ (n : ℕ). IsNew n layout m) (sym {A = ℕ} count) new);
+      lines = each_pushed (λ (k : ℕ) (x : Mutator). IsLined (receivers ++ r ∷ []) k x.sender) mutators m (λ k x e. lined_grown receivers r k x.sender (h.lines k x e)) (subst (λ (n : ℕ). IsLined (receivers ++ r ∷ []) n m.sender) (sym {A = ℕ} count) last);
+      unsent = each_pushed (λ (k : ℕ) (x : Mutator). x.sender.since ≡ []) mutators m h.unsent (ap (λ (x : Sender). x.since) sender ∙ linked.sent_is.1);
+    }
+
 pub loop-number-preserved : goal.loop-number-preserved
-loop-number-preserved c = record {
-  count = grind (arith, common_steps);
-  new =
-      let made = c.in_ok-new.ensures.new in
-      let many = c.loop-number.invariant.count in
-      let next = each_pushed (λ (k : ℕ) (m : Mutator). IsNew k c.args.layout m) c.loop-number.mutators.items c.in_ok-new.field-0 c.loop-number.invariant.new (subst (λ (n : ℕ). IsNew n c.args.layout c.in_ok-new.field-0) (sym {A = ℕ} many) made) in
-      let items = c.in_ok-push.ensures.items in
-      subst (λ (items : List Mutator). (k : ℕ) (m : Mutator) → slice_get items k ≡ Some m → IsNew k c.args.layout m) (sym {A = List Mutator} items) next;
-}
+loop-number-preserved c =
+    let l = c.loop-number in
+    let inv = l.invariant in
+    let m : Mutator = c.in_ok-new.field-0 in
+    let before : AreMade c.args.layout l.mutators.items l.receivers = record { new = inv.new; lines = inv.lines; unsent = inv.unsent } in
+    let more = made_more c.args.layout l.number l.mutators.items l.receivers m inv.count inv.many before c.in_ok-sender.ensures c.in_ok-new.ensures.sender c.in_ok-new.ensures.new in
+    let items = c.in_ok-push.ensures.items in
+    let listed = c.in_ok-push-2.ensures.ok in
+    let all = subst (λ (receivers : List Receiver). AreMade c.args.layout c.push.new.self.items receivers) (sym {A = List Receiver} listed) (subst (λ (mutators : List Mutator). AreMade c.args.layout mutators (l.receivers ++ c.in_ok-sender.receiver ∷ [])) (sym {A = List Mutator} items) more) in
+    record {
+      count = grind (arith, common_steps);
+      many = grind (arith, common_steps);
+      new = all.new;
+      lines = all.lines;
+      unsent = all.unsent;
+    }
+
+pub returns-clause-lines : goal.returns-clause-lines
+returns-clause-lines c = λ k m e. subst (λ (inbox : List Receiver). IsLined inbox k m.sender) (sym c.new-2.ensures) (c.loop-number.invariant.lines k m e)
+
+pub returns-clause-unsent : goal.returns-clause-unsent
+returns-clause-unsent c = c.loop-number.invariant.unsent

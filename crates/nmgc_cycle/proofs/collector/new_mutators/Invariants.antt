@@ -1,10 +1,14 @@
-use Rattle.std.proofs.Common.{◌≡◌, ℕ, length, slice_get, Some}
+use Rattle.std.proofs.Common.{◌≡◌, ℕ, [], length, slice_get, Some}
 use Rattle.nmgc_mutator.specs.declared.mutator.Mutator.{Mutator}
 use Rattle.nmgc_mutator.specs.Ready.{IsNew}
+use Rattle.nmgc_cycle.specs.Lined.{IsLined}
 use Rattle.nmgc_cycle.proofs.collector.new_mutators.Given as goal
 
 abbrev pub invariant-loop-number : goal.invariant-loop-number
 invariant-loop-number l = record {
   count : length l.mutators.items ≡ l.number;
+  many : length l.receivers ≡ l.number;
   new : (k : ℕ) (m : Mutator) → slice_get l.mutators.items k ≡ Some m → IsNew k l.fn.layout m;
+  lines : (k : ℕ) (m : Mutator) → slice_get l.mutators.items k ≡ Some m → IsLined l.receivers k m.sender;
+  unsent : (k : ℕ) (m : Mutator) → slice_get l.mutators.items k ≡ Some m → m.sender.since ≡ [];
 }

@@ -1,10 +1,29 @@
-use Rattle.std.proofs.Common.{◌∙◌, ap, set}
+use Rattle.std.proofs.Common.{get_or, arith}
+use Rattle.std.proofs.lemmas.Option.{slice_get-get_or}
 use Rattle.nmgc_mutator.specs.declared.mutator.Mutator.{Mutator}
-use Rattle.nmgc_cycle.proofs.Adding.{forgets_more}
+use Rattle.nmgc_cycle.proofs.Forgetting.{forgot_more, forgot_none}
+use Rattle.nmgc_cycle.proofs.Lining.{paired}
 use Rattle.nmgc_cycle.proofs.cycle.forget_all.Goals as goal
 
-pub loop-mutator-preserved : goal.loop-mutator-preserved
-loop-mutator-preserved c =
-    let l = c.loop-mutator in
-    ap (λ (m : Mutator). set l.mutator-items l.mutator-index m) c.forget.ensures
-    ∙ forgets_more c.args.mutators.now l.mutator-items l.mutator-index c.mutator-item.result c.loop-mutator-test.true l.auto.mutator-items l.invariant
+pub loop-number-init : goal.loop-number-init
+loop-number-init c = forgot_none c.args.inbox.now c.args.mutators.now c.requires.lines
+
+pub overflow_cast-number : goal.overflow_cast-number
+overflow_cast-number c = let few = c.requires.lines.few in let lt = c.loop-number-test.true in omega (arith, few, lt)
+
+pub forget-requires : goal.forget-requires
+forget-requires c =
+    let h = c.loop-number.invariant in
+    let lt = c.loop-number-test.true in
+    let count = h.count in
+    let m : Mutator = get_or c.loop-number.mutators c.loop-number.number c.index-mutators-number.result in
+    paired c.loop-number.inbox c.loop-number.number m.sender (h.lines c.loop-number.number m (slice_get-get_or c.loop-number.mutators c.loop-number.number c.index-mutators-number.result (omega (arith, lt, count))))
+
+pub loop-number-preserved : goal.loop-number-preserved
+loop-number-preserved c =
+    let h = c.loop-number.invariant in
+    let lt = c.loop-number-test.true in
+    let count = h.count in
+    let m : Mutator = get_or c.loop-number.mutators c.loop-number.number c.index-mutators-number.result in
+    let at = slice_get-get_or c.loop-number.mutators c.loop-number.number c.index-mutators-number.result (omega (arith, lt, count)) in
+    forgot_more c.args.inbox.now c.loop-number.inbox c.forget.new.inbox c.args.mutators.now c.loop-number.mutators c.loop-number.number m c.forget.new.mutator h at c.forget.ensures.forgot c.forget.ensures.inbox c.forget.ensures.line

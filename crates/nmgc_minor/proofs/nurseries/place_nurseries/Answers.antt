@@ -123,3 +123,15 @@ loop-maker-preserved g c =
       ];
       same = p.same ∙ i.same;
     }
+
+pub returns-clause-places : goal.returns-clause-places
+returns-clause-places g c =
+    let layout = c.args.segments.now.layout in
+    let i = c.loop-maker.invariant in
+    let count = c.requires.nurseries.count in
+    let begins = c.requires.nurseries.begins in
+    let size = c.requires.nurseries.size in
+    let all : c.loop-maker.maker ≡ layout.mutators = omega (arith, c.loop-maker-test.false, c.loop-maker.auto.maker-end, count) in
+    let place : nursery_place layout c.loop-maker.maker ≡ nursery_place layout layout.mutators = ap (λ (k : ℕ). nursery_place layout k) all in
+    let to : nursery_place layout c.loop-maker.maker ≡ c.args.base + length c.args.table.now = omega (arith, place, begins, size) in
+    (i.placed.0, i.placed.1, subst (λ (k : ℕ). PlacesRange c.args.base (g.W.HeapWords.words c.args.words.now) c.args.segments.now c.loop-maker.segments c.args.table.now c.loop-maker.table i.placed.0 c.args.base k) to i.placed.2)

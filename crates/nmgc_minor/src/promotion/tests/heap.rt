@@ -78,10 +78,10 @@ pub const STACK: u64 = 6;
 
 pub const NIL: u64 = 1;
 
-// 32 segments of so many words, and nurseries.
+// 64 segments of so many words, and nurseries.
 pub const fn layout(words: u32, nursery: u32, mutators: u8) -> Layout {
     Layout {
-        segments: 32,
+        segments: 64,
         words,
         nursery,
         mutators,
@@ -92,11 +92,11 @@ pub const fn layout(words: u32, nursery: u32, mutators: u8) -> Layout {
 pub fn make_heap(rt: &impl Abort, alloc: Global, layout: Layout) -> Result<Heap, Fail> {
     assert!(rt; layout.words.is_power_of_two() && 16 <= layout.words && layout.words <= 4096);
     assert!(rt; layout.words <= layout.nursery && layout.nursery <= 8192);
-    assert!(rt; layout.segments == 32);
+    assert!(rt; layout.segments == 64);
     assert!(rt; 1 <= layout.mutators && layout.mutators <= 4);
     let mut words = List::from_vec(vec![in alloc; 0u64; layout.total() as usize]?)?;
     store(rt, &mut words, 1, 32771);
-    store(rt, &mut words, 2, 8);
+    store(rt, &mut words, 2, 32);
     for i in 3..19u32 {
         store(rt, &mut words, i, NIL);
     }
@@ -111,7 +111,7 @@ pub fn make_heap(rt: &impl Abort, alloc: Global, layout: Layout) -> Result<Heap,
             top: base,
             end,
         })?;
-        for _ in 0..16u8 {
+        for _ in 0..64u8 {
             registers.push(NIL)?;
         }
         queues.push(FinQueue::new(alloc))?;
@@ -161,7 +161,7 @@ pub fn create(rt: &impl Abort, heap: &mut Heap, maker: u8, kind: u64, fields: &[
         rt,
         &mut heap.words,
         at + 1,
-        16 * u64::from(serial) + u64::from(maker),
+        64 * u64::from(serial) + u64::from(maker),
     );
     for i in 0..fields.len() {
         store(rt, &mut heap.words, at + 2 + i as u32, fields[i]);

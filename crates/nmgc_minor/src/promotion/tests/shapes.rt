@@ -1,6 +1,6 @@
 //! Heaps of every shape: what is shared, cyclic, dead, waiting, or held in one way alone.
 //!
-//! There are 32 segments of 256 words, of which the first begins at word 32, and nurseries as large as a
+//! There are 64 segments of 256 words, of which the first begins at word 32, and nurseries as large as a
 //! segment, of which the first begins at word `YOUNG`. A pointer is twice its word. Young objects lie in the
 //! order of the tables, so each place is a sum of sizes: two words, and one for each field.
 use super::heap::{
@@ -13,9 +13,9 @@ use std::process::Abort;
 use std::test::Fail;
 
 // Where the nurseries of mutators 0 and 1 begin.
-const YOUNG: u64 = 8224;
+const YOUNG: u64 = 16416;
 
-const SECOND_YOUNG: u64 = 8480;
+const SECOND_YOUNG: u64 = 16672;
 
 // The word of the number 5.
 const FIVE: u64 = 13;
@@ -80,12 +80,12 @@ const SHARED_AND_CYCLIC: [Round; 1] = [Round {
         (3, 2 * (YOUNG + 20)),
     ],
     moves: &[
-        (0, 0, 8224, 32),
-        (0, 1, 8227, 36),
-        (0, 2, 8231, 40),
-        (0, 3, 8234, 44),
-        (0, 4, 8236, 288),
-        (0, 6, 8244, 48),
+        (0, 0, 16416, 32),
+        (0, 1, 16419, 36),
+        (0, 2, 16423, 40),
+        (0, 3, 16426, 44),
+        (0, 4, 16428, 288),
+        (0, 6, 16436, 48),
     ],
     words: &[
         (34, 64),
@@ -124,32 +124,32 @@ const WEAK_AND_LAZY: [Round; 1] = [Round {
         (1, 2 * (YOUNG + 23)),
         (2, 2 * (YOUNG + 29)),
     ],
-    weaks: &[Address(8228), Address(8235), Address(8240)],
+    weaks: &[Address(16420), Address(16427), Address(16432)],
     moves: &[
-        (0, 0, 8224, 32),
-        (0, 1, 8226, 36),
-        (0, 2, 8228, 288),
-        (0, 5, 8240, 296),
-        (0, 7, 8247, 40),
-        (0, 8, 8251, 44),
-        (0, 9, 8253, 48),
-        (0, 10, 8257, 304),
+        (0, 0, 16416, 32),
+        (0, 1, 16418, 36),
+        (0, 2, 16420, 288),
+        (0, 5, 16432, 293),
+        (0, 7, 16439, 40),
+        (0, 8, 16443, 44),
+        (0, 9, 16445, 48),
+        (0, 10, 16449, 544),
     ],
     words: &[
-        (3, 608),
+        (3, 1088),
         (42, 64),
         (50, 0),
         (51, 88),
         (290, 64),
         (291, FIVE),
         (292, 72),
-        (299, 0),
-        (306, 88),
-        (307, FIVE),
-        (308, 0),
-        (309, 0),
+        (296, 0),
+        (546, 88),
+        (547, FIVE),
+        (548, 0),
+        (549, 0),
     ],
-    registers: &[(0, 592), (1, 80), (2, 96)],
+    registers: &[(0, 586), (1, 80), (2, 96)],
     ..QUIET
 }];
 
@@ -159,7 +159,7 @@ const RECORDED_AND_QUEUED: [Round; 2] = [
     Round {
         births: &[(0, VAR, &[NIL])],
         holds: &[(0, 2 * YOUNG)],
-        moves: &[(0, 0, 8224, 32)],
+        moves: &[(0, 0, 16416, 32)],
         words: &[(34, NIL)],
         registers: &[(0, 64)],
         ..QUIET
@@ -170,7 +170,7 @@ const RECORDED_AND_QUEUED: [Round; 2] = [
         holds: &[(0, NIL)],
         joins: &[2 * (YOUNG + 4)],
         recorded: &[Address(34), Address(34)],
-        moves: &[(0, 1, 8224, 36), (0, 3, 8228, 40)],
+        moves: &[(0, 1, 16416, 36), (0, 3, 16420, 40)],
         words: &[(34, 72)],
         registers: &[(0, NIL)],
         queue: &[80],
@@ -187,15 +187,15 @@ const TWO_MUTATORS: [Round; 2] = [
             (0, CON, &[2 * SECOND_YOUNG]),
             (1, CON, &[2 * YOUNG]),
         ],
-        holds: &[(16, 2 * (SECOND_YOUNG + 2))],
-        moves: &[(0, 1, 8224, 32), (1, 0, 8480, 288), (1, 2, 8482, 292)],
+        holds: &[(64, 2 * (SECOND_YOUNG + 2))],
+        moves: &[(0, 1, 16416, 32), (1, 0, 16672, 288), (1, 2, 16674, 292)],
         words: &[(34, 576), (294, 64)],
-        registers: &[(16, 584)],
+        registers: &[(64, 584)],
         ..QUIET
     },
     Round {
         words: &[(34, 576), (294, 64)],
-        registers: &[(16, 584)],
+        registers: &[(64, 584)],
         ..QUIET
     },
 ];
@@ -291,37 +291,40 @@ fn move_sizes(rt: &impl Abort, heap: &mut Heap, sizes: &[(usize, u32)]) {
     }
 }
 
-// An array that fills a block of each class, and then the smallest of each class. A segment has 4,096 words,
-// the first begins at word 32, and each class takes the next one; only the largest block fills one at once.
+// Arrays that fill a block, of some dense classes and of each class above, and then the smallest of these classes.
+// A segment has 4,096 words, the first begins at word 32, and each class takes the next one; only the largest block
+// fills one at once.
 #[test]
 fn every_size(rt: HostRuntime) -> Result<(), Fail> {
     let mut heap = make_heap(&rt, rt.alloc(), layout(4096, 8192, 1))?;
     let largest = [
         (4, 32),
-        (8, 4128),
-        (16, 8224),
-        (32, 12320),
-        (64, 16416),
-        (128, 20512),
-        (256, 24608),
-        (512, 28704),
-        (1024, 32800),
-        (2048, 36896),
-        (4096, 40992),
+        (5, 4128),
+        (6, 8224),
+        (16, 12320),
+        (32, 16416),
+        (64, 20512),
+        (128, 24608),
+        (256, 28704),
+        (512, 32800),
+        (1024, 36896),
+        (2048, 40992),
+        (4096, 45088),
     ];
     move_sizes(&rt, &mut heap, &largest);
     let smallest = [
         (2, 36),
-        (5, 4136),
-        (9, 8240),
-        (17, 12352),
-        (33, 16480),
-        (65, 20640),
-        (129, 24864),
-        (257, 29216),
-        (513, 33824),
-        (1025, 38944),
-        (2049, 45088),
+        (5, 4133),
+        (6, 8230),
+        (16, 12336),
+        (17, 16448),
+        (33, 20576),
+        (65, 24736),
+        (129, 28960),
+        (257, 33312),
+        (513, 37920),
+        (1025, 43040),
+        (2049, 49184),
     ];
     move_sizes(&rt, &mut heap, &smallest);
     Ok(())

@@ -22,7 +22,7 @@ fn check_young(rt: &impl Abort, words: &[u64])
 {
     assert!(rt; words.len() == 2144);
     assert!(rt; words[1] == 32771);
-    assert!(rt; words[2] == 8);
+    assert!(rt; words[2] == 32);
     for i in 0..16usize {
         assert!(rt; words[3 + i] == 1);
     }
@@ -60,12 +60,10 @@ fn promote_young(
 fn young_roots(alloc: Global) -> Result<Roots, Fail>
     ensures { IfOk result (λ roots. (roots.registers ≡ young_registers) × (words_of roots.queues ≡ [] ∷ [])) }
 {
-    let registers = Vec::from_array(
-        alloc,
-        [
-            4160, 13, NIL, NIL, NIL, NIL, NIL, NIL, NIL, NIL, NIL, NIL, NIL, NIL, NIL, NIL,
-        ],
-    )?;
+    let mut registers = [NIL; 64];
+    registers[0] = 4160;
+    registers[1] = 13;
+    let registers = Vec::from_array(alloc, registers)?;
     let mut queues = List::new(alloc);
     queues.push(FinQueue::new(alloc))?;
     Ok(Roots {
@@ -108,7 +106,7 @@ fn one_object(rt: HostRuntime) -> Result<(), Fail> {
     };
     let mut words = vec![in rt.alloc(); NIL; 2144]?;
     words[1] = 32771;
-    words[2] = 8;
+    words[2] = 32;
     words[2080] = 2105;
     words[2081] = 0;
     words[2082] = 13;

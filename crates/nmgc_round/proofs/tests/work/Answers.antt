@@ -78,7 +78,7 @@ swap_field-before-requires-clause-ready c =
     let e3 = seen_field layout m base h n (seen c.store_unborn.new.seat) (seen c.store_unborn-2.new.seat) e2 c.store_unborn-2.ensures.2 in
     let e4 = seen_birth layout m base h n (seen c.store_unborn-2.new.seat) (seen c.give_birth.new.seat) e3 c.give_birth.ensures.2 in
     let array = c.if-load_fixed-ne32771.false in
-    subst (λ (v : Seen). Mutates (λ o p. CanSwap o p 1 m (2 * base) (shares m)) v) (sym e4) (after_birth layout m base h n, mutates layout (after_birth layout m base h n), can_swap layout is m mine base here h n array)
+    subst (λ (v : Seen). Mutates (λ o p. CanSwap o p 1 m (2 * base) (shares m)) v) (sym e4) (after_birth layout m base h n, mutates layout (after_birth layout m base h n), can_swap layout is m mine base here h n array c.requires.few)
 
 pub load_field-after-requires-clause-ready : goal.load_field-after-requires-clause-ready
 load_field-after-requires-clause-ready c =
@@ -96,7 +96,7 @@ load_field-after-requires-clause-ready c =
     let e4 = seen_birth layout m base h n (seen c.store_unborn-2.new.seat) (seen c.give_birth.new.seat) e3 c.give_birth.ensures.2 in
     let e5 = seen_swap layout m base h n c.swap_field-before.result (seen c.give_birth.new.seat) (seen c.swap_field-before.new.seat) e4 c.swap_field-before.ensures.view.2 in
     let array = c.if-load_fixed-ne32771.false in
-    subst (λ (v : Seen). Mutates (λ o p. CanLoad o p 1 m (reads m)) v) (sym e5) (after_swap layout m base h n c.swap_field-before.result, mutates layout (after_swap layout m base h n c.swap_field-before.result), can_load layout is m mine base here h n array c.swap_field-before.result)
+    subst (λ (v : Seen). Mutates (λ o p. CanLoad o p 1 m (reads m)) v) (sym e5) (after_swap layout m base h n c.swap_field-before.result, mutates layout (after_swap layout m base h n c.swap_field-before.result), can_load layout is m mine base here h n array c.requires.few c.swap_field-before.result)
 
 pub load_fixed-requires-2-clause-ready : goal.load_fixed-requires-2-clause-ready
 load_fixed-requires-2-clause-ready c =
@@ -116,7 +116,7 @@ load_fixed-requires-2-clause-ready c =
     let x : ℕ = c.load_field-after.result in
     let e6 = seen_load layout m base h n c.swap_field-before.result x (seen c.swap_field-before.new.seat) (seen c.load_field-after.new.seat) e5 c.load_field-after.ensures.view.2 in
     let array = c.if-load_fixed-ne32771.false in
-    subst (λ (v : Seen). Mutates (λ o p. CanTake o p 1 0 Yield) v) (sym e6) (after_load layout m base h n c.swap_field-before.result x, mutates layout (after_load layout m base h n c.swap_field-before.result x), can_yield layout is m mine base here h n array c.swap_field-before.result x)
+    subst (λ (v : Seen). Mutates (λ o p. CanTake o p 1 0 Yield) v) (sym e6) (after_load layout m base h n c.swap_field-before.result x, mutates layout (after_load layout m base h n c.swap_field-before.result x), can_yield layout is m mine base here h n array c.requires.few c.swap_field-before.result x)
 
 pub returns : goal.returns
 returns c =

@@ -1,6 +1,7 @@
 use Rattle.std.proofs.Common.{ℕ, ◌≡◌, List, length, map, subst, sym, ap, ◌∙◌, arith, Some, Global}
 use Rattle.std.specs.Vec.{with_items}
 use Rattle.std.specs.declared.vec.Vec.{Vec}
+use Rattle.nmgc_object.specs.declared.layout.Layout.{Layout}
 use Rattle.nmgc_cycle.specs.declared.collector.Collector.{Collector}
 use Rattle.nmgc_cycle.specs.declared.worker.Worker.{Worker}
 use Rattle.nmgc_cycle.specs.Working.{DidSlices, mutator_of, seat_of, done_by}
@@ -61,6 +62,16 @@ work-requires-clause-collector g c κs within =
     let may = may_begin laws script own o c.unwrap-words.result c.requires.limits c.requires.opens (sym c.take.ensures.value ∙ c.unwrap-words.ensures) in
     let s = c.start-round.ensures in
     can_help laws c.a_heap_ties_by_blocks.ensures.begins script own may.run may.limits may.still c.start-round.result.round c.start-round.result.collector s.collector.0 o may.opens s.collector.1
+
+pub work-requires-clause-inbox : goal.work-requires-clause-inbox
+work-requires-clause-inbox g c κs within =
+    let laws : CanOpenRounds = record { quiet = c.a_rest_opens_a_round.ensures; marks = c.a_rest_opens_a_round-2.ensures; rests = c.the_heap_goes_on.ensures.rests; snapshot = c.a_heap_ties_by_blocks.ensures.snapshot } in
+    let script = c.args.script.now in
+    let own : Collector = c.args.self.now in
+    let may = may_begin laws script own c.args.opening.now.value c.unwrap-words.result c.requires.limits c.requires.opens (sym c.take.ensures.value ∙ c.unwrap-words.ensures) in
+    let many = ap (λ (l : Layout). l.mutators) may.still.kept.layout in
+    let count = may.still.kept.inbox in
+    omega (arith, many, count)
 
 pub work-requires-clause-mutators : goal.work-requires-clause-mutators
 work-requires-clause-mutators g c κs within =
@@ -152,7 +163,7 @@ finish-words-requires-clause-seats g c =
     let left = left_in c.seated.new.workers was new c.as_mut_slice.ensures.value c.work.ensures.mutators.count in
     let seat = c.work.new.seat in
     let after : Collector = c.work.new.self in
-    let has = scanned o round script.config.quota c.start-round.result.collector seat own.segments after.segments own.progress after.progress s.collector.0 s.collector.1 c.work.ensures.collector in
+    let has = scanned o round script.config.quota c.start-round.result.collector seat own.segments after.segments own.names own.progress after.progress s.collector.0 s.collector.1 c.work.ensures.collector in
     let seats : c.in_place.result ≡ map seat_of new = c.in_place.ensures ∙ c.unseated.ensures.seats ∙ ap (λ (l : List Worker). map seat_of l) left in
     (seats_at script own o may round new ran seat has c.in_place.result seats, has.at)
 
@@ -174,7 +185,7 @@ finish-words-requires-clause-all g c =
     let left = left_in c.seated.new.workers was new c.as_mut_slice.ensures.value c.work.ensures.mutators.count in
     let seat = c.work.new.seat in
     let after : Collector = c.work.new.self in
-    let has = scanned o round script.config.quota c.start-round.result.collector seat own.segments after.segments own.progress after.progress s.collector.0 s.collector.1 c.work.ensures.collector in
+    let has = scanned o round script.config.quota c.start-round.result.collector seat own.segments after.segments own.names own.progress after.progress s.collector.0 s.collector.1 c.work.ensures.collector in
     let seats : c.in_place.result ≡ map seat_of new = c.in_place.ensures ∙ c.unseated.ensures.seats ∙ ap (λ (l : List Worker). map seat_of l) left in
     has_all script own o may round new ran seat has c.slices_are_owed.ensures.gathered c.in_place.result seats
 
@@ -236,7 +247,7 @@ returns g c =
     let left = left_in c.seated.new.workers was new c.as_mut_slice.ensures.value c.work.ensures.mutators.count in
     let seat = c.work.new.seat in
     let after : Collector = c.work.new.self in
-    let has = scanned o round script.config.quota c.start-round.result.collector seat own.segments after.segments own.progress after.progress s.collector.0 s.collector.1 c.work.ensures.collector in
+    let has = scanned o round script.config.quota c.start-round.result.collector seat own.segments after.segments own.names own.progress after.progress s.collector.0 s.collector.1 c.work.ensures.collector in
     let seats : c.in_place.result ≡ map seat_of new = c.in_place.ensures ∙ c.unseated.ensures.seats ∙ ap (λ (l : List Worker). map seat_of l) left in
     let done : c.as_slice.result.now ≡ map done_by new = c.as_slice.ensures.value ∙ c.unseated.ensures.done ∙ ap (λ (l : List Worker). map done_by l) left in
     let positions : c.as_mut_slice-2.result.now ≡ own.positions.items = c.as_mut_slice-2.ensures.value ∙ ap (λ (y : Collector). y.positions.items) c.work.ensures.rest in
@@ -245,5 +256,5 @@ returns g c =
     let many : length moved ≡ length own.positions.items = c.advance.ensures.count ∙ ap (λ (l : List ℕ). length l) positions in
     let back : (with_items after.positions moved).items ≡ moved = vec_back after.positions moved (many ∙ sym (ap (λ (v : Vec ℕ Global). length v.items) same)) in
     let move : HaveMoved own.positions.items (map done_by new) moved = subst (λ (l : List ℕ). HaveMoved l (map done_by new) moved) positions (subst (λ (l : List ℕ). HaveMoved c.as_mut_slice-2.result.now l moved) done c.advance.ensures.each) in
-    let did = did_slices script own o may round new ran seat has c.slices_are_owed.ensures.gathered c.slices_are_owed.ensures.owed c.start-round.result.collector s.collector.1 s.round.0 after.segments c.work.ensures.sound after.progress c.work.ensures.collector c.in_place.result seats c.finish-words.result.words c.finish-words.ensures.leaves after.collect after.full c.work.ensures.collect c.work.ensures.full c.unseated.new.mutators (with_items after.positions moved) (c.unseated.ensures.mutators ∙ ap (λ (l : List Worker). map mutator_of l) left) (ap (λ (l : List ℕ). length l) back ∙ many) (subst (λ (l : List ℕ). HaveMoved own.positions.items (map done_by new) l) (sym back) move) in
+    let did = did_slices script own o may round new ran seat has c.slices_are_owed.ensures.gathered c.slices_are_owed.ensures.owed c.start-round.result.collector s.collector.1 s.round.0 after.segments c.work.ensures.sound after.progress c.work.ensures.collector c.in_place.result seats c.finish-words.result.words c.finish-words.ensures.leaves after.collect after.full c.work.ensures.collect c.work.ensures.full after.inbox c.work.ensures.polled c.unseated.new.mutators (with_items after.positions moved) (c.unseated.ensures.mutators ∙ ap (λ (l : List Worker). map mutator_of l) left) (ap (λ (l : List ℕ). length l) back ∙ many) (subst (λ (l : List ℕ). HaveMoved own.positions.items (map done_by new) l) (sym back) move) in
     subst (λ (y : Collector). DidSlices script o own (record y { words = Some c.finish-words.result.words; mutators = c.unseated.new.mutators; positions = with_items after.positions moved })) (sym c.work.ensures.rest) did

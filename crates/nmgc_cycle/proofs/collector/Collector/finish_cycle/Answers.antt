@@ -2,15 +2,15 @@ use Rattle.nmgc_cycle.proofs.FullCycle.{closed_at}
 use Rattle.nmgc_cycle.proofs.collector.Collector.finish_cycle.Goals as goal
 
 pub close_now-requires-clause-words : goal.close_now-requires-clause-words
-close_now-requires-clause-words c = c.requires.4.kept.has_words
+close_now-requires-clause-words g c = c.requires.stands.4.kept.has_words
 
 pub close_now-requires-clause-can : goal.close_now-requires-clause-can
-close_now-requires-clause-can c = c.a_finish_leads.ensures.close_ready c.requires.0 c.args.self.now c.requires.1 c.requires.4
+close_now-requires-clause-can g c = c.a_finish_leads.ensures.close_ready c.requires.stands.0 c.args.self.now c.requires.stands.1 c.requires.stands.4
 
-pub sweep_rest-requires : goal.sweep_rest-requires
-sweep_rest-requires c =
-    let at = closed_at c.a_finish_leads.ensures.closing c.args.stop c.args.self.now c.close_now.new.self c.requires c.close_now.ensures in
+pub sweep_rest-requires-clause-can : goal.sweep_rest-requires-clause-can
+sweep_rest-requires-clause-can g c κs within =
+    let at = closed_at c.a_finish_leads.ensures.closing c.args.stop c.args.self.now c.close_now.new.self c.requires.stands c.close_now.ensures in
     c.a_finish_leads.ensures.sweep_ready at.0 c.close_now.new.self at.1 at.3
 
 pub returns : goal.returns
-returns c = record { closed = c.close_now.new.self; closes = c.close_now.ensures; swept = c.sweep_rest.new.self; sweeps = c.sweep_rest.ensures; ends = c.in_ok-end.ensures }
+returns g c = record { closed = c.close_now.new.self; closes = c.close_now.ensures; swept = c.sweep_rest.new.self; sweeps = c.sweep_rest.ensures; ends = c.in_ok-end.ensures }

@@ -1,15 +1,26 @@
-use Rattle.std.proofs.Common.{◌∙◌, refl, sym, subst}
+use Rattle.std.proofs.Common.{◌≡◌, ◌∙◌, List, length, map, ap, sym, subst}
+use Rattle.std.proofs.lemmas.List.{length-map}
+use Rattle.std.specs.List.{refill}
+use Rattle.nmgc_graph.specs.laws.Worlds.{refill_whole}
+use Rattle.nmgc_journal.specs.declared.report.CycleRow.{CycleRow}
 use Rattle.nmgc_run.specs.Lawful.{IsLawful}
+use Rattle.nmgc_cycle.specs.Shown.{told_row}
 use Rattle.nmgc_cycle.proofs.Told.{kept_of, told, same_parts, words_had}
 use Rattle.nmgc_cycle.proofs.collector.Collector.into_report.Goals as goal
 
 pub unwrap-requires : goal.unwrap-requires
 unwrap-requires c = (kept_of c.requires.0 c.args.self c.args.end c.requires.1).has_words
 
+-- rows that were put in order where they lie
+in_order_there : (rows lent new : List CycleRow) → lent ≡ rows → new ≡ map told_row lent → refill (length rows) rows new ≡ map told_row rows
+in_order_there rows lent new is told =
+    let all : new ≡ map told_row rows = told ∙ ap (λ (l : List CycleRow). map told_row l) is in
+    refill_whole rows new (ap (λ (l : List CycleRow). length l) all ∙ length-map rows told_row) ∙ all
+
 pub returns-clause-parts : goal.returns-clause-parts
 returns-clause-parts c =
     same_parts c.args.self c.args.end _ _ _ _
-    refl
+    (in_order_there c.args.self.cycles c.items_mut.result.now c.put_rows_in_order.new.rows c.items_mut.ensures.value c.put_rows_in_order.ensures)
     (c.of_table.ensures ∙ c.close-words.ensures.words ∙ words_had c.args.self.words c.unwrap.result c.unwrap.ensures)
     (c.in_place.ensures ∙ c.all_ends-ends.ensures)
     c.into_names.ensures
@@ -17,7 +28,7 @@ returns-clause-parts c =
 pub returns-clause-told : goal.returns-clause-told
 returns-clause-told c = λ script ended.
     subst (IsLawful script) (sym (same_parts c.args.self c.args.end _ _ _ _
-    refl
+    (in_order_there c.args.self.cycles c.items_mut.result.now c.put_rows_in_order.new.rows c.items_mut.ensures.value c.put_rows_in_order.ensures)
     (c.of_table.ensures ∙ c.close-words.ensures.words ∙ words_had c.args.self.words c.unwrap.result c.unwrap.ensures)
     (c.in_place.ensures ∙ c.all_ends-ends.ensures)
     c.into_names.ensures)) (told script c.args.self c.args.end ended)

@@ -1,4 +1,4 @@
-use Rattle.std.proofs.Common.{◌≡◌, ℕ, ◌*◌, List, length, map, refl, sym, ap, subst, ◌∙◌}
+use Rattle.std.proofs.Common.{◌≡◌, ℕ, ◌*◌, List, length, map, refl, sym, ap, subst, ◌∙◌, arith}
 use Rattle.std.specs.Prelude.{All}
 use Rattle.std.specs.Vec.{with_items}
 use Rattle.std.proofs.lemmas.List.{length-map}
@@ -17,6 +17,13 @@ use Rattle.nmgc_heap.specs.Moves.{Copies}
 use Rattle.nmgc_object.specs.Words.{header_word}
 use Rattle.nmgc_cycle.specs.Roots.{queues_in}
 use Rattle.nmgc_cycle.proofs.MutatorLists.{spares_in}
+use Rattle.std.specs.Prelude.{Contains}
+use Rattle.nmgc_heap.specs.laws.Moving.{contains_map}
+use Rattle.nmgc_object.specs.declared.layout.Layout.{Layout}
+use Rattle.nmgc_minor.specs.Placing.{moved_of}
+use Rattle.nmgc_minor.specs.declared.placing.Move.{Move}
+use Rattle.nmgc_sweep.specs.Names.{HaveEntries, HaveNoted}
+use Rattle.nmgc_sweep.specs.laws.Names.{low_entry}
 use Rattle.nmgc_cycle.proofs.collector.Collector.move_promoted.Goals as goal
 
 pub promote-requires-clause-stopped : goal.promote-requires-clause-stopped
@@ -36,6 +43,24 @@ promote-requires-clause-stopped c =
           (c.as_slice-5.ensures.value ∙ c.in_ok-young.ensures)
           h.1,
     )
+
+pub note_moves-requires : goal.note_moves-requires
+note_moves-requires c = λ m there.
+    let h = c.requires.stopped in
+    let v = c.args.self.now.mutators in
+    let was = c.as_mut_slice.ensures.value in
+    let first = given_items v c.as_mut_slice.result.now c.taken.new.mutators c.as_slice.result.now was c.in_ok-roots.ensures.left c.as_slice.ensures.value in
+    let second = given_items v c.as_mut_slice.result.now c.taken.new.mutators c.as_slice-2.result.now was c.in_ok-roots.ensures.left c.as_slice-2.ensures.value in
+    let third = given_items v c.as_mut_slice.result.now c.taken.new.mutators c.as_slice-3.result.now was c.in_ok-roots.ensures.left c.as_slice-3.ensures.value in
+    let settled = c.promote.ensures.settled h.0 (stopped_given h.0 c.args.self.now.segments c.args.self.now.words c.in-Some.words v.items c.as_mut_slice.result.now c.as_slice.result.now c.as_slice-2.result.now c.as_slice-3.result.now c.as_mut_slice-2.result.now c.in_ok-roots.roots.registers c.in_ok-roots.roots.queues c.as_slice-4.result.now c.as_slice-5.result.now
+    c.in-Some.is was first second third
+    (c.as_mut_slice-2.ensures.value ∙ c.in_ok-nurseries.ensures)
+    c.in_ok-roots.ensures.registers c.in_ok-roots.ensures.queues
+    (c.as_slice-4.ensures.value ∙ c.in_ok-recorded.ensures)
+    (c.as_slice-5.ensures.value ∙ c.in_ok-young.ensures)
+    h.1) in
+    let low = settled.low (moved_of m) (contains_map moved_of c.promote.new.self.moves m (subst (λ (l : List Move). Contains l m) c.moves.ensures there)) in
+    low_entry c.promote.new.segments.layout c.args.self.now.names m.to.0 c.promote.ensures.sound.layout (subst (λ (l : Layout). HaveEntries l c.args.self.now.names) (sym c.promote.ensures.layout) c.requires.entries) (omega (arith, low))
 
 pub give_back-requires-clause-whole : goal.give_back-requires-clause-whole
 give_back-requires-clause-whole c =
@@ -89,6 +114,7 @@ returns-clause-promoted c =
     record {
       rest = refl;
       has_words = refl;
+      noted = subst (λ (l : List Move). HaveNoted (map moved_of l) c.args.self.now.names c.note_moves.new.names) c.moves.ensures c.note_moves.ensures;
       registers = registers;
       queues = queues;
       given = subst (λ (ms : List Mutator). AreGivenBack registers queues v.items ms) (sym (vec_back (with_items v c.taken.new.mutators) new count)) given;

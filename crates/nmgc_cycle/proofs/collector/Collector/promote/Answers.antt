@@ -1,6 +1,7 @@
 use Rattle.std.proofs.Common.{sym, subst}
 use Rattle.std.specs.Prelude.{All}
 use Rattle.nmgc_minor.specs.Promotion.{IsFor}
+use Rattle.nmgc_sweep.specs.Names.{HaveEntries}
 use Rattle.nmgc_cycle.specs.declared.collector.Collector.{Collector}
 use Rattle.nmgc_cycle.specs.Roots.{HasRegisters}
 use Rattle.nmgc_cycle.proofs.ListOver.{can_join, lists_inside, listed, promoted, stopped_then}
@@ -17,6 +18,9 @@ move_promoted-requires-clause-words c = c.leave.ensures.words.1
 
 pub move_promoted-requires-clause-lists : goal.move_promoted-requires-clause-lists
 move_promoted-requires-clause-lists c = subst (λ (x : Collector). IsFor x.segments.layout x.promotion) (sym c.leave.ensures.rest) c.requires.lists
+
+pub move_promoted-requires-clause-entries : goal.move_promoted-requires-clause-entries
+move_promoted-requires-clause-entries c = subst (λ (x : Collector). HaveEntries x.segments.layout x.names) (sym c.leave.ensures.rest) c.requires.entries
 
 pub move_promoted-requires-clause-stopped : goal.move_promoted-requires-clause-stopped
 move_promoted-requires-clause-stopped c = let h = c.requires.stopped in (h.0, stopped_then c.args.self.now c.leave.new.self c.leave.ensures h.0 h.1)

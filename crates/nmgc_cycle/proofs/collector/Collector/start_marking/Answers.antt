@@ -15,7 +15,7 @@ use Rattle.nmgc_run.specs.Seen.{MarkerSeen}
 use Rattle.nmgc_round.specs.Marking.{Marks, marks_of}
 use Rattle.nmgc_round.specs.View.{Opening}
 use Rattle.nmgc_core.specs.State.{opening}
-use Rattle.nmgc_sweep.specs.Sweeper.{Sweeper, turned}
+use Rattle.nmgc_sweep.specs.Sweeper.{Sweeper}
 use Rattle.nmgc_sweep.specs.Work.{HasBegun}
 use Rattle.nmgc_mutator.specs.declared.mutator.Mutator.{Mutator}
 use Rattle.nmgc_turn.specs.Worked.{registers_of}
@@ -47,8 +47,11 @@ turned_marker old new before marker turns h =
 turned_tied : (o : Opening) (m : Marks) (s : Segments) (marker : MarkerSeen) (turns : ℕ) → IsTied o m s marker → IsTied o m s (after.turned marker turns)
 turned_tied o m s marker turns h = record { snapshot = h.snapshot; shared = h.shared; marks = h.marks; queue = h.queue; count = h.count }
 
-turned_sweeper : (segments : Segments) (words : List ℕ) (epoch : ℕ) (sweeper : Sweeper) (turns : ℕ) → HasBegun segments words epoch sweeper → HasBegun segments words epoch (turned sweeper turns)
-turned_sweeper segments words epoch sweeper turns h = record { epoch_is = h.epoch_is; swept = h.swept; had = h.had; freed = h.freed; left = h.left; notes = h.notes }
+abbrev counted : Sweeper → Collector → Sweeper
+counted sweeper c = record sweeper { turns = c.turns; upper_turns = c.upper_turns }
+
+counted_sweeper : (segments : Segments) (epoch : ℕ) (sweeper : Sweeper) (c : Collector) → HasBegun segments epoch sweeper → HasBegun segments epoch (counted sweeper c)
+counted_sweeper segments epoch sweeper c h = record { epoch_is = h.epoch_is; swept = h.swept; had = h.had; freed = h.freed; left = record { numbers = h.left.numbers; room = h.left.room } }
 
 pub give_back-requires-clause-whole : goal.give_back-requires-clause-whole
 give_back-requires-clause-whole c =
@@ -71,7 +74,6 @@ returns c =
     let v = old.mutators in
     let was = c.as_mut_slice.ensures.value in
     let held : c.in-Some.words ≡ words_in old.words = sym (ap words_in c.in-Some.is) in
-    let started : c.start.new.words ≡ words_in old.words = c.start.ensures.words ∙ held in
     let prepared_is : c.prepare.new.self ≡ all_prepared old.segments = c.prepare.ensures.value in
     let epoch_is : c.epoch_of-epoch.result ≡ next_epoch old = c.epoch_of-epoch.ensures.value in
     let registers : c.in_ok-roots.roots.registers ≡ registers_of v.items = c.in_ok-roots.ensures.registers ∙ ap registers_of was in
@@ -90,19 +92,19 @@ returns c =
     let marker : MarkerSeen = c.in_ok-marker.marker in
     let sweeper : Sweeper = c.in_ok-sweeper.sweeper in
     let marked : HasMarked (all_prepared old.segments) c.snapshot.new.segments (blank (next_epoch old) (most_blocks old.segments.layout)) marker 0 = subst (λ (y : Segments × ℕ). HasMarked y.0 c.snapshot.new.segments (blank y.1 (most_blocks y.0.layout)) marker 0) (λ i. (prepared_is i, epoch_is i)) c.in_ok-marker.ensures.marked in
-    let begun : HasBegun (all_prepared old.segments) (words_in old.words) (next_epoch old) sweeper = subst (λ (y : Segments × List ℕ × ℕ). HasBegun y.0 y.1 y.2 sweeper) (λ i. (prepared_is i, held i, epoch_is i)) c.in_ok-sweeper.ensures.begun in
-    by_view c.args.stop old _ _ (after.turned marker old.turns) _ (turned sweeper old.turns) c.in_ok-queues.queues (ap (λ (m : MarkerSeen). after.turned m old.turns) c.marker.view_is) (ap (λ (s : Sweeper). turned s old.turns) c.sweeper.view_is) (record {
+    let begun : HasBegun (all_prepared old.segments) (next_epoch old) sweeper = subst (λ (y : Segments × ℕ). HasBegun y.0 y.1 sweeper) (λ i. (prepared_is i, epoch_is i)) c.in_ok-sweeper.ensures.begun in
+    by_view c.args.stop old _ _ (after.turned marker old.turns) _ (counted sweeper old) c.in_ok-queues.queues (ap (λ (m : MarkerSeen). after.turned m old.turns) c.marker.view_is) (ap (λ (s : Sweeper). counted s old) c.sweeper.view_is) (record {
       rest = refl;
       from_is = refl;
       last = refl;
-      words = (c.snapshot.ensures.words ∙ started, refl);
+      words = (c.snapshot.ensures.words ∙ held, refl);
       sound = c.layout.ensures.sound;
       between = between;
       given = given;
       queue_room = subst (λ (ms : List Mutator). HaveQueueRoom old.weaks.list between ms) (sym now) room;
       closing_room = (c.in_ok-queues.ensures.items, subst (λ (ms : List Mutator). length ms ≤ vec_capacity c.in_ok-queues.queues) (sym now) most);
-      sweeper = turned_sweeper (all_prepared old.segments) (words_in old.words) (next_epoch old) sweeper old.turns begun;
-      turns = (refl, refl);
+      sweeper = counted_sweeper (all_prepared old.segments) (next_epoch old) sweeper old begun;
+      turns = (refl, refl, refl);
       marked = turned_marker (all_prepared old.segments) c.snapshot.new.segments (blank (next_epoch old) (most_blocks old.segments.layout)) marker old.turns marked;
-      tied = λ o begins. turned_tied o (marks_of (opening o.core.snapshot)) c.snapshot.new.segments marker old.turns (c.in_ok-marker.ensures.tied o (subst (λ (y : Segments × ℕ × List ℕ × List ℕ × List FinQueue). IsBeginning o y.0 y.1 y.2 y.3 y.4) (λ i. (sym prepared_is i, sym epoch_is i, sym started i, sym (c.items.ensures ∙ registers) i, sym (c.items-2.ensures ∙ queues) i)) begins));
+      tied = λ o begins. turned_tied o (marks_of (opening o.core.snapshot)) c.snapshot.new.segments marker old.turns (c.in_ok-marker.ensures.tied o (subst (λ (y : Segments × ℕ × List ℕ × List ℕ × List FinQueue). IsBeginning o y.0 y.1 y.2 y.3 y.4) (λ i. (sym prepared_is i, sym epoch_is i, sym held i, sym (c.items.ensures ∙ registers) i, sym (c.items-2.ensures ∙ queues) i)) begins));
     })

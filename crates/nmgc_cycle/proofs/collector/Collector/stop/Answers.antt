@@ -10,11 +10,14 @@ use Rattle.nmgc_cycle.specs.Shown.{seen}
 use Rattle.nmgc_cycle.proofs.AddingLeads.{can_add}
 use Rattle.nmgc_cycle.proofs.AfterPromotion as after
 use Rattle.nmgc_cycle.proofs.Begins.{begins}
-use Rattle.nmgc_cycle.proofs.Counted.{stop_counts}
+use Rattle.nmgc_cycle.proofs.Counted.{stop_counts, stop_counts_upper}
 use Rattle.nmgc_cycle.proofs.Few.{stop_fits}
+use Rattle.nmgc_cycle.proofs.InboxOn.{lines_of}
 use Rattle.nmgc_cycle.proofs.NewStops.{stopped_in}
+use Rattle.nmgc_cycle.proofs.Plans.{is_runnable}
 use Rattle.nmgc_cycle.proofs.StopEnds.{IsStepped, IsRead, Why, row, some_left_then, rounds_are, stops_are, has_answered, stops_after, done_where, full_where}
 use Rattle.nmgc_cycle.proofs.StopSteps as steps
+use Rattle.nmgc_cycle.proofs.collector.Collector.stop.Given.{Over}
 use Rattle.nmgc_cycle.proofs.collector.Collector.stop.Goals as goal
 use Rattle.nmgc_cycle.proofs.collector.Collector.stop.Goals.{then-left+then-free-reserve, else-left+then-not-left+then-eq, else-left-via-then-left+else-free-reserve, else-left-via-else-left, else-left+else-not-left, else-not-left-via-then-not-left+else-eq, else-not-left-via-else-not-left}
 
@@ -22,45 +25,53 @@ true_isnt : true ≡ false → ⊥
 true_isnt e = cc
 
 pub overflow_cast-number : goal.overflow_cast-number
-overflow_cast-number c =
+overflow_cast-number g c =
     let few = (stop_fits c.args.script.now c.args.self.now c.requires.limits c.requires.can).number in
     let same = ap (λ (rows : List StopRow). length rows) c.items.ensures in
     omega (arith, few, same)
 
 pub promote-requires-clause-whole : goal.promote-requires-clause-whole
-promote-requires-clause-whole c = after.all_whole c.args.script.now c.args.self.now (after.kept_of c.args.script.now c.args.self.now c.requires.can)
+promote-requires-clause-whole g c = after.all_whole c.args.script.now c.args.self.now (after.kept_of c.args.script.now c.args.self.now c.requires.can)
+
+pub promote-requires-clause-entries : goal.promote-requires-clause-entries
+promote-requires-clause-entries g c = (after.kept_of c.args.script.now c.args.self.now c.requires.can).entries
 
 pub promote-requires-clause-stopped : goal.promote-requires-clause-stopped
-promote-requires-clause-stopped c =
+promote-requires-clause-stopped g c =
     let b = begins c.args.script.now c.args.self.now c.requires.limits c.requires.can in
     (stopped_in b.began b.state b.places (seen c.args.self.now), b.stopped, b.can_list)
 
-pub add_remembered-requires : goal.add_remembered-requires
-add_remembered-requires c =
+pub add_remembered-requires-clause-lines : goal.add_remembered-requires-clause-lines
+add_remembered-requires-clause-lines g c =
+    lines_of c.args.script.now c.promote.new.self (is_runnable c.args.script.now c.requires.limits).few
+    (steps.stands_first c.a_stop_leads.ensures c.args.script.now c.args.self.now c.promote.new.self c.requires.limits c.requires.can c.in_ok-promoted.ensures.promoted c.in_ok-promoted.ensures.listed).kept
+
+pub add_remembered-requires-clause-can : goal.add_remembered-requires-clause-can
+add_remembered-requires-clause-can g c =
     can_add c.args.script.now c.promote.new.self _ (steps.stands_first c.a_stop_leads.ensures c.args.script.now c.args.self.now c.promote.new.self c.requires.limits c.requires.can c.in_ok-promoted.ensures.promoted c.in_ok-promoted.ensures.listed)
 
 pub close-requires-clause-can : goal.close-requires-clause-can
-close-requires-clause-can c =
+close-requires-clause-can g c =
     c.a_stop_leads.ensures.close_ready c.args.script.now c.add_remembered.new.self _ c.requires.limits (steps.stands_within c.a_stop_leads.ensures c.args.script.now c.args.self.now c.promote.new.self c.requires.limits c.requires.can c.in_ok-promoted.ensures.promoted c.in_ok-promoted.ensures.listed c.add_remembered.new.self c.add_remembered.ensures)
 
 pub has_left-left-requires : goal.has_left-left-requires
-has_left-left-requires c =
+has_left-left-requires g c =
     (steps.stands_ended c.a_stop_leads.ensures c.args.script.now c.args.self.now c.promote.new.self c.requires.limits c.requires.can c.in_ok-promoted.ensures.promoted c.in_ok-promoted.ensures.listed c.add_remembered.new.self c.add_remembered.ensures (length c.items.result.now) (ap (λ (rows : List StopRow). length rows) c.items.ensures) c.close.new.self c.close.ensures c.end.new.self c.in_ok-end.ensures).kept.positions_are
 
 pub proceed-requires-clause-stands : goal.proceed-requires-clause-stands
-proceed-requires-clause-stands c =
+proceed-requires-clause-stands g c κs within =
     steps.at_this_stop c.a_stop_leads.ensures c.args.script.now c.args.self.now c.promote.new.self c.requires.limits c.requires.can c.in_ok-promoted.ensures.promoted c.in_ok-promoted.ensures.listed c.add_remembered.new.self c.add_remembered.ensures (length c.items.result.now) (ap (λ (rows : List StopRow). length rows) c.items.ensures) c.close.new.self c.close.ensures c.end.new.self c.in_ok-end.ensures
 
 pub proceed-requires-clause-number : goal.proceed-requires-clause-number
-proceed-requires-clause-number c =
+proceed-requires-clause-number g c κs within =
     let few = (stop_fits c.args.script.now c.args.self.now c.requires.limits c.requires.can).begun in
     let same = steps.begun_is c.a_stop_leads.ensures c.args.script.now c.args.self.now c.promote.new.self c.requires.limits c.requires.can c.in_ok-promoted.ensures.promoted c.in_ok-promoted.ensures.listed c.add_remembered.new.self c.add_remembered.ensures (length c.items.result.now) (ap (λ (rows : List StopRow). length rows) c.items.ensures) c.close.new.self c.close.ensures c.end.new.self c.in_ok-end.ensures in
     omega (arith, few, same)
 
 -- what the stop did, what it read in the end, and why it answers as it does
 
-stepped : (c : goal.After-self-1) → IsStepped c.args.script.now c.args.self.now c.proceed.new.self
-stepped c = record {
+stepped : (g : Over) (c : goal.After-self-1 g) → IsStepped c.args.script.now c.args.self.now c.proceed.new.self
+stepped g c = record {
   number = length c.items.result.now;
   number_is = ap (λ (rows : List StopRow). length rows) c.items.ensures;
   promoted = c.promote.new.self;
@@ -77,8 +88,8 @@ stepped c = record {
   proceeds = c.in_ok-proceed.ensures;
 }
 
-read : (c : goal.After-self-1) → IsRead c.args.script.now c.proceed.new.self
-read c = record {
+read : (g : Over) (c : goal.After-self-1 g) → IsRead c.args.script.now c.proceed.new.self
+read g c = record {
   left = c.has_left-left.result;
   left_is = some_left_then c.args.script.now c.end.new.self c.proceed.new.self c.args.script.now.config.trigger (length c.items.result.now) c.has_left-left.result c.in_ok-proceed.ensures c.has_left-left.ensures;
   phase = c.phase.result;
@@ -93,10 +104,10 @@ read c = record {
   reserve_is = c.reserve-reserve.ensures ∙ ap reserve_count c.layout.ensures.layout;
 }
 
-why : (c : goal.After-self-1) → Why c.args.script.now c.proceed.new.self (read c) c.if-left.end
+why : (g : Over) (c : goal.After-self-1 g) → Why c.args.script.now c.proceed.new.self (read g c) c.if-left.end
 unfolding read
-why c =
-    let because : StopEnd → Type 0 = λ (e : StopEnd). Why c.args.script.now c.proceed.new.self (read c) e in
+why g c =
+    let because : StopEnd → Type 0 = λ (e : StopEnd). Why c.args.script.now c.proceed.new.self (read g c) e in
     elim c.if-left.branch [
       | then-left+then-free-reserve w ↦ subst because (sym w.end-is) (refl, refl, w.if-left.true, w.if-free-reserve.true)
       | else-left+then-not-left+then-eq w ↦
@@ -120,30 +131,34 @@ why c =
 
 pub returns-clause-answered : goal.returns-clause-answered
 unfolding stepped read
-returns-clause-answered c = has_answered c.a_stop_leads.ensures c.args.script.now c.args.self.now c.proceed.new.self c.requires.limits (stepped c) (read c) c.in_ok-promoted.promoted c.in_ok-promoted.ensures.many c.push.new.self c.ended-self.result c.in_ok-push.ensures.ok c.requires.can c.if-left.end (why c) c.ended-self.ensures
+returns-clause-answered g c = has_answered c.a_stop_leads.ensures c.args.script.now c.args.self.now c.proceed.new.self c.requires.limits (stepped g c) (read g c) c.in_ok-promoted.promoted c.in_ok-promoted.ensures.many c.push.new.self c.ended-self.result c.in_ok-push.ensures.ok c.requires.can c.if-left.end (why g c) c.ended-self.ensures
 
 pub returns-clause-after : goal.returns-clause-after
 unfolding stepped read
-returns-clause-after c = stops_after c.a_stop_leads.ensures c.args.script.now c.args.self.now c.proceed.new.self c.requires.limits (stepped c) (read c) c.in_ok-promoted.promoted c.in_ok-promoted.ensures.many c.push.new.self c.ended-self.result c.in_ok-push.ensures.ok c.if-left.end (why c) c.ended-self.ensures
+returns-clause-after g c = stops_after c.a_stop_leads.ensures c.args.script.now c.args.self.now c.proceed.new.self c.requires.limits (stepped g c) (read g c) c.in_ok-promoted.promoted c.in_ok-promoted.ensures.many c.push.new.self c.ended-self.result c.in_ok-push.ensures.ok c.if-left.end (why g c) c.ended-self.ensures
 
 pub returns-clause-done : goal.returns-clause-done
-returns-clause-done c =
-    let h = done_where c.args.script.now c.proceed.new.self (read c) c.if-left.end (why c) in
+returns-clause-done g c =
+    let h = done_where c.args.script.now c.proceed.new.self (read g c) c.if-left.end (why g c) in
     (λ e. let d = h.0 e in (d.0, d.1), λ d. h.1 (d.0, d.1))
 
 pub returns-clause-full : goal.returns-clause-full
-returns-clause-full c = λ free reserve.
-    let h = full_where c.args.script.now c.proceed.new.self (read c) c.if-left.end (why c) free reserve in
+returns-clause-full g c = λ free reserve.
+    let h = full_where c.args.script.now c.proceed.new.self (read g c) c.if-left.end (why g c) free reserve in
     (λ e. let f = h.0 e in record { left = f.left; free_is = f.free_is; reserve_is = f.reserve_is; less = f.less }, λ f. h.1 (record { left = f.left; free_is = f.free_is; reserve_is = f.reserve_is; less = f.less }))
 
 pub returns-clause-rounds : goal.returns-clause-rounds
 unfolding stepped read
-returns-clause-rounds c = rounds_are c.a_stop_leads.ensures c.args.script.now c.args.self.now c.proceed.new.self c.requires.limits (stepped c) (read c) c.in_ok-promoted.promoted c.in_ok-promoted.ensures.many c.push.new.self c.ended-self.result c.in_ok-push.ensures.ok c.requires.can
+returns-clause-rounds g c = rounds_are c.a_stop_leads.ensures c.args.script.now c.args.self.now c.proceed.new.self c.requires.limits (stepped g c) (read g c) c.in_ok-promoted.promoted c.in_ok-promoted.ensures.many c.push.new.self c.ended-self.result c.in_ok-push.ensures.ok c.requires.can
 
 pub returns-clause-stops : goal.returns-clause-stops
 unfolding stepped read
-returns-clause-stops c = (row c.a_stop_leads.ensures c.args.script.now c.args.self.now c.proceed.new.self c.requires.limits (stepped c) (read c) c.in_ok-promoted.promoted c.in_ok-promoted.ensures.many, stops_are c.a_stop_leads.ensures c.args.script.now c.args.self.now c.proceed.new.self c.requires.limits (stepped c) (read c) c.in_ok-promoted.promoted c.in_ok-promoted.ensures.many c.push.new.self c.ended-self.result c.in_ok-push.ensures.ok c.requires.can)
+returns-clause-stops g c = (row c.a_stop_leads.ensures c.args.script.now c.args.self.now c.proceed.new.self c.requires.limits (stepped g c) (read g c) c.in_ok-promoted.promoted c.in_ok-promoted.ensures.many, stops_are c.a_stop_leads.ensures c.args.script.now c.args.self.now c.proceed.new.self c.requires.limits (stepped g c) (read g c) c.in_ok-promoted.promoted c.in_ok-promoted.ensures.many c.push.new.self c.ended-self.result c.in_ok-push.ensures.ok c.requires.can)
 
 pub returns-clause-turns : goal.returns-clause-turns
 unfolding stepped
-returns-clause-turns c = stop_counts c.args.script.now c.args.self.now c.proceed.new.self (stepped c)
+returns-clause-turns g c = stop_counts c.args.script.now c.args.self.now c.proceed.new.self (stepped g c)
+
+pub returns-clause-upper_turns : goal.returns-clause-upper_turns
+unfolding stepped
+returns-clause-upper_turns g c = stop_counts_upper c.args.script.now c.args.self.now c.proceed.new.self (stepped g c)

@@ -1,0 +1,175 @@
+-- Segments swept part by part: parts put together, and counts of a list that is cut.
+use Rattle.std.proofs.Common.{ℕ, ◌≡◌, ◌+◌, ◌-◌, ◌<◌, ◌≤◌, ◌∙◌, inl, inr, refl, ap, subst, sym, arith, Bool, true, false, List, [], ◌∷◌, ◌++◌, length, length-set, set, take, drop, take-append-drop}
+use Rattle.std.proofs.lemmas.List.{get_or-take, get_or-drop, get_or_append_left, get_or-append_right, take_more, length-append, length-drop}
+use Rattle.std.proofs.lemmas.List.Sums.{sum_by-append, count_by-le-length}
+use Rattle.std.proofs.lemmas.Bool.{cases_eq, cases_lt}
+use Rattle.std.proofs.Math.Seq.{take-add}
+use lib.Seq.{length-take-le}
+use Rattle.nmgc_segment.specs.Segment.{Segment, free_segment}
+use Rattle.nmgc_segment.specs.declared.state.State.TheVariants as state
+use Rattle.nmgc_alloc.specs.declared.search.Sought.TheVariants.{Sweeping}
+use Rattle.nmgc_alloc.specs.Search.{nth, NoneBelow, is_sought, sought_count}
+use Rattle.nmgc_alloc.specs.Halves.{SweptWaiting, AllSwept, FirstSwept}
+use Rattle.nmgc_alloc.specs.laws.Counts.{one_if}
+use Rattle.nmgc_alloc.proofs.TallyLaws.{passes}
+use Rattle.nmgc_alloc.proofs.HalvesLaws.{none_below_none}
+use Rattle.nmgc_alloc.specs.laws.Numbers.{nth-set_same, nth-set_other}
+
+-- counts of a list that is cut
+pub count_both : (xs ys : List Segment) → sought_count Sweeping (xs ++ ys) ≡ sought_count Sweeping xs + sought_count Sweeping ys
+count_both xs ys = sum_by-append (λ (t : Segment). one_if (is_sought Sweeping t)) xs ys
+
+pub count_cut : (n : ℕ) (xs : List Segment) → sought_count Sweeping xs ≡ sought_count Sweeping (take n xs) + sought_count Sweeping (drop n xs)
+count_cut n xs = ap (λ (l : List Segment). sought_count Sweeping l) (sym (take-append-drop n xs)) ∙ count_both (take n xs) (drop n xs)
+
+pub count_more : (xs : List Segment) (n : ℕ) → n < length xs → sought_count Sweeping (take (n + 1) xs) ≡ sought_count Sweeping (take n xs) + one_if (is_sought Sweeping (nth xs n))
+count_more xs n lt =
+    let both : sought_count Sweeping (take (n + 1) xs) ≡ sought_count Sweeping (take n xs) + sought_count Sweeping (nth xs n ∷ []) =
+    ap (λ (l : List Segment). sought_count Sweeping l) (take_more xs n (free_segment 0) lt) ∙ count_both (take n xs) (nth xs n ∷ []) in
+    let one : sought_count Sweeping (nth xs n ∷ []) ≡ 0 + one_if (is_sought Sweeping (nth xs n)) = refl in
+    omega (arith, both, one)
+
+-- one or none
+pub one_or_none : (b : Bool) → one_if b ≤ 1
+one_or_none true = omega arith
+one_or_none false = omega arith
+
+-- so many before one that waits are fewer than all
+pub count_lt : (xs : List Segment) (n : ℕ) → n < length xs → (nth xs n).state ≡ state.Sweeping → sought_count Sweeping (take n xs) < sought_count Sweeping xs
+count_lt xs n lt waits =
+    let more = count_more xs n lt in
+    let one : one_if (is_sought Sweeping (nth xs n)) ≡ 1 = ap one_if (passes Sweeping (nth xs n) waits) in
+    let all = count_cut (n + 1) xs in
+    omega (arith, more, one, all)
+
+-- and no more than there are segments
+pub count_few : (xs : List Segment) (n : ℕ) → n ≤ length xs → sought_count Sweeping (take n xs) ≤ n
+count_few xs n le =
+    let few = count_by-le-length (is_sought Sweeping) (take n xs) in
+    let size = length-take-le n xs le in
+    omega (arith, few, size)
+
+-- a loop over segments: those so far were swept, and the others are as they were
+pub record SweptSo (epoch i : ℕ) (was now : List Segment) : Type 0 where
+  pub size : length now ≡ length was
+  pub each : (j : ℕ) → j < i → SweptWaiting epoch (nth was j) (nth now j)
+  pub rest : (j : ℕ) → i ≤ j → nth now j ≡ nth was j
+
+pub swept_start : (epoch : ℕ) (was : List Segment) → SweptSo epoch 0 was was
+swept_start epoch was = record { size = refl; each = λ j lt. absurd (omega (arith, lt)); rest = λ j ge. refl }
+
+pub swept_next : (epoch i : ℕ) (was now : List Segment) (y : Segment) → i < length now → SweptSo epoch i was now → SweptWaiting epoch (nth now i) y → SweptSo epoch (i + 1) was (set now i y)
+swept_next epoch i was now y inside h s = record {
+  size = length-set now i y ∙ h.size;
+  each = λ j lt. elim (cases_eq j i) [
+    | inl e ↦
+        subst (λ (k : ℕ). SweptWaiting epoch (nth was k) (nth (set now i y) k)) (sym e)
+        (subst (λ (x : Segment). SweptWaiting epoch (nth was i) x) (sym (nth-set_same now i y inside)) (subst (λ (x : Segment). SweptWaiting epoch x y) (h.rest i (omega arith)) s))
+    | inr ne ↦ subst (λ (x : Segment). SweptWaiting epoch (nth was j) x) (sym (nth-set_other now i j y ne)) (h.each j (omega (arith, lt, ne)))
+  ];
+  rest = λ j ge. nth-set_other now i j y (λ e. omega (arith, e, ge)) ∙ h.rest j (omega (arith, ge));
+}
+
+pub swept_all : (epoch i : ℕ) (was now : List Segment) → length now ≤ i → SweptSo epoch i was now → AllSwept epoch was now
+swept_all epoch i was now all h = record { size = h.size; each = λ j lt. h.each j (omega (arith, lt, all, h.size)) }
+
+-- nothing to sweep
+pub swept_none : (epoch : ℕ) (was : List Segment) → length was ≡ 0 → AllSwept epoch was was
+swept_none epoch was none = record { size = refl; each = λ j lt. absurd (omega (arith, lt, none)) }
+
+-- two parts one after the other
+pub swept_both : (epoch : ℕ) (a b c d : List Segment) → AllSwept epoch a c → AllSwept epoch b d → AllSwept epoch (a ++ b) (c ++ d)
+swept_both epoch a b c d x y =
+    let all : length (a ++ b) ≡ length a + length b = length-append a b in
+    let new : length (c ++ d) ≡ length c + length d = length-append c d in
+    record {
+      size = omega (arith, all, new, x.size, y.size);
+      each = λ i lt. elim (cases_lt i (length a)) [
+        | inl low ↦
+            let was : nth (a ++ b) i ≡ nth a i = get_or_append_left a b (free_segment 0) i low in
+            let now : nth (c ++ d) i ≡ nth c i = get_or_append_left c d (free_segment 0) i (omega (arith, low, x.size)) in
+            subst (λ (t : Segment). SweptWaiting epoch t (nth (c ++ d) i)) (sym was) (subst (λ (t : Segment). SweptWaiting epoch (nth a i) t) (sym now) (x.each i low))
+        | inr high ↦
+            let was : nth (a ++ b) i ≡ nth b (i - length a) = get_or-append_right a b (length a) i (free_segment 0) refl high in
+            let now : nth (c ++ d) i ≡ nth d (i - length a) = get_or-append_right c d (length a) i (free_segment 0) x.size high in
+            subst (λ (t : Segment). SweptWaiting epoch t (nth (c ++ d) i)) (sym was) (subst (λ (t : Segment). SweptWaiting epoch (nth b (i - length a)) t) (sym now) (y.each (i - length a) (omega (arith, lt, all, high))))
+      ];
+    }
+
+-- and others behind them that stay
+pub first_from : (epoch end count : ℕ) (was new : List Segment) → end ≤ length was → sought_count Sweeping (take end was) ≡ count → AllSwept epoch (take end was) new → FirstSwept epoch count was (new ++ drop end was)
+first_from epoch end count was new within counted h =
+    let size : length (take end was) ≡ end = length-take-le end was within in
+    let long : length new ≡ end = h.size ∙ size in
+    let all : length (new ++ drop end was) ≡ length new + length (drop end was) = length-append new (drop end was) in
+    let left : length (drop end was) ≡ length was - end = length-drop end was in
+    record {
+      end = end;
+      within = within;
+      counted = counted;
+      size = omega (arith, all, left, long, within);
+      below = λ i lt.
+          let old : nth (take end was) i ≡ nth was i = get_or-take end was i (free_segment 0) lt in
+          let now : nth (new ++ drop end was) i ≡ nth new i = get_or_append_left new (drop end was) (free_segment 0) i (omega (arith, lt, long)) in
+          subst (λ (t : Segment). SweptWaiting epoch (nth was i) t) (sym now) (subst (λ (t : Segment). SweptWaiting epoch t (nth new i)) old (h.each i (omega (arith, lt, size))));
+      above = λ i ge.
+          let split : end + (i - end) ≡ i = omega (arith, ge) in
+          get_or-append_right new (drop end was) end i (free_segment 0) long ge
+          ∙ get_or-drop end was (i - end) (free_segment 0)
+          ∙ ap (λ (n : ℕ). nth was n) split;
+    }
+
+-- as the code cuts them
+pub swept_parts : (epoch middle end lower_count upper_count count : ℕ) (was front back low high low_new high_new : List Segment) → front ≡ take end was → back ≡ drop end was → low ≡ take middle front → high ≡ drop middle front → middle ≤ end → end ≤ length was → sought_count Sweeping (take (middle - 0) (drop 0 was)) ≡ lower_count → sought_count Sweeping (take (end - middle) (drop middle was)) ≡ upper_count → lower_count + upper_count ≡ count → AllSwept epoch low low_new → AllSwept epoch high high_new → FirstSwept epoch count was ((low_new ++ high_new) ++ back)
+swept_parts epoch middle end lower_count upper_count count was front back low high low_new high_new f b l h order within lower upper total x y =
+    let both : AllSwept epoch (low ++ high) (low_new ++ high_new) = swept_both epoch low high low_new high_new x y in
+    let whole : low ++ high ≡ take end was = (λ i. l i ++ h i) ∙ take-append-drop middle front ∙ f in
+    let cut : take end was ≡ take middle was ++ take (end - middle) (drop middle was) =
+    (let split : end ≡ middle + (end - middle) = omega (arith, order) in ap (λ (n : ℕ). take n was) split) ∙ take-add middle (end - middle) was in
+    let counted : sought_count Sweeping (take end was) ≡ count =
+    (let sum : sought_count Sweeping (take end was) ≡ sought_count Sweeping (take middle was) + sought_count Sweeping (take (end - middle) (drop middle was)) = ap (λ (xs : List Segment). sought_count Sweeping xs) cut ∙ count_both (take middle was) (take (end - middle) (drop middle was)) in
+    let zero : middle - 0 ≡ middle = omega arith in
+    let low_is : sought_count Sweeping (take middle was) ≡ lower_count = ap (λ (n : ℕ). sought_count Sweeping (take n was)) (sym zero) ∙ lower in
+    omega (arith, sum, low_is, upper, total)) in
+    subst (λ (xs : List Segment). FirstSwept epoch count was ((low_new ++ high_new) ++ xs)) (sym b)
+    (first_from epoch end count was (low_new ++ high_new) within counted (subst (λ (xs : List Segment). AllSwept epoch xs (low_new ++ high_new)) whole both))
+
+-- where none of the first waits, the search may begin behind them
+pub none_counted_below : (xs : List Segment) (n : ℕ) → NoneBelow Sweeping xs n → n ≤ length xs → sought_count Sweeping (take n xs) ≡ 0
+none_counted_below xs n none within = elim (cases_eq (sought_count Sweeping (take n xs)) 0) [
+  | inl e ↦ e
+  | inr ne ↦ absurd (none_below_none xs n none within (omega (arith, ne)))
+]
+
+pub count_behind : (n count : ℕ) (xs back : List Segment) → back ≡ drop n xs → n ≤ length xs → NoneBelow Sweeping xs n → count ≤ sought_count Sweeping xs → count ≤ sought_count Sweeping back
+count_behind n count xs back b within none enough =
+    let cut = count_cut n xs in
+    let low = none_counted_below xs n none within in
+    let same : sought_count Sweeping back ≡ sought_count Sweeping (drop n xs) = ap (λ (l : List Segment). sought_count Sweeping l) b in
+    omega (arith, cut, low, same, enough)
+
+pub first_behind : (epoch count n : ℕ) (was front back new : List Segment) → front ≡ take n was → back ≡ drop n was → n ≤ length was → NoneBelow Sweeping was n → FirstSwept epoch count back new → FirstSwept epoch count was (front ++ new)
+first_behind epoch count n was front back new f b within none h =
+    let size : length front ≡ n = ap (λ (xs : List Segment). length xs) f ∙ length-take-le n was within in
+    let left : length back ≡ length was - n = ap (λ (xs : List Segment). length xs) b ∙ length-drop n was in
+    let all : length (front ++ new) ≡ length front + length new = length-append front new in
+    let cut : take (n + h.end) was ≡ take n was ++ take h.end back = take-add n h.end was ∙ ap (λ (xs : List Segment). take n was ++ take h.end xs) (sym b) in
+    let sum : sought_count Sweeping (take (n + h.end) was) ≡ sought_count Sweeping (take n was) + sought_count Sweeping (take h.end back) = ap (λ (xs : List Segment). sought_count Sweeping xs) cut ∙ count_both (take n was) (take h.end back) in
+    let low = none_counted_below was n none within in
+    let here : (i : ℕ) → i < n → nth (front ++ new) i ≡ nth was i = λ i lt.
+    get_or_append_left front new (free_segment 0) i (omega (arith, lt, size)) ∙ ap (λ (xs : List Segment). nth xs i) f ∙ get_or-take n was i (free_segment 0) lt in
+    let there : (i : ℕ) → n ≤ i → nth (front ++ new) i ≡ nth new (i - n) = λ i ge. get_or-append_right front new n i (free_segment 0) size ge in
+    let before : (i : ℕ) → n ≤ i → nth back (i - n) ≡ nth was i = λ i ge.
+    let split : n + (i - n) ≡ i = omega (arith, ge) in
+    ap (λ (xs : List Segment). nth xs (i - n)) b ∙ get_or-drop n was (i - n) (free_segment 0) ∙ ap (λ (k : ℕ). nth was k) split in
+    record {
+      end = n + h.end;
+      within = omega (arith, h.within, left, within);
+      counted = omega (arith, sum, low, h.counted);
+      size = omega (arith, all, size, h.size, left, within);
+      below = λ i lt. elim (cases_lt i n) [
+        | inl less ↦ ((λ w. absurd (none i less w)), (λ _. here i less))
+        | inr ge ↦ subst (λ (t : Segment). SweptWaiting epoch (nth was i) t) (sym (there i ge)) (subst (λ (t : Segment). SweptWaiting epoch t (nth new (i - n))) (before i ge) (h.below (i - n) (omega (arith, lt, ge))))
+      ];
+      above = λ i ge. there i (omega (arith, ge)) ∙ h.above (i - n) (omega (arith, ge)) ∙ before i (omega (arith, ge));
+    }

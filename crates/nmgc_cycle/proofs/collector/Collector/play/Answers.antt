@@ -1,0 +1,78 @@
+use Rattle.std.proofs.Common.{◌≡◌, ◌++◌, List, [], ◌∷◌, length, map, None, ap, sym, subst, ◌∙◌}
+use Rattle.std.specs.Vec.{with_items}
+use Rattle.std.proofs.lemmas.List.{length-map}
+use Rattle.nmgc_journal.specs.declared.report.RoundRows.{RoundRows}
+use Rattle.nmgc_mutator.specs.declared.mutator.Mutator.{Mutator}
+use Rattle.nmgc_cycle.specs.declared.collector.Collector.{Collector}
+use Rattle.nmgc_round.specs.Gate.{passed}
+use Rattle.nmgc_cycle.specs.Cycles.{worked_on, upper_worked_on}
+use Rattle.nmgc_cycle.specs.Keeps.{DidRound}
+use Rattle.nmgc_cycle.specs.Shown.{turns_of, upper_turns_of}
+use Rattle.nmgc_cycle.specs.Working.{HaveSliceRoom, cleared, replies_of}
+use Rattle.nmgc_cycle.proofs.MutatorLists.{vec_back}
+use Rattle.nmgc_cycle.proofs.Reserved.{reserved_stopped, still_before}
+use Rattle.nmgc_cycle.proofs.Counted.{round_counts, round_counts_upper}
+use Rattle.nmgc_cycle.proofs.GoneOn.{HasLaws}
+use Rattle.nmgc_cycle.proofs.InboxOn.{inbox_before, inbox_stopped}
+use Rattle.nmgc_cycle.proofs.RoundWorked.{on_ok, worked_after}
+use Rattle.nmgc_cycle.proofs.collector.Collector.play.Goals as goal
+
+pub opening_of-opening-requires : goal.opening_of-opening-requires
+opening_of-opening-requires g c =
+    let roomy = reserved_stopped c.args.script.now c.args.self.now c.make_room.new.self c.requires.stopped.0 c.in_ok-make_room.ensures.rest c.in_ok-make_room.ensures.mutators in
+    inbox_stopped c.args.script.now c.make_room.new.self c.make_inbox_room.new.self roomy c.in_ok-make_inbox_room.ensures.rest c.in_ok-make_inbox_room.ensures.lists
+
+pub make_inbox_room-requires-clause-stopped : goal.make_inbox_room-requires-clause-stopped
+make_inbox_room-requires-clause-stopped g c = reserved_stopped c.args.script.now c.args.self.now c.make_room.new.self c.requires.stopped.0 c.in_ok-make_room.ensures.rest c.in_ok-make_room.ensures.mutators
+
+pub do_slices-requires-clause-room : goal.do_slices-requires-clause-room
+do_slices-requires-clause-room g c κs within = subst (λ (x : Collector). HaveSliceRoom c.args.script.now x) (sym c.in_ok-make_inbox_room.ensures.rest) c.in_ok-make_room.ensures.room
+
+pub returns-clause-worked : goal.returns-clause-worked
+returns-clause-worked g c =
+    let laws : HasLaws = record {
+      opens = record { quiet = c.a_rest_opens_a_round.ensures; marks = c.a_rest_opens_a_round-2.ensures; rests = c.the_heap_goes_on.ensures.rests; snapshot = c.a_heap_ties_by_blocks.ensures.snapshot };
+      history = c.a_round_is_a_history.ensures;
+      stopped = c.a_round_is_stopped.ensures;
+      holds = c.the_heap_goes_on.ensures.round;
+      goes_on = c.the_machine_goes_on.ensures;
+      is_marking = c.the_marker_leads_a_cycle.ensures.round;
+      pace = c.the_pace_is_kept.ensures.round;
+      frees = c.freed_places_go.ensures.round;
+      swept_holds = c.freed_places_go.ensures.after_round;
+      drops = c.freed_places_go.ensures.remembered;
+      grows = c.freed_places_go.ensures.free;
+      waits = c.a_closed_cycle_sweeps.ensures.marked;
+      left = c.segments_are_left.ensures.stays;
+      counted = c.segments_are_left.ensures.counted;
+    } in
+    let script = c.args.script.now in
+    let listed : Collector = c.make_room.new.self in
+    let roomy : Collector = c.make_inbox_room.new.self in
+    let did : Collector = c.do_slices.new.self in
+    let goes_on : roomy.answered ≡ None = ap (λ (x : Collector). x.answered) c.in_ok-make_inbox_room.ensures.rest ∙ ap (λ (x : Collector). x.answered) c.in_ok-make_room.ensures.rest ∙ c.requires.stopped.1 in
+    let was = c.as_mut_slice.ensures.value in
+    let new : List Mutator = c.taken.new.mutators in
+    let rows : RoundRows = c.in_ok-rows.rows in
+    let left : new ≡ map cleared did.mutators.items = c.in_ok-rows.ensures.rest ∙ ap (λ (ms : List Mutator). map cleared ms) was in
+    let many : length new ≡ length did.mutators.items = ap (λ (ms : List Mutator). length ms) left ∙ length-map did.mutators.items cleared in
+    let told : rows.replies ≡ replies_of did.mutators.items = c.in_ok-rows.ensures.rows ∙ ap replies_of was in
+    let own : Collector = c.args.self.now in
+    let stopped = reserved_stopped script own listed c.requires.stopped.0 c.in_ok-make_room.ensures.rest c.in_ok-make_room.ensures.mutators in
+    let before : (x : Collector) → DidRound script roomy x → DidRound script own x = λ x d. (d.0, still_before script own listed d.0.run c.requires.stopped.0.1.kept c.in_ok-make_room.ensures.rest c.in_ok-make_room.ensures.mutators (inbox_before script listed roomy d.0.run stopped.1.kept c.in_ok-make_inbox_room.ensures.rest d.1)) in
+    let worked : DidRound script roomy (record did { mutators = with_items did.mutators new; rounds = did.rounds ++ rows ∷ [] }) = worked_after laws script roomy did c.opening_of-opening.result.value c.requires.limits goes_on c.opening_of-opening.ensures c.do_slices.ensures (with_items did.mutators new) (vec_back did.mutators new many ∙ left) rows told in
+    on_ok c.push.result c.push.ensures.ok (λ pushed. subst (λ (l : List RoundRows). DidRound script own (record did { mutators = with_items did.mutators new; rounds = l })) (sym pushed) (before (record did { mutators = with_items did.mutators new; rounds = did.rounds ++ rows ∷ [] }) worked))
+
+pub returns-clause-turns : goal.returns-clause-turns
+returns-clause-turns g c =
+    let own : Collector = c.args.self.now in
+    let did : Collector = c.do_slices.new.self in
+    let counts = round_counts c.args.script.now c.opening_of-opening.result.value c.make_inbox_room.new.self did c.do_slices.ensures in
+    on_ok c.push.result c.push.ensures.ok (λ pushed. subst (λ (x : Collector). turns_of did ≡ passed (turns_of x) (worked_on x.progress did.progress)) (c.in_ok-make_inbox_room.ensures.rest ∙ ap (λ (x : Collector). record x { inbox = c.make_inbox_room.new.self.inbox }) c.in_ok-make_room.ensures.rest) counts)
+
+pub returns-clause-upper_turns : goal.returns-clause-upper_turns
+returns-clause-upper_turns g c =
+    let own : Collector = c.args.self.now in
+    let did : Collector = c.do_slices.new.self in
+    let counts = round_counts_upper c.args.script.now c.opening_of-opening.result.value c.make_inbox_room.new.self did c.do_slices.ensures in
+    on_ok c.push.result c.push.ensures.ok (λ pushed. subst (λ (x : Collector). upper_turns_of did ≡ passed (upper_turns_of x) (upper_worked_on x.progress did.progress)) (c.in_ok-make_inbox_room.ensures.rest ∙ ap (λ (x : Collector). record x { inbox = c.make_inbox_room.new.self.inbox }) c.in_ok-make_room.ensures.rest) counts)

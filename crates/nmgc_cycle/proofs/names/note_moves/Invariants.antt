@@ -1,0 +1,7 @@
+use Rattle.std.proofs.Common.{map, take}
+use Rattle.nmgc_minor.specs.Placing.{moved_of}
+use Rattle.nmgc_sweep.specs.Names.{HaveNoted}
+use Rattle.nmgc_cycle.proofs.names.note_moves.Given as goal
+
+abbrev pub invariant-loop-moved : goal.invariant-loop-moved
+invariant-loop-moved l = HaveNoted (map moved_of (take l.moved-index l.moves)) l.initial.names l.names

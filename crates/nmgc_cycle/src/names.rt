@@ -1,0 +1,39 @@
+//! The names of objects in segments, as a stop notes them, and those of a cycle's row, as a report has them.
+ghost use Rattle.std.specs.Prelude.{◌≡◌, ◌<◌, length, map, Contains};
+ghost use Rattle.nmgc_minor.specs.Placing.{moved_of};
+ghost use Rattle.nmgc_minor.specs.declared.placing.Move.{Move as Moving};
+ghost use Rattle.nmgc_sweep.specs.Names.{HaveNoted, entry_of};
+ghost use Rattle.nmgc_cycle.specs.Shown.{told_row};
+
+use nmgc_journal::CycleRow;
+use nmgc_minor::Move;
+use nmgc_sweep::Names;
+use nmgc_sweep::order::put_in_order;
+use std::alloc::Global;
+
+/// Notes the names of what moved, at the new places. Takes time for what moved.
+pub(crate) fn note_moves(names: &mut Names, moves: &[Move])
+    requires { (m : Moving) → Contains moves.now m → entry_of m.to.0 < length names.old }
+    ensures { HaveNoted (map moved_of moves.now) names.old names.new }
+{
+    for moved in moves {
+        names.note(moved.to, moved.name);
+    }
+}
+
+// The row with its names in order.
+fn put_row_in_order(row: &mut CycleRow, alloc: Global)
+    ensures { row.new ≡ told_row row.old }
+{
+    put_in_order(row.had.items_mut(), alloc);
+    put_in_order(row.freed.items_mut(), alloc);
+}
+
+/// The rows with their names in order. Takes no memory but a buffer, without which it is only slower.
+pub(crate) fn put_rows_in_order(rows: &mut [CycleRow], alloc: Global)
+    ensures { rows.new ≡ map told_row rows.old }
+{
+    for row in rows {
+        put_row_in_order(row, alloc);
+    }
+}

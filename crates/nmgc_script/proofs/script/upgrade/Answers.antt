@@ -1,0 +1,11 @@
+use Rattle.std.proofs.Common.{ℕ, ap, sym, subst}
+use Rattle.nmgc_script.specs.declared.version.Version.{Version}
+use Rattle.nmgc_script.specs.declared.script.Script.{Script}
+use Rattle.nmgc_script.specs.Limits.{FitsScript}
+use Rattle.nmgc_script.specs.laws.Versions.{upgraded_fits}
+use Rattle.nmgc_script.proofs.script.upgrade.Goals as goal
+
+pub returns-clause-fits : goal.returns-clause-fits
+returns-clause-fits c = λ fits.
+    let script = c.args.script in
+    subst (λ (n : ℕ). FitsScript (let made : Script = record { version = n; config = script.config; threads = script.threads } in made)) (sym (ap (λ (v : Version). v.number) c.second.ensures)) (upgraded_fits script fits)

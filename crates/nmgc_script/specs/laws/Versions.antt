@@ -1,0 +1,93 @@
+-- What the limits of a script's version say, whichever version it is.
+use Rattle.std.proofs.Common.{◌≡◌, ◌≤◌, ℕ, List, length, refl, sym, subst, arith, inl, inr, lit≤}
+use Rattle.std.specs.Prelude.{All, Bool, true, false, ◌==◌, if◌then◌else◌}
+use Rattle.std.proofs.lemmas.List.Elements.{All-weaker}
+use Rattle.nmgc_graph.specs.declared.value.TheConstants.{REGISTERS, MAKERS}
+use Rattle.nmgc_graph.specs.declared.command.Operand.{Operand}
+use Rattle.nmgc_graph.specs.declared.command.Operand.TheVariants.{Register, Shared}
+use Rattle.nmgc_graph.specs.declared.command.Command.{Command}
+use Rattle.nmgc_graph.specs.declared.command.Command.TheVariants.{Num, Nil, Mov, Con, Var, Arr, Thunk, Weak, Stack, Get, Set, Cas, Update, Force, Push, Pop, Deref, Finalise, NextFin, Show, Same, Yield, Collect, Full}
+use Rattle.nmgc_graph.specs.Command.{IsOperand, IsOperandBelow, HasRegisters, HasRegistersBelow, Fits}
+use Rattle.nmgc_script.specs.declared.script.Script.{Script}
+use Rattle.nmgc_script.specs.declared.version.Version.{Version}
+use Rattle.nmgc_script.specs.Limits.{FitsScript, IsVersion, upgraded, version_1, version_2, version_of}
+
+-- a version names a register and a thread, and none that there isn't
+pub record IsUsable (v : Version) : Type 0 where
+  pub number : v.number ≤ 2
+  pub some_register : 1 ≤ v.registers
+  pub registers : v.registers ≤ REGISTERS
+  pub some_thread : 1 ≤ v.threads
+  pub threads : v.threads ≤ MAKERS
+
+first_usable : IsUsable version_1
+first_usable = record { number = lit≤ tt; some_register = lit≤ tt; registers = lit≤ tt; some_thread = lit≤ tt; threads = lit≤ tt }
+
+second_usable : IsUsable version_2
+second_usable = record { number = lit≤ tt; some_register = lit≤ tt; registers = lit≤ tt; some_thread = lit≤ tt; threads = lit≤ tt }
+
+pub usable_version : (v : Version) → IsVersion v → IsUsable v
+usable_version v (inl e) = subst IsUsable (sym e) first_usable
+usable_version v (inr e) = subst IsUsable (sym e) second_usable
+
+pub usable_number : (n : ℕ) → IsUsable (version_of n)
+usable_number n = either (n == 1)
+  where
+    either : (b : Bool) → IsUsable (if b then version_1 else version_2)
+    either true = first_usable
+    either false = second_usable
+
+pub version_is : (v : Version) → IsVersion v → version_of v.number ≡ v
+version_is v (inl e) = subst (λ (w : Version). version_of w.number ≡ w) (sym e) refl
+version_is v (inr e) = subst (λ (w : Version). version_of w.number ≡ w) (sym e) refl
+
+-- where a register is below a bound, it is below a greater one
+module _ (b : ℕ) (le : b ≤ REGISTERS) where
+  operand_wider : (o : Operand) → IsOperandBelow b o → IsOperand o
+  operand_wider (Register r) h = omega (arith, h, le)
+  operand_wider Shared h = tt
+
+  operands_wider : (os : List Operand) → All (IsOperandBelow b) os → All IsOperand os
+  operands_wider os h = All-weaker (IsOperandBelow b) IsOperand operand_wider os h
+
+  pub registers_wider : (c : Command) → HasRegistersBelow b c → HasRegisters c
+  registers_wider (Num dest number) h = omega (arith, h, le)
+  registers_wider (Nil dest) h = omega (arith, h, le)
+  registers_wider (Mov dest value) h = (omega (arith, h.0, le), operand_wider value h.1)
+  registers_wider (Con dest tag fields) h = (omega (arith, h.0, le), operands_wider fields h.1)
+  registers_wider (Var dest value) h = (omega (arith, h.0, le), operand_wider value h.1)
+  registers_wider (Arr dest count value) h = (omega (arith, h.0, le), operand_wider value h.1)
+  registers_wider (Thunk dest free) h = (omega (arith, h.0, le), operands_wider free h.1)
+  registers_wider (Weak dest key value finaliser) h = (omega (arith, h.0, le), operand_wider key h.1, operand_wider value h.2, operand_wider finaliser h.3)
+  registers_wider (Stack dest size) h = omega (arith, h, le)
+  registers_wider (Get dest object index) h = (omega (arith, h.0, le), operand_wider object h.1)
+  registers_wider (Set object index value) h = (operand_wider object h.0, operand_wider value h.1)
+  registers_wider (Cas object index expected value) h = (operand_wider object h.0, operand_wider expected h.1, operand_wider value h.2)
+  registers_wider (Update object value) h = (operand_wider object h.0, operand_wider value h.1)
+  registers_wider (Force dest object) h = (omega (arith, h.0, le), operand_wider object h.1)
+  registers_wider (Push object value) h = (operand_wider object h.0, operand_wider value h.1)
+  registers_wider (Pop dest object) h = (omega (arith, h.0, le), operand_wider object h.1)
+  registers_wider (Deref dest object) h = (omega (arith, h.0, le), operand_wider object h.1)
+  registers_wider (Finalise dest object) h = (omega (arith, h.0, le), operand_wider object h.1)
+  registers_wider (NextFin dest) h = omega (arith, h, le)
+  registers_wider (Show value) h = operand_wider value h
+  registers_wider (Same left right) h = (operand_wider left h.0, operand_wider right h.1)
+  registers_wider Yield h = tt
+  registers_wider Collect h = tt
+  registers_wider Full h = tt
+
+-- a script has no more threads than there may be mutators
+pub threads_few : (s : Script) → FitsScript s → length s.threads ≤ MAKERS
+threads_few s fits = let usable = usable_number s.version in omega (arith, fits.threads, usable.threads)
+
+-- the limits of version 2 are those of any
+pub upgraded_fits : (s : Script) → FitsScript s → FitsScript (upgraded s)
+upgraded_fits s fits = record {
+  version = refl;
+  config = fits.config;
+  some_thread = fits.some_thread;
+  threads = threads_few s fits;
+  total = fits.total;
+  commands = fits.commands;
+  registers = All-weaker (λ program. All (Fits s.config.words) program) (λ program. All HasRegisters program) (λ program h. All-weaker (Fits s.config.words) HasRegisters (λ c f. f.registers) program h) s.threads fits.commands;
+}

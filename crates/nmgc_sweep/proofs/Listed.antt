@@ -1,0 +1,217 @@
+-- Listing the names of a segment, block after block.
+use Rattle.std.proofs.Common.{ℕ, zero, suc, ◌≡◌, ◌≢◌, ◌+◌, ◌-◌, ◌*◌, ◌/◌, ◌%◌, ◌^◌, ◌<◌, ◌≤◌, ◌∙◌, inl, inr, refl, sym, ap, subst, arith, List, [], ◌∷◌, ◌++◌, length, drop, append-nil, slice_index_or, Option, Some, mul-le-mul_right}
+use Rattle.std.specs.Prelude.{Contains}
+use Rattle.std.proofs.lemmas.Bool.{cases_eq, cases_lt}
+use Rattle.std.proofs.lemmas.List.Elements.{Contains-append_left, Contains-push, Contains-push_cases}
+use Rattle.nmgc_graph.specs.declared.value.Name.{Name}
+use Rattle.nmgc_graph.specs.laws.Orders.{contains_head, contains_cases}
+use Rattle.nmgc_object.specs.declared.layout.Layout.{Layout}
+use Rattle.nmgc_object.specs.declared.layout.TheConstants.{FIRST_PLACE}
+use Rattle.nmgc_object.specs.declared.size.TheConstants.{MIN_BLOCK_WORDS}
+use Rattle.nmgc_object.specs.Places.{segment_place}
+use Rattle.nmgc_object.specs.Size.{block_size}
+use Rattle.nmgc_object.specs.laws.Classes.{none_left}
+use Rattle.nmgc_limits.specs.Limits.{IsSegmentSize}
+use Rattle.nmgc_segment.specs.Segment.{block_count}
+use Rattle.nmgc_segment.specs.laws.Segments.{few_blocks}
+use Rattle.nmgc_segment.specs.declared.state.State.TheVariants.{Free, Sweeping}
+use Rattle.nmgc_alloc.specs.Search.{nth}
+use Rattle.nmgc_alloc.specs.Segments.{Segments, HasNumber, IsSegments, IsBlockAt, IsWaiting, block_place}
+use Rattle.nmgc_alloc.specs.laws.Apart.{lies_in}
+use Rattle.nmgc_alloc.specs.laws.Placing.{large}
+use Rattle.nmgc_run.specs.Listing.{ListsNumbers}
+use Rattle.nmgc_sweep.specs.Listing.{ListsBlocks}
+use Rattle.nmgc_sweep.specs.Names.{HaveEntries, entry_of}
+use Rattle.nmgc_sweep.specs.laws.Names.{entry_there, place_above}
+use Rattle.nmgc_sweep.specs.Sweeper.{Sweeper, CanList}
+use Rattle.nmgc_sweep.proofs.Begins.{waits_exists}
+use Rattle.nmgc_sweep.proofs.Lists.{ascends_push, distinct_append}
+
+pub none_listed : (P : ℕ → Type 0) (name : ℕ → Option Name) (xs : List Name) → ListsBlocks P name 0 xs xs
+none_listed P name xs = record {
+  added = [];
+  is = sym (append-nil xs);
+  from = λ n c. absurd (omega (arith, c.1));
+  all = λ block n low passes e. absurd (omega (arith, low));
+  once = λ h. tt;
+}
+
+-- one block more that doesn't pass
+pub one_passed_over : (P : ℕ → Type 0) (name : ℕ → Option Name) (block : ℕ) (xs ys : List Name) → (P block → ⊥) → ListsBlocks P name block xs ys → ListsBlocks P name (block + 1) xs ys
+one_passed_over P name block xs ys fails h = record {
+  added = h.added;
+  is = h.is;
+  from = λ n c. let f = h.from n c in let low = f.1 in (f.0, omega (arith, low), f.2, f.3);
+  all = λ b n low passes e. elim (cases_eq b block) [
+    | inl at ↦ absurd (fails (subst P at passes))
+    | inr other ↦ h.all b n (omega (arith, low, other)) passes e
+  ];
+  once = h.once;
+}
+
+-- one block more that does
+pub one_listed : (P : ℕ → Type 0) (name : ℕ → Option Name) (block : ℕ) (n : Name) (xs ys zs : List Name) → P block → name block ≡ Some n → zs ≡ ys ++ n ∷ [] → ListsBlocks P name block xs ys → ListsBlocks P name (block + 1) xs zs
+one_listed P name block n xs ys zs passes is more h = record {
+  added = h.added ++ n ∷ [];
+  is = more ∙ ap (λ (l : List Name). l ++ n ∷ []) h.is ∙ append_two xs h.added (n ∷ []);
+  from = λ m c. elim (Contains-push_cases h.added n m c) [
+    | inl old ↦ let f = h.from m old in let low = f.1 in (f.0, omega (arith, low), f.2, f.3)
+    | inr e ↦ (block, omega arith, passes, is ∙ ap (λ (x : Name). Some x) e)
+  ];
+  all = λ b m low p e. elim (cases_eq b block) [
+    | inl at ↦
+        let same : Some n ≡ Some m = sym is ∙ ap name (sym at) ∙ e in
+        let one : n ≡ m = cc in
+        subst (λ (x : Name). Contains (h.added ++ n ∷ []) x) one (Contains-push h.added n)
+    | inr other ↦ Contains-append_left h.added (n ∷ []) m (h.all b m (omega (arith, low, other)) p e)
+  ];
+  once = λ once. distinct_append h.added (n ∷ []) (h.once once) ((λ c. absurd (omega (arith, c.1))), tt) (λ m l r. elim (contains_cases n [] m r) [
+    | inl e ↦
+        let f = h.from m l in
+        let same : f.0 ≡ block = once f.0 block m f.2 passes f.3 (is ∙ ap (λ (x : Name). Some x) e) in
+        let low = f.1 in
+        omega (arith, low, same)
+    | inr none ↦ absurd (omega (arith, none.1))
+  ]);
+}
+  where
+    append_two : (xs bs cs : List Name) → (xs ++ bs) ++ cs ≡ xs ++ (bs ++ cs)
+    append_two [] bs cs = refl
+    append_two (a ∷ xs) bs cs = ap (λ (l : List Name). a ∷ l) (append_two xs bs cs)
+
+-- the place of a block that waits, from that of its segment and the words of a block
+pub placed_at : (layout told : Layout) (number class given block base size : ℕ) → told ≡ layout → given ≡ class → base ≡ segment_place told number → size ≡ block_size given → base + block * size ≡ block_place layout number class block
+placed_at layout told number class given block base size e f b s =
+    ap (λ (x : ℕ). x + block * size) b ∙ ap (λ (x : ℕ). segment_place told number + block * x) s
+    ∙ ap (λ (l : Layout). segment_place l number + block * block_size given) e ∙ ap (λ (k : ℕ). block_place layout number k block) f
+
+-- it lies below the nurseries
+pub place_low : (s : Segments) (number block : ℕ) → IsSegments s → HasNumber s number → IsWaiting s number → block < block_count (nth s.segments number) → block_place s.layout number (nth s.segments number).class block < FIRST_PLACE + s.layout.segments * s.layout.words
+place_low s number block sound there waits within =
+    let at = block_place s.layout number (nth s.segments number).class block in
+    let begins : IsBlockAt s number block at = record { exists = there; used = (λ free. let f : Sweeping ≡ Free = sym waits ∙ free in cc); within = within; place = refl } in
+    let four = large (nth s.segments number).class in
+    let i = lies_in s number block at at sound begins (omega arith) (omega (arith, four)) in
+    let exists = i.exists in
+    let before = i.before in
+    let up : (number + 1) * s.layout.words ≤ s.layout.segments * s.layout.words = let e : number + 1 ≤ s.layout.segments = omega (arith, exists) in mul-le-mul_right s.layout.words e in
+    omega (arith, before, up)
+
+-- so it has an entry
+pub place_named : (s : Segments) (names : List Name) (number block : ℕ) → IsSegments s → HasNumber s number → IsWaiting s number → block < block_count (nth s.segments number) → HaveEntries s.layout names → entry_of (block_place s.layout number (nth s.segments number).class block) < length names
+place_named s names number block sound there waits within enough =
+    let at = block_place s.layout number (nth s.segments number).class block in
+    let begins : IsBlockAt s number block at = record { exists = there; used = (λ free. let f : Sweeping ≡ Free = sym waits ∙ free in cc); within = within; place = refl } in
+    let low = place_low s number block sound there waits within in
+    entry_there at (length names) (place_above s number block at sound begins) (omega (arith, low, enough))
+
+-- and fits into a place's 32 bits
+pub place_fits : (s : Segments) (number block : ℕ) → IsSegments s → HasNumber s number → IsWaiting s number → block < block_count (nth s.segments number) → block_place s.layout number (nth s.segments number).class block < 2 ^ 32
+place_fits s number block sound there waits within =
+    let low = place_low s number block sound there waits within in
+    let heap = sound.layout.heap in
+    omega (arith, low, heap)
+
+-- a segment is so many of the least blocks
+pub whole_words : (words : ℕ) → IsSegmentSize words → MIN_BLOCK_WORDS * (words / MIN_BLOCK_WORDS) ≡ words
+whole_words words size =
+    let least = size.least in
+    let none : words % 4 ≡ 0 = none_left words 0 size (omega (arith, least)) (inl refl) in
+    omega (arith, none)
+
+-- so many entries are enough
+pub entries_enough : (segments words n : ℕ) → IsSegmentSize words → n ≡ segments * (words / MIN_BLOCK_WORDS) → segments * words ≤ MIN_BLOCK_WORDS * n
+entries_enough segments words n size e =
+    let q = words / MIN_BLOCK_WORDS in
+    let whole : 4 * q ≡ words = whole_words words size in
+    let all : segments * (4 * q) ≡ segments * words = ap (λ (x : ℕ). segments * x) whole in
+    omega (arith, all, e)
+
+-- no segment has more blocks than so many of the least
+pub few_in_segment : (s : Segments) (number : ℕ) → IsSegments s → HasNumber s number → MIN_BLOCK_WORDS * block_count (nth s.segments number) ≤ s.layout.words
+few_in_segment s number sound there =
+    let few = few_blocks (nth s.segments number) in
+    let words : MIN_BLOCK_WORDS * length (nth s.segments number).marks ≡ s.layout.words = (sound.members number there).words in
+    omega (arith, few, words)
+
+-- the first that is left, and the others
+
+drop_first : (numbers : List ℕ) (done number : ℕ) → done < length numbers → number ≡ slice_index_or numbers done number → drop done numbers ≡ number ∷ drop (done + 1) numbers
+drop_first [] done number low e = absurd (omega (arith, low))
+drop_first (x ∷ xs) zero number low e = ap (λ (n : ℕ). n ∷ xs) (sym e)
+drop_first (x ∷ xs) (suc done) number low e = drop_first xs done number (omega (arith, low)) e ∙ ap (λ (k : ℕ). number ∷ drop k (x ∷ xs)) (let f : suc (done + 1) ≡ suc done + 1 = omega arith in f)
+
+drop_past : (numbers : List ℕ) (done : ℕ) → length numbers ≤ done → drop done numbers ≡ []
+drop_past [] zero past = refl
+drop_past [] (suc done) past = refl
+drop_past (x ∷ xs) zero past = absurd (omega (arith, past))
+drop_past (x ∷ xs) (suc done) past = drop_past xs done (omega (arith, past))
+
+pub some_left : (numbers : List ℕ) (done : ℕ) → drop done numbers ≢ [] → done < length numbers
+some_left numbers done some = elim (cases_lt done (length numbers)) [ inl low ↦ low | inr past ↦ absurd (some (drop_past numbers done past)) ]
+
+pub left_some : (numbers : List ℕ) (done : ℕ) → done < length numbers → drop done numbers ≢ []
+left_some [] done low e = omega (arith, low)
+left_some (x ∷ xs) zero low e = cc
+left_some (x ∷ xs) (suc done) low e = left_some xs done (omega (arith, low)) e
+
+pub taken : (numbers : List ℕ) (done number : ℕ) (left : List ℕ) → drop done numbers ≡ left → left ≢ [] → number ≡ slice_index_or numbers done number → drop done numbers ≡ number ∷ drop (done + 1) numbers
+taken numbers done number left e some is = drop_first numbers done number (some_left numbers done (λ none. some (sym e ∙ none))) is
+
+-- it waits
+pub first_waits : (s : Segments) (x : Sweeper) (numbers : List ℕ) (done first : ℕ) → drop done numbers ≡ x.left → CanList s x → x.left ≢ [] → first ≡ slice_index_or numbers done first → IsWaiting s first
+first_waits s x numbers done first is can some at =
+    let rest : List ℕ = drop (done + 1) numbers in
+    let split : x.left ≡ first ∷ rest = sym is ∙ taken numbers done first x.left is some at in
+    can.waits first (subst (λ (l : List ℕ). Contains l first) (sym split) (contains_head first rest))
+
+-- there is room for what is in one segment more, and afterwards for that of the others
+
+pub room_for_one : (count done most words len capacity : ℕ) → done < count → words ≤ MIN_BLOCK_WORDS * most → len + (count - done) * most ≤ capacity → MIN_BLOCK_WORDS * len + words ≤ MIN_BLOCK_WORDS * capacity
+room_for_one count done most words len capacity low few room =
+    let one : 1 * most ≤ (count - done) * most = let some : 1 ≤ count - done = omega (arith, low) in mul-le-mul_right most some in
+    let same : 1 * most ≡ most = omega arith in
+    omega (arith, one, same, few, room)
+
+pub room_for_others : (count done most words len after capacity capacity_after : ℕ) → done < count → words ≤ MIN_BLOCK_WORDS * most → len + (count - done) * most ≤ capacity → MIN_BLOCK_WORDS * after ≤ MIN_BLOCK_WORDS * len + words → capacity_after ≡ capacity → after + (count - (done + 1)) * most ≤ capacity_after
+room_for_others count done most words len after capacity capacity_after low few room more same =
+    let rest = count - (done + 1) in
+    let whole : count - done ≡ rest + 1 = omega (arith, low) in
+    let split : (count - done) * most ≡ (rest + 1) * most = ap (λ (k : ℕ). k * most) whole in
+    let parts : (rest + 1) * most ≡ rest * most + most = omega arith in
+    omega (arith, split, parts, few, room, more, same)
+
+-- the segments below a number that wait
+
+pub none_below : (s : Segments) → ListsNumbers (λ n. (n < 0) × IsWaiting s n) []
+none_below s = record { ordered = tt; sound = λ n c. absurd (omega (arith, c.1)); complete = λ n h. let low = h.0 in absurd (omega (arith, low)) }
+
+pub below_skip : (s : Segments) (number : ℕ) (numbers : List ℕ) → (IsWaiting s number → ⊥) → ListsNumbers (λ n. (n < number) × IsWaiting s n) numbers → ListsNumbers (λ n. (n < number + 1) × IsWaiting s n) numbers
+below_skip s number numbers not_waiting h = record {
+  ordered = h.ordered;
+  sound = λ n c. let was = h.sound n c in let low = was.0 in (omega (arith, low), was.1);
+  complete = λ n is. elim (cases_eq n number) [
+    | inl e ↦ absurd (not_waiting (subst (λ (k : ℕ). IsWaiting s k) e is.1))
+    | inr other ↦ let low = is.0 in h.complete n (omega (arith, low, other), is.1)
+  ];
+}
+
+pub below_more : (s : Segments) (number : ℕ) (numbers : List ℕ) → IsWaiting s number → ListsNumbers (λ n. (n < number) × IsWaiting s n) numbers → ListsNumbers (λ n. (n < number + 1) × IsWaiting s n) (numbers ++ number ∷ [])
+below_more s number numbers waits h = record {
+  ordered = ascends_push numbers number h.ordered (λ n c. (h.sound n c).0);
+  sound = λ n c. elim (Contains-push_cases numbers number n c) [
+    | inl old ↦ let was = h.sound n old in let low = was.0 in (omega (arith, low), was.1)
+    | inr e ↦ (omega (arith, e), subst (λ (k : ℕ). IsWaiting s k) e waits)
+  ];
+  complete = λ n is. elim (cases_eq n number) [
+    | inl e ↦ subst (λ (k : ℕ). Contains (numbers ++ number ∷ []) k) (sym e) (Contains-push numbers number)
+    | inr other ↦ let low = is.0 in Contains-append_left numbers (number ∷ []) n (h.complete n (omega (arith, low, other), is.1))
+  ];
+}
+
+pub below_all : (s : Segments) (number : ℕ) (numbers : List ℕ) → length s.segments ≤ number → ListsNumbers (λ n. (n < number) × IsWaiting s n) numbers → ListsNumbers (IsWaiting s) numbers
+below_all s number numbers past h = record {
+  ordered = h.ordered;
+  sound = λ n c. (h.sound n c).1;
+  complete = λ n is. let low = waits_exists s.segments n is in h.complete n (omega (arith, low, past), is);
+}

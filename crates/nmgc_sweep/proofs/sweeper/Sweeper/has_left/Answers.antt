@@ -1,0 +1,19 @@
+use Rattle.std.proofs.Common.{ℕ, ◌≡◌, ◌∙◌, ◌<◌, List, [], length, drop, ap, subst, sym}
+use Rattle.std.proofs.lemmas.Bool.{lt-ltb}
+use Rattle.nmgc_sweep.proofs.Listed.{left_some, some_left}
+use Rattle.nmgc_sweep.specs.Sweeper.{Sweeper}
+use Rattle.nmgc_sweep.specs.laws.Order.{lt_true}
+use Rattle.nmgc_sweep.proofs.sweeper.Sweeper.has_left.Goals as goal
+
+pub returns : goal.returns
+returns c =
+    let numbers : List ℕ = c.self.inside.swept.items in
+    let left : drop c.self.inside.done numbers ≡ c.args.self.now.left = ap (λ (s : Sweeper). s.left) c.self.view_is in
+    let many : c.len.result ≡ length numbers = c.len.ensures ∙ c.self.inside.swept.ok.0 in (
+      (λ less none.
+          let low = lt_true c.self.inside.done c.len.result less in
+          left_some numbers c.self.inside.done (subst (λ (n : ℕ). c.self.inside.done < n) many low) (left ∙ none)),
+      (λ some.
+          let low = some_left numbers c.self.inside.done (λ none. some (sym left ∙ none)) in
+          lt-ltb c.self.inside.done c.len.result (subst (λ (n : ℕ). c.self.inside.done < n) (sym many) low)),
+    )

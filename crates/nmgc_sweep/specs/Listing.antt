@@ -1,0 +1,17 @@
+-- What a sweeper lists of a segment.
+use Rattle.std.specs.Prelude.{ℕ, ◌≡◌, ◌<◌, ◌++◌, List, Contains, Option, Some}
+use Rattle.nmgc_graph.specs.declared.value.Name.{Name}
+use Rattle.nmgc_segment.specs.Segment.{Segment, InUse, IsMarked}
+use Rattle.nmgc_run.specs.Listing.{AreDistinct}
+
+-- names were listed behind those before: the names of the blocks below a number that pass, each once where no two of these blocks have one name
+pub record ListsBlocks (Passes : ℕ → Type 0) (name : ℕ → Option Name) (below : ℕ) (old new : List Name) : Type 0 where
+  pub added : List Name
+  pub is : new ≡ old ++ added
+  pub from : (n : Name) → Contains added n → (block : ℕ) × (block < below) × Passes block × (name block ≡ Some n)
+  pub all : (block : ℕ) (n : Name) → block < below → Passes block → name block ≡ Some n → Contains added n
+  pub once : ((a b : ℕ) (n : Name) → Passes a → Passes b → name a ≡ Some n → name b ≡ Some n → a ≡ b) → AreDistinct added
+
+-- a block in use that a sweep of the epoch doesn't leave in use
+abbrev pub IsLost : Segment → ℕ → ℕ → Type 0
+IsLost segment epoch block = InUse segment block × (IsMarked segment epoch block → ⊥)

@@ -1,0 +1,55 @@
+//! The names in a segment that is about to be swept: all of them, and those that the sweep frees.
+//!
+//! Which blocks are in use and which of these are marked is known before the sweep alone: it clears the marks and leaves
+//! in use exactly what was marked with its epoch.
+ghost use Rattle.std.specs.Prelude.{◌≡◌, ◌+◌, ◌*◌, ◌≤◌, vec_len, vec_capacity};
+ghost use Rattle.nmgc_object.specs.declared.size.TheConstants.{MIN_BLOCK_WORDS as LEAST};
+ghost use Rattle.nmgc_segment.specs.Marks.{IsEpoch};
+ghost use Rattle.nmgc_segment.specs.Segment.{InUse, block_count};
+ghost use Rattle.nmgc_alloc.specs.Search.{nth};
+ghost use Rattle.nmgc_alloc.specs.Segments.{HasNumber, IsWaiting};
+ghost use Rattle.nmgc_sweep.specs.Listing.{ListsBlocks, IsLost};
+ghost use Rattle.nmgc_sweep.specs.Names.{HaveEntries, named_at};
+
+use crate::names::Names;
+use nmgc_alloc::Segments;
+use nmgc_graph::Name;
+use nmgc_object::{Address, block_words};
+
+/// Lists the names of the blocks in use of a segment that waits to be swept, and again those of the blocks that aren't
+/// marked with the epoch. There has to be room for as many as a segment may have. Takes time for the blocks of the segment.
+pub(crate) fn list_segment(
+    names: &Names,
+    segments: &Segments,
+    number: u32,
+    epoch: u8,
+    had: &mut Vec<Name>,
+    freed: &mut Vec<Name>,
+)
+    requires exists { HasNumber segments.now number }
+    requires waits { IsWaiting segments.now number }
+    requires epoch { IsEpoch epoch }
+    requires entries { HaveEntries segments.now.layout names.now }
+    requires had { LEAST * vec_len had.old + segments.now.layout.words ≤ LEAST * vec_capacity had.old }
+    requires freed { LEAST * vec_len freed.old + segments.now.layout.words ≤ LEAST * vec_capacity freed.old }
+    ensures had { ListsBlocks (InUse (nth segments.now.segments number)) (named_at segments.now.layout names.now number (nth segments.now.segments number).class) (block_count (nth segments.now.segments number)) had.old.items had.new.items }
+    ensures had_room { vec_capacity had.new ≡ vec_capacity had.old }
+    ensures had_few { LEAST * vec_len had.new ≤ LEAST * vec_len had.old + segments.now.layout.words }
+    ensures freed { ListsBlocks (IsLost (nth segments.now.segments number) epoch) (named_at segments.now.layout names.now number (nth segments.now.segments number).class) (block_count (nth segments.now.segments number)) freed.old.items freed.new.items }
+    ensures freed_room { vec_capacity freed.new ≡ vec_capacity freed.old }
+    ensures freed_few { LEAST * vec_len freed.new ≤ LEAST * vec_len freed.old + segments.now.layout.words }
+{
+    let base = segments.layout().segment_base(number);
+    let segment = segments.segment(number);
+    let size = block_words(segment.class());
+    let blocks = segment.blocks();
+    for block in 0..blocks {
+        if segment.in_use(block) {
+            let name = names.at(Address(base + block * size));
+            had.push_reserved(name);
+            if !segment.is_marked(block, epoch) {
+                freed.push_reserved(name);
+            }
+        }
+    }
+}

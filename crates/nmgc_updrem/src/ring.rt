@@ -1,0 +1,190 @@
+//! A ring of blocks from a mutator to the collector, and its two ends.
+//!
+//! The mutator puts full blocks in beside the collector, which takes them out; neither waits for the other. Each
+//! end knows what it did itself. What the other did it learns where one thread has both, at a stop: what was
+//! received and what the ring holds are then exactly what was sent, in order.
+//!
+//! A stop ends with an empty ring. What a mutator sent since is told by `since`: it is counted from when both ends
+//! were last found level, which a value without bytes remembers (`level`).
+//!
+//! Easy to get wrong: a sender that finds no slot keeps its block. The mark of an object whose place is lost is lost.
+ghost use Rattle.std.specs.Prelude.{◌≡◌, ◌+◌, ◌<◌, ◌≤◌, ◌↔◌, [], ◌++◌, length, IsTrue, IsFalse, IsNone, IfOk, IfSome, IfNone, OnOk, OnErr, vec_len, vec_capacity};
+ghost use Rattle.nmgc_updrem.specs.declared.block.TheConstants.{BLOCK_ENTRIES};
+ghost use Rattle.nmgc_updrem.specs.declared.polled.Polled.TheVariants.{NoRoom};
+ghost use Rattle.nmgc_updrem.specs.declared.ring.TheConstants.{RING_BLOCKS};
+ghost use Rattle.nmgc_updrem.specs.Rings.{IsPair, AreNew, HasSent, HasLooked, HasReceived, KnowsNone, Polls, HasMet, TakesRest, IsLevel};
+
+use crate::block::{BLOCK_ENTRIES, UpdBlock};
+use crate::level::Level;
+use crate::polled::Polled;
+use nmgc_graph::NoMemory;
+use nmgc_object::Address;
+use rtrb::{Consumer, Producer, RingBuffer};
+use std::alloc::Global;
+use std::marker::Model;
+
+/// How many blocks a ring has room for.
+pub const RING_BLOCKS: usize = 64;
+
+/// The end of a ring into which a mutator puts blocks. It may move to another thread.
+#[derive(Drop)]
+pub struct UpdSender {
+    producer: Producer<UpdBlock>,
+    // The producer as both ends were last found level. It has no bytes.
+    level: Level<Producer<UpdBlock>>,
+}
+
+impl Model for UpdSender {
+    ghost use Rattle.std.specs.Prelude.{◌≤◌, take, drop, length};
+    ghost use Rattle.rtrb.specs.Ring.{sent, known_free};
+    ghost use Rattle.nmgc_updrem.specs.Rings.{Sender, entries_of};
+
+    ghost Value = { Sender };
+
+    ghost view = { λ s. record {
+      ring = record { words = s.producer.end.words; slots = s.producer.end.slots; names = s.producer.end.names; heap = s.producer.end.heap };
+      before = entries_of (take (length (sent s.level.value)) (sent s.producer));
+      since = entries_of (drop (length (sent s.level.value)) (sent s.producer));
+      free = known_free s.producer;
+    } };
+
+    ghost invariant = { λ s. length (sent s.level.value) ≤ length (sent s.producer) };
+}
+
+/// The end from which the collector takes blocks, with a list of entries. It may move to another thread.
+#[derive(Drop)]
+pub struct UpdReceiver {
+    consumer: Consumer<UpdBlock>,
+    entries: Vec<Address>,
+}
+
+impl Model for UpdReceiver {
+    ghost use Rattle.std.specs.Prelude.{◌-◌, vec_len, vec_capacity};
+    ghost use Rattle.rtrb.specs.Ring.{received, known_items};
+    ghost use Rattle.nmgc_updrem.specs.Rings.{Receiver, entries_of};
+
+    ghost Value = { Receiver };
+
+    ghost view = { λ r. record {
+      ring = record { words = r.consumer.end.words; slots = r.consumer.end.slots; names = r.consumer.end.names; heap = r.consumer.end.heap };
+      received = entries_of (received r.consumer);
+      known = entries_of (known_items r.consumer);
+      taken = record { items = r.entries.items; spare = vec_capacity r.entries - vec_len r.entries };
+    } };
+}
+
+/// A ring with room for `RING_BLOCKS` blocks, empty. Takes its memory at once, and no more later but for `reserve`.
+pub fn link(alloc: Global) -> Result<(UpdSender, UpdReceiver), NoMemory>
+    ensures { IfOk result (λ ends. AreNew RING_BLOCKS ends.0 ends.1) }
+{
+    let (producer, consumer) = RingBuffer::new(alloc, RING_BLOCKS)?;
+    let level = Level::of(&producer);
+    let receiver = UpdReceiver {
+        consumer,
+        entries: Vec::new(alloc),
+    };
+    Ok((UpdSender { producer, level }, receiver))
+}
+
+impl UpdSender {
+    // Puts a block into the ring, and answers whether it did. It didn't only where this end knew of no free slot.
+    pub(crate) fn send(&mut self, block: UpdBlock) -> bool
+        ensures sent { IsTrue result → HasSent self.old self.new block }
+        ensures full { IsFalse result → HasLooked self.old self.new × (self.new.free ≡ 0) }
+        ensures succeeds { 0 < self.old.free → IsTrue result }
+    {
+        self.producer.push(block).is_ok()
+    }
+}
+
+impl UpdReceiver {
+    /// Takes the oldest block out of the ring. `None` comes only where this end knew of no block as it looked. Takes no
+    /// memory, constant time, and waits for nobody.
+    pub fn take(&mut self) -> Option<UpdBlock>
+        ensures some { IfSome result (λ block. HasReceived self.old self.new block × (self.new.taken ≡ self.old.taken)) }
+        ensures none { IfNone result (KnowsNone self.old self.new) }
+    {
+        match self.consumer.pop() {
+            Ok(block) => Some(block),
+            Err(_) => None,
+        }
+    }
+
+    // Makes room for so many more entries.
+    pub(crate) fn reserve(&mut self, entries: u32) -> Result<(), NoMemory>
+        ensures rest { self.new ≡ record self.old { taken = self.new.taken } }
+        ensures items { self.new.taken.items ≡ self.old.taken.items }
+        ensures ok { OnOk result (entries ≤ self.new.taken.spare) }
+        ensures kept { self.old.taken.spare ≤ self.new.taken.spare }
+        ensures err { OnErr result (self.new ≡ self.old) }
+    {
+        self.entries.reserve(entries as usize)?;
+        Ok(())
+    }
+
+    // Takes a block out of the ring, if the list has room for it.
+    pub(crate) fn poll(&mut self) -> Polled
+        ensures polls { Polls self.old self.new result }
+        ensures room { (result ≡ NoRoom) ↔ (self.old.taken.spare < BLOCK_ENTRIES) }
+    {
+        if self.entries.capacity() - self.entries.len() < BLOCK_ENTRIES {
+            return Polled::NoRoom;
+        }
+        match self.consumer.pop() {
+            Ok(block) => {
+                append(&mut self.entries, &block);
+                Polled::Took
+            }
+            Err(_) => Polled::Nothing,
+        }
+    }
+
+    // The entries of the list.
+    pub(crate) fn entries(&self) -> &[Address]
+        ensures { result.now ≡ self.now.taken.items }
+    {
+        self.entries.as_slice()
+    }
+
+    // Empties the list. The room stays.
+    pub(crate) fn clear(&mut self)
+        ensures rest { self.new ≡ record self.old { taken = self.new.taken } }
+        ensures items { self.new.taken.items ≡ [] }
+        ensures kept { self.new.taken.spare ≡ self.old.taken.spare + length self.old.taken.items }
+    {
+        self.entries.clear();
+    }
+
+    // Looks what the ring has, by a thread that has both ends.
+    pub(crate) fn meet(&mut self, sender: &mut UpdSender)
+        requires { IsPair sender.old self.old }
+        ensures { HasMet self.old self.new sender.old sender.new }
+    {
+        self.consumer.slots_beside(&mut sender.producer);
+    }
+
+    // Takes the oldest block out of the ring, by a thread that has both ends.
+    pub(crate) fn take_rest(&mut self, sender: &mut UpdSender) -> Option<UpdBlock>
+        requires { IsPair sender.old self.old }
+        ensures some { IfSome result (λ block. TakesRest self.old self.new sender.old sender.new block) }
+        ensures none { IfNone result (IsLevel self.old self.new sender.old sender.new) }
+    {
+        if self.consumer.slots_beside(&mut sender.producer) == 0 {
+            sender.level = Level::of(&sender.producer);
+            return None;
+        }
+        Some(self.consumer.pop_known())
+    }
+}
+
+// The entries of a block join a list that has room for them.
+fn append(entries: &mut Vec<Address>, block: &UpdBlock)
+    requires { vec_len entries.old + BLOCK_ENTRIES ≤ vec_capacity entries.old }
+    ensures items { entries.new.items ≡ entries.old.items ++ block.now }
+    ensures len { vec_len entries.new ≡ vec_len entries.old + BLOCK_ENTRIES }
+    ensures capacity { vec_capacity entries.old ≤ vec_capacity entries.new }
+{
+    if entries.extend_from_slice(block.entries()).is_err() {
+        unreachable!()
+    }
+}

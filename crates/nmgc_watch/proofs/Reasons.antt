@@ -1,0 +1,115 @@
+-- What has a reason can't happen.
+use Rattle.std.proofs.Common.{◌≡◌, ℕ, List, [], ◌∷◌, refl, sym, ap, subst, ◌∙◌, Option, Some, None, inl, inr, ◌⊎◌}
+use Rattle.std.specs.Prelude.{Contains, slice_get, IsSome}
+use Rattle.nmgc_graph.specs.declared.value.Name.{Name}
+use Rattle.nmgc_graph.specs.declared.command.Command.{Command}
+use Rattle.nmgc_graph.specs.declared.command.Reply.{Reply}
+use Rattle.nmgc_graph.specs.World.{World, IsWorld}
+use Rattle.nmgc_graph.specs.Step.{CanApply, step}
+use Rattle.nmgc_lax.specs.declared.debt.Debt.{Debt}
+use Rattle.nmgc_lax.specs.Cycle.{Cycle}
+use Rattle.nmgc_lax.specs.laws.Beside.{barrier_theorem}
+use Rattle.nmgc_watch.specs.declared.event.Event.{Event}
+use Rattle.nmgc_watch.specs.declared.event.Event.TheVariants as event
+use Rattle.nmgc_watch.specs.declared.event.Why.{Why}
+use Rattle.nmgc_watch.specs.declared.event.Why.TheVariants as why
+use Rattle.nmgc_watch.specs.declared.left.Left.{Left}
+use Rattle.nmgc_watch.specs.declared.watch.Watch.{Watch}
+use Rattle.nmgc_watch.specs.declared.watch.Watch.TheVariants as watch
+use Rattle.nmgc_watch.specs.Cycles.{IsWhyNot}
+use Rattle.nmgc_watch.specs.Watching.{WhyGive, CanGive, WhyMark, CanMark, WhyPush, CanPush, WhySettle, CanSettle, WhyTake, CanTake, WhyClose, CanClose, WhyCloseTold, CanCloseTold, WhyMarked, CanMarked, WhyFreed, CanFreed, WhyStop, CanStop, IsWhy, Can, ReasonsRefuse, ClosedIsExact}
+
+no_command : (w : World) (m : ℕ) (c : Command) (answer : Reply) (y : Why) → IsWhyNot w m c answer y → CanApply w m c → (step w m c).1 ≡ answer → ⊥
+no_command w m c answer why.CannotApply h can says = h can
+no_command w m c answer (why.Answer r) h can says = h.2 (sym h.1 ∙ says)
+no_command w m c answer why.Misplaced h can says = h
+no_command w m c answer (why.NoSuchName n) h can says = h
+no_command w m c answer (why.Due debt) h can says = h
+no_command w m c answer (why.NotPushed n) h can says = h
+no_command w m c answer (why.NotDead n) h can says = h
+no_command w m c answer (why.NotTold n) h can says = h
+no_command w m c answer (why.NotMarked n) h can says = h
+no_command w m c answer (why.Needed n) h can says = h
+
+no_give : (line m : ℕ) (c : Command) (answer : Reply) (p : Watch) (y : Why) (next : Watch) → WhyGive m c answer p y → CanGive line m c answer p next → ⊥
+no_give line m c answer (watch.Between w) y next h g = no_command w m c answer y h g.1.0 g.1.1
+no_give line m c answer (watch.Marking k) y next h g = no_command k.world m c answer y h g.1.can g.1.says
+no_give line m c answer (watch.Ended left) y next h g = no_command left.world m c answer y h g.1.0 g.1.1
+no_give line m c answer watch.Stopped y next h g = g
+
+no_mark : (p : Watch) (y : Why) (next : Watch) → WhyMark p y → CanMark p next → ⊥
+no_mark (watch.Between w) y next h g = h
+no_mark (watch.Marking k) y next h g = g
+no_mark (watch.Ended left) y next h g = h
+no_mark watch.Stopped y next h g = g
+
+no_push : (name : Name) (p : Watch) (y : Why) (next : Watch) → WhyPush name p y → CanPush name p next → ⊥
+no_push name (watch.Between w) y next h g = g
+no_push name (watch.Marking k) y next h g = h.1 g.1.there
+no_push name (watch.Ended left) y next h g = g
+no_push name watch.Stopped y next h g = g
+
+no_settle : (m : ℕ) (p : Watch) (y : Why) (next : Watch) → WhySettle m p y → CanSettle m p next → ⊥
+no_settle m (watch.Between w) y next h g = g
+no_settle m (watch.Marking k) y next h g = g.0 h.0 h.2 h.3
+no_settle m (watch.Ended left) y next h g = g
+no_settle m watch.Stopped y next h g = g
+
+no_first : (debts : List Debt) (d : Debt) → slice_get debts 0 ≡ Some d → debts ≡ [] → ⊥
+no_first debts d e none = let bad : None ≡ Some d = subst (λ (l : List Debt). slice_get l 0 ≡ Some d) none e in cc
+
+no_close : (p : Watch) (y : Why) (next : Watch) → WhyClose p y → CanClose p next → ⊥
+no_close (watch.Between w) y next h g = g
+no_close (watch.Marking k) y next h g = no_first k.debts h.0 h.2 g.1.ends.debts
+no_close (watch.Ended left) y next h g = g
+no_close watch.Stopped y next h g = g
+
+no_take : (name : Name) (p : Watch) (y : Why) (next : Watch) → WhyTake name p y → CanTake name p next → ⊥
+no_take name (watch.Between w) y next h g = g
+no_take name (watch.Marking k) y next h g = h.1 g.0 g.1
+no_take name (watch.Ended left) y next h g = g
+no_take name watch.Stopped y next h g = g
+
+no_close_told : (told : List Name) (p : Watch) (y : Why) (next : Watch) → WhyCloseTold told p y → CanCloseTold told p next → ⊥
+no_close_told told (watch.Between w) y next h g = g
+no_close_told told (watch.Marking k) y next (inl h) g = no_first k.debts h.0 h.2 g.1.ends.debts
+no_close_told told (watch.Marking k) y next (inr h) g = h.3 (g.1.ends.may h.0 h.2)
+no_close_told told (watch.Ended left) y next h g = g
+no_close_told told watch.Stopped y next h g = g
+
+no_marked : (names : List Name) (p : Watch) (y : Why) (next : Watch) → WhyMarked names p y → CanMarked names p next → ⊥
+no_marked names (watch.Between w) y next h g = g
+no_marked names (watch.Marking k) y next h g = g
+no_marked names (watch.Ended left) y next (inl h) g = h.2.1 ((g.0 h.0).1 h.2.0)
+no_marked names (watch.Ended left) y next (inr h) g = h.2.1 ((g.0 h.0).0 h.2.0)
+no_marked names watch.Stopped y next h g = g
+
+no_freed : (names : List Name) (p : Watch) (y : Why) (next : Watch) → WhyFreed names p y → CanFreed names p next → ⊥
+no_freed names (watch.Between w) y next h g = g
+no_freed names (watch.Marking k) y next h g = g
+no_freed names (watch.Ended left) y next (inl h) g = h.3 (g.0 h.0 h.2).0
+no_freed names (watch.Ended left) y next (inr h) g = (g.0 h.0 h.2).1 h.3
+no_freed names watch.Stopped y next h g = g
+
+no_stop : (p : Watch) (y : Why) (next : Watch) → WhyStop p y → CanStop p next → ⊥
+no_stop (watch.Between w) y next h g = g
+no_stop (watch.Marking k) y next h g = g
+no_stop (watch.Ended left) y next h g = h
+no_stop watch.Stopped y next h g = g
+
+pub reasons_refuse : ReasonsRefuse
+reasons_refuse line p (event.Given m c answer) y next h g = no_give line m c answer p y next h g
+reasons_refuse line p event.Mark y next h g = no_mark p y next h g
+reasons_refuse line p (event.Push name) y next h g = no_push name p y next h g
+reasons_refuse line p (event.Settle m) y next h g = no_settle m p y next h g
+reasons_refuse line p (event.Take name) y next h g = no_take name p y next h g
+reasons_refuse line p event.Close y next h g = no_close p y next h g
+reasons_refuse line p (event.CloseTold dead) y next h g = no_close_told dead p y next h g
+reasons_refuse line p (event.Marked names) y next h g = no_marked names p y next h g
+reasons_refuse line p (event.Freed names) y next h g = no_freed names p y next h g
+reasons_refuse line p event.Stop y next h g = no_stop p y next h g
+
+pub closed_is_exact : ClosedIsExact
+closed_is_exact h left l w is s next b possible closing name =
+    let e = (barrier_theorem w is h s b).marks next possible closing name in
+    (λ m. l.kept.complete name (e.0 m), λ c. e.1 (l.kept.sound name c))

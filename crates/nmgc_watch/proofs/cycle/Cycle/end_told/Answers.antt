@@ -1,0 +1,6 @@
+use Rattle.std.proofs.Common.{◌∙◌, sym}
+use Rattle.nmgc_watch.proofs.CycleLaws.{none_first}
+use Rattle.nmgc_watch.proofs.cycle.Cycle.end_told.Goals as goal
+
+pub left_told-requires : goal.left_told-requires
+left_told-requires c = rw c.first_debt.ensures.same (none_first _ (sym c.first_debt.ensures.first ∙ c.in-None.is))

@@ -1,0 +1,14 @@
+use Rattle.std.proofs.Common.{◌≡◌, ℕ, length}
+use Rattle.std.specs.Prelude.{Contains}
+use Rattle.nmgc_lax.specs.declared.debt.Debt.{Debt}
+use Rattle.nmgc_watch.specs.Cycles.{unpaid}
+use Rattle.nmgc_watch.proofs.cycle.forget_paid.Given as goal
+
+abbrev pub invariant-loop-debt : goal.invariant-loop-debt
+invariant-loop-debt l = record {
+  same : unpaid l.marks l.debts ≡ unpaid l.marks l.fn.debts;
+  fewer : (d : Debt) → Contains l.debts d → Contains l.fn.debts d;
+}
+
+abbrev pub decreases-loop-debt : goal.decreases-loop-debt
+decreases-loop-debt l = length l.debts

@@ -1,0 +1,6 @@
+use Rattle.std.proofs.Common.{◌≡◌, take}
+use Rattle.nmgc_watch.specs.Dues.{targets}
+use Rattle.nmgc_watch.proofs.cycle.found.Given as goal
+
+abbrev pub invariant-loop-field : goal.invariant-loop-field
+invariant-loop-field l = l.names.items ≡ targets (take l.field-index l.lost)

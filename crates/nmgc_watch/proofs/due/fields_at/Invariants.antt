@@ -1,0 +1,11 @@
+use Rattle.std.proofs.Common.{◌≡◌, ◌≤◌, ◌<◌, true}
+use Rattle.std.specs.Prelude.{Contains}
+use Rattle.nmgc_watch.specs.declared.due.Field.{Field}
+use Rattle.nmgc_watch.specs.Dues.{stands_in}
+use Rattle.nmgc_watch.proofs.due.fields_at.Given as goal
+
+abbrev pub invariant-loop-place : goal.invariant-loop-place
+invariant-loop-place l = record {
+  sound : (f : Field) → Contains l.fields f → (stands_in l.snapshot f ≡ true) × (stands_in l.world f ≡ true);
+  all : (f : Field) → f.name ≡ l.name → l.first ≤ f.place → f.place < l.place → stands_in l.snapshot f ≡ true → stands_in l.world f ≡ true → Contains l.fields f;
+}

@@ -1,0 +1,7 @@
+use Rattle.std.proofs.Common.{◌≡◌, take, not}
+use Rattle.std.specs.Prelude.{filter}
+use Rattle.nmgc_watch.specs.Dues.{stands_in}
+use Rattle.nmgc_watch.proofs.due.gone.Given as goal
+
+abbrev pub invariant-loop-field : goal.invariant-loop-field
+invariant-loop-field l = l.gone ≡ filter (λ f. not (stands_in l.world f)) (take l.field-index l.fields)

@@ -1,0 +1,6 @@
+use Rattle.std.proofs.Common.{◌≡◌, take}
+use Rattle.nmgc_watch.specs.Dues.{kept_then}
+use Rattle.nmgc_watch.proofs.due.kept_then.Given as goal
+
+abbrev pub invariant-loop-weak : goal.invariant-loop-weak
+invariant-loop-weak l = l.names.items ≡ kept_then l.snapshot (take l.weak-index l.weaks)

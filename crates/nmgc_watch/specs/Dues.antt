@@ -1,0 +1,89 @@
+-- How it is found what a command makes due: which places of the object that it changes may go, and which fields stand.
+use Rattle.std.specs.Prelude.{◌≡◌, ◌+◌, ◌-◌, ◌<◌, ◌≤◌, ℕ, zero, suc, List, [], ◌∷◌, length, map, flat_map, Option, Some, None, Bool, true, false, not, ◌&&◌, is_some, Contains}
+use Rattle.nmgc_graph.specs.declared.value.Name.{Name}
+use Rattle.nmgc_graph.specs.declared.value.Value.{Value}
+use Rattle.nmgc_graph.specs.declared.value.Value.TheVariants as value
+use Rattle.nmgc_graph.specs.declared.node.Parts.{Parts}
+use Rattle.nmgc_graph.specs.declared.node.Node.{Node}
+use Rattle.nmgc_graph.specs.declared.node.Node.TheVariants.{Con, Var, Arr, Thunk, Weak, Stack}
+use Rattle.nmgc_graph.specs.declared.change.Change.{Change}
+use Rattle.nmgc_graph.specs.declared.change.Change.TheVariants as change
+use Rattle.nmgc_graph.specs.declared.command.Command.{Command}
+use Rattle.nmgc_graph.specs.World.{World, node_of}
+use Rattle.nmgc_graph.specs.Change.{is_same_name}
+use Rattle.nmgc_graph.specs.Step.{shared_name, asked}
+use Rattle.nmgc_graph.specs.Search.{parts_of}
+use Rattle.nmgc_reach.specs.Holds.{strong_at}
+use Rattle.nmgc_reach.specs.Owed.{names_among}
+use Rattle.nmgc_watch.specs.declared.due.Field.{Field}
+
+-- the strong field of a node that may not be there
+abbrev pub strong_in : Option Node → ℕ → Option Value
+strong_in None place = None
+strong_in (Some node) place = strong_at node place
+
+-- whether it is a reference to the target
+abbrev pub is_ref_to : Name → Option Value → Bool
+is_ref_to target None = false
+is_ref_to target (Some value.Nil) = false
+is_ref_to target (Some (value.Number n)) = false
+is_ref_to target (Some (value.Ref name)) = is_same_name name target
+
+-- whether the field stands in a world
+abbrev pub stands_in : World → Field → Bool
+stands_in w f = is_ref_to f.target (strong_in (node_of w f.name) f.place)
+
+-- the place of a stack's top
+abbrev pub top_place : Node → ℕ
+top_place (Stack size values) = length values - 1
+top_place node = 0
+
+-- the place after a stack's top
+abbrev pub depth : Node → ℕ
+depth (Stack size values) = length values
+depth node = 0
+
+-- the place after a thunk's last free variable
+abbrev pub after_free : Node → ℕ
+after_free (Thunk free result) = length free + 1
+after_free node = 0
+
+-- the first place that a change may write or take away
+abbrev pub first_place : Change → Node → ℕ
+first_place (change.Set index v) node = index
+first_place (change.Exchange index expected v) node = index
+first_place (change.Update v) node = 0
+first_place (change.Push m v) node = 0
+first_place (change.Pop m) node = top_place node
+first_place change.Finalise node = 0
+
+-- the place after the last such
+abbrev pub end_place : Change → Node → ℕ
+end_place (change.Set index v) node = index + 1
+end_place (change.Exchange index expected v) node = index + 1
+end_place (change.Update v) node = after_free node
+end_place (change.Push m v) node = 0
+end_place (change.Pop m) node = depth node
+end_place change.Finalise node = 0
+
+-- the fields stand in the snapshot and in the world, and they are all that stand in both where the command may write or take away
+pub record IsStanding (snapshot w : World) (m : ℕ) (c : Command) (fields : List Field) : Type 0 where
+  pub sound : (f : Field) → Contains fields f → (stands_in snapshot f ≡ true) × (stands_in w f ≡ true)
+  pub all : (f : Field) (ch : Change) (node : Node) → asked w m c ≡ Some (value.Ref f.name, ch) → node_of w f.name ≡ Some node → first_place ch node ≤ f.place → f.place < end_place ch node → stands_in snapshot f ≡ true → stands_in w f ≡ true → Contains fields f
+
+-- the targets of fields
+abbrev pub targets : List Field → List Name
+targets fields = map (λ (f : Field). f.target) fields
+
+-- the name is one of the snapshot, and not g
+abbrev pub is_owable : World → Name → Bool
+is_owable snapshot name = is_some (node_of snapshot name) && not (is_same_name name shared_name)
+
+-- what a weak pointer kept with these parts, itself among it
+abbrev pub kept_of : Name → Option Parts → List Name
+kept_of weak None = []
+kept_of weak (Some parts) = names_among (value.Ref weak ∷ parts.value ∷ parts.finaliser ∷ [])
+
+-- what weak pointers kept that are alive in the snapshot, themselves among it
+abbrev pub kept_then : World → List Name → List Name
+kept_then snapshot weaks = flat_map (λ weak. kept_of weak (parts_of snapshot weak)) weaks

@@ -1,0 +1,3 @@
+pub mod Cycles
+pub mod Dues
+pub mod Watching

@@ -1,0 +1,255 @@
+-- What it is for an event to happen, and why one can't: by the heap, the lax rule and nothing else.
+use Rattle.std.specs.Prelude.{◌≡◌, ◌↔◌, ◌⊎◌, ◌++◌, ℕ, List, [], ◌∷◌, slice_get, Option, Some, None, Result, Ok, Err, IsSome, Contains}
+use Rattle.nmgc_graph.specs.declared.value.Name.{Name}
+use Rattle.nmgc_graph.specs.declared.command.Command.{Command}
+use Rattle.nmgc_graph.specs.declared.command.Reply.{Reply}
+use Rattle.nmgc_graph.specs.World.{World, node_of, IsWorld}
+use Rattle.nmgc_graph.specs.Step.{CanApply, step}
+use Rattle.nmgc_graph.specs.Reach.{Lists, IsDead}
+use Rattle.nmgc_core.specs.declared.event.Event.TheVariants as core
+use Rattle.nmgc_core.specs.State.{State}
+use Rattle.nmgc_core.specs.Machine.{IsPossible}
+use Rattle.nmgc_core.specs.Closing.{IsClosing}
+use Rattle.nmgc_lax.specs.declared.debt.Debt.{Debt}
+use Rattle.nmgc_lax.specs.Cycle.{Cycle, watching, IsWatched, IsPushed, IsEnd, IsEndTold, Needs, Marks}
+use Rattle.nmgc_lax.specs.Barrier.{Beside}
+use Rattle.nmgc_watch.specs.declared.event.Event.{Event}
+use Rattle.nmgc_watch.specs.declared.event.Event.TheVariants as event
+use Rattle.nmgc_watch.specs.declared.event.Why.{Why}
+use Rattle.nmgc_watch.specs.declared.event.Why.TheVariants as why
+use Rattle.nmgc_watch.specs.declared.left.Left.{Left}
+use Rattle.nmgc_watch.specs.declared.watch.Watch.{Watch}
+use Rattle.nmgc_watch.specs.declared.watch.Watch.TheVariants as watch
+use Rattle.nmgc_watch.specs.Cycles.{IsWhyNot, IsSettled}
+
+-- outside of a cycle the heap takes a command with this answer
+abbrev pub IsGiven : World → ℕ → Command → Reply → World → Type 0
+IsGiven w m c answer next = CanApply w m c × ((step w m c).1 ≡ answer) × (next ≡ (step w m c).0)
+
+-- a command: one that the heap takes with this answer; in a cycle what it makes due is due since this line
+abbrev pub CanGive : ℕ → ℕ → Command → Reply → Watch → Watch → Type 0
+CanGive line m c answer (watch.Between w) next = (after : World) × IsGiven w m c answer after × (next ≡ watch.Between after)
+CanGive line m c answer (watch.Marking h) next = (after : Cycle) × IsWatched h line m c answer after × (next ≡ watch.Marking after)
+CanGive line m c answer (watch.Ended left) next = (after : World) × IsGiven left.world m c answer after × (next ≡ watch.Ended (record left { world = after }))
+CanGive line m c answer watch.Stopped next = ⊥
+
+-- the same, as a test tells it
+abbrev pub IsGivenIf : World → ℕ → Command → Reply → Option Why → World → Type 0
+IsGivenIf w m c answer None next = IsGiven w m c answer next
+IsGivenIf w m c answer (Some y) next = (next ≡ w) × IsWhyNot w m c answer y
+
+abbrev pub WhyGive : ℕ → Command → Reply → Watch → Why → Type 0
+WhyGive m c answer (watch.Between w) y = IsWhyNot w m c answer y
+WhyGive m c answer (watch.Marking h) y = IsWhyNot h.world m c answer y
+WhyGive m c answer (watch.Ended left) y = IsWhyNot left.world m c answer y
+WhyGive m c answer watch.Stopped y = y ≡ why.Misplaced
+
+-- marking begins, outside of a cycle: the world is the snapshot
+abbrev pub CanMark : Watch → Watch → Type 0
+CanMark (watch.Between w) next = next ≡ watch.Marking (watching w)
+CanMark (watch.Marking h) next = ⊥
+CanMark (watch.Ended left) next = next ≡ watch.Marking (watching left.world)
+CanMark watch.Stopped next = ⊥
+
+abbrev pub WhyMark : Watch → Why → Type 0
+WhyMark (watch.Between w) y = ⊥
+WhyMark (watch.Marking h) y = y ≡ why.Misplaced
+WhyMark (watch.Ended left) y = ⊥
+WhyMark watch.Stopped y = y ≡ why.Misplaced
+
+-- a push, in a cycle: of any name that the heap has, whether or not it is due, and at any time
+abbrev pub CanPush : Name → Watch → Watch → Type 0
+CanPush name (watch.Between w) next = ⊥
+CanPush name (watch.Marking h) next = (after : Cycle) × IsPushed h name after × (next ≡ watch.Marking after)
+CanPush name (watch.Ended left) next = ⊥
+CanPush name watch.Stopped next = ⊥
+
+abbrev pub WhyPush : Name → Watch → Why → Type 0
+WhyPush name (watch.Between w) y = y ≡ why.Misplaced
+WhyPush name (watch.Marking h) y = (y ≡ why.NoSuchName name) × (IsSome (node_of h.world name) → ⊥)
+WhyPush name (watch.Ended left) y = y ≡ why.Misplaced
+WhyPush name watch.Stopped y = y ≡ why.Misplaced
+
+-- a mutator has settled: nothing that its commands made due is left
+abbrev pub CanSettle : ℕ → Watch → Watch → Type 0
+CanSettle m (watch.Between w) next = ⊥
+CanSettle m (watch.Marking h) next = IsSettled h m × (next ≡ watch.Marking h)
+CanSettle m (watch.Ended left) next = ⊥
+CanSettle m watch.Stopped next = ⊥
+
+abbrev pub WhySettle : ℕ → Watch → Why → Type 0
+WhySettle m (watch.Between w) y = y ≡ why.Misplaced
+WhySettle m (watch.Marking h) y = (debt : Debt) × (y ≡ why.Due debt) × Contains h.debts debt × (debt.mutator ≡ m)
+WhySettle m (watch.Ended left) y = y ≡ why.Misplaced
+WhySettle m watch.Stopped y = y ≡ why.Misplaced
+
+-- a take, in a cycle: of a name of the snapshot that was pushed. The marker isn't watched, so nothing comes of it
+abbrev pub CanTake : Name → Watch → Watch → Type 0
+CanTake name (watch.Between w) next = ⊥
+CanTake name (watch.Marking h) next = Contains h.remembered name × IsSome (node_of h.snapshot name) × (next ≡ watch.Marking h)
+CanTake name (watch.Ended left) next = ⊥
+CanTake name watch.Stopped next = ⊥
+
+abbrev pub WhyTake : Name → Watch → Why → Type 0
+WhyTake name (watch.Between w) y = y ≡ why.Misplaced
+WhyTake name (watch.Marking h) y = (y ≡ why.NotPushed name) × (Contains h.remembered name → IsSome (node_of h.snapshot name) → ⊥)
+WhyTake name (watch.Ended left) y = y ≡ why.Misplaced
+WhyTake name watch.Stopped y = y ≡ why.Misplaced
+
+-- what a cycle without debts leaves: the world without what nothing keeps, the names that the commands and the pushes keep, and those that the commands alone need
+pub record IsLeft (h : Cycle) (left : Left) : Type 0 where
+  pub dead : List Name
+  pub ends : IsEnd h dead left.world
+  pub kept : Lists (Marks h) left.kept
+  pub needed : Lists (Needs h) left.needed
+
+-- the same where it is told which weak pointers die
+pub record IsLeftTold (h : Cycle) (told : List Name) (left : Left) : Type 0 where
+  pub dead : List Name
+  pub ends : IsEndTold h told dead left.world
+  pub kept : Lists (Marks h) left.kept
+  pub needed : Lists (Needs h) left.needed
+
+-- the first debt
+abbrev pub IsFirstDebt : Cycle → Why → Type 0
+IsFirstDebt h y = (debt : Debt) × (y ≡ why.Due debt) × (slice_get h.debts 0 ≡ Some debt)
+
+-- a cycle is asked to end: this is left, or the first debt stands against it
+abbrev pub IsEnding : Cycle → Result Left Why → Type 0
+IsEnding h (Ok left) = IsLeft h left
+IsEnding h (Err y) = IsFirstDebt h y
+
+-- marking ends
+abbrev pub CanClose : Watch → Watch → Type 0
+CanClose (watch.Between w) next = ⊥
+CanClose (watch.Marking h) next = (left : Left) × IsLeft h left × (next ≡ watch.Ended left)
+CanClose (watch.Ended left) next = ⊥
+CanClose watch.Stopped next = ⊥
+
+abbrev pub WhyClose : Watch → Why → Type 0
+WhyClose (watch.Between w) y = y ≡ why.Misplaced
+WhyClose (watch.Marking h) y = IsFirstDebt h y
+WhyClose (watch.Ended left) y = y ≡ why.Misplaced
+WhyClose watch.Stopped y = y ≡ why.Misplaced
+
+-- marking ends, and just these die
+abbrev pub CanCloseTold : List Name → Watch → Watch → Type 0
+CanCloseTold told (watch.Between w) next = ⊥
+CanCloseTold told (watch.Marking h) next = (left : Left) × IsLeftTold h told left × (next ≡ watch.Ended left)
+CanCloseTold told (watch.Ended left) next = ⊥
+CanCloseTold told watch.Stopped next = ⊥
+
+-- one of these isn't dead
+abbrev pub IsNotDead : Cycle → List Name → Why → Type 0
+IsNotDead h told y = (weak : Name) × (y ≡ why.NotDead weak) × Contains told weak × (IsDead h.snapshot h.opened h.finalised weak → ⊥)
+
+-- the same as tests tell them
+abbrev pub IsDeadIf : Cycle → List Name → Option Name → Type 0
+IsDeadIf h told None = (weak : Name) → Contains told weak → IsDead h.snapshot h.opened h.finalised weak
+IsDeadIf h told (Some weak) = Contains told weak × (IsDead h.snapshot h.opened h.finalised weak → ⊥)
+
+abbrev pub IsEndingTold : Cycle → List Name → Result Left Why → Type 0
+IsEndingTold h told (Ok left) = IsLeftTold h told left
+IsEndingTold h told (Err y) = IsFirstDebt h y ⊎ IsNotDead h told y
+
+abbrev pub WhyCloseTold : List Name → Watch → Why → Type 0
+WhyCloseTold told (watch.Between w) y = y ≡ why.Misplaced
+WhyCloseTold told (watch.Marking h) y = IsFirstDebt h y ⊎ IsNotDead h told y
+WhyCloseTold told (watch.Ended left) y = y ≡ why.Misplaced
+WhyCloseTold told watch.Stopped y = y ≡ why.Misplaced
+
+-- after a cycle: the runtime marked exactly what the cycle kept
+abbrev pub CanMarked : List Name → Watch → Watch → Type 0
+CanMarked names (watch.Between w) next = ⊥
+CanMarked names (watch.Marking h) next = ⊥
+CanMarked names (watch.Ended left) next = ((name : Name) → Contains names name ↔ Contains left.kept name) × (next ≡ watch.Ended left)
+CanMarked names watch.Stopped next = ⊥
+
+-- one of the second list is none of the first
+abbrev pub IsMissing : List Name → List Name → Name → Type 0
+IsMissing names others name = Contains others name × (Contains names name → ⊥)
+
+-- a search for such a name
+abbrev pub IsMissingIf : List Name → List Name → Option Name → Type 0
+IsMissingIf names others None = (name : Name) → Contains others name → Contains names name
+IsMissingIf names others (Some name) = IsMissing names others name
+
+abbrev pub WhyMarked : List Name → Watch → Why → Type 0
+WhyMarked names (watch.Between w) y = y ≡ why.Misplaced
+WhyMarked names (watch.Marking h) y = y ≡ why.Misplaced
+WhyMarked names (watch.Ended left) y = ((name : Name) × (y ≡ why.NotTold name) × IsMissing names left.kept name) ⊎ ((name : Name) × (y ≡ why.NotMarked name) × IsMissing left.kept names name)
+WhyMarked names watch.Stopped y = y ≡ why.Misplaced
+
+-- after a cycle: the runtime freed names of the heap that the commands don't need
+abbrev pub CanFreed : List Name → Watch → Watch → Type 0
+CanFreed names (watch.Between w) next = ⊥
+CanFreed names (watch.Marking h) next = ⊥
+CanFreed names (watch.Ended left) next = ((name : Name) → Contains names name → IsSome (node_of left.world name) × (Contains left.needed name → ⊥)) × (next ≡ watch.Ended left)
+CanFreed names watch.Stopped next = ⊥
+
+abbrev pub WhyFreed : List Name → Watch → Why → Type 0
+WhyFreed names (watch.Between w) y = y ≡ why.Misplaced
+WhyFreed names (watch.Marking h) y = y ≡ why.Misplaced
+WhyFreed names (watch.Ended left) y = ((name : Name) × (y ≡ why.NoSuchName name) × Contains names name × (IsSome (node_of left.world name) → ⊥)) ⊎ ((name : Name) × (y ≡ why.Needed name) × Contains names name × Contains left.needed name)
+WhyFreed names watch.Stopped y = y ≡ why.Misplaced
+
+-- the same two, as tests tell them
+abbrev pub IsMarkedIf : List Name → Left → Option Why → Type 0
+IsMarkedIf names left None = (name : Name) → Contains names name ↔ Contains left.kept name
+IsMarkedIf names left (Some y) = WhyMarked names (watch.Ended left) y
+
+abbrev pub IsFreedIf : List Name → Left → Option Why → Type 0
+IsFreedIf names left None = (name : Name) → Contains names name → IsSome (node_of left.world name) × (Contains left.needed name → ⊥)
+IsFreedIf names left (Some y) = WhyFreed names (watch.Ended left) y
+
+-- the end of all, after a cycle has ended: what was told without a cycle shows nothing
+abbrev pub CanStop : Watch → Watch → Type 0
+CanStop (watch.Between w) next = ⊥
+CanStop (watch.Marking h) next = ⊥
+CanStop (watch.Ended left) next = next ≡ watch.Stopped
+CanStop watch.Stopped next = ⊥
+
+abbrev pub WhyStop : Watch → Why → Type 0
+WhyStop (watch.Between w) y = y ≡ why.Misplaced
+WhyStop (watch.Marking h) y = y ≡ why.Misplaced
+WhyStop (watch.Ended left) y = ⊥
+WhyStop watch.Stopped y = y ≡ why.Misplaced
+
+-- the event of this line can happen there, and so far it leads
+abbrev pub Can : ℕ → Watch → Event → Watch → Type 0
+Can line p (event.Given m c answer) next = CanGive line m c answer p next
+Can line p event.Mark next = CanMark p next
+Can line p (event.Push name) next = CanPush name p next
+Can line p (event.Settle m) next = CanSettle m p next
+Can line p (event.Take name) next = CanTake name p next
+Can line p event.Close next = CanClose p next
+Can line p (event.CloseTold dead) next = CanCloseTold dead p next
+Can line p (event.Marked names) next = CanMarked names p next
+Can line p (event.Freed names) next = CanFreed names p next
+Can line p event.Stop next = CanStop p next
+
+-- the reason is a fact there
+abbrev pub IsWhy : Watch → Event → Why → Type 0
+IsWhy p (event.Given m c answer) y = WhyGive m c answer p y
+IsWhy p event.Mark y = WhyMark p y
+IsWhy p (event.Push name) y = WhyPush name p y
+IsWhy p (event.Settle m) y = WhySettle m p y
+IsWhy p (event.Take name) y = WhyTake name p y
+IsWhy p event.Close y = WhyClose p y
+IsWhy p (event.CloseTold dead) y = WhyCloseTold dead p y
+IsWhy p (event.Marked names) y = WhyMarked names p y
+IsWhy p (event.Freed names) y = WhyFreed names p y
+IsWhy p event.Stop y = WhyStop p y
+
+-- an event is taken, and it can happen; or it is refused with a reason, and nothing changes
+abbrev pub IsStep : ℕ → Watch → Event → Option Why → Watch → Type 0
+IsStep line p e None next = Can line p e next
+IsStep line p e (Some y) next = (next ≡ p) × IsWhy p e y
+
+-- what has a reason can't happen
+abbrev pub ReasonsRefuse : Type 0
+ReasonsRefuse = (line : ℕ) (p : Watch) (e : Event) (y : Why) (next : Watch) → IsWhy p e y → Can line p e next → ⊥
+
+-- a cycle that closes without debts marked what it had to, and so does one of which it is told what dies: whatever marker ran beside it, and whenever it took and read what, exactly what is told as kept is marked at its end
+abbrev pub ClosedIsExact : Type 0
+ClosedIsExact = (h : Cycle) (left : Left) → IsLeft h left → (w : World) → IsWorld w → (s next : State) → Beside w h s → IsPossible s core.Close → IsClosing s next → (name : Name) → Contains next.marked name ↔ Contains left.kept name

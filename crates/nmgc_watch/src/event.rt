@@ -1,0 +1,69 @@
+//! What can be told of a cycle, and why it can't have happened.
+use nmgc_graph::{Command, List, Name, Reply};
+use nmgc_lax::Debt;
+
+/// One thing that a runtime did. The marker isn't among them: what it read, and when, is not watched.
+#[derive(Drop)]
+pub enum Event {
+    /// A mutator gave a command, and this was the answer.
+    Given {
+        mutator: u8,
+        command: Command,
+        answer: Reply,
+    },
+    /// Marking begins: the world is the snapshot.
+    Mark,
+    /// A barrier, or the collector itself, remembered the name.
+    Push {
+        name: Name,
+    },
+    /// All that the mutator's commands made due so far is remembered.
+    Settle {
+        mutator: u8,
+    },
+    /// The marker took the name out of what was pushed.
+    Take {
+        name: Name,
+    },
+    /// Marking ends, and what nothing keeps dies.
+    Close,
+    /// Marking ends, and of the weak pointers just these die, in the order of their names.
+    CloseTold {
+        dead: List<Name>,
+    },
+    /// In the last cycle the runtime marked just these names of the snapshot.
+    Marked {
+        names: List<Name>,
+    },
+    /// After the last cycle the runtime freed these names.
+    Freed {
+        names: List<Name>,
+    },
+    /// Nothing more is told.
+    Stop,
+}
+
+/// Why an event can't have happened. Each reason is a fact about the cycle and the event.
+#[derive(Clone, Copy, Debug, PartialEq, Eq)]
+pub enum Why {
+    /// No event of this kind can stand here: in a cycle, between cycles, or after the stop.
+    Misplaced,
+    /// There is no such mutator or register, or the mutator has no serial left.
+    CannotApply,
+    /// The heap answers this.
+    Answer(Reply),
+    /// The heap has no such name.
+    NoSuchName(Name),
+    /// This is due since the line that it names, and nobody remembered it.
+    Due(Debt),
+    /// The name wasn't pushed, or it is none of the snapshot.
+    NotPushed(Name),
+    /// The weak pointer isn't dead by what the commands keep.
+    NotDead(Name),
+    /// The name has to be marked, and isn't told.
+    NotTold(Name),
+    /// The name is told, and nothing keeps it.
+    NotMarked(Name),
+    /// The name is freed, and the commands need it.
+    Needed(Name),
+}

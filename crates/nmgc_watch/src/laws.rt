@@ -1,0 +1,12 @@
+//! The theorems of the watch. Each function does nothing: its contract is the law.
+ghost use Rattle.nmgc_watch.specs.Watching.{ReasonsRefuse, ClosedIsExact};
+
+/// What is refused with a reason can't have happened: so an event that can happen is taken.
+pub fn a_reason_refuses()
+    ensures { ReasonsRefuse }
+{}
+
+/// A cycle that closes without debts marked exactly what it had to, whatever marker ran beside it.
+pub fn a_closed_cycle_marked_what_it_had_to()
+    ensures { ClosedIsExact }
+{}
