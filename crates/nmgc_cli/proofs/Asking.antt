@@ -1,61 +1,129 @@
 -- Words ask for one task, or for none.
-use Rattle.std.proofs.Common.{◌≡◌, ◌≤◌, ◌<◌, ◌∙◌, ℕ, List, [], ◌∷◌, length, get_or, refl, sym, ap, subst, arith, Option, codes, decimal}
+use Rattle.std.proofs.Common.{◌≡◌, ◌≤◌, ◌<◌, ◌∙◌, ℕ, List, [], ◌∷◌, length, get_or, refl, sym, ap, subst, arith, Option, Some, codes, decimal}
 use Rattle.std.specs.Prelude.{IfSome, IfNone}
 use Rattle.std.proofs.lemmas.Fmt.{decimal_injective}
-use Rattle.nmgc_cli.specs.Task.{IsBench, Asks, IsWrong}
+use Rattle.std.proofs.lemmas.Option.{same_Some}
+use Rattle.nmgc_graph.specs.declared.value.Name.{Name}
+use Rattle.nmgc_journal.specs.Reading.{name_at}
+use Rattle.nmgc_journal.specs.Text.{name_text}
+use Rattle.nmgc_journal.specs.laws.Reading.{name_reads}
+use Rattle.nmgc_object.specs.Words.{IsName}
+use Rattle.nmgc_cli.specs.Task.{Asks, IsWrong}
 use Rattle.nmgc_cli.specs.declared.task.Task.{Task}
-use Rattle.nmgc_cli.specs.declared.task.Task.TheVariants.{Run, Bench, Upgrade}
+use Rattle.nmgc_cli.specs.declared.task.Task.TheVariants.{Run, Bench, Upgrade, Image, Retain, Marks}
 
 -- words that ask for none of the tasks are wrong
-pub none_asked : (words : List (List ℕ)) → (words ≡ codes "run" ∷ [] → ⊥) → (words ≡ codes "upgrade" ∷ [] → ⊥) → ((batches : ℕ) → Asks words (Bench batches) → ⊥) → IsWrong words
-none_asked words no_run no_upgrade no_bench = by
+pub none_asked : (words : List (List ℕ)) → (words ≡ codes "run" ∷ [] → ⊥) → (words ≡ codes "upgrade" ∷ [] → ⊥) → (words ≡ codes "image" ∷ [] → ⊥) → ((name : Name) → Asks words (Retain name) → ⊥) → ((markers : ℕ) → Asks words (Marks markers) → ⊥) → ((batches : ℕ) → Asks words (Bench batches) → ⊥) → IsWrong words
+none_asked words no_run no_upgrade no_image no_retain no_marks no_bench = by
   where
     by : (task : Task) → Asks words task → ⊥
     by Run asks = no_run asks
     by (Bench batches) asks = no_bench batches asks
     by Upgrade asks = no_upgrade asks
+    by Image asks = no_image asks
+    by (Retain name) asks = no_retain name asks
+    by (Marks markers) asks = no_marks markers asks
 
--- one word isn't the two of a bench, and a run is no upgrade
-no_bench : (words : List (List ℕ)) (word : List ℕ) (batches : ℕ) → words ≡ word ∷ [] → Asks words (Bench batches) → ⊥
-no_bench words word batches one bench = let e : word ∷ [] ≡ codes "bench" ∷ decimal batches ∷ [] = sym one ∙ bench.0 in cc
+-- the first of the words
+abbrev first : Task → List ℕ
+first Run = codes "run"
+first (Bench batches) = codes "bench"
+first Upgrade = codes "upgrade"
+first Image = codes "image"
+first (Retain name) = codes "retain"
+first (Marks markers) = codes "marks"
 
-run_no_upgrade : (words : List (List ℕ)) → Asks words Run → Asks words Upgrade → ⊥
-run_no_upgrade words run upgrade = let e : codes "run" ∷ [] ≡ codes "upgrade" ∷ [] = sym run ∙ upgrade in cc
+abbrev head : List (List ℕ) → List ℕ
+head [] = []
+head (word ∷ words) = word
 
--- words that ask for a bench ask for one number of batches
-same_batches : (words : List (List ℕ)) (m n : ℕ) → Asks words (Bench m) → Asks words (Bench n) → m ≡ n
-same_batches words m n a b =
-    let both : codes "bench" ∷ decimal m ∷ [] ≡ codes "bench" ∷ decimal n ∷ [] = sym a.0 ∙ b.0 in
-    let same : decimal m ≡ decimal n = cc in
-    decimal_injective m n (omega (arith, a.1.1)) (omega (arith, b.1.1)) same
+asks_first : (words : List (List ℕ)) (task : Task) → Asks words task → head words ≡ first task
+asks_first words Run asks = ap head asks
+asks_first words (Bench batches) asks = ap head asks.0
+asks_first words Upgrade asks = ap head asks
+asks_first words Image asks = ap head asks
+asks_first words (Retain name) asks = ap head asks.0
+asks_first words (Marks markers) asks = ap head asks.0
+
+-- letters of the first word
+letter : (a b : List ℕ) (i : ℕ) → a ≡ b → get_or a i 0 ≡ get_or b i 0
+letter a b i e = ap (λ (l : List ℕ). get_or l i 0) e
+
+-- a name has one text
+name_again : (name : Name) → IsName name → name_at (name_text name) ≡ Some name
+name_again name valid = name_reads.again name valid
+
+one_name : (a b : Name) → IsName a → IsName b → name_text a ≡ name_text b → a ≡ b
+one_name a b va vb e = same_Some a b (sym (name_again a va) ∙ ap name_at e ∙ name_again b vb)
 
 -- words ask for one task
-pub same_task : (words : List (List ℕ)) (a b : Task) → Asks words a → Asks words b → a ≡ b
-same_task words Run Run a b = refl
-same_task words Run (Bench n) a b = absurd (no_bench words (codes "run") n a b)
-same_task words Run Upgrade a b = absurd (run_no_upgrade words a b)
-same_task words (Bench m) Run a b = absurd (no_bench words (codes "run") m b a)
-same_task words (Bench m) (Bench n) a b = ap Bench (same_batches words m n a b)
-same_task words (Bench m) Upgrade a b = absurd (no_bench words (codes "upgrade") m b a)
-same_task words Upgrade Run a b = absurd (run_no_upgrade words b a)
-same_task words Upgrade (Bench n) a b = absurd (no_bench words (codes "upgrade") n a b)
-same_task words Upgrade Upgrade a b = refl
+pub one_task : (words : List (List ℕ)) (a b : Task) → Asks words a → Asks words b → a ≡ b
+one_task words a b p q = by a b p q (sym (asks_first words a p) ∙ asks_first words b q)
+  where
+    by : (a b : Task) → Asks words a → Asks words b → first a ≡ first b → a ≡ b
+    by Run Run p q e = refl
+    by (Bench m) (Bench n) p q e =
+        let both : codes "bench" ∷ decimal m ∷ [] ≡ codes "bench" ∷ decimal n ∷ [] = sym p.0 ∙ q.0 in
+        let same : decimal m ≡ decimal n = cc in
+        ap Bench (decimal_injective m n (omega (arith, p.1.1)) (omega (arith, q.1.1)) same)
+    by Upgrade Upgrade p q e = refl
+    by Image Image p q e = refl
+    by (Retain m) (Retain n) p q e =
+        let both : codes "retain" ∷ name_text m ∷ [] ≡ codes "retain" ∷ name_text n ∷ [] = sym p.0 ∙ q.0 in
+        let same : name_text m ≡ name_text n = cc in
+        ap Retain (one_name m n p.1 q.1 same)
+    by (Marks m) (Marks n) p q e =
+        let both : codes "marks" ∷ decimal m ∷ [] ≡ codes "marks" ∷ decimal n ∷ [] = sym p.0 ∙ q.0 in
+        let same : decimal m ≡ decimal n = cc in
+        ap Marks (decimal_injective m n (omega (arith, p.1.1)) (omega (arith, q.1.1)) same)
+    by Run (Bench n) p q e = absurd (let h : 114 ≡ 98 = letter (codes "run") (codes "bench") 0 e in omega arith)
+    by Run Upgrade p q e = absurd (let h : 114 ≡ 117 = letter (codes "run") (codes "upgrade") 0 e in omega arith)
+    by Run Image p q e = absurd (let h : 114 ≡ 105 = letter (codes "run") (codes "image") 0 e in omega arith)
+    by Run (Retain n) p q e = absurd (let h : 117 ≡ 101 = letter (codes "run") (codes "retain") 1 e in omega arith)
+    by Run (Marks n) p q e = absurd (let h : 114 ≡ 109 = letter (codes "run") (codes "marks") 0 e in omega arith)
+    by (Bench m) Run p q e = absurd (let h : 98 ≡ 114 = letter (codes "bench") (codes "run") 0 e in omega arith)
+    by (Bench m) Upgrade p q e = absurd (let h : 98 ≡ 117 = letter (codes "bench") (codes "upgrade") 0 e in omega arith)
+    by (Bench m) Image p q e = absurd (let h : 98 ≡ 105 = letter (codes "bench") (codes "image") 0 e in omega arith)
+    by (Bench m) (Retain n) p q e = absurd (let h : 98 ≡ 114 = letter (codes "bench") (codes "retain") 0 e in omega arith)
+    by (Bench m) (Marks n) p q e = absurd (let h : 98 ≡ 109 = letter (codes "bench") (codes "marks") 0 e in omega arith)
+    by Upgrade Run p q e = absurd (let h : 117 ≡ 114 = letter (codes "upgrade") (codes "run") 0 e in omega arith)
+    by Upgrade (Bench n) p q e = absurd (let h : 117 ≡ 98 = letter (codes "upgrade") (codes "bench") 0 e in omega arith)
+    by Upgrade Image p q e = absurd (let h : 117 ≡ 105 = letter (codes "upgrade") (codes "image") 0 e in omega arith)
+    by Upgrade (Retain n) p q e = absurd (let h : 117 ≡ 114 = letter (codes "upgrade") (codes "retain") 0 e in omega arith)
+    by Upgrade (Marks n) p q e = absurd (let h : 117 ≡ 109 = letter (codes "upgrade") (codes "marks") 0 e in omega arith)
+    by Image Run p q e = absurd (let h : 105 ≡ 114 = letter (codes "image") (codes "run") 0 e in omega arith)
+    by Image (Bench n) p q e = absurd (let h : 105 ≡ 98 = letter (codes "image") (codes "bench") 0 e in omega arith)
+    by Image Upgrade p q e = absurd (let h : 105 ≡ 117 = letter (codes "image") (codes "upgrade") 0 e in omega arith)
+    by Image (Retain n) p q e = absurd (let h : 105 ≡ 114 = letter (codes "image") (codes "retain") 0 e in omega arith)
+    by Image (Marks n) p q e = absurd (let h : 105 ≡ 109 = letter (codes "image") (codes "marks") 0 e in omega arith)
+    by (Retain m) Run p q e = absurd (let h : 101 ≡ 117 = letter (codes "retain") (codes "run") 1 e in omega arith)
+    by (Retain m) (Bench n) p q e = absurd (let h : 114 ≡ 98 = letter (codes "retain") (codes "bench") 0 e in omega arith)
+    by (Retain m) Upgrade p q e = absurd (let h : 114 ≡ 117 = letter (codes "retain") (codes "upgrade") 0 e in omega arith)
+    by (Retain m) Image p q e = absurd (let h : 114 ≡ 105 = letter (codes "retain") (codes "image") 0 e in omega arith)
+    by (Retain m) (Marks n) p q e = absurd (let h : 114 ≡ 109 = letter (codes "retain") (codes "marks") 0 e in omega arith)
+    by (Marks m) Run p q e = absurd (let h : 109 ≡ 114 = letter (codes "marks") (codes "run") 0 e in omega arith)
+    by (Marks m) (Bench n) p q e = absurd (let h : 109 ≡ 98 = letter (codes "marks") (codes "bench") 0 e in omega arith)
+    by (Marks m) Upgrade p q e = absurd (let h : 109 ≡ 117 = letter (codes "marks") (codes "upgrade") 0 e in omega arith)
+    by (Marks m) Image p q e = absurd (let h : 109 ≡ 105 = letter (codes "marks") (codes "image") 0 e in omega arith)
+    by (Marks m) (Retain n) p q e = absurd (let h : 109 ≡ 114 = letter (codes "marks") (codes "retain") 0 e in omega arith)
 
--- no bench has no batch
-pub one_number : (word : List ℕ) (number batches : ℕ) → number ≡ 0 → word ≡ decimal number → IsBench batches → word ≡ decimal batches → ⊥
-one_number word number batches nothing spells bench same =
-    let e : number ≡ batches = decimal_injective number batches (omega arith) (omega (arith, bench.1)) (sym spells ∙ same) in
-    omega (arith, e, bench.0)
+-- no bench has no batch, and no marks have no marker
+pub one_number : (word : List ℕ) (number n most : ℕ) → number ≡ 0 → word ≡ decimal number → most ≤ 256 → (1 ≤ n) × (n ≤ most) → word ≡ decimal n → ⊥
+one_number word number n most nothing spells small within same =
+    let most_is = within.1 in
+    let e : number ≡ n = decimal_injective number n (omega arith) (omega (arith, most_is, small)) (sym spells ∙ same) in
+    let some = within.0 in
+    omega (arith, e, some)
 
 -- two words are those that the same words are
 two : (a b x y : List ℕ) → x ≡ a → y ≡ b → x ∷ y ∷ [] ≡ a ∷ b ∷ []
 two a b x y e f = cc
 
-pub asked_in : (a b x y : List ℕ) (found : Option ℕ) → x ≡ a → y ≡ b → IfSome found (λ batches. Asks (x ∷ y ∷ []) (Bench batches)) → IfSome found (λ batches. Asks (a ∷ b ∷ []) (Bench batches))
-asked_in a b x y found e f h = let P : List (List ℕ) → Type 0 = λ words. IfSome found (λ batches. Asks words (Bench batches)) in subst P (two a b x y e f) h
+pub asked_in : (T : ℕ → Task) (a b x y : List ℕ) (found : Option ℕ) → x ≡ a → y ≡ b → IfSome found (λ n. Asks (x ∷ y ∷ []) (T n)) → IfSome found (λ n. Asks (a ∷ b ∷ []) (T n))
+asked_in T a b x y found e f h = let P : List (List ℕ) → Type 0 = λ words. IfSome found (λ n. Asks words (T n)) in subst P (two a b x y e f) h
 
-pub none_in : (a b x y : List ℕ) (found : Option ℕ) → x ≡ a → y ≡ b → IfNone found ((batches : ℕ) → Asks (x ∷ y ∷ []) (Bench batches) → ⊥) → IfNone found ((batches : ℕ) → Asks (a ∷ b ∷ []) (Bench batches) → ⊥)
-none_in a b x y found e f h = let P : List (List ℕ) → Type 0 = λ words. IfNone found ((batches : ℕ) → Asks words (Bench batches) → ⊥) in subst P (two a b x y e f) h
+pub none_in : (T : ℕ → Task) (a b x y : List ℕ) (found : Option ℕ) → x ≡ a → y ≡ b → IfNone found ((n : ℕ) → Asks (x ∷ y ∷ []) (T n) → ⊥) → IfNone found ((n : ℕ) → Asks (a ∷ b ∷ []) (T n) → ⊥)
+none_in T a b x y found e f h = let P : List (List ℕ) → Type 0 = λ words. IfNone found ((n : ℕ) → Asks words (T n) → ⊥) in subst P (two a b x y e f) h
 
 -- a list of two items is these two alone
 pub pair : {A : Type 0} (xs : List A) (x y : A) → 2 ≤ length xs → length xs < 3 → x ≡ get_or xs 0 x → y ≡ get_or xs 1 y → xs ≡ x ∷ y ∷ []
@@ -63,3 +131,10 @@ pair [] x y some few e f = absurd (omega arith)
 pair (a ∷ []) x y some few e f = absurd (omega arith)
 pair (a ∷ b ∷ []) x y some few e f = cc
 pair (a ∷ b ∷ c ∷ xs) x y some few e f = absurd (omega arith)
+
+-- the same of two words that ask for a path
+pub name_in : (a b x y : List ℕ) (found : Option Name) → x ≡ a → y ≡ b → IfSome found (λ name. Asks (x ∷ y ∷ []) (Retain name)) → IfSome found (λ name. Asks (a ∷ b ∷ []) (Retain name))
+name_in a b x y found e f h = let P : List (List ℕ) → Type 0 = λ words. IfSome found (λ name. Asks words (Retain name)) in subst P (two a b x y e f) h
+
+pub no_name_in : (a b x y : List ℕ) (found : Option Name) → x ≡ a → y ≡ b → IfNone found ((name : Name) → Asks (x ∷ y ∷ []) (Retain name) → ⊥) → IfNone found ((name : Name) → Asks (a ∷ b ∷ []) (Retain name) → ⊥)
+no_name_in a b x y found e f h = let P : List (List ℕ) → Type 0 = λ words. IfNone found ((name : Name) → Asks words (Retain name) → ⊥) in subst P (two a b x y e f) h

@@ -1,5 +1,6 @@
 pub mod Asking
 pub mod FewAnswers
-pub mod Passing
+pub mod Leaving
+pub mod Marked
 pub mod Single
 pub mod Telling

@@ -7,20 +7,22 @@ use Rattle.nmgc_io.specs.declared.ends.ReadEnd.TheVariants as read
 use Rattle.nmgc_script.specs.declared.fault.ScriptFault.{ScriptFault}
 use Rattle.nmgc_script.specs.declared.fault.ScriptFault.TheVariants as script
 use Rattle.nmgc_journal.specs.declared.report.Report.{Report}
-use Rattle.nmgc_journal.specs.Text.{report_text}
-use Rattle.nmgc_journal.specs.Summary.{summary_text}
-use Rattle.nmgc_cli.specs.Status.{status_of}
+use Rattle.nmgc_image.specs.declared.fault.ImageFault.{ImageFault}
+use Rattle.nmgc_image.specs.declared.fault.ImageFault.TheVariants as image
 use Rattle.nmgc_cli.specs.declared.answer.Outcome.{Outcome}
-use Rattle.nmgc_cli.specs.declared.answer.Outcome.TheVariants.{Ran, Benched, Upgraded}
 use Rattle.nmgc_cli.specs.declared.answer.Refusal.{Refusal}
 use Rattle.nmgc_cli.specs.declared.answer.Refusal.TheVariants as no
 use Rattle.nmgc_cli.specs.declared.told.Text.{Text}
 use Rattle.nmgc_cli.specs.declared.told.Text.TheVariants.{Fixed, Made}
 use Rattle.nmgc_cli.specs.declared.told.Told.{Told}
 use Rattle.nmgc_cli.specs.declared.status.Status.{Status}
-use Rattle.nmgc_cli.specs.declared.status.Status.TheVariants.{Done, Usage, ReadFault, BadScript, TooLong, NoMemory}
+use Rattle.nmgc_cli.specs.declared.status.Status.TheVariants.{Usage, ReadFault, BadScript, TooLong, NoMemory, BadImage}
 
--- what a task gives that was done, or why it wasn't
+-- the report of a run, or why there is none
+abbrev pub Reported : Type 0
+Reported = Result Report Refusal
+
+-- what is told of a task that was done, or why none was
 abbrev pub Answer : Type 0
 Answer = Result Outcome Refusal
 
@@ -35,12 +37,18 @@ abbrev pub script_refusal : ScriptFault → Refusal
 script_refusal (script.Bad line c) = no.Bad line c
 script_refusal script.NoMemory = no.NoMemory
 
+-- the refusal of bytes that spell no image
+abbrev pub image_refusal : ImageFault → Refusal
+image_refusal (image.Bad line) = no.BadImage line
+image_refusal image.NoMemory = no.NoMemory
+
 -- the status of a refusal
 abbrev pub refusal_status : Refusal → Status
 refusal_status no.Usage = Usage
 refusal_status no.ReadFault = ReadFault
 refusal_status no.TooLong = TooLong
 refusal_status (no.Bad line c) = BadScript
+refusal_status (no.BadImage line) = BadImage
 refusal_status no.NoMemory = NoMemory
 
 -- the word of a cause
@@ -58,38 +66,38 @@ cause_text cause.Size = codes "size"
 abbrev pub bad_line : ℕ → Cause → List ℕ
 bad_line line c = codes "bad line " ++ decimal line ++ 32 ∷ cause_text c ++ 10 ∷ []
 
--- the refusal tells a bad line, which is the only one with a text that takes memory
+-- the line that tells a bad image
+abbrev pub bad_image_line : ℕ → List ℕ
+bad_image_line line = codes "bad image line " ++ decimal line ++ 10 ∷ []
+
+-- the refusal tells a bad line: only such a text takes memory
 abbrev pub IsBad : Refusal → Type 0
 IsBad (no.Bad line c) = Unit {0}
+IsBad (no.BadImage line) = Unit {0}
 IsBad _ = ⊥
 
 -- the text of a refusal
 abbrev pub refusal_text : Refusal → List ℕ
-refusal_text no.Usage = codes "usage: nmgc run | nmgc bench N | nmgc upgrade\n"
+refusal_text no.Usage = codes "usage: nmgc run | nmgc bench N | nmgc upgrade | nmgc image | nmgc retain NAME | nmgc marks N\n"
 refusal_text no.ReadFault = codes "read fault\n"
 refusal_text no.TooLong = codes "too long\n"
 refusal_text (no.Bad line c) = bad_line line c
+refusal_text (no.BadImage line) = bad_image_line line
 refusal_text no.NoMemory = codes "no memory\n"
 
 -- the status of an answer
 abbrev pub answer_status : Answer → Status
-answer_status (Ok (Ran report)) = status_of report.end
-answer_status (Ok (Benched batches report)) = status_of report.end
-answer_status (Ok (Upgraded text)) = Done
+answer_status (Ok outcome) = outcome.status
 answer_status (Err refusal) = refusal_status refusal
 
 -- the report of an answer
 abbrev pub answer_report : Answer → Option Report
-answer_report (Ok (Ran report)) = Some report
-answer_report (Ok (Benched batches report)) = Some report
-answer_report (Ok (Upgraded text)) = None
+answer_report (Ok outcome) = outcome.report
 answer_report (Err refusal) = None
 
--- the text of an answer: the whole report of a run, the summary of a bench's, and the spelling of an upgrade
+-- the text of an answer
 abbrev pub answer_text : Answer → List ℕ
-answer_text (Ok (Ran report)) = report_text report
-answer_text (Ok (Benched batches report)) = summary_text batches report
-answer_text (Ok (Upgraded text)) = text.items
+answer_text (Ok outcome) = outcome.text.items
 answer_text (Err refusal) = refusal_text refusal
 
 -- the bytes of a text

@@ -4,7 +4,7 @@ use Rattle.nmgc_journal.specs.declared.report.Report.{Report}
 use Rattle.nmgc_cli.specs.Answer.{Answer}
 use Rattle.nmgc_cli.specs.Status.{number_of}
 use Rattle.nmgc_cli.specs.Told.{IsTold, Ends, ReadsNothing}
-use Rattle.nmgc_cli.specs.Words.{ArePassed}
+use Rattle.nmgc_arguments.specs.Words.{ArePassed}
 use Rattle.nmgc_cli.specs.declared.status.Status.{Status}
 
 -- the command line's words were passed on, there is an answer to them, where they ask for nothing that is read the source is as it was, the answer was written, and the number is that of the status

@@ -3,7 +3,7 @@ use Rattle.std.specs.Prelude.{ℕ}
 use Rattle.nmgc_journal.specs.declared.report.End.{End}
 use Rattle.nmgc_journal.specs.declared.report.End.TheVariants as end
 use Rattle.nmgc_cli.specs.declared.status.Status.{Status}
-use Rattle.nmgc_cli.specs.declared.status.Status.TheVariants.{Done, Usage, ReadFault, WriteFault, BadScript, TooLong, HeapFull, NoMemory}
+use Rattle.nmgc_cli.specs.declared.status.Status.TheVariants.{Done, Usage, ReadFault, WriteFault, BadScript, TooLong, HeapFull, NoMemory, BadImage}
 
 -- the number with which the process ends
 abbrev pub number_of : Status → ℕ
@@ -15,6 +15,7 @@ number_of BadScript = 5
 number_of TooLong = 5
 number_of HeapFull = 6
 number_of NoMemory = 7
+number_of BadImage = 9
 
 -- the status of a run that ended so
 abbrev pub status_of : End → Status

@@ -1,30 +1,55 @@
 -- What the words of the command line ask for.
 use Rattle.std.specs.Prelude.{◌≡◌, ◌≤◌, ℕ, List, [], ◌∷◌, codes, decimal}
 use Rattle.nmgc_script.specs.Bench.{most_batches}
+use Rattle.nmgc_journal.specs.Text.{name_text}
+use Rattle.nmgc_object.specs.Words.{IsName}
+use Rattle.nmgc_pmark.specs.declared.crew.TheConstants.{MOST_MARKERS}
 use Rattle.nmgc_cli.specs.declared.task.Task.{Task}
-use Rattle.nmgc_cli.specs.declared.task.Task.TheVariants.{Run, Bench, Upgrade}
+use Rattle.nmgc_cli.specs.declared.task.Task.TheVariants.{Run, Bench, Upgrade, Image, Retain, Marks}
 
 -- a bench has so many batches
 abbrev pub IsBench : ℕ → Type 0
 IsBench batches = (1 ≤ batches) × (batches ≤ most_batches)
+
+-- so many markers may mark
+abbrev pub AreMarkers : ℕ → Type 0
+AreMarkers markers = (1 ≤ markers) × (markers ≤ MOST_MARKERS)
 
 -- the words ask for this task
 abbrev pub Asks : List (List ℕ) → Task → Type 0
 Asks words Run = words ≡ codes "run" ∷ []
 Asks words (Bench batches) = (words ≡ codes "bench" ∷ decimal batches ∷ []) × IsBench batches
 Asks words Upgrade = words ≡ codes "upgrade" ∷ []
+Asks words Image = words ≡ codes "image" ∷ []
+Asks words (Retain name) = (words ≡ codes "retain" ∷ name_text name ∷ []) × IsName name
+Asks words (Marks markers) = (words ≡ codes "marks" ∷ decimal markers ∷ []) × AreMarkers markers
 
 -- the task can be done
 abbrev pub CanBeDone : Task → Type 0
 CanBeDone Run = Unit {0}
 CanBeDone (Bench batches) = IsBench batches
 CanBeDone Upgrade = Unit {0}
+CanBeDone Image = Unit {0}
+CanBeDone (Retain name) = Unit {0}
+CanBeDone (Marks markers) = AreMarkers markers
 
--- the task reads the source
-abbrev pub Reads : Task → Type 0
-Reads Run = Unit {0}
-Reads (Bench batches) = ⊥
-Reads Upgrade = Unit {0}
+-- the task reads what the source has
+abbrev pub IsReading : Task → Type 0
+IsReading Run = Unit {0}
+IsReading (Bench batches) = ⊥
+IsReading Upgrade = Unit {0}
+IsReading Image = Unit {0}
+IsReading (Retain name) = Unit {0}
+IsReading (Marks markers) = Unit {0}
+
+-- the task reads a script and runs it
+abbrev pub IsRunning : Task → Type 0
+IsRunning Run = Unit {0}
+IsRunning (Bench batches) = ⊥
+IsRunning Upgrade = ⊥
+IsRunning Image = Unit {0}
+IsRunning (Retain name) = ⊥
+IsRunning (Marks markers) = Unit {0}
 
 -- the words ask for no task
 abbrev pub IsWrong : List (List ℕ) → Type 0

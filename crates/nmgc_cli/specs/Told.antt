@@ -1,5 +1,5 @@
 -- What the program answers to which words and bytes, and what is written of it.
-use Rattle.std.specs.Prelude.{◌≡◌, ◌≢◌, ◌⊎◌, ◌≤◌, ◌+◌, ℕ, List, length, Option, Some, None, Ok, Err}
+use Rattle.std.specs.Prelude.{◌≡◌, ◌≢◌, ◌⊎◌, ◌≤◌, ◌+◌, ℕ, List, length, Option, Some, None, Result, Ok, Err}
 use Rattle.std.specs.Io.KnownBytes.{Consumes, Appends, Keeps, IsAtEnd}
 use Rattle.nmgc_io.specs.Counts.{Takes, TakesUpTo, AppendsFront}
 use Rattle.nmgc_script.specs.Limits.{upgraded}
@@ -9,28 +9,60 @@ use Rattle.nmgc_script.specs.Text.{kept_lines, end_of}
 use Rattle.nmgc_script.specs.declared.script.Script.{Script}
 use Rattle.nmgc_script.specs.declared.fault.Cause.{Cause}
 use Rattle.nmgc_journal.specs.declared.report.Report.{Report}
-use Rattle.nmgc_cli.specs.Answer.{Answer, answer_status, answer_report, answer_text}
+use Rattle.nmgc_graph.specs.declared.value.Name.{Name}
+use Rattle.nmgc_graph.specs.World.{World}
+use Rattle.nmgc_image.specs.declared.image.Image as shown
+use Rattle.nmgc_image.specs.declared.read.TheConstants.{MAX_IMAGE_BYTES}
+use Rattle.nmgc_image.specs.Faults.{IsFirstBad}
+use Rattle.nmgc_image.specs.Shows.{Shows}
+use Rattle.nmgc_image.specs.Spelling as spelling
+use Rattle.nmgc_retain.specs.declared.path.Retained.{Retained}
+use Rattle.nmgc_retain.specs.Levels.{IsCertified}
+use Rattle.nmgc_retain.specs.Text.{retained_text}
+use Rattle.nmgc_cycle.specs.Limits.{IsInLimits}
+use Rattle.nmgc_run.specs.Run.{last_state}
+use Rattle.nmgc_cli.specs.declared.answer.Outcome.{Outcome}
+use Rattle.nmgc_cli.specs.Answer.{Answer, Reported, answer_status, answer_report, answer_text}
 use Rattle.nmgc_cli.specs.Bench.{AnswersBench}
+use Rattle.nmgc_cli.specs.Marks.{IsMarksOf, IsMarksText}
 use Rattle.nmgc_journal.specs.Text.{report_text}
 use Rattle.nmgc_journal.specs.Summary.{summary_text}
 use Rattle.nmgc_script.specs.Bench.{bench_script}
 use Rattle.nmgc_run.specs.Crowded.{IsRunOf, IsHeapFull}
+use Rattle.nmgc_cli.specs.Runs.{IsRan}
 use Rattle.nmgc_cli.specs.Status.{status_of}
-use Rattle.nmgc_cli.specs.Task.{Asks, IsWrong, Reads}
-use Rattle.nmgc_cli.specs.declared.answer.Outcome.{Outcome}
-use Rattle.nmgc_cli.specs.declared.answer.Outcome.TheVariants.{Ran, Upgraded}
+use Rattle.nmgc_cli.specs.Task.{Asks, IsWrong, IsReading, IsRunning}
+use Rattle.nmgc_cli.specs.declared.answer.Refusal.{Refusal}
 use Rattle.nmgc_cli.specs.declared.answer.Refusal.TheVariants as no
 use Rattle.nmgc_cli.specs.declared.status.Status.{Status}
 use Rattle.nmgc_cli.specs.declared.status.Status.TheVariants.{Done, WriteFault, HeapFull, NoMemory}
 use Rattle.nmgc_cli.specs.declared.task.Task.{Task}
-use Rattle.nmgc_cli.specs.declared.task.Task.TheVariants.{Run, Bench, Upgrade}
+use Rattle.nmgc_cli.specs.declared.task.Task.TheVariants.{Run, Bench, Upgrade, Image, Retain, Marks}
 use Rattle.nmgc_limits.specs.Limits.{most_script_bytes}
 
--- what a source had left was read to its end, and is no more than a script may have
-pub record IsRead (old new : Option (List ℕ)) (bytes : List ℕ) : Type 0 where
+-- what a source had left was read to its end, and is no more than so many bytes
+pub record IsReadWithin (limit : ℕ) (old new : Option (List ℕ)) (bytes : List ℕ) : Type 0 where
   pub taken : Consumes old new bytes
   pub end : IsAtEnd new
-  pub within : length bytes ≤ most_script_bytes
+  pub within : length bytes ≤ limit
+
+-- it is no more than a script may have
+abbrev pub IsRead : Option (List ℕ) → Option (List ℕ) → List ℕ → Type 0
+IsRead old new bytes = IsReadWithin most_script_bytes old new bytes
+
+-- the text is the spelling of the image that shows the world
+abbrev pub SpellsWorld : World → List ℕ → Type 0
+SpellsWorld w text = (image : shown.Image) × Shows w image × spelling.Spells text image
+
+-- the bytes spell an image, and what is told is the text of an answer for this name that is certified, and so right
+pub record IsPathOf (name : Name) (bytes : List ℕ) (outcome : Outcome) : Type 0 where
+  pub image : shown.Image
+  pub spells : spelling.Spells bytes image
+  pub answer : Retained
+  pub certified : IsCertified image name answer
+  pub text : outcome.text.items ≡ retained_text answer
+  pub status : outcome.status ≡ Done
+  pub none : outcome.report ≡ None
 
 -- the bytes spell this script, and no other
 pub record SpellsOnly (bytes : List ℕ) (script : Script) : Type 0 where
@@ -42,41 +74,77 @@ pub record SpellsNone (bytes : List ℕ) (line : ℕ) (c : Cause) : Type 0 where
   pub none : (script : Script) → Spells bytes script → ⊥
   pub fault : Tells (end_of bytes) (kept_lines bytes) line c
 
--- the script was run, and this is the report
-abbrev pub IsRan : Script → Outcome → Type 0
-IsRan script (Ran report) = IsRunOf script report
-IsRan script _ = ⊥
-
--- the script was upgraded, and this is the plain spelling of its upgrade
-abbrev pub IsUpgraded : Script → Outcome → Type 0
-IsUpgraded script (Upgraded text) = text.items ≡ plain (upgraded script)
-IsUpgraded script _ = ⊥
+-- what is told is the plain spelling of the script's upgrade
+pub record IsUpgraded (script : Script) (outcome : Outcome) : Type 0 where
+  pub text : outcome.text.items ≡ plain (upgraded script)
+  pub status : outcome.status ≡ Done
+  pub none : outcome.report ≡ None
 
 -- the answer to a script's bytes, by what a script is to give
-abbrev pub AnswersBytes : (Script → Outcome → Type 0) → List ℕ → Answer → Type 0
-AnswersBytes Gives bytes (Ok outcome) = (script : Script) × SpellsOnly bytes script × Gives script outcome
+abbrev pub AnswersBytes : {X : Type 0} → (Script → X → Type 0) → List ℕ → Result X Refusal → Type 0
+AnswersBytes Gives bytes (Ok given) = (script : Script) × SpellsOnly bytes script × Gives script given
 AnswersBytes Gives bytes (Err (no.Bad line c)) = SpellsNone bytes line c
 AnswersBytes Gives bytes (Err no.NoMemory) = Unit {0}
 AnswersBytes Gives bytes (Err _) = ⊥
 
 -- the answer to a script that is read, by what a source had left and what it has now, and whether its count of faults rose
-abbrev pub AnswersScript : (Script → Outcome → Type 0) → Option (List ℕ) → Option (List ℕ) → Type 0 → Answer → Type 0
+abbrev pub AnswersScript : {X : Type 0} → (Script → X → Type 0) → Option (List ℕ) → Option (List ℕ) → Type 0 → Result X Refusal → Type 0
 AnswersScript Gives old new rose (Err no.Usage) = ⊥
 AnswersScript Gives old new rose (Err no.ReadFault) = TakesUpTo old new most_script_bytes × rose
 AnswersScript Gives old new rose (Err no.TooLong) = Takes old new (most_script_bytes + 1)
 AnswersScript Gives old new rose (Err no.NoMemory) = TakesUpTo old new most_script_bytes
 AnswersScript Gives old new rose answer = (bytes : List ℕ) × IsRead old new bytes × AnswersBytes Gives bytes answer
 
+-- what is told of a report: itself, the status of its end, and this of it
+pub record TellsReport (T : Report → List ℕ → Type 0) (report : Report) (outcome : Outcome) : Type 0 where
+  pub status : outcome.status ≡ status_of report.end
+  pub report_is : outcome.report ≡ Some report
+  pub text : T report outcome.text.items
+
+-- the answer to a task that a report is made for: it tells the report, or why there is none
+abbrev pub TellsOf : (Report → List ℕ → Type 0) → (Reported → Type 0) → Answer → Type 0
+TellsOf T A (Ok outcome) = (report : Report) × A (Ok report) × TellsReport T report outcome
+TellsOf T A (Err refusal) = A (Err refusal)
+
+-- what each of the tasks writes of its report: the text of all that happened, the summary, or the image of the heap that the run left
+abbrev pub IsText : Report → List ℕ → Type 0
+IsText report text = text ≡ report_text report
+
+abbrev pub IsSummary : ℕ → Report → List ℕ → Type 0
+IsSummary batches report text = text ≡ summary_text batches report
+
+abbrev pub IsImageText : Report → List ℕ → Type 0
+IsImageText report text = (script : Script) → IsInLimits script → (run : IsRunOf script report) → SpellsWorld (last_state run.lawful.run).world text
+
+-- the answer to an image's bytes, for a path to this name
+abbrev pub AnswersImage : Name → List ℕ → Answer → Type 0
+AnswersImage name bytes (Ok outcome) = IsPathOf name bytes outcome
+AnswersImage name bytes (Err (no.BadImage line)) = IsFirstBad bytes line
+AnswersImage name bytes (Err no.NoMemory) = Unit {0}
+AnswersImage name bytes (Err _) = ⊥
+
+-- the answer to `retain NAME`, by what a source had left and what it has now, and whether its count of faults rose
+abbrev pub AnswersRetain : Name → Option (List ℕ) → Option (List ℕ) → Type 0 → Answer → Type 0
+AnswersRetain name old new rose (Err no.Usage) = ⊥
+AnswersRetain name old new rose (Err no.ReadFault) = TakesUpTo old new MAX_IMAGE_BYTES × rose
+AnswersRetain name old new rose (Err no.TooLong) = Takes old new (MAX_IMAGE_BYTES + 1)
+AnswersRetain name old new rose (Err no.NoMemory) = TakesUpTo old new MAX_IMAGE_BYTES
+AnswersRetain name old new rose answer = (bytes : List ℕ) × IsReadWithin MAX_IMAGE_BYTES old new bytes × AnswersImage name bytes answer
+
 -- the answer to a task: a bench reads nothing, and an upgrade is read for as a run is
 abbrev pub Answers : Task → Option (List ℕ) → Option (List ℕ) → Type 0 → Answer → Type 0
-Answers Run old new rose answer = AnswersScript IsRan old new rose answer
-Answers (Bench batches) old new rose answer = Keeps old new × AnswersBench batches answer
+Answers Run old new rose answer = TellsOf IsText (AnswersScript IsRan old new rose) answer
+Answers (Bench batches) old new rose answer = Keeps old new × TellsOf (IsSummary batches) (AnswersBench batches) answer
 Answers Upgrade old new rose answer = AnswersScript IsUpgraded old new rose answer
+Answers Image old new rose answer = TellsOf IsImageText (AnswersScript IsRan old new rose) answer
+Answers (Retain name) old new rose answer = AnswersRetain name old new rose answer
+Answers (Marks markers) old new rose answer = TellsOf (IsMarksText markers) (AnswersScript IsRan old new rose) answer
 
 -- the answer to these words
 abbrev pub IsTold : List (List ℕ) → Option (List ℕ) → Option (List ℕ) → Type 0 → Answer → Type 0
 IsTold words old new rose (Err no.Usage) = IsWrong words × Keeps old new
-IsTold words old new rose answer = (task : Task) × Asks words task × Answers task old new rose answer
+IsTold words old new rose (Ok outcome) = (task : Task) × Asks words task × Answers task old new rose (Ok outcome)
+IsTold words old new rose (Err refusal) = (task : Task) × Asks words task × Answers task old new rose (Err refusal)
 
 -- the text was written whole, or the sink failed and has a front of it
 abbrev pub IsWritten : Option (List ℕ) → Option (List ℕ) → Type 0 → Status → List ℕ → Status → Type 0
@@ -105,9 +173,34 @@ pub record IsReportOfBench (words : List (List ℕ)) (left left' taken taken' : 
   pub run : IsRunOf (bench_script batches) report
   pub written : IsWritten taken taken' rose (status_of report.end) (summary_text batches report) status
 
+-- a report of `image`: as one of `run`, and what was written is the spelling of the image that shows the last world
+pub record IsReportOfImage (words : List (List ℕ)) (left left' taken taken' : Option (List ℕ)) (rose : Type 0) (status : Status) (report : Report) : Type 0 where
+  pub asked : Asks words Image
+  pub bytes : List ℕ
+  pub read : IsRead left left' bytes
+  pub script : Script
+  pub spells : SpellsOnly bytes script
+  pub run : IsRunOf script report
+  pub text : List ℕ
+  pub shows : SpellsWorld (last_state run.lawful.run).world text
+  pub written : IsWritten taken taken' rose (status_of report.end) text status
+
+-- a report of `marks N`: as one of `run`, and what was written are the lines of what the registers and queues of the run's last world reach by strong fields
+pub record IsReportOfMarks (words : List (List ℕ)) (left left' taken taken' : Option (List ℕ)) (rose : Type 0) (status : Status) (report : Report) : Type 0 where
+  pub markers : ℕ
+  pub asked : Asks words (Marks markers)
+  pub bytes : List ℕ
+  pub read : IsRead left left' bytes
+  pub script : Script
+  pub spells : SpellsOnly bytes script
+  pub run : IsRunOf script report
+  pub text : List ℕ
+  pub is_text : IsMarksOf markers script report run.lawful text
+  pub written : IsWritten taken taken' rose (status_of report.end) text status
+
 -- what a report is: it follows from what is told (`IsTold`, `Ends`), and is said in one piece for readers
 abbrev pub IsReport : List (List ℕ) → Option (List ℕ) → Option (List ℕ) → Option (List ℕ) → Option (List ℕ) → Type 0 → Status → Report → Type 0
-IsReport words left left' taken taken' rose status report = IsReportOfRun words left left' taken taken' rose status report ⊎ IsReportOfBench words left left' taken taken' rose status report
+IsReport words left left' taken taken' rose status report = IsReportOfRun words left left' taken taken' rose status report ⊎ (IsReportOfBench words left left' taken taken' rose status report ⊎ (IsReportOfImage words left left' taken taken' rose status report ⊎ IsReportOfMarks words left left' taken taken' rose status report))
 
 -- words that ask for an upgrade leave no report and tell of no full heap; where it was done, what was left was read to its end and spells one script, and the plain spelling of its upgrade was written
 abbrev pub IsUpgrade : List (List ℕ) → Option (List ℕ) → Option (List ℕ) → Option (List ℕ) → Option (List ℕ) → Status → Option Report → Type 0
@@ -125,7 +218,7 @@ IsRunThrough script status report = (status ≡ NoMemory) ⊎ (status ≡ Done) 
 
 -- a script within the limit is run through, where neither the source nor the sink fails
 abbrev pub IsComplete : List (List ℕ) → Option (List ℕ) → Type 0 → Type 0 → Status → Option Report → Type 0
-IsComplete words left read_fault write_fault status report = (bytes : List ℕ) (script : Script) → Asks words Run → left ≡ Some bytes → length bytes ≤ most_script_bytes → Spells bytes script
+IsComplete words left read_fault write_fault status report = (bytes : List ℕ) (script : Script) (task : Task) → Asks words task → IsRunning task → left ≡ Some bytes → length bytes ≤ most_script_bytes → Spells bytes script
     → (read_fault → ⊥) → (write_fault → ⊥) → IsRunThrough script status report
 
 -- a bench is run through, where the sink doesn't fail
@@ -137,6 +230,11 @@ abbrev pub IsUpgradeComplete : List (List ℕ) → Option (List ℕ) → Type 0 
 IsUpgradeComplete words left read_fault write_fault status = (bytes : List ℕ) (script : Script) → Asks words Upgrade → left ≡ Some bytes → length bytes ≤ most_script_bytes → Spells bytes script
     → (read_fault → ⊥) → (write_fault → ⊥) → (status ≡ NoMemory) ⊎ (status ≡ Done)
 
+-- so is an image within the limit, for a path to any name: the path is told, or there was no memory
+abbrev pub IsRetainComplete : List (List ℕ) → Option (List ℕ) → Type 0 → Type 0 → Status → Type 0
+IsRetainComplete words left read_fault write_fault status = (name : Name) (bytes : List ℕ) (image : shown.Image) → Asks words (Retain name) → left ≡ Some bytes → length bytes ≤ MAX_IMAGE_BYTES → spelling.Spells bytes image
+    → (read_fault → ⊥) → (write_fault → ⊥) → (status ≡ NoMemory) ⊎ (status ≡ Done)
+
 -- the words ask for nothing that is read
 abbrev pub ReadsNothing : List (List ℕ) → Type 0
-ReadsNothing words = (task : Task) → Asks words task → Reads task → ⊥
+ReadsNothing words = (task : Task) → Asks words task → IsReading task → ⊥

@@ -1,42 +1,56 @@
-//! What the program answers: what a task gives, or why it wasn't done.
+//! What the program answers: a task that was done, or why none was.
 //!
 //! An answer is settled before the sink is touched. Its status, its report and its text are functions of
 //! it, so none of them can be at odds with the others: no refusal is `Done`, and no report goes with a
 //! refusal.
 //! Easy to get wrong: a text that takes memory may not be there after all. The answer is then
 //! `NoMemory`, whose own text takes none.
-ghost use Rattle.std.specs.Prelude.{◌≡◌};
-ghost use Rattle.nmgc_cli.specs.Answer.{refusal_status, read_refusal, script_refusal};
+ghost use Rattle.std.specs.Prelude.{◌≡◌, Some};
+ghost use Rattle.nmgc_cli.specs.Answer.{refusal_status, read_refusal, script_refusal, image_refusal};
+ghost use Rattle.nmgc_cli.specs.Status.{status_of};
 ghost use Rattle.nmgc_cli.specs.declared.answer.Refusal.TheVariants.{NoMemory as no_memory};
 
 use crate::Status;
 use nmgc_graph::NoMemory;
+use nmgc_image::ImageFault;
 use nmgc_io::ReadEnd;
 use nmgc_journal::Report;
 use nmgc_script::{Cause, ScriptFault};
 
-/// What a task gives that was done.
+/// What is told of a task that was done: its status, the report where a script was run, and the text.
 #[derive(Drop)]
-pub enum Outcome {
-    /// The report of a script's run.
-    Ran(Report),
-    /// The report of a bench of so many batches.
-    Benched { batches: u32, report: Report },
-    /// The plain spelling of a script's upgrade.
-    Upgraded(Vec<u8>),
+pub struct Outcome {
+    pub status: Status,
+    pub report: Option<Report>,
+    pub text: Vec<u8>,
 }
 
-/// Why the task wasn't done.
+impl Outcome {
+    /// A script was run: its report, with what is written of it.
+    pub fn of_report(report: Report, text: Vec<u8>) -> Self
+        ensures { result ≡ record { status = status_of report.end; report = Some report; text = text } }
+    {
+        Outcome {
+            status: Status::of_end(report.end),
+            report: Some(report),
+            text,
+        }
+    }
+}
+
+/// Why no task was done.
 #[derive(Clone, Copy, Debug, PartialEq, Eq)]
 pub enum Refusal {
     /// The words ask for no task.
     Usage,
     /// The source failed.
     ReadFault,
-    /// There are more bytes than a script may have.
+    /// There are more bytes than a script or an image may have.
     TooLong,
     /// The bytes spell no script: the first bad line, from 1, and its cause.
     Bad { line: u32, cause: Cause },
+    /// The bytes spell no image: the first bad line, from 1.
+    BadImage { line: u32 },
     /// There was no memory.
     NoMemory,
 }
@@ -51,6 +65,7 @@ impl Refusal {
             Refusal::ReadFault => Status::ReadFault,
             Refusal::TooLong => Status::TooLong,
             Refusal::Bad { .. } => Status::BadScript,
+            Refusal::BadImage { .. } => Status::BadImage,
             Refusal::NoMemory => Status::NoMemory,
         }
     }
@@ -83,6 +98,17 @@ impl From<ScriptFault> for Refusal {
         match fault {
             ScriptFault::Bad { line, cause } => Refusal::Bad { line, cause },
             ScriptFault::NoMemory => Refusal::NoMemory,
+        }
+    }
+}
+
+impl From<ImageFault> for Refusal {
+    ghost from_gives = { λ fault refusal. refusal ≡ image_refusal fault };
+
+    fn from(fault: ImageFault) -> Self {
+        match fault {
+            ImageFault::Bad { line } => Refusal::BadImage { line },
+            ImageFault::NoMemory => Refusal::NoMemory,
         }
     }
 }

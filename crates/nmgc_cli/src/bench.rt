@@ -4,17 +4,19 @@
 //! a run as any other, so what is proved of runs holds of it; its summary is written in place of its text.
 //! Easy to get wrong: `bench 0` and `bench 01` are wrong words, as `bench 101` is.
 ghost use Rattle.std.specs.Prelude.{◌≡◌, ℕ, [], ◌∷◌, decimal, map, string_bytes, IfOk, IfSome, IfNone};
-ghost use Rattle.nmgc_cli.specs.Bench.{AnswersBench, CanBeWritten, HasCount};
+ghost use Rattle.nmgc_cli.specs.Bench.{AnswersBench, HasCount};
 ghost use Rattle.nmgc_run.specs.Crowded.{IsRunOf};
 ghost use Rattle.nmgc_cli.specs.Task.{Asks, IsBench};
+ghost use Rattle.nmgc_cli.specs.Told.{TellsOf, IsSummary};
 ghost use Rattle.nmgc_cli.specs.declared.task.Task.TheVariants.{Bench};
 ghost use Rattle.nmgc_script.specs.Bench.{bench_script};
 
 use crate::answer::{Outcome, Refusal};
-use crate::top::run_script;
+use crate::run::run_script;
 use nmgc_graph::NoMemory;
 use nmgc_io::read_number;
 use nmgc_journal::Report;
+use nmgc_journal::summary::summary;
 use nmgc_script::{MAX_BATCHES, generate};
 use std::alloc::Global;
 use std::thread::Threads;
@@ -54,17 +56,17 @@ fn batches_in(word: &[u8]) -> Option<u32>
     Some(number as u32)
 }
 
-/// The answer to a bench of so many batches. A report answers few enough commands to be counted.
+/// The answer to a bench of so many batches.
 pub fn bench<R: Threads + Sync>(alloc: Global, rt: &R, batches: u32) -> Result<Outcome, Refusal>
     requires { IsBench batches }
-    ensures answer { AnswersBench batches result }
-    ensures count { IfOk result (λ outcome. CanBeWritten outcome) }
+    ensures { TellsOf (IsSummary batches) (AnswersBench batches) result }
 {
     let report = bench_report(alloc, rt, batches)?;
-    Ok(Outcome::Benched { batches, report })
+    let text = summary(alloc, batches, &report)?;
+    Ok(Outcome::of_report(report, text))
 }
 
-// The report of a bench.
+// The report of a bench. It answers few enough commands to be counted.
 fn bench_report<R: Threads + Sync>(alloc: Global, rt: &R, batches: u32) -> Result<Report, NoMemory>
     requires { IsBench batches }
     ensures run { IfOk result (λ report. IsRunOf (bench_script batches) report) }

@@ -3,8 +3,8 @@ ghost use Rattle.std.specs.Prelude.{◌≡◌, ◌⊎◌};
 ghost use Rattle.nmgc_io.specs.Causes.{Rose};
 ghost use Rattle.nmgc_cli.specs.Program.{Ran};
 
-use crate::words::{CommandLine, words_of};
 use crate::{Status, nmgc};
+use nmgc_arguments::{CommandLine, words_of};
 use nmgc_io::{Sink, Source};
 use std::alloc::Global;
 use std::thread::Threads;

@@ -1,6 +1,6 @@
 //! The texts of refusals.
 ghost use Rattle.std.specs.Prelude.{◌≡◌, IfOk};
-ghost use Rattle.nmgc_cli.specs.Answer.{IsBad, refusal_text, cause_text, bad_line};
+ghost use Rattle.nmgc_cli.specs.Answer.{IsBad, refusal_text, cause_text, bad_line, bad_image_line};
 
 use crate::answer::Refusal;
 use nmgc_graph::NoMemory;
@@ -14,10 +14,11 @@ pub fn message(refusal: Refusal) -> &'static [u8]
     ensures { result.now ≡ refusal_text refusal }
 {
     match refusal {
-        Refusal::Usage => b"usage: nmgc run | nmgc bench N | nmgc upgrade\n",
+        Refusal::Usage =>
+            b"usage: nmgc run | nmgc bench N | nmgc upgrade | nmgc image | nmgc retain NAME | nmgc marks N\n",
         Refusal::ReadFault => b"read fault\n",
         Refusal::TooLong => b"too long\n",
-        Refusal::Bad { .. } => unreachable!(),
+        Refusal::Bad { .. } | Refusal::BadImage { .. } => unreachable!(),
         Refusal::NoMemory => b"no memory\n",
     }
 }
@@ -30,6 +31,16 @@ pub fn bad_line(alloc: Global, line: u32, cause: Cause) -> Result<Vec<u8>, NoMem
     push_number(&mut text, u64::from(line))?;
     text.push(b' ')?;
     text.extend_from_slice(cause_text(cause))?;
+    text.push(b'\n')?;
+    Ok(text)
+}
+
+/// The text that tells the first bad line of an image, from 1.
+pub fn bad_image_line(alloc: Global, line: u32) -> Result<Vec<u8>, NoMemory>
+    ensures { IfOk result (λ text. text.items ≡ bad_image_line line) }
+{
+    let mut text = Vec::from_slice(alloc, b"bad image line ")?;
+    push_number(&mut text, u64::from(line))?;
     text.push(b'\n')?;
     Ok(text)
 }

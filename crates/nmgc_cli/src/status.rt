@@ -7,7 +7,8 @@ use nmgc_journal::{End, Report};
 /// How the program ended. Each has its own text, and a number with which the process ends.
 #[derive(Clone, Copy, Debug, PartialEq, Eq)]
 pub enum Status {
-    /// The script was run to its end, and the report's text or the summary was written; or its upgrade was. Number 0.
+    /// The script was run to its end and what the task tells of its report was written; or its upgrade was, or the path of
+    /// an object in an image. Number 0.
     Done,
     /// The words ask for no task; nothing was read. Number 2.
     Usage,
@@ -17,13 +18,15 @@ pub enum Status {
     WriteFault,
     /// The bytes spell no script. Number 5.
     BadScript,
-    /// There are more bytes than a script may have. Number 5.
+    /// There are more bytes than a script or an image may have. Number 5.
     TooLong,
     /// The run ended at a stop where commands were left, and where even a full cycle left fewer segments free
-    /// than the reserve; the report's text or the summary was written. Number 6.
+    /// than the reserve; what the task tells of its report was written. Number 6.
     HeapFull,
     /// There was no memory. Number 7.
     NoMemory,
+    /// The bytes spell no image. Number 9.
+    BadImage,
 }
 
 impl Status {
@@ -39,6 +42,7 @@ impl Status {
             Status::BadScript | Status::TooLong => 5,
             Status::HeapFull => 6,
             Status::NoMemory => 7,
+            Status::BadImage => 9,
         }
     }
 
@@ -54,7 +58,7 @@ impl Status {
 }
 
 /// The status, and the report where a script was run, whether to its end or until its heap was full. Where
-/// the sink failed, the report is there if it was its text or its summary that was to be written.
+/// the sink failed, the report is there if it was its text, its summary or its image that was to be written.
 #[derive(Drop)]
 pub struct Ended {
     pub status: Status,

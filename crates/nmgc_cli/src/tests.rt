@@ -2,14 +2,17 @@
 //!
 //! - `runs`: scripts that are run or refused, and what is written; `large`: those of the most bytes.
 //! - `faults`: scripts that are cut, and sources and sinks that fail.
-//! - `benches`: benches and their summaries. `upgrades`: upgrades. `lines`: words, command lines, and statuses.
+//! - `images`: images of what a run left, and paths in them. `marks`: what markers mark of it. `upgrades`: upgrades.
+//! - `benches`: benches and their summaries. `lines`: words, command lines, and statuses.
 //! - `running`: what the others share.
 //!
 //! Tables are looked through by one function each, whose proof sees no row of them.
 mod benches;
 mod faults;
+mod images;
 mod large;
 mod lines;
+mod marks;
 mod running;
 mod runs;
 mod upgrades;

@@ -1,18 +1,14 @@
 //! What is told of an answer: its status, its report and its text.
 //!
-//! The text of a report, its summary and the text of a bad line take memory. Where there is none, the answer is
+//! What a task tells was made with it. The text of a bad line takes memory too: where there is none, the answer is
 //! `NoMemory` in place of the one that was found.
-ghost use Rattle.std.specs.Prelude.{◌≡◌, ◌⊎◌, Ok, Err, Some};
+ghost use Rattle.std.specs.Prelude.{◌≡◌, ◌⊎◌, Ok, Err};
 ghost use Rattle.nmgc_cli.specs.Answer.{IsBad, IsToldAs, text_bytes};
-ghost use Rattle.nmgc_cli.specs.Bench.{CanBeWritten, HasCount};
-ghost use Rattle.nmgc_cli.specs.Status.{status_of};
 
 use crate::Status;
 use crate::answer::{Outcome, Refusal};
-use crate::message::{bad_line, message};
+use crate::message::{bad_image_line, bad_line, message};
 use nmgc_journal::Report;
-use nmgc_journal::summary::summary;
-use nmgc_journal::text::text;
 use nmgc_script::Cause;
 use std::alloc::Global;
 
@@ -44,51 +40,17 @@ impl Text {
 }
 
 /// What is told of a task that was done.
-pub fn told_outcome(alloc: Global, outcome: Outcome) -> Told
-    requires { CanBeWritten outcome }
-    ensures { IsToldAs (Ok outcome) result ⊎ IsToldAs (Err Refusal.NoMemory) result }
+pub fn told_outcome(outcome: Outcome) -> Told
+    ensures { IsToldAs (Ok outcome) result }
 {
-    match outcome {
-        Outcome::Ran(report) => told_run(alloc, report),
-        Outcome::Benched { batches, report } => told_bench(alloc, batches, report),
-        Outcome::Upgraded(text) => Told {
-            status: Status::Done,
-            report: None,
-            text: Text::Made(text),
-        },
-    }
-}
-
-// What is told of a run: its report's text.
-fn told_run(alloc: Global, report: Report) -> Told
-    ensures { IsToldAs (Ok (Outcome.Ran report)) result ⊎ IsToldAs (Err Refusal.NoMemory) result }
-{
-    match text(alloc, &report) {
-        Ok(text) => told_report(report, text),
-        Err(_) => told_fixed(Refusal::NoMemory),
-    }
-}
-
-// What is told of a bench: the summary of its report.
-fn told_bench(alloc: Global, batches: u32, report: Report) -> Told
-    requires { HasCount report }
-    ensures { IsToldAs (Ok (Outcome.Benched batches report)) result ⊎ IsToldAs (Err Refusal.NoMemory) result }
-{
-    match summary(alloc, batches, &report) {
-        Ok(text) => told_report(report, text),
-        Err(_) => told_fixed(Refusal::NoMemory),
-    }
-}
-
-// What is told of a report by this text.
-fn told_report(report: Report, text: Vec<u8>) -> Told
-    ensures status { result.status ≡ status_of report.end }
-    ensures report { result.report ≡ Some report }
-    ensures text { text_bytes result.text ≡ text.items }
-{
+    let Outcome {
+        status,
+        report,
+        text,
+    } = outcome;
     Told {
-        status: Status::of_end(report.end),
-        report: Some(report),
+        status,
+        report,
         text: Text::Made(text),
     }
 }
@@ -99,6 +61,7 @@ pub fn told_refusal(alloc: Global, refusal: Refusal) -> Told
 {
     match refusal {
         Refusal::Bad { line, cause } => told_bad(alloc, line, cause),
+        Refusal::BadImage { line } => told_bad_image(alloc, line),
         other => told_fixed(other),
     }
 }
@@ -110,6 +73,20 @@ fn told_bad(alloc: Global, line: u32, cause: Cause) -> Told
     match bad_line(alloc, line, cause) {
         Ok(text) => Told {
             status: Status::BadScript,
+            report: None,
+            text: Text::Made(text),
+        },
+        Err(_) => told_fixed(Refusal::NoMemory),
+    }
+}
+
+// What is told of a bad line of an image.
+fn told_bad_image(alloc: Global, line: u32) -> Told
+    ensures { IsToldAs (Err (Refusal.BadImage line)) result ⊎ IsToldAs (Err Refusal.NoMemory) result }
+{
+    match bad_image_line(alloc, line) {
+        Ok(text) => Told {
+            status: Status::BadImage,
             report: None,
             text: Text::Made(text),
         },

@@ -14,7 +14,7 @@ use std::test::Fail;
 use std::thread::Threads;
 
 // Words that ask for no task.
-const WRONG: [&[&str]; 16] = [
+const WRONG: [&[&str]; 21] = [
     &[],
     &[""],
     &["run", "run"],
@@ -31,6 +31,11 @@ const WRONG: [&[&str]; 16] = [
     &["Upgrade"],
     &["upgrade", "1"],
     &["run", "upgrade"],
+    &["image", "0.0"],
+    &["retain"],
+    &["retain", "0.0", "0.0"],
+    &["retain", "0.01"],
+    &["retain", "nil"],
 ];
 
 // Looks whether these words are told to be wrong.
@@ -131,7 +136,7 @@ fn the_program_ends_with_its_number(rt: HostRuntime) -> Result<(), Fail> {
 
 #[test]
 fn statuses_have_numbers(rt: HostRuntime) {
-    let rows: [(Status, u8); 8] = [
+    let rows: [(Status, u8); 9] = [
         (Status::Done, 0),
         (Status::Usage, 2),
         (Status::ReadFault, 3),
@@ -140,6 +145,7 @@ fn statuses_have_numbers(rt: HostRuntime) {
         (Status::TooLong, 5),
         (Status::HeapFull, 6),
         (Status::NoMemory, 7),
+        (Status::BadImage, 9),
     ];
     for (status, number) in rows {
         assert_eq!(rt; status.number(), number);

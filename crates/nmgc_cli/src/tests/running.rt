@@ -39,7 +39,8 @@ get r2 r1 0
 show r0
 ";
 
-pub const USAGE: &str = "usage: nmgc run | nmgc bench N | nmgc upgrade\n";
+pub const USAGE: &str =
+    "usage: nmgc run | nmgc bench N | nmgc upgrade | nmgc image | nmgc retain NAME | nmgc marks N\n";
 
 pub const EMPTY_REPORT: &str = "report 1
 stop 0 idle free 32 filled 0 sweep 0 promoted 0

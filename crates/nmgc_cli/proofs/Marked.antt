@@ -1,0 +1,41 @@
+-- The heap of a lawful report can be marked, and what markers list of it is what is written.
+use Rattle.std.proofs.Common.{◌≡◌, ℕ, List, subst}
+use Rattle.nmgc_graph.specs.declared.value.Name.{Name}
+use Rattle.nmgc_graph.specs.declared.value.Value.{Value}
+use Rattle.nmgc_graph.specs.World.{World}
+use Rattle.nmgc_graph.specs.Reach.{Lists}
+use Rattle.nmgc_script.specs.declared.script.Script.{Script}
+use Rattle.nmgc_alloc.specs.Segments.{IsSegments}
+use Rattle.nmgc_journal.specs.declared.report.Report.{Report}
+use Rattle.nmgc_run.specs.Lawful.{IsLawful}
+use Rattle.nmgc_run.specs.Run.{last_state}
+use Rattle.nmgc_run.specs.State.{plan_of, layout_of}
+use Rattle.nmgc_run.specs.laws.Crowding.{runnable_of}
+use Rattle.nmgc_run.specs.laws.Runs.{states_are_sound}
+use Rattle.nmgc_cycle.specs.Limits.{IsInLimits}
+use Rattle.nmgc_pmark.specs.Claims.{Stopped, IsStopped, IsStrong, AreClaims}
+use Rattle.nmgc_pmark.specs.OneMarker.{roots_of}
+use Rattle.nmgc_pmark.specs.Stops.{root_words, IsStoppedAs, StopsAreStopped}
+use Rattle.nmgc_cli.specs.Marks.{AreClaimsOf, IsMarksText, last_world, marks_lines}
+
+-- it is a stopped heap with the last world of the run
+pub stopped_of : StopsAreStopped → (script : Script) (report : Report) → IsInLimits script → (lawful : IsLawful script report) → IsSegments report.segments → IsStoppedAs (last_state lawful.run) report.segments report.words (root_words report.mutators)
+stopped_of law script report limits lawful sound =
+    let state = states_are_sound (plan_of script) lawful.run (runnable_of script limits.fits limits.few) lawful.is_run in
+    law (layout_of (plan_of script)) (last_state lawful.run) report.words report.segments report.mutators lawful.weaks state.world sound lawful.heap
+
+-- so what markers claim of it is what they claim in that world
+pub claims_are : StopsAreStopped → (report : Report) (markers : ℕ) (by : List (List Name)) → IsSegments report.segments → ((h : Stopped) → IsStopped h report.segments report.words (root_words report.mutators) → AreClaims h.world h.roots markers by) → AreClaimsOf markers report by
+claims_are law report markers by sound claims = λ script limits lawful.
+    let s = stopped_of law script report limits lawful sound in
+    let of_roots : AreClaims s.heap.world (roots_of (last_state lawful.run).world) markers by = subst (λ (roots : List Value). AreClaims s.heap.world roots markers by) s.roots_are (claims s.heap s.is) in
+    subst (λ (w : World). AreClaims w (roots_of (last_state lawful.run).world) markers by) s.world of_roots
+
+-- and their names are those of the text
+pub marks_are : (report : Report) (markers : ℕ) (by : List (List Name)) (names : List Name) (text : List ℕ) → AreClaimsOf markers report by → ((w : World) (roots : List Value) (count : ℕ) → AreClaims w roots count by → Lists (IsStrong w roots) names) → text ≡ marks_lines markers names report.end → IsMarksText markers report text
+marks_are report markers by names text claims listed is = λ script limits lawful.
+    record {
+      names = names;
+      reached = listed (last_world script report lawful) (roots_of (last_world script report lawful)) markers (claims script limits lawful);
+      text_is = is;
+    }

@@ -1,0 +1,18 @@
+use Rattle.std.proofs.Common.{ap, sym, subst}
+use Rattle.nmgc_cli.specs.Marks.{IsMarksText}
+use Rattle.nmgc_cli.specs.declared.answer.Outcome.{Outcome}
+use Rattle.nmgc_cli.proofs.marks.marks.Goals as goal
+
+pub marks_text-requires-clause-script : goal.marks_text-requires-clause-script
+marks_text-requires-clause-script g c κs within = let given = c.in_ok-report.ensures.2 in record { script = given.0; limits = given.2.limits; run = given.2.run }
+
+pub returns : goal.returns
+returns g c = (
+  c.in_ok-report.report,
+  c.in_ok-report.ensures,
+  record {
+    status = ap (λ (o : Outcome). o.status) c.of_report.ensures;
+    report_is = ap (λ (o : Outcome). o.report) c.of_report.ensures;
+    text = subst (λ (o : Outcome). IsMarksText c.args.markers c.in_ok-report.report o.text.items) (sym c.of_report.ensures) c.in_ok-text.ensures;
+  },
+)

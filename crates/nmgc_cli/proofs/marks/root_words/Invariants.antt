@@ -1,0 +1,14 @@
+use Rattle.std.proofs.Common.{◌≡◌, ◌++◌, List, ℕ, drop}
+use Rattle.std.specs.List.{flat_map}
+use Rattle.nmgc_journal.specs.declared.report.MutatorEnd.{MutatorEnd}
+use Rattle.nmgc_pmark.specs.Stops.{root_words}
+use Rattle.nmgc_run.specs.Heap.{registers_of}
+use Rattle.nmgc_cli.proofs.marks.root_words.Given as goal
+
+-- the registers so far and those of the mutators left are all
+abbrev pub invariant-loop-mutator : goal.invariant-loop-mutator
+invariant-loop-mutator l = l.roots.items ++ registers_of (drop l.mutator-index l.mutators) ≡ registers_of l.mutators
+
+-- and then the queues
+abbrev pub invariant-loop-mutator-2 : goal.invariant-loop-mutator-2
+invariant-loop-mutator-2 l = l.roots.items ++ flat_map (λ (m : MutatorEnd). m.queue) (drop l.mutator-index l.mutators) ≡ root_words l.mutators

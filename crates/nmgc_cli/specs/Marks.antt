@@ -1,0 +1,41 @@
+-- What `marks N` writes: what the registers and queues of a run's last world reach by strong fields.
+use Rattle.std.specs.Prelude.{◌≡◌, ℕ, List, [], ◌∷◌, ◌++◌, length, codes, decimal}
+use Rattle.std.specs.List.{flat_map}
+use Rattle.nmgc_graph.specs.declared.value.Name.{Name}
+use Rattle.nmgc_graph.specs.World.{World}
+use Rattle.nmgc_graph.specs.Reach.{Lists}
+use Rattle.nmgc_script.specs.declared.script.Script.{Script}
+use Rattle.nmgc_journal.specs.declared.report.Report.{Report}
+use Rattle.nmgc_journal.specs.declared.report.End.{End}
+use Rattle.nmgc_journal.specs.Text.{name_text, end_text}
+use Rattle.nmgc_run.specs.Lawful.{IsLawful}
+use Rattle.nmgc_run.specs.Run.{last_state}
+use Rattle.nmgc_cycle.specs.Limits.{IsInLimits}
+use Rattle.nmgc_pmark.specs.Claims.{IsStrong, AreClaims}
+use Rattle.nmgc_pmark.specs.OneMarker.{roots_of}
+
+-- the line of a name
+abbrev pub name_line : Name → List ℕ
+name_line name = name_text name ++ 10 ∷ []
+
+-- how many markers there were, how many names were reached, each of them, and how the run ended
+abbrev pub marks_lines : ℕ → List Name → End → List ℕ
+marks_lines markers names end = (codes "marks " ++ decimal markers ++ 10 ∷ []) ++ (codes "reached " ++ decimal (length names) ++ 10 ∷ []) ++ flat_map name_line names ++ end_text end
+
+-- the world that a lawful report's run leaves
+abbrev pub last_world : (script : Script) (report : Report) → IsLawful script report → World
+last_world script report lawful = (last_state lawful.run).world
+
+-- what so many markers claim in that world from what its mutators hold, for every script within the limits of which the report is lawful
+abbrev pub AreClaimsOf : ℕ → Report → List (List Name) → Type 0
+AreClaimsOf markers report by = (script : Script) → IsInLimits script → (lawful : IsLawful script report) → AreClaims (last_world script report lawful) (roots_of (last_world script report lawful)) markers by
+
+-- the names are those that strong fields reach in that world from what its mutators hold and from the slots of g, in order, and the text tells them
+pub record IsMarksOf (markers : ℕ) (script : Script) (report : Report) (lawful : IsLawful script report) (text : List ℕ) : Type 0 where
+  pub names : List Name
+  pub reached : Lists (IsStrong (last_world script report lawful) (roots_of (last_world script report lawful))) names
+  pub text_is : text ≡ marks_lines markers names report.end
+
+-- the text is that of the report, for every script within the limits of which the report is lawful
+abbrev pub IsMarksText : ℕ → Report → List ℕ → Type 0
+IsMarksText markers report text = (script : Script) → IsInLimits script → (lawful : IsLawful script report) → IsMarksOf markers script report lawful text

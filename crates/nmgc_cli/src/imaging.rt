@@ -1,0 +1,37 @@
+//! The words `image`: the heap that a run left, as an image.
+ghost use Rattle.std.specs.Prelude.{IfOk};
+ghost use Rattle.nmgc_io.specs.Causes.{Rose};
+ghost use Rattle.nmgc_cli.specs.Runs.{IsRan, IsOfScript};
+ghost use Rattle.nmgc_cli.specs.Told.{AnswersScript, TellsOf, IsImageText};
+
+use crate::answer::{Outcome, Refusal};
+use crate::run::read_and_run;
+use nmgc_graph::NoMemory;
+use nmgc_image::write_image;
+use nmgc_io::Source;
+use nmgc_journal::Report;
+use std::alloc::Global;
+use std::thread::Threads;
+
+/// The answer to `image`.
+pub fn image<R: Threads + Sync, S: Source>(
+    alloc: Global,
+    rt: &R,
+    source: &mut S,
+) -> Result<Outcome, Refusal>
+    ensures { TellsOf IsImageText (AnswersScript IsRan (S.left source.old) (S.left source.new) (Rose (S.faults source.old) (S.faults source.new))) result }
+{
+    let report = read_and_run(alloc, rt, source)?;
+    let text = image_of(alloc, &report)?;
+    Ok(Outcome::of_report(report, text))
+}
+
+// The image of the heap that a report has.
+fn image_of(alloc: Global, report: &Report) -> Result<Vec<u8>, NoMemory>
+    requires { IsOfScript report.now }
+    ensures { IfOk result (λ text. IsImageText report.now text.items) }
+{
+    // That the segments are sound is known to them, and asked of by the law that what a run left stands for a world.
+    let _layout = report.segments.layout();
+    write_image(alloc, report)
+}

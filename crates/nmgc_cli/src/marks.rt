@@ -1,0 +1,172 @@
+//! The words `marks N`: what several markers mark of the heap that a run leaves.
+//!
+//! The run is that of `run`. Once it has ended, nobody writes the heap any more, so several markers mark side by side
+//! what the registers and finaliser queues reach by strong fields (`nmgc_pmark`). Their names are written in place of
+//! the report's text: they are the same whatever the number of markers.
+//! Easy to get wrong: a report's words can't be read by several threads at once, since a closed table may not be shared.
+//! They are copied first.
+ghost use Rattle.std.specs.Prelude.{◌≡◌, ℕ, [], ◌∷◌, ◌++◌, decimal, map, string_bytes, IfOk, IfSome, IfNone, OnOk};
+ghost use Rattle.std.specs.List.{flat_map};
+ghost use Rattle.nmgc_pmark.specs.Stops.{root_words};
+ghost use Rattle.nmgc_cli.specs.Marks.{AreClaimsOf, IsMarksText, marks_lines, name_line};
+ghost use Rattle.nmgc_cli.specs.Runs.{IsRan, IsOfScript};
+ghost use Rattle.nmgc_cli.specs.Task.{Asks, AreMarkers};
+ghost use Rattle.nmgc_cli.specs.Told.{AnswersScript, TellsOf};
+ghost use Rattle.nmgc_io.specs.Causes.{Rose};
+ghost use Rattle.nmgc_cli.specs.declared.task.Task.TheVariants.{Marks};
+
+use crate::answer::{Outcome, Refusal};
+use crate::run::read_and_run;
+use nmgc_graph::{Name, NoMemory};
+use nmgc_io::{Source, push_number, read_number};
+use nmgc_journal::text::push_end;
+use nmgc_journal::{End, FinalWords, MutatorEnd, Report, push_name};
+use nmgc_pmark::laws::a_stop_is_stopped;
+use nmgc_pmark::{Claims, MOST_MARKERS, mark_all, names_of};
+use nmgc_round::{Gate, OpenGate};
+use std::alloc::Global;
+use std::thread::Threads;
+
+/// How many markers the words `marks N` ask for. `None` comes exactly where they aren't such words.
+pub fn markers_of(words: &[String]) -> Option<u8>
+    ensures asked { IfSome result (λ markers. Asks (map string_bytes words.now) (Marks markers)) }
+    ensures none { IfNone result ((markers : ℕ) → Asks (map string_bytes words.now) (Marks markers) → ⊥) }
+{
+    match words {
+        [name, number] => markers_named(name.as_str(), number.as_str()),
+        _ => None,
+    }
+}
+
+// How many markers words of this name and number ask for.
+fn markers_named(name: &str, number: &str) -> Option<u8>
+    ensures asked { IfSome result (λ markers. Asks (name.now ∷ number.now ∷ []) (Marks markers)) }
+    ensures none { IfNone result ((markers : ℕ) → Asks (name.now ∷ number.now ∷ []) (Marks markers) → ⊥) }
+{
+    if name != "marks" {
+        return None;
+    }
+    markers_in(number.as_bytes())
+}
+
+// The number of markers that a word spells.
+#[tactic(auto, using(crate::proofs::Asking::one_number))]
+fn markers_in(word: &[u8]) -> Option<u8>
+    ensures found { IfSome result (λ markers. (word.now ≡ decimal markers) × AreMarkers markers) }
+    ensures none { IfNone result ((markers : ℕ) → AreMarkers markers → word.now ≡ decimal markers → ⊥) }
+{
+    let number = read_number(word, u64::from(MOST_MARKERS))?;
+    if number == 0 {
+        return None;
+    }
+    Some(number as u8)
+}
+
+/// The answer to `marks N`.
+pub fn marks<R: Threads + Sync, S: Source>(
+    alloc: Global,
+    rt: &R,
+    source: &mut S,
+    markers: u8,
+) -> Result<Outcome, Refusal>
+    requires { AreMarkers markers }
+    ensures { TellsOf (IsMarksText markers) (AnswersScript IsRan (S.left source.old) (S.left source.new) (Rose (S.faults source.old) (S.faults source.new))) result }
+{
+    let report = read_and_run(alloc, rt, source)?;
+    let text = marks_text(alloc, rt, markers, &report)?;
+    Ok(Outcome::of_report(report, text))
+}
+
+/// The text of `marks N`: how many markers there were, how many names they reached, each of them in order, and the last
+/// line of the report. Takes memory for the heap's words and what the markers need, and for the text.
+pub fn marks_text<R: Threads + Sync>(
+    alloc: Global,
+    rt: &R,
+    markers: u8,
+    report: &Report,
+) -> Result<Vec<u8>, NoMemory>
+    requires markers { AreMarkers markers }
+    requires script { IsOfScript report.now }
+    ensures { IfOk result (λ text. IsMarksText markers report.now text.items) }
+{
+    let claims = claims_of(alloc, rt, markers, report, &OpenGate)?;
+    let names = names_of(alloc, &claims)?;
+    lines(alloc, markers, names.items(), report.end)
+}
+
+/// What so many markers claim of the heap that a run left, each of which passes `gate` before each object.
+pub(crate) fn claims_of<R: Threads + Sync, G: Gate>(
+    alloc: Global,
+    rt: &R,
+    markers: u8,
+    report: &Report,
+    gate: &G,
+) -> Result<Claims, NoMemory>
+    requires markers { AreMarkers markers }
+    requires script { IsOfScript report.now }
+    ensures { IfOk result (λ claims. AreClaimsOf markers report.now claims.by) }
+{
+    a_stop_is_stopped();
+    let _ = report.segments.layout();
+    let words = copied(alloc, &report.words)?;
+    let roots = root_words(alloc, report.mutators.items())?;
+    mark_all(
+        alloc,
+        rt,
+        &words,
+        &report.segments,
+        roots.as_slice(),
+        markers,
+        gate,
+    )
+}
+
+// The words of the heap.
+fn copied(alloc: Global, words: &FinalWords) -> Result<Vec<u64>, NoMemory>
+    ensures { IfOk result (λ copy. copy.items ≡ words.now) }
+{
+    let mut copy = Vec::with_capacity(alloc, words.len())?;
+    for at in 0..words.len() {
+        copy.push(words.word(at))?;
+    }
+    Ok(copy)
+}
+
+// The registers of all mutators, and then their finaliser queues.
+fn root_words(alloc: Global, mutators: &[MutatorEnd]) -> Result<Vec<u64>, NoMemory>
+    ensures { IfOk result (λ roots. roots.items ≡ root_words mutators.now) }
+{
+    let mut roots = Vec::new(alloc);
+    for mutator in mutators {
+        roots.extend_from_slice(mutator.registers.items())?;
+    }
+    for mutator in mutators {
+        roots.extend_from_slice(mutator.queue.items())?;
+    }
+    Ok(roots)
+}
+
+// The lines of so many markers and these names.
+fn lines(alloc: Global, markers: u8, names: &[Name], end: End) -> Result<Vec<u8>, NoMemory>
+    ensures { IfOk result (λ text. text.items ≡ marks_lines markers names.now end) }
+{
+    let mut out = Vec::from_slice(alloc, b"marks ")?;
+    push_number(&mut out, u64::from(markers))?;
+    out.extend_from_slice(b"\nreached ")?;
+    push_number(&mut out, names.len() as u64)?;
+    out.push(b'\n')?;
+    push_names(&mut out, names)?;
+    push_end(&mut out, end)?;
+    Ok(out)
+}
+
+// Appends a line for each name.
+fn push_names(out: &mut Vec<u8>, names: &[Name]) -> Result<(), NoMemory>
+    ensures { OnOk result (out.new.items ≡ out.old.items ++ flat_map name_line names.now) }
+{
+    for name in names {
+        push_name(out, *name)?;
+        out.push(b'\n')?;
+    }
+    Ok(())
+}

@@ -1,0 +1,52 @@
+-- What is told of words and bytes for which nothing is in the way.
+use Rattle.std.proofs.Common.{◌≡◌, ◌≤◌, ◌+◌, ℕ, List, [], ◌∷◌, ◌++◌, length, refl, sym, ◌∙◌, ap, subst, arith, Option, Some, None, inl, inr, ◌⊎◌, length-append, append-nil}
+use Rattle.nmgc_io.specs.Counts.{Takes}
+use Rattle.nmgc_graph.specs.declared.value.Name.{Name}
+use Rattle.nmgc_fin.specs.declared.job.Job.{Job}
+use Rattle.nmgc_fin.specs.declared.top.FinStatus.{FinStatus}
+use Rattle.nmgc_fin.specs.declared.top.FinStatus.TheVariants.{Done, Usage, ReadFault, WriteFault, BadReport, TooLong, NoMemory}
+use Rattle.nmgc_fin.specs.Jobs.{lines_of, IsBad, NamesOf, AreJobsOf, IsFirstBad}
+use Rattle.nmgc_fin.specs.Program.{Asks, IsRead, Says, IsWritten, IsComplete}
+use Rattle.nmgc_fin.specs.declared.top.TheConstants.{MAX_REPORT_BYTES}
+
+-- lines that give names have no bad line
+none_bad : (before : List (List ℕ)) (line : List ℕ) (after : List (List ℕ)) (names : List Name) → NamesOf (before ++ line ∷ after) names → IsBad line → ⊥
+none_bad [] line after names (NamesOf.other _ _ _ n h) bad = n bad.0
+none_bad [] line after (_ ∷ _) (NamesOf.dead _ _ name _ d h) bad = bad.1 name d
+none_bad (x ∷ before) line after names (NamesOf.other _ _ _ n h) bad = none_bad before line after names h bad
+none_bad (x ∷ before) line after (_ ∷ names) (NamesOf.dead _ _ name _ d h) bad = none_bad before line after names h bad
+
+no_first_bad : (lines : List (List ℕ)) (names : List Name) (number : ℕ) → NamesOf lines names → IsFirstBad lines number → ⊥
+no_first_bad lines names number of bad = none_bad bad.before bad.line bad.after names (subst (λ (l : List (List ℕ)). NamesOf l names) bad.all of) bad.bad
+
+-- what was read of known bytes to their end is all of them
+whole : (bytes read : List ℕ) (new : Option (List ℕ)) → IsRead (Some bytes) new read → bytes ≡ read
+whole bytes read None is = absurd is.taken
+whole bytes read (Some left) is = is.taken ∙ ap (λ (l : List ℕ). read ++ l) is.end ∙ append-nil read
+
+-- no more bytes are taken than there are
+taken_within : (bytes : List ℕ) (new : Option (List ℕ)) (n : ℕ) → Takes (Some bytes) new n → n ≤ length bytes
+taken_within bytes None n h = absurd h.1
+taken_within bytes (Some left) n h = let a = ap (λ (l : List ℕ). length l) h.1 in let b = length-append h.0 left in let c = h.2 in omega (arith, a, b, c)
+
+module _ (words : List (List ℕ)) (bytes : List ℕ) (workers : ℕ) (jobs : List Job) (new : Option (List ℕ)) (rose : Type 0) (asks : Asks words workers) (within : length bytes ≤ MAX_REPORT_BYTES) (are : AreJobsOf (lines_of bytes) jobs) (none : rose → ⊥) where
+  fine : (told : FinStatus) (text : List ℕ) → Says words (Some bytes) new rose told text → (told ≡ Done) ⊎ (told ≡ NoMemory)
+  fine Done text h = inl refl
+  fine NoMemory text h = inr refl
+  fine Usage text h = absurd (h.0 workers asks)
+  fine ReadFault text h = absurd (none h.3)
+  fine TooLong text h = absurd (let t = taken_within bytes new (MAX_REPORT_BYTES + 1) h.2 in omega (arith, t, within))
+  fine BadReport text h =
+      let same : bytes ≡ h.2 = whole bytes h.2 new h.3 in
+      absurd (no_first_bad (lines_of bytes) _ h.4.0 are.0 (subst (λ (b : List ℕ). IsFirstBad (lines_of b) h.4.0) (sym same) h.4.1))
+  fine WriteFault text h = absurd h
+
+written_so : (taken taken' : Option (List ℕ)) (rose : Type 0) (told : FinStatus) (text : List ℕ) (status : FinStatus) → (rose → ⊥) → (told ≡ Done) ⊎ (told ≡ NoMemory) → IsWritten taken taken' rose told text status → (status ≡ Done) ⊎ (status ≡ NoMemory)
+written_so taken taken' rose told text status none (inl e) (inl w) = inl (w.0 ∙ e)
+written_so taken taken' rose told text status none (inr e) (inl w) = inr (w.0 ∙ e)
+written_so taken taken' rose told text status none t (inr w) = absurd (none w.1)
+
+pub completes : (words : List (List ℕ)) (left left' taken taken' : Option (List ℕ)) (read_fault write_fault : Type 0) (told : FinStatus) (text : List ℕ) (status : FinStatus) → Says words left left' read_fault told text → IsWritten taken taken' write_fault told text status → IsComplete words left read_fault write_fault status
+completes words left left' taken taken' read_fault write_fault told text status says written bytes workers jobs asks is within are no_read no_write =
+    written_so taken taken' write_fault told text status no_write
+    (fine words bytes workers jobs left' read_fault asks within are no_read told text (subst (λ (l : Option (List ℕ)). Says words l left' read_fault told text) is says)) written

@@ -1,0 +1,68 @@
+//! The handled jobs in the order of their numbers, and the text of them.
+//!
+//! Which worker handled a job, and when, depends on the schedule; the text doesn't. Each job has its place by its number,
+//! so nothing is sorted.
+ghost use Rattle.std.specs.Prelude.{◌≡◌, ◌<◌, ◌++◌, length, map, vec_len, IfOk, OnOk, Contains};
+ghost use Rattle.nmgc_fin.specs.Handles.{AreNumbered, Handles};
+ghost use Rattle.nmgc_fin.specs.Jobs.{weak_of};
+ghost use Rattle.nmgc_fin.specs.Order.{AreWithin, AreAlike, IsPlaced, job_line, jobs_text};
+ghost use Rattle.nmgc_fin.specs.declared.job.Job.{Job as JobOf};
+
+use crate::Handled;
+use crate::job::Job;
+use nmgc_graph::{Name, NoMemory};
+use nmgc_io::push_number;
+use nmgc_journal::push_name;
+use std::alloc::Global;
+
+/// The names of the handled jobs, each at its job's number.
+pub fn in_order(alloc: Global, jobs: &[Job], handled: &Handled) -> Result<Vec<Name>, NoMemory>
+    requires numbered { AreNumbered jobs.now }
+    requires handled { Handles jobs.now handled.now.by }
+    ensures { IfOk result (λ names. names.items ≡ map weak_of jobs.now) }
+{
+    let mut names = Vec::from_elem(alloc, Name::SHARED, jobs.len())?;
+    for list in handled.by.items() {
+        place(&mut names, list.items());
+    }
+    Ok(names)
+}
+
+// Puts each name at its job's number.
+fn place(names: &mut Vec<Name>, done: &[Job])
+    requires within { AreWithin (length names.old.items) done.now }
+    requires alike { AreAlike done.now }
+    ensures count { length names.new.items ≡ length names.old.items }
+    ensures placed { (x : JobOf) → Contains done.now x → IsPlaced names.new.items x }
+    ensures kept { (x : JobOf) → IsPlaced names.old.items x → ((y : JobOf) → Contains done.now y → y.number ≡ x.number → y.weak ≡ x.weak) → IsPlaced names.new.items x }
+{
+    for job in done {
+        names[job.number as usize] = job.weak;
+    }
+}
+
+/// The text that tells which jobs were handled, in order of number.
+pub fn handled_text(alloc: Global, names: &[Name]) -> Result<Vec<u8>, NoMemory>
+    ensures { IfOk result (λ text. text.items ≡ jobs_text names.now) }
+{
+    let mut out = Vec::from_slice(alloc, b"jobs ")?;
+    push_number(&mut out, names.len() as u64)?;
+    out.push(b'\n')?;
+    for (number, name) in names.iter().enumerate() {
+        push_job(&mut out, number as u64, *name)?;
+    }
+    out.extend_from_slice(b"end\n")?;
+    Ok(out)
+}
+
+// Appends the line of a job.
+fn push_job(out: &mut Vec<u8>, number: u64, name: Name) -> Result<(), NoMemory>
+    ensures { OnOk result (out.new.items ≡ out.old.items ++ job_line number name) }
+{
+    out.extend_from_slice(b"job ")?;
+    push_number(out, number)?;
+    out.push(b' ')?;
+    push_name(out, name)?;
+    out.push(b'\n')?;
+    Ok(())
+}

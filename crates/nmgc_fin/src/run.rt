@@ -1,0 +1,214 @@
+//! All jobs are handled once, by some worker.
+//!
+//! The jobs are pushed before a worker starts. Then each worker, in a thread of its own where one can be started, takes
+//! jobs until it finds none. Once all are back their passes are joined, and the last worker looks once more with the
+//! pass that now has every part: it finds none, so what was taken is all that was pushed.
+ghost use Rattle.std.specs.Prelude.{◌≡◌, ◌+◌, ◌-◌, ◌<◌, ◌≤◌, [], ◌++◌, length, vec_len, vec_capacity, IfOk, OnOk, All};
+ghost use Rattle.std.specs.Thread.{IsSync};
+ghost use Rattle.crossbeam_queue.specs.SegTies.{IsSegPassOf};
+ghost use Rattle.nmgc_fin.specs.declared.run.TheConstants.{MOST_WORKERS};
+ghost use Rattle.nmgc_fin.specs.Handles.{AreNumbered, Handles};
+ghost use Rattle.nmgc_fin.specs.Rule.{hand, most_parts};
+ghost use Rattle.nmgc_fin.specs.Worker.{IsWorker, AreWorkers};
+
+use crate::hand::Hand;
+use crate::job::Job;
+use crate::plays::{Both, Part, Puts};
+use crate::worker::{JobPass, JobQueue, Worker};
+use nmgc_graph::{List, NoMemory};
+use nmgc_round::Gate;
+use std::alloc::Global;
+use std::sync::Wait;
+use std::thread;
+use std::thread::Threads;
+
+/// There may be so many workers.
+pub const MOST_WORKERS: u8 = 32;
+
+/// For each worker, the jobs that it handled, in the order in which it did.
+#[derive(Drop)]
+pub struct Handled {
+    pub by: List<List<Job>>,
+}
+
+/// Handles the jobs by so many workers, from 1 to `MOST_WORKERS`, each job once. The jobs are numbered from 0. Each worker passes
+/// `gate` as its number before it handles a job, and counts its passes from 1. Returns once every worker has.
+pub fn run_jobs<R: Threads + Wait + Sync, G: Gate>(
+    alloc: Global,
+    rt: &R,
+    jobs: &[Job],
+    workers: u8,
+    gate: &G,
+) -> Result<Handled, NoMemory>
+    requires workers { (1 ≤ workers) × (workers ≤ MOST_WORKERS) }
+    requires numbered { AreNumbered jobs.now }
+    ensures handled { IfOk result (λ handled. Handles jobs.now handled.by) }
+    ensures count { IfOk result (λ handled. length handled.by ≡ workers) }
+{
+    let (queue, pass) = JobQueue::with_rule(alloc)?;
+    let handled = handle(alloc, rt, &queue, pass, jobs, workers, gate);
+    queue.destroy();
+    handled
+}
+
+// All jobs are pushed, and then the workers run.
+fn handle<R: Threads + Wait + Sync, G: Gate>(
+    alloc: Global,
+    rt: &R,
+    queue: &JobQueue,
+    pass: JobPass,
+    jobs: &[Job],
+    workers: u8,
+    gate: &G,
+) -> Result<Handled, NoMemory>
+    requires pass { IsSegPassOf queue.now pass }
+    requires first { pass.me.view.client ≡ hand most_parts [] [] }
+    requires workers { (1 ≤ workers) × (workers ≤ MOST_WORKERS) }
+    ensures handled { IfOk result (λ handled. Handles jobs.now handled.by) }
+    ensures count { IfOk result (λ handled. length handled.by ≡ workers) }
+{
+    let mut pass = pass;
+    push_all(rt, queue, &mut pass, jobs)?;
+    let mut crew = hired(alloc, queue, &mut pass, workers, jobs)?;
+    work_all(rt, queue, jobs, crew.as_mut_slice(), gate);
+    gathered(alloc, rt, queue, pass, jobs, crew, gate)
+}
+
+// All jobs are pushed, in order.
+fn push_all<R: Wait>(
+    rt: &R,
+    queue: &JobQueue,
+    pass: &mut JobPass,
+    jobs: &[Job],
+) -> Result<(), NoMemory>
+    requires pass { IsSegPassOf queue.now pass.old }
+    requires first { pass.old.me.view.client ≡ hand most_parts [] [] }
+    ensures pass { OnOk result (IsSegPassOf queue.now pass.new) }
+    ensures pushed { OnOk result (pass.new.me.view.client ≡ hand most_parts jobs.now []) }
+{
+    for job in jobs {
+        if queue.push_as::<Puts, R>(rt, pass, *job).is_err() {
+            return Err(NoMemory);
+        }
+    }
+    Ok(())
+}
+
+// So many workers that handled nothing yet, each with a part of the pass and with room for all jobs.
+fn hired(
+    alloc: Global,
+    queue: &JobQueue,
+    pass: &mut JobPass,
+    workers: u8,
+    jobs: &[Job],
+) -> Result<Vec<Worker>, NoMemory>
+    requires pass { IsSegPassOf queue.now pass.old }
+    requires pushed { pass.old.me.view.client ≡ hand most_parts jobs.now [] }
+    requires workers { workers ≤ MOST_WORKERS }
+    ensures pass { OnOk result (IsSegPassOf queue.now pass.new) }
+    ensures left { OnOk result (pass.new.me.view.client ≡ hand (most_parts - workers) jobs.now []) }
+    ensures crew { IfOk result (λ crew. AreWorkers queue.now jobs.now crew.items) }
+    ensures count { IfOk result (λ crew. vec_len crew ≡ workers) }
+{
+    let mut crew = Vec::with_capacity(alloc, workers as usize)?;
+    for _number in 0..workers {
+        let done = Vec::with_capacity(alloc, jobs.len())?;
+        crew.push_reserved(Worker {
+            pass: queue.another::<Part>(pass),
+            done,
+            turns: 0,
+        });
+    }
+    Ok(crew)
+}
+
+// Each worker takes jobs until it finds none, in a thread of its own.
+fn work_all<R: Threads + Wait + Sync, G: Gate>(
+    rt: &R,
+    queue: &JobQueue,
+    jobs: &[Job],
+    crew: &mut [Worker],
+    gate: &G,
+)
+    requires workers { AreWorkers queue.now jobs.now crew.old }
+    requires few { length crew.old ≤ MOST_WORKERS }
+    ensures workers { AreWorkers queue.now jobs.now crew.new }
+    ensures count { length crew.new ≡ length crew.old }
+{
+    thread::for_each_mut(
+        rt,
+        crew,
+        MOST_WORKERS as usize,
+        &|number, worker: &mut Worker|
+            requires { (number < MOST_WORKERS) × IsWorker queue.now jobs.now worker.now }
+            ensures { IsWorker queue.entry.now jobs.entry.now worker.exit.now }
+        { work_once(rt, queue, jobs, number as u8, worker, gate) },
+    );
+}
+
+// A worker that has one part works.
+fn work_once<R: Wait, G: Gate>(
+    rt: &R,
+    queue: &JobQueue,
+    jobs: &[Job],
+    number: u8,
+    worker: &mut Worker,
+    gate: &G,
+)
+    requires { IsWorker queue.now jobs.now worker.old }
+    ensures { IsWorker queue.now jobs.now worker.new }
+{
+    let _ = jobs;
+    worker.work(rt, queue, number, gate);
+}
+
+// The passes are joined, the last worker looks once more, and the lists are those of the workers.
+fn gathered<R: Wait, G: Gate>(
+    alloc: Global,
+    rt: &R,
+    queue: &JobQueue,
+    pass: JobPass,
+    jobs: &[Job],
+    crew: Vec<Worker>,
+    gate: &G,
+) -> Result<Handled, NoMemory>
+    requires pass { IsSegPassOf queue.now pass }
+    requires left { pass.me.view.client ≡ hand (most_parts - vec_len crew) jobs.now [] }
+    requires crew { AreWorkers queue.now jobs.now crew.items }
+    requires count { (1 ≤ vec_len crew) × (vec_len crew ≤ MOST_WORKERS) }
+    ensures handled { IfOk result (λ handled. Handles jobs.now handled.by) }
+    ensures lists { IfOk result (λ handled. length handled.by ≡ vec_len crew) }
+{
+    let _ = jobs;
+    let mut crew = crew;
+    let mut pass = pass;
+    let mut by = List::new(alloc);
+    let Some(last) = crew.pop() else {
+        unreachable!();
+    };
+    let number = crew.len() as u8;
+    for worker in crew {
+        let Worker {
+            pass: theirs,
+            done,
+            turns: _,
+        } = worker;
+        queue.absorb::<Both>(&mut pass, theirs);
+        by.push(List::from_vec(done)?)?;
+    }
+    let Worker {
+        pass: theirs,
+        done,
+        turns,
+    } = last;
+    queue.absorb::<Both>(&mut pass, theirs);
+    let mut last = Worker { pass, done, turns };
+    last.work(rt, queue, number, gate);
+    let Worker {
+        pass: _,
+        done,
+        turns: _,
+    } = last;
+    by.push(List::from_vec(done)?)?;
+    Ok(Handled { by })
+}

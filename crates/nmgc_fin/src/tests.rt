@@ -1,0 +1,178 @@
+//! Jobs of small texts, and two workers that wait for each other at a gate of the test.
+//!
+//! The gate gives up after many turns of its spin, and notes it, so workers on one thread fail the test and don't hang.
+ghost use Rattle.std.specs.Prelude.{IfOk, ◌≡◌, length};
+ghost use Rattle.nmgc_fin.specs.Handles.{AreNumbered};
+
+use crate::{Handled, Job, JobsFault, jobs, nmgc_fin, run_jobs};
+use nmgc_graph::{Name, SHARED_MAKER};
+use nmgc_io::{MemorySink, MemorySource};
+use nmgc_round::{Gate, OpenGate};
+use std::alloc::Global;
+use std::sync::Wait;
+use std::sync::atomic::{AtomicU64, Ordering};
+use std::test::Fail;
+use std::thread::Threads;
+
+#[test]
+fn dead_lines_give_jobs(rt: HostRuntime) -> Result<(), Fail> {
+    let text = b"report 1\n0 dead\ndead 0.4\ndeadly\n\ndead g\ndead 7.4294967295".as_slice();
+    let Ok(found) = jobs(rt.alloc(), text) else {
+        panic!(rt; "no jobs");
+    };
+    let [first, second, third] = found.items() else {
+        panic!(rt; "not three jobs");
+    };
+    assert_eq!(rt;
+        (first.number, first.weak.maker, first.weak.serial),
+        (0u32, 0u8, 4u32)
+    );
+    assert_eq!(rt;
+        (second.number, second.weak.maker, second.weak.serial),
+        (1u32, SHARED_MAKER, 0u32)
+    );
+    assert_eq!(rt;
+        (third.number, third.weak.maker, third.weak.serial),
+        (2u32, 7u8, 4294967295u32)
+    );
+    Ok(())
+}
+
+#[test]
+fn a_dead_line_without_one_name_is_bad(rt: HostRuntime) -> Result<(), Fail> {
+    for (text, bad) in [
+        ("dead 0.1\ndead 0.4 x\n", 2u32),
+        ("dead", 1u32),
+        ("\n\ndead \ndead", 3u32),
+        ("dead 00.1", 1u32),
+        ("dead 256.0", 1u32),
+    ] {
+        let line = match jobs(rt.alloc(), text.as_bytes()) {
+            Err(JobsFault::Bad { line }) => line,
+            _ => 0,
+        };
+        assert_eq!(rt; line, bad);
+    }
+    Ok(())
+}
+
+// What the program leaves for one word and these bytes: its number, and what the sink has.
+fn told<R: Threads + Wait + Sync>(
+    alloc: Global,
+    rt: &R,
+    word: &str,
+    bytes: &str,
+) -> Result<(u8, Vec<u8>), Fail> {
+    let mut words = Vec::new(alloc);
+    words.push(String::from_str(alloc, word)?)?;
+    let mut source = MemorySource::new(
+        Vec::from_slice(alloc, bytes.as_bytes())?,
+        3,
+        Vec::new(alloc),
+    );
+    let mut sink = MemorySink::new(alloc, 7, Vec::new(alloc), 1000)?;
+    let status = nmgc_fin(alloc, rt, words.as_slice(), &mut source, &mut sink);
+    let text = Vec::from_slice(alloc, sink.bytes())?;
+    Ok((status.number(), text))
+}
+
+#[test]
+fn rows_have_these_texts(rt: HostRuntime) -> Result<(), Fail> {
+    for (word, bytes, number, text) in [
+        (
+            "3",
+            "report 1\nround 1\n0 dead\ndead 0.4\ndead 0.5\ndead 0.6\nend done\n",
+            0u8,
+            "jobs 3\njob 0 0.4\njob 1 0.5\njob 2 0.6\nend\n",
+        ),
+        ("1", "", 0, "jobs 0\nend\n"),
+        ("32", "report 1\ndead 0.4 x\ndead\n", 5, "bad line 2\n"),
+        ("33", "dead", 2, "usage: nmgc_fin W\n"),
+        ("0", "dead", 2, "usage: nmgc_fin W\n"),
+        ("03", "dead", 2, "usage: nmgc_fin W\n"),
+        ("", "dead", 2, "usage: nmgc_fin W\n"),
+    ] {
+        let (status, found) = told(rt.alloc(), &rt, word, bytes)?;
+        assert_eq!(rt; status, number);
+        assert!(rt; found.as_slice() == text.as_bytes());
+    }
+    Ok(())
+}
+
+// So many jobs.
+fn many(alloc: Global, count: u32) -> Result<Vec<Job>, Fail>
+    ensures { IfOk result (λ all. AreNumbered all.items) }
+{
+    let mut all = Vec::new(alloc);
+    for number in 0..count {
+        all.push(Job {
+            number,
+            weak: Name {
+                maker: 0,
+                serial: number,
+            },
+        })?;
+    }
+    Ok(all)
+}
+
+// How many jobs were handled, and the sum of their numbers.
+fn sums(handled: &Handled) -> (u64, u64) {
+    let mut count = 0u64;
+    let mut sum = 0u64;
+    for list in handled.by.items() {
+        for job in list.items() {
+            count = count.saturating_add(1);
+            sum = sum.saturating_add(u64::from(job.number));
+        }
+    }
+    (count, sum)
+}
+
+#[test]
+fn each_job_is_handled_once(rt: HostRuntime) -> Result<(), Fail> {
+    for workers in [1u8, 2, 3, 8, 32] {
+        for (count, sum) in [(0u32, 0u64), (1, 0), (2, 1), (1000, 499_500)] {
+            let all = many(rt.alloc(), count)?;
+            let handled = run_jobs(rt.alloc(), &rt, all.as_slice(), workers, &OpenGate)?;
+            assert_eq!(rt; sums(&handled), (u64::from(count), sum));
+        }
+    }
+    Ok(())
+}
+
+// The first job of each of two workers waits for that of the other.
+#[derive(Drop)]
+struct Meet {
+    reached: [AtomicU64; 2],
+    given_up: AtomicU64,
+}
+
+impl Gate for Meet {
+    fn pass(&self, who: u8, turn: u64) {
+        let own = if who == 0 { 0 } else { 1 };
+        self.reached[own].store(turn, Ordering::SeqCst);
+        if turn != 1 {
+            return;
+        }
+        for _ in 0..200_000_000u32 {
+            if self.reached[1 - own].load(Ordering::SeqCst) >= 1 {
+                return;
+            }
+        }
+        self.given_up.store(1, Ordering::SeqCst);
+    }
+}
+
+#[test]
+fn workers_run_beside_each_other(rt: HostRuntime) -> Result<(), Fail> {
+    let meet = Meet {
+        reached: [AtomicU64::new(0), AtomicU64::new(0)],
+        given_up: AtomicU64::new(0),
+    };
+    let all = many(rt.alloc(), 2)?;
+    let handled = run_jobs(rt.alloc(), &rt, all.as_slice(), 2, &meet)?;
+    assert_eq!(rt; meet.given_up.load(Ordering::SeqCst), 0);
+    assert_eq!(rt; sums(&handled), (2u64, 1u64));
+    Ok(())
+}

@@ -1,0 +1,49 @@
+//! A worker: it takes jobs off the queue until it finds none.
+//!
+//! What its pass took is what stands in its list, so that once the passes are joined the lists are known to be all that
+//! was taken. The list has room for every job from the start, so nothing can fail while jobs are out of the queue.
+//!
+//! Easy to get wrong: that a worker found none says that none was left at one moment. Nothing is pushed once the workers
+//! have started, so none comes later; but only the pass with every part knows what the others took.
+ghost use Rattle.std.specs.Prelude.{◌≡◌, ◌<◌, ◌≤◌, ◌++◌, [], length, vec_capacity};
+ghost use Rattle.crossbeam_queue.specs.SegTies.{IsSegPassOf};
+ghost use Rattle.nmgc_fin.specs.Worker.{CanWork, HasWorked};
+
+use crate::hand::Hand;
+use crate::job::Job;
+use crate::plays::{Gets, Rules};
+use crossbeam_queue::{RuledSegQueue, SegPass};
+use nmgc_round::Gate;
+use std::sync::Wait;
+
+/// The queue of jobs.
+pub type JobQueue = RuledSegQueue<Job, Hand, Rules>;
+
+/// Leave to use the queue. What it knows exists in proofs alone.
+pub type JobPass = SegPass<Job, Hand>;
+
+/// A worker: its pass, the jobs that it handled, and how often it passed the gate.
+#[derive(Drop)]
+pub struct Worker {
+    pub pass: JobPass,
+    pub done: Vec<Job>,
+    pub turns: u64,
+}
+
+impl Worker {
+    /// Takes jobs until none is found, and handles each: it passes the gate, and the job joins its list. Takes no memory.
+    pub fn work<R: Wait, G: Gate>(&mut self, rt: &R, queue: &JobQueue, number: u8, gate: &G)
+        requires { CanWork queue.now self.old }
+        ensures { HasWorked queue.now self.old self.new }
+    {
+        for _ in rt.forever() {
+            let Some(job) = queue.pop_as::<Gets, R>(rt, &mut self.pass) else {
+                return;
+            };
+            self.turns = self.turns.saturating_add(1);
+            gate.pass(number, self.turns);
+            self.done.push_reserved(job);
+        }
+        unreachable!()
+    }
+}

@@ -1,0 +1,86 @@
+-- Registers that aren't nil, one by one.
+use Rattle.std.proofs.Common.{ℕ, ◌≡◌, ◌≢◌, ◌<◌, ◌≤◌, ◌+◌, zero, suc, List, [], ◌∷◌, ◌++◌, length, take, get_or, arith, refl, sym, ap, subst, ◌∙◌, Some, None, inl, inr}
+use Rattle.std.specs.Prelude.{Contains, slice_get}
+use Rattle.std.proofs.lemmas.Bool.{cases_lt, cases_eq}
+use Rattle.std.proofs.lemmas.List.{length-take-le}
+use Rattle.std.proofs.lemmas.List.Elements.{Contains-append_left, Contains-push, Contains-push_cases}
+use Rattle.std.proofs.lemmas.Option.{slice_get_within, slice_get-get_or, same_Some}
+use Rattle.nmgc_graph.specs.declared.value.Value.{Value}
+use Rattle.nmgc_graph.specs.declared.value.Value.TheVariants as value
+use Rattle.nmgc_graph.specs.laws.Orders.{contains_head, contains_tail}
+use Rattle.nmgc_reach.specs.laws.ItemLaws.{nothing_in, slice_get-take}
+use Rattle.nmgc_image.specs.declared.image.Held.{Held}
+use Rattle.nmgc_image.specs.Image.{AreInOrder}
+use Rattle.nmgc_image.specs.Shows.{ListsHeld}
+
+-- a register after all others
+order_push : (held : List Held) (h : Held) → AreInOrder held → ((k : Held) → Contains held k → k.register < h.register) → AreInOrder (held ++ h ∷ [])
+order_push [] h o b = tt
+order_push (x ∷ []) h o b = (b x (contains_head x []), tt)
+order_push (x ∷ y ∷ held) h o b = (o.0, order_push (y ∷ held) h o.1 (λ k c. b k (contains_tail x (y ∷ held) k c)))
+
+pub held_start : (registers : List Value) → ListsHeld (take 0 registers) []
+held_start registers = record {
+  ordered = tt;
+  sound = λ h c. absurd (nothing_in h c);
+  complete = λ i v e some. absurd cc;
+}
+
+module _ (registers : List Value) (i : ℕ) (d : Value) (lt : i < length registers) (held : List Held) (so_far : ListsHeld (take i registers) held) where
+  longer : (k : ℕ) (v : Value) → slice_get (take i registers) k ≡ Some v → slice_get (take (i + 1) registers) k ≡ Some v
+  longer k v e =
+      let n = length-take-le i registers (omega (arith, lt)) in
+      let within = slice_get_within (take i registers) k v e in
+      slice_get-take (i + 1) registers k (omega (arith, n, within)) ∙ sym (slice_get-take i registers k (omega (arith, n, within))) ∙ e
+
+  shorter : (k : ℕ) (v : Value) → k < i → slice_get (take (i + 1) registers) k ≡ Some v → slice_get (take i registers) k ≡ Some v
+  shorter k v below e = slice_get-take i registers k below ∙ sym (slice_get-take (i + 1) registers k (omega (arith, below))) ∙ e
+
+  here : slice_get (take (i + 1) registers) i ≡ Some (get_or registers i d)
+  here = slice_get-take (i + 1) registers i (omega arith) ∙ slice_get-get_or registers i d lt
+
+  above : (k : ℕ) (v : Value) → slice_get (take (i + 1) registers) k ≡ Some v → k < i + 1
+  above k v e =
+      let n = length-take-le (i + 1) registers (omega (arith, lt)) in
+      let within = slice_get_within (take (i + 1) registers) k v e in
+      omega (arith, n, within)
+
+  -- nil is left out
+  pub held_nil : get_or registers i d ≡ value.Nil → ListsHeld (take (i + 1) registers) held
+  held_nil nil = record {
+    ordered = so_far.ordered;
+    sound = λ h c. let s = so_far.sound h c in (longer h.register h.value s.0, s.1);
+    complete = λ k v e some. elim (cases_eq k i) [
+      | inl same ↦
+          let is : Some (get_or registers i d) ≡ Some v = sym here ∙ subst (λ (j : ℕ). slice_get (take (i + 1) registers) j ≡ Some v) same e in
+          absurd (some (sym (same_Some (get_or registers i d) v is) ∙ nil))
+      | inr other ↦
+          let a = above k v e in
+          so_far.complete k v (shorter k v (omega (arith, a, other)) e) some
+    ];
+  }
+
+  -- what isn't is held
+  pub held_more : get_or registers i d ≢ value.Nil → ListsHeld (take (i + 1) registers) (held ++ record { register = i; value = get_or registers i d } ∷ [])
+  held_more some =
+      let new : Held = record { register = i; value = get_or registers i d } in
+      record {
+        ordered = order_push held new so_far.ordered (λ k c.
+            let within = slice_get_within (take i registers) k.register k.value (so_far.sound k c).0 in
+            let n = length-take-le i registers (omega (arith, lt)) in
+            omega (arith, within, n));
+        sound = λ h c. elim (Contains-push_cases held new h c) [
+          | inl old ↦ let s = so_far.sound h old in (longer h.register h.value s.0, s.1)
+          | inr same ↦ subst (λ (x : Held). (slice_get (take (i + 1) registers) x.register ≡ Some x.value) × (x.value ≢ value.Nil)) same (here, some)
+        ];
+        complete = λ k v e some'. elim (cases_eq k i) [
+          | inl same ↦
+              let is : Some (get_or registers i d) ≡ Some v = sym here ∙ subst (λ (j : ℕ). slice_get (take (i + 1) registers) j ≡ Some v) same e in
+              let v_is : get_or registers i d ≡ v = same_Some (get_or registers i d) v is in
+              subst (λ (x : Value). Contains (held ++ new ∷ []) (record { register = k; value = x })) v_is
+              (subst (λ (j : ℕ). Contains (held ++ new ∷ []) (record { register = j; value = get_or registers i d })) (sym same) (Contains-push held new))
+          | inr other ↦
+              let a = above k v e in
+              Contains-append_left held (new ∷ []) (record { register = k; value = v }) (so_far.complete k v (shorter k v (omega (arith, a, other)) e) some')
+        ];
+      }

@@ -1,0 +1,124 @@
+-- Which names have node lines: a sorted list of their keys tells.
+use Rattle.std.proofs.Common.{◌≡◌, ◌≤◌, ◌<◌, ◌+◌, ◌*◌, ◌^◌, ℕ, zero, suc, List, [], ◌∷◌, length, map, get_or, refl, sym, ap, subst, ◌∙◌, arith, inl, inr, Bool, true, false, Option, Some, None, Result, Ok, Err, eqb}
+use Rattle.std.specs.Prelude.{slice_get, All, Contains, MatchResult}
+use Rattle.std.specs.List.{list_any, flat_map}
+use Rattle.std.specs.Result.{is_ok}
+use Rattle.std.proofs.lemmas.Bool.{cases_Bool, cases_lt, eq-eqb, eqb-true}
+use Rattle.std.proofs.lemmas.Option.{none-some, same_Some, slice_get_within, get_or_from_slice_get}
+use Rattle.std.proofs.lemmas.List.Folds.{list_any_at}
+use Rattle.std.proofs.lemmas.List.Elements.{All-contains, recursion_from_All, All-from_recursion}
+use Rattle.std.proofs.lemmas.Map.Views.{Contains-from_any}
+use Rattle.nmgc_graph.specs.declared.value.Name.{Name}
+use Rattle.nmgc_graph.specs.laws.Orders.{same_name}
+use Rattle.nmgc_graph.specs.World.{held_by}
+use Rattle.nmgc_reach.specs.laws.ItemLaws.{contains_at, place_of, nothing_in, contains_flat, flat_contains}
+use Rattle.nmgc_heap.specs.laws.Kinds.{item_map, map_item}
+use Rattle.nmgc_object.specs.Words.{IsName}
+use Rattle.nmgc_journal.specs.Reading.{IsValue}
+use Rattle.nmgc_image.specs.declared.image.Entry.{Entry}
+use Rattle.nmgc_image.specs.Names.{TellsNames}
+use Rattle.nmgc_image.specs.Spelling.{spaced, entry_words}
+use Rattle.nmgc_image.specs.Text.{words_of}
+use Rattle.nmgc_image.specs.Faults.{IsWritable, IsDeclared}
+use Rattle.nmgc_image.specs.Reading.{node_line_at, key_of, has_key, key_in, keys_in, keys_of, Tells}
+use Rattle.nmgc_image.proofs.NodeLaws.{IsSpellable, line_takes, line_again}
+use Rattle.nmgc_image.proofs.LineLaws.{spaced-words_of, words_of-line, entry_line}
+
+-- a test that finds a key
+pub any_has : (keys : List ℕ) (k : ℕ) → list_any (λ key. eqb key k) keys ≡ true → Contains keys k
+any_has keys k e = Contains-from_any {eq = λ x y. eqb y x} (λ x y h. sym (eqb-true y x h)) k keys e
+
+pub has_any : (keys : List ℕ) (k : ℕ) → Contains keys k → list_any (λ key. eqb key k) keys ≡ true
+has_any keys k c =
+    let p = place_of keys k c in
+    list_any_at (λ key. eqb key k) keys p.0 0 (slice_get_within keys p.0 k p.1) (eq-eqb (get_or keys p.0 0) k (get_or_from_slice_get keys p.0 k 0 p.1))
+
+-- what a search in sorted keys says
+abbrev Finds : List ℕ → ℕ → Result ℕ ℕ → Type 0
+Finds keys k r = MatchResult r (λ i. (i < length keys) × (get_or keys i 0 ≡ k)) (λ i. (i ≤ length keys) × ((j : ℕ) → j < i → get_or keys j 0 < k) × ((j : ℕ) → i ≤ j → j < length keys → k < get_or keys j 0))
+
+pub found_key : (keys : List ℕ) (k : ℕ) (r : Result ℕ ℕ) → Finds keys k r → is_ok r ≡ list_any (λ key. eqb key k) keys
+found_key keys k (Ok i) h = sym (list_any_at (λ key. eqb key k) keys i 0 h.0 (eq-eqb (get_or keys i 0) k h.1))
+found_key keys k (Err i) h = elim (cases_Bool (list_any (λ key. eqb key k) keys)) [
+  | inl has ↦
+      let p = place_of keys k (any_has keys k has) in
+      let at : get_or keys p.0 0 ≡ k = get_or_from_slice_get keys p.0 k 0 p.1 in
+      absurd (elim (cases_lt p.0 i) [
+        | inl lt ↦ let below = h.1 p.0 lt in omega (arith, at, below)
+        | inr le ↦ let above = h.2 p.0 le (slice_get_within keys p.0 k p.1) in omega (arith, at, above)
+      ])
+  | inr none ↦ sym none
+]
+
+-- names of the same key are the same
+pub same_key : (a b : Name) → IsName a → IsName b → key_of a ≡ key_of b → a ≡ b
+same_key a b h k e =
+    let small = h.1 in
+    let short = k.1 in
+    let maker : a.maker ≡ b.maker = omega arith in
+    let serial : a.serial ≡ b.serial = omega arith in
+    same_name a b maker serial
+
+key_at : (o : Option Entry) (key : ℕ) → Contains (key_in o) key → (entry : Entry) × (o ≡ Some entry) × (key ≡ key_of entry.name)
+key_at None key c = absurd (nothing_in key c)
+key_at (Some entry) key c = let p = place_of (key_of entry.name ∷ []) key c in (entry, refl, one p.0 p.1)
+  where
+    one : (i : ℕ) → slice_get (key_of entry.name ∷ []) i ≡ Some key → key ≡ key_of entry.name
+    one zero e = sym (same_Some (key_of entry.name) key e)
+    one (suc i) e = absurd (none-some key e)
+
+-- the keys of the node lines tell
+module _ (lines : List (List ℕ)) where
+  sound : (name : Name) → IsName name → has_key (keys_of lines) name ≡ true → IsDeclared lines name
+  sound name valid has =
+      let line = flat_contains (λ line. keys_in (words_of line)) lines (key_of name) (any_has (keys_of lines) (key_of name) has) in
+      let entry = key_at (node_line_at (words_of line.0)) (key_of name) line.2 in
+      let takes = line_takes (words_of line.0) entry.0 entry.1 in
+      let text : line.0 ≡ spaced (entry_words entry.0) = sym (spaced-words_of line.0) ∙ ap spaced takes.0 in
+      let is = takes.1 in (
+        entry.0,
+        record { name = is.0; node = is.1; values = All-from_recursion IsValue (held_by entry.0.node) is.2 },
+        same_key entry.0.name name is.0 valid (sym entry.2),
+        subst (Contains lines) text line.1,
+      )
+
+  complete : (name : Name) → IsDeclared lines name → has_key (keys_of lines) name ≡ true
+  complete name h =
+      let entry : Entry = h.0 in
+      let is : IsSpellable entry = (h.1.name, h.1.node, recursion_from_All IsValue (held_by entry.node) h.1.values) in
+      let line : List ℕ = spaced (entry_words entry) in
+      let reads : node_line_at (words_of line) ≡ Some entry = ap node_line_at (words_of-line (entry_words entry) (entry_line entry is)) ∙ line_again entry is in
+      let one : Contains (keys_in (words_of line)) (key_of entry.name) = subst (λ (o : Option Entry). Contains (key_in o) (key_of entry.name)) (sym reads) (contains_at (key_of entry.name ∷ []) 0 (key_of entry.name) refl) in
+      let all : Contains (keys_of lines) (key_of entry.name) = contains_flat (λ l. keys_in (words_of l)) lines line (key_of entry.name) h.3 one in
+      has_any (keys_of lines) (key_of name) (subst (λ (n : Name). Contains (keys_of lines) (key_of n)) h.2 all)
+
+  pub keys_tell : Tells (has_key (keys_of lines)) lines
+  keys_tell = record { sound = sound; complete = complete }
+
+-- and so does a test that is the same
+pub tells_same : (d e : Name → Bool) (lines : List (List ℕ)) → ((name : Name) → d name ≡ e name) → Tells e lines → Tells d lines
+tells_same d e lines same tells = record {
+  sound = λ name valid h. tells.sound name valid (sym (same name) ∙ h);
+  complete = λ name h. same name ∙ tells.complete name h;
+}
+
+-- the keys of names tell them
+pub names_tell : (names : List Name) → All IsName names → TellsNames (has_key (map key_of names)) names
+names_tell names valid = record {
+  sound = λ name is has.
+      let p = place_of (map key_of names) (key_of name) (any_has (map key_of names) (key_of name) has) in
+      let n = map_item key_of names p.0 (key_of name) p.1 in
+      let held : Contains names n.0 = contains_at names p.0 n.0 n.1 in
+      let same : n.0 ≡ name = same_key n.0 name (All-contains IsName names n.0 valid held) is (sym n.2) in
+      subst (Contains names) same held;
+  complete = λ name held.
+      let p = place_of names name held in
+      has_any (map key_of names) (key_of name) (contains_at (map key_of names) p.0 (key_of name) (item_map key_of names p.0 name p.1));
+}
+
+-- and so does a test that is the same
+pub names_same : (d e : Name → Bool) (names : List Name) → ((name : Name) → d name ≡ e name) → TellsNames e names → TellsNames d names
+names_same d e names same tells = record {
+  sound = λ name valid h. tells.sound name valid (sym (same name) ∙ h);
+  complete = λ name h. same name ∙ tells.complete name h;
+}

@@ -1,0 +1,88 @@
+-- The roots of a search, one after another.
+use Rattle.std.proofs.Common.{ℕ, ◌≡◌, ◌⊎◌, ◌<◌, ◌≤◌, ◌+◌, ◌^◌, List, [], ◌∷◌, ◌++◌, length, take, get_or, arith, refl, sym, subst, inl, inr, Result, Ok, Err}
+use Rattle.std.specs.Prelude.{Contains, OnOk}
+use Rattle.std.proofs.lemmas.Bool.{cases_eq, cases_lt}
+use Rattle.std.proofs.lemmas.List.{take_more, take_all}
+use Rattle.std.proofs.lemmas.List.Elements.{Contains-append_left, Contains-push, Contains-push_cases, Contains-get_or}
+use Rattle.nmgc_reach.specs.laws.ItemLaws.{nothing_in}
+use Rattle.nmgc_object.specs.declared.layout.TheConstants.{SHARED_PLACE}
+use Rattle.nmgc_journal.specs.declared.report.MutatorEnd.{MutatorEnd}
+use Rattle.nmgc_journal.specs.declared.report.Report.{Report}
+use Rattle.nmgc_image.specs.declared.search.Search.{Search}
+use Rattle.nmgc_image.specs.Reaching.{Reaches, IsSearch, Visits, IsOwnRoot, IsMutatorRoot, IsWeakBlock, IsWeakIn, IsWeakRoot, IsRootPlace, IsReadyFor}
+use Rattle.nmgc_image.proofs.Searching.{visits_none, visits_then, visits_same}
+
+-- what has P below a number
+abbrev pub Below : (ℕ → ℕ → Type 0) → ℕ → ℕ → Type 0
+Below P n at = (k : ℕ) × (k < n) × P k at
+
+-- no number is below 0
+pub below_start : (P : ℕ → ℕ → Type 0) (s : Search) → IsSearch s → Visits (Below P 0) s s
+below_start P s i = visits_none (Below P 0) s i (λ at b. absurd (let lt = b.1 in omega arith))
+
+-- one more
+pub below_next : (P : ℕ → ℕ → Type 0) (n : ℕ) (s t u : Search) → Visits (Below P n) s t → Visits (P n) t u → Visits (Below P (n + 1)) s u
+below_next P n s t u v w = visits_then (Below P n) (P n) (Below P (n + 1)) s t u v w
+    (λ at b. elim (cases_eq b.0 n) [
+      | inl same ↦ inr (subst (λ (k : ℕ). P k at) same b.2)
+      | inr other ↦ let lt = b.1 in inl (b.0, omega (arith, lt, other), b.2)
+    ])
+    (λ at both. elim both [
+      | inl b ↦ let lt = b.1 in (b.0, omega (arith, lt), b.2)
+      | inr p ↦ (n, omega arith, p)
+    ])
+
+-- one more that has nothing
+pub below_same : (P : ℕ → ℕ → Type 0) (n : ℕ) (s t : Search) → Visits (Below P n) s t → ((at : ℕ) → P n at → ⊥) → Visits (Below P (n + 1)) s t
+below_same P n s t v none = visits_same (Below P n) (Below P (n + 1)) s t v
+    (λ at b. let lt = b.1 in (b.0, omega (arith, lt), b.2))
+    (λ at b. elim (cases_eq b.0 n) [
+      | inl same ↦ absurd (none at (subst (λ (k : ℕ). P k at) same b.2))
+      | inr other ↦ let lt = b.1 in (b.0, omega (arith, lt, other), b.2)
+    ])
+
+-- all of them
+pub below_all : (P : ℕ → ℕ → Type 0) (n : ℕ) (s t : Search) → ((k at : ℕ) → P k at → k < n) → Visits (Below P n) s t → Visits (λ at. (k : ℕ) × P k at) s t
+below_all P n s t limit v = visits_same (Below P n) (λ at. (k : ℕ) × P k at) s t v (λ at b. (b.0, b.2)) (λ at b. (b.0, limit b.0 at b.1, b.1))
+
+-- mutators
+pub mutators_start : (mutators : List MutatorEnd) (s : Search) → IsSearch s → Visits (IsMutatorRoot (take 0 mutators)) s s
+mutators_start mutators s i = visits_none (IsMutatorRoot (take 0 mutators)) s i (λ at b. absurd (nothing_in b.0 b.1))
+
+pub mutators_next : (mutators : List MutatorEnd) (i : ℕ) (d : MutatorEnd) (s t u : Search) → i < length mutators → Visits (IsMutatorRoot (take i mutators)) s t → Visits (IsOwnRoot (get_or mutators i d)) t u → Visits (IsMutatorRoot (take (i + 1) mutators)) s u
+mutators_next mutators i d s t u lt v w =
+    let own : MutatorEnd = get_or mutators i d in
+    let e : take (i + 1) mutators ≡ take i mutators ++ own ∷ [] = take_more mutators i d lt in
+    visits_then (IsMutatorRoot (take i mutators)) (IsOwnRoot own) (IsMutatorRoot (take (i + 1) mutators)) s t u v w
+    (λ at b. elim (Contains-push_cases (take i mutators) own b.0 (subst (λ (l : List MutatorEnd). Contains l b.0) e b.1)) [
+      | inl old ↦ inl (b.0, old, b.2)
+      | inr same ↦ inr (subst (λ (m : MutatorEnd). IsOwnRoot m at) (sym same) b.2)
+    ])
+    (λ at both. elim both [
+      | inl b ↦ (b.0, subst (λ (l : List MutatorEnd). Contains l b.0) (sym e) (Contains-append_left (take i mutators) (own ∷ []) b.0 b.1), b.2)
+      | inr p ↦ (own, subst (λ (l : List MutatorEnd). Contains l own) (sym e) (Contains-push (take i mutators) own), p)
+    ])
+
+pub mutators_end : (mutators : List MutatorEnd) (i : ℕ) (s t : Search) → length mutators ≤ i → Visits (IsMutatorRoot (take i mutators)) s t → Visits (IsMutatorRoot mutators) s t
+mutators_end mutators i s t all v = let P : List MutatorEnd → Type 0 = λ l. Visits (IsMutatorRoot l) s t in subst P (take_all i mutators all) v
+
+pub own_within : (mutators : List MutatorEnd) (i room : ℕ) (d : MutatorEnd) → i < length mutators → ((at : ℕ) → IsMutatorRoot mutators at → (at < room) × (at < 2 ^ 32)) → (at : ℕ) → IsOwnRoot (get_or mutators i d) at → (at < room) × (at < 2 ^ 32)
+own_within mutators i room d lt h at r = h at (get_or mutators i d, Contains-get_or mutators i d lt, r)
+
+-- whatever the search begins with lies in the heap, and is a number of 32 bits
+pub root_within : (report : Report) → IsReadyFor report → (at : ℕ) → IsRootPlace report at → (at < length report.words) × (at < 2 ^ 32)
+root_within report ready at root =
+    let object = ready.objects at (Reaches.root at root) in
+    let fits = object.named.within in
+    let small = object.named.small in
+    (omega (arith, fits), omega (arith, small))
+
+-- what is said where all went well, said in other words
+pub on_ok : {T E P Q : Type 0} (r : Result T E) → (P → Q) → OnOk r P → OnOk r Q
+on_ok (Ok x) f h = f h
+on_ok (Err e) f h = h
+
+-- from more places more is reached
+pub reaches_in : (words : List ℕ) (P Q : ℕ → Type 0) → ((at : ℕ) → P at → Q at) → (at : ℕ) → Reaches words P at → Reaches words Q at
+reaches_in words P Q more at (Reaches.root _ p) = Reaches.root at (more at p)
+reaches_in words P Q more at (Reaches.field from _ object r c) = Reaches.field from at object (reaches_in words P Q more from r) c

@@ -1,0 +1,6 @@
+use Rattle.std.proofs.Common.{◌≡◌, map, take}
+use Rattle.nmgc_image.specs.Reading.{key_of}
+use Rattle.nmgc_image.proofs.declared.of_names.Given as goal
+
+abbrev pub invariant-loop-name : goal.invariant-loop-name
+invariant-loop-name l = l.keys.items ≡ map key_of (take l.name-index l.names)

@@ -1,0 +1,9 @@
+use Rattle.std.proofs.Common.{◌≡◌, ◌≤◌, ◌-◌, ◌++◌, length, take, drop}
+use Rattle.nmgc_image.specs.Objects.{leading}
+use Rattle.nmgc_image.proofs.objects.told_of_stack.Given as goal
+
+abbrev pub invariant-loop-depth : goal.invariant-loop-depth
+invariant-loop-depth l = record { within : l.depth ≤ length l.fields; so_far : leading l.fields ≡ take l.depth l.fields ++ leading (drop l.depth l.fields) }
+
+abbrev pub decreases-loop-depth : goal.decreases-loop-depth
+decreases-loop-depth l = length l.fields - l.depth

@@ -1,0 +1,6 @@
+use Rattle.std.proofs.Common.{◌≡◌, map, take}
+use Rattle.nmgc_image.specs.Objects.{value_in}
+use Rattle.nmgc_image.proofs.objects.values_of.Given as goal
+
+abbrev pub invariant-loop-word : goal.invariant-loop-word
+invariant-loop-word l = l.values ≡ map (value_in l.words) (take l.word-index l.fields)

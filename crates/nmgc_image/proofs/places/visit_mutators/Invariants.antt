@@ -1,0 +1,6 @@
+use Rattle.std.proofs.Common.{take}
+use Rattle.nmgc_image.specs.Reaching.{Visits, IsMutatorRoot}
+use Rattle.nmgc_image.proofs.places.visit_mutators.Given as goal
+
+abbrev pub invariant-loop-own : goal.invariant-loop-own
+invariant-loop-own l = Visits (IsMutatorRoot (take l.own-index l.mutators)) l.initial.search l.search

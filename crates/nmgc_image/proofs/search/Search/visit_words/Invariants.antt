@@ -1,0 +1,6 @@
+use Rattle.std.proofs.Common.{take}
+use Rattle.nmgc_image.specs.Reaching.{Visits, ArePointers}
+use Rattle.nmgc_image.proofs.search.Search.visit_words.Given as goal
+
+abbrev pub invariant-loop-word : goal.invariant-loop-word
+invariant-loop-word l = Visits (ArePointers (take l.word-index l.words)) l.initial.self l.self

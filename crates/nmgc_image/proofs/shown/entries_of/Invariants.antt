@@ -1,0 +1,7 @@
+use Rattle.std.proofs.Common.{take}
+use Rattle.nmgc_image.specs.Shown.{ListsObjects}
+use Rattle.nmgc_image.proofs.Listing.{places_of}
+use Rattle.nmgc_image.proofs.shown.entries_of.Given as goal
+
+abbrev pub invariant-loop-object : goal.invariant-loop-object
+invariant-loop-object l = ListsObjects l.words (places_of (take l.object-index l.keyed)) l.nodes

@@ -1,0 +1,6 @@
+use Rattle.std.proofs.Common.{◌≡◌, map, take}
+use Rattle.nmgc_image.specs.Shown.{keyed_at}
+use Rattle.nmgc_image.proofs.shown.keyed_of.Given as goal
+
+abbrev pub invariant-loop-at : goal.invariant-loop-at
+invariant-loop-at l = l.keyed.items ≡ map (keyed_at l.words) (take l.at-index l.places)

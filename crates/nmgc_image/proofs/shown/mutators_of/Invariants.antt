@@ -1,0 +1,12 @@
+use Rattle.std.proofs.Common.{ℕ, ◌≡◌, length, take, Some}
+use Rattle.std.specs.Prelude.{slice_get}
+use Rattle.nmgc_journal.specs.declared.report.MutatorEnd.{MutatorEnd}
+use Rattle.nmgc_image.specs.declared.image.ImageMutator.{ImageMutator}
+use Rattle.nmgc_image.specs.Shown.{ShowsOwn}
+use Rattle.nmgc_image.proofs.shown.mutators_of.Given as goal
+
+abbrev pub invariant-loop-own : goal.invariant-loop-own
+invariant-loop-own l = record {
+  count : length l.shown ≡ l.own-index;
+  shows : (m : ℕ) (own : MutatorEnd) (image : ImageMutator) → slice_get l.mutators m ≡ Some own → slice_get l.shown m ≡ Some image → ShowsOwn l.words own image;
+}

@@ -1,0 +1,45 @@
+-- The heap that a report has stands for a world.
+use Rattle.std.specs.Prelude.{◌≡◌, ℕ, ◌+◌, ◌<◌, ◌≤◌, List, length, map, flat_map, Contains, All}
+use Rattle.nmgc_graph.specs.declared.value.TheConstants.{REGISTERS}
+use Rattle.nmgc_graph.specs.declared.value.Name.{Name}
+use Rattle.nmgc_graph.specs.World.{World, IsWorld}
+use Rattle.nmgc_reach.specs.Limits.{IsWithin}
+use Rattle.nmgc_reach.specs.Wide.{IsWide}
+use Rattle.nmgc_object.specs.Places.{IsLayout, nursery_place}
+use Rattle.nmgc_object.specs.declared.layout.Layout.{Layout}
+use Rattle.nmgc_object.specs.declared.size.TheConstants.{HEADER_WORDS}
+use Rattle.nmgc_object.specs.declared.words.TheConstants.{MAX_FIELDS}
+use Rattle.nmgc_heap.specs.Places.{Place}
+use Rattle.nmgc_heap.specs.Represents.{Represents, NoNode}
+use Rattle.nmgc_heap.specs.Roots.{RepresentsRoots, ListsWeaks}
+use Rattle.nmgc_blocks.specs.Occupied.{AreBlocks}
+use Rattle.nmgc_journal.specs.declared.report.MutatorEnd.{MutatorEnd}
+use Rattle.nmgc_journal.specs.declared.report.Report.{Report}
+
+-- as many words as a segment may have, so that the header of each object can be written
+abbrev pub most_object_words : ℕ
+most_object_words = HEADER_WORDS + MAX_FIELDS
+
+-- the report's words, segments, mutators and weak pointers stand for a world within the limits, as a stop leaves them: objects lie in blocks, and none in a nursery
+pub record IsLeftAs (report : Report) (w : World) : Type 0 where
+  pub world : IsWorld w
+  pub limit : ℕ
+  pub small : limit ≤ most_object_words
+  pub within : IsWithin limit w
+  pub layout : Layout
+  pub sized : IsLayout layout
+  pub earlier : List World
+  pub places : List Place
+  pub represents : Represents layout earlier NoNode places w report.words
+  pub registers : All (λ (m : MutatorEnd). length m.registers ≡ REGISTERS) report.mutators
+  pub roots : RepresentsRoots places w (flat_map (λ (m : MutatorEnd). m.registers) report.mutators) (map (λ (m : MutatorEnd). m.queue) report.mutators) (map (λ (m : MutatorEnd). m.serial) report.mutators)
+  pub layout_is : report.segments.layout ≡ layout
+  pub blocks : AreBlocks report.segments (nursery_place layout 0) places w
+  pub settled : (p : Place) → Contains places p → p.at < nursery_place layout 0
+  pub weaks : List Place
+  pub listed : ListsWeaks layout places w weaks
+  pub weaks_are : report.weaks ≡ map (λ (p : Place). p.name) weaks
+
+-- a name of the wide reach lies at the place
+abbrev pub LiesWideAt : List Place → World → ℕ → Type 0
+LiesWideAt places w at = (name : Name) × IsWide w name × Contains places (record { at = at; name = name })

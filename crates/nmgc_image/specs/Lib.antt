@@ -1,0 +1,13 @@
+pub mod Faults
+pub mod Image
+pub mod Left
+pub mod Names
+pub mod Objects
+pub mod Printing
+pub mod Reaching
+pub mod Reading
+pub mod Shown
+pub mod Shows
+pub mod Spelling
+pub mod Text
+pub mod laws

@@ -1,0 +1,9 @@
+-- A test that tells which names are among others.
+use Rattle.std.specs.Prelude.{◌≡◌, List, Bool, true, Contains}
+use Rattle.nmgc_graph.specs.declared.value.Name.{Name}
+use Rattle.nmgc_object.specs.Words.{IsName}
+
+-- a test is true of exactly those names that are among these
+pub record TellsNames (d : Name → Bool) (names : List Name) : Type 0 where
+  pub sound : (name : Name) → IsName name → d name ≡ true → Contains names name
+  pub complete : (name : Name) → Contains names name → d name ≡ true

@@ -1,0 +1,76 @@
+-- What is reached in the words of a heap, and how far a search has come. These are the words of the private contracts.
+use Rattle.std.specs.Prelude.{◌≡◌, ◌⊎◌, ◌↔◌, ℕ, ◌+◌, ◌^◌, ◌<◌, List, [], ◌++◌, length, Some, Bool, true, not, count_by, slice_get, slice_index, Contains, All}
+use Rattle.nmgc_graph.specs.declared.value.Name.{Name}
+use Rattle.nmgc_object.specs.declared.layout.TheConstants.{SHARED_PLACE}
+use Rattle.nmgc_object.specs.Words.{IsName}
+use Rattle.nmgc_segment.specs.Segment.{InUse}
+use Rattle.nmgc_alloc.specs.Search.{nth}
+use Rattle.nmgc_alloc.specs.Segments.{IsBlockAt}
+use Rattle.nmgc_journal.specs.declared.report.MutatorEnd.{MutatorEnd}
+use Rattle.nmgc_journal.specs.declared.report.Report.{Report}
+use Rattle.nmgc_image.specs.declared.search.Search.{Search}
+use Rattle.nmgc_image.specs.Objects.{IsNamedAt, IsObjectAt, pointers, told_at, name_in}
+
+-- the places with P, and those that pointers lead to from these
+pub data Reaches (words : List ℕ) (P : ℕ → Type 0) : ℕ → Type 0 where
+  root : (at : ℕ) → P at → Reaches words P at
+  field : (at to : ℕ) (object : IsObjectAt words at) → Reaches words P at → Contains (pointers (told_at words at object.header)) to → Reaches words P to
+
+-- whatever is reached is an object
+abbrev pub ReachesObjects : List ℕ → (ℕ → Type 0) → Type 0
+ReachesObjects words P = (at : ℕ) → Reaches words P at → IsObjectAt words at
+
+-- what a search knows of itself: the places that it has seen are those in its order, each once
+pub record IsSearch (s : Search) : Type 0 where
+  pub listed : (at : ℕ) → slice_get s.seen.items at ≡ Some true → Contains s.order.items at
+  pub within : (at : ℕ) → Contains s.order.items at → at < length s.seen.items
+  pub counted : length s.order.items + count_by not s.seen.items ≡ length s.seen.items
+
+-- a search went on: to what it had, exactly the places with P were added
+pub record Visits (P : ℕ → Type 0) (old new : Search) : Type 0 where
+  pub sound : IsSearch new
+  pub room : length new.seen.items ≡ length old.seen.items
+  pub more : List ℕ
+  pub order : new.order.items ≡ old.order.items ++ more
+  pub all : (at : ℕ) → P at → Contains new.order.items at
+  pub only : (at : ℕ) → Contains new.order.items at → Contains old.order.items at ⊎ P at
+
+-- what words point to
+abbrev pub ArePointers : List ℕ → ℕ → Type 0
+ArePointers words at = Contains (pointers words) at
+
+-- all pointers lie in the heap, and are numbers of 32 bits
+abbrev pub PointWithin : ℕ → List ℕ → Type 0
+PointWithin room words = (at : ℕ) → Contains (pointers words) at → (at < room) × (at < 2 ^ 32)
+
+-- what a mutator has in hand points to the place
+abbrev pub IsOwnRoot : MutatorEnd → ℕ → Type 0
+IsOwnRoot own at = ArePointers own.registers at ⊎ ArePointers own.queue at
+
+-- so does what one of them has in hand
+abbrev pub IsMutatorRoot : List MutatorEnd → ℕ → Type 0
+IsMutatorRoot mutators at = (own : MutatorEnd) × Contains mutators own × IsOwnRoot own at
+
+-- a block in use begins at the place, and the name there is one of a list
+pub record IsWeakBlock (report : Report) (number block at : ℕ) : Type 0 where
+  pub begins : IsBlockAt report.segments number block at
+  pub used : InUse (nth report.segments.segments number) block
+  pub listed : Contains report.weaks (name_in report.words at)
+
+-- it is one of a segment
+abbrev pub IsWeakIn : Report → ℕ → ℕ → Type 0
+IsWeakIn report number at = (block : ℕ) × IsWeakBlock report number block at
+
+-- it is one of any segment
+abbrev pub IsWeakRoot : Report → ℕ → Type 0
+IsWeakRoot report at = (number : ℕ) × IsWeakIn report number at
+
+-- the places with which the search begins: that of g, of what the mutators have in hand, and of the weak pointers
+abbrev pub IsRootPlace : Report → ℕ → Type 0
+IsRootPlace report at = (at ≡ SHARED_PLACE) ⊎ (IsMutatorRoot report.mutators at ⊎ IsWeakRoot report at)
+
+-- the report can be searched: whatever is reached is an object, a name can be read in each block in use, and those of the weak pointers are names
+pub record IsReadyFor (report : Report) : Type 0 where
+  pub objects : ReachesObjects report.words (IsRootPlace report)
+  pub blocks : (number block at : ℕ) → IsBlockAt report.segments number block at → InUse (nth report.segments.segments number) block → IsNamedAt report.words at
+  pub weaks : All IsName report.weaks

@@ -1,0 +1,157 @@
+//! The places of the objects of an image.
+//!
+//! The search begins with g, with what the mutators have in hand, and with the weak pointers that are alive. Of the
+//! latter a report has the names alone, so their places are looked for among the blocks in use.
+//! Easy to get wrong: in a block in use may stand an object of which nobody speaks any more. Its name can be read, and
+//! nothing else of it. So nothing but the name is read before it was found among those of the weak pointers.
+ghost use Rattle.std.specs.Prelude.{◌≡◌, ◌↔◌, ℕ, ◌^◌, ◌<◌, length, Contains, IfOk, IsTrue, OnOk};
+ghost use Rattle.nmgc_segment.specs.Segment.{InUse};
+ghost use Rattle.nmgc_alloc.specs.Search.{nth};
+ghost use Rattle.nmgc_alloc.specs.Segments.{HasNumber, IsBlockAt};
+ghost use Rattle.nmgc_image.specs.Names.{TellsNames};
+ghost use Rattle.nmgc_image.specs.Objects.{name_in};
+ghost use Rattle.nmgc_image.specs.Reading.{has_key};
+ghost use Rattle.nmgc_image.specs.Reaching.{Reaches, IsSearch, Visits, ArePointers, IsOwnRoot, IsMutatorRoot, IsWeakBlock, IsWeakIn, IsWeakRoot, IsRootPlace, IsReadyFor};
+
+use crate::declared::{Declared, of_names};
+use crate::objects::name_at;
+use crate::search::Search;
+use nmgc_graph::NoMemory;
+use nmgc_journal::{MutatorEnd, Report};
+use nmgc_object::SHARED_PLACE;
+use nmgc_segment::{Segment, State};
+use std::alloc::Global;
+
+/// The places of the objects of an image, in no order.
+pub(crate) fn places_of(alloc: Global, report: &Report) -> Result<Vec<u32>, NoMemory>
+    requires { IsReadyFor report.now }
+    ensures { IfOk result (λ places. (at : ℕ) → Contains places.items at ↔ Reaches report.now.words (IsRootPlace report.now) at) }
+{
+    let mut search = Search::new(alloc, report.words.len())?;
+    visit_roots(alloc, &mut search, report)?;
+    search.run(alloc, &report.words)?;
+    Ok(search.order)
+}
+
+// Finds the places with which the search begins.
+fn visit_roots(alloc: Global, search: &mut Search, report: &Report) -> Result<(), NoMemory>
+    requires sound { IsSearch search.old }
+    requires room { length search.old.seen.items ≡ length report.now.words }
+    requires ready { IsReadyFor report.now }
+    ensures { OnOk result (Visits (IsRootPlace report.now) search.old search.new) }
+{
+    search.visit(SHARED_PLACE)?;
+    visit_mutators(search, report.mutators.items())?;
+    visit_weaks(alloc, search, report)
+}
+
+// Finds what the mutators have in hand.
+fn visit_mutators(search: &mut Search, mutators: &[MutatorEnd]) -> Result<(), NoMemory>
+    requires sound { IsSearch search.old }
+    requires within { (at : ℕ) → IsMutatorRoot mutators.now at → (at < length search.old.seen.items) × (at < 2 ^ 32) }
+    ensures { OnOk result (Visits (IsMutatorRoot mutators.now) search.old search.new) }
+{
+    for own in mutators {
+        visit_own(search, own)?;
+    }
+    Ok(())
+}
+
+// Finds what one of them has in hand.
+fn visit_own(search: &mut Search, own: &MutatorEnd) -> Result<(), NoMemory>
+    requires sound { IsSearch search.old }
+    requires within { (at : ℕ) → IsOwnRoot own.now at → (at < length search.old.seen.items) × (at < 2 ^ 32) }
+    ensures { OnOk result (Visits (IsOwnRoot own.now) search.old search.new) }
+{
+    visit_registers(search, own)?;
+    visit_queue(search, own)
+}
+
+// Finds what its registers hold.
+fn visit_registers(search: &mut Search, own: &MutatorEnd) -> Result<(), NoMemory>
+    requires sound { IsSearch search.old }
+    requires within { (at : ℕ) → ArePointers own.now.registers at → (at < length search.old.seen.items) × (at < 2 ^ 32) }
+    ensures { OnOk result (Visits (ArePointers own.now.registers) search.old search.new) }
+{
+    search.visit_words(own.registers.items())
+}
+
+// Finds what its queue holds.
+fn visit_queue(search: &mut Search, own: &MutatorEnd) -> Result<(), NoMemory>
+    requires sound { IsSearch search.old }
+    requires within { (at : ℕ) → ArePointers own.now.queue at → (at < length search.old.seen.items) × (at < 2 ^ 32) }
+    ensures { OnOk result (Visits (ArePointers own.now.queue) search.old search.new) }
+{
+    search.visit_words(own.queue.items())
+}
+
+// Finds the weak pointers.
+fn visit_weaks(alloc: Global, search: &mut Search, report: &Report) -> Result<(), NoMemory>
+    requires sound { IsSearch search.old }
+    requires room { length search.old.seen.items ≡ length report.now.words }
+    requires ready { IsReadyFor report.now }
+    ensures { OnOk result (Visits (IsWeakRoot report.now) search.old search.new) }
+{
+    let weaks = of_names(alloc, report.weaks.items())?;
+    if weaks.is_empty() {
+        return Ok(());
+    }
+    for number in 0..report.segments.layout().segments {
+        visit_segment(search, report, &weaks, number)?;
+    }
+    Ok(())
+}
+
+// Finds those in the blocks of a segment.
+fn visit_segment(
+    search: &mut Search,
+    report: &Report,
+    weaks: &Declared,
+    number: u32,
+) -> Result<(), NoMemory>
+    requires sound { IsSearch search.old }
+    requires room { length search.old.seen.items ≡ length report.now.words }
+    requires ready { IsReadyFor report.now }
+    requires weaks { TellsNames (has_key weaks.now.keys.items) report.now.weaks }
+    requires number { HasNumber report.now.segments number }
+    ensures { OnOk result (Visits (IsWeakIn report.now number) search.old search.new) }
+{
+    let segment = report.segments.segment(number);
+    if is_free(segment) {
+        return Ok(());
+    }
+    for block in 0..segment.blocks() {
+        if segment.in_use(block) {
+            let at = report.segments.place_of(number, block).0;
+            visit_block(search, report, weaks, at)?;
+        }
+    }
+    Ok(())
+}
+
+// Whether a segment is free.
+fn is_free(segment: &Segment) -> bool
+    ensures { IsTrue result ↔ (segment.now.state ≡ State.Free) }
+{
+    segment.state() == State::Free
+}
+
+// Finds the weak pointer in a block in use, if there is one.
+fn visit_block(
+    search: &mut Search,
+    report: &Report,
+    weaks: &Declared,
+    at: u32,
+) -> Result<(), NoMemory>
+    requires sound { IsSearch search.old }
+    requires room { length search.old.seen.items ≡ length report.now.words }
+    requires ready { IsReadyFor report.now }
+    requires weaks { TellsNames (has_key weaks.now.keys.items) report.now.weaks }
+    requires block { (number : ℕ) × (block : ℕ) × IsBlockAt report.now.segments number block at × InUse (nth report.now.segments.segments number) block }
+    ensures { OnOk result (Visits (λ place. (place ≡ at) × Contains report.now.weaks (name_in report.now.words at)) search.old search.new) }
+{
+    if weaks.has(name_at(&report.words, at)) {
+        search.visit(at)?;
+    }
+    Ok(())
+}

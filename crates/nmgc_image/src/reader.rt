@@ -1,0 +1,429 @@
+//! What was read of an image so far, and the next line.
+//!
+//! A line is one of six, by its first word, and may come only where those before it leave room for it.
+ghost use Rattle.std.specs.Prelude.{◌≡◌, ◌++◌, ◌==◌, ◌&&◌, map, length, not, slice_get, IfOk};
+ghost use Rattle.std.specs.List.{list_all};
+ghost use Rattle.std.specs.Option.{option_to_list, option_copied};
+ghost use Rattle.nmgc_graph.specs.World.{held_by};
+ghost use Rattle.nmgc_image.specs.Reading.{Gives, has_key, is_declared, begun, is_open, is_full, first_at, new_own, mutator_at, is_above, is_nil, with_register, with_entry, register_at, queue_at, is_before, is_after, is_shared, is_below, is_owned, can_follow, next_at, end_at, line_at, start};
+
+use crate::LineFault;
+use crate::declared::Declared;
+use crate::image::{Entry, Held, ImageMutator};
+use crate::nodes::{entry, number, value};
+use nmgc_graph::{
+    List, MAKERS, Name, NoMemory, Node, REGISTERS, SHARED_MAKER, SHARED_SLOTS, Value,
+};
+use std::alloc::Global;
+
+/// The lines so far: how many mutators were announced, those that are done and the one that is being read, the
+/// objects, and whether the end came.
+#[derive(Drop)]
+pub(crate) struct Reader {
+    pub(crate) expected: u8,
+    pub(crate) done: List<ImageMutator>,
+    pub(crate) current: Option<ImageMutator>,
+    pub(crate) nodes: List<Entry>,
+    pub(crate) ended: bool,
+}
+
+impl Reader {
+    /// Nothing so far. Takes no memory.
+    pub(crate) fn new(alloc: Global) -> Self
+        ensures { result ≡ start }
+    {
+        Reader {
+            expected: 0,
+            done: List::new(alloc),
+            current: None,
+            nodes: List::new(alloc),
+            ended: false,
+        }
+    }
+
+    /// Takes the next line, by its words. After an `Err` nothing is left.
+    #[tactic(auto, unfolding(crate::specs::Reading::line_at))]
+    pub(crate) fn with_line(
+        self,
+        alloc: Global,
+        declared: &Declared,
+        words: &[&[u8]],
+    ) -> Result<Reader, LineFault>
+        ensures { Gives result (line_at (has_key declared.now.keys.items) self (map (λ w. w.now) words.now)) }
+    {
+        let [word, rest @ ..] = words else {
+            return Err(LineFault::Bad);
+        };
+        if *word == b"image".as_slice() {
+            return self.with_first(rest);
+        }
+        if *word == b"mutator".as_slice() {
+            return self.with_mutator(alloc, rest);
+        }
+        if *word == b"register".as_slice() {
+            return self.with_register(declared, rest);
+        }
+        if *word == b"queue".as_slice() {
+            return self.with_entry(declared, rest);
+        }
+        if *word == b"node".as_slice() {
+            return self.with_node(alloc, declared, rest);
+        }
+        if *word == b"end".as_slice() {
+            return self.with_end(declared, rest);
+        }
+        Err(LineFault::Bad)
+    }
+
+    // The number of mutators that were begun.
+    fn count(&self) -> usize
+        ensures { result ≡ length (begun self.now) }
+    {
+        self.done.items().len() + usize::from(self.current.is_some())
+    }
+
+    fn is_open(&self) -> bool
+        ensures { result ≡ is_open self.now }
+    {
+        self.nodes.items().is_empty() && !self.ended
+    }
+
+    fn is_full(&self) -> bool
+        ensures { result ≡ is_full self.now }
+    {
+        self.expected > 0 && self.count() == self.expected as usize && !self.ended
+    }
+
+    #[tactic(auto, unfolding(crate::specs::Reading::first_at))]
+    fn with_first(self, words: &[&[u8]]) -> Result<Reader, LineFault>
+        ensures { Gives result (first_at self (map (λ w. w.now) words.now)) }
+    {
+        let [version, count] = words else {
+            return Err(LineFault::Bad);
+        };
+        if *version != b"1".as_slice() || self.expected != 0 {
+            return Err(LineFault::Bad);
+        }
+        let expected = number(count, u64::from(MAKERS))? as u8;
+        if expected == 0 {
+            return Err(LineFault::Bad);
+        }
+        Ok(Reader { expected, ..self })
+    }
+
+    #[tactic(auto, unfolding(crate::specs::Reading::mutator_at))]
+    fn with_mutator(self, alloc: Global, words: &[&[u8]]) -> Result<Reader, LineFault>
+        ensures { Gives result (mutator_at self (map (λ w. w.now) words.now)) }
+    {
+        let [number_word, word, serial_word] = words else {
+            return Err(LineFault::Bad);
+        };
+        if *word != b"serial".as_slice()
+            || !self.is_open()
+            || self.count() >= self.expected as usize
+        {
+            return Err(LineFault::Bad);
+        }
+        let mutator = number(number_word, u64::from(MAKERS))?;
+        let serial = number(serial_word, u64::from(u32::MAX))? as u32;
+        if mutator as usize != self.count() {
+            return Err(LineFault::Bad);
+        }
+        let Reader {
+            expected,
+            done,
+            current,
+            nodes,
+            ended,
+        } = self;
+        let done = all_of(done, current)?;
+        let current = Some(ImageMutator {
+            serial,
+            registers: List::new(alloc),
+            queue: List::new(alloc),
+        });
+        Ok(Reader {
+            expected,
+            done,
+            current,
+            nodes,
+            ended,
+        })
+    }
+
+    #[tactic(auto, unfolding(crate::specs::Reading::register_at))]
+    fn with_register(self, declared: &Declared, words: &[&[u8]]) -> Result<Reader, LineFault>
+        ensures { Gives result (register_at (has_key declared.now.keys.items) self (map (λ w. w.now) words.now)) }
+    {
+        let [register, word] = words else {
+            return Err(LineFault::Bad);
+        };
+        if !self.is_open() {
+            return Err(LineFault::Bad);
+        }
+        let Reader {
+            expected,
+            done,
+            current,
+            nodes,
+            ended,
+        } = self;
+        let Some(own) = current else {
+            return Err(LineFault::Bad);
+        };
+        let register = number(register, u64::from(REGISTERS) - 1)? as u8;
+        let value = value(word)?;
+        if !can_hold(&own, register, value) || !declared.has_value(value) {
+            return Err(LineFault::Bad);
+        }
+        let current = Some(holding(own, Held { register, value })?);
+        Ok(Reader {
+            expected,
+            done,
+            current,
+            nodes,
+            ended,
+        })
+    }
+
+    #[tactic(auto, unfolding(crate::specs::Reading::queue_at))]
+    fn with_entry(self, declared: &Declared, words: &[&[u8]]) -> Result<Reader, LineFault>
+        ensures { Gives result (queue_at (has_key declared.now.keys.items) self (map (λ w. w.now) words.now)) }
+    {
+        let [word] = words else {
+            return Err(LineFault::Bad);
+        };
+        if !self.is_open() {
+            return Err(LineFault::Bad);
+        }
+        let Reader {
+            expected,
+            done,
+            current,
+            nodes,
+            ended,
+        } = self;
+        let Some(own) = current else {
+            return Err(LineFault::Bad);
+        };
+        let value = value(word)?;
+        if !declared.has_value(value) {
+            return Err(LineFault::Bad);
+        }
+        let current = Some(queueing(own, value)?);
+        Ok(Reader {
+            expected,
+            done,
+            current,
+            nodes,
+            ended,
+        })
+    }
+
+    #[tactic(auto, unfolding(crate::specs::Reading::next_at))]
+    fn with_node(
+        self,
+        alloc: Global,
+        declared: &Declared,
+        words: &[&[u8]],
+    ) -> Result<Reader, LineFault>
+        ensures { Gives result (next_at (has_key declared.now.keys.items) self (map (λ w. w.now) words.now)) }
+    {
+        let entry = entry(alloc, words)?;
+        if !self.can_take(declared, &entry) {
+            return Err(LineFault::Bad);
+        }
+        let Reader {
+            expected,
+            done,
+            current,
+            mut nodes,
+            ended,
+        } = self;
+        nodes.push(entry)?;
+        Ok(Reader {
+            expected,
+            done,
+            current,
+            nodes,
+            ended,
+        })
+    }
+
+    #[tactic(auto, unfolding(crate::specs::Reading::end_at))]
+    fn with_end(self, declared: &Declared, words: &[&[u8]]) -> Result<Reader, LineFault>
+        ensures { Gives result (end_at (has_key declared.now.keys.items) self (map (λ w. w.now) words.now)) }
+    {
+        let [] = words else {
+            return Err(LineFault::Bad);
+        };
+        if !self.is_full() || !declared.has(Name::SHARED) {
+            return Err(LineFault::Bad);
+        }
+        Ok(Reader {
+            ended: true,
+            ..self
+        })
+    }
+
+    // Whether an object may come next.
+    fn can_take(&self, declared: &Declared, entry: &Entry) -> bool
+        ensures { result ≡ can_follow (has_key declared.now.keys.items) self.now entry.now }
+    {
+        self.is_full()
+            && is_after(self.nodes.items(), entry.name)
+            && self.is_owned(entry)
+            && are_declared(declared, &entry.node)
+    }
+
+    // Whether an object is g, or was made by one of the mutators.
+    fn is_owned(&self, entry: &Entry) -> bool
+        ensures { result ≡ is_owned (begun self.now) entry.now }
+    {
+        if entry.name.maker == SHARED_MAKER && entry.name.serial == 0 {
+            return is_shared(&entry.node);
+        }
+        match self.mutator(entry.name.maker as usize) {
+            Some(own) => entry.name.serial < own.serial,
+            None => false,
+        }
+    }
+
+    // A mutator that was begun.
+    fn mutator(&self, number: usize) -> Option<&ImageMutator>
+        ensures { option_copied result ≡ slice_get (begun self.now) number }
+    {
+        let done = self.done.items();
+        if number == done.len() {
+            return self.current.as_ref();
+        }
+        done.get(number)
+    }
+}
+
+// The mutators that are done, and the one that is being read.
+pub(crate) fn all_of(
+    done: List<ImageMutator>,
+    current: Option<ImageMutator>,
+) -> Result<List<ImageMutator>, NoMemory>
+    ensures { IfOk result (λ all. all ≡ done ++ option_to_list current) }
+{
+    let mut all = done;
+    if let Some(own) = current {
+        all.push(own)?;
+    }
+    Ok(all)
+}
+
+// Whether a mutator may have this register next.
+fn can_hold(own: &ImageMutator, register: u8, value: Value) -> bool
+    ensures { result ≡ ((length own.now.queue == 0) && is_above own.now.registers register && not (is_nil value)) }
+{
+    own.queue.items().is_empty()
+        && is_above(own.registers.items(), register)
+        && !matches!(value, Value::Nil)
+}
+
+// Whether a register comes after all of these, which are in order.
+fn is_above(registers: &[Held], register: u8) -> bool
+    ensures { result ≡ is_above registers.now register }
+{
+    match registers {
+        [] => true,
+        [.., last] => last.register < register,
+    }
+}
+
+fn holding(own: ImageMutator, held: Held) -> Result<ImageMutator, NoMemory>
+    ensures { IfOk result (λ more. more ≡ with_register own held) }
+{
+    let ImageMutator {
+        serial,
+        mut registers,
+        queue,
+    } = own;
+    registers.push(held)?;
+    Ok(ImageMutator {
+        serial,
+        registers,
+        queue,
+    })
+}
+
+fn queueing(own: ImageMutator, value: Value) -> Result<ImageMutator, NoMemory>
+    ensures { IfOk result (λ more. more ≡ with_entry own value) }
+{
+    let ImageMutator {
+        serial,
+        registers,
+        mut queue,
+    } = own;
+    queue.push(value)?;
+    Ok(ImageMutator {
+        serial,
+        registers,
+        queue,
+    })
+}
+
+/// Whether a name comes after those of all of these objects, which are in order.
+pub(crate) fn is_after(nodes: &[Entry], name: Name) -> bool
+    ensures { result ≡ is_after nodes.now name }
+{
+    match nodes {
+        [] => true,
+        [.., last] => is_before(last.name, name),
+    }
+}
+
+fn is_before(a: Name, b: Name) -> bool
+    ensures { result ≡ is_before a b }
+{
+    a.maker < b.maker || (a.maker == b.maker && a.serial < b.serial)
+}
+
+// Whether a node is an array with as many slots as g has.
+fn is_shared(node: &Node) -> bool
+    ensures { result ≡ is_shared node.now }
+{
+    match node {
+        Node::Arr { values } => values.items().len() == SHARED_SLOTS as usize,
+        _ => false,
+    }
+}
+
+// Whether each name that a node mentions has a node line.
+fn are_declared(declared: &Declared, node: &Node) -> bool
+    ensures { result ≡ list_all (is_declared (has_key declared.now.keys.items)) (held_by node.now) }
+{
+    match node {
+        Node::Con { values, .. } | Node::Arr { values } | Node::Stack { values, .. } => {
+            are_all_declared(declared, values.items())
+        }
+        Node::Var { value } => declared.has_value(*value),
+        Node::Thunk { free, result } => {
+            is_result_declared(declared, *result) && are_all_declared(declared, free.items())
+        }
+        Node::Weak { parts: None } => true,
+        Node::Weak { parts: Some(parts) } => {
+            declared.has_value(parts.key)
+                && declared.has_value(parts.value)
+                && declared.has_value(parts.finaliser)
+        }
+    }
+}
+
+fn is_result_declared(declared: &Declared, outcome: Option<Value>) -> bool
+    ensures { result ≡ list_all (is_declared (has_key declared.now.keys.items)) (option_to_list outcome) }
+{
+    match outcome {
+        Some(value) => declared.has_value(value),
+        None => true,
+    }
+}
+
+fn are_all_declared(declared: &Declared, values: &[Value]) -> bool
+    ensures { result ≡ list_all (is_declared (has_key declared.now.keys.items)) values.now }
+{
+    values.iter().all(|value| declared.has_value(*value))
+}

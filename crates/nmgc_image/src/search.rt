@@ -1,0 +1,89 @@
+//! The search for the objects of an image.
+//!
+//! It goes over places, since a pointer tells a place: each place is seen once, and joins the order once, as it is
+//! found. The object at it is read once. So the search takes time in proportion to the words that it reads, and a byte
+//! for each word of the heap.
+ghost use Rattle.std.specs.Prelude.{◌≡◌, ◌⊎◌, ◌↔◌, ℕ, ◌<◌, [], length, replicate, false, All, Contains, IfOk, OnOk};
+ghost use Rattle.nmgc_image.specs.Objects.{IsObjectAt, pointers, told_at};
+ghost use Rattle.nmgc_image.specs.Reaching.{Reaches, ReachesObjects, IsSearch, Visits, ArePointers, PointWithin};
+
+use crate::objects::{copy_fields, is_pointer, told};
+use nmgc_graph::NoMemory;
+use nmgc_journal::FinalWords;
+use std::alloc::Global;
+
+/// The places that were found, in the order in which they were.
+#[derive(Drop)]
+pub(crate) struct Search {
+    seen: Vec<bool>,
+    pub(crate) order: Vec<u32>,
+}
+
+impl Search {
+    /// A search in so many words that has found nothing yet.
+    pub(crate) fn new(alloc: Global, words: usize) -> Result<Self, NoMemory>
+        ensures sound { IfOk result IsSearch }
+        ensures none { IfOk result (λ s. s.order.items ≡ []) }
+        ensures room { IfOk result (λ s. length s.seen.items ≡ words) }
+    {
+        Ok(Search {
+            seen: vec![in alloc; false; words]?,
+            order: Vec::new(alloc),
+        })
+    }
+
+    /// Finds a place, unless it was found before.
+    pub(crate) fn visit(&mut self, at: u32) -> Result<(), NoMemory>
+        requires sound { IsSearch self.old }
+        requires within { at < length self.old.seen.items }
+        ensures { OnOk result (Visits (λ place. place ≡ at) self.old self.new) }
+    {
+        if !self.seen[at as usize] {
+            self.seen[at as usize] = true;
+            self.order.push(at)?;
+        }
+        Ok(())
+    }
+
+    /// Finds the places that words point to.
+    pub(crate) fn visit_words(&mut self, words: &[u64]) -> Result<(), NoMemory>
+        requires sound { IsSearch self.old }
+        requires within { PointWithin (length self.old.seen.items) words.now }
+        ensures { OnOk result (Visits (ArePointers words.now) self.old self.new) }
+    {
+        for word in words {
+            if is_pointer(*word) {
+                self.visit((*word / 2) as u32)?;
+            }
+        }
+        Ok(())
+    }
+
+    // Finds the places that the object at a place points to.
+    fn expand(&mut self, words: &FinalWords, at: u32, buffer: &mut Vec<u64>) -> Result<(), NoMemory>
+        requires sound { IsSearch self.old }
+        requires object { IsObjectAt words.now at }
+        requires within { (object : IsObjectAt words.now at) → PointWithin (length self.old.seen.items) (told_at words.now at object.header) }
+        ensures { (object : IsObjectAt words.now at) → OnOk result (Visits (ArePointers (told_at words.now at object.header)) self.old self.new) }
+    {
+        let header = copy_fields(words, at, buffer)?;
+        self.visit_words(told(header.kind, buffer))
+    }
+
+    /// Finds all that is reached from the places that were found so far.
+    pub(crate) fn run(&mut self, alloc: Global, words: &FinalWords) -> Result<(), NoMemory>
+        requires sound { IsSearch self.old }
+        requires room { length self.old.seen.items ≡ length words.now }
+        requires objects { ReachesObjects words.now (Contains self.old.order.items) }
+        ensures { OnOk result ((at : ℕ) → Contains self.new.order.items at ↔ Reaches words.now (Contains self.old.order.items) at) }
+    {
+        let mut buffer = Vec::new(alloc);
+        let mut next = 0;
+        while next < self.order.len() {
+            let at = self.order[next];
+            self.expand(words, at, &mut buffer)?;
+            next += 1;
+        }
+        Ok(())
+    }
+}

@@ -1,0 +1,8 @@
+use Rattle.std.proofs.Common.{◌≡◌, ◌++◌, List, drop}
+use Rattle.std.specs.List.{flat_map}
+use Rattle.nmgc_graph.specs.declared.value.Name.{Name}
+use Rattle.nmgc_pmark.proofs.merge.joined.Given as goal
+
+-- the names so far and those of the lists left are all
+abbrev pub invariant-loop-own : goal.invariant-loop-own
+invariant-loop-own l = l.names.items ++ flat_map (λ (own : List Name). own) (drop l.own-index l.by) ≡ flat_map (λ (own : List Name). own) l.by

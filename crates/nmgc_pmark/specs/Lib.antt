@@ -1,0 +1,10 @@
+pub mod Claims
+pub mod Crew
+pub mod Found
+pub mod Marker
+pub mod Names
+pub mod OneMarker
+pub mod Rule
+pub mod Seat
+pub mod Stops
+pub mod View

@@ -1,0 +1,43 @@
+-- The names of the objects at places, in order.
+use Rattle.std.specs.Prelude.{ℕ, ◌≡◌, ◌+◌, ◌<◌, List, length, slice_index, slice_get, Some, Contains, IsPermutation}
+use Rattle.std.specs.List.{AllZip}
+use Rattle.std.specs.List.Sorted.{IsSortedByKey}
+use Rattle.std.specs.Ordering.{ordering_then, nat_cmp}
+use Rattle.nmgc_graph.specs.declared.value.Name.{Name}
+use Rattle.nmgc_lists.specs.Room.{Room}
+use Rattle.nmgc_object.specs.Words.{name_word, IsName}
+use Rattle.nmgc_object.specs.declared.words.Address.{Address}
+use Rattle.nmgc_object.specs.declared.size.TheConstants.{NAME_OFFSET}
+
+-- the object at the place has this name
+abbrev pub HasName : List ℕ → Address → Name → Type 0
+HasName words a name = (slice_index words (a.0 + NAME_OFFSET) ≡ name_word name) × IsName name
+
+-- each place has some name, within the words
+abbrev pub IsNamed : List ℕ → List Address → Type 0
+IsNamed words places = (a : Address) → Contains places a → (a.0 + NAME_OFFSET < length words) × ((name : Name) × HasName words a name)
+
+abbrev pub AreNamed : List ℕ → List (Room Address) → Type 0
+AreNamed words lists = (k : ℕ) (xs : Room Address) → slice_get lists k ≡ Some xs → IsNamed words xs.items
+
+abbrev pub key_of : Name → ℕ × ℕ
+key_of name = (name.maker, name.serial)
+
+-- no name stands before the one that it follows
+abbrev pub AreSorted : List Name → Type 0
+AreSorted names = IsSortedByKey {X = Name} {K = ℕ × ℕ} key_of (λ a b. ordering_then (nat_cmp a.0 b.0) (nat_cmp a.1 b.1)) names
+
+-- the same names, put in order
+pub record ArePutInOrder (names ordered : List Name) : Type 0 where
+  pub moved : IsPermutation names ordered
+  pub sorted : AreSorted ordered
+
+-- these are the names at the places, put in order
+pub record NameThem (words : List ℕ) (places : List Address) (names : List Name) : Type 0 where
+  pub found : List Name
+  pub each : AllZip (HasName words) places found
+  pub moved : IsPermutation found names
+  pub sorted : AreSorted names
+
+abbrev pub NameAll : List ℕ → List (Room Address) → List (List Name) → Type 0
+NameAll words lists by = AllZip (λ (xs : Room Address) (names : List Name). NameThem words xs.items names) lists by

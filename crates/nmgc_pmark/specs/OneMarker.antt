@@ -1,0 +1,34 @@
+-- Several markers against the one marker of a cycle: from the registers and queues of a snapshot they mark the same.
+use Rattle.std.specs.Prelude.{ℕ, ◌≡◌, ◌≢◌, ◌↔◌, List, ◌++◌, slice_get, Some, Contains}
+use Rattle.std.specs.List.{flat_map}
+use Rattle.nmgc_graph.specs.declared.mutator_state.MutatorState.{MutatorState}
+use Rattle.nmgc_graph.specs.declared.value.Name.{Name}
+use Rattle.nmgc_graph.specs.declared.value.Value.{Value}
+use Rattle.nmgc_graph.specs.World.{World, IsWorld}
+use Rattle.nmgc_graph.specs.Step.{shared_name}
+use Rattle.nmgc_core.specs.State.{opening}
+use Rattle.nmgc_alloc.specs.Segments.{Segments}
+use Rattle.nmgc_alloc.specs.Blocks.{IsSnapshotAt, IsMarkedAt}
+use Rattle.nmgc_heap.specs.Places.{Place}
+use Rattle.nmgc_round.specs.View.{Opening}
+use Rattle.nmgc_run.specs.Seen.{MarkerSeen}
+use Rattle.nmgc_mark.specs.Stopped.{HasFinished}
+use Rattle.nmgc_pmark.specs.Claims.{AreClaims}
+
+-- what the mutators hold: the registers of each, and then the finaliser queues
+abbrev pub roots_of : World → List Value
+roots_of w = flat_map (λ (state : MutatorState). state.registers) w.mutators ++ flat_map (λ (state : MutatorState). state.queue) w.mutators
+
+-- some marker lists the name
+abbrev pub IsClaimed : List (List Name) → Name → Type 0
+IsClaimed by name = (k : ℕ) × (names : List Name) × (slice_get by k ≡ Some names) × Contains names name
+
+-- the one marker marked to its end at the stop of its snapshot: marking began there, nothing happened since but its scans, and nothing is queued
+pub record IsMarkedAlone (o : Opening) (s : Segments) (marker : MarkerSeen) : Type 0 where
+  pub world : IsWorld o.core.snapshot
+  pub begun : o.core ≡ opening o.core.snapshot
+  pub finished : HasFinished o s marker
+
+-- of each object of the snapshot but g: the one marker marked its block exactly where one of several markers lists its name
+abbrev pub MarksTheSame : Type 0
+MarksTheSame = (o : Opening) (s : Segments) (marker : MarkerSeen) (markers : ℕ) (by : List (List Name)) → IsMarkedAlone o s marker → AreClaims o.core.snapshot (roots_of o.core.snapshot) markers by → (p : Place) → Contains o.places p → IsSnapshotAt s p.at → p.name ≢ shared_name → IsMarkedAt s marker.epoch p.at ↔ IsClaimed by p.name

@@ -1,0 +1,27 @@
+-- The heap that a stop of a run leaves, as markers find it.
+use Rattle.std.specs.Prelude.{ℕ, ◌≡◌, List, ◌++◌}
+use Rattle.std.specs.List.{flat_map}
+use Rattle.nmgc_graph.specs.World.{IsWorld}
+use Rattle.nmgc_object.specs.declared.layout.Layout.{Layout}
+use Rattle.nmgc_alloc.specs.Segments.{Segments, IsSegments}
+use Rattle.nmgc_heap.specs.Places.{Place}
+use Rattle.nmgc_journal.specs.declared.report.MutatorEnd.{MutatorEnd}
+use Rattle.nmgc_run.specs.Heap.{HoldsAtStop, registers_of}
+use Rattle.nmgc_run.specs.State.{State}
+use Rattle.nmgc_pmark.specs.Claims.{Stopped, IsStopped}
+use Rattle.nmgc_pmark.specs.OneMarker.{roots_of}
+
+-- the words of the registers of all mutators, and then those of the finaliser queues
+abbrev pub root_words : List MutatorEnd → List ℕ
+root_words mutators = registers_of mutators ++ flat_map (λ (m : MutatorEnd). m.queue) mutators
+
+-- words, segments and root words stand for a stopped heap with the world of the state, and with what its mutators hold as roots
+pub record IsStoppedAs (s : State) (segments : Segments) (words roots : List ℕ) : Type 0 where
+  pub heap : Stopped
+  pub world : heap.world ≡ s.world
+  pub roots_are : heap.roots ≡ roots_of s.world
+  pub is : IsStopped heap segments words roots
+
+-- what a stop leaves is a stopped heap
+abbrev pub StopsAreStopped : Type 0
+StopsAreStopped = (layout : Layout) (s : State) (words : List ℕ) (segments : Segments) (mutators : List MutatorEnd) (weaks : List Place) → IsWorld s.world → IsSegments segments → HoldsAtStop layout s words segments mutators weaks → IsStoppedAs s segments words (root_words mutators)

@@ -1,0 +1,155 @@
+//! One of several markers.
+//!
+//! It claims what its own starting words point to, and then scans what it claimed, object after object, and claims what
+//! their strong fields point to, until nothing is left. What it doesn't get somebody else has, who scans it; so no
+//! marker waits for another, and once all are done everything that can be reached was scanned by somebody.
+//!
+//! Its list is at once what it claimed and what it has still to scan, as that of the one marker is: the objects before
+//! the next one were scanned. There is room for every block from the start.
+//!
+//! Easy to get wrong: a marker may be left with most of the work. Nothing is handed over: what a marker claimed it
+//! scans, and others help it only by claiming first.
+ghost use Rattle.std.specs.Prelude.{ℕ, ◌≡◌, ◌+◌, ◌*◌, ◌<◌, ◌≤◌, [], length, slice_index};
+ghost use Rattle.nmgc_object.specs.declared.layout.TheConstants.{FIRST_PLACE};
+ghost use Rattle.nmgc_blocks.specs.Strong.{HasStrong};
+ghost use Rattle.nmgc_pmark.specs.Seat.{bounds_of};
+ghost use Rattle.nmgc_pmark.specs.Found.{IsFound, block_index, HasHeader, IsStrongRange, IsAmong, LeadsWithin, CanMark};
+ghost use Rattle.nmgc_pmark.specs.Marker.{IsSound, HasTried, IsOwnStart, IsMarking, CanBegin, HasMarked};
+
+use crate::still::StillWords;
+use crate::table::{ClaimSeat, ClaimTable};
+use nmgc_graph::{Kind, Room};
+use nmgc_object::laws::words_differ;
+use nmgc_object::{Address, FIRST_PLACE, HEADER_WORDS, MIN_BLOCK_WORDS, header_of};
+use nmgc_round::Gate;
+
+/// A marker: its number, its seat at the claim table, and the objects that it claimed, in the order in which it did.
+#[derive(Drop)]
+pub struct Marker {
+    pub number: u8,
+    pub seat: ClaimSeat,
+    pub found: Room<Address>,
+}
+
+/// The number of the block that begins at a place.
+fn block_index(at: u32) -> usize
+    requires { FIRST_PLACE ≤ at }
+    ensures { result ≡ block_index at }
+{
+    ((at - FIRST_PLACE) / MIN_BLOCK_WORDS) as usize
+}
+
+/// Which words of an object are its strong fields: from the first place up to the second. A thunk with
+/// a result no longer holds its free variables, and a weak pointer holds nothing.
+fn strong_fields<W: StillWords>(words: &W, at: Address) -> (usize, usize)
+    requires { HasHeader (W.words words.now) at.0 }
+    ensures { IsStrongRange (W.words words.now) at.0 result.0 result.1 }
+{
+    let fields = at.0 as usize + HEADER_WORDS as usize;
+    let header = header_of(words.word(at.0 as usize));
+    match header.kind {
+        Kind::Con | Kind::Var | Kind::Arr | Kind::Stack => {
+            (fields, fields + header.fields as usize)
+        }
+        Kind::Thunk => {
+            if words.word(fields) == 0 {
+                (fields + 1, fields + header.fields as usize)
+            } else {
+                (fields, fields + 1)
+            }
+        }
+        Kind::Weak => (fields, fields),
+    }
+}
+
+impl Marker {
+    // Claims the object at a place, unless somebody has it.
+    fn claim_place(&mut self, table: &ClaimTable, at: u32)
+        requires sound { IsSound table.now self.old }
+        requires above { FIRST_PLACE ≤ at }
+        requires within { block_index at < (bounds_of table.now).blocks }
+        ensures { HasTried table.now self.old self.new (λ w. w ≡ 2 * at) }
+    {
+        if table.claim(&mut self.seat, self.number, block_index(at)) {
+            self.found.add(Address(at));
+        }
+    }
+
+    // Claims the object that a field word points to, unless the word is no pointer, or it points to g, or somebody has
+    // the object.
+    fn claim(&mut self, table: &ClaimTable, word: u64)
+        requires sound { IsSound table.now self.old }
+        requires within { LeadsWithin (bounds_of table.now).blocks word }
+        ensures { HasTried table.now self.old self.new (λ w. w ≡ word) }
+    {
+        let at = word / 2;
+        if word % 2 == 0 && at >= u64::from(FIRST_PLACE) {
+            self.claim_place(table, at as u32);
+        }
+    }
+
+    // Claims what the starting words of this marker point to.
+    fn claim_own(&mut self, table: &ClaimTable, starts: &[u64], markers: u8)
+        requires sound { IsSound table.now self.old }
+        requires some { 0 < markers }
+        requires within { (i : ℕ) → i < length starts.now → LeadsWithin (bounds_of table.now).blocks (slice_index starts.now i) }
+        ensures { HasTried table.now self.old self.new (IsOwnStart starts.now markers self.old.number (length starts.now)) }
+    {
+        for (i, word) in starts.iter().enumerate() {
+            if i % usize::from(markers) == usize::from(self.number) {
+                self.claim(table, *word);
+            }
+        }
+    }
+
+    // Claims what the words of the heap from one place up to another point to.
+    fn claim_range<W: StillWords>(&mut self, table: &ClaimTable, words: &W, from: usize, to: usize)
+        requires sound { IsSound table.now self.old }
+        requires ordered { from ≤ to }
+        requires inside { to ≤ length (W.words words.now) }
+        requires within { (word : ℕ) → IsAmong (W.words words.now) from to word → LeadsWithin (bounds_of table.now).blocks word }
+        ensures { HasTried table.now self.old self.new (IsAmong (W.words words.now) from to) }
+    {
+        for at in from..to {
+            self.claim(table, words.word(at));
+        }
+    }
+
+    // Claims what the strong fields of an object point to.
+    fn scan<W: StillWords>(&mut self, table: &ClaimTable, words: &W, at: Address)
+        requires sound { IsSound table.now self.old }
+        requires header { HasHeader (W.words words.now) at.0 }
+        requires within { (word : ℕ) → HasStrong (W.words words.now) at.0 word → LeadsWithin (bounds_of table.now).blocks word }
+        ensures { HasTried table.now self.old self.new (HasStrong (W.words words.now) at.0) }
+    {
+        words_differ();
+        let (from, to) = strong_fields(words, at);
+        self.claim_range(table, words, from, to);
+    }
+
+    /// Claims what its starting words point to, every so many-th from its own number on, and scans what it claimed until
+    /// nothing is left. Before each object it passes `gate` as its number, and counts its passes from 1. Takes no
+    /// memory and waits for nobody but the gate.
+    pub fn mark<W: StillWords, G: Gate>(
+        &mut self,
+        table: &ClaimTable,
+        words: &W,
+        starts: &[u64],
+        markers: u8,
+        gate: &G,
+    )
+        requires begins { CanBegin table.now markers self.old }
+        requires can { CanMark (W.words words.now) starts.now (bounds_of table.now).blocks }
+        ensures marked { HasMarked table.now (W.words words.now) starts.now markers self.new }
+        ensures number { self.new.number ≡ self.old.number }
+    {
+        self.claim_own(table, starts, markers);
+        let mut next = 0;
+        while next < self.found.items().len() {
+            gate.pass(self.number, next as u64 + 1);
+            let at = self.found.items()[next];
+            self.scan(table, words, at);
+            next += 1;
+        }
+    }
+}

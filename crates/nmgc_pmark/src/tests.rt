@@ -1,0 +1,59 @@
+//! Two markers that wait for each other at a gate of the test, each with an object of its own.
+//!
+//! The gate gives up after many turns of its spin, and notes it, so markers on one thread fail the test and don't hang.
+use crate::bounds::Bounds;
+use crate::crew::places_marked;
+use nmgc_object::laws::words_differ;
+use nmgc_round::Gate;
+use std::sync::atomic::{AtomicU64, Ordering};
+use std::test::Fail;
+
+// The first object of each of two markers waits for that of the other.
+#[derive(Drop)]
+struct Meet {
+    reached: [AtomicU64; 2],
+    given_up: AtomicU64,
+}
+
+impl Gate for Meet {
+    fn pass(&self, who: u8, turn: u64) {
+        let own = if who == 0 { 0 } else { 1 };
+        self.reached[own].store(turn, Ordering::SeqCst);
+        if turn != 1 {
+            return;
+        }
+        for _ in 0..200_000_000u32 {
+            if self.reached[1 - own].load(Ordering::SeqCst) >= 1 {
+                return;
+            }
+        }
+        self.given_up.store(1, Ordering::SeqCst);
+    }
+}
+
+#[test]
+fn markers_run_beside_each_other(rt: HostRuntime) -> Result<(), Fail> {
+    words_differ();
+    let words = Vec::from_slice(
+        rt.alloc(),
+        &[
+            0u64, 0u64, 0u64, 0u64, 0u64, 0u64, 0u64, 0u64, 0u64, 0u64, 0u64, 0u64, 0u64, 0u64,
+            0u64, 0u64, 0u64, 0u64, 0u64, 0u64, 0u64, 0u64, 0u64, 0u64, 0u64, 0u64, 0u64, 0u64,
+            0u64, 0u64, 0u64, 0u64, 1u64, 0u64, 0u64, 0u64, 1u64, 0u64, 0u64, 0u64,
+        ],
+    )?;
+    let meet = Meet {
+        reached: [AtomicU64::new(0), AtomicU64::new(0)],
+        given_up: AtomicU64::new(0),
+    };
+    let bounds = Bounds {
+        markers: 2,
+        blocks: 2,
+    };
+    let lists = places_marked(rt.alloc(), &rt, &words, &[64u64, 72u64], bounds, &meet)?;
+    assert_eq!(rt; meet.given_up.load(Ordering::SeqCst), 0);
+    for list in lists.as_slice() {
+        assert_eq!(rt; list.items().len(), 1);
+    }
+    Ok(())
+}
