@@ -54,7 +54,6 @@ use std::slice;
 ///
 /// `marks` is the set of the names in `marked`, for asking in constant time. The other fields are what
 /// contracts see.
-#[derive(Drop)]
 pub struct Core {
     world: World,
     snapshot: World,
@@ -66,6 +65,33 @@ pub struct Core {
     opened: Queue<Name>,
     finalised: Queue<Name>,
     is_closed: bool,
+}
+
+// By hand, so that whoever lets go of one calls this: a derived one is written out, and proved, at each place.
+impl Drop for Core {
+    fn drop(self) {
+        let Core {
+            world,
+            snapshot,
+            marks,
+            marked,
+            queue,
+            owed,
+            pushed,
+            opened,
+            finalised,
+            is_closed: _,
+        } = self;
+        drop(world);
+        drop(snapshot);
+        drop(marks);
+        drop(marked);
+        drop(queue);
+        drop(owed);
+        drop(pushed);
+        drop(opened);
+        drop(finalised);
+    }
 }
 
 impl Model for Core {
@@ -98,6 +124,8 @@ impl Core {
         let roots = root_values(&world)?;
         let mut core = Core::unmarked(world)?;
         core.mark_values(roots.as_slice())?;
+        // This shows that the world is closed, as that of every machine is.
+        let _ = &core.marks;
         Ok(core)
     }
 

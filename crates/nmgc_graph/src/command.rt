@@ -12,7 +12,6 @@ pub enum Operand {
 }
 
 /// What a mutator is asked to do. `dest` is the register that takes the value.
-#[derive(Drop)]
 pub enum Command {
     /// Takes a number.
     Num {
@@ -130,6 +129,38 @@ pub enum Command {
     Collect,
     /// Ends the slice and asks for a full cycle.
     Full,
+}
+
+// By hand, so that whoever lets go of one calls this: a derived one is written out, and proved, at each place.
+impl Drop for Command {
+    fn drop(self) {
+        match self {
+            Command::Num { dest: _, number: _ } => {}
+            Command::Nil { dest: _ } => {}
+            Command::Mov { dest: _, value: _ } => {}
+            Command::Con { dest: _, tag: _, fields } => drop(fields),
+            Command::Var { dest: _, value: _ } => {}
+            Command::Arr { dest: _, count: _, value: _ } => {}
+            Command::Thunk { dest: _, free } => drop(free),
+            Command::Weak { dest: _, key: _, value: _, finaliser: _ } => {}
+            Command::Stack { dest: _, size: _ } => {}
+            Command::Get { dest: _, object: _, index: _ } => {}
+            Command::Set { object: _, index: _, value: _ } => {}
+            Command::Cas { object: _, index: _, expected: _, value: _ } => {}
+            Command::Update { object: _, value: _ } => {}
+            Command::Force { dest: _, object: _ } => {}
+            Command::Push { object: _, value: _ } => {}
+            Command::Pop { dest: _, object: _ } => {}
+            Command::Deref { dest: _, object: _ } => {}
+            Command::Finalise { dest: _, object: _ } => {}
+            Command::NextFin { dest: _ } => {}
+            Command::Show { value: _ } => {}
+            Command::Same { left: _, right: _ } => {}
+            Command::Yield => {}
+            Command::Collect => {}
+            Command::Full => {}
+        }
+    }
 }
 
 impl Command {

@@ -28,7 +28,6 @@ pub struct Parts {
 }
 
 /// An object of the never-collected heap.
-#[derive(Drop)]
 pub enum Node {
     /// A constructor, whose values never change.
     Con {
@@ -57,6 +56,20 @@ pub enum Node {
         size: u32,
         values: List<Value>,
     },
+}
+
+// By hand, so that whoever lets go of one calls this: a derived one is written out, and proved, at each place.
+impl Drop for Node {
+    fn drop(self) {
+        match self {
+            Node::Con { tag: _, values } => drop(values),
+            Node::Var { value: _ } => {}
+            Node::Arr { values } => drop(values),
+            Node::Thunk { free, result: _ } => drop(free),
+            Node::Weak { parts: _ } => {}
+            Node::Stack { size: _, values } => drop(values),
+        }
+    }
 }
 
 impl Node {

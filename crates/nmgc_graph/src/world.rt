@@ -27,11 +27,23 @@ use std::alloc::Global;
 use std::marker::Model;
 
 /// Every object that was ever made, and what each mutator has.
-#[derive(Drop)]
 pub struct World {
     pub(crate) alloc: Global,
     pub(crate) shared: Node,
     pub(crate) mutators: List<MutatorState>,
+}
+
+// By hand, so that whoever lets go of one calls this: a derived one is written out, and proved, at each place.
+impl Drop for World {
+    fn drop(self) {
+        let World {
+            alloc: _,
+            shared,
+            mutators,
+        } = self;
+        drop(shared);
+        drop(mutators);
+    }
 }
 
 impl Model for World {
