@@ -30,6 +30,3 @@ pub use nmgc_arguments::{Arguments, CommandLine, words_of};
 pub use status::{Ended, Status};
 pub use task::{Task, task_of};
 pub use top::nmgc;
-
-#[cfg(test)]
-mod tests;

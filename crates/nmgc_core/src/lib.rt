@@ -26,8 +26,3 @@ mod scan;
 
 pub use core_machine::Core;
 pub use event::{Entry, Event};
-
-#[cfg(test)]
-mod row_tests;
-#[cfg(test)]
-mod tests;

@@ -37,6 +37,3 @@ mod worker;
 
 pub use collector::Collector;
 pub use stop::StopEnd;
-
-#[cfg(test)]
-mod tests;

@@ -23,18 +23,9 @@ fn dead_lines_give_jobs(rt: HostRuntime) -> Result<(), Fail> {
     let [first, second, third] = found.items() else {
         panic!(rt; "not three jobs");
     };
-    assert_eq!(rt;
-        (first.number, first.weak.maker, first.weak.serial),
-        (0u32, 0u8, 4u32)
-    );
-    assert_eq!(rt;
-        (second.number, second.weak.maker, second.weak.serial),
-        (1u32, SHARED_MAKER, 0u32)
-    );
-    assert_eq!(rt;
-        (third.number, third.weak.maker, third.weak.serial),
-        (2u32, 7u8, 4294967295u32)
-    );
+    assert!(rt; (first.number, first.weak.maker, first.weak.serial) == (0u32, 0u8, 4u32));
+    assert!(rt; (second.number, second.weak.maker, second.weak.serial) == (1u32, SHARED_MAKER, 0u32));
+    assert!(rt; (third.number, third.weak.maker, third.weak.serial) == (2u32, 7u8, 4294967295u32));
     Ok(())
 }
 
@@ -51,7 +42,7 @@ fn a_dead_line_without_one_name_is_bad(rt: HostRuntime) -> Result<(), Fail> {
             Err(JobsFault::Bad { line }) => line,
             _ => 0,
         };
-        assert_eq!(rt; line, bad);
+        assert!(rt; line == bad);
     }
     Ok(())
 }
@@ -93,7 +84,7 @@ fn rows_have_these_texts(rt: HostRuntime) -> Result<(), Fail> {
         ("", "dead", 2, "usage: nmgc_fin W\n"),
     ] {
         let (status, found) = told(rt.alloc(), &rt, word, bytes)?;
-        assert_eq!(rt; status, number);
+        assert!(rt; status == number);
         assert!(rt; found.as_slice() == text.as_bytes());
     }
     Ok(())
@@ -135,7 +126,7 @@ fn each_job_is_handled_once(rt: HostRuntime) -> Result<(), Fail> {
         for (count, sum) in [(0u32, 0u64), (1, 0), (2, 1), (1000, 499_500)] {
             let all = many(rt.alloc(), count)?;
             let handled = run_jobs(rt.alloc(), &rt, all.as_slice(), workers, &OpenGate)?;
-            assert_eq!(rt; sums(&handled), (u64::from(count), sum));
+            assert!(rt; sums(&handled) == (u64::from(count), sum));
         }
     }
     Ok(())
@@ -172,7 +163,7 @@ fn workers_run_beside_each_other(rt: HostRuntime) -> Result<(), Fail> {
     };
     let all = many(rt.alloc(), 2)?;
     let handled = run_jobs(rt.alloc(), &rt, all.as_slice(), 2, &meet)?;
-    assert_eq!(rt; meet.given_up.load(Ordering::SeqCst), 0);
-    assert_eq!(rt; sums(&handled), (2u64, 1u64));
+    assert!(rt; meet.given_up.load(Ordering::SeqCst) == 0);
+    assert!(rt; sums(&handled) == (2u64, 1u64));
     Ok(())
 }

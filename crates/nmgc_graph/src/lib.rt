@@ -29,8 +29,3 @@ pub use nmgc_lists::{List, NoMemory, Place, Queue, Room};
 pub use node::{Kind, Node, Parts};
 pub use value::{MAKERS, Name, REGISTERS, SHARED_MAKER, SHARED_SLOTS, Value, constants_are_these};
 pub use world::World;
-
-#[cfg(test)]
-mod command_tests;
-#[cfg(test)]
-mod reach_tests;

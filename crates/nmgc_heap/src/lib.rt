@@ -17,6 +17,3 @@ pub mod heap_words;
 pub mod laws;
 
 pub use heap_words::HeapWords;
-
-#[cfg(test)]
-mod tests;

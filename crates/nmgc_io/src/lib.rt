@@ -22,8 +22,6 @@ pub mod numbers;
 pub mod sink;
 pub mod source;
 pub mod standard;
-#[cfg(test)]
-mod tests;
 pub mod transfer;
 
 pub use ends::{Failed, ReadEnd, WriteEnd};

@@ -15,6 +15,3 @@ pub use list::{List, Place};
 pub use memory::NoMemory;
 pub use queue::Queue;
 pub use room::Room;
-
-#[cfg(test)]
-mod tests;

@@ -61,20 +61,17 @@ fn remembered_places(rt: HostRuntime) -> Result<(), Fail> {
     assert!(rt; layout.words.is_power_of_two());
     let mut segments = Segments::new(rt.alloc(), layout)?;
     for block in 0..3u32 {
-        assert_eq!(rt; place(&rt, &mut segments), 32 + 4 * block);
+        assert!(rt; place(&rt, &mut segments) == 32 + 4 * block);
     }
     begin(&rt, &mut segments);
-    assert_eq!(rt; place(&rt, &mut segments), 44);
+    assert!(rt; place(&rt, &mut segments) == 44);
     let mut marker = marker_of(rt.alloc(), &segments)?;
     assert!(rt; marker.is_empty());
 
     marker.add(&mut segments, &[Address(36), Address(32), Address(36)]);
-    assert_eq!(rt; marker.marked(), 2);
+    assert!(rt; marker.marked() == 2);
     assert!(rt; !marker.is_empty());
-    assert_eq!(rt;
-        waiting(&mut marker),
-        [Some(Address(36)), Some(Address(32)), None]
-    );
+    assert!(rt; waiting(&mut marker) == [Some(Address(36)), Some(Address(32)), None]);
     assert!(rt; marker.is_empty());
     for (at, marked) in [
         (32, Some(true)),
@@ -83,7 +80,7 @@ fn remembered_places(rt: HostRuntime) -> Result<(), Fail> {
         (44, Some(false)),
         (33, None),
     ] {
-        assert_eq!(rt; is_marked(&segments, at), marked, "at {at}");
+        assert!(rt; is_marked(&segments, at) == marked);
     }
     Ok(())
 }

@@ -26,6 +26,3 @@ pub use words::{
     Address, Field, Header, MAX_FIELDS, NUMBER_LIMIT, decode_header, decode_name, decode_value,
     encode_header, encode_name, encode_value, fields_of, header_of, name_of,
 };
-
-#[cfg(test)]
-mod tests;

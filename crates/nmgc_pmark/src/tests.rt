@@ -51,9 +51,9 @@ fn markers_run_beside_each_other(rt: HostRuntime) -> Result<(), Fail> {
         blocks: 2,
     };
     let lists = places_marked(rt.alloc(), &rt, &words, &[64u64, 72u64], bounds, &meet)?;
-    assert_eq!(rt; meet.given_up.load(Ordering::SeqCst), 0);
+    assert!(rt; meet.given_up.load(Ordering::SeqCst) == 0);
     for list in lists.as_slice() {
-        assert_eq!(rt; list.items().len(), 1);
+        assert!(rt; list.items().len() == 1);
     }
     Ok(())
 }

@@ -43,6 +43,3 @@ pub use gate::{Gate, OpenGate};
 pub use table::{CollectorSeat, Finished, MutatorSeat, Round, Started};
 pub use view::Opened;
 pub use words::Words;
-
-#[cfg(test)]
-mod tests;

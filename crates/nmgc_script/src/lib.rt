@@ -20,8 +20,6 @@ mod printing;
 pub mod script;
 mod sections;
 mod shapes;
-#[cfg(test)]
-mod tests;
 mod text;
 mod verbs;
 mod version;

@@ -26,6 +26,3 @@ pub mod sweeper;
 
 pub use names::Names;
 pub use sweeper::{Census, SweepWork, Sweeper};
-
-#[cfg(test)]
-mod tests;

@@ -28,6 +28,3 @@ pub use inbox::Inbox;
 pub use polled::Polled;
 pub use ring::{RING_BLOCKS, UpdReceiver, UpdSender, link};
 pub use updrem::UpdRem;
-
-#[cfg(test)]
-mod tests;

@@ -19,6 +19,3 @@ pub mod weaks;
 
 pub use queues::queue_finalisers;
 pub use weaks::{Death, OldWeak, Weaks};
-
-#[cfg(test)]
-mod tests;

@@ -233,26 +233,26 @@ fn play(rt: &impl Abort, heap: &mut Heap, round: &Round) -> Result<(), Fail> {
 // Compares the moves with those that are wanted.
 fn compare_moves(rt: &impl Abort, heap: &Heap, wanted: &[Moved]) {
     let moves = heap.promotion.moves();
-    assert_eq!(rt; moves.len(), wanted.len());
+    assert!(rt; moves.len() == wanted.len());
     for (moved, (maker, serial, from, to)) in moves.iter().zip(wanted) {
-        assert_eq!(rt; moved.name.maker, *maker, "maker of {serial}");
-        assert_eq!(rt; moved.name.serial, *serial);
-        assert_eq!(rt; moved.from.0, *from, "from of {serial}");
-        assert_eq!(rt; moved.to.0, *to, "to of {serial}");
+        assert!(rt; moved.name.maker == *maker);
+        assert!(rt; moved.name.serial == *serial);
+        assert!(rt; moved.from.0 == *from);
+        assert!(rt; moved.to.0 == *to);
     }
 }
 
 // Compares words, registers and the first queue with those that a round wants.
 fn compare(rt: &impl Abort, heap: &Heap, round: &Round) {
     for (at, wanted) in round.words {
-        assert_eq!(rt; word(rt, heap, *at), *wanted, "word {at}");
+        assert!(rt; word(rt, heap, *at) == *wanted);
     }
     for (register, wanted) in round.registers {
-        assert_eq!(rt; held(rt, heap, *register), *wanted, "register {register}");
+        assert!(rt; held(rt, heap, *register) == *wanted);
     }
     let queues = heap.roots.queues.items();
     assert!(rt; !queues.is_empty());
-    assert_eq!(rt; queues[0].words(), round.queue);
+    assert!(rt; queues[0].words() == round.queue);
 }
 
 // Runs rounds of so many mutators from an empty heap.
@@ -285,9 +285,9 @@ fn move_sizes(rt: &impl Abort, heap: &mut Heap, sizes: &[(usize, u32)]) {
     }
     promote(rt, heap, &[], &[]);
     let moves = heap.promotion.moves();
-    assert_eq!(rt; moves.len(), sizes.len());
+    assert!(rt; moves.len() == sizes.len());
     for (moved, (size, place)) in moves.iter().zip(sizes) {
-        assert_eq!(rt; moved.to.0, *place, "{size} words");
+        assert!(rt; moved.to.0 == *place);
     }
 }
 

@@ -53,7 +53,7 @@ fn promote_young(
     let _ = segments.layout();
     one_young_object();
     promotion.promote(words, segments, &mut nurseries, roots, &[], &[]);
-    assert_eq!(rt; nurseries[0].top, 2080);
+    assert!(rt; nurseries[0].top == 2080);
 }
 
 // What one mutator holds: the object in register 0, its number in register 1, and nil.
@@ -74,23 +74,20 @@ fn young_roots(alloc: Global) -> Result<Roots, Fail>
 
 // One object moved, to the first block.
 fn compare_move(rt: &impl Abort, moves: &[Move]) {
-    assert_eq!(rt; moves.len(), 1);
-    assert_eq!(rt;
-        moves[0].name,
-        Name {
+    assert!(rt; moves.len() == 1);
+    assert!(rt; moves[0].name == Name {
             maker: 0,
             serial: 0
-        }
-    );
-    assert_eq!(rt; moves[0].from, Address(2080));
-    assert_eq!(rt; moves[0].to, Address(32));
+        });
+    assert!(rt; moves[0].from == Address(2080));
+    assert!(rt; moves[0].to == Address(32));
 }
 
 // Compares the words from a place on with those that are wanted.
 fn compare_front(rt: &impl Abort, words: &[u64], from: usize, wanted: &[u64]) {
     assert!(rt; from <= words.len() && wanted.len() <= words.len() - from);
     for i in 0..wanted.len() {
-        assert_eq!(rt; words[from + i], wanted[i], "word {i}");
+        assert!(rt; words[from + i] == wanted[i]);
     }
 }
 

@@ -167,32 +167,24 @@ fn give(rt: &impl Abort, heap: &mut Heap, command: Make) {
 // Compares the moves with a round's.
 fn compare_moves(rt: &impl Abort, heap: &Heap, round: &Round) {
     let moves = heap.promotion.moves();
-    assert_eq!(rt; moves.len(), round.promoted as usize);
+    assert!(rt; moves.len() == round.promoted as usize);
     for i in 0..moves.len() {
         assert!(rt; i < 4096);
-        assert_eq!(rt; moves[i].name.maker, 0);
-        assert_eq!(rt;
-            u64::from(moves[i].name.serial),
-            u64::from(round.serial) + i as u64,
-            "move {i}"
-        );
-        assert_eq!(rt;
-            u64::from(moves[i].to.0),
-            u64::from(round.place) + 4 * i as u64,
-            "place {i}"
-        );
+        assert!(rt; moves[i].name.maker == 0);
+        assert!(rt; u64::from(moves[i].name.serial) == u64::from(round.serial) + i as u64);
+        assert!(rt; u64::from(moves[i].to.0) == u64::from(round.place) + 4 * i as u64);
     }
 }
 
 // Compares segments, words and registers with a round's.
 fn compare(rt: &impl Abort, heap: &Heap, round: &Round) {
-    assert_eq!(rt; heap.segments.free_count(), round.free);
-    assert_eq!(rt; heap.segments.filled_count(), round.filled);
+    assert!(rt; heap.segments.free_count() == round.free);
+    assert!(rt; heap.segments.filled_count() == round.filled);
     for (at, wanted) in round.words {
-        assert_eq!(rt; word(rt, heap, *at), *wanted, "word {at}");
+        assert!(rt; word(rt, heap, *at) == *wanted);
     }
     for (register, wanted) in round.registers {
-        assert_eq!(rt; held(rt, heap, *register), *wanted, "register {register}");
+        assert!(rt; held(rt, heap, *register) == *wanted);
     }
 }
 

@@ -1,0 +1,11 @@
+use Rattle.std.proofs.Common.{subst, sym, ◌∙◌}
+use Rattle.nmgc_object.specs.declared.layout.Layout.{Layout}
+use Rattle.nmgc_object.specs.Places.{IsLayout}
+use Rattle.nmgc_mutator.proofs.Sampled.{layout_is, snapshot_mutator}
+use Rattle.nmgc_heap_tests.proofs.of_mutator.marking_tests.mutator_at.Goals as goal
+
+pub new-requires-clause-layout : goal.new-requires-clause-layout
+new-requires-clause-layout c = subst (λ (l : Layout). IsLayout l) (sym c.small-layout.ensures) layout_is
+
+pub returns-clause-is : goal.returns-clause-is
+returns-clause-is c = snapshot_mutator c.small-layout.result c.in_ok-mutator.mutator c.reserve.new.self c.in_ok-mutator-2.field-0 c.small-layout.ensures c.in_ok-mutator.ensures.new c.reserve.ensures.kept (c.in_ok-mutator-2.ensures ∙ c.in_ok-registers.ensures.items)

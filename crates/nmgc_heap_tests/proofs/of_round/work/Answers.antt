@@ -1,0 +1,139 @@
+use Rattle.std.proofs.Common.{◌+◌, ◌*◌, ℕ, refl, sym, subst}
+use Rattle.nmgc_object.specs.Places.{nursery_place}
+use Rattle.nmgc_round.specs.View.{Seen, blank}
+use Rattle.nmgc_round.specs.Seat.{seen}
+use Rattle.nmgc_round.specs.Ready.{Mutates, CanLoad, CanSwap, CanStore, CanBear}
+use Rattle.nmgc_round.specs.Told.{CanFix, CanTake}
+use Rattle.nmgc_graph.specs.declared.command.Command.TheVariants.{Yield}
+use Rattle.nmgc_round.proofs.Samples.{mutates, makes, shares, reads, after_header, after_name, after_field, after_birth, after_swap, after_load, header_fixed, name_unborn, field_unborn, can_bear, can_swap, can_load, can_yield, seen_header, seen_name, seen_field, seen_birth, seen_swap, seen_load, has_part, seen_last}
+use Rattle.nmgc_heap_tests.proofs.of_round.work.Goals as goal
+
+pub load_fixed-requires-clause-ready : goal.load_fixed-requires-clause-ready
+load_fixed-requires-clause-ready c =
+    let layout = c.args.layout in
+    let m : ℕ = c.args.number in
+    subst (λ (v : Seen). Mutates (λ o p. CanFix o p 1 0) v) (sym c.requires.seat.1) (blank m, mutates layout (blank m), header_fixed layout c.requires.layout.0 m c.requires.layout.1 (nursery_place layout m) refl (blank m))
+
+pub returns-then-load_fixed-ne32771 : goal.returns-then-load_fixed-ne32771
+returns-then-load_fixed-ne32771 c =
+    let layout = c.args.layout in
+    let m : ℕ = c.args.number in
+    let h : ℕ = c.load_fixed.result in
+    let k = c.load_fixed.ensures.view in
+    (k.0, has_part layout m 0 (after_header layout m 0 h) refl (seen c.load_fixed.new.seat) (seen_header layout m 0 h (seen c.args.seat.now) (seen c.load_fixed.new.seat) c.requires.seat.1 k.2))
+
+pub store_unborn-requires-clause-ready : goal.store_unborn-requires-clause-ready
+store_unborn-requires-clause-ready c =
+    let layout = c.args.layout in
+    let is = c.requires.layout.0 in
+    let m : ℕ = c.args.number in
+    let mine = c.requires.layout.1 in
+    let base : ℕ = c.nursery_base-base.result in
+    let here = c.nursery_base-base.ensures in
+    let h : ℕ = c.load_fixed.result in
+    let e1 = seen_header layout m base h (seen c.args.seat.now) (seen c.load_fixed.new.seat) c.requires.seat.1 c.load_fixed.ensures.view.2 in
+    subst (λ (v : Seen). Mutates (λ o p. CanStore o p (base + 1)) v) (sym e1) (after_header layout m base h, mutates layout (after_header layout m base h), name_unborn layout is m mine base here h)
+
+pub store_unborn-requires-2-clause-ready : goal.store_unborn-requires-2-clause-ready
+store_unborn-requires-2-clause-ready c =
+    let layout = c.args.layout in
+    let is = c.requires.layout.0 in
+    let m : ℕ = c.args.number in
+    let mine = c.requires.layout.1 in
+    let base : ℕ = c.nursery_base-base.result in
+    let here = c.nursery_base-base.ensures in
+    let h : ℕ = c.load_fixed.result in
+    let e1 = seen_header layout m base h (seen c.args.seat.now) (seen c.load_fixed.new.seat) c.requires.seat.1 c.load_fixed.ensures.view.2 in
+    let n : ℕ = c.encode_name-name.result in
+    let e2 = seen_name layout m base h n (seen c.load_fixed.new.seat) (seen c.store_unborn.new.seat) e1 c.store_unborn.ensures.2 in
+    subst (λ (v : Seen). Mutates (λ o p. CanStore o p (base + 2)) v) (sym e2) (after_name layout m base h n, mutates layout (after_name layout m base h n), field_unborn layout is m mine base here h n)
+
+pub give_birth-requires-clause-ready : goal.give_birth-requires-clause-ready
+give_birth-requires-clause-ready c =
+    let layout = c.args.layout in
+    let is = c.requires.layout.0 in
+    let m : ℕ = c.args.number in
+    let mine = c.requires.layout.1 in
+    let base : ℕ = c.nursery_base-base.result in
+    let here = c.nursery_base-base.ensures in
+    let h : ℕ = c.load_fixed.result in
+    let e1 = seen_header layout m base h (seen c.args.seat.now) (seen c.load_fixed.new.seat) c.requires.seat.1 c.load_fixed.ensures.view.2 in
+    let n : ℕ = c.encode_name-name.result in
+    let e2 = seen_name layout m base h n (seen c.load_fixed.new.seat) (seen c.store_unborn.new.seat) e1 c.store_unborn.ensures.2 in
+    let e3 = seen_field layout m base h n (seen c.store_unborn.new.seat) (seen c.store_unborn-2.new.seat) e2 c.store_unborn-2.ensures.2 in
+    subst (λ (v : Seen). Mutates (λ o p. CanBear o p base 2050 makes) v) (sym e3) (after_field layout m base h n, mutates layout (after_field layout m base h n), can_bear layout is m mine base here h n c.encode_name-name.ensures)
+
+pub swap_field-before-requires-clause-ready : goal.swap_field-before-requires-clause-ready
+swap_field-before-requires-clause-ready c =
+    let layout = c.args.layout in
+    let is = c.requires.layout.0 in
+    let m : ℕ = c.args.number in
+    let mine = c.requires.layout.1 in
+    let base : ℕ = c.nursery_base-base.result in
+    let here = c.nursery_base-base.ensures in
+    let h : ℕ = c.load_fixed.result in
+    let e1 = seen_header layout m base h (seen c.args.seat.now) (seen c.load_fixed.new.seat) c.requires.seat.1 c.load_fixed.ensures.view.2 in
+    let n : ℕ = c.encode_name-name.result in
+    let e2 = seen_name layout m base h n (seen c.load_fixed.new.seat) (seen c.store_unborn.new.seat) e1 c.store_unborn.ensures.2 in
+    let e3 = seen_field layout m base h n (seen c.store_unborn.new.seat) (seen c.store_unborn-2.new.seat) e2 c.store_unborn-2.ensures.2 in
+    let e4 = seen_birth layout m base h n (seen c.store_unborn-2.new.seat) (seen c.give_birth.new.seat) e3 c.give_birth.ensures.2 in
+    let array = c.if-load_fixed-ne32771.false in
+    subst (λ (v : Seen). Mutates (λ o p. CanSwap o p 1 m (2 * base) (shares m)) v) (sym e4) (after_birth layout m base h n, mutates layout (after_birth layout m base h n), can_swap layout is m mine base here h n array c.requires.few)
+
+pub load_field-after-requires-clause-ready : goal.load_field-after-requires-clause-ready
+load_field-after-requires-clause-ready c =
+    let layout = c.args.layout in
+    let is = c.requires.layout.0 in
+    let m : ℕ = c.args.number in
+    let mine = c.requires.layout.1 in
+    let base : ℕ = c.nursery_base-base.result in
+    let here = c.nursery_base-base.ensures in
+    let h : ℕ = c.load_fixed.result in
+    let e1 = seen_header layout m base h (seen c.args.seat.now) (seen c.load_fixed.new.seat) c.requires.seat.1 c.load_fixed.ensures.view.2 in
+    let n : ℕ = c.encode_name-name.result in
+    let e2 = seen_name layout m base h n (seen c.load_fixed.new.seat) (seen c.store_unborn.new.seat) e1 c.store_unborn.ensures.2 in
+    let e3 = seen_field layout m base h n (seen c.store_unborn.new.seat) (seen c.store_unborn-2.new.seat) e2 c.store_unborn-2.ensures.2 in
+    let e4 = seen_birth layout m base h n (seen c.store_unborn-2.new.seat) (seen c.give_birth.new.seat) e3 c.give_birth.ensures.2 in
+    let e5 = seen_swap layout m base h n c.swap_field-before.result (seen c.give_birth.new.seat) (seen c.swap_field-before.new.seat) e4 c.swap_field-before.ensures.view.2 in
+    let array = c.if-load_fixed-ne32771.false in
+    subst (λ (v : Seen). Mutates (λ o p. CanLoad o p 1 m (reads m)) v) (sym e5) (after_swap layout m base h n c.swap_field-before.result, mutates layout (after_swap layout m base h n c.swap_field-before.result), can_load layout is m mine base here h n array c.requires.few c.swap_field-before.result)
+
+pub load_fixed-requires-2-clause-ready : goal.load_fixed-requires-2-clause-ready
+load_fixed-requires-2-clause-ready c =
+    let layout = c.args.layout in
+    let is = c.requires.layout.0 in
+    let m : ℕ = c.args.number in
+    let mine = c.requires.layout.1 in
+    let base : ℕ = c.nursery_base-base.result in
+    let here = c.nursery_base-base.ensures in
+    let h : ℕ = c.load_fixed.result in
+    let e1 = seen_header layout m base h (seen c.args.seat.now) (seen c.load_fixed.new.seat) c.requires.seat.1 c.load_fixed.ensures.view.2 in
+    let n : ℕ = c.encode_name-name.result in
+    let e2 = seen_name layout m base h n (seen c.load_fixed.new.seat) (seen c.store_unborn.new.seat) e1 c.store_unborn.ensures.2 in
+    let e3 = seen_field layout m base h n (seen c.store_unborn.new.seat) (seen c.store_unborn-2.new.seat) e2 c.store_unborn-2.ensures.2 in
+    let e4 = seen_birth layout m base h n (seen c.store_unborn-2.new.seat) (seen c.give_birth.new.seat) e3 c.give_birth.ensures.2 in
+    let e5 = seen_swap layout m base h n c.swap_field-before.result (seen c.give_birth.new.seat) (seen c.swap_field-before.new.seat) e4 c.swap_field-before.ensures.view.2 in
+    let x : ℕ = c.load_field-after.result in
+    let e6 = seen_load layout m base h n c.swap_field-before.result x (seen c.swap_field-before.new.seat) (seen c.load_field-after.new.seat) e5 c.load_field-after.ensures.view.2 in
+    let array = c.if-load_fixed-ne32771.false in
+    subst (λ (v : Seen). Mutates (λ o p. CanTake o p 1 0 Yield) v) (sym e6) (after_load layout m base h n c.swap_field-before.result x, mutates layout (after_load layout m base h n c.swap_field-before.result x), can_yield layout is m mine base here h n array c.requires.few c.swap_field-before.result x)
+
+pub returns : goal.returns
+returns c =
+    let layout = c.args.layout in
+    let is = c.requires.layout.0 in
+    let m : ℕ = c.args.number in
+    let mine = c.requires.layout.1 in
+    let base : ℕ = c.nursery_base-base.result in
+    let here = c.nursery_base-base.ensures in
+    let h : ℕ = c.load_fixed.result in
+    let e1 = seen_header layout m base h (seen c.args.seat.now) (seen c.load_fixed.new.seat) c.requires.seat.1 c.load_fixed.ensures.view.2 in
+    let n : ℕ = c.encode_name-name.result in
+    let e2 = seen_name layout m base h n (seen c.load_fixed.new.seat) (seen c.store_unborn.new.seat) e1 c.store_unborn.ensures.2 in
+    let e3 = seen_field layout m base h n (seen c.store_unborn.new.seat) (seen c.store_unborn-2.new.seat) e2 c.store_unborn-2.ensures.2 in
+    let e4 = seen_birth layout m base h n (seen c.store_unborn-2.new.seat) (seen c.give_birth.new.seat) e3 c.give_birth.ensures.2 in
+    let e5 = seen_swap layout m base h n c.swap_field-before.result (seen c.give_birth.new.seat) (seen c.swap_field-before.new.seat) e4 c.swap_field-before.ensures.view.2 in
+    let x : ℕ = c.load_field-after.result in
+    let e6 = seen_load layout m base h n c.swap_field-before.result x (seen c.swap_field-before.new.seat) (seen c.load_field-after.new.seat) e5 c.load_field-after.ensures.view.2 in
+    let k = c.load_fixed-2.ensures.view in
+    (k.0, seen_last layout m base h n c.swap_field-before.result x c.load_fixed-2.result (seen c.load_field-after.new.seat) (seen c.load_fixed-2.new.seat) e6 k.2)

@@ -1,0 +1,21 @@
+//! Tests of rounds, mutators, reports, sweeping and weak pointers.
+#![tactic(auto)]
+
+#[cfg(test)]
+mod of_beside;
+#[cfg(test)]
+mod of_blocks;
+#[cfg(test)]
+mod of_journal;
+#[cfg(test)]
+mod of_mutator;
+#[cfg(test)]
+mod of_round;
+#[cfg(test)]
+mod of_run;
+#[cfg(test)]
+mod of_sweep;
+#[cfg(test)]
+mod of_turn;
+#[cfg(test)]
+mod of_weak;

@@ -1,0 +1,3 @@
+//! Tests of nmgc_mutator.
+mod marking_tests;
+mod tests;

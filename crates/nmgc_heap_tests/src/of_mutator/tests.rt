@@ -1,0 +1,702 @@
+//! Programs on the heap of which nothing was made: of one mutator by the tables of what each command does, and
+//! of two in threads of their own.
+ghost use Rattle.std.specs.Prelude.{ℕ, List, ◌≡◌, ◌<◌, ◌≤◌, [], All, IfOk, IsTrue, length, min, slice_index_or, vec_capacity};
+ghost use Rattle.nmgc_graph.specs.Command.{Fits, HasNumbers, words_made};
+ghost use Rattle.nmgc_object.specs.Places.{IsLayout};
+ghost use Rattle.nmgc_round.specs.Empty.{IsEmptyHeap, first_opening};
+ghost use Rattle.nmgc_round.specs.Starting.{CanOpen};
+ghost use Rattle.nmgc_round.specs.Seat.{RoundSeat, IsAt, seen};
+ghost use Rattle.nmgc_round.specs.Seating.{alone};
+ghost use Rattle.nmgc_mutator.specs.Ready.{IsNew};
+ghost use Rattle.nmgc_mutator.specs.Slice.{HasRoom};
+
+use nmgc_mutator::{Mutator, Slice, SliceEnd};
+use nmgc_graph::{Command, List, Name, NoMemory, Operand, Place, Reply, Value};
+use nmgc_object::Layout;
+use nmgc_round::chosen::Wanted;
+use nmgc_round::{Chosen, Gate, MutatorSeat, OpenGate, Opened, Round, Started, Words};
+use nmgc_updrem::link;
+use std::alloc::Global;
+use std::sync::atomic::{AtomicU64, Ordering};
+use std::test::Fail;
+use std::thread;
+use std::thread::Threads;
+
+// The opening of a run's first round.
+struct First;
+
+impl Wanted<Layout, Opened> for First {
+    ghost wanted = { λ layout o. o ≡ first_opening layout };
+}
+
+fn first_of(layout: &Layout) -> Chosen<Opened>
+    ensures { result.value ≡ first_opening layout.now }
+{
+    Chosen::of::<Layout, First>(layout)
+}
+
+// One mutator, with segments of 16 words and a nursery of so many.
+fn small(nursery: u32) -> Layout
+    requires { (16 ≤ nursery) × (nursery ≤ 4194288) }
+    ensures layout { IsLayout result }
+    ensures sizes { (result.words ≡ 16) × (result.mutators ≡ 1) }
+{
+    Layout {
+        segments: 1,
+        words: 16,
+        nursery,
+        mutators: 1,
+    }
+}
+
+// The heap of which nothing was made. The header word of an array with 16 fields is 3 + 2048 * 16, the name
+// word of g is 32, and nil is 1.
+fn empty_heap(alloc: Global, layout: &Layout) -> Result<Words, NoMemory>
+    requires { IsLayout layout.now }
+    ensures { IfOk result (IsEmptyHeap layout.now) }
+{
+    let mut words = Vec::from_elem(alloc, 1u64, layout.total() as usize)?;
+    words[1] = 32771;
+    words[2] = 32;
+    Words::new(alloc, words.as_slice())
+}
+
+// Whether the command's numbers are within their limits, and it makes at most 16 words.
+fn has_limits(command: &Command) -> bool
+    ensures { IsTrue result → HasNumbers command.now × (words_made command.now ≤ 16) }
+{
+    match command {
+        Command::Nil { .. } | Command::Mov { .. } | Command::Var { .. } => true,
+        Command::Show { .. } | Command::Same { .. } => true,
+        Command::Yield | Command::Collect | Command::Full => true,
+        Command::Num { number, .. } => *number < 1_000_000,
+        Command::Con { tag, fields, .. } => *tag < 100 && fields.items().len() <= 14,
+        Command::Arr { count, .. } => *count <= 14,
+        Command::Thunk { free, .. } => free.items().len() <= 8,
+        Command::Stack { size, .. } => *size <= 14,
+        Command::Update { .. } | Command::Force { .. } => true,
+        Command::Get { index, .. } | Command::Set { index, .. } => *index < 65_536,
+        Command::Cas { index, .. } => *index < 65_536,
+        Command::Push { .. } | Command::Pop { .. } => true,
+        Command::Weak { .. }
+        | Command::Deref { .. }
+        | Command::Finalise { .. }
+        | Command::NextFin { .. } => true,
+    }
+}
+
+// Whether a script for segments of 16 words may have the command.
+fn can_run(command: &Command) -> bool
+    ensures { IsTrue result → Fits 16 command.now }
+{
+    if command.has_registers() && has_limits(command) {
+        return true;
+    }
+    false
+}
+
+// Whether all of them are so.
+fn can_run_all(program: &[Command]) -> bool
+    ensures { IsTrue result → All (Fits 16) program.now }
+{
+    program.iter().all(|command| can_run(command))
+}
+
+// A slice of a new mutator.
+fn slice_on(
+    words: Words,
+    layout: Layout,
+    mutator: Mutator,
+    program: &[Command],
+    slice: u32,
+    room: Vec<MutatorSeat>,
+    place: Place<MutatorSeat>,
+) -> Option<(Slice, Mutator)>
+    requires layout { IsLayout layout × (layout.mutators ≡ 1) }
+    requires heap { IsEmptyHeap layout words }
+    requires mutator { IsNew 0 layout mutator }
+    requires program { All (Fits layout.words) program.now }
+    requires room { (room.items ≡ []) × (1 ≤ vec_capacity room) }
+    requires lists { HasRoom mutator (min slice (length program.now)) }
+{
+    nmgc_round::laws::empty_heap_opens();
+    let opening = first_of(&layout);
+    let mut mutator = mutator;
+    let Started {
+        round,
+        mutators,
+        collector: _,
+    } = Round::start(words, layout, false, &opening, room, place);
+    let mut seats = mutators;
+    let Some(first) = seats.pop() else {
+        return None;
+    };
+    let mut seat = first;
+    let done = mutator.run_slice(&round, &mut seat, program, slice, &OpenGate);
+    Some((done, mutator))
+}
+
+// A slice of a new mutator on the heap of which nothing was made, with a nursery of so many words.
+fn slice_of(
+    alloc: Global,
+    nursery: u32,
+    program: &[Command],
+    slice: u32,
+) -> Result<Option<(Slice, Mutator)>, NoMemory>
+    requires nursery { (16 ≤ nursery) × (nursery ≤ 4194288) }
+    requires slice { slice ≤ 1048576 }
+{
+    if !can_run_all(program) {
+        return Ok(None);
+    }
+    let layout = small(nursery);
+    let words = empty_heap(alloc, &layout)?;
+    let room = Vec::with_capacity(alloc, 1)?;
+    let place = Place::new(alloc)?;
+    let (sender, _receiver) = link(alloc)?;
+    let mut mutator = Mutator::new(alloc, 0, layout, sender)?;
+    mutator.reserve(slice)?;
+    Ok(slice_on(words, layout, mutator, program, slice, room, place))
+}
+
+fn num(dest: u8, number: u64) -> Command {
+    Command::Num { dest, number }
+}
+
+fn get(dest: u8, object: Operand, index: u32) -> Command {
+    Command::Get {
+        dest,
+        object,
+        index,
+    }
+}
+
+fn set(object: Operand, index: u32, value: u8) -> Command {
+    Command::Set {
+        object,
+        index,
+        value: Operand::Register(value),
+    }
+}
+
+fn con(alloc: Global, dest: u8, first: u8, second: u8) -> Result<Command, NoMemory> {
+    let mut fields = List::new(alloc);
+    fields.push(Operand::Register(first))?;
+    fields.push(Operand::Register(second))?;
+    Ok(Command::Con {
+        dest,
+        tag: 7,
+        fields,
+    })
+}
+
+fn made(serial: u32) -> Reply {
+    Reply::Given(Value::Ref(Name { maker: 0, serial }))
+}
+
+fn given(number: u64) -> Reply {
+    Reply::Given(Value::Number(number))
+}
+
+fn cas(object: Operand, index: u32, expected: u8, value: u8) -> Command {
+    Command::Cas {
+        object,
+        index,
+        expected: Operand::Register(expected),
+        value: Operand::Register(value),
+    }
+}
+
+fn update(object: Operand, value: u8) -> Command {
+    Command::Update {
+        object,
+        value: Operand::Register(value),
+    }
+}
+
+fn force(object: Operand) -> Command {
+    Command::Force { dest: 5, object }
+}
+
+fn push(object: Operand, value: u8) -> Command {
+    Command::Push {
+        object,
+        value: Operand::Register(value),
+    }
+}
+
+fn pop(object: Operand) -> Command {
+    Command::Pop { dest: 5, object }
+}
+
+fn deref(object: Operand) -> Command {
+    Command::Deref { dest: 5, object }
+}
+
+fn finalise(object: Operand) -> Command {
+    Command::Finalise { dest: 5, object }
+}
+
+// Whether these commands, done one after the other, reply so.
+fn reply_so(alloc: Global, rows: Vec<(Command, Reply)>) -> Result<bool, NoMemory> {
+    let mut program = Vec::new(alloc);
+    let mut replies = Vec::new(alloc);
+    for (command, reply) in rows {
+        program.push(command)?;
+        replies.push(reply)?;
+    }
+    let Some((slice, mutator)) = slice_of(alloc, 64, program.as_slice(), 1024)? else {
+        return Ok(false);
+    };
+    Ok(slice.end == SliceEnd::Program && mutator.replies.items() == replies.as_slice())
+}
+
+fn var(dest: u8, value: u8) -> Command {
+    Command::Var {
+        dest,
+        value: Operand::Register(value),
+    }
+}
+
+fn same(left: u8, right: Operand) -> Command {
+    Command::Same {
+        left: Operand::Register(left),
+        right,
+    }
+}
+
+fn show(value: u8) -> Command {
+    Command::Show {
+        value: Operand::Register(value),
+    }
+}
+
+// Thunks and variables, with each reply and refusal. r1 has 5, r2 a thunk, r3 a variable and r4 a constructor.
+#[test]
+fn thunks_and_variables_reply_by_their_table(rt: HostRuntime) -> Result<(), Fail> {
+    let r = Operand::Register;
+    let mut free = Vec::new(rt.alloc());
+    free.push(r(1))?;
+    let free = List::from_vec(free)?;
+    let rows = vec![in rt.alloc();
+        (num(1, 5), Reply::Fine),
+        (Command::Thunk { dest: 2, free }, made(0)),
+        (force(r(2)), Reply::Nothing),
+        (get(5, r(2), 0), Reply::WrongKind),
+        (update(r(2), 1), Reply::Updated),
+        (update(r(2), 2), Reply::Already),
+        (force(r(2)), given(5)),
+        (update(r(1), 1), Reply::NoPointer),
+        (update(Operand::Shared, 1), Reply::WrongKind),
+        (force(r(1)), Reply::NoPointer),
+        (force(Operand::Shared), Reply::WrongKind),
+        (var(3, 1), made(1)),
+        (cas(r(3), 0, 2, 2), Reply::No),
+        (cas(r(3), 0, 1, 2), Reply::Yes),
+        (get(5, r(3), 0), made(0)),
+        (cas(r(3), 1, 1, 2), Reply::NoField),
+        (cas(r(1), 0, 1, 2), Reply::NoPointer),
+        (cas(r(2), 0, 1, 2), Reply::WrongKind),
+        (con(rt.alloc(), 4, 1, 0)?, made(2)),
+        (cas(r(4), 0, 1, 2), Reply::Fixed),
+    ]?;
+    assert!(rt; reply_so(rt.alloc(), rows)?);
+    Ok(())
+}
+
+// Stacks, with each reply and refusal. r1 has 5, r4 a constructor and r6 a stack.
+#[test]
+fn stacks_reply_by_their_table(rt: HostRuntime) -> Result<(), Fail> {
+    let r = Operand::Register;
+    let rows = vec![in rt.alloc();
+        (num(1, 5), Reply::Fine),
+        (con(rt.alloc(), 4, 1, 0)?, made(0)),
+        (Command::Stack { dest: 6, size: 2 }, made(1)),
+        (get(5, r(6), 0), Reply::WrongKind),
+        (update(r(6), 1), Reply::WrongKind),
+        (pop(r(6)), Reply::StackEmpty),
+        (push(r(6), 1), Reply::Fine),
+        (push(r(6), 4), Reply::Fine),
+        (push(r(6), 1), Reply::StackFull),
+        (pop(r(6)), made(0)),
+        (push(r(6), 0), Reply::Fine),
+        (pop(r(6)), Reply::Given(Value::Nil)),
+        (pop(r(6)), given(5)),
+        (pop(r(6)), Reply::StackEmpty),
+        (push(r(1), 1), Reply::NoPointer),
+        (pop(r(1)), Reply::NoPointer),
+        (push(Operand::Shared, 1), Reply::WrongKind),
+        (pop(Operand::Shared), Reply::WrongKind),
+    ]?;
+    assert!(rt; reply_so(rt.alloc(), rows)?);
+    Ok(())
+}
+
+// Weak pointers, with each reply and refusal. r1 has 5, r3 a variable, r4 a constructor and r7 a weak pointer.
+#[test]
+fn weak_pointers_reply_by_their_table(rt: HostRuntime) -> Result<(), Fail> {
+    let r = Operand::Register;
+    let weak = Command::Weak {
+        dest: 7,
+        key: r(3),
+        value: r(1),
+        finaliser: r(4),
+    };
+    let rows = vec![in rt.alloc();
+        (num(1, 5), Reply::Fine),
+        (var(3, 1), made(0)),
+        (con(rt.alloc(), 4, 1, 0)?, made(1)),
+        (deref(r(1)), Reply::NoPointer),
+        (deref(r(4)), Reply::WrongKind),
+        (finalise(r(1)), Reply::NoPointer),
+        (finalise(r(4)), Reply::WrongKind),
+        (weak, made(2)),
+        (get(5, r(7), 0), Reply::WrongKind),
+        (deref(r(7)), given(5)),
+        (finalise(r(7)), made(1)),
+        (deref(r(7)), Reply::Dead),
+        (finalise(r(7)), Reply::Dead),
+        (Command::NextFin { dest: 5 }, Reply::Nothing),
+    ]?;
+    assert!(rt; reply_so(rt.alloc(), rows)?);
+    Ok(())
+}
+
+// Constructors, variables, arrays and g, with each reply and refusal. r1 has 5, r2 a constructor, r3 a variable
+// and r4 an array; a variable has one field, and g has 16.
+#[test]
+fn fields_reply_by_their_table(rt: HostRuntime) -> Result<(), Fail> {
+    let r = Operand::Register;
+    let g = Operand::Shared;
+    let array = Command::Arr {
+        dest: 4,
+        count: 3,
+        value: r(3),
+    };
+    let rows = vec![in rt.alloc();
+        (num(1, 5), Reply::Fine),
+        (con(rt.alloc(), 2, 1, 0)?, made(0)),
+        (get(5, r(2), 0), given(5)),
+        (get(5, r(2), 1), Reply::Given(Value::Nil)),
+        (get(5, r(2), 2), Reply::NoField),
+        (get(5, r(1), 0), Reply::NoPointer),
+        (get(5, r(0), 0), Reply::NoPointer),
+        (set(r(2), 0, 1), Reply::Fixed),
+        (set(r(2), 2, 1), Reply::Fixed),
+        (set(r(1), 0, 1), Reply::NoPointer),
+        (var(3, 2), made(1)),
+        (get(5, r(3), 0), made(0)),
+        (set(r(3), 0, 1), Reply::Fine),
+        (get(5, r(3), 0), given(5)),
+        (get(5, r(3), 1), Reply::NoField),
+        (set(r(3), 1, 1), Reply::NoField),
+        (array, made(2)),
+        (get(5, r(4), 2), made(1)),
+        (get(5, r(4), 3), Reply::NoField),
+        (set(g, 15, 4), Reply::Fine),
+        (get(5, g, 15), made(2)),
+        (get(5, g, 16), Reply::NoField),
+        (set(g, 16, 4), Reply::NoField),
+    ]?;
+    assert!(rt; reply_so(rt.alloc(), rows)?);
+    Ok(())
+}
+
+// Registers, comparisons and the end of a slice: what is answered, and how often the gate is passed. r1 has 5, r3
+// and r4 are two variables.
+#[test]
+fn a_slice_ends_at_a_yield(rt: HostRuntime) -> Result<(), Fail> {
+    let r = Operand::Register;
+    let g = Operand::Shared;
+    let mov = |dest, value| Command::Mov { dest, value };
+    let rows = vec![in rt.alloc();
+        (num(1, 5), Reply::Fine),
+        (var(3, 1), made(0)),
+        (var(4, 3), made(1)),
+        (mov(5, r(4)), Reply::Fine),
+        (same(4, r(5)), Reply::Yes),
+        (same(4, r(3)), Reply::No),
+        (same(1, g), Reply::No),
+        (mov(6, g), Reply::Fine),
+        (show(6), Reply::Given(Value::Ref(Name::SHARED))),
+        (Command::Nil { dest: 6 }, Reply::Fine),
+        (show(6), Reply::Given(Value::Nil)),
+        (Command::Yield, Reply::Fine),
+    ]?;
+    let mut program = Vec::new(rt.alloc());
+    let mut replies = Vec::new(rt.alloc());
+    for (command, reply) in rows {
+        program.push(command)?;
+        replies.push(reply)?;
+    }
+    program.push(Command::Nil { dest: 1 })?;
+    let Some((slice, mutator)) = slice_of(rt.alloc(), 64, program.as_slice(), 1024)? else {
+        assert!(rt; false);
+        return Ok(());
+    };
+    let end = SliceEnd::Yield;
+    assert!(rt; slice == Slice { done: 12, end });
+    assert!(rt; mutator.replies.items() == replies.as_slice());
+    assert!(rt; mutator.turns == 12);
+    Ok(())
+}
+
+// Whether a slice of so many of these commands ends so, with a nursery of 16 words.
+fn ends(
+    alloc: Global,
+    program: &[Command],
+    slice: u32,
+    done: u32,
+    end: SliceEnd,
+) -> Result<bool, NoMemory>
+    requires { slice ≤ 1048576 }
+{
+    let Some((ended, mutator)) = slice_of(alloc, 16, program, slice)? else {
+        return Ok(false);
+    };
+    let tried = match end {
+        SliceEnd::Nursery { .. } => u64::from(done) + 1,
+        _ => u64::from(done),
+    };
+    Ok(ended == Slice { done, end } && mutator.turns == tried)
+}
+
+// The first of the reasons ends a slice. An array with 10 fields has 12 words and a variable 3, so one of each
+// leaves one word of 16.
+#[test]
+fn a_slice_ends_by_the_first_reason(rt: HostRuntime) -> Result<(), Fail> {
+    let nil = [num(0, 1), num(0, 2), Command::Yield, num(0, 3)];
+    assert!(rt; ends(rt.alloc(), nil.as_slice(), 2, 2, SliceEnd::Slice)?);
+    assert!(rt; ends(rt.alloc(), nil.as_slice(), 3, 3, SliceEnd::Yield)?);
+    assert!(rt; ends(rt.alloc(), nil.as_slice(), 4, 3, SliceEnd::Yield)?);
+    let asks = [num(0, 1), Command::Collect, num(0, 3)];
+    assert!(rt; ends(rt.alloc(), asks.as_slice(), 1, 1, SliceEnd::Slice)?);
+    assert!(rt; ends(rt.alloc(), asks.as_slice(), 3, 2, SliceEnd::Collect)?);
+    let whole = [num(0, 1), Command::Full, num(0, 3)];
+    assert!(rt; ends(rt.alloc(), whole.as_slice(), 3, 2, SliceEnd::Full)?);
+    let two = [num(0, 1), num(0, 2)];
+    assert!(rt; ends(rt.alloc(), two.as_slice(), 1, 1, SliceEnd::Slice)?);
+    assert!(rt; ends(rt.alloc(), two.as_slice(), 2, 2, SliceEnd::Program)?);
+    assert!(rt; ends(rt.alloc(), two.as_slice(), 9, 2, SliceEnd::Program)?);
+    let value = Operand::Shared;
+    let full = [
+        Command::Arr {
+            dest: 0,
+            count: 10,
+            value,
+        },
+        Command::Var { dest: 1, value },
+        Command::Var { dest: 2, value },
+    ];
+    assert!(rt; ends(rt.alloc(), full.as_slice(), 2, 2, SliceEnd::Slice)?);
+    assert!(rt;
+        ends(
+            rt.alloc(),
+            full.as_slice(),
+            3,
+            2,
+            SliceEnd::Nursery { need: 3, left: 1 }
+        )?
+    );
+    Ok(())
+}
+
+// What the two mutators of a round read.
+#[derive(Drop)]
+struct Read {
+    first: AtomicU64,
+    second: AtomicU64,
+}
+
+impl Read {
+    fn new() -> Read {
+        Read {
+            first: AtomicU64::new(0),
+            second: AtomicU64::new(0),
+        }
+    }
+
+    fn put(&self, who: u8, number: u64) {
+        if who == 0 {
+            self.first.store(number, Ordering::SeqCst);
+        } else {
+            self.second.store(number, Ordering::SeqCst);
+        }
+    }
+}
+
+// A mutator stores its number and one into the first slot of g, and reads that slot.
+fn work<G: Gate>(
+    alloc: Global,
+    round: &Round,
+    seat: &mut MutatorSeat,
+    layout: Layout,
+    number: u8,
+    read: &Read,
+    gate: &G,
+) -> Result<(), NoMemory>
+    requires seat { IsAt round.now seat.old × (seen seat.old ≡ alone (first_opening layout) number) }
+    requires opens { (words : List ℕ) × CanOpen (first_opening layout) words }
+    requires layout { IsLayout layout × (number < layout.mutators) × (layout.words ≡ 16) }
+{
+    let program = [
+        num(1, u64::from(number) + 1),
+        set(Operand::Shared, 0, 1),
+        get(2, Operand::Shared, 0),
+    ];
+    if !can_run_all(program.as_slice()) {
+        return Err(NoMemory);
+    }
+    let (sender, _receiver) = link(alloc)?;
+    let mut mutator = Mutator::new(alloc, number, layout, sender)?;
+    mutator.reserve(3)?;
+    mutator.run_slice(round, seat, program.as_slice(), 3, gate);
+    if let Some(Reply::Given(Value::Number(found))) = mutator.replies.items().last() {
+        read.put(number, *found);
+    }
+    Ok(())
+}
+
+// Each in a thread of its own.
+fn work_all<R: Threads + Sync, G: Gate>(
+    rt: &R,
+    alloc: Global,
+    round: &Round,
+    seats: &mut [MutatorSeat],
+    layout: Layout,
+    read: &Read,
+    gate: &G,
+)
+    requires opens { (words : List ℕ) × CanOpen (first_opening layout) words }
+    requires layout { IsLayout layout × (layout.words ≡ 16) }
+    requires seats { (length seats.old ≡ layout.mutators) × ((k : ℕ) (d : RoundSeat) → k < length seats.old → IsAt round.now (slice_index_or seats.old k d) × (seen (slice_index_or seats.old k d) ≡ alone (first_opening layout) k)) }
+{
+    thread::for_each_mut(
+        rt,
+        seats,
+        32,
+        &|number, seat: &mut MutatorSeat|
+            requires { IsAt round.now seat.now × (seen seat.now ≡ alone (first_opening layout) number) × ((words : List ℕ) × CanOpen (first_opening layout) words) × IsLayout layout × (number < layout.mutators) × (layout.words ≡ 16) }
+        {
+            let _ = work(alloc, round, seat, layout, number as u8, read, gate);
+        },
+    );
+}
+
+// A round in which each mutator works in a thread of its own.
+fn worked<R: Threads + Sync, G: Gate>(
+    rt: &R,
+    alloc: Global,
+    words: Words,
+    layout: Layout,
+    room: Vec<MutatorSeat>,
+    place: Place<MutatorSeat>,
+    read: &Read,
+    gate: &G,
+)
+    requires layout { IsLayout layout × (layout.words ≡ 16) }
+    requires heap { IsEmptyHeap layout words }
+    requires room { (room.items ≡ []) × (layout.mutators ≤ vec_capacity room) }
+{
+    nmgc_round::laws::empty_heap_opens();
+    let opening = first_of(&layout);
+    let Started {
+        round,
+        mutators,
+        collector: _,
+    } = Round::start(words, layout, false, &opening, room, place);
+    let mut seats = mutators;
+    work_all(rt, alloc, &round, seats.items_mut(), layout, read, gate);
+}
+
+fn two() -> Layout
+    ensures layout { IsLayout result }
+    ensures words { (result.words ≡ 16) × (result.mutators ≡ 2) }
+{
+    Layout {
+        segments: 1,
+        words: 16,
+        nursery: 16,
+        mutators: 2,
+    }
+}
+
+// What each of two mutators reads under this gate.
+fn both<R: Threads + Sync, G: Gate>(
+    rt: &R,
+    alloc: Global,
+    gate: &G,
+) -> Result<(u64, u64), NoMemory> {
+    let layout = two();
+    let words = empty_heap(alloc, &layout)?;
+    let room = Vec::with_capacity(alloc, 2)?;
+    let place = Place::new(alloc)?;
+    let read = Read::new();
+    worked(rt, alloc, words, layout, room, place, &read, gate);
+    Ok((
+        read.first.load(Ordering::SeqCst),
+        read.second.load(Ordering::SeqCst),
+    ))
+}
+
+// Mutator 0 stores 1 and mutator 1 stores 2. Whichever stores last, both can't read the other's number: in one
+// order of the four commands the last `set` is followed by a `get` of its own.
+#[test]
+fn two_mutators_read_by_one_order(rt: HostRuntime) -> Result<(), Fail> {
+    for _ in 0..1000u32 {
+        let read = both(&rt, rt.alloc(), &OpenGate)?;
+        assert!(rt; read == (1, 1) || read == (1, 2) || read == (2, 2));
+    }
+    Ok(())
+}
+
+// A gate at which the late mutator waits with its `set` until the other has reached its `get`, and that one
+// until the late one has reached its own.
+#[derive(Drop)]
+struct Meet {
+    late: u8,
+    reached: Read,
+    given_up: AtomicU64,
+}
+
+impl Gate for Meet {
+    fn pass(&self, who: u8, turn: u64) {
+        self.reached.put(who, turn);
+        let waits = if who == self.late {
+            turn == 2
+        } else {
+            turn == 3
+        };
+        if !waits {
+            return;
+        }
+        for _ in 0..1_000_000_000u32 {
+            let other = if who == 0 {
+                self.reached.second.load(Ordering::SeqCst)
+            } else {
+                self.reached.first.load(Ordering::SeqCst)
+            };
+            if other >= 3 {
+                return;
+            }
+        }
+        self.given_up.store(1, Ordering::SeqCst);
+    }
+}
+
+// Both read what the late one stored, since its `set` comes after the other's and before both reads.
+#[test]
+fn the_gate_is_passed_before_each_command(rt: HostRuntime) -> Result<(), Fail> {
+    for late in 0..2u8 {
+        let meet = Meet {
+            late,
+            reached: Read::new(),
+            given_up: AtomicU64::new(0),
+        };
+        let read = both(&rt, rt.alloc(), &meet)?;
+        let number = u64::from(late) + 1;
+        assert!(rt; read == (number, number));
+        assert!(rt; meet.given_up.load(Ordering::SeqCst) == 0);
+    }
+    Ok(())
+}

@@ -1,0 +1,189 @@
+//! Rounds from the heap of which nothing was made, with one to sixteen mutators in threads of their own.
+ghost use Rattle.std.specs.Prelude.{◌≡◌, ◌<◌, ◌≤◌, ℕ, [], All, IfOk, length, map, vec_capacity, slice_index_or};
+ghost use Rattle.nmgc_object.specs.Places.{IsLayout, word_total};
+ghost use Rattle.nmgc_round.specs.Seat.{RoundSeat, IsAt, seen, word_count, opening_of};
+ghost use Rattle.nmgc_round.specs.Seating.{alone, alones};
+ghost use Rattle.nmgc_round.specs.Empty.{IsEmptyHeap, first_opening};
+ghost use Rattle.nmgc_round.specs.Ready.{HasPart};
+
+use nmgc_round::chosen::Wanted;
+use nmgc_round::{Chosen, Gate, MutatorSeat, OpenGate, Opened, Round, Started, Words};
+use nmgc_graph::{Command, Name, NoMemory, Operand, Place};
+use nmgc_object::{Address, Layout, encode_name};
+use std::alloc::Global;
+use std::test::Fail;
+use std::thread;
+use std::thread::Threads;
+
+// The opening of a run's first round.
+struct First;
+
+impl Wanted<Layout, Opened> for First {
+    ghost wanted = { λ layout o. o ≡ first_opening layout };
+}
+
+fn first_of(layout: &Layout) -> Chosen<Opened>
+    ensures { result.value ≡ first_opening layout.now }
+{
+    Chosen::of::<Layout, First>(layout)
+}
+
+// The heap of which nothing was made. The header word of an array with 16 fields is 3 + 2048 * 16, the name
+// word of g is 32, and nil is 1.
+fn empty_heap(alloc: Global, layout: &Layout) -> Result<Words, NoMemory>
+    requires { IsLayout layout.now }
+    ensures { IfOk result (IsEmptyHeap layout.now) }
+{
+    let mut words = Vec::from_elem(alloc, 1u64, layout.total() as usize)?;
+    words[1] = 32771;
+    words[2] = 32;
+    Words::new(alloc, words.as_slice())
+}
+
+// What a mutator does: it makes a variable with nil, stores it into its slot of g, and reads it back. The words
+// that it found in the slot.
+fn work(round: &Round, seat: &mut MutatorSeat, layout: Layout, number: u8) -> (u64, u64)
+    requires seat { IsAt round.now seat.old × (seen seat.old ≡ alone (first_opening layout) number) }
+    requires round { word_count round.now ≡ word_total layout }
+    requires layout { IsLayout layout × (number < layout.mutators) }
+    requires few { layout.mutators ≤ 16 }
+    ensures { IsAt round.now seat.new × HasPart (seen seat.new) number }
+{
+    OpenGate.pass(number, 1);
+    let g = Address(1);
+    if round.load_fixed(seat, g, 0, None) != 32771 {
+        return (0, 0);
+    }
+    let slot = number as u32;
+    let base = layout.nursery_base(number);
+    let name = encode_name(Name {
+        maker: number,
+        serial: 0,
+    });
+    round.store_unborn(seat, Address(base), 1, name);
+    round.store_unborn(seat, Address(base), 2, 1);
+    let make = Command::Var {
+        dest: 0,
+        value: Operand::Register(1),
+    };
+    round.give_birth(seat, Address(base), 2050, &make);
+    let share = Command::Set {
+        object: Operand::Shared,
+        index: slot,
+        value: Operand::Register(0),
+    };
+    let before = round.swap_field(seat, g, slot, 2 * base as u64, &share);
+    let read = Command::Get {
+        dest: 1,
+        object: Operand::Shared,
+        index: slot,
+    };
+    let after = round.load_field(seat, g, slot, &read);
+    round.load_fixed(seat, g, 0, Some(&Command::Yield));
+    (before, after)
+}
+
+// Each in a thread of its own.
+fn work_all<R: Threads + Sync>(rt: &R, round: &Round, seats: &mut [MutatorSeat], layout: Layout)
+    requires round { word_count round.now ≡ word_total layout }
+    requires layout { IsLayout layout × (layout.mutators ≤ 16) }
+    requires seats { (length seats.old ≡ layout.mutators) × ((k : ℕ) (d : RoundSeat) → k < length seats.old → IsAt round.now (slice_index_or seats.old k d) × (seen (slice_index_or seats.old k d) ≡ alone (first_opening layout) k)) }
+    ensures count { length seats.new ≡ length seats.old }
+    ensures seats { (k : ℕ) (d : RoundSeat) → k < length seats.old → IsAt round.now (slice_index_or seats.new k d) × HasPart (seen (slice_index_or seats.new k d)) k }
+{
+    thread::for_each_mut(
+        rt,
+        seats,
+        16,
+        &|number, seat: &mut MutatorSeat|
+            requires { IsAt round.now seat.now × (seen seat.now ≡ alone (first_opening layout) number) × (word_count round.now ≡ word_total layout) × IsLayout layout × (number < layout.mutators) × (layout.mutators ≤ 16) }
+            ensures { IsAt round.entry.now seat.exit.now × HasPart (seen seat.exit.now) number }
+        {
+            work(round, seat, layout, number as u8);
+        },
+    );
+}
+
+// The words after a round in which each mutator works in a thread of its own, and whether it was marking.
+fn worked<R: Threads + Sync>(
+    rt: &R,
+    words: Words,
+    layout: Layout,
+    room: Vec<MutatorSeat>,
+    place: Place<MutatorSeat>,
+) -> (Words, bool)
+    requires layout { IsLayout layout }
+    requires few { layout.mutators ≤ 16 }
+    requires heap { IsEmptyHeap layout words }
+    requires room { (room.items ≡ []) × (layout.mutators ≤ vec_capacity room) }
+    ensures { length result.0 ≡ word_total layout }
+{
+    let opening = first_of(&layout);
+    let Started {
+        round,
+        mut mutators,
+        collector,
+    } = Round::start(words, layout, false, &opening, room, place);
+    let marking = round.is_marking();
+    work_all(rt, &round, mutators.items_mut(), layout);
+    (round.finish(mutators, collector).words, marking)
+}
+
+// The words that a mutator's work leaves: the header of a variable is 2 + 2048 * 1, the name word of its first object is its
+// number, and its slot of g has twice the object's place.
+fn is_done(words: &[u64], layout: &Layout, mutator: u8) -> bool
+    requires { IsLayout layout.now × (mutator < layout.now.mutators) }
+{
+    let base = layout.nursery_base(mutator) as usize;
+    words.get(base) == Some(&2050)
+        && words.get(base + 1) == Some(&u64::from(mutator))
+        && words.get(base + 2) == Some(&1)
+        && words.get(3 + usize::from(mutator)) == Some(&(2 * base as u64))
+}
+
+fn small(mutators: u8) -> Layout
+    requires { (0 < mutators) × (mutators ≤ 16) }
+    ensures layout { IsLayout result }
+    ensures count { result.mutators ≡ mutators }
+{
+    Layout {
+        segments: 1,
+        words: 16,
+        nursery: 16,
+        mutators,
+    }
+}
+
+// The words of a table that is closed.
+fn words_of(alloc: Global, words: Words) -> Result<Vec<u64>, NoMemory> {
+    let mut left = Vec::from_elem(alloc, 0u64, words.len())?;
+    let closed = words.close();
+    for (at, word) in left.iter_mut().enumerate() {
+        if at < closed.words.len() {
+            *word = closed.word(at);
+        }
+    }
+    closed.free();
+    Ok(left)
+}
+
+#[test]
+fn what_each_mutator_did_stands_in_the_words(rt: HostRuntime) -> Result<(), Fail> {
+    for mutators in 1..17u8 {
+        let layout = small(mutators);
+        let words = empty_heap(rt.alloc(), &layout)?;
+        let room = Vec::with_capacity(rt.alloc(), usize::from(mutators))?;
+        let place = Place::new(rt.alloc())?;
+        let (mut words, marking) = worked(&rt, words, layout, room, place);
+        assert!(rt; !marking);
+        words.store(0, 5);
+        let stored = words.load(0);
+        assert!(rt; stored == 5);
+        let left = words_of(rt.alloc(), words)?;
+        for mutator in 0..mutators {
+            let done = is_done(left.as_slice(), &layout, mutator);
+            assert!(rt; done, "mutator {mutator} of {mutators}");
+        }
+    }
+    Ok(())
+}

@@ -1,0 +1,408 @@
+//! Cycles over small heaps, as a table. What is expected follows from the rules: filled segments are swept,
+//! least number first; had are the names in them, freed those whose blocks aren't marked with the epoch, both
+//! by maker and then by serial; a segment is then free, filled or active.
+ghost use Rattle.std.specs.Prelude.{◌≡◌};
+ghost use Rattle.nmgc_sweep.specs.Names.{HaveEntries};
+ghost use Rattle.nmgc_sweep.specs.Sweeper.{AreLeft};
+
+use nmgc_sweep::order::put_in_order;
+use nmgc_sweep::{Names, Sweeper};
+use nmgc_alloc::{Segments, laws};
+use nmgc_graph::{MAKERS, Name};
+use nmgc_object::{Address, FIRST_PLACE, Layout, block_words};
+use nmgc_round::OpenGate;
+use nmgc_segment::State;
+use std::alloc::Global;
+use std::process::Abort;
+use std::test::Fail;
+use std::thread::Threads;
+
+// A cycle: the objects placed in this order, whether current segments are retired before, which of them have a
+// mark of the cycle before and which one of this cycle; and what is expected: how many calls with this quota
+// sweep as many segments, the lists, and the states of the first segments after the sweep.
+#[derive(Drop)]
+struct Row {
+    placed: &'static [Name],
+    retired: bool,
+    stale: &'static [usize],
+    marked: &'static [usize],
+    works: u32,
+    quota: u32,
+    swept: &'static [u32],
+    had: &'static [Name],
+    freed: &'static [Name],
+    states: &'static [State],
+}
+
+const FEW: [Name; 2] = [
+    Name {
+        maker: 0,
+        serial: 0,
+    },
+    Name {
+        maker: 0,
+        serial: 1,
+    },
+];
+
+const FOUR: [Name; 4] = [
+    Name {
+        maker: 0,
+        serial: 0,
+    },
+    Name {
+        maker: 0,
+        serial: 1,
+    },
+    Name {
+        maker: 0,
+        serial: 2,
+    },
+    Name {
+        maker: 0,
+        serial: 3,
+    },
+];
+
+const EIGHT: [Name; 8] = [
+    Name {
+        maker: 0,
+        serial: 0,
+    },
+    Name {
+        maker: 0,
+        serial: 1,
+    },
+    Name {
+        maker: 0,
+        serial: 2,
+    },
+    Name {
+        maker: 0,
+        serial: 3,
+    },
+    Name {
+        maker: 1,
+        serial: 0,
+    },
+    Name {
+        maker: 1,
+        serial: 1,
+    },
+    Name {
+        maker: 1,
+        serial: 2,
+    },
+    Name {
+        maker: 1,
+        serial: 3,
+    },
+];
+
+// The other mutator's segment is the first; one more object is in a segment that isn't full.
+const NINE: [Name; 9] = [
+    Name {
+        maker: 1,
+        serial: 0,
+    },
+    Name {
+        maker: 1,
+        serial: 1,
+    },
+    Name {
+        maker: 1,
+        serial: 2,
+    },
+    Name {
+        maker: 1,
+        serial: 3,
+    },
+    Name {
+        maker: 0,
+        serial: 0,
+    },
+    Name {
+        maker: 0,
+        serial: 1,
+    },
+    Name {
+        maker: 0,
+        serial: 2,
+    },
+    Name {
+        maker: 0,
+        serial: 3,
+    },
+    Name {
+        maker: 0,
+        serial: 4,
+    },
+];
+
+// Of those in full segments, these are left unmarked.
+const UNMARKED_OF_NINE: [Name; 3] = [
+    Name {
+        maker: 1,
+        serial: 0,
+    },
+    Name {
+        maker: 1,
+        serial: 2,
+    },
+    Name {
+        maker: 1,
+        serial: 3,
+    },
+];
+
+// All but the third.
+const UNMARKED_OF_FOUR: [Name; 3] = [
+    Name {
+        maker: 0,
+        serial: 0,
+    },
+    Name {
+        maker: 0,
+        serial: 1,
+    },
+    Name {
+        maker: 0,
+        serial: 3,
+    },
+];
+
+// Places an object of four words, and notes its name.
+fn place(rt: &impl Abort, names: &mut Names, segments: &mut Segments, name: Name) -> Address
+    requires { HaveEntries segments.old.layout names.old }
+    ensures { HaveEntries segments.new.layout names.new }
+{
+    let layout = segments.layout();
+    assert!(rt; name.maker < MAKERS);
+    assert!(rt; name.maker < layout.mutators);
+    assert!(rt; block_words(0) <= layout.words);
+    assert!(rt; segments.has_room(name.maker, 0));
+    let at = segments.allocate(name.maker, 0);
+    assert!(rt; at.0 < FIRST_PLACE + layout.segments * layout.words);
+    names.note(at, name);
+    at
+}
+
+// Begins a cycle.
+fn begin(rt: &impl Abort, segments: &mut Segments, retired: bool)
+    ensures { segments.new.layout ≡ segments.old.layout }
+{
+    laws::counts_tell();
+    if retired {
+        segments.retire_all();
+    }
+    assert!(rt; segments.sweep_count() == 0);
+    segments.prepare();
+}
+
+// Marks objects by their places.
+fn mark(rt: &impl Abort, segments: &mut Segments, places: &[Address], marked: &[usize], epoch: u8)
+    ensures { segments.new.layout ≡ segments.old.layout }
+{
+    assert!(rt; 1 <= epoch);
+    assert!(rt; epoch <= 2);
+    for index in marked {
+        assert!(rt; *index < places.len());
+        let at = places[*index];
+        assert!(rt; segments.block_at(at).is_some());
+        assert!(rt; segments.mark_at(at, epoch));
+    }
+}
+
+// Does the cycle, and compares.
+fn check<R: Abort + Threads + Sync>(rt: &R, alloc: Global, row: Row) -> Result<(), Fail> {
+    let layout = Layout {
+        segments: 8,
+        words: 16,
+        nursery: 16,
+        mutators: 2,
+    };
+    assert!(rt; layout.words.is_power_of_two());
+    let mut names = Names::new(alloc, layout)?;
+    let mut segments = Segments::new(alloc, layout)?;
+    let mut places = Vec::new(alloc);
+    for name in row.placed {
+        places.push(place(rt, &mut names, &mut segments, *name))?;
+    }
+    begin(rt, &mut segments, row.retired);
+    let at = places.as_slice();
+    mark(rt, &mut segments, at, row.stale, 1);
+    mark(rt, &mut segments, at, row.marked, 2);
+    let mut sweeper = Sweeper::start(alloc, &segments, 2)?;
+    assert!(rt; sweeper.had().len() == 0);
+    assert!(rt; sweeper.freed().len() == 0);
+    for turn in 0..row.works {
+        let _ = turn;
+        let done = sweeper.work(rt, &mut segments, &names, row.quota, &OpenGate);
+        assert!(rt; done.swept == row.quota);
+    }
+    let works = u64::from(row.works);
+    let upper = row.quota / 2;
+    assert!(rt; sweeper.turns == works * u64::from(row.quota - upper));
+    assert!(rt; sweeper.upper_turns == works * u64::from(upper));
+    let done = sweeper.work(rt, &mut segments, &names, 0, &OpenGate);
+    assert!(rt; done.swept == 0);
+    assert!(rt; done.finished == (works * u64::from(row.quota) == row.swept.len() as u64));
+    sweeper.finish(rt, &mut segments, &names);
+    assert!(rt; sweeper.swept() == row.swept);
+    assert!(rt; sweeper.had().len() == row.had.len());
+    assert!(rt; sweeper.freed().len() == row.freed.len());
+    let mut census = sweeper.into_census();
+    put_in_order(census.had.as_mut_slice(), alloc);
+    put_in_order(census.freed.as_mut_slice(), alloc);
+    assert!(rt; census.swept.as_slice() == row.swept);
+    assert!(rt; census.had.as_slice() == row.had);
+    assert!(rt; census.freed.as_slice() == row.freed);
+    for number in 0..segments.layout().segments {
+        if let Some(state) = row.states.get(number as usize) {
+            assert!(rt; segments.segment(number).state() == *state);
+        }
+    }
+    Ok(())
+}
+
+#[test]
+fn two_mutators_and_stale_marks(rt: HostRuntime) -> Result<(), Fail> {
+    check(
+        &rt,
+        rt.alloc(),
+        Row {
+            placed: &NINE,
+            retired: false,
+            stale: &[],
+            marked: &[1, 4, 5, 6, 7],
+            works: 2,
+            quota: 1,
+            swept: &[0, 1],
+            had: &EIGHT,
+            freed: &UNMARKED_OF_NINE,
+            states: &[
+                State::Active,
+                State::Filled,
+                State::Current { mutator: 0 },
+                State::Free,
+            ],
+        },
+    )?;
+    // A mark of the cycle before keeps nothing.
+    check(
+        &rt,
+        rt.alloc(),
+        Row {
+            placed: &FOUR,
+            retired: false,
+            stale: &[0, 1, 2, 3],
+            marked: &[2],
+            works: 1,
+            quota: 1,
+            swept: &[0],
+            had: &FOUR,
+            freed: &UNMARKED_OF_FOUR,
+            states: &[State::Active],
+        },
+    )
+}
+
+// A retired segment has blocks that aren't in use.
+#[test]
+fn retired_segments(rt: HostRuntime) -> Result<(), Fail> {
+    check(
+        &rt,
+        rt.alloc(),
+        Row {
+            placed: &FEW,
+            retired: true,
+            stale: &[],
+            marked: &[],
+            works: 1,
+            quota: 1,
+            swept: &[0],
+            had: &FEW,
+            freed: &FEW,
+            states: &[State::Free],
+        },
+    )?;
+    check(
+        &rt,
+        rt.alloc(),
+        Row {
+            placed: &FEW,
+            retired: true,
+            stale: &[],
+            marked: &[0, 1],
+            works: 0,
+            quota: 1,
+            swept: &[0],
+            had: &FEW,
+            freed: &[],
+            states: &[State::Active],
+        },
+    )
+}
+
+// What no call of a round swept is swept in the end; and with nothing filled, nothing is.
+#[test]
+fn the_rest_and_nothing(rt: HostRuntime) -> Result<(), Fail> {
+    check(
+        &rt,
+        rt.alloc(),
+        Row {
+            placed: &EIGHT,
+            retired: false,
+            stale: &[],
+            marked: &[],
+            works: 1,
+            quota: 1,
+            swept: &[0, 1],
+            had: &EIGHT,
+            freed: &EIGHT,
+            states: &[State::Free, State::Free],
+        },
+    )?;
+    check(
+        &rt,
+        rt.alloc(),
+        Row {
+            placed: &FEW,
+            retired: false,
+            stale: &[],
+            marked: &[],
+            works: 0,
+            quota: 1,
+            swept: &[],
+            had: &[],
+            freed: &[],
+            states: &[State::Current { mutator: 0 }],
+        },
+    )
+}
+
+// Two segments at once, in two threads, and what is left of the quota.
+#[test]
+fn two_halves(rt: HostRuntime) -> Result<(), Fail> {
+    check(
+        &rt,
+        rt.alloc(),
+        Row {
+            placed: &NINE,
+            retired: false,
+            stale: &[],
+            marked: &[1, 4, 5, 6, 7],
+            works: 1,
+            quota: 2,
+            swept: &[0, 1],
+            had: &EIGHT,
+            freed: &UNMARKED_OF_NINE,
+            states: &[
+                State::Active,
+                State::Filled,
+                State::Current { mutator: 0 },
+                State::Free,
+            ],
+        },
+    )
+}

@@ -1,0 +1,124 @@
+//! The list of weak pointers as it is filled, and finalisers that join queues: what is expected follows from the order of
+//! names, by maker and then by serial, and from the field words, of which 1 is nil and 0 the value of a dead weak pointer.
+ghost use Rattle.std.specs.Prelude.{ℕ, ◌≡◌, ◌≤◌, [], length, slice_get, IfOk};
+ghost use Rattle.nmgc_object.specs.FinQueue.{FinQueue as Shown};
+
+use nmgc_weak::{Death, OldWeak, Weaks, laws, queue_finalisers};
+use nmgc_graph::{List, Name, NoMemory};
+use nmgc_object::{Address, FinQueue};
+use std::alloc::Global;
+use std::test::Fail;
+
+const A: Name = Name {
+    maker: 0,
+    serial: 7,
+};
+
+const B: Name = Name {
+    maker: 1,
+    serial: 2,
+};
+
+const FIRST: OldWeak = OldWeak {
+    weak: A,
+    at: Address(40),
+};
+
+const SECOND: OldWeak = OldWeak {
+    weak: B,
+    at: Address(32),
+};
+
+#[test]
+fn list_in_order(rt: HostRuntime) -> Result<(), Fail> {
+    let mut weaks = Weaks::new(rt.alloc());
+    assert!(rt; weaks.list().is_empty());
+    weaks.reserve(2)?;
+    weaks.add(B, Address(32));
+    weaks.add(A, Address(40));
+    assert!(rt; weaks.list() == [FIRST, SECOND].as_slice());
+    assert!(rt; weaks.deaths().is_empty());
+
+    // The words of the heap, of which the value of the second was taken.
+    let mut words = vec![in rt.alloc(); 1u64; 48]?;
+    words[35] = 0;
+    weaks.leave(&mut words);
+    assert!(rt; weaks.list() == [FIRST].as_slice());
+    Ok(())
+}
+
+const THIRD: OldWeak = OldWeak {
+    weak: Name {
+        maker: 1,
+        serial: 5,
+    },
+    at: Address(48),
+};
+
+// Two join a list of one: by their names one comes before it, and one after it.
+#[test]
+fn joiners_in_order(rt: HostRuntime) -> Result<(), Fail> {
+    let mut weaks = Weaks::new(rt.alloc());
+    weaks.reserve(3)?;
+    weaks.add(B, Address(32));
+    weaks.add_all([FIRST, THIRD].as_slice());
+    assert!(rt; weaks.list() == [FIRST, SECOND, THIRD].as_slice());
+    Ok(())
+}
+
+const DEATHS: [Death; 3] = [
+    Death {
+        weak: A,
+        finaliser: 13,
+    },
+    Death {
+        weak: B,
+        finaliser: 1,
+    },
+    Death {
+        weak: B,
+        finaliser: 21,
+    },
+];
+
+// A queue with room for so many words.
+fn queue(alloc: Global, room: u32) -> Result<FinQueue, NoMemory>
+    ensures words { IfOk result (λ queue. queue.words ≡ []) }
+    ensures room { IfOk result (λ queue. room ≤ queue.spare) }
+{
+    let mut queue = FinQueue::new(alloc);
+    queue.reserve(room)?;
+    Ok(queue)
+}
+
+// Two such queues.
+fn queues(alloc: Global, room: u32) -> Result<List<FinQueue>, NoMemory>
+    ensures { IfOk result (λ queues. (length queues ≡ 2) × ((maker : ℕ) (queue : Shown) → slice_get queues maker ≡ Some queue → room ≤ queue.spare)) }
+{
+    let first = queue(alloc, room)?;
+    let second = queue(alloc, room)?;
+    let mut queues = List::new(alloc);
+    queues.push(first)?;
+    queues.push(second)?;
+    Ok(queues)
+}
+
+#[test]
+fn finalisers_join(rt: HostRuntime) -> Result<(), Fail> {
+    let mut queues = queues(rt.alloc(), 3)?;
+    queue_finalisers(DEATHS.as_slice(), queues.items_mut());
+    let words: [&[u64]; 2] = [[13].as_slice(), [21].as_slice()];
+    for (queue, expected) in queues.items().iter().zip(words.iter()) {
+        assert!(rt; queue.words() == *expected);
+    }
+    Ok(())
+}
+
+// Each law asks nothing.
+#[test]
+fn laws_ask_nothing(rt: HostRuntime) {
+    let _ = &rt;
+    laws::a_cycle_closes();
+    laws::queues_close();
+    laws::the_list_is_left();
+}

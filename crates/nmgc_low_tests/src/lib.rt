@@ -1,0 +1,25 @@
+//! Tests of the world, the machine, scripts, words and segments.
+#![tactic(auto)]
+
+#[cfg(test)]
+mod of_alloc;
+#[cfg(test)]
+mod of_core;
+#[cfg(test)]
+mod of_graph;
+#[cfg(test)]
+mod of_heap;
+#[cfg(test)]
+mod of_io;
+#[cfg(test)]
+mod of_lists;
+#[cfg(test)]
+mod of_object;
+#[cfg(test)]
+mod of_reach;
+#[cfg(test)]
+mod of_script;
+#[cfg(test)]
+mod of_segment;
+#[cfg(test)]
+mod of_updrem;

@@ -1,0 +1,184 @@
+//! Placing, a cycle and a full cycle in a small heap, and a large heap of one-block segments.
+use nmgc_alloc::{Segments, blocks, laws};
+use nmgc_object::{Address, Layout, block_words};
+use nmgc_segment::State;
+use std::process::Abort;
+use std::test::Fail;
+
+// Places an object, and answers where.
+fn place(rt: &impl Abort, segments: &mut Segments, mutator: u8, class: u8) -> u32 {
+    let layout = segments.layout();
+    assert!(rt; mutator < layout.mutators && class <= 20);
+    assert!(rt; block_words(class) <= layout.words);
+    assert!(rt; segments.has_room(mutator, class));
+    segments.allocate(mutator, class).0
+}
+
+// Begins a cycle. No segment may be left to be swept.
+fn begin(rt: &impl Abort, segments: &mut Segments) {
+    let left = segments.sweep_next(1);
+    assert!(rt; left.is_none());
+    segments.prepare();
+}
+
+// Marks the block at a place, and compares the answer.
+fn mark(rt: &impl Abort, segments: &mut Segments, at: u32, epoch: u8, marked: bool) {
+    assert!(rt; 1 <= epoch && epoch <= 2);
+    let found = segments.block_at(Address(at));
+    assert!(rt; found.is_some(), "no block at {at}");
+    if let Some((number, block)) = found {
+        assert!(rt; segments.place_of(number, block) == Address(at));
+    }
+    assert!(rt; segments.mark_at(Address(at), epoch) == marked);
+}
+
+// Compares the numbers of free, filled and sweeping segments, and of freshly filled ones.
+fn counts(rt: &impl Abort, segments: &Segments, free: u32, filled: u32, sweep: u32, fresh: u32) {
+    assert!(rt; segments.free_count() == free);
+    assert!(rt; segments.filled_count() == filled);
+    assert!(rt; segments.sweep_count() == sweep);
+    assert!(rt; segments.fresh() == fresh);
+}
+
+#[test]
+fn a_cycle(rt: HostRuntime) -> Result<(), Fail> {
+    let layout = Layout {
+        segments: 32,
+        words: 64,
+        nursery: 64,
+        mutators: 2,
+    };
+    assert!(rt; layout.words.is_power_of_two());
+    let mut segments = Segments::new(rt.alloc(), layout)?;
+    counts(&rt, &segments, 32, 0, 0, 0);
+    for block in 0..15u32 {
+        assert!(rt; place(&rt, &mut segments, 0, 0) == 32 + 4 * block);
+    }
+    assert!(rt; place(&rt, &mut segments, 1, 0) == 96);
+    assert!(rt; place(&rt, &mut segments, 0, 1) == 160);
+    counts(&rt, &segments, 29, 0, 0, 0);
+    assert!(rt; place(&rt, &mut segments, 0, 0) == 92);
+    counts(&rt, &segments, 29, 1, 0, 1);
+
+    begin(&rt, &mut segments);
+    counts(&rt, &segments, 29, 0, 1, 0);
+    assert!(rt; place(&rt, &mut segments, 0, 0) == 224);
+    for (at, marked) in [(36, true), (36, false), (96, true), (224, false)] {
+        mark(&rt, &mut segments, at, 1, marked);
+    }
+    assert!(rt; segments.block_at(Address(38)).is_none());
+    assert!(rt; segments.block_at(Address(288)).is_none());
+    // Twelve blocks of five words leave four words of their segment over.
+    assert!(rt; segments.block_at(Address(215)) == Some((2, 11)));
+    assert!(rt; segments.block_at(Address(220)).is_none());
+    segments.carry(1);
+    assert!(rt; segments.sweep_next(1) == Some(0));
+    assert!(rt; segments.sweep_next(1) == None);
+    counts(&rt, &segments, 28, 0, 0, 0);
+
+    segments.retire_all();
+    counts(&rt, &segments, 28, 4, 0, 0);
+    begin(&rt, &mut segments);
+    mark(&rt, &mut segments, 36, 2, true);
+    segments.carry(2);
+    for number in 0..4u32 {
+        assert!(rt; segments.sweep_next(2) == Some(number));
+    }
+    counts(&rt, &segments, 31, 0, 0, 0);
+    assert!(rt; 0 < segments.layout().segments);
+    assert!(rt; segments.segment(0).state() == State::Active);
+    for (mutator, at) in [(1, 32), (1, 40), (0, 96)] {
+        assert!(rt; place(&rt, &mut segments, mutator, 0) == at);
+    }
+    Ok(())
+}
+
+// Each placing fills a segment and each sweep frees one, so a search through all segments for each
+// would take minutes, in each of the cycles.
+#[test]
+fn one_block_segments(rt: HostRuntime) -> Result<(), Fail> {
+    let layout = Layout {
+        segments: 65_536,
+        words: 16,
+        nursery: 16,
+        mutators: 1,
+    };
+    assert!(rt; layout.words.is_power_of_two());
+    let mut segments = Segments::new(rt.alloc(), layout)?;
+    for number in 0..65_536u32 {
+        assert!(rt; place(&rt, &mut segments, 0, 12) == 32 + 16 * number);
+    }
+    counts(&rt, &segments, 0, 65_536, 0, 65_536);
+    for _ in 0..16 {
+        begin(&rt, &mut segments);
+        counts(&rt, &segments, 0, 0, 65_536, 0);
+        for number in 0..65_536u32 {
+            assert!(rt; segments.sweep_next(1) == Some(number));
+            assert!(rt; place(&rt, &mut segments, 0, 12) == 32 + 16 * number);
+        }
+        counts(&rt, &segments, 0, 65_536, 0, 65_536);
+    }
+    begin(&rt, &mut segments);
+    for number in 0..65_536u32 {
+        assert!(rt; segments.sweep_next(1) == Some(number));
+    }
+    counts(&rt, &segments, 65_536, 0, 0, 0);
+    Ok(())
+}
+
+// Each sweep frees a segment below the free ones. The first placing after it fills that segment, and the
+// others go on above.
+#[test]
+fn sweeps_and_placings_by_turns(rt: HostRuntime) -> Result<(), Fail> {
+    let layout = Layout {
+        segments: 65_536,
+        words: 16,
+        nursery: 16,
+        mutators: 1,
+    };
+    assert!(rt; layout.words.is_power_of_two());
+    let mut segments = Segments::new(rt.alloc(), layout)?;
+    for number in 0..8_192u32 {
+        assert!(rt; place(&rt, &mut segments, 0, 12) == 32 + 16 * number);
+    }
+    begin(&rt, &mut segments);
+    for number in 0..8_192u32 {
+        assert!(rt; segments.sweep_next(1) == Some(number));
+        assert!(rt; place(&rt, &mut segments, 0, 12) == 32 + 16 * number);
+        for above in 0..6u32 {
+            let next = 8_192 + 6 * number + above;
+            assert!(rt; place(&rt, &mut segments, 0, 12) == 32 + 16 * next);
+        }
+    }
+    counts(&rt, &segments, 8_192, 57_344, 0, 57_344);
+    Ok(())
+}
+
+// Each law asks nothing.
+#[test]
+fn laws_ask_nothing(rt: HostRuntime) {
+    let _ = &rt;
+    laws::blocks_lie_apart();
+    laws::new();
+    laws::one_state();
+    laws::prepare();
+    laws::retire_all();
+    laws::has_room();
+    laws::allocate();
+    laws::sweep_next();
+    laws::carry();
+    laws::mark_at();
+    laws::counts();
+    laws::reserve();
+    laws::one_answer();
+    laws::states_stay();
+    laws::other_words();
+    laws::counts_tell();
+    blocks::lie_in_segments();
+    blocks::begin_where_placed();
+    blocks::in_the_snapshot();
+    blocks::marked();
+    blocks::mark_at();
+    blocks::numbers();
+    blocks::numbers_tell();
+}

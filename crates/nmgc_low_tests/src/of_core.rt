@@ -1,0 +1,3 @@
+//! Tests of nmgc_core.
+mod row_tests;
+mod tests;

@@ -1,0 +1,3 @@
+//! Tests of nmgc_graph.
+mod command_tests;
+mod reach_tests;

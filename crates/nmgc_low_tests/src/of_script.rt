@@ -1,0 +1,409 @@
+//! Scripts, good and bad, as tables.
+use nmgc_script::{Cause, ScriptFault, generate, parse, print, spells_one_script, upgrade};
+use std::alloc::Global;
+use std::process::Abort;
+use std::test::Fail;
+
+// The first three lines of most scripts here.
+const HEAD: &str = "nmgc 1\nheap 32 64 64 100 1000 0\nthread 0\n";
+
+// Each command, in the plain spelling.
+const COMMANDS: &str =
+    "num r1 4611686018427387903\nnil r0\nmov r15 g\ncon r0 255\ncon r0 0 r1 g\nvar r2 r1\narr r3 62 r1\nthunk r4\nthunk r4 r1 r1 r1 r1 r1 r1 r1 g\nweak r5 r4 r3 g\nstack r6 0\nget r7 r3 65535\nset g 15 r1\ncas g 0 r1 r2\nupdate r4 r1\nforce r8 r4\npush r6 r1\npop r9 r6\nderef r10 r5\nfinalise r11 r5\nnextfin r12\nshow g\nsame r1 r2\nyield\ncollect\nfull\n";
+
+// A script of several sections with empty lines and remarks, and its plain spelling.
+const SPACED: &str =
+    "# sections\n\nnmgc 1\n#\nheap 1 16 16 1 1 65536\n\nthread 0\n# nothing\nthread 1\nyield\n\n\nthread 2\n#end";
+
+const PLAIN: &str = "nmgc 1\nheap 1 16 16 1 1 65536\nthread 0\nthread 1\nyield\nthread 2\n";
+
+// Whole texts, with the line and the cause that are told.
+const TEXTS: [(&str, u32, Cause); 34] = [
+    ("", 1, Cause::Version),
+    ("#a\n#b", 3, Cause::Version),
+    ("\n\nnmgc 3\n", 3, Cause::Version),
+    ("nmgc 02\n", 1, Cause::Version),
+    ("nmgc 2", 2, Cause::Heap),
+    ("nmgc 1 \n", 1, Cause::Version),
+    (" nmgc 1\n", 1, Cause::Version),
+    ("nmgc 01\n", 1, Cause::Version),
+    ("nmgc 1\r\n", 1, Cause::Version),
+    ("nmgc 1", 2, Cause::Heap),
+    ("nmgc 1\n# remark\n\n", 4, Cause::Heap),
+    ("nmgc 1\nthread 0\n", 2, Cause::Heap),
+    ("nmgc 1\nheap 32 64 64 100 1000\nthread 0\n", 2, Cause::Heap),
+    (
+        "nmgc 1\nheap 32 64 64 100 1000 0 0\nthread 0\n",
+        2,
+        Cause::Heap,
+    ),
+    (
+        "nmgc 1\nheap  32 64 64 100 1000 0\nthread 0\n",
+        2,
+        Cause::Heap,
+    ),
+    (
+        "nmgc 1\nheap 032 64 64 100 1000 0\nthread 0\n",
+        2,
+        Cause::Heap,
+    ),
+    (
+        "nmgc 1\nheap 32 64 32 100 1000 0\nthread 0\n",
+        2,
+        Cause::Heap,
+    ),
+    (
+        "nmgc 1\nheap 65536 64 64 100 1000 0\nthread 0\n",
+        3,
+        Cause::Total,
+    ),
+    (
+        "nmgc 1\nheap 65536 64 64 100 1000 0\nthread 1\n",
+        3,
+        Cause::Thread,
+    ),
+    ("nmgc 1\nheap 32 64 64 100 1000 0\n", 3, Cause::Thread),
+    ("nmgc 1\n#\nheap 32 64 64 100 1000 0\n\n", 5, Cause::Thread),
+    (
+        "nmgc 1\nheap 32 64 64 100 1000 0\nthread 8\n",
+        3,
+        Cause::Thread,
+    ),
+    (
+        "nmgc 1\nheap 32 64 64 100 1000 0\nthread 00\n",
+        3,
+        Cause::Thread,
+    ),
+    (
+        "nmgc 1\nheap 32 64 64 100 1000 0\nthread\n",
+        3,
+        Cause::Thread,
+    ),
+    (
+        "nmgc 1\nheap 32 64 64 100 1000 0\nthread 0 \n",
+        3,
+        Cause::Thread,
+    ),
+    (
+        "nmgc 1\nheap 32 64 64 100 1000 0\nshow g\n",
+        3,
+        Cause::Thread,
+    ),
+    ("nmgc 1\nheap 32 64 64 100 1000 0\nsho\n", 3, Cause::Thread),
+    (
+        "nmgc 1\nheap 32768 64 2097152 1 1 0\nthread 0\nthread 1\n",
+        4,
+        Cause::Total,
+    ),
+    (
+        "nmgc 1\nheap 32768 64 2097152 1 1 0\nthread 0\nthread 2\n",
+        4,
+        Cause::Thread,
+    ),
+    (
+        "nmgc 1\nheap 32768 64 2097153 1 1 0\nthread 0\n",
+        3,
+        Cause::Total,
+    ),
+    (
+        "nmgc 1\nheap 16384 64 1572865 1 1 0\nthread 0\nyield\nthread 1\n",
+        5,
+        Cause::Total,
+    ),
+    (
+        "nmgc 1\nheap 1 16 4194304 1 1 0\nthread 0\n",
+        3,
+        Cause::Total,
+    ),
+    (
+        "nmgc 1\nheap 1 16 16 1 1 0\nthread 0\ncon r0 0 g g g g g g g g g g g g g g g\n",
+        4,
+        Cause::Size,
+    ),
+    (
+        "nmgc 1\nheap 1 16 16 1 1 0\nthread 0\nthread 1\nthread 2\nthread 3\nthread 4\nthread 5\nthread 6\nthread 7\nthread 8\n",
+        11,
+        Cause::Thread,
+    ),
+];
+
+// Lines under the head, with the cause that is told of line 4.
+const LINES: [(&str, Cause); 58] = [
+    ("sho", Cause::Command),
+    ("sho\n", Cause::Command),
+    ("sho r16 x\n", Cause::Command),
+    (" show g\n", Cause::Command),
+    ("show\tg\n", Cause::Command),
+    ("show g\r\n", Cause::Operand),
+    ("show g\0\n", Cause::Operand),
+    ("SHOW g\n", Cause::Command),
+    ("nmgc 1\n", Cause::Command),
+    ("heap 32 64 64 100 1000 0\n", Cause::Command),
+    ("yield \n", Cause::Arity),
+    ("yield r0\n", Cause::Arity),
+    ("show\n", Cause::Arity),
+    ("show g g\n", Cause::Arity),
+    ("show  g\n", Cause::Arity),
+    ("show g \n", Cause::Arity),
+    ("show x y\n", Cause::Arity),
+    ("con r0\n", Cause::Arity),
+    ("con x\n", Cause::Arity),
+    ("thunk\n", Cause::Arity),
+    ("thunk r0 g g g g g g g g g\n", Cause::Arity),
+    ("thunk x x x x x x x x x x\n", Cause::Arity),
+    ("get r0 g\n", Cause::Arity),
+    ("weak r0 r1 r2\n", Cause::Arity),
+    ("cas g 0 r1\n", Cause::Arity),
+    ("show \n", Cause::Operand),
+    ("show r16\n", Cause::Operand),
+    ("show r01\n", Cause::Operand),
+    ("show r\n", Cause::Operand),
+    ("show G\n", Cause::Operand),
+    ("show é\n", Cause::Operand),
+    ("nil g\n", Cause::Operand),
+    ("num r0 00\n", Cause::Operand),
+    ("num r0 -1\n", Cause::Operand),
+    ("num r0 +1\n", Cause::Operand),
+    ("num r0 4611686018427387904\n", Cause::Operand),
+    ("num r0 9999999999999999999\n", Cause::Operand),
+    ("num r0 18446744073709551616\n", Cause::Operand),
+    (
+        "num r0 0000000000000000000000000000000000000001\n",
+        Cause::Operand,
+    ),
+    (
+        "num r0 9999999999999999999999999999999999999999\n",
+        Cause::Operand,
+    ),
+    ("con r0 256\n", Cause::Operand),
+    ("con r0 1 r1 \n", Cause::Operand),
+    ("con r0 1  r1\n", Cause::Operand),
+    ("thunk r0 \n", Cause::Operand),
+    ("get r0 g 65536\n", Cause::Operand),
+    ("set g 65536 g\n", Cause::Operand),
+    ("cas g 65536 g g\n", Cause::Operand),
+    ("arr r0 65536 r1\n", Cause::Operand),
+    ("arr r16 63 r1\n", Cause::Operand),
+    ("arr r0 63 x\n", Cause::Operand),
+    ("stack r0 65536\n", Cause::Operand),
+    ("arr r0 63 r1\n", Cause::Size),
+    ("arr r0 65535 r1\n", Cause::Size),
+    ("stack r0 63\n", Cause::Size),
+    ("stack r0 63\nsho\n", Cause::Size),
+    ("thread 2\n", Cause::Thread),
+    ("thread 0\n", Cause::Thread),
+    ("thread 1 \n", Cause::Thread),
+];
+
+// Heap lines, with whether they are accepted.
+const HEAPS: [(&str, bool); 22] = [
+    ("1 16 16 1 1 0", true),
+    ("65536 16 16 1 1 0", true),
+    ("1 4096 4096 65536 1048576 65536", true),
+    ("32768 64 2097152 1 1 0", true),
+    ("0 16 16 1 1 0", false),
+    ("65537 16 16 1 1 0", false),
+    ("1 8 16 1 1 0", false),
+    ("1 24 64 1 1 0", false),
+    ("1 2048 2048 1 1 0", true),
+    ("1 2047 4096 1 1 0", false),
+    ("1 8192 8192 1 1 0", false),
+    ("1 16 15 1 1 0", false),
+    ("1 4096 4095 1 1 0", false),
+    ("1 16 4194305 1 1 0", false),
+    ("1 16 16 0 1 0", false),
+    ("1 16 16 65537 1 0", false),
+    ("1 16 16 1 0 0", false),
+    ("1 16 16 1 1048577 0", false),
+    ("1 16 16 1 1 65537", false),
+    ("1 16 16 1 1 0 ", false),
+    ("1 16 16 1 1 00", false),
+    ("1 16 16 1 1 g", false),
+];
+
+// How many bytes of a small script are read, and what is told then.
+const CUT: &str = "nmgc 1\nheap 32 64 64 100 1000 0\nthread 0\nshow g\n";
+
+const CUTS: [(usize, usize, Option<(u32, Cause)>); 8] = [
+    (0, 6, Some((1, Cause::Version))),
+    (6, 31, Some((2, Cause::Heap))),
+    (31, 40, Some((3, Cause::Thread))),
+    (40, 42, None),
+    (42, 45, Some((4, Cause::Command))),
+    (45, 46, Some((4, Cause::Arity))),
+    (46, 47, Some((4, Cause::Operand))),
+    (47, 49, None),
+];
+
+// What is told of a text: the first bad line and its cause.
+fn told(rt: &impl Abort, alloc: Global, bytes: &[u8]) -> Option<(u32, Cause)> {
+    assert!(rt; bytes.len() <= 2147483648);
+    match parse(alloc, bytes) {
+        Ok(_) => None,
+        Err(ScriptFault::Bad { line, cause }) => Some((line, cause)),
+        Err(ScriptFault::NoMemory) => Some((0, Cause::Version)),
+    }
+}
+
+// A text of two parts.
+fn joined(alloc: Global, front: &str, back: &str) -> Result<String, Fail> {
+    let mut text = String::from_str(alloc, front)?;
+    text.push_str(back)?;
+    Ok(text)
+}
+
+#[test]
+fn tells_the_first_bad_line(rt: HostRuntime) -> Result<(), Fail> {
+    for (text, line, cause) in &TEXTS {
+        assert!(rt; told(&rt, rt.alloc(), text.as_bytes()) == Some((*line, *cause)));
+    }
+    for (line, cause) in &LINES {
+        let text = joined(rt.alloc(), HEAD, line)?;
+        assert!(rt; told(&rt, rt.alloc(), text.as_bytes()) == Some((4, *cause)));
+    }
+    assert!(rt; told(&rt, rt.alloc(), b"nmgc 1\n\xff\n") == Some((2, Cause::Heap)));
+    assert!(rt; told(
+            &rt,
+            rt.alloc(),
+            b"nmgc 1\nheap 32 64 64 100 1000 0\nthread 0\nshow \xc3\n"
+        ) == Some((4, Cause::Operand)));
+    Ok(())
+}
+
+#[test]
+fn keeps_the_limits_of_a_heap(rt: HostRuntime) -> Result<(), Fail> {
+    for (numbers, accepted) in &HEAPS {
+        let front = joined(rt.alloc(), "nmgc 1\nheap ", numbers)?;
+        let text = joined(rt.alloc(), front.as_str(), "\nthread 0\n")?;
+        let want = if *accepted {
+            None
+        } else {
+            Some((2, Cause::Heap))
+        };
+        assert!(rt; told(&rt, rt.alloc(), text.as_bytes()) == want);
+    }
+    Ok(())
+}
+
+#[test]
+fn tells_where_a_cut_text_ends(rt: HostRuntime) -> Result<(), Fail> {
+    for (from, to, want) in &CUTS {
+        for count in *from..*to {
+            let bytes = CUT.as_bytes();
+            assert!(rt; count <= bytes.len());
+            assert!(rt; told(&rt, rt.alloc(), &bytes[..count]) == *want);
+        }
+    }
+    Ok(())
+}
+
+// What a text is printed as.
+fn reprinted(rt: &impl Abort, alloc: Global, text: &str) -> Result<Vec<u8>, Fail> {
+    assert!(rt; text.len() <= 2147483648);
+    spells_one_script(text.as_bytes());
+    let script = parse(alloc, text.as_bytes())?;
+    Ok(print(alloc, &script)?)
+}
+
+#[test]
+fn prints_what_it_reads_back(rt: HostRuntime) -> Result<(), Fail> {
+    let all = joined(rt.alloc(), HEAD, COMMANDS)?;
+    let same = reprinted(&rt, rt.alloc(), all.as_str())?;
+    assert!(rt; same.as_slice() == all.as_bytes());
+    let plain = reprinted(&rt, rt.alloc(), SPACED)?;
+    assert!(rt; plain.as_slice() == PLAIN.as_bytes());
+    Ok(())
+}
+
+// A script of version 2 whose commands name registers that version 1 can't name.
+const SECOND: &str =
+    "nmgc 2\nheap 32 64 64 100 1000 0\nthread 0\nnum r63 5\ncon r40 0 r63\nget r41 r40 0\n";
+
+// Sections of no commands, after the line of a version and the heap line.
+fn sections(alloc: Global, version: u32, count: u32) -> Result<String, Fail> {
+    let mut text = format!(in alloc; "nmgc {version}\nheap 1 16 16 1 1 0\n")?;
+    for thread in 0..count {
+        text.push_str(format!(in alloc; "thread {thread}\n")?.as_str())?;
+    }
+    Ok(text)
+}
+
+#[test]
+fn reads_the_second_version(rt: HostRuntime) -> Result<(), Fail> {
+    let same = reprinted(&rt, rt.alloc(), SECOND)?;
+    assert!(rt; same.as_slice() == SECOND.as_bytes());
+    let large = joined(rt.alloc(), SECOND, "num r64 5\n")?;
+    assert!(rt; told(&rt, rt.alloc(), large.as_bytes()) == Some((7, Cause::Operand)));
+    for (version, most) in [(1u32, 8u32), (2, 32)] {
+        let few = sections(rt.alloc(), version, most)?;
+        assert!(rt; told(&rt, rt.alloc(), few.as_bytes()) == None);
+        let many = sections(rt.alloc(), version, most + 1)?;
+        assert!(rt; told(&rt, rt.alloc(), many.as_bytes()) == Some((most + 3, Cause::Thread)));
+    }
+    Ok(())
+}
+
+#[test]
+fn upgrades_to_the_second_version(rt: HostRuntime) -> Result<(), Fail> {
+    let script = upgrade(parse(rt.alloc(), PLAIN.as_bytes())?);
+    let text = print(rt.alloc(), &script)?;
+    let want = joined(
+        rt.alloc(),
+        "nmgc 2\n",
+        "heap 1 16 16 1 1 65536\nthread 0\nthread 1\nyield\nthread 2\n",
+    )?;
+    assert!(rt; text.as_slice() == want.as_bytes());
+    Ok(())
+}
+
+#[test]
+fn reads_the_numbers_of_a_heap(rt: HostRuntime) -> Result<(), Fail> {
+    let text = "nmgc 1\nheap 32 64 128 100 1000 7\nthread 0\nyield\nthread 1\n";
+    let script = parse(rt.alloc(), text.as_bytes())?;
+    assert!(rt; script.version == 1);
+    assert!(rt; script.config.segments == 32);
+    assert!(rt; script.config.words == 64);
+    assert!(rt; script.config.nursery == 128);
+    assert!(rt; script.config.slice == 100);
+    assert!(rt; script.config.quota == 1000);
+    assert!(rt; script.config.trigger == 7);
+    assert!(rt; script.threads.items().len() == 2);
+    Ok(())
+}
+
+// The bench's script with so many batches, line by line.
+fn bench_text(alloc: Global, batches: u32) -> Result<String, Fail> {
+    let mut text = String::from_str(alloc, "nmgc 1\nheap 128 4096 4096 4096 1048576 8\n")?;
+    for mutator in 0..4u32 {
+        text.push_str(format!(in alloc; "thread {mutator}\n")?.as_str())?;
+        for _batch in 0..batches {
+            text.push_str("nil r0\n")?;
+            for _cell in 0..1024 {
+                text.push_str("con r0 0 r0 r1\n")?;
+            }
+            text.push_str(format!(in alloc; "set g {mutator} r0\n")?.as_str())?;
+        }
+    }
+    Ok(text)
+}
+
+#[test]
+fn generates_the_bench(rt: HostRuntime) -> Result<(), Fail> {
+    for batches in [1u32, 3] {
+        let script = generate(rt.alloc(), batches)?;
+        let want = bench_text(rt.alloc(), batches)?;
+        assert!(rt; print(rt.alloc(), &script)?.as_slice() == want.as_bytes());
+    }
+    Ok(())
+}
+
+#[test]
+fn speaks_of_a_fault(rt: HostRuntime) -> Result<(), Fail> {
+    let fault = ScriptFault::Bad {
+        line: 4,
+        cause: Cause::Arity,
+    };
+    let text = format!(in rt.alloc(); "{fault}")?;
+    assert!(rt; text.as_str() == "bad line 4 arity");
+    Ok(())
+}

@@ -1,0 +1,140 @@
+//! Entries come out in the order of their pushes, and blocks go through a ring.
+ghost use Rattle.std.specs.Prelude.{◌≡◌, ◌+◌, ◌<◌, ◌≤◌};
+ghost use Rattle.nmgc_updrem.specs.Rings.{IsPair};
+
+use nmgc_updrem::*;
+use nmgc_graph::NoMemory;
+use nmgc_object::Address;
+use std::alloc::Global;
+use std::test::Fail;
+use std::thread;
+use std::thread::Threads;
+
+#[test]
+fn pushes_come_out_in_order(rt: HostRuntime) -> Result<(), Fail> {
+    let mut entries = UpdRem::new(rt.alloc());
+    assert!(rt; entries.entries() == [].as_slice());
+    entries.reserve(3)?;
+    entries.push(Address(36));
+    entries.push(Address(32));
+    entries.push(Address(36));
+    assert!(rt; entries.entries() == [Address(36), Address(32), Address(36)].as_slice());
+    entries.clear();
+    assert!(rt; entries.entries() == [].as_slice());
+    entries.push(Address(40));
+    assert!(rt; entries.entries() == [Address(40)].as_slice());
+    Ok(())
+}
+
+// Pushes the places from one number on, and tries a flush at each full block.
+fn push_all(kept: &mut UpdRem, sender: &mut UpdSender, from: u32, count: u32)
+    requires room { count ≤ kept.old.spare }
+    requires fits { from + count < 4294967296 }
+    ensures { sender.new.ring ≡ sender.old.ring }
+{
+    for number in from..from + count {
+        kept.push(Address(number));
+        if kept.has_block() {
+            let _ = kept.flush(sender);
+        }
+    }
+}
+
+// The number behind these places, which have to be those from one number on, or 0.
+fn counted(places: &[Address], from: u32) -> u32 {
+    let mut next = from;
+    for place in places {
+        if place.0 != next {
+            return 0;
+        }
+        next = next.wrapping_add(1);
+    }
+    next
+}
+
+// The number behind the places in the ring, which have to be those from one number on.
+fn rest(receiver: &mut UpdReceiver, sender: &mut UpdSender, from: u32) -> u32
+    requires { IsPair sender.old receiver.old }
+    ensures { IsPair sender.new receiver.new }
+{
+    let mut next = from;
+    for _turn in 0..100u32 {
+        match receiver.take_rest(sender) {
+            Some(block) => next = counted(block.entries(), next),
+            None => return next,
+        }
+    }
+    next
+}
+
+// Row R12.2.
+#[test]
+fn a_full_ring_keeps_what_is_pushed(rt: HostRuntime) -> Result<(), Fail> {
+    let (mut sender, mut receiver) = link(rt.alloc())?;
+    let mut kept = UpdRem::new(rt.alloc());
+    kept.reserve(4200)?;
+    push_all(&mut kept, &mut sender, 0, 4200);
+    assert!(rt; counted(kept.entries(), 4096) == 4200);
+    assert!(rt; receiver.poll() == Polled::NoRoom);
+    receiver.reserve(64)?;
+    assert!(rt; receiver.poll() == Polled::Took);
+    assert!(rt; counted(receiver.entries(), 0) == 64);
+    assert!(rt; receiver.poll() == Polled::NoRoom);
+    assert!(rt; kept.has_block());
+    if kept.has_block() {
+        assert!(rt; kept.flush(&mut sender));
+    }
+    assert!(rt; counted(kept.entries(), 4160) == 4200);
+    assert!(rt; rest(&mut receiver, &mut sender, 64) == 4160);
+    receiver.clear();
+    assert!(rt; receiver.poll() == Polled::Nothing);
+    assert!(rt; receiver.entries() == [].as_slice());
+    Ok(())
+}
+
+// Polls often.
+fn poll_all(receiver: &mut UpdReceiver)
+    ensures { receiver.new.ring ≡ receiver.old.ring }
+{
+    for _turn in 0..100_000u32 {
+        let _ = receiver.poll();
+    }
+}
+
+// Beside a mutator that pushes the collector takes; the places are then in order: taken, in the ring, kept.
+fn beside<R: Threads + Sync>(rt: &R, alloc: Global) -> Result<u32, NoMemory> {
+    let (sender, mut receiver) = link(alloc)?;
+    let mut kept = UpdRem::new(alloc);
+    kept.reserve(20_000)?;
+    receiver.reserve(20_032)?;
+    let ((kept, mut sender), mut receiver) = thread::join(
+        rt,
+        move || -> (UpdRem, UpdSender)
+            requires { 20000 ≤ kept.spare }
+            ensures { result.1.ring ≡ sender.ring }
+        {
+            let mut kept = kept;
+            let mut sender = sender;
+            push_all(&mut kept, &mut sender, 0, 20_000);
+            (kept, sender)
+        },
+        move || -> UpdReceiver
+            ensures { result.ring ≡ receiver.ring }
+        {
+            let mut receiver = receiver;
+            poll_all(&mut receiver);
+            receiver
+        },
+    );
+    let taken = counted(receiver.entries(), 0);
+    let sent = rest(&mut receiver, &mut sender, taken);
+    Ok(counted(kept.entries(), sent))
+}
+
+#[test]
+fn nothing_is_lost_beside_a_mutator(rt: HostRuntime) -> Result<(), Fail> {
+    for _turn in 0..20u32 {
+        assert!(rt; beside(&rt, rt.alloc())? == 20_000);
+    }
+    Ok(())
+}

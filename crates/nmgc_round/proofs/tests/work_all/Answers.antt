@@ -1,7 +1,0 @@
-use Rattle.std.proofs.Common.{subst}
-use Rattle.nmgc_round.specs.Seat.{RoundSeat, IsAt, seen}
-use Rattle.nmgc_round.specs.Ready.{HasPart}
-use Rattle.nmgc_round.proofs.tests.work_all.Goals as goal
-
-pub returns-clause-seats : goal.returns-clause-seats
-returns-clause-seats g c = λ k d lt. let t = (c.for_each_mut.ensures k d lt).1 in subst (λ (s : RoundSeat). IsAt c.args.round.now s × HasPart (seen s) k) t.left t.call

@@ -1,0 +1,176 @@
+//! Images of what a run left, and paths in them.
+use super::running::{HEAD, ONE_OBJECT, Run, all_words, listed, script_of};
+use nmgc_cli::{Status, nmgc};
+use nmgc_io::{MemorySink, MemorySource};
+use std::alloc::Global;
+use std::process::Abort;
+use std::test::Fail;
+use std::thread::Threads;
+
+// The node line of the shared array with nothing in it, and the last line.
+const LAST_LINES: &str =
+    "node g arr nil nil nil nil nil nil nil nil nil nil nil nil nil nil nil nil\nend\n";
+
+// A finaliser that holds its key: the weak pointer dies, and nothing refers to it.
+const FINALISER: &str =
+    "num r1 5\ncon r4 0 r1\ncon r5 0 r4\nweak r6 r4 r10 r5\nnil r4\nnil r5\nnil r6\ncollect\nyield\nnextfin r7\nget r8 r7 0\nnextfin r9\n";
+
+// Programs under the head, and the image of what each leaves but for its last lines.
+const IMAGES: [(&str, &str); 2] = [
+    (
+        ONE_OBJECT,
+        "image 1 1
+mutator 0 serial 1
+register 0 0.0
+register 1 5
+register 2 5
+node 0.0 con 7 5
+",
+    ),
+    (
+        FINALISER,
+        "image 1 1
+mutator 0 serial 3
+register 1 5
+register 7 0.1
+register 8 0.0
+node 0.0 con 0 5
+node 0.1 con 0 0.0
+",
+    ),
+];
+
+// A list of sixteen objects, two of which a cycle came between.
+const CHAIN: &str =
+    "con r0 0 r0 r1\ncon r0 0 r0 r1\ncon r0 0 r0 r1\ncon r0 0 r0 r1\ncon r0 0 r0 r1\ncon r0 0 r0 r1\ncon r0 0 r0 r1\ncon r0 0 r0 r1\ncon r0 0 r0 r1\ncon r0 0 r0 r1\ncon r0 0 r0 r1\ncon r0 0 r0 r1\ncon r0 0 r0 r1\ncon r0 0 r0 r1\ncon r0 0 r0 r1\ncollect\ncon r0 0 r0 r1\ncollect\n";
+
+// Programs, a name in the image of what each leaves, and the path to it.
+const PATHS: [(&str, &str, &str); 3] = [
+    (
+        CHAIN,
+        "0.13",
+        "root register 0 0
+object 0.15
+field 0
+object 0.14
+field 0
+object 0.13
+end
+",
+    ),
+    (CHAIN, "0.99", "none\n"),
+    (
+        FINALISER,
+        "0.0",
+        "root register 0 8
+object 0.0
+end
+",
+    ),
+];
+
+// Images that are none, with the first bad line.
+const BAD: [(&str, &str); 4] = [
+    ("", "bad image line 1\n"),
+    (
+        "image 1 1\nmutator 0 serial 1\nregister 0 0.0\nregister 1 5\nregister 2 5\nnode g arr nil nil nil nil nil nil nil nil nil nil nil nil nil nil nil nil\nend\n",
+        "bad image line 3\n",
+    ),
+    ("image 1 1\nmutator 0 serial 0\nend\n", "bad image line 3\n"),
+    ("image 1 1\nmutator 0 serial 0", "bad image line 2\n"),
+];
+
+// Does what the words ask for, over these bytes, where the read and the write of these numbers fail.
+fn run_words<R: Threads + Sync>(
+    rt: &R,
+    alloc: Global,
+    words: &[&str],
+    bytes: &[u8],
+    read: u64,
+    write: u64,
+) -> Result<Run, Fail> {
+    let bytes = Vec::from_slice(alloc, bytes)?;
+    let mut source = MemorySource::new(bytes, 50, listed(alloc, read)?);
+    let mut sink = MemorySink::new(alloc, 50, listed(alloc, write)?, 2000)?;
+    let words = all_words(alloc, words)?;
+    let ended = nmgc(alloc, rt, &words, &mut source, &mut sink);
+    Ok(Run { ended, sink })
+}
+
+// Looks whether each program leaves this image.
+fn check_images<R: Threads + Sync + Abort>(
+    rt: &R,
+    alloc: Global,
+    rows: &[(&str, &str)],
+) -> Result<(), Fail> {
+    for (program, front) in rows {
+        let script = script_of(alloc, program)?;
+        let run = run_words(rt, alloc, &["image"], &script, 0, 0)?;
+        let mut text = Vec::from_slice(alloc, front.as_bytes())?;
+        text.extend_from_slice(LAST_LINES.as_bytes())?;
+        assert!(rt; run.ended.status == Status::Done);
+        assert!(rt; run.ended.report.is_some());
+        assert!(rt; run.sink.bytes() == text.as_slice());
+    }
+    Ok(())
+}
+
+#[test]
+fn images_are_written(rt: HostRuntime) -> Result<(), Fail> {
+    check_images(&rt, rt.alloc(), &IMAGES)
+}
+
+// Looks whether the path to each name is found in the image of what each program leaves.
+fn check_paths<R: Threads + Sync + Abort>(
+    rt: &R,
+    alloc: Global,
+    rows: &[(&str, &str, &str)],
+) -> Result<(), Fail> {
+    for (program, name, text) in rows {
+        let script = script_of(alloc, program)?;
+        let image = run_words(rt, alloc, &["image"], &script, 0, 0)?;
+        let run = run_words(rt, alloc, &["retain", name], image.sink.bytes(), 0, 0)?;
+        assert!(rt; run.ended.status == Status::Done);
+        assert!(rt; run.ended.report.is_none());
+        assert!(rt; run.sink.bytes() == text.as_bytes());
+    }
+    Ok(())
+}
+
+#[test]
+fn paths_are_found(rt: HostRuntime) -> Result<(), Fail> {
+    check_paths(&rt, rt.alloc(), &PATHS)
+}
+
+// Looks whether each of these is told to be no image.
+fn check_bad<R: Threads + Sync + Abort>(
+    rt: &R,
+    alloc: Global,
+    rows: &[(&str, &str)],
+) -> Result<(), Fail> {
+    for (bytes, text) in rows {
+        let run = run_words(rt, alloc, &["retain", "g"], bytes.as_bytes(), 0, 0)?;
+        assert!(rt; run.ended.status == Status::BadImage);
+        assert!(rt; run.sink.bytes() == text.as_bytes());
+    }
+    Ok(())
+}
+
+#[test]
+fn other_bytes_are_no_image(rt: HostRuntime) -> Result<(), Fail> {
+    check_bad(&rt, rt.alloc(), &BAD)
+}
+
+#[test]
+fn faults_are_told(rt: HostRuntime) -> Result<(), Fail> {
+    let read = run_words(&rt, rt.alloc(), &["retain", "g"], HEAD.as_bytes(), 1, 0)?;
+    assert!(rt; read.ended.status == Status::ReadFault);
+    let script = script_of(rt.alloc(), ONE_OBJECT)?;
+    let write = run_words(&rt, rt.alloc(), &["image"], &script, 0, 2)?;
+    assert!(rt; write.ended.status == Status::WriteFault);
+    assert!(rt; write.ended.report.is_some());
+    let bad = run_words(&rt, rt.alloc(), &["image"], b"nmgc 1\n", 0, 0)?;
+    assert!(rt; bad.ended.status == Status::BadScript);
+    assert!(rt; bad.ended.report.is_none());
+    Ok(())
+}

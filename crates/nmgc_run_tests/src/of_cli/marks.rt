@@ -1,0 +1,195 @@
+//! What several markers mark of the heaps that runs leave.
+//!
+//! The gate of the last test gives up after many turns of its spin, and notes it, so markers on one thread fail the test
+//! and don't hang.
+ghost use Rattle.std.specs.Prelude.{◌≤◌, length, IfOk};
+ghost use Rattle.nmgc_cli.specs.Runs.{IsOfScript};
+ghost use Rattle.nmgc_limits.specs.Limits.{most_script_bytes};
+
+use super::running::{HEAD, Run, USAGE, all_words, listed};
+use nmgc_cli::answer::Refusal;
+use nmgc_cli::marks::claims_of;
+use nmgc_cli::run::run_bytes;
+use nmgc_cli::{Status, nmgc};
+use nmgc_io::{MemorySink, MemorySource};
+use nmgc_journal::Report;
+use nmgc_limits::MAX_SCRIPT_BYTES;
+use nmgc_round::Gate;
+use std::alloc::{AllocError, Global};
+use std::process::Abort;
+use std::sync::atomic::{AtomicU64, Ordering};
+use std::test::Fail;
+use std::thread::Threads;
+
+// What is reached of three chains of sixteen: the first was let go of, and the last object of the second.
+const CHAINS_REACHED: &str = "reached 31
+0.16
+0.17
+0.18
+0.19
+0.20
+0.21
+0.22
+0.23
+0.24
+0.25
+0.26
+0.27
+0.28
+0.29
+0.30
+0.32
+0.33
+0.34
+0.35
+0.36
+0.37
+0.38
+0.39
+0.40
+0.41
+0.42
+0.43
+0.44
+0.45
+0.46
+0.47
+end done
+";
+
+// A script of three chains of sixteen objects, of which the first and the last object of the second are dropped.
+fn chains(alloc: Global) -> Result<Vec<u8>, AllocError> {
+    let mut script = Vec::from_slice(alloc, b"nmgc 1\nheap 32 64 256 100 1000 0\nthread 0\n")?;
+    for line in ["con r0 0 r0 r1\n", "con r2 0 r2 r1\n", "con r3 0 r3 r1\n"] {
+        for _ in 0..16u8 {
+            script.extend_from_slice(line.as_bytes())?;
+        }
+    }
+    script.extend_from_slice(b"yield\nnil r0\nget r2 r2 0\ncollect\n")?;
+    Ok(script)
+}
+
+// Marks by so many markers what a script leaves, which is read in pieces of 5 bytes.
+fn run_marks<R: Threads + Sync>(
+    rt: &R,
+    alloc: Global,
+    markers: &str,
+    script: &[u8],
+) -> Result<Run, Fail> {
+    let mut source = MemorySource::new(Vec::from_slice(alloc, script)?, 5, Vec::new(alloc));
+    let mut sink = MemorySink::new(alloc, 5, Vec::new(alloc), 1000)?;
+    let words = all_words(alloc, &["marks", markers])?;
+    let ended = nmgc(alloc, rt, &words, &mut source, &mut sink);
+    Ok(Run { ended, sink })
+}
+
+// Looks whether so many markers mark this of what the script leaves.
+fn check_marks<R: Threads + Sync + Abort>(
+    rt: &R,
+    alloc: Global,
+    script: &[u8],
+    reached: &str,
+) -> Result<(), Fail> {
+    for (markers, first) in [
+        ("1", "marks 1\n"),
+        ("2", "marks 2\n"),
+        ("4", "marks 4\n"),
+        ("8", "marks 8\n"),
+    ] {
+        let run = run_marks(rt, alloc, markers, script)?;
+        let mut text = Vec::from_slice(alloc, first.as_bytes())?;
+        text.extend_from_slice(reached.as_bytes())?;
+        assert!(rt; run.ended.status == Status::Done);
+        assert!(rt; run.sink.bytes() == text.as_slice());
+        assert!(rt; run.ended.report.is_some());
+    }
+    Ok(())
+}
+
+#[test]
+fn what_is_reached_is_told(rt: HostRuntime) -> Result<(), Fail> {
+    let script = chains(rt.alloc())?;
+    check_marks(&rt, rt.alloc(), &script, CHAINS_REACHED)?;
+    check_marks(&rt, rt.alloc(), HEAD.as_bytes(), "reached 0\nend done\n")
+}
+
+#[test]
+fn other_numbers_of_markers_are_wrong_words(rt: HostRuntime) -> Result<(), Fail> {
+    for markers in ["0", "9", "04", "", "four"] {
+        let run = run_marks(&rt, rt.alloc(), markers, HEAD.as_bytes())?;
+        assert!(rt; run.ended.status == Status::Usage);
+        assert!(rt; run.sink.bytes() == USAGE.as_bytes());
+        assert!(rt; run.ended.report.is_none());
+    }
+    Ok(())
+}
+
+#[test]
+fn a_failing_source_is_told(rt: HostRuntime) -> Result<(), Fail> {
+    let alloc = rt.alloc();
+    let script = chains(alloc)?;
+    let mut source = MemorySource::new(script, 5, listed(alloc, 2)?);
+    let mut sink = MemorySink::new(alloc, 5, Vec::new(alloc), 1000)?;
+    let words = all_words(alloc, &["marks", "2"])?;
+    let ended = nmgc(alloc, &rt, &words, &mut source, &mut sink);
+    assert!(rt; ended.status == Status::ReadFault);
+    assert!(rt; ended.report.is_none());
+    Ok(())
+}
+
+// The report of a script's bytes.
+#[tactic(auto, using(nmgc_cli::proofs::Telling::of_bytes))]
+fn report_of<R: Threads + Sync>(alloc: Global, rt: &R, bytes: &[u8]) -> Result<Report, Refusal>
+    requires { length bytes.now ≤ most_script_bytes }
+    ensures { IfOk result IsOfScript }
+{
+    run_bytes(alloc, rt, bytes)
+}
+
+// The first object of each of two markers waits for that of the other.
+#[derive(Drop)]
+struct Meet {
+    reached: [AtomicU64; 2],
+    given_up: AtomicU64,
+}
+
+impl Gate for Meet {
+    fn pass(&self, who: u8, turn: u64) {
+        let own = if who == 0 { 0 } else { 1 };
+        self.reached[own].store(turn, Ordering::SeqCst);
+        if turn != 1 {
+            return;
+        }
+        for _ in 0..200_000_000u32 {
+            if self.reached[1 - own].load(Ordering::SeqCst) >= 1 {
+                return;
+            }
+        }
+        self.given_up.store(1, Ordering::SeqCst);
+    }
+}
+
+#[test]
+fn two_markers_mark_beside_each_other(rt: HostRuntime) -> Result<(), Fail> {
+    let alloc = rt.alloc();
+    let script = chains(alloc)?;
+    if script.len() > MAX_SCRIPT_BYTES {
+        panic!(rt; "too long");
+    }
+    let Ok(report) = report_of(alloc, &rt, &script) else {
+        panic!(rt; "no report");
+    };
+    let meet = Meet {
+        reached: [AtomicU64::new(0), AtomicU64::new(0)],
+        given_up: AtomicU64::new(0),
+    };
+    let claims = claims_of(alloc, &rt, 2, &report, &meet)?;
+    assert!(rt; meet.given_up.load(Ordering::SeqCst) == 0);
+    let mut all = 0;
+    for own in claims.by.items() {
+        assert!(rt; !own.items().is_empty());
+        all = own.items().len().saturating_add(all);
+    }
+    assert!(rt; all == 31);
+    Ok(())
+}

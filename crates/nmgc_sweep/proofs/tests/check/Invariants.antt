@@ -1,9 +1,0 @@
-use Rattle.nmgc_sweep.specs.Names.{HaveEntries}
-use Rattle.nmgc_sweep.specs.Sweeper.{AreLeft}
-use Rattle.nmgc_sweep.proofs.tests.check.Given as goal
-
-abbrev pub invariant-loop-name : goal.invariant-loop-name
-invariant-loop-name g l = HaveEntries l.segments.layout l.names
-
-abbrev pub invariant-loop-turn : goal.invariant-loop-turn
-invariant-loop-turn g l = AreLeft l.segments l.sweeper × HaveEntries l.segments.layout l.names-inside.entries.items
