@@ -2,7 +2,7 @@
 use Rattle.std.proofs.Common.{ℕ, ◌≡◌, List, [], ◌++◌, length, Bool, false, refl, sym, ap, subst, ◌∙◌, inl, inr, arith, append-nil, append_assoc}
 use Rattle.std.specs.Prelude.{◌≤◌, ◌&&◌, nat_lt, All, IsSome}
 use Rattle.nmgc_alloc.specs.Segments.{Segments, HasNone, IsSegments}
-use Rattle.nmgc_graph.specs.declared.value.TheConstants.{MAKERS}
+use Rattle.nmgc_limits.specs.declared.mutators.TheConstants.{MAKERS}
 use Rattle.nmgc_object.specs.declared.layout.TheConstants.{FIRST_PLACE}
 use Rattle.nmgc_alloc.specs.Reserve as reserve
 use Rattle.nmgc_alloc.specs.declared.search.Sought.TheVariants as sought

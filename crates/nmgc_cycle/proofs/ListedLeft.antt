@@ -2,7 +2,7 @@
 use Rattle.std.proofs.Common.{◌≡◌, List, ◌∷◌, inl, inr, ap, refl, subst, sym, arith}
 use Rattle.std.specs.Prelude.{Contains, IsSome}
 use Rattle.nmgc_graph.specs.declared.value.Name.{Name}
-use Rattle.nmgc_graph.specs.declared.value.TheConstants.{SHARED_MAKER}
+use Rattle.nmgc_limits.specs.declared.mutators.TheConstants.{SHARED_MAKER}
 use Rattle.nmgc_graph.specs.World.{World, IsWorld}
 use Rattle.nmgc_graph.specs.Reach.{IsAliveWeak, start}
 use Rattle.nmgc_graph.specs.Step.{shared_name}

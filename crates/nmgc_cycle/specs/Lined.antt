@@ -1,6 +1,6 @@
 -- The collector's ends of the mutators' rings: what they received is what the mutators sent.
 use Rattle.std.specs.Prelude.{ℕ, ◌≡◌, ◌<◌, ◌≤◌, ◌++◌, List, [], length, slice_get, Some}
-use Rattle.nmgc_graph.specs.declared.value.TheConstants.{MAKERS}
+use Rattle.nmgc_limits.specs.declared.mutators.TheConstants.{MAKERS}
 use Rattle.nmgc_mutator.specs.declared.mutator.Mutator.{Mutator}
 use Rattle.nmgc_mutator.specs.Does.{remembered}
 use Rattle.nmgc_mutator.specs.Records.{numbers}

@@ -1,7 +1,7 @@
 -- What a promotion takes off the mutators, and what they get back.
 use Rattle.std.specs.Prelude.{ℕ, ◌≡◌, ◌+◌, ◌*◌, List, [], map, length, slice_get, slice_range, slice_index_or, Some}
 use Rattle.std.specs.List.{flat_map}
-use Rattle.nmgc_graph.specs.declared.value.TheConstants.{REGISTERS}
+use Rattle.nmgc_limits.specs.declared.mutators.TheConstants.{REGISTERS}
 use Rattle.nmgc_lists.specs.Room.{Room}
 use Rattle.nmgc_object.specs.FinQueue.{FinQueue}
 use Rattle.nmgc_object.specs.declared.words.Address.{Address}

@@ -15,7 +15,7 @@
 //! Easy to get wrong: what is left of a program is what no round answered, and a command that waits for room in
 //! the nursery was not answered.
 ghost use Rattle.std.specs.Prelude.{◌≡◌, ℕ, ◌+◌, ◌<◌, ◌≤◌, ◌⊎◌, [], length, map, slice_get, slice_index, vec_len, vec_capacity, Some, IfOk};
-ghost use Rattle.nmgc_graph.specs.declared.value.TheConstants.{SHARED_SLOTS};
+ghost use Rattle.nmgc_limits.specs.declared.mutators.TheConstants.{SHARED_SLOTS};
 ghost use Rattle.nmgc_object.specs.declared.layout.TheConstants.{SHARED_PLACE};
 ghost use Rattle.nmgc_object.specs.declared.size.TheConstants.{HEADER_WORDS};
 ghost use Rattle.nmgc_object.specs.Places.{IsLayout};

@@ -11,7 +11,7 @@
 //! goes on, and before it is asked whether the cycle is to be closed. The closing itself goes by what the last work
 //! answered: what was just added is scanned by the closing.
 ghost use Rattle.std.specs.Prelude.{ℕ, ◌≡◌, ◌↔◌, ◌+◌, ◌*◌, ◌<◌, ◌≤◌, ◌^◌, All, IfOk, IfSome, IfNone, OnOk, IsSome, IsTrue, Some, length, slice_get};
-ghost use Rattle.nmgc_graph.specs.declared.value.TheConstants.{MAKERS};
+ghost use Rattle.nmgc_limits.specs.declared.mutators.TheConstants.{MAKERS};
 ghost use Rattle.nmgc_object.specs.declared.layout.TheConstants.{FIRST_PLACE};
 ghost use Rattle.nmgc_alloc.specs.Segments.{IsSegments};
 ghost use Rattle.nmgc_run.specs.Marker.{HasRoomToMark};

@@ -1,6 +1,6 @@
 //! The roots of the mutators: what a promotion takes off them, and what they get back.
 ghost use Rattle.std.specs.Prelude.{◌≡◌, ◌*◌, ◌≤◌, All, length, map, IfOk, OnOk};
-ghost use Rattle.nmgc_graph.specs.declared.value.TheConstants.{MAKERS, REGISTERS};
+ghost use Rattle.nmgc_limits.specs.declared.mutators.TheConstants.{MAKERS, REGISTERS};
 ghost use Rattle.nmgc_turn.specs.Worked.{registers_of, nurseries_of};
 ghost use Rattle.nmgc_cycle.specs.Roots.{queues_in, addresses_of, young_in, without_queue, HasRegisters, given_back, AreGivenBack};
 

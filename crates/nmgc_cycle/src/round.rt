@@ -21,7 +21,7 @@ ghost use Rattle.nmgc_alloc.specs.Segments.{IsSegments};
 ghost use Rattle.nmgc_round.specs.Gate.{passed};
 ghost use Rattle.nmgc_mutator.specs.declared.mutator.Mutator.{Mutator as MutatorSeen};
 ghost use Rattle.nmgc_run.specs.Slice.{program_of};
-ghost use Rattle.nmgc_graph.specs.declared.value.TheConstants.{MAKERS};
+ghost use Rattle.nmgc_limits.specs.declared.mutators.TheConstants.{MAKERS};
 ghost use Rattle.nmgc_updrem.specs.Lines.{HasMetSo};
 ghost use Rattle.nmgc_updrem.specs.Rings.{AtLine, HavePolled};
 ghost use Rattle.nmgc_cycle.specs.Limits.{IsInLimits};

@@ -4,7 +4,7 @@ use Rattle.std.specs.Prelude.{ℕ, ◌-◌, ◌<◌, ◌^◌, List, [], ◌∷�
 use Rattle.nmgc_graph.specs.World.{World, state_of, serial_of, node_of}
 use Rattle.nmgc_graph.specs.Command.{HasRegisters}
 use Rattle.nmgc_graph.specs.Change.{is_same, given_or, field_read, result_read, value_read, changed}
-use Rattle.nmgc_graph.specs.declared.value.TheConstants.{SHARED_MAKER}
+use Rattle.nmgc_limits.specs.declared.mutators.TheConstants.{SHARED_MAKER}
 use Rattle.nmgc_graph.specs.declared.value.Name.{Name}
 use Rattle.nmgc_graph.specs.declared.value.Value.{Value}
 use Rattle.nmgc_graph.specs.declared.value.Value.TheVariants as value

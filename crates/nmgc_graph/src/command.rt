@@ -138,18 +138,50 @@ impl Drop for Command {
             Command::Num { dest: _, number: _ } => {}
             Command::Nil { dest: _ } => {}
             Command::Mov { dest: _, value: _ } => {}
-            Command::Con { dest: _, tag: _, fields } => drop(fields),
+            Command::Con {
+                dest: _,
+                tag: _,
+                fields,
+            } => drop(fields),
             Command::Var { dest: _, value: _ } => {}
-            Command::Arr { dest: _, count: _, value: _ } => {}
+            Command::Arr {
+                dest: _,
+                count: _,
+                value: _,
+            } => {}
             Command::Thunk { dest: _, free } => drop(free),
-            Command::Weak { dest: _, key: _, value: _, finaliser: _ } => {}
+            Command::Weak {
+                dest: _,
+                key: _,
+                value: _,
+                finaliser: _,
+            } => {}
             Command::Stack { dest: _, size: _ } => {}
-            Command::Get { dest: _, object: _, index: _ } => {}
-            Command::Set { object: _, index: _, value: _ } => {}
-            Command::Cas { object: _, index: _, expected: _, value: _ } => {}
-            Command::Update { object: _, value: _ } => {}
+            Command::Get {
+                dest: _,
+                object: _,
+                index: _,
+            } => {}
+            Command::Set {
+                object: _,
+                index: _,
+                value: _,
+            } => {}
+            Command::Cas {
+                object: _,
+                index: _,
+                expected: _,
+                value: _,
+            } => {}
+            Command::Update {
+                object: _,
+                value: _,
+            } => {}
             Command::Force { dest: _, object: _ } => {}
-            Command::Push { object: _, value: _ } => {}
+            Command::Push {
+                object: _,
+                value: _,
+            } => {}
             Command::Pop { dest: _, object: _ } => {}
             Command::Deref { dest: _, object: _ } => {}
             Command::Finalise { dest: _, object: _ } => {}

@@ -5,7 +5,8 @@
 //! finaliser queue of each mutator. All crates but `nmgc_lists`, `nmgc_limits` and `nmgc_io` stand
 //! on this one, and cite its definitions (`specs/`) for what a command does.
 //!
-//! `Marks` is a set of names. Lists and the answer for want of memory are those of `nmgc_lists`, named here again.
+//! `Marks` is a set of names. Lists and the answer for want of memory are those of `nmgc_lists`, and how many
+//! registers, mutators and shared slots there are is told by `nmgc_limits`; both are named here again.
 #![tactic(auto)]
 
 pub mod change;
@@ -25,7 +26,8 @@ pub mod world;
 pub use command::{Command, Operand, Reply};
 pub use marks::Marks;
 pub use mutator_state::MutatorState;
+pub use nmgc_limits::{MAKERS, REGISTERS, SHARED_MAKER, SHARED_SLOTS};
 pub use nmgc_lists::{List, NoMemory, Place, Queue, Room};
 pub use node::{Kind, Node, Parts};
-pub use value::{MAKERS, Name, REGISTERS, SHARED_MAKER, SHARED_SLOTS, Value, constants_are_these};
+pub use value::{Name, Value};
 pub use world::World;

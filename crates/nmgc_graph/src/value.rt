@@ -5,28 +5,7 @@
 //! the whole run, wherever the collector has put its words. The shared array g is the one object
 //! that no mutator made; its name is `Name::SHARED`, whose maker is `SHARED_MAKER`.
 
-ghost use Rattle.std.specs.Prelude.{◌≡◌};
-
-/// The number of registers of a mutator.
-pub const REGISTERS: u8 = 64;
-
-/// The greatest number of mutators. A mutator's number is below it.
-pub const MAKERS: u8 = 32;
-
-/// The maker in the name of the shared array.
-pub const SHARED_MAKER: u8 = 32;
-
-/// The number of slots of the shared array.
-pub const SHARED_SLOTS: u8 = 16;
-
-/// Each constant is this number, and all contracts speak of it by its name. It does nothing: its contract
-/// is the law.
-pub fn constants_are_these()
-    ensures registers { REGISTERS ≡ 64 }
-    ensures makers { MAKERS ≡ 32 }
-    ensures shared_maker { SHARED_MAKER ≡ 32 }
-    ensures shared_slots { SHARED_SLOTS ≡ 16 }
-{}
+use nmgc_limits::SHARED_MAKER;
 
 /// Whose object it is, and the number of it among that maker's objects, from 0.
 #[derive(Clone, Copy, Debug, PartialEq, Eq)]

@@ -1,6 +1,6 @@
 -- What is outside the words: registers, finaliser queues, serials, and the list of weak pointers.
 use Rattle.std.specs.Prelude.{ℕ, ◌≡◌, ◌*◌, ◌<◌, List, length, map, slice_get, Contains, Some}
-use Rattle.nmgc_graph.specs.declared.value.TheConstants.{REGISTERS}
+use Rattle.nmgc_limits.specs.declared.mutators.TheConstants.{REGISTERS}
 use Rattle.nmgc_graph.specs.World.{World, state_of, serial_of}
 use Rattle.nmgc_graph.specs.Reach.{IsAliveWeak, IsInOrder}
 use Rattle.nmgc_object.specs.Places.{InSegment}

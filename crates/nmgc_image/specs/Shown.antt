@@ -1,7 +1,7 @@
 -- How the image of a heap is made. These are the words of the private contracts: which image shows a heap is said by
 -- `Shows` alone.
 use Rattle.std.specs.Prelude.{◌≡◌, ℕ, List, length, map, All, Contains}
-use Rattle.nmgc_graph.specs.declared.value.TheConstants.{REGISTERS}
+use Rattle.nmgc_limits.specs.declared.mutators.TheConstants.{REGISTERS}
 use Rattle.nmgc_graph.specs.Reach.{IsInOrder}
 use Rattle.nmgc_journal.specs.declared.report.MutatorEnd.{MutatorEnd}
 use Rattle.nmgc_image.specs.declared.image.Entry.{Entry}

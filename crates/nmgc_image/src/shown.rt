@@ -4,7 +4,7 @@
 //! a reference to the name that stands there.
 ghost use Rattle.std.specs.Prelude.{◌≡◌, ◌↔◌, ℕ, ◌≤◌, length, map, slice_get, Some, All, IfOk, IsTrue};
 ghost use Rattle.std.specs.List.Sorted.{IsNonDecreasingBy};
-ghost use Rattle.nmgc_graph.specs.declared.value.TheConstants.{REGISTERS};
+ghost use Rattle.nmgc_limits.specs.declared.mutators.TheConstants.{REGISTERS};
 ghost use Rattle.nmgc_graph.specs.World.{World as WorldOf};
 ghost use Rattle.nmgc_journal.specs.declared.report.MutatorEnd.{MutatorEnd as EndOf};
 ghost use Rattle.nmgc_image.specs.declared.image.ImageMutator.{ImageMutator as ShownOf};

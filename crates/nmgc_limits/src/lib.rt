@@ -8,8 +8,12 @@
 //! the threads.
 #![tactic(auto)]
 
+mod mutators;
+
 ghost use Rattle.std.specs.Prelude.{◌≡◌};
 ghost use Rattle.nmgc_limits.specs.Limits.{least_segment_words, most_heap_words, most_nursery_words, most_quota, most_script_bytes, most_segment_words, most_segments, most_slice, most_trigger};
+
+pub use mutators::{MAKERS, REGISTERS, SHARED_MAKER, SHARED_SLOTS, constants_are_these};
 
 /// The most segments.
 pub const MAX_SEGMENTS: u32 = 65_536;

@@ -2,7 +2,7 @@
 use Rattle.std.specs.Prelude.{ℕ, ◌*◌, ◌+◌, ◌/◌, List, map, take, drop, Contains, ◌≡◌, ◌↔◌}
 use Rattle.std.specs.List.{flat_map}
 use Rattle.nmgc_graph.specs.declared.mutator_state.MutatorState.{MutatorState}
-use Rattle.nmgc_graph.specs.declared.value.TheConstants.{SHARED_SLOTS}
+use Rattle.nmgc_limits.specs.declared.mutators.TheConstants.{SHARED_SLOTS}
 use Rattle.nmgc_graph.specs.World.{World, IsWorld}
 use Rattle.nmgc_graph.specs.Reach.{strong_fields}
 use Rattle.nmgc_object.specs.FinQueue.{FinQueue}

@@ -4,7 +4,7 @@ use Rattle.std.specs.Prelude.{Contains, slice_index}
 use Rattle.std.proofs.Math.Nat.{mul-le-mul_right}
 use Rattle.std.proofs.lemmas.Bool.{cases_eq}
 use Rattle.std.proofs.lemmas.Option.{slice_get_within}
-use Rattle.nmgc_graph.specs.declared.value.TheConstants.{SHARED_SLOTS}
+use Rattle.nmgc_limits.specs.declared.mutators.TheConstants.{SHARED_SLOTS}
 use Rattle.nmgc_graph.specs.declared.node.Node.{Node}
 use Rattle.nmgc_graph.specs.declared.node.Node.TheVariants.{Con, Var, Arr, Thunk, Weak, Stack}
 use Rattle.nmgc_graph.specs.World.{World, node_of, IsNodeOf, IsShared, IsWorld}

@@ -8,7 +8,7 @@ use Rattle.std.proofs.lemmas.Option.{slice_get-get_or}
 use Rattle.nmgc_graph.specs.declared.value.Name.{Name}
 use Rattle.nmgc_graph.specs.declared.value.Value.{Value}
 use Rattle.nmgc_graph.specs.declared.value.Value.TheVariants.{Nil, Ref}
-use Rattle.nmgc_graph.specs.declared.value.TheConstants.{REGISTERS}
+use Rattle.nmgc_limits.specs.declared.mutators.TheConstants.{REGISTERS}
 use Rattle.nmgc_graph.specs.declared.mutator_state.MutatorState.{MutatorState}
 use Rattle.nmgc_graph.specs.World.{World, state_of, no_mutator, IsWorld}
 use Rattle.nmgc_graph.specs.laws.Orders.{contains_head, contains_tail, contains_cases}

@@ -3,7 +3,7 @@
 -- Young objects lie from the word `base` on. That these are the promoted objects of the world that the words
 -- represent is what `promote` promises at a stop.
 use Rattle.std.specs.Prelude.{ℕ, ◌≡◌, ◌≢◌, ◌+◌, ◌*◌, ◌<◌, ◌≤◌, List, slice_index, Contains}
-use Rattle.nmgc_graph.specs.declared.value.TheConstants.{SHARED_SLOTS}
+use Rattle.nmgc_limits.specs.declared.mutators.TheConstants.{SHARED_SLOTS}
 use Rattle.nmgc_object.specs.declared.layout.TheConstants.{SHARED_PLACE}
 use Rattle.nmgc_object.specs.declared.words.TheConstants.{WEAK_FIELDS}
 use Rattle.nmgc_object.specs.declared.size.TheConstants.{HEADER_WORDS}

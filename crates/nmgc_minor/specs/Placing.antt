@@ -1,6 +1,6 @@
 -- What the second and the third pass do, told of segments and words.
 use Rattle.std.specs.Prelude.{ℕ, ◌≡◌, ◌≢◌, ◌+◌, ◌-◌, ◌*◌, ◌<◌, ◌≤◌, ◌⊎◌, List, [], ◌∷◌, length, map, slice_index, slice_set, Contains}
-use Rattle.nmgc_graph.specs.declared.value.TheConstants.{SHARED_SLOTS}
+use Rattle.nmgc_limits.specs.declared.mutators.TheConstants.{SHARED_SLOTS}
 use Rattle.nmgc_graph.specs.declared.value.Name.{Name}
 use Rattle.nmgc_object.specs.Words.{header_word, name_word, IsHeader, IsName}
 use Rattle.nmgc_object.specs.Size.{block_size, IsClassOf}

@@ -3,7 +3,7 @@ use Rattle.std.specs.Prelude.{ℕ, ◌+◌, ◌*◌, ◌/◌, ◌%◌, ◌<◌, 
 use Rattle.std.specs.List.{range_with_len}
 use Rattle.nmgc_limits.specs.Limits.{most_heap_words, most_segments}
 pub use Rattle.nmgc_limits.specs.Limits.{IsSegmentSize}
-use Rattle.nmgc_graph.specs.declared.value.TheConstants.{MAKERS}
+use Rattle.nmgc_limits.specs.declared.mutators.TheConstants.{MAKERS}
 use Rattle.nmgc_object.specs.Size.{block_size}
 use Rattle.nmgc_object.specs.declared.size.TheConstants.{MAX_CLASS}
 use Rattle.nmgc_object.specs.declared.layout.TheConstants.{FIRST_PLACE}

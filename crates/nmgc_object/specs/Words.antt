@@ -1,6 +1,6 @@
 -- What is a header, a name and a field, and the word of each.
 use Rattle.std.specs.Prelude.{ℕ, ◌≡◌, ◌+◌, ◌*◌, ◌<◌, ◌≤◌, ◌^◌}
-use Rattle.nmgc_graph.specs.declared.value.TheConstants.{SHARED_MAKER}
+use Rattle.nmgc_limits.specs.declared.mutators.TheConstants.{SHARED_MAKER}
 use Rattle.nmgc_graph.specs.declared.value.Name.{Name}
 use Rattle.nmgc_graph.specs.declared.node.Kind.{Kind}
 use Rattle.nmgc_graph.specs.declared.node.Kind.TheVariants.{Con, Var, Arr, Thunk, Weak, Stack}

@@ -7,7 +7,7 @@ use Rattle.nmgc_graph.specs.declared.mutator_state.MutatorState.{MutatorState}
 use Rattle.nmgc_graph.specs.declared.value.Name.{Name}
 use Rattle.nmgc_graph.specs.declared.value.Value.{Value}
 use Rattle.nmgc_graph.specs.declared.value.Value.TheVariants as value
-use Rattle.nmgc_graph.specs.declared.value.TheConstants.{REGISTERS}
+use Rattle.nmgc_limits.specs.declared.mutators.TheConstants.{REGISTERS}
 use Rattle.nmgc_graph.specs.World.{World, IsWorld, state_of, no_mutator}
 use Rattle.nmgc_graph.specs.Reach.{IsReached}
 use Rattle.nmgc_graph.specs.laws.Orders.{contains_head}

@@ -8,7 +8,7 @@
 -- P below are the names that may be held. The argument is that a step keeps them to be all that is held,
 -- so a wide reach has no other. For a snapshot, P says of each of its names that it isn't lost.
 use Rattle.std.specs.Prelude.{◌≡◌, ◌⊎◌, ◌≤◌, ℕ, List, [], ◌∷◌, Bool, IsSome, IsTrue, Contains}
-use Rattle.nmgc_graph.specs.declared.value.TheConstants.{MAKERS}
+use Rattle.nmgc_limits.specs.declared.mutators.TheConstants.{MAKERS}
 use Rattle.nmgc_graph.specs.declared.value.Name.{Name}
 use Rattle.nmgc_graph.specs.declared.node.Parts.{Parts}
 use Rattle.nmgc_graph.specs.declared.command.Command.{Command}

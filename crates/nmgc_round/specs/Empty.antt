@@ -1,6 +1,6 @@
 -- The heap before any command: g stands in its own words, and there is no other object.
 use Rattle.std.specs.Prelude.{◌≡◌, ℕ, ◌+◌, ◌<◌, false, List, [], ◌∷◌, length, replicate, slice_index}
-use Rattle.nmgc_graph.specs.declared.value.TheConstants.{REGISTERS, SHARED_SLOTS}
+use Rattle.nmgc_limits.specs.declared.mutators.TheConstants.{REGISTERS, SHARED_SLOTS}
 use Rattle.nmgc_graph.specs.declared.value.Value.TheVariants.{Nil}
 use Rattle.nmgc_graph.specs.declared.node.Node.{Node}
 use Rattle.nmgc_graph.specs.declared.node.Node.TheVariants.{Arr}

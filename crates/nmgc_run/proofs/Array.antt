@@ -1,7 +1,7 @@
 -- The run of a script that makes an array and asks for a cycle: it begins, is closed, sweeps and ends.
 use Rattle.std.proofs.Common.{ℕ, zero, suc, ◌≡◌, ◌≢◌, ◌⊎◌, ◌<◌, List, [], ◌∷◌, ◌++◌, replicate, arith, refl, sym, ap, subst, inl, inr, Some, None, true, false, lit≤, lit<}
 use Rattle.std.specs.Prelude.{Contains, ◌==◌}
-use Rattle.nmgc_graph.specs.declared.value.TheConstants.{SHARED_MAKER}
+use Rattle.nmgc_limits.specs.declared.mutators.TheConstants.{SHARED_MAKER}
 use Rattle.nmgc_graph.specs.declared.value.Name.{Name}
 use Rattle.nmgc_graph.specs.declared.value.Value.TheVariants.{Ref}
 use Rattle.nmgc_graph.specs.declared.command.Command.TheVariants.{Arr, Collect}

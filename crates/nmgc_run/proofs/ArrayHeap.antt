@@ -3,7 +3,7 @@ use Rattle.std.proofs.Common.{ℕ, zero, suc, ◌≡◌, ◌≢◌, ◌⊎◌, �
 use Rattle.std.specs.Prelude.{IsSome, Contains, slice_get, ◌==◌}
 use Rattle.std.proofs.lemmas.List.Elements.{All-cons, All-nil}
 use Rattle.std.proofs.lemmas.Bool.{eqb-true}
-use Rattle.nmgc_graph.specs.declared.value.TheConstants.{REGISTERS, SHARED_MAKER}
+use Rattle.nmgc_limits.specs.declared.mutators.TheConstants.{REGISTERS, SHARED_MAKER}
 use Rattle.nmgc_graph.specs.declared.value.Name.{Name}
 use Rattle.nmgc_graph.specs.declared.value.Value.TheVariants.{Nil}
 use Rattle.nmgc_graph.specs.declared.node.Node.{Node}

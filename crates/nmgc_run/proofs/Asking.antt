@@ -1,7 +1,7 @@
 -- A script that asks for a cycle: it begins at one stop, and is closed within its bounds and ended at the next.
 use Rattle.std.proofs.Common.{ℕ, zero, suc, ◌≡◌, ◌≢◌, ◌⊎◌, List, [], ◌∷◌, ◌++◌, set, replicate, arith, refl, sym, ap, subst, inl, inr, Option, Some, None, true, false, lit≤, lit<}
 use Rattle.std.specs.Prelude.{Contains, ◌==◌}
-use Rattle.nmgc_graph.specs.declared.value.TheConstants.{SHARED_MAKER}
+use Rattle.nmgc_limits.specs.declared.mutators.TheConstants.{SHARED_MAKER}
 use Rattle.nmgc_graph.specs.declared.value.Name.{Name}
 use Rattle.nmgc_graph.specs.declared.value.Value.TheVariants.{Ref}
 use Rattle.nmgc_graph.specs.declared.node.Parts.{Parts}

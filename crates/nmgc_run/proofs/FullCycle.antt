@@ -1,7 +1,7 @@
 -- A script that asks for a full cycle: what was dropped is freed, and what a register holds is kept.
 use Rattle.std.proofs.Common.{ℕ, zero, suc, ◌≡◌, ◌≢◌, ◌<◌, ◌⊎◌, List, [], ◌∷◌, ◌++◌, set, replicate, slice_index_or, get_or, arith, refl, sym, ap, subst, ◌∙◌, inl, inr, Option, Some, None, Bool, true, false, lit≤, lit<}
 use Rattle.std.specs.Prelude.{IsSome, Contains, slice_get, ◌==◌, if◌then◌else◌}
-use Rattle.nmgc_graph.specs.declared.value.TheConstants.{SHARED_MAKER}
+use Rattle.nmgc_limits.specs.declared.mutators.TheConstants.{SHARED_MAKER}
 use Rattle.nmgc_graph.specs.declared.value.Name.{Name}
 use Rattle.nmgc_graph.specs.declared.value.Value.{Value}
 use Rattle.nmgc_graph.specs.declared.value.Value.TheVariants.{Ref}

@@ -2,7 +2,7 @@
 use Rattle.std.proofs.Common.{ℕ, zero, suc, ◌≡◌, List, [], ◌∷◌, set, replicate, arith, refl, ap, inl, inr, Option, Some, None, Bool, true, false, lit≤, lit<}
 use Rattle.std.specs.Prelude.{IsSome, slice_get, ◌==◌, if◌then◌else◌}
 use Rattle.std.proofs.lemmas.Bool.{eqb-true, false_from_ne_true}
-use Rattle.nmgc_graph.specs.declared.value.TheConstants.{SHARED_MAKER}
+use Rattle.nmgc_limits.specs.declared.mutators.TheConstants.{SHARED_MAKER}
 use Rattle.nmgc_graph.specs.declared.node.Node.{Node}
 use Rattle.nmgc_graph.specs.History.{Row, replayed, IsOrderOf}
 use Rattle.nmgc_graph.specs.Reach.{start as begins}

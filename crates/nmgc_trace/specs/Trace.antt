@@ -4,7 +4,7 @@
 use Rattle.std.specs.Prelude.{◌≡◌, ◌≤◌, ◌↔◌, ◌⊎◌, ◌-◌, ◌^◌, ℕ, zero, suc, List, [], ◌∷◌, Option, Some, None, Result, Ok, Err, Bool, true, false, Contains}
 use Rattle.nmgc_lists.specs.declared.memory.NoMemory.{NoMemory}
 use Rattle.nmgc_graph.specs.declared.value.Name.{Name}
-use Rattle.nmgc_graph.specs.declared.value.TheConstants.{MAKERS}
+use Rattle.nmgc_limits.specs.declared.mutators.TheConstants.{MAKERS}
 use Rattle.nmgc_graph.specs.World.{World, new_world}
 use Rattle.nmgc_graph.specs.Step.{CanApply, step}
 use Rattle.nmgc_core.specs.declared.event.Event.{Event}

@@ -20,7 +20,7 @@ use Rattle.nmgc_round.specs.View.{Row as OwnRow}
 use Rattle.nmgc_round.specs.Naming.{AllReply, Replies}
 use Rattle.nmgc_round.specs.Rule.{Answers, AllAnswer}
 use Rattle.nmgc_turn.specs.Worked.{Done}
-use Rattle.nmgc_graph.specs.declared.value.TheConstants.{SHARED_MAKER}
+use Rattle.nmgc_limits.specs.declared.mutators.TheConstants.{SHARED_MAKER}
 use Rattle.nmgc_graph.specs.laws.Worlds.{not_shared}
 use Rattle.nmgc_turn.proofs.RowRegisters.{IsPlain, registers_left}
 use Rattle.nmgc_turn.proofs.Depths.{Depths, depths_other, depths_left}

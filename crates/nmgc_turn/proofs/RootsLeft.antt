@@ -3,7 +3,7 @@ use Rattle.std.proofs.Common.{◌≡◌, ℕ, ◌*◌, ◌<◌, List, [], length
 use Rattle.std.specs.Prelude.{slice_get, Contains}
 use Rattle.std.proofs.lemmas.List.{length-map}
 use Rattle.std.proofs.lemmas.Option.{slice_get_within}
-use Rattle.nmgc_graph.specs.declared.value.TheConstants.{REGISTERS}
+use Rattle.nmgc_limits.specs.declared.mutators.TheConstants.{REGISTERS}
 use Rattle.nmgc_graph.specs.World.{World, state_of, serial_of}
 use Rattle.nmgc_heap.specs.Places.{AllMean, ListMeans}
 use Rattle.nmgc_heap.specs.Roots.{RepresentsRoots}

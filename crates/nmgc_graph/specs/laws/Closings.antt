@@ -4,7 +4,7 @@ use Rattle.std.specs.Prelude.{slice_get}
 use Rattle.std.proofs.lemmas.Bool.{ne_eqb, eq-eqb, cases_eq}
 use Rattle.std.proofs.lemmas.List.{get_or-set_same, get_or-set_other, set-set}
 use Rattle.std.proofs.lemmas.List.Elements.{All-push, All-get_or}
-use Rattle.nmgc_graph.specs.declared.value.TheConstants.{SHARED_MAKER}
+use Rattle.nmgc_limits.specs.declared.mutators.TheConstants.{SHARED_MAKER}
 use Rattle.nmgc_graph.specs.declared.value.Name.{Name}
 use Rattle.nmgc_graph.specs.declared.value.Value.{Value}
 use Rattle.nmgc_graph.specs.declared.value.Value.TheVariants.{Nil, Number, Ref}

@@ -5,7 +5,7 @@ use Rattle.std.proofs.lemmas.Bool.{cases_lt}
 use Rattle.std.proofs.lemmas.Bool.Decides.{eqb_tells}
 use Rattle.std.proofs.lemmas.List.{get_or_past, length-replicate}
 use Rattle.std.proofs.lemmas.List.Elements.{All-nil, All-replicate, All-get_or}
-use Rattle.nmgc_graph.specs.declared.value.TheConstants.{MAKERS, REGISTERS, SHARED_MAKER, SHARED_SLOTS}
+use Rattle.nmgc_limits.specs.declared.mutators.TheConstants.{MAKERS, REGISTERS, SHARED_MAKER, SHARED_SLOTS}
 use Rattle.nmgc_graph.specs.declared.value.Name.{Name}
 use Rattle.nmgc_graph.specs.declared.value.Value.TheVariants.{Nil}
 use Rattle.nmgc_graph.specs.declared.node.Node.{Node}

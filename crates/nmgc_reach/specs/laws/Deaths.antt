@@ -9,7 +9,7 @@ use Rattle.nmgc_graph.specs.declared.command.Command.TheVariants as command
 use Rattle.nmgc_graph.specs.declared.command.Reply.{Reply}
 use Rattle.nmgc_graph.specs.declared.command.Reply.TheVariants as reply
 use Rattle.nmgc_graph.specs.declared.change.Change.TheVariants as change
-use Rattle.nmgc_graph.specs.declared.value.TheConstants.{SHARED_MAKER}
+use Rattle.nmgc_limits.specs.declared.mutators.TheConstants.{SHARED_MAKER}
 use Rattle.nmgc_graph.specs.declared.value.Name.{Name}
 use Rattle.nmgc_graph.specs.declared.value.Value.{Value}
 use Rattle.nmgc_graph.specs.declared.value.Value.TheVariants as value

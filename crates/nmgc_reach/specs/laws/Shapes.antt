@@ -1,7 +1,7 @@
 -- No command and no closing changes the shape of an object.
 use Rattle.std.proofs.Common.{◌≡◌, ◌≢◌, [], ◌∷◌, refl, sym, ap, subst, ◌∙◌, Option, Some, None, inl, inr}
 use Rattle.std.specs.Prelude.{IfSome}
-use Rattle.nmgc_graph.specs.declared.value.TheConstants.{SHARED_MAKER}
+use Rattle.nmgc_limits.specs.declared.mutators.TheConstants.{SHARED_MAKER}
 use Rattle.nmgc_graph.specs.declared.value.Name.{Name}
 use Rattle.nmgc_graph.specs.declared.node.Node.{Node}
 use Rattle.nmgc_graph.specs.declared.node.Node.TheVariants.{Weak}

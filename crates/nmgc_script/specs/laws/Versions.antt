@@ -2,7 +2,7 @@
 use Rattle.std.proofs.Common.{◌≡◌, ◌≤◌, ℕ, List, length, refl, sym, subst, arith, inl, inr, lit≤}
 use Rattle.std.specs.Prelude.{All, Bool, true, false, ◌==◌, if◌then◌else◌}
 use Rattle.std.proofs.lemmas.List.Elements.{All-weaker}
-use Rattle.nmgc_graph.specs.declared.value.TheConstants.{REGISTERS, MAKERS}
+use Rattle.nmgc_limits.specs.declared.mutators.TheConstants.{REGISTERS, MAKERS}
 use Rattle.nmgc_graph.specs.declared.command.Operand.{Operand}
 use Rattle.nmgc_graph.specs.declared.command.Operand.TheVariants.{Register, Shared}
 use Rattle.nmgc_graph.specs.declared.command.Command.{Command}

@@ -3,7 +3,7 @@ use Rattle.std.proofs.Common.{◌≡◌, ℕ, zero, suc, ◌+◌, ◌*◌, ◌<�
 use Rattle.std.specs.Prelude.{slice_get}
 use Rattle.std.proofs.lemmas.Option.{slice_get_within}
 use Rattle.std.proofs.lemmas.List.{get_or_append_left, get_or-append-add}
-use Rattle.nmgc_graph.specs.declared.value.TheConstants.{REGISTERS}
+use Rattle.nmgc_limits.specs.declared.mutators.TheConstants.{REGISTERS}
 use Rattle.nmgc_graph.specs.declared.value.Value.{Value}
 use Rattle.nmgc_heap.specs.Places.{Place, Means, AllMean, ListMeans}
 use Rattle.nmgc_mutator.specs.declared.mutator.Mutator.{Mutator}

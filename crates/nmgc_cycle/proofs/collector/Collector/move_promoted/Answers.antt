@@ -2,7 +2,7 @@ use Rattle.std.proofs.Common.{◌≡◌, ℕ, ◌*◌, List, length, map, refl, 
 use Rattle.std.specs.Prelude.{All}
 use Rattle.std.specs.Vec.{with_items}
 use Rattle.std.proofs.lemmas.List.{length-map}
-use Rattle.nmgc_graph.specs.declared.value.TheConstants.{REGISTERS}
+use Rattle.nmgc_limits.specs.declared.mutators.TheConstants.{REGISTERS}
 use Rattle.nmgc_alloc.specs.AllocState.{StandsFor}
 use Rattle.nmgc_blocks.specs.Stopped.{Stopped, IsStopped}
 use Rattle.nmgc_minor.specs.Start.{words_of, places_of}

@@ -5,7 +5,7 @@ use Rattle.std.specs.Vec.{with_items}
 use Rattle.std.proofs.lemmas.List.{length-map}
 use Rattle.nmgc_alloc.specs.Segments.{Segments}
 use Rattle.nmgc_beside.specs.Prepares.{all_prepared}
-use Rattle.nmgc_graph.specs.declared.value.TheConstants.{REGISTERS}
+use Rattle.nmgc_limits.specs.declared.mutators.TheConstants.{REGISTERS}
 use Rattle.nmgc_mark.specs.Beginning.{IsBeginning, most_blocks}
 use Rattle.nmgc_mark.specs.Marker.{HasMarked, blank}
 use Rattle.nmgc_mark.specs.Marker as after
