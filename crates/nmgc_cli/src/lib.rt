@@ -11,14 +11,14 @@
 //! - `status`, `entry`: statuses with their numbers, and the whole program but for its streams.
 #![tactic(auto)]
 
-mod answer;
+pub mod answer;
 mod bench;
 pub mod entry;
 mod imaging;
 pub mod marks;
 mod message;
 mod retaining;
-mod run;
+pub mod run;
 pub mod status;
 pub mod task;
 mod told;

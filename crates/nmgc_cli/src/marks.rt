@@ -95,7 +95,7 @@ pub fn marks_text<R: Threads + Sync>(
 }
 
 /// What so many markers claim of the heap that a run left, each of which passes `gate` before each object.
-pub(crate) fn claims_of<R: Threads + Sync, G: Gate>(
+pub fn claims_of<R: Threads + Sync, G: Gate>(
     alloc: Global,
     rt: &R,
     markers: u8,

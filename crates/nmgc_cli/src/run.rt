@@ -49,11 +49,7 @@ pub fn read_and_run<R: Threads + Sync, S: Source>(
 }
 
 /// The report of the script that these bytes spell, or why there is none.
-pub(crate) fn run_bytes<R: Threads + Sync>(
-    alloc: Global,
-    rt: &R,
-    bytes: &[u8],
-) -> Result<Report, Refusal>
+pub fn run_bytes<R: Threads + Sync>(alloc: Global, rt: &R, bytes: &[u8]) -> Result<Report, Refusal>
     requires { length bytes.now ≤ most_script_bytes }
     ensures { AnswersBytes IsRan bytes.now result }
 {

@@ -59,8 +59,15 @@ impl Status {
 
 /// The status, and the report where a script was run, whether to its end or until its heap was full. Where
 /// the sink failed, the report is there if it was its text, its summary or its image that was to be written.
-#[derive(Drop)]
 pub struct Ended {
     pub status: Status,
     pub report: Option<Report>,
+}
+
+// By hand, so that whoever lets go of one calls this.
+impl Drop for Ended {
+    fn drop(self) {
+        let Ended { status: _, report } = self;
+        drop(report);
+    }
 }

@@ -1,7 +1,7 @@
 // The text of every kind of line, and the worked examples' stops and cycles.
-use nmgc_journal::*;
 use nmgc_alloc::Segments;
 use nmgc_graph::{List, Name, Reply, SHARED_MAKER, Value};
+use nmgc_journal::*;
 use nmgc_object::Layout;
 use std::alloc::Global;
 use std::test::Fail;

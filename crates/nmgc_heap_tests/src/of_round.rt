@@ -6,10 +6,10 @@ ghost use Rattle.nmgc_round.specs.Seating.{alone, alones};
 ghost use Rattle.nmgc_round.specs.Empty.{IsEmptyHeap, first_opening};
 ghost use Rattle.nmgc_round.specs.Ready.{HasPart};
 
-use nmgc_round::chosen::Wanted;
-use nmgc_round::{Chosen, Gate, MutatorSeat, OpenGate, Opened, Round, Started, Words};
 use nmgc_graph::{Command, Name, NoMemory, Operand, Place};
 use nmgc_object::{Address, Layout, encode_name};
+use nmgc_round::chosen::Wanted;
+use nmgc_round::{Chosen, Gate, MutatorSeat, OpenGate, Opened, Round, Started, Words};
 use std::alloc::Global;
 use std::test::Fail;
 use std::thread;

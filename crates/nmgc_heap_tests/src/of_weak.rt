@@ -3,9 +3,9 @@
 ghost use Rattle.std.specs.Prelude.{ℕ, ◌≡◌, ◌≤◌, [], length, slice_get, IfOk};
 ghost use Rattle.nmgc_object.specs.FinQueue.{FinQueue as Shown};
 
-use nmgc_weak::{Death, OldWeak, Weaks, laws, queue_finalisers};
 use nmgc_graph::{List, Name, NoMemory};
 use nmgc_object::{Address, FinQueue};
+use nmgc_weak::{Death, OldWeak, Weaks, laws, queue_finalisers};
 use std::alloc::Global;
 use std::test::Fail;
 

@@ -95,7 +95,6 @@ pub enum End {
 }
 
 /// What happened in a run, and the heap that it left.
-#[derive(Drop)]
 pub struct Report {
     /// The replies of each round, from round 1 on.
     pub rounds: List<RoundRows>,
@@ -113,4 +112,27 @@ pub struct Report {
     pub weaks: List<Name>,
     /// How the run ended.
     pub end: End,
+}
+
+// By hand, so that whoever lets go of one calls this: a derived one is written out, and proved, at each place.
+impl Drop for Report {
+    fn drop(self) {
+        let Report {
+            rounds,
+            stops,
+            cycles,
+            words,
+            segments,
+            mutators,
+            weaks,
+            end: _,
+        } = self;
+        drop(rounds);
+        drop(stops);
+        drop(cycles);
+        drop(words);
+        drop(segments);
+        drop(mutators);
+        drop(weaks);
+    }
 }

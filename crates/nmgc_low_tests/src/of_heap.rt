@@ -2,8 +2,8 @@
 //! once, so that it is seen to ask nothing.
 ghost use Rattle.std.specs.Prelude.{◌<◌, length};
 
-use nmgc_heap::{HeapWords, laws};
 use nmgc_graph::List;
+use nmgc_heap::{HeapWords, laws};
 use std::marker::Brand;
 use std::test::Fail;
 

@@ -1,10 +1,10 @@
 //! Worked numbers of words, sizes and places, and a queue from end to end.
+use nmgc_graph::{Kind, Name, Place};
 use nmgc_object::{
     Address, Field, FinQueue, Header, Layout, Nursery, block_words, class_of, decode_header,
     decode_name, decode_value, encode_header, encode_name, encode_value, fields_of, header_of,
     laws, name_of, object_words, words_of,
 };
-use nmgc_graph::{Kind, Name, Place};
 use std::test::Fail;
 
 #[test]

@@ -262,11 +262,13 @@ fn tells_the_first_bad_line(rt: HostRuntime) -> Result<(), Fail> {
         assert!(rt; told(&rt, rt.alloc(), text.as_bytes()) == Some((4, *cause)));
     }
     assert!(rt; told(&rt, rt.alloc(), b"nmgc 1\n\xff\n") == Some((2, Cause::Heap)));
-    assert!(rt; told(
+    assert!(rt;
+        told(
             &rt,
             rt.alloc(),
             b"nmgc 1\nheap 32 64 64 100 1000 0\nthread 0\nshow \xc3\n"
-        ) == Some((4, Cause::Operand)));
+        ) == Some((4, Cause::Operand))
+    );
     Ok(())
 }
 

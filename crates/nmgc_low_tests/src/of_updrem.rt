@@ -2,9 +2,9 @@
 ghost use Rattle.std.specs.Prelude.{◌≡◌, ◌+◌, ◌<◌, ◌≤◌};
 ghost use Rattle.nmgc_updrem.specs.Rings.{IsPair};
 
-use nmgc_updrem::*;
 use nmgc_graph::NoMemory;
 use nmgc_object::Address;
+use nmgc_updrem::*;
 use std::alloc::Global;
 use std::test::Fail;
 use std::thread;

@@ -4,25 +4,16 @@
 //! `trace 2` is of format 2: its barrier is watched (`nmgc_watch`), cycle by cycle, and the first line that can't happen
 //! is told with the reason. Any other is of format 1: its lines are done, one by one, by the core machine
 //! (`nmgc_core`), marker and all. `docs/GUIDE.md` has the forms, and says how to write one for a runtime of one's own.
-//! - Format 1: `line` is what a line says, `progress` how far a trace has come, `verdict` what it comes to.
-//! - Format 2: `told` is what a line says, `report` what a trace comes to.
+//! What a text says and comes to is told by `nmgc_judge`.
 //!
 //! The exit status is 0 where each line of each trace can happen and each trace has the end of a cycle (of format 2: a
 //! `stop` after it), 2 where one can't or hasn't, no trace is named or there was no memory, and 1 where a file can't be
 //! read.
 #![tactic(auto)]
 
-mod line;
-mod progress;
-mod report;
-mod told;
-mod verdict;
-
-use report::report_on;
+use nmgc_judge::{HEAD, report_on, verdict_of};
 use std::process::ExitCode;
 use std::{env, fs, io};
-use told::HEAD;
-use verdict::verdict_of;
 
 fn main(rt: HostRuntime) -> io::Result<ExitCode> {
     let mut is_named = false;

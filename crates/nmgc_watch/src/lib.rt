@@ -11,7 +11,7 @@
 //! - `laws`: a reason refuses; and a cycle that closes without debts marked exactly what it had to, whatever marker ran
 //!   beside it.
 //!
-//! `specs/Watching` has the relation, which `Watch::step` is proved against both ways. `nmgc_trace` stands on this crate.
+//! `specs/Watching` has the relation, which `Watch::step` is proved against both ways. `nmgc_judge` stands on this crate.
 #![tactic(auto)]
 
 mod closing;

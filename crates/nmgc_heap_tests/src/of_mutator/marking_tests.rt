@@ -9,8 +9,8 @@ ghost use Rattle.nmgc_round.specs.Seating.{alone, collecting};
 ghost use Rattle.nmgc_round.specs.Ready.{HasPart, scanned_by};
 ghost use Rattle.nmgc_mutator.specs.Sample.{snapshot_opening, IsSnapshotHeap, IsSnapshotMutator, IsBegun};
 
-use nmgc_mutator::{Mutator, Step, laws};
 use nmgc_graph::{Command, List, NoMemory, Operand, Place, REGISTERS, Reply};
+use nmgc_mutator::{Mutator, Step, laws};
 use nmgc_object::{Address, Layout};
 use nmgc_round::chosen::Wanted;
 use nmgc_round::{Chosen, CollectorSeat, MutatorSeat, Opened, Round, Started, Words};
@@ -304,11 +304,14 @@ fn a_comparison_that_fails_changes_nothing(rt: HostRuntime) -> Result<(), Fail> 
     let place = Place::new(alloc)?;
     let mut mutator = mutator_at(alloc)?;
     let outcome = compared(words, &mut mutator, room, place, Vec::new(alloc));
-    assert!(rt; outcome == Some(Outcome {
-            header: 2050,
-            field: 64,
-            left: 64
-        }));
+    assert!(rt;
+        outcome
+            == Some(Outcome {
+                header: 2050,
+                field: 64,
+                left: 64
+            })
+    );
     assert!(rt; mutator.updrem.entries() == [].as_slice());
     Ok(())
 }
@@ -322,22 +325,28 @@ fn an_overwritten_reference_is_pushed(rt: HostRuntime) -> Result<(), Fail> {
     let place = Place::new(alloc)?;
     let mut mutator = mutator_at(alloc)?;
     let outcome = read_first(words, &mut mutator, room, place, Vec::new(alloc));
-    assert!(rt; outcome == Some(Outcome {
-            header: 2050,
-            field: 64,
-            left: 13
-        }));
+    assert!(rt;
+        outcome
+            == Some(Outcome {
+                header: 2050,
+                field: 64,
+                left: 13
+            })
+    );
     assert!(rt; mutator.updrem.entries() == [Address(32)].as_slice());
     let words = snapshot_heap(alloc)?;
     let room = Vec::with_capacity(alloc, 1)?;
     let place = Place::new(alloc)?;
     let mut mutator = mutator_at(alloc)?;
     let outcome = written_first(words, &mut mutator, room, place, Vec::new(alloc));
-    assert!(rt; outcome == Some(Outcome {
-            header: 2050,
-            field: 13,
-            left: 13
-        }));
+    assert!(rt;
+        outcome
+            == Some(Outcome {
+                header: 2050,
+                field: 13,
+                left: 13
+            })
+    );
     assert!(rt; mutator.updrem.entries() == [Address(32)].as_slice());
     Ok(())
 }

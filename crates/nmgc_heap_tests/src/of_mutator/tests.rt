@@ -10,8 +10,8 @@ ghost use Rattle.nmgc_round.specs.Seating.{alone};
 ghost use Rattle.nmgc_mutator.specs.Ready.{IsNew};
 ghost use Rattle.nmgc_mutator.specs.Slice.{HasRoom};
 
-use nmgc_mutator::{Mutator, Slice, SliceEnd};
 use nmgc_graph::{Command, List, Name, NoMemory, Operand, Place, Reply, Value};
+use nmgc_mutator::{Mutator, Slice, SliceEnd};
 use nmgc_object::Layout;
 use nmgc_round::chosen::Wanted;
 use nmgc_round::{Chosen, Gate, MutatorSeat, OpenGate, Opened, Round, Started, Words};

@@ -138,7 +138,7 @@ fn a_failing_source_is_told(rt: HostRuntime) -> Result<(), Fail> {
 }
 
 // The report of a script's bytes.
-#[tactic(auto, using(nmgc_cli::proofs::Telling::of_bytes))]
+#[tactic(auto, using(crate::proofs::Reports::of_bytes))]
 fn report_of<R: Threads + Sync>(alloc: Global, rt: &R, bytes: &[u8]) -> Result<Report, Refusal>
     requires { length bytes.now ≤ most_script_bytes }
     ensures { IfOk result IsOfScript }

@@ -47,10 +47,18 @@ stop 0 idle free 32 filled 0 sweep 0 promoted 0
 end done
 ";
 // What a run left: how it ended, and what the sink has.
-#[derive(Drop)]
 pub struct Run {
     pub ended: Ended,
     pub sink: MemorySink,
+}
+
+// By hand, so that whoever lets go of one calls this.
+impl Drop for Run {
+    fn drop(self) {
+        let Run { ended, sink } = self;
+        drop(ended);
+        drop(sink);
+    }
 }
 
 // The number of one call.

@@ -1,0 +1,20 @@
+-- Scans, one after the other.
+use Rattle.std.proofs.Common.{◌≡◌, ◌+◌, ◌-◌, ◌^◌, ℕ, sym, subst, inl, inr, true, false, add-one}
+use Rattle.nmgc_core.specs.declared.event.Event.TheVariants as event
+use Rattle.nmgc_core.specs.State.{State}
+use Rattle.nmgc_core.specs.Machine.{IsPossible, Passes}
+use Rattle.nmgc_judge.specs.Trace.{Scans, IsDrain}
+
+pub scans_more : (s t u : State) (n : ℕ) → Scans s n t → Passes t event.Scan true u → Scans s (n + 1) u
+scans_more s t u n h p = rw add-one (t, h, p)
+
+-- no scan can happen any more
+pub drained : (s t u : State) (n : ℕ) → Scans s n t → Passes t event.Scan false u → IsDrain s u
+drained s t u n h p =
+    let S : State → Type 0 = λ v. Scans s n v in
+    let N : State → Type 0 = λ v. IsPossible v event.Scan → ⊥ in
+    (n, subst S (sym p.1) h, inl (subst N (sym p.1) p.0))
+
+-- that were all
+pub drained_out : (s t : State) (n : ℕ) → Scans s n t → n ≡ 2 ^ 64 - 1 → IsDrain s t
+drained_out s t n h e = (n, h, inr e)

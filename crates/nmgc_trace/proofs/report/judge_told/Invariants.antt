@@ -1,7 +1,0 @@
-use Rattle.std.proofs.Common.{take}
-use Rattle.nmgc_trace.specs.declared.report.Begun.TheVariants as begun
-use Rattle.nmgc_trace.specs.Reports.{Comes}
-use Rattle.nmgc_trace.proofs.report.judge_told.Given as goal
-
-abbrev pub invariant-loop-index : goal.invariant-loop-index
-invariant-loop-index l = Comes 1 begun.Nothing (take l.index l.lines) l.begun
