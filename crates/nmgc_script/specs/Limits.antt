@@ -1,6 +1,7 @@
 -- The limits of a script.
 use Rattle.std.specs.Prelude.{◌≡◌, ℕ, ◌+◌, ◌*◌, ◌≤◌, ◌⊎◌, List, length, All, ◌==◌, if◌then◌else◌}
 use Rattle.nmgc_limits.specs.Limits.{IsSegmentSize, most_heap_words, most_nursery_words, most_quota, most_script_bytes, most_segments, most_slice, most_trigger}
+use Rattle.nmgc_limits.specs.declared.mutators.TheConstants.{MAKERS, REGISTERS}
 use Rattle.nmgc_graph.specs.Command.{Fits, HasRegistersBelow}
 use Rattle.nmgc_graph.specs.declared.command.Command.{Command}
 use Rattle.nmgc_script.specs.declared.script.Config.{Config}
@@ -12,12 +13,13 @@ abbrev pub version_1 : Version
 version_1 = record { number = 1; threads = 8; registers = 16 }
 
 abbrev pub version_2 : Version
-version_2 = record { number = 2; threads = 32; registers = 64 }
+version_2 = record { number = 2; threads = MAKERS; registers = REGISTERS }
 
+-- one of the versions that are read
 abbrev pub IsVersion : Version → Type 0
 IsVersion v = (v ≡ version_1) ⊎ (v ≡ version_2)
 
--- the version of this number, where there is one
+-- the version of this number; of a number that no version has it is version 2, whose number is then another
 abbrev pub version_of : ℕ → Version
 version_of n = if n == 1 then version_1 else version_2
 

@@ -19,7 +19,8 @@ pub enum Cause {
     /// The second line isn't a heap line within the limits.
     #[error("heap")]
     Heap,
-    /// A section line isn't that of the next thread, or a command stands before the first section.
+    /// A section line isn't that of the next thread, of those that the version has, or a line before the first section
+    /// begins with another word.
     #[error("thread")]
     Thread,
     /// The section's nursery makes the heap too large.
