@@ -1,4 +1,4 @@
-//! Tests of rounds, mutators, reports, sweeping and weak pointers.
+//! Tests of rounds, mutators, promotion, reports, marking, sweeping and weak pointers.
 #![tactic(auto)]
 
 #[cfg(test)]
@@ -7,6 +7,8 @@ mod of_beside;
 mod of_blocks;
 #[cfg(test)]
 mod of_journal;
+#[cfg(test)]
+mod of_minor;
 #[cfg(test)]
 mod of_mutator;
 #[cfg(test)]

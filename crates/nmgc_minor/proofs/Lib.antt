@@ -12,4 +12,3 @@ pub mod Final
 pub mod PromotedLaws
 pub mod AllocationLaws
 pub mod Stops
-pub mod CheckedLaws

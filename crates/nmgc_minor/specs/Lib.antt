@@ -7,4 +7,3 @@ pub mod Start
 pub mod Promotes
 pub mod Resting
 pub mod Promotion
-pub mod Checked

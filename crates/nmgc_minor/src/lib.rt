@@ -18,7 +18,8 @@
 //! of the old words holds to the end, and each new word is a function of an old one: that is why it is
 //! proved once for all words, and not step by step, that they represent the same world.
 //!
-//! Contracts of the passes speak of words alone: of the least set of places that pointers reach. Only
+//! Contracts of the passes speak of words alone: of the least set of places that pointers reach. So `run_passes`
+//! serves whoever has words and no world that they stand for, as a walk through a heap does. Only
 //! `Promotion::promote` speaks of the world: a heap at a stop meets what the passes ask, what they find
 //! are exactly the promoted objects, and what they do keeps the world and the order of names.
 #![tactic(auto)]
@@ -32,6 +33,8 @@ mod roots;
 mod starts;
 mod young;
 
+pub use passes::run_passes;
 pub use placing::Move;
 pub use promotion::Promotion;
 pub use roots::Roots;
+pub use young::Young;

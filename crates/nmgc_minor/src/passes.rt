@@ -121,7 +121,15 @@ fn clear(young: &mut Young, moves: &mut Room<Move>)
     moves.clear();
 }
 
-/// The passes, and what is outside the words: registers, queues and nurseries.
+/// The three passes over words of which no world need be known, and over what is outside them: registers, queues and
+/// nurseries. Asks that the working lists are for the nurseries of the segments' layout, that pointers to young objects
+/// lead to objects which lie one after another in the used part of their maker's nursery, and that the reserve is
+/// free or no nursery has an object (`specs/Promotes.antt`, `CanPromoteWith`).
+///
+/// Exactly the young objects that the roots, the slots of g, the recorded fields and the alive young weak pointers
+/// reach are copied, each once, in order of names; `moves` tells them. Each pointer to one leads to its new place:
+/// in registers and queues, the slots of g, the recorded fields and the copies. No other word changes, and the nurseries are empty
+/// afterwards. Takes no memory.
 pub fn run_passes<W: HeapWords>(
     young: &mut Young,
     moves: &mut Room<Move>,

@@ -125,6 +125,3 @@ impl Promotion {
         );
     }
 }
-
-#[cfg(test)]
-mod tests;

@@ -1,0 +1,20 @@
+use Rattle.nmgc_heap_tests.proofs.CheckedLaws.{made_more, next_more, made_skip, next_skip}
+use Rattle.nmgc_heap_tests.proofs.of_minor.walk.check_objects.Goals.{then-sizes-k-ne0, else-sizes-k-ne0}
+use Rattle.nmgc_heap_tests.proofs.of_minor.walk.check_objects.Goals as goal
+
+pub loop-k-preserved : goal.loop-k-preserved
+loop-k-preserved g c =
+    let i = c.loop-k.invariant in
+    elim c.if-sizes-k-ne0.branch [
+      | then-sizes-k-ne0 w ↦
+          let d = w.check_object.ensures in
+          rw (w.free-is) (record {
+            made = made_more c.args.layout c.args.base c.args.words.now c.args.sizes.now c.args.nurseries.now c.loop-k.k c.loop-k.free i.made i.next d.after d.made;
+            next = next_more c.args.sizes.now c.loop-k.k c.loop-k.free i.next d.after;
+          })
+      | else-sizes-k-ne0 w ↦
+          rw (w.free-is) (record {
+            made = made_skip c.args.layout c.args.base c.args.words.now c.args.sizes.now c.args.nurseries.now c.loop-k.k w.if-sizes-k-ne0.false i.made;
+            next = next_skip c.args.sizes.now c.loop-k.k c.loop-k.free w.if-sizes-k-ne0.false i.next;
+          })
+    ]

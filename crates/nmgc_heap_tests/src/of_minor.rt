@@ -1,0 +1,6 @@
+//! Tests of nmgc_minor: promotions of small heaps, whose moves and places were worked out by hand.
+mod heap;
+mod shapes;
+mod stop;
+mod walk;
+mod worked;

@@ -1,0 +1,331 @@
+//! Heaps of every shape: what is shared, cyclic, dead, waiting, or held in one way alone.
+//!
+//! There are 64 segments of 256 words, of which the first begins at word 32, and nurseries as large as a
+//! segment, of which the first begins at word `YOUNG`. A pointer is twice its word. Young objects lie in the
+//! order of the tables, so each place is a sum of sizes: two words, and one for each field.
+use super::heap::{
+    ARR, CON, Heap, NIL, STACK, THUNK, VAR, WEAK, create, held, hold, layout, make_heap, promote,
+    store, to, word,
+};
+use nmgc_object::Address;
+use std::alloc::Global;
+use std::process::Abort;
+use std::test::Fail;
+
+// Where the nurseries of mutators 0 and 1 begin.
+const YOUNG: u64 = 16416;
+
+const SECOND_YOUNG: u64 = 16672;
+
+// The word of the number 5.
+const FIVE: u64 = 13;
+
+// An object that is born: its maker, the number of its kind, and its field words.
+type Birth = (u8, u64, &'static [u64]);
+
+// An object that moves: its maker, its serial, its place in the nursery, and the new one.
+type Moved = (u8, u32, u32, u32);
+
+// A round and its stop: the objects that are born; the words that are then stored below the nurseries; the
+// words that registers hold, and those that join the first queue; the recorded fields, and the weak pointers
+// that the round made. Then what moves; and words of the heap, registers and the first queue after it.
+#[derive(Clone, Copy)]
+struct Round {
+    births: &'static [Birth],
+    stores: &'static [(u32, u64)],
+    holds: &'static [(usize, u64)],
+    joins: &'static [u64],
+    recorded: &'static [Address],
+    weaks: &'static [Address],
+    moves: &'static [Moved],
+    words: &'static [(u32, u64)],
+    registers: &'static [(usize, u64)],
+    queue: &'static [u64],
+}
+
+// Nothing happens, and nothing moves.
+const QUIET: Round = Round {
+    births: &[],
+    stores: &[],
+    holds: &[],
+    joins: &[],
+    recorded: &[],
+    weaks: &[],
+    moves: &[],
+    words: &[],
+    registers: &[],
+    queue: &[],
+};
+
+// A constructor that refers to itself, two that refer to each other, an array that shares one with a
+// variable, and a constructor that nobody refers to.
+const SHARED_AND_CYCLIC: [Round; 1] = [Round {
+    births: &[
+        (0, CON, &[2 * YOUNG]),
+        (0, CON, &[2 * (YOUNG + 7), NIL]),
+        (0, CON, &[2 * (YOUNG + 3)]),
+        (0, CON, &[]),
+        (
+            0,
+            ARR,
+            &[2 * (YOUNG + 10), 2 * (YOUNG + 10), 2 * (YOUNG + 10)],
+        ),
+        (0, CON, &[2 * (YOUNG + 10)]),
+        (0, VAR, &[2 * (YOUNG + 10)]),
+    ],
+    holds: &[
+        (0, 2 * YOUNG),
+        (1, 2 * (YOUNG + 3)),
+        (2, 2 * (YOUNG + 12)),
+        (3, 2 * (YOUNG + 20)),
+    ],
+    moves: &[
+        (0, 0, 16416, 32),
+        (0, 1, 16419, 36),
+        (0, 2, 16423, 40),
+        (0, 3, 16426, 44),
+        (0, 4, 16428, 288),
+        (0, 6, 16436, 48),
+    ],
+    words: &[
+        (34, 64),
+        (38, 80),
+        (39, NIL),
+        (42, 72),
+        (50, 88),
+        (290, 88),
+        (291, 88),
+        (292, 88),
+    ],
+    registers: &[(0, 64), (1, 72), (2, 576), (3, 96)],
+    ..QUIET
+}];
+
+// An alive weak pointer that nobody refers to, with its key and its finaliser; two dead ones, of which one is
+// held, and what only they refer to; a thunk with its result, which no longer holds its free variable, and
+// one that waits; and a stack with two slots left, in a slot of g.
+const WEAK_AND_LAZY: [Round; 1] = [Round {
+    births: &[
+        (0, CON, &[]),
+        (0, CON, &[]),
+        (0, WEAK, &[2 * YOUNG, FIVE, 2 * (YOUNG + 2)]),
+        (0, CON, &[]),
+        (0, WEAK, &[2 * (YOUNG + 9), 0, NIL]),
+        (0, WEAK, &[2 * (YOUNG + 9), 0, 2 * (YOUNG + 9)]),
+        (0, CON, &[]),
+        (0, THUNK, &[2 * YOUNG, 2 * (YOUNG + 21)]),
+        (0, CON, &[]),
+        (0, THUNK, &[0, 2 * (YOUNG + 27)]),
+        (0, STACK, &[2 * (YOUNG + 27), FIVE, 0, 0]),
+    ],
+    stores: &[(3, 2 * (YOUNG + 33))],
+    holds: &[
+        (0, 2 * (YOUNG + 16)),
+        (1, 2 * (YOUNG + 23)),
+        (2, 2 * (YOUNG + 29)),
+    ],
+    weaks: &[Address(16420), Address(16427), Address(16432)],
+    moves: &[
+        (0, 0, 16416, 32),
+        (0, 1, 16418, 36),
+        (0, 2, 16420, 288),
+        (0, 5, 16432, 293),
+        (0, 7, 16439, 40),
+        (0, 8, 16443, 44),
+        (0, 9, 16445, 48),
+        (0, 10, 16449, 544),
+    ],
+    words: &[
+        (3, 1088),
+        (42, 64),
+        (50, 0),
+        (51, 88),
+        (290, 64),
+        (291, FIVE),
+        (292, 72),
+        (296, 0),
+        (546, 88),
+        (547, FIVE),
+        (548, 0),
+        (549, 0),
+    ],
+    registers: &[(0, 586), (1, 80), (2, 96)],
+    ..QUIET
+}];
+
+// A variable is promoted, and then nobody holds it. One of its fields is recorded, twice over, and refers to
+// a young object; another waits in a queue; and a third is held by nobody.
+const RECORDED_AND_QUEUED: [Round; 2] = [
+    Round {
+        births: &[(0, VAR, &[NIL])],
+        holds: &[(0, 2 * YOUNG)],
+        moves: &[(0, 0, 16416, 32)],
+        words: &[(34, NIL)],
+        registers: &[(0, 64)],
+        ..QUIET
+    },
+    Round {
+        births: &[(0, CON, &[]), (0, CON, &[]), (0, CON, &[])],
+        stores: &[(34, 2 * YOUNG)],
+        holds: &[(0, NIL)],
+        joins: &[2 * (YOUNG + 4)],
+        recorded: &[Address(34), Address(34)],
+        moves: &[(0, 1, 16416, 36), (0, 3, 16420, 40)],
+        words: &[(34, 72)],
+        registers: &[(0, NIL)],
+        queue: &[80],
+        ..QUIET
+    },
+];
+
+// Two mutators, whose objects refer to each other's. Those of mutator 0 move first, though its object was
+// born last but one. Nothing is left to move at the stop after that.
+const TWO_MUTATORS: [Round; 2] = [
+    Round {
+        births: &[
+            (1, CON, &[]),
+            (0, CON, &[2 * SECOND_YOUNG]),
+            (1, CON, &[2 * YOUNG]),
+        ],
+        holds: &[(64, 2 * (SECOND_YOUNG + 2))],
+        moves: &[(0, 1, 16416, 32), (1, 0, 16672, 288), (1, 2, 16674, 292)],
+        words: &[(34, 576), (294, 64)],
+        registers: &[(64, 584)],
+        ..QUIET
+    },
+    Round {
+        words: &[(34, 576), (294, 64)],
+        registers: &[(64, 584)],
+        ..QUIET
+    },
+];
+
+// Makes the objects of a round.
+fn bear_all(rt: &impl Abort, heap: &mut Heap, births: &[Birth]) {
+    for (maker, kind, fields) in births {
+        create(rt, heap, *maker, *kind, fields);
+    }
+}
+
+// Adds words to the first queue.
+fn join_all(rt: &impl Abort, heap: &mut Heap, joins: &[u64]) -> Result<(), Fail> {
+    let queues = heap.roots.queues.items_mut();
+    assert!(rt; !queues.is_empty());
+    for word in joins {
+        queues[0].reserve(1)?;
+        queues[0].add(*word);
+    }
+    Ok(())
+}
+
+// Does what happens in a round.
+fn play(rt: &impl Abort, heap: &mut Heap, round: &Round) -> Result<(), Fail> {
+    bear_all(rt, heap, round.births);
+    for (at, word) in round.stores {
+        store(rt, &mut heap.words, *at, *word);
+    }
+    for (register, word) in round.holds {
+        hold(rt, heap, *register, *word);
+    }
+    join_all(rt, heap, round.joins)
+}
+
+// Compares the moves with those that are wanted.
+fn compare_moves(rt: &impl Abort, heap: &Heap, wanted: &[Moved]) {
+    let moves = heap.lists.moves.items();
+    assert!(rt; moves.len() == wanted.len());
+    for (moved, (maker, serial, from, to)) in moves.iter().zip(wanted) {
+        assert!(rt; moved.name.maker == *maker);
+        assert!(rt; moved.name.serial == *serial);
+        assert!(rt; moved.from.0 == *from);
+        assert!(rt; moved.to.0 == *to);
+    }
+}
+
+// Compares words, registers and the first queue with those that a round wants.
+fn compare(rt: &impl Abort, heap: &Heap, round: &Round) {
+    for (at, wanted) in round.words {
+        assert!(rt; word(rt, heap, *at) == *wanted);
+    }
+    for (register, wanted) in round.registers {
+        assert!(rt; held(rt, heap, *register) == *wanted);
+    }
+    let queues = heap.roots.queues.items();
+    assert!(rt; !queues.is_empty());
+    assert!(rt; queues[0].words() == round.queue);
+}
+
+// Runs rounds of so many mutators from an empty heap.
+fn run_rounds(rt: &impl Abort, alloc: Global, mutators: u8, rounds: &[Round]) -> Result<(), Fail> {
+    let mut heap = make_heap(rt, alloc, layout(256, 256, mutators))?;
+    for round in rounds {
+        play(rt, &mut heap, round)?;
+        promote(rt, &mut heap, round.recorded, round.weaks);
+        compare_moves(rt, &heap, round.moves);
+        compare(rt, &heap, round);
+    }
+    Ok(())
+}
+
+#[test]
+fn heaps_of_every_shape(rt: HostRuntime) -> Result<(), Fail> {
+    run_rounds(&rt, rt.alloc(), 1, &SHARED_AND_CYCLIC)?;
+    run_rounds(&rt, rt.alloc(), 1, &WEAK_AND_LAZY)?;
+    run_rounds(&rt, rt.alloc(), 1, &RECORDED_AND_QUEUED)?;
+    run_rounds(&rt, rt.alloc(), 2, &TWO_MUTATORS)
+}
+
+// Makes an array of so many words for each of the sizes, holds it, promotes, and compares the new places.
+fn move_sizes(rt: &impl Abort, heap: &mut Heap, sizes: &[(usize, u32)]) {
+    let nils = [NIL; 4094];
+    for (index, (size, _)) in sizes.iter().enumerate() {
+        assert!(rt; 2 <= *size && *size <= 4096);
+        let at = create(rt, heap, 0, ARR, &nils[..*size - 2]);
+        hold(rt, heap, index, to(at));
+    }
+    promote(rt, heap, &[], &[]);
+    let moves = heap.lists.moves.items();
+    assert!(rt; moves.len() == sizes.len());
+    for (moved, (size, place)) in moves.iter().zip(sizes) {
+        assert!(rt; moved.to.0 == *place);
+    }
+}
+
+// Arrays that fill a block, of some dense classes and of each class above, and then the smallest of these classes.
+// A segment has 4,096 words, the first begins at word 32, and each class takes the next one; only the largest block
+// fills one at once.
+#[test]
+fn every_size(rt: HostRuntime) -> Result<(), Fail> {
+    let mut heap = make_heap(&rt, rt.alloc(), layout(4096, 8192, 1))?;
+    let largest = [
+        (4, 32),
+        (5, 4128),
+        (6, 8224),
+        (16, 12320),
+        (32, 16416),
+        (64, 20512),
+        (128, 24608),
+        (256, 28704),
+        (512, 32800),
+        (1024, 36896),
+        (2048, 40992),
+        (4096, 45088),
+    ];
+    move_sizes(&rt, &mut heap, &largest);
+    let smallest = [
+        (2, 36),
+        (5, 4133),
+        (6, 8230),
+        (16, 12336),
+        (17, 16448),
+        (33, 20576),
+        (65, 24736),
+        (129, 28960),
+        (257, 33312),
+        (513, 37920),
+        (1025, 43040),
+        (2049, 49184),
+    ];
+    move_sizes(&rt, &mut heap, &smallest);
+    Ok(())
+}

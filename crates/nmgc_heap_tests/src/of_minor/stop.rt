@@ -1,0 +1,120 @@
+//! A promotion at a stop, as the run does it: what the words stand for is told by a law, and not by a walk.
+ghost use Rattle.std.specs.Prelude.{◌≡◌, [], ◌∷◌, IfOk};
+ghost use Rattle.nmgc_alloc.specs.Segments.{all_free};
+ghost use Rattle.nmgc_heap.specs.Samples.{small_layout};
+ghost use Rattle.nmgc_blocks.specs.Samples.{HoldsYoung, young_registers};
+ghost use Rattle.nmgc_minor.specs.Promotion.{IsFor};
+ghost use Rattle.nmgc_minor.specs.Start.{words_of};
+
+use super::heap::NIL;
+use nmgc_alloc::Segments;
+use nmgc_blocks::laws::one_young_object;
+use nmgc_graph::{List, Name};
+use nmgc_minor::{Move, Promotion, Roots};
+use nmgc_object::{Address, FinQueue, Layout, Nursery};
+use std::alloc::Global;
+use std::process::Abort;
+use std::test::Fail;
+
+// Looks whether the words are those of the heap whose round made one object.
+fn check_young(rt: &impl Abort, words: &[u64])
+    ensures { HoldsYoung words.now }
+{
+    assert!(rt; words.len() == 2144);
+    assert!(rt; words[1] == 32771);
+    assert!(rt; words[2] == 32);
+    for i in 0..16usize {
+        assert!(rt; words[3 + i] == 1);
+    }
+    assert!(rt; words[2080] == 2105);
+    assert!(rt; words[2081] == 0);
+    assert!(rt; words[2082] == 13);
+}
+
+// Promotes it: the nursery is empty afterwards.
+fn promote_young(
+    rt: &impl Abort,
+    promotion: &mut Promotion,
+    words: &mut List<u64>,
+    segments: &mut Segments,
+    roots: &mut Roots,
+)
+    requires lists { IsFor small_layout promotion.old }
+    requires words { HoldsYoung words.old }
+    requires free { segments.old ≡ all_free small_layout }
+    requires registers { roots.old.registers ≡ young_registers }
+    requires queues { words_of roots.old.queues ≡ [] ∷ [] }
+{
+    let mut nurseries = [Nursery {
+        base: 2080,
+        top: 2083,
+        end: 2144,
+    }];
+    let _ = segments.layout();
+    one_young_object();
+    promotion.promote(words, segments, &mut nurseries, roots, &[], &[]);
+    assert!(rt; nurseries[0].top == 2080);
+}
+
+// What one mutator holds: the object in register 0, its number in register 1, and nil.
+fn young_roots(alloc: Global) -> Result<Roots, Fail>
+    ensures { IfOk result (λ roots. (roots.registers ≡ young_registers) × (words_of roots.queues ≡ [] ∷ [])) }
+{
+    let mut registers = [NIL; 64];
+    registers[0] = 4160;
+    registers[1] = 13;
+    let registers = Vec::from_array(alloc, registers)?;
+    let mut queues = List::new(alloc);
+    queues.push(FinQueue::new(alloc))?;
+    Ok(Roots {
+        registers: List::from_vec(registers)?,
+        queues,
+    })
+}
+
+// One object moved, to the first block.
+fn compare_move(rt: &impl Abort, moves: &[Move]) {
+    assert!(rt; moves.len() == 1);
+    assert!(rt; moves[0].name == Name {
+            maker: 0,
+            serial: 0
+        });
+    assert!(rt; moves[0].from == Address(2080));
+    assert!(rt; moves[0].to == Address(32));
+}
+
+// Compares the words from a place on with those that are wanted.
+fn compare_front(rt: &impl Abort, words: &[u64], from: usize, wanted: &[u64]) {
+    assert!(rt; from <= words.len() && wanted.len() <= words.len() - from);
+    for i in 0..wanted.len() {
+        assert!(rt; words[from + i] == wanted[i]);
+    }
+}
+
+// A round made a constructor of tag 7 with the number 5. It moves from the beginning of the nursery to the
+// first block of the first segment.
+#[test]
+fn one_object(rt: HostRuntime) -> Result<(), Fail> {
+    let small = Layout {
+        segments: 32,
+        words: 64,
+        nursery: 64,
+        mutators: 1,
+    };
+    let mut words = vec![in rt.alloc(); NIL; 2144]?;
+    words[1] = 32771;
+    words[2] = 32;
+    words[2080] = 2105;
+    words[2081] = 0;
+    words[2082] = 13;
+    check_young(&rt, words.as_slice());
+    let mut words = List::from_vec(words)?;
+    let mut segments = Segments::new(rt.alloc(), small)?;
+    let mut promotion = Promotion::reserve(rt.alloc(), small)?;
+    let mut roots = young_roots(rt.alloc())?;
+    promote_young(&rt, &mut promotion, &mut words, &mut segments, &mut roots);
+    compare_move(&rt, promotion.moves());
+    compare_front(&rt, words.items(), 32, &[2105, 0, 13]);
+    compare_front(&rt, roots.registers.items(), 0, &[64, 13]);
+    Ok(())
+}

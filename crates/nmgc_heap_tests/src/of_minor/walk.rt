@@ -1,0 +1,174 @@
+//! A walk through a heap, which tells what a test's words are good for.
+//!
+//! The passes ask much of the words that they are given. A test has words and no world that they stand
+//! for, so it looks: where the walk ends, the words are what the passes ask.
+//!
+//! Easy to get wrong: the walk takes each even word for a pointer, headers and names too. So a heap needs
+//! enough segments below its nurseries that no header of a large stack, and no high serial, points there.
+ghost use Rattle.std.specs.Prelude.{ℕ, ◌≡◌, ◌≢◌, ◌+◌, ◌*◌, ◌^◌, ◌<◌, ◌≤◌, IsTrue, All, List, length, slice_index, Contains};
+ghost use Rattle.nmgc_object.specs.Words.{header_word, name_word, IsHeader as IsGoodHeader, IsName};
+ghost use Rattle.nmgc_object.specs.Places.{IsLayout, reserve_count};
+ghost use Rattle.nmgc_alloc.specs.Reserve.{free_count};
+ghost use Rattle.nmgc_heap_tests.specs.Checked.{PointsWell, IsMade, AreMade, AreParts};
+ghost use Rattle.nmgc_minor.specs.Start.{words_of, places_of};
+
+use nmgc_alloc::Segments;
+use nmgc_graph::Name;
+use nmgc_object::{
+    Address, FinQueue, HEADER_WORDS, Header, Layout, Nursery, decode_header, decode_name,
+};
+use std::process::Abort;
+
+// Whether an object begins where the word points, if it points to the nurseries.
+fn points_well(sizes: &[u32], base: u32, word: u64) -> bool
+    ensures { IsTrue result → PointsWell base sizes.now word }
+{
+    let at = word / 2;
+    if word % 2 != 0 || at < u64::from(base) {
+        return true;
+    }
+    let index = (at - u64::from(base)) as usize;
+    index < sizes.len() && sizes[index] != 0
+}
+
+pub fn check_words(rt: &impl Abort, sizes: &[u32], base: u32, words: &[u64])
+    ensures { (k : ℕ) → k < length words.now → PointsWell base sizes.now (slice_index words.now k) }
+{
+    for word in words {
+        assert!(rt; points_well(sizes, base, *word));
+    }
+}
+
+fn check_queue(rt: &impl Abort, sizes: &[u32], base: u32, queue: &FinQueue)
+    ensures short { length queue.now.words < 2 ^ 32 }
+    ensures points { (k : ℕ) → k < length queue.now.words → PointsWell base sizes.now (slice_index queue.now.words k) }
+{
+    let words = queue.words();
+    assert!(rt; words.len() < 4294967296);
+    check_words(rt, sizes, base, words);
+}
+
+pub fn check_recorded(rt: &impl Abort, base: u32, recorded: &[Address])
+    ensures { (at : ℕ) → Contains (places_of recorded.now) at → at < base }
+{
+    for at in recorded {
+        assert!(rt; at.0 < base);
+    }
+}
+
+fn read_header(rt: &impl Abort, word: u64) -> Header
+    ensures valid { IsGoodHeader result }
+    ensures word { header_word result ≡ word }
+{
+    match decode_header(word) {
+        Some(header) => header,
+        None => panic!(rt; "no header"),
+    }
+}
+
+fn read_name(rt: &impl Abort, word: u64) -> Name
+    ensures valid { IsName result }
+    ensures word { name_word result ≡ word }
+{
+    match decode_name(word) {
+        Some(name) => name,
+        None => panic!(rt; "no name"),
+    }
+}
+
+pub fn check_weaks(rt: &impl Abort, sizes: &[u32], base: u32, words: usize, weaks: &[Address])
+    ensures { (at : ℕ) → Contains (places_of weaks.now) at → PointsWell base sizes.now (2 * at) × (at + 5 ≤ words) }
+{
+    for at in weaks {
+        assert!(rt; points_well(sizes, base, 2 * u64::from(at.0)));
+        assert!(rt; at.0 as usize + 5 <= words);
+    }
+}
+
+pub fn check_queues(rt: &impl Abort, sizes: &[u32], base: u32, queues: &[FinQueue])
+    ensures short { All (λ queue. length queue.words < 2 ^ 32) queues.now }
+    ensures points { (queue : List ℕ) (word : ℕ) → Contains (words_of queues.now) queue → Contains queue word → PointsWell base sizes.now word }
+{
+    for queue in queues {
+        check_queue(rt, sizes, base, queue);
+    }
+}
+
+fn check_object(
+    rt: &impl Abort,
+    layout: Layout,
+    base: u32,
+    words: &[u64],
+    sizes: &[u32],
+    nurseries: &[Nursery],
+    free: usize,
+    k: usize,
+)
+    requires inside { k < length sizes.now }
+    requires count { length nurseries.now ≡ layout.mutators }
+    ensures made { IsMade layout base words.now sizes.now nurseries.now k }
+    ensures after { free ≤ k }
+{
+    assert!(rt; free <= k);
+    let at = base as usize + k;
+    assert!(rt; at + 1 < words.len());
+    let header = read_header(rt, words[at]);
+    let name = read_name(rt, words[at + 1]);
+    assert!(rt; sizes[k] == HEADER_WORDS + header.fields);
+    assert!(rt; sizes[k] <= layout.words);
+    assert!(rt; usize::from(name.maker) < nurseries.len());
+    let nursery = nurseries[usize::from(name.maker)];
+    assert!(rt; nursery.base as usize <= at);
+    assert!(rt; at + sizes[k] as usize <= nursery.top as usize);
+}
+
+pub fn check_objects(
+    rt: &impl Abort,
+    layout: Layout,
+    base: u32,
+    words: &[u64],
+    sizes: &[u32],
+    nurseries: &[Nursery],
+)
+    requires { length nurseries.now ≡ layout.mutators }
+    ensures { AreMade layout base words.now sizes.now nurseries.now (length sizes.now) }
+{
+    let mut free = 0;
+    for k in 0..sizes.len() {
+        if sizes[k] != 0 {
+            check_object(rt, layout, base, words, sizes, nurseries, free, k);
+            free = k + sizes[k] as usize;
+        }
+    }
+}
+
+pub fn check_nurseries(rt: &impl Abort, layout: Layout, nurseries: &[Nursery])
+    requires { IsLayout layout }
+    ensures { AreParts layout nurseries.now }
+{
+    assert!(rt; nurseries.len() == usize::from(layout.mutators));
+    for maker in 0..layout.mutators {
+        let nursery = nurseries[usize::from(maker)];
+        assert!(rt; nursery.base == layout.nursery_base(maker));
+        assert!(rt; nursery.base <= nursery.top);
+        assert!(rt; nursery.top - nursery.base <= layout.nursery);
+    }
+}
+
+// Whether the reserve is free.
+pub fn check_room(rt: &impl Abort, segments: &Segments)
+    ensures { reserve_count segments.now.layout ≤ free_count segments.now.segments }
+{
+    let layout = segments.layout();
+    assert!(rt; layout.reserve() <= segments.free_count());
+}
+
+pub fn check_lengths(rt: &impl Abort, layout: Layout, base: u32, words: &[u64], sizes: &[u32])
+    requires { IsLayout layout }
+    ensures size { length sizes.now ≡ layout.mutators * layout.nursery }
+    ensures long { base + layout.mutators * layout.nursery ≤ length words.now }
+{
+    let count = (u32::from(layout.mutators) * layout.nursery) as usize;
+    assert!(rt; sizes.len() == count);
+    assert!(rt; base as usize + count <= words.len());
+}

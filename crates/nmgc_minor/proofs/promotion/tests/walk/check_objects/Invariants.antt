@@ -1,9 +1,0 @@
-use Rattle.std.proofs.Common.{ℕ, ◌<◌, ◌≤◌, ◌+◌, ◌≢◌, slice_index}
-use Rattle.nmgc_minor.specs.Checked.{AreMade}
-use Rattle.nmgc_minor.proofs.promotion.tests.walk.check_objects.Given as goal
-
-abbrev pub invariant-loop-k : goal.invariant-loop-k
-invariant-loop-k g l = record {
-  made : AreMade l.layout l.base l.words l.sizes l.nurseries l.k;
-  next : (j : ℕ) → j < l.k → slice_index l.sizes j ≢ 0 → j + slice_index l.sizes j ≤ l.free;
-}

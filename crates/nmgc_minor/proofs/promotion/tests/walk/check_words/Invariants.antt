@@ -1,6 +1,0 @@
-use Rattle.std.proofs.Common.{ℕ, ◌<◌, slice_index}
-use Rattle.nmgc_minor.specs.Checked.{PointsWell}
-use Rattle.nmgc_minor.proofs.promotion.tests.walk.check_words.Given as goal
-
-abbrev pub invariant-loop-word : goal.invariant-loop-word
-invariant-loop-word g l = (k : ℕ) → k < l.word-index → PointsWell l.base l.sizes (slice_index l.words k)

@@ -1,6 +1,0 @@
-//! Promotions of small heaps, whose moves and places were worked out by hand.
-mod heap;
-mod shapes;
-mod stop;
-mod walk;
-mod worked;
