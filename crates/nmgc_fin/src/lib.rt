@@ -31,6 +31,3 @@ pub use job::Job;
 pub use run::{Handled, run_jobs};
 pub use text::{JobsFault, jobs};
 pub use top::{FinStatus, nmgc_fin};
-
-#[cfg(test)]
-mod tests;

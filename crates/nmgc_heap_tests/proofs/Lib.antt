@@ -1,1 +1,2 @@
 pub mod CheckedLaws
+pub mod TwoObjects

@@ -8,9 +8,13 @@ mod of_blocks;
 #[cfg(test)]
 mod of_journal;
 #[cfg(test)]
+mod of_mark;
+#[cfg(test)]
 mod of_minor;
 #[cfg(test)]
 mod of_mutator;
+#[cfg(test)]
+mod of_pmark;
 #[cfg(test)]
 mod of_round;
 #[cfg(test)]

@@ -23,3 +23,5 @@ mod of_script;
 mod of_segment;
 #[cfg(test)]
 mod of_updrem;
+#[cfg(test)]
+mod of_watch;

@@ -7,22 +7,29 @@ ghost use Rattle.nmgc_graph.specs.Reach.{IsReached, IsRoot};
 ghost use Rattle.nmgc_object.specs.FinQueue.{FinQueue};
 ghost use Rattle.nmgc_core.specs.Facts.{Facts};
 ghost use Rattle.nmgc_core.specs.State.{State as Core, names_of};
-ghost use Rattle.nmgc_alloc.specs.Segments.{Segments};
+ghost use Rattle.nmgc_alloc.specs.Segments.{Segments, IsSegments};
 ghost use Rattle.nmgc_heap.specs.Places.{Place};
 ghost use Rattle.nmgc_round.specs.View.{Opening, Seen, whole};
 ghost use Rattle.nmgc_round.specs.Seating.{collecting};
 ghost use Rattle.nmgc_round.specs.Marking.{Marks, marks_of};
 ghost use Rattle.nmgc_round.specs.Rule.{now};
 ghost use Rattle.nmgc_round.specs.Finishing.{IsFinished};
+ghost use Rattle.nmgc_run.specs.Marker.{HasRoomToMark};
 ghost use Rattle.nmgc_run.specs.Seen.{MarkerSeen};
-ghost use Rattle.nmgc_mark.specs.Beginning.{IsBeginning, IsPrepared};
+ghost use Rattle.nmgc_mark.specs.Beginning.{IsBeginning, IsPrepared, most_blocks};
 ghost use Rattle.nmgc_mark.specs.Blocks.{TiesAgree};
+ghost use Rattle.nmgc_mark.specs.Marker.{blank};
 ghost use Rattle.nmgc_mark.specs.Tie.{IsRightSnapshot, IsTied};
 ghost use Rattle.nmgc_mark.specs.Work.{marks_seen};
 
 /// A heap at a stop whose segments were just prepared is one with which marking begins.
 pub fn prepared_heaps_begin()
     ensures { (o : Opening) (s : Segments) (epoch : ℕ) (words registers : List ℕ) (queues : List FinQueue) → IsPrepared o s epoch words registers queues → IsBeginning o s epoch words registers queues }
+{}
+
+/// A marker that marked nothing, with room for as many blocks as can be in use, has room for every block.
+pub fn blank_markers_have_room()
+    ensures { (s : Segments) (epoch : ℕ) → IsSegments s → HasRoomToMark s (blank epoch (most_blocks s.layout)) }
 {}
 
 /// As a round begins, a marker that is the machine's is the collector's view's.

@@ -20,6 +20,3 @@ pub mod marker;
 mod work;
 
 pub use marker::{Marker, Work};
-
-#[cfg(test)]
-mod tests;

@@ -64,8 +64,8 @@ impl Model for Marker {
     ghost invariant = { λ m. IsEpoch m.epoch × (m.first ≤ length m.found.items) × (length m.found.items ≤ m.limit) × (m.limit ≤ length m.found.items + m.found.spare) };
 }
 
-/// No more blocks than these can be in use.
-pub(crate) fn most_blocks(layout: Layout) -> u32
+/// No more blocks than these can be in use in a heap of this layout. Takes no memory.
+pub fn most_blocks(layout: Layout) -> u32
     requires { IsLayout layout }
     ensures { result ≡ most_blocks layout }
 {
@@ -73,8 +73,8 @@ pub(crate) fn most_blocks(layout: Layout) -> u32
 }
 
 impl Marker {
-    /// A marker that marked nothing, with room for so many blocks.
-    pub(crate) fn blank(alloc: Global, epoch: u8, blocks: u32) -> Result<Marker, NoMemory>
+    /// A marker that marked nothing, with room for so many blocks, which is the memory that it takes. Its `turns` is 0.
+    pub fn blank(alloc: Global, epoch: u8, blocks: u32) -> Result<Marker, NoMemory>
         requires { IsEpoch epoch }
         ensures { IfOk result (λ marker. marker ≡ blank epoch blocks) }
     {
@@ -199,8 +199,9 @@ impl Marker {
         self.first as usize == self.found.items().len()
     }
 
-    /// Takes the first place off the queue.
-    pub(crate) fn take_first(&mut self) -> Option<Address>
+    /// Takes the first place off the queue; `None` comes exactly where it is empty. Its block stays marked, and whoever takes
+    /// it has to scan it. Takes no memory.
+    pub fn take_first(&mut self) -> Option<Address>
         ensures some { IfSome result (λ at. (self.old.queue ≡ at.0 ∷ self.new.queue) × (self.new ≡ record self.old { queue = self.new.queue })) }
         ensures none { IfNone result ((self.old.queue ≡ []) × (self.new ≡ self.old)) }
     {

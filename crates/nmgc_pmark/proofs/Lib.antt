@@ -5,7 +5,6 @@ pub mod Naming
 pub mod Orders
 pub mod Rules
 pub mod Same
-pub mod Samples
 pub mod Scans
 pub mod Stops
 pub mod Tied

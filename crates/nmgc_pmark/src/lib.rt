@@ -35,6 +35,3 @@ pub use crew::MOST_MARKERS;
 pub use merge::names_of;
 pub use still::StillWords;
 pub use table::{ClaimSeat, ClaimTable};
-
-#[cfg(test)]
-mod tests;

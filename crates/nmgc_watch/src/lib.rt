@@ -28,6 +28,3 @@ pub use due::Field;
 pub use event::{Event, Why};
 pub use left::Left;
 pub use watch::Watch;
-
-#[cfg(test)]
-mod tests;

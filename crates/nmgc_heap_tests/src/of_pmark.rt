@@ -1,9 +1,9 @@
 //! Two markers that wait for each other at a gate of the test, each with an object of its own.
 //!
 //! The gate gives up after many turns of its spin, and notes it, so markers on one thread fail the test and don't hang.
-use crate::bounds::Bounds;
-use crate::crew::places_marked;
 use nmgc_object::laws::words_differ;
+use nmgc_pmark::Bounds;
+use nmgc_pmark::crew::places_marked;
 use nmgc_round::Gate;
 use std::sync::atomic::{AtomicU64, Ordering};
 use std::test::Fail;

@@ -2,10 +2,10 @@
 ghost use Rattle.std.specs.Prelude.{IfOk};
 ghost use Rattle.nmgc_run.specs.Marker.{HasRoomToMark};
 
-use crate::laws;
-use crate::marker::{Marker, most_blocks};
 use nmgc_alloc::Segments;
 use nmgc_graph::NoMemory;
+use nmgc_mark::laws;
+use nmgc_mark::marker::{Marker, most_blocks};
 use nmgc_object::{Address, Layout};
 use std::alloc::Global;
 use std::process::Abort;
@@ -30,6 +30,7 @@ fn begin(rt: &impl Abort, segments: &mut Segments) {
 fn marker_of(alloc: Global, segments: &Segments) -> Result<Marker, NoMemory>
     ensures { IfOk result (HasRoomToMark segments.now) }
 {
+    laws::blank_markers_have_room();
     let blocks = most_blocks(segments.layout());
     let marker = Marker::blank(alloc, 1, blocks)?;
     Ok(marker)
@@ -96,4 +97,5 @@ fn laws_ask_nothing(rt: HostRuntime) {
     laws::ties_agree();
     laws::marks_are_of_the_snapshot();
     laws::all_reached_is_marked();
+    laws::blank_markers_have_room();
 }

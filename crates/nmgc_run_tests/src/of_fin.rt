@@ -4,7 +4,7 @@
 ghost use Rattle.std.specs.Prelude.{IfOk, ◌≡◌, length};
 ghost use Rattle.nmgc_fin.specs.Handles.{AreNumbered};
 
-use crate::{Handled, Job, JobsFault, jobs, nmgc_fin, run_jobs};
+use nmgc_fin::{Handled, Job, JobsFault, jobs, nmgc_fin, run_jobs};
 use nmgc_graph::{Name, SHARED_MAKER};
 use nmgc_io::{MemorySink, MemorySource};
 use nmgc_round::{Gate, OpenGate};
