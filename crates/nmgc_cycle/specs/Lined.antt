@@ -14,7 +14,7 @@ IsLined inbox k s = (r : Receiver) × (slice_get inbox k ≡ Some r) × IsLine r
 abbrev pub IsPaired : List Receiver → ℕ → Sender → Type 0
 IsPaired inbox k s = (r : Receiver) × (slice_get inbox k ≡ Some r) × IsPair s r
 
--- the mutator knows of more free slots at most
+-- the mutator's end looked at the other at most
 pub record HasMetSender (old new : Mutator) : Type 0 where
   pub rest : new ≡ record old { sender = new.sender }
   pub looked : HasLooked old.sender new.sender
@@ -36,12 +36,12 @@ pub record HasForgotten (old new : Mutator) : Type 0 where
   pub rest : new ≡ record old { updrem = new.updrem; sender = new.sender }
   pub nothing : remembered new ≡ []
 
--- each of them
+-- none of the mutators remembers anything any more
 pub record HaveForgotten (old new : List Mutator) : Type 0 where
   pub count : length new ≡ length old
   pub each : (k : ℕ) (m n : Mutator) → slice_get old k ≡ Some m → slice_get new k ≡ Some n → HasForgotten m n
 
--- whatever a receiver took
+-- the receiver may have changed in any way
 abbrev pub AnyLine : Receiver → Receiver → Type 0
 AnyLine r q = Unit {0}
 

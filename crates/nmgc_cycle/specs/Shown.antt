@@ -64,6 +64,7 @@ turns_by progress.Idle turns = turns
 turns_by (progress.Marking m) turns = m.marker.turns
 turns_by (progress.Sweeping w) turns = w.sweeper.turns
 
+-- how often the collector passed the gate so far
 abbrev pub turns_of : Collector → ℕ
 turns_of c = turns_by c.progress c.turns
 
@@ -73,6 +74,7 @@ upper_turns_by progress.Idle turns = turns
 upper_turns_by (progress.Marking m) turns = m.sweeper.upper_turns
 upper_turns_by (progress.Sweeping w) turns = w.sweeper.upper_turns
 
+-- how often its second sweeping half did so far
 abbrev pub upper_turns_of : Collector → ℕ
 upper_turns_of c = upper_turns_by c.progress c.upper_turns
 
@@ -80,6 +82,7 @@ upper_turns_of c = upper_turns_by c.progress c.upper_turns
 abbrev pub told_row : CycleRow → CycleRow
 told_row row = record row { had = in_order row.had; freed = in_order row.freed }
 
+-- the rows as a report tells them
 abbrev pub told_cycles : Collector → List CycleRow
 told_cycles c = map told_row c.cycles
 

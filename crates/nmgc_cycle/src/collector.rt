@@ -1,8 +1,8 @@
 //! A collector: how a run begins, how it goes on, and what it tells in the end.
 //!
 //! Here is the memory that grows with the heap, and most of it is taken at the beginning: the words in their table,
-//! the segments, and the lists of promotion. The table is made from a list of as many words, which is given back at
-//! once. The marker's queue and the sweeper's notes are taken as each cycle begins.
+//! the segments, the array of names beside them, and the lists of promotion. The table is made from a list of as many
+//! words, which is given back at once. The marker's queue and the sweeper's lists are taken as each cycle begins.
 //!
 //! The report is made where nothing can fail any more. So its words are those of the table, where they lie, and what
 //! the mutators have in hand goes into a list whose room was made at the beginning; in between that one stays empty
@@ -179,8 +179,8 @@ impl Collector {
     /// full of nil, every segment is free, the collector passed no gate, and each mutator's ring is empty.
     ///
     /// Asks that the script is within the limits. Takes memory for the words, and for as many again until they lie in
-    /// their table, for the segments with their marks, for what the promotion of full nurseries needs, and for a ring of
-    /// 64 blocks for each mutator; what a cycle needs is taken as it begins.
+    /// their table, for the segments with their marks and the names of what lies in them, for what the promotion of full
+    /// nurseries needs, and for a ring of `RING_BLOCKS` blocks for each mutator; what a cycle needs is taken as it begins.
     pub fn new(alloc: Global, script: &Script) -> Result<Collector, NoMemory>
         requires { IsInLimits script.now }
         ensures fresh { IfOk result (λ collector. IsFresh script.now collector) }

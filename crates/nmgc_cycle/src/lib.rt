@@ -11,12 +11,14 @@
 //! marker and sweeper stand. A new collector is what such a run begins with; a round leads from a stop to the end of a
 //! round, with one legal order of all its commands; a stop leads from there to the next stop of the run, and changes
 //! the world only where weak pointers die. So the report of a run is lawful, whatever the schedule was.
-//! `specs/Shown.antt` says what of a collector these facts see.
+//! `specs/Shown.antt` says what of a collector these facts see, and `specs/Lined.antt` what the two ends of each mutator's
+//! ring know of one another.
 //!
 //! A cycle begins at a stop, marks in the rounds that follow, beside the mutators, is closed at a stop, sweeps beside
 //! the mutators, and ends at a stop (`progress`, `cycle`). `specs/Cycles.antt` says what each of these calls does, and
 //! `specs/Steps.antt` what it leads to in the run. A full cycle is done at one stop (`full`, `specs/Full.antt`,
-//! `specs/FullLaws.antt`). `specs/Limits.antt` says which scripts may run.
+//! `specs/FullLaws.antt`). Each stop notes the name of what moved at its new place, for the sweeper (`names`).
+//! `specs/Limits.antt` says which scripts may run.
 //!
 //! Easy to get wrong: the words of a round are with its seats, and an error between its start and its end would
 //! lose them. So all that can fail comes before the words are taken, or after they are back. After `NoMemory` no

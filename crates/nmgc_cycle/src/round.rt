@@ -21,6 +21,7 @@ ghost use Rattle.nmgc_alloc.specs.Segments.{IsSegments};
 ghost use Rattle.nmgc_round.specs.Gate.{passed};
 ghost use Rattle.nmgc_mutator.specs.declared.mutator.Mutator.{Mutator as MutatorSeen};
 ghost use Rattle.nmgc_run.specs.Slice.{program_of};
+ghost use Rattle.nmgc_limits.specs.Limits.{most_slice};
 ghost use Rattle.nmgc_limits.specs.declared.mutators.TheConstants.{MAKERS};
 ghost use Rattle.nmgc_updrem.specs.Lines.{HasMetSo};
 ghost use Rattle.nmgc_updrem.specs.Rings.{AtLine, HavePolled};
@@ -107,9 +108,9 @@ impl Collector {
     /// One round: each mutator with commands left does a slice, in a thread of its own, and passes `gate` before each
     /// command that it tries. Beside them the collector scans as many objects as the quota says while a cycle marks, or
     /// sweeps as many segments of a closed one, or fewer where no more are left, in two halves; it passes `gate` before
-    /// each, and counts this through the whole run: the clauses `turns` and `upper_turns` tell the counts. Where a slice asks for a cycle, one is due
-    /// at the next stop that finds none in progress, and where it asks for a full cycle, that is due at the next stop.
-    /// The replies of the round are told after those of the rounds before.
+    /// each, and counts this through the whole run: the clauses `turns` and `upper_turns` tell the counts. Where a slice
+    /// asks for a cycle, one is due at the next stop that finds none in progress, and where it asks for a full cycle, that
+    /// is due at the next stop. The replies of the round are told after those of the rounds before.
     ///
     /// While a cycle marks, mutators send full blocks of what they remember through their rings, and the collector takes
     /// them out beside them; afterwards each mutator remembers what was taken, then what its ring has, then what it keeps.
@@ -329,7 +330,7 @@ fn reserve_inbox(inbox: &mut Inbox, script: &Script, positions: &[u32]) -> Resul
     requires threads { length script.now.threads ≡ length inbox.old }
     requires positions { length positions.now ≡ length inbox.old }
     requires few { length inbox.old ≤ MAKERS }
-    requires slice { script.now.config.slice ≤ 65536 }
+    requires slice { script.now.config.slice ≤ most_slice }
     ensures { HavePolled inbox.old inbox.new }
 {
     for number in 0..positions.len() {

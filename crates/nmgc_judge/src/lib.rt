@@ -15,6 +15,7 @@ mod report;
 mod told;
 mod verdict;
 
-pub use report::{Report, report_on};
-pub use told::HEAD;
-pub use verdict::{Verdict, verdict_of};
+pub use line::Line;
+pub use report::{Report, judge_told, report_on};
+pub use told::{HEAD, Told};
+pub use verdict::{Verdict, judge, verdict_of};

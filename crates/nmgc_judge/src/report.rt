@@ -1,6 +1,7 @@
 //! What a trace of format 2 comes to: the first line that can't happen, with the reason, or whether it is whole.
-ghost use Rattle.std.specs.Prelude.{◌≡◌, IfOk};
+ghost use Rattle.std.specs.Prelude.{List, ◌≡◌, IfOk};
 ghost use Rattle.nmgc_judge.specs.Reports.{IsHappening, IsReport, report_of, is_whole};
+ghost use Rattle.nmgc_judge.specs.declared.told.Told.{Told as ToldAt};
 ghost use Rattle.nmgc_judge.specs.declared.told.Told.TheVariants as told_is;
 
 use crate::told::{Told, told_lines};
@@ -23,7 +24,7 @@ pub enum Begun {
 pub enum Refusal {
     /// It is none of a trace.
     Unknown,
-    /// No line of this kind can stand there.
+    /// No line of this kind can stand there, or there can't be so many mutators.
     Misplaced,
     /// The event can't have happened, for this reason.
     Event(Why),
@@ -91,8 +92,9 @@ fn write_refusal<W: fmt::Write>(f: &mut fmt::Formatter<W>, refusal: Refusal) -> 
             write!(f, " is due since line {line}, and nobody remembered it")
         }
         Refusal::Event(Why::NotPushed(name)) => {
-            write!(f, "can't happen: nobody remembered ")?;
-            write_name(f, name)
+            write!(f, "can't happen: ")?;
+            write_name(f, name)?;
+            write!(f, " wasn't pushed, or was made since the cycle began")
         }
         Refusal::Event(Why::NotDead(name)) => {
             write!(f, "can't happen: ")?;
@@ -124,8 +126,10 @@ fn write_name<W: fmt::Write>(f: &mut fmt::Formatter<W>, name: Name) -> fmt::Resu
     write!(f, "{}.{}", name.maker, name.serial)
 }
 
-/// The report on the lines of a text.
-pub fn report_on(alloc: Global, text: &str) -> Result<Report, NoMemory> {
+/// The report on the lines of a text: that of `judge_told` on what they say.
+pub fn report_on(alloc: Global, text: &str) -> Result<Report, NoMemory>
+    ensures { IfOk result (λ report. (lines : List ToldAt) × IsReport lines report) }
+{
     let lines = told_lines(alloc, text)?;
     let report = judge_told(alloc, lines.items());
     drop(lines);

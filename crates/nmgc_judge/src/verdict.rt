@@ -1,5 +1,6 @@
 //! What a trace comes to: the first line that can't happen, or what is marked in the end.
-ghost use Rattle.std.specs.Prelude.{◌≡◌, IfOk};
+ghost use Rattle.std.specs.Prelude.{List, ◌≡◌, IfOk};
+ghost use Rattle.nmgc_judge.specs.declared.line.Line.{Line as LineAt};
 ghost use Rattle.nmgc_judge.specs.Kept.{TellsKept};
 ghost use Rattle.nmgc_judge.specs.Verdicts.{IsVerdict, IsTold, refusal_of};
 
@@ -68,8 +69,10 @@ fn write_names<W: fmt::Write>(f: &mut fmt::Formatter<W>, names: &[Name]) -> fmt:
     Ok(())
 }
 
-/// The verdict on the lines of a text.
-pub fn verdict_of(alloc: Global, text: &str) -> Result<Verdict, NoMemory> {
+/// The verdict on the lines of a text: that of `judge` on what they say.
+pub fn verdict_of(alloc: Global, text: &str) -> Result<Verdict, NoMemory>
+    ensures { IfOk result (λ verdict. (lines : List LineAt) × IsVerdict lines verdict × TellsKept lines verdict) }
+{
     let lines = lines_of(alloc, text)?;
     let verdict = judge(alloc, lines.items());
     drop(lines);

@@ -5,7 +5,7 @@
 //! end once it was begun, so between two calls every queued object is still to be scanned from its header on.
 //!
 //! Before each object the rings of all mutators are polled once: a block of remembered places that is there goes to the
-//! collector's own list, and is marked at the stop. So a mutator finds its ring empty again, however much it writes.
+//! collector's own list, and is marked at the stop. So a mutator finds free slots again while the marker is at work.
 //!
 //! Easy to get wrong: whether anything is left is told by the queue on return, and not by the quota: a round that
 //! scans its whole quota may leave nothing.

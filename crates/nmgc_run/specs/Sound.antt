@@ -26,7 +26,7 @@ use Rattle.nmgc_run.specs.Run.{Run, IsRun, last_state}
 use Rattle.nmgc_run.specs.Slice.{program_of}
 use Rattle.nmgc_run.specs.State.{Plan, State, Cycle, Progress, idle, marking, sweeping, layout_of}
 
--- the plan of a script: one to 32 programs, whose registers exist, and which are short enough for serials of 32 bits
+-- the plan of a script: one to `MAKERS` programs, whose registers exist, and which are short enough for serials of 32 bits
 pub record IsRunnable (plan : Plan) : Type 0 where
   pub some : 1 ≤ length plan.threads
   pub few : length plan.threads ≤ MAKERS

@@ -1,11 +1,12 @@
 //! The sweeper: after a cycle was closed, blocks that it didn't keep are used again.
 //!
 //! As a cycle begins, the filled segments wait to be swept. Once the cycle was closed, the sweeper sweeps the waiting
-//! segments one after the other, least number first, beside the mutators or at a stop (`sweeper`). Just before it
-//! sweeps one it lists the names in it and those of the blocks that the sweep frees (`listing`). It reads them from an
-//! array that has the name of each object in a segment by its place (`names`): beside a round the words of the heap are
-//! the mutators', and to read all names at a stop takes time that grows with the heap. The array is written as objects
-//! move into segments. So neither the stop at which a cycle begins nor any other takes time for the blocks of the heap.
+//! segments of least number, so many at a time, in two halves; it does so beside the mutators or at a stop (`sweeper`).
+//! Just before it lists the names in all of these and those of the blocks that the sweep frees (`listing`). It reads them
+//! from an array that has the name of each object in a segment by its place (`names`): beside a round the words of the
+//! heap are the mutators', and to read all names at a stop takes time that grows with the heap. The array is written as
+//! objects move into segments. So neither the stop at which a cycle begins nor any other takes time for the blocks of the
+//! heap.
 //! The lists are put in order once the run is over (`order`), so that no mutator waits for that either.
 //!
 //! The promise is the census of the cycle: had are the names in the segments that were filled as the cycle

@@ -42,8 +42,8 @@ fn entry_of(at: Address) -> u32
 }
 
 impl Names {
-    /// An entry for each block that a segment of the layout may have. Takes memory once, of which nothing depends on how
-    /// many objects there are.
+    /// An entry for each block that a segment of the layout may have. Takes memory once, which goes by the layout alone and
+    /// not by how many objects there are.
     pub fn new(alloc: Global, layout: Layout) -> Result<Names, NoMemory>
         requires { IsLayout layout }
         ensures { IfOk result (λ names. HaveEntries layout names) }

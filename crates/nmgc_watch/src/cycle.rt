@@ -2,8 +2,8 @@
 //!
 //! The cycle has the world as it is, and the snapshot. What was pushed is a list, and those names of the snapshot that
 //! are in it are also a set, for asking in constant time. What came due waits in a queue, in the order of lines. A push
-//! only puts the name into the set, so it takes constant time; a debt counts as long as its name isn't in the set, and
-//! debts that no longer count leave the queue from the front (`forget_paid`).
+//! puts the name into the list and, where the snapshot has it, into the set, so it takes constant time; a debt counts as
+//! long as its name isn't in the set, and debts that no longer count leave the queue from the front (`forget_paid`).
 //!
 //! Easy to get wrong: a name of no snapshot has no place in the set. It can't be due, and a push of it is only listed.
 ghost use Rattle.std.specs.Prelude.{◌≡◌, ◌↔◌, ◌++◌, ◌∷◌, [], ◌<◌, true, false, not, map, filter, slice_get, Some, None, IfOk, OnOk, OnErr, IsSome, IsTrue, Contains, All};

@@ -41,9 +41,10 @@ impl Watch {
     }
 
     /// Takes the event of a line, and answers `None`; or refuses it with a reason, and then nothing has changed. After
-    /// `NoMemory` nothing is known of the watch. Takes constant time for a push, amortised constant time for a settled
-    /// mutator, for a command constant time for each operand and each field that it may take away, and for the
-    /// beginning and the end of a cycle time for each object.
+    /// `NoMemory` nothing is known of the watch. Takes constant time for a push; for a settled mutator time for each debt
+    /// since the first one that counts, whoever owes it; for a command constant time for each operand and each field that
+    /// it may take away; and for the beginning and the end of a cycle time for each object. Memory grows with the heap and,
+    /// within a cycle, with its pushes and debts.
     pub fn step(&mut self, line: usize, event: &Event) -> Result<Option<Why>, NoMemory>
         ensures { IfOk result (λ why. IsStep line self.old event.now why self.new) }
     {
