@@ -67,7 +67,6 @@ fn rest(receiver: &mut UpdReceiver, sender: &mut UpdSender, from: u32) -> u32
     next
 }
 
-// Row R12.2.
 #[test]
 fn a_full_ring_keeps_what_is_pushed(rt: HostRuntime) -> Result<(), Fail> {
     let (mut sender, mut receiver) = link(rt.alloc())?;

@@ -7,8 +7,13 @@
 //! A stop ends with an empty ring. What a mutator sent since is told by `since`: it is counted from when both ends
 //! were last found level, which a value without bytes remembers (`level`).
 //!
+//! Before each object that it scans, the marker polls every ring, and nearly always finds nothing: so a call asks first
+//! whether there is a block, or a slot, and only then has a block among its locals.
+//!
 //! Easy to get wrong: a sender that finds no slot keeps its block. The mark of an object whose place is lost is lost.
-ghost use Rattle.std.specs.Prelude.{◌≡◌, ◌+◌, ◌<◌, ◌≤◌, ◌↔◌, [], ◌++◌, length, IsTrue, IsFalse, IsNone, IfOk, IfSome, IfNone, OnOk, OnErr, vec_len, vec_capacity};
+ghost use Rattle.std.specs.Prelude.{◌≡◌, ◌+◌, ◌<◌, ◌≤◌, ◌↔◌, List, [], ◌∷◌, ◌++◌, length, take, IsTrue, IsNone, IfOk, IfSome, IfNone, OnOk, OnErr, vec_len, vec_capacity};
+ghost use Rattle.rtrb.specs.Ring.{received, known_items, SameConsumer};
+ghost use Rattle.nmgc_object.specs.declared.words.Address.{Address};
 ghost use Rattle.nmgc_updrem.specs.declared.block.TheConstants.{BLOCK_ENTRIES};
 ghost use Rattle.nmgc_updrem.specs.declared.polled.Polled.TheVariants.{NoRoom};
 ghost use Rattle.nmgc_updrem.specs.declared.ring.TheConstants.{RING_BLOCKS};
@@ -87,13 +92,24 @@ pub fn link(alloc: Global) -> Result<(UpdSender, UpdReceiver), NoMemory>
 }
 
 impl UpdSender {
-    // Puts a block into the ring, and answers whether it did. It didn't only where this end knew of no free slot.
-    pub(crate) fn send(&mut self, block: UpdBlock) -> bool
-        ensures sent { IsTrue result → HasSent self.old self.new block }
-        ensures full { IsFalse result → HasLooked self.old self.new × (self.new.free ≡ 0) }
-        ensures succeeds { 0 < self.old.free → IsTrue result }
+    // Whether this end knows of no free slot. What it knew to be free it still knows.
+    pub(crate) fn is_full(&mut self) -> bool
+        ensures looked { HasLooked self.old self.new }
+        ensures value { IsTrue result ↔ (self.new.free ≡ 0) }
+        ensures kept { self.old.free ≤ self.new.free }
     {
-        self.producer.push(block).is_ok()
+        self.producer.is_full()
+    }
+
+    // Puts the first places of a list into the ring as a block. A slot has to be known to be free. It stays a function
+    // of its own when it is built, so that only a call that sends clears memory for a block.
+    #[inline(never)]
+    pub(crate) fn send(&mut self, places: &[Address])
+        requires full { BLOCK_ENTRIES ≤ length places.now }
+        requires free { 0 < self.old.free }
+        ensures { HasSent self.old self.new (take BLOCK_ENTRIES places.now) }
+    {
+        self.producer.push_reserved(UpdBlock::of(places));
     }
 }
 
@@ -104,14 +120,14 @@ impl UpdReceiver {
         ensures some { IfSome result (λ block. HasReceived self.old self.new block × (self.new.taken ≡ self.old.taken)) }
         ensures none { IfNone result (KnowsNone self.old self.new) }
     {
-        match self.consumer.pop() {
-            Ok(block) => Some(block),
-            Err(_) => None,
+        if self.consumer.is_empty() {
+            return None;
         }
+        Some(self.consumer.pop_known())
     }
 
-    // Makes room for so many more entries.
-    pub(crate) fn reserve(&mut self, entries: u32) -> Result<(), NoMemory>
+    /// Makes room for at least so many more entries. After `NoMemory` the list is as it was.
+    pub fn reserve(&mut self, entries: u32) -> Result<(), NoMemory>
         ensures rest { self.new ≡ record self.old { taken = self.new.taken } }
         ensures items { self.new.taken.items ≡ self.old.taken.items }
         ensures ok { OnOk result (entries ≤ self.new.taken.spare) }
@@ -122,32 +138,34 @@ impl UpdReceiver {
         Ok(())
     }
 
-    // Takes a block out of the ring, if the list has room for it.
-    pub(crate) fn poll(&mut self) -> Polled
+    /// Takes the oldest block out of the ring, if the list has room for it.
+    ///
+    /// `Took`: its entries stand at the list's end. `Nothing` comes only where this end knew of no block as it looked.
+    /// `NoRoom` comes exactly where fewer than `BLOCK_ENTRIES` places of the list are spare, and then nobody looked.
+    /// Takes no memory, and waits for nobody.
+    pub fn poll(&mut self) -> Polled
         ensures polls { Polls self.old self.new result }
         ensures room { (result ≡ NoRoom) ↔ (self.old.taken.spare < BLOCK_ENTRIES) }
     {
         if self.entries.capacity() - self.entries.len() < BLOCK_ENTRIES {
             return Polled::NoRoom;
         }
-        match self.consumer.pop() {
-            Ok(block) => {
-                append(&mut self.entries, &block);
-                Polled::Took
-            }
-            Err(_) => Polled::Nothing,
+        if self.consumer.is_empty() {
+            return Polled::Nothing;
         }
+        receive(&mut self.consumer, &mut self.entries);
+        Polled::Took
     }
 
-    // The entries of the list.
-    pub(crate) fn entries(&self) -> &[Address]
+    /// The entries taken since the last `clear`, from the oldest on.
+    pub fn entries(&self) -> &[Address]
         ensures { result.now ≡ self.now.taken.items }
     {
         self.entries.as_slice()
     }
 
-    // Empties the list. The room stays.
-    pub(crate) fn clear(&mut self)
+    /// Empties the list. Its room stays.
+    pub fn clear(&mut self)
         ensures rest { self.new ≡ record self.old { taken = self.new.taken } }
         ensures items { self.new.taken.items ≡ [] }
         ensures kept { self.new.taken.spare ≡ self.old.taken.spare + length self.old.taken.items }
@@ -163,8 +181,9 @@ impl UpdReceiver {
         self.consumer.slots_beside(&mut sender.producer);
     }
 
-    // Takes the oldest block out of the ring, by a thread that has both ends.
-    pub(crate) fn take_rest(&mut self, sender: &mut UpdSender) -> Option<UpdBlock>
+    /// Takes the oldest block out of the ring, by a thread that has both ends. `None` comes exactly where the ring is
+    /// empty. Both ends are level then: the sender counts what it sends from here on anew. Takes no memory.
+    pub fn take_rest(&mut self, sender: &mut UpdSender) -> Option<UpdBlock>
         requires { IsPair sender.old self.old }
         ensures some { IfSome result (λ block. TakesRest self.old self.new sender.old sender.new block) }
         ensures none { IfNone result (IsLevel self.old self.new sender.old sender.new) }
@@ -175,6 +194,20 @@ impl UpdReceiver {
         }
         Some(self.consumer.pop_known())
     }
+}
+
+// The oldest block of a ring comes out, and its entries join a list that has room for them. The block has to be known.
+// It stays a function of its own when it is built, so that a poll that finds nothing clears no memory for a block.
+#[inline(never)]
+fn receive(consumer: &mut Consumer<UpdBlock>, entries: &mut Vec<Address>)
+    requires known { 0 < length (known_items consumer.old) }
+    requires room { vec_len entries.old + BLOCK_ENTRIES ≤ vec_capacity entries.old }
+    ensures ring { SameConsumer consumer.old consumer.new }
+    ensures taken { (block : List Address) × (length block ≡ BLOCK_ENTRIES) × (received consumer.new ≡ received consumer.old ++ block ∷ []) × (entries.new.items ≡ entries.old.items ++ block) }
+    ensures capacity { vec_capacity entries.old ≤ vec_capacity entries.new }
+{
+    let block = consumer.pop_known();
+    append(entries, &block);
 }
 
 // The entries of a block join a list that has room for them.
