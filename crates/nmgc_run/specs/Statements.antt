@@ -1,5 +1,8 @@
 -- Laws of runs, as statements. Each is proved where a function of `laws` has it.
-use Rattle.std.specs.Prelude.{ℕ, ◌≡◌, ◌↔◌, ◌+◌, List, [], ◌∷◌, ◌++◌, length, drop, slice_index_or, count_by, Some}
+use Rattle.std.specs.Prelude.{ℕ, ◌≡◌, ◌↔◌, ◌+◌, ◌*◌, ◌^◌, List, [], ◌∷◌, ◌++◌, length, drop, slice_index_or, count_by, Some}
+use Rattle.nmgc_object.specs.Places.{IsLayout, class_count}
+use Rattle.nmgc_object.specs.declared.layout.Layout.{Layout}
+use Rattle.nmgc_object.specs.declared.size.TheConstants.{DENSE_CLASS, DENSE_WORDS}
 use Rattle.nmgc_segment.specs.declared.state.State.TheVariants as stands
 use Rattle.nmgc_segment.specs.Segment.{Segment}
 use Rattle.nmgc_alloc.specs.Search.{is}
@@ -15,6 +18,10 @@ use Rattle.nmgc_journal.specs.declared.report.End.{End}
 use Rattle.nmgc_run.specs.Stop.{answer_of}
 use Rattle.nmgc_run.specs.Run.{Run, Turn, IsRun, IsTurn, Tells, last_state, with_turn}
 use Rattle.nmgc_run.specs.Lawful.{IsLawful, IsLawfulFor}
+
+-- the classes of a layout: those of dense blocks, and one more for each doubling of the words of its segments above them
+abbrev pub ClassesAreCounted : Type 0
+ClassesAreCounted = (layout : Layout) (doublings : ℕ) → IsLayout layout → layout.words ≡ DENSE_WORDS * 2 ^ doublings → class_count layout ≡ DENSE_CLASS + 1 + doublings
 
 -- how many commands of a mutator the rounds answered
 abbrev pub answered_count : List RoundRows → ℕ → ℕ

@@ -11,7 +11,7 @@ ghost use Rattle.nmgc_run.specs.Places.{BlocksAtStop, BlocksAfterRound, BlocksAr
 ghost use Rattle.nmgc_run.specs.Life.{LifeIsSeen};
 ghost use Rattle.nmgc_run.specs.Limits.{ScriptsHaveGoodPlans, StatesAreWithin, RoundsAreWithin};
 ghost use Rattle.nmgc_run.specs.Leaving.{RoundIsRemembered, RoundIsForgotten, RowsKeepHeaders};
-ghost use Rattle.nmgc_run.specs.Statements.{LeftIsTold, FreeIsReal, VersionIsNothing, UpgradeIsNothing, EachCycleHasItsRow, RunGoesOn, TellsOneMore, LastIsOfTurn};
+ghost use Rattle.nmgc_run.specs.Statements.{ClassesAreCounted, LeftIsTold, FreeIsReal, VersionIsNothing, UpgradeIsNothing, EachCycleHasItsRow, RunGoesOn, TellsOneMore, LastIsOfTurn};
 
 use nmgc_alloc::laws::{self, counts};
 use nmgc_object::laws::words_differ;
@@ -63,6 +63,11 @@ pub fn one_life_seen()
 /// The text of a report, byte by byte.
 pub fn texts()
     ensures { HaveTexts }
+{}
+
+/// A layout has the classes of dense blocks, and one more for each doubling of the words of its segments above them.
+pub fn classes_are_counted()
+    ensures { ClassesAreCounted }
 {}
 
 /// How many segments must stay free, for four heaps.
