@@ -1,9 +1,10 @@
 -- What the program tells of which words and bytes, and what is written.
-use Rattle.std.specs.Prelude.{◌≡◌, ◌⊎◌, ◌≤◌, ◌+◌, ℕ, List, [], ◌∷◌, ◌++◌, length, map, codes, decimal, Option, Some, Result, Ok, Err}
+use Rattle.std.specs.Prelude.{◌≡◌, ◌⊎◌, ◌≤◌, ◌+◌, ℕ, List, [], ◌∷◌, ◌++◌, All, length, map, codes, decimal, Option, Some, Result, Ok, Err}
 use Rattle.std.specs.Io.KnownBytes.{Consumes, Appends, Keeps, IsAtEnd}
 use Rattle.std.proofs.Common.{Vec, Global}
 use Rattle.nmgc_arguments.specs.Words.{ArePassed}
 use Rattle.nmgc_io.specs.Counts.{Takes, TakesUpTo, AppendsFront}
+use Rattle.nmgc_graph.specs.declared.value.Name.{Name}
 use Rattle.nmgc_lists.specs.declared.memory.NoMemory.{NoMemory as NoMemoryOf}
 use Rattle.nmgc_fin.specs.declared.job.Job.{Job}
 use Rattle.nmgc_fin.specs.declared.run.TheConstants.{MOST_WORKERS}
@@ -13,8 +14,9 @@ use Rattle.nmgc_fin.specs.declared.top.FinStatus.TheVariants.{Done, Usage, ReadF
 use Rattle.nmgc_fin.specs.declared.top.Text.{Text}
 use Rattle.nmgc_fin.specs.declared.top.Text.TheVariants.{Fixed, Made}
 use Rattle.nmgc_fin.specs.declared.top.Told.{Told}
+use Rattle.nmgc_fin.specs.Handles.{Handles, joined}
 use Rattle.nmgc_fin.specs.Jobs.{lines_of, AreJobsOf, IsFirstBad, weak_of}
-use Rattle.nmgc_fin.specs.Order.{jobs_text}
+use Rattle.nmgc_fin.specs.Order.{IsPlaced, jobs_text}
 
 -- there may be so many workers
 abbrev pub IsCount : ℕ → Type 0
@@ -63,12 +65,27 @@ abbrev pub IsMadeOf : FinStatus → Result (Vec ℕ Global) NoMemoryOf → Told 
 IsMadeOf status (Ok text) told = (told.status ≡ status) × (text_bytes told.text ≡ text.items)
 IsMadeOf status (Err _) told = (told.status ≡ NoMemory) × (text_bytes told.text ≡ fixed_text NoMemory)
 
--- what is told of a report's bytes: which jobs were handled, which are its jobs; or its first bad line; or that there was no memory
-abbrev pub SaysOfBytes : List ℕ → FinStatus → List ℕ → Type 0
-SaysOfBytes bytes Done text = (jobs : List Job) × AreJobsOf (lines_of bytes) jobs × (text ≡ jobs_text (map weak_of jobs))
-SaysOfBytes bytes BadReport text = (line : ℕ) × IsFirstBad (lines_of bytes) line × (text ≡ bad_text line)
-SaysOfBytes bytes NoMemory text = text ≡ fixed_text NoMemory
-SaysOfBytes bytes _ text = ⊥
+-- the text tells just these handled jobs, in order of number
+pub record TellsHandled (by : List (List Job)) (text : List ℕ) : Type 0 where
+  pub names : List Name
+  pub count : length names ≡ length (joined by)
+  pub placed : All (IsPlaced names) (joined by)
+  pub told : text ≡ jobs_text names
+
+-- so many workers handled the jobs, each job once, and the text tells what they handled; so it is the text of the jobs
+pub record AreDone (workers : ℕ) (jobs : List Job) (text : List ℕ) : Type 0 where
+  pub by : List (List Job)
+  pub count : length by ≡ workers
+  pub handled : Handles jobs by
+  pub told : TellsHandled by text
+  pub all : text ≡ jobs_text (map weak_of jobs)
+
+-- what is told of a report's bytes: that so many workers handled its jobs, and which; or its first bad line; or that there was no memory
+abbrev pub SaysOfBytes : ℕ → List ℕ → FinStatus → List ℕ → Type 0
+SaysOfBytes workers bytes Done text = (jobs : List Job) × AreJobsOf (lines_of bytes) jobs × AreDone workers jobs text
+SaysOfBytes workers bytes BadReport text = (line : ℕ) × IsFirstBad (lines_of bytes) line × (text ≡ bad_text line)
+SaysOfBytes workers bytes NoMemory text = text ≡ fixed_text NoMemory
+SaysOfBytes workers bytes _ text = ⊥
 
 -- what a source had left was read to its end, and is no more than a report may have
 pub record IsRead (old new : Option (List ℕ)) (bytes : List ℕ) : Type 0 where
@@ -82,8 +99,8 @@ Says words old new rose Usage text = IsWrong words × Keeps old new × (text ≡
 Says words old new rose ReadFault text = (workers : ℕ) × Asks words workers × TakesUpTo old new MAX_REPORT_BYTES × rose × (text ≡ fixed_text ReadFault)
 Says words old new rose TooLong text = (workers : ℕ) × Asks words workers × Takes old new (MAX_REPORT_BYTES + 1) × (text ≡ fixed_text TooLong)
 Says words old new rose NoMemory text = (workers : ℕ) × Asks words workers × TakesUpTo old new MAX_REPORT_BYTES × (text ≡ fixed_text NoMemory)
-Says words old new rose Done text = (workers : ℕ) × Asks words workers × (bytes : List ℕ) × IsRead old new bytes × SaysOfBytes bytes Done text
-Says words old new rose BadReport text = (workers : ℕ) × Asks words workers × (bytes : List ℕ) × IsRead old new bytes × SaysOfBytes bytes BadReport text
+Says words old new rose Done text = (workers : ℕ) × Asks words workers × (bytes : List ℕ) × IsRead old new bytes × SaysOfBytes workers bytes Done text
+Says words old new rose BadReport text = (workers : ℕ) × Asks words workers × (bytes : List ℕ) × IsRead old new bytes × SaysOfBytes workers bytes BadReport text
 Says words old new rose WriteFault text = ⊥
 
 -- the text was written whole, or the sink failed and has a front of it

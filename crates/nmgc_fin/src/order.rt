@@ -2,9 +2,8 @@
 //!
 //! Which worker handled a job, and when, depends on the schedule; the text doesn't. Each job has its place by its number,
 //! so nothing is sorted.
-ghost use Rattle.std.specs.Prelude.{◌≡◌, ◌<◌, ◌++◌, length, map, vec_len, IfOk, OnOk, Contains};
-ghost use Rattle.nmgc_fin.specs.Handles.{AreNumbered, Handles};
-ghost use Rattle.nmgc_fin.specs.Jobs.{weak_of};
+ghost use Rattle.std.specs.Prelude.{◌≡◌, ◌++◌, All, length, vec_len, IfOk, OnOk, Contains};
+ghost use Rattle.nmgc_fin.specs.Handles.{joined};
 ghost use Rattle.nmgc_fin.specs.Order.{AreWithin, AreAlike, IsPlaced, job_line, jobs_text};
 ghost use Rattle.nmgc_fin.specs.declared.job.Job.{Job as JobOf};
 
@@ -15,13 +14,14 @@ use nmgc_io::push_number;
 use nmgc_journal::push_name;
 use std::alloc::Global;
 
-/// The names of the handled jobs, each at its job's number.
-pub fn in_order(alloc: Global, jobs: &[Job], handled: &Handled) -> Result<Vec<Name>, NoMemory>
-    requires numbered { AreNumbered jobs.now }
-    requires handled { Handles jobs.now handled.now.by }
-    ensures { IfOk result (λ names. names.items ≡ map weak_of jobs.now) }
+/// So many names, and the name of each handled job stands at the job's number.
+pub fn in_order(alloc: Global, count: usize, handled: &Handled) -> Result<Vec<Name>, NoMemory>
+    requires within { AreWithin count (joined handled.now.by) }
+    requires alike { AreAlike (joined handled.now.by) }
+    ensures count { IfOk result (λ names. vec_len names ≡ count) }
+    ensures placed { IfOk result (λ names. All (IsPlaced names.items) (joined handled.now.by)) }
 {
-    let mut names = Vec::from_elem(alloc, Name::SHARED, jobs.len())?;
+    let mut names = Vec::from_elem(alloc, Name::SHARED, count)?;
     for list in handled.by.items() {
         place(&mut names, list.items());
     }

@@ -32,7 +32,9 @@ pub struct Handled {
 }
 
 /// Handles the jobs by so many workers, from 1 to `MOST_WORKERS`, each job once. The jobs are numbered from 0. Each worker passes
-/// `gate` as its number before it handles a job, and counts its passes from 1. Returns once every worker has.
+/// `gate` as its number before it handles a job, and counts its passes from 1. Returns once every worker has; it may wait
+/// while another thread is within a push, and what is promised holds if it returns. Takes memory for the jobs in the
+/// queue, and for as many in the list of each worker. After `NoMemory` some jobs may have been handled.
 pub fn run_jobs<R: Threads + Wait + Sync, G: Gate>(
     alloc: Global,
     rt: &R,

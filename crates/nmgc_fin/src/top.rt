@@ -4,16 +4,14 @@
 //! settled before the sink is touched, so a sink that fails replaces the status and nothing else.
 ghost use Rattle.std.specs.Prelude.{◌≡◌, ◌≤◌, ℕ, List, [], ◌∷◌, length, map, string_bytes, IfOk, IfSome, IfNone, decimal};
 ghost use Rattle.nmgc_io.specs.Causes.{Rose};
-ghost use Rattle.nmgc_fin.specs.Handles.{AreNumbered};
-ghost use Rattle.nmgc_fin.specs.Jobs.{weak_of};
-ghost use Rattle.nmgc_fin.specs.Order.{jobs_text};
-ghost use Rattle.nmgc_fin.specs.Program.{IsCount, Asks, IsWrong, number_of, IsFixed, fixed_text, bad_text, text_bytes, IsMadeOf, SaysOfBytes, Says, IsWritten, IsComplete};
+ghost use Rattle.nmgc_fin.specs.Handles.{AreNumbered, Handles};
+ghost use Rattle.nmgc_fin.specs.Program.{IsCount, Asks, IsWrong, number_of, IsFixed, fixed_text, bad_text, text_bytes, IsMadeOf, AreDone, SaysOfBytes, Says, IsWritten, IsComplete};
 ghost use Rattle.nmgc_fin.specs.declared.top.TheConstants.{MAX_REPORT_BYTES};
 ghost use Rattle.nmgc_fin.specs.declared.top.FinStatus.{FinStatus as StatusOf};
 
 use crate::job::Job;
 use crate::order::{handled_text, in_order};
-use crate::run::{MOST_WORKERS, run_jobs};
+use crate::run::{Handled, MOST_WORKERS, run_jobs};
 use crate::text::{JobsFault, jobs};
 use nmgc_graph::NoMemory;
 use nmgc_io::{ReadEnd, Sink, Source, push_number, read_all, read_number, write_all};
@@ -86,7 +84,7 @@ struct Told {
 }
 
 /// Reads a report from the source to its end, handles one job for each of its dead weak pointers, by as many workers as the
-/// words say, and writes which were handled. Where something is in the way, the text of the first refusal is written in its
+/// words say, and writes which were handled, in order of number. Where something is in the way, the text of the first refusal is written in its
 /// place. May wait for its workers.
 pub fn nmgc_fin<R: Threads + Wait + Sync, S: Source, K: Sink>(
     alloc: Global,
@@ -143,7 +141,7 @@ fn told_of<R: Threads + Wait + Sync, S: Source>(
 fn told_of_bytes<R: Threads + Wait + Sync>(alloc: Global, rt: &R, workers: u8, bytes: &[u8]) -> Told
     requires workers { IsCount workers }
     requires most { length bytes.now ≤ MAX_REPORT_BYTES }
-    ensures { SaysOfBytes bytes.now result.status (text_bytes result.text) }
+    ensures { SaysOfBytes workers bytes.now result.status (text_bytes result.text) }
 {
     match jobs(alloc, bytes) {
         Ok(jobs) => made(FinStatus::Done, done_text(alloc, rt, workers, jobs.items())),
@@ -165,7 +163,7 @@ fn made(status: FinStatus, text: Result<Vec<u8>, NoMemory>) -> Told
     }
 }
 
-// The text of the jobs, once they were handled.
+// The jobs are handled, and then the text is made of what was handled.
 fn done_text<R: Threads + Wait + Sync>(
     alloc: Global,
     rt: &R,
@@ -174,10 +172,19 @@ fn done_text<R: Threads + Wait + Sync>(
 ) -> Result<Vec<u8>, NoMemory>
     requires workers { IsCount workers }
     requires numbered { AreNumbered jobs.now }
-    ensures { IfOk result (λ text. text.items ≡ jobs_text (map weak_of jobs.now)) }
+    ensures { IfOk result (λ text. AreDone workers jobs.now text.items) }
 {
     let handled = run_jobs(alloc, rt, jobs, workers, &OpenGate)?;
-    let names = in_order(alloc, jobs, &handled)?;
+    text_of(alloc, jobs, &handled)
+}
+
+// The text that tells which of the jobs were handled, which all were. Of the jobs it takes only how many there are.
+fn text_of(alloc: Global, jobs: &[Job], handled: &Handled) -> Result<Vec<u8>, NoMemory>
+    requires numbered { AreNumbered jobs.now }
+    requires handled { Handles jobs.now handled.now.by }
+    ensures { IfOk result (λ text. AreDone (length handled.now.by) jobs.now text.items) }
+{
+    let names = in_order(alloc, jobs.len(), handled)?;
     handled_text(alloc, names.as_slice())
 }
 

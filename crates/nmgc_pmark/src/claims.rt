@@ -33,10 +33,12 @@ pub struct Claims {
     pub by: List<List<Name>>,
 }
 
-/// Marks what root words and the slots of g reach on a stopped heap, by so many markers, from 1 to 8, side by side.
-/// Words, segments and roots stand for some stopped heap with empty nurseries; the lists together hold exactly the names
-/// that strong fields reach from the roots and the slots of g, each once, whatever the number of markers and whatever the
-/// schedule was. Each marker passes `gate` as its number before each object that it scans, and counts from 1.
+/// Marks what root words and the slots of g reach on a stopped heap, by so many markers, from 1 to `MOST_MARKERS`, side by
+/// side. Words, segments and roots stand for some stopped heap with empty nurseries; all markers read the words at once,
+/// and nobody writes them meanwhile. The lists together hold exactly the names that strong fields reach from the roots and
+/// the slots of g, each once, whatever the number of markers and whatever the schedule was. Each marker passes `gate` as
+/// its number before each object that it scans, and counts from 1. Takes memory for a word a block (twice that while the
+/// table is made), for 4 bytes a block and marker, and for the names.
 pub fn mark_all<R: Threads + Sync, W: StillWords, G: Gate>(
     alloc: Global,
     rt: &R,
