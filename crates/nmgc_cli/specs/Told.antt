@@ -106,13 +106,15 @@ abbrev pub TellsOf : (Report → List ℕ → Type 0) → (Reported → Type 0) 
 TellsOf T A (Ok outcome) = (report : Report) × A (Ok report) × TellsReport T report outcome
 TellsOf T A (Err refusal) = A (Err refusal)
 
--- what each of the tasks writes of its report: the text of all that happened, the summary, or the image of the heap that the run left
+-- what `run` writes of its report: the text of all that happened
 abbrev pub IsText : Report → List ℕ → Type 0
 IsText report text = text ≡ report_text report
 
+-- what a bench of so many batches writes of it: the summary
 abbrev pub IsSummary : ℕ → Report → List ℕ → Type 0
 IsSummary batches report text = text ≡ summary_text batches report
 
+-- what `image` writes of it: the image of the heap that the run left
 abbrev pub IsImageText : Report → List ℕ → Type 0
 IsImageText report text = (script : Script) → IsInLimits script → (run : IsRunOf script report) → SpellsWorld (last_state run.lawful.run).world text
 

@@ -94,7 +94,8 @@ pub fn marks_text<R: Threads + Sync>(
     lines(alloc, markers, names.items(), report.end)
 }
 
-/// What so many markers claim of the heap that a run left, each of which passes `gate` before each object.
+/// What so many markers claim of the heap that a run left, each of which passes `gate` before each object. Takes memory
+/// for a copy of the heap's words, and for what the markers need.
 pub fn claims_of<R: Threads + Sync, G: Gate>(
     alloc: Global,
     rt: &R,

@@ -8,7 +8,7 @@ use nmgc_journal::{End, Report};
 #[derive(Clone, Copy, Debug, PartialEq, Eq)]
 pub enum Status {
     /// The script was run to its end and what the task tells of its report was written; or its upgrade was, or the path of
-    /// an object in an image. Number 0.
+    /// an object in an image, or that there is none. Number 0.
     Done,
     /// The words ask for no task; nothing was read. Number 2.
     Usage,
@@ -58,7 +58,8 @@ impl Status {
 }
 
 /// The status, and the report where a script was run, whether to its end or until its heap was full. Where
-/// the sink failed, the report is there if it was its text, its summary or its image that was to be written.
+/// the sink failed, the report is there if it was its text, its summary, its image or what markers reached that was to
+/// be written.
 pub struct Ended {
     pub status: Status,
     pub report: Option<Report>,

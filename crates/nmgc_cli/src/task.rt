@@ -21,7 +21,8 @@ pub enum Task {
     Upgrade,
     /// `image`: reads and runs a script as `run` does, and writes the image of the heap that its run left.
     Image,
-    /// `retain NAME`: reads an image from the source to its end, and writes a shortest path to the object of this name.
+    /// `retain NAME`: reads an image from the source to its end, and writes a shortest path to the object of this name, or
+    /// that there is none.
     Retain { name: Name },
     /// `marks N`: does what `run` does, and writes what so many markers mark of the heap that its run left.
     Marks { markers: u8 },

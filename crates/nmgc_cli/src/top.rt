@@ -27,8 +27,8 @@ use std::thread::Threads;
 /// the report's text to the sink; for `bench N`, reads nothing, runs the bench's script, and writes the
 /// summary; for `upgrade`, reads a script as `run` does, and writes the plain spelling of its upgrade; for `image`, does
 /// what `run` does and writes the image of the heap in the text's place, and for `marks N` what so many markers mark of
-/// it; for `retain NAME`, reads an image, and writes a shortest path to the object of this name. Answers the status, and
-/// the report where a script was run.
+/// it; for `retain NAME`, reads an image, and writes a shortest path to the object of this name, or that there is none.
+/// Answers the status, and the report where a script was run.
 ///
 /// Where something is in the way, the text of the first refusal is written in the report's place:
 /// words, read, length, grammar, run or search. For wrong words nothing is read. Where the sink fails, the status is
@@ -55,11 +55,11 @@ pub fn nmgc<R: Threads + Sync, S: Source, K: Sink>(
     ensures unread { ReadsNothing (map string_bytes words.now) → source.new ≡ source.old }
     // A script within the limit is run to its end where there is no fault, unless the heap or memory ran out.
     ensures complete { IsComplete (map string_bytes words.now) (S.left source.old) (Rose (S.faults source.old) (S.faults source.new)) (Rose (K.faults sink.old) (K.faults sink.new)) result.status result.report }
-    // And a script within the limit is upgraded.
+    // A script within the limit is upgraded where there is no fault, unless memory ran out.
     ensures upgraded { IsUpgradeComplete (map string_bytes words.now) (S.left source.old) (Rose (S.faults source.old) (S.faults source.new)) (Rose (K.faults sink.old) (K.faults sink.new)) result.status }
     // A path is found in an image within the limit where there is no fault, unless memory ran out.
     ensures retain { IsRetainComplete (map string_bytes words.now) (S.left source.old) (Rose (S.faults source.old) (S.faults source.new)) (Rose (K.faults sink.old) (K.faults sink.new)) result.status }
-    // So is a bench, which has no source that could fail.
+    // A bench is run to its end as a script is; it has no source that could fail.
     ensures bench { IsBenchComplete (map string_bytes words.now) (Rose (K.faults sink.old) (K.faults sink.new)) result.status result.report }
 {
     let Told {

@@ -19,7 +19,10 @@ pub const MAX_IMAGE_BYTES: usize = 268_435_456;
 const _: () = prove!(MAX_IMAGE_BYTES <= 1 << 31);
 
 /// Reads an image. `Bad` tells the first bad line, from 1; where the text ends too early, it is the one after the last.
-/// Takes time in proportion to the text, with a look-up by halving for each name.
+/// Asks that the text is short enough for its lines to be counted in 32 bits.
+///
+/// Takes time in proportion to the text, but for a sort of the names of its node lines and a look-up by halving for each
+/// name that it mentions; each node line is read twice. Takes memory for the image, and 8 bytes for each node line.
 pub fn read_image(alloc: Global, bytes: &[u8]) -> Result<Image, ImageFault>
     requires { length bytes.now ≤ 2 ^ 31 }
     // What is read is spelled so.
