@@ -24,7 +24,9 @@ fn dead_lines_give_jobs(rt: HostRuntime) -> Result<(), Fail> {
         panic!(rt; "not three jobs");
     };
     assert!(rt; (first.number, first.weak.maker, first.weak.serial) == (0u32, 0u8, 4u32));
-    assert!(rt; (second.number, second.weak.maker, second.weak.serial) == (1u32, SHARED_MAKER, 0u32));
+    assert!(rt;
+        (second.number, second.weak.maker, second.weak.serial) == (1u32, SHARED_MAKER, 0u32)
+    );
     assert!(rt; (third.number, third.weak.maker, third.weak.serial) == (2u32, 7u8, 4294967295u32));
     Ok(())
 }

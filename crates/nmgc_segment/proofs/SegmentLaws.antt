@@ -94,7 +94,7 @@ all_swept s blocks epoch at e h n first =
       words = rw length-map h.words;
       snap = omega arith;
       next_free = rw length-map (omega (arith, first.within, n.count));
-      next_unmarked = elim (cases_lt at blocks) [ inl lt ↦ first.unmarked lt | inr ge ↦ zero at (h.no_block at (omega (arith, n.count))) ];
+      next_unmarked = elim (cases_lt at blocks) [ inl lt ↦ first.found lt | inr ge ↦ zero at (h.no_block at (omega (arith, n.count))) ];
       bytes = λ b. rw (is b) (bounds b).0;
       no_block = λ b out. zero b (h.no_block b (rw length-map at out));
       free = λ f. record {
@@ -148,7 +148,7 @@ finds_all s blocks epoch at any e h n found first = (
       let some : 0 < blocks = omega (arith, some_block s h, n.count) in (
         found.1 (0, omega (arith, n.marked), all 0 (some_block s h)),
         elim (cases_lt at blocks) [
-          | inl lt ↦ absurd ((kept_byte s epoch e h at).1 (all at (omega (arith, n.count))) (first.unmarked lt))
+          | inl lt ↦ absurd ((kept_byte s epoch e h at).1 (all at (omega (arith, n.count))) (first.found lt))
           | inr ge ↦ omega (arith, first.within)
         ],
       )),

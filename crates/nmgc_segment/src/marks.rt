@@ -1,4 +1,7 @@
 //! Loops over mark bytes, sixteen at a time, and byte by byte over the rest.
+//! A segment has up to 1,024 mark bytes, and each sweep and each closing goes through all of them.
+//! A loop that changes bytes takes two sixteens in a turn as long as there are so many, or its own steps would cost as much
+//! as the bytes.
 //!
 //! Easy to get wrong: a search that goes on by how many bytes it just found waits for each sixteen before it loads the
 //! next. So it goes on by sixteen, and looks at the number only where it ends.
@@ -100,6 +103,11 @@ pub fn carry(marks: &mut [u8], epoch: u8)
     ensures { marks.new ≡ map (carried epoch) marks.old }
 {
     let mut at: usize = 0;
+    while marks.len() - at >= 2 * LANES {
+        carry_lanes(marks, at, epoch);
+        carry_lanes(marks, at + LANES, epoch);
+        at += 2 * LANES;
+    }
     while marks.len() - at >= LANES {
         carry_lanes(marks, at, epoch);
         at += LANES;
@@ -141,6 +149,11 @@ pub fn sweep(marks: &mut [u8], epoch: u8)
     ensures { marks.new ≡ map (swept epoch) marks.old }
 {
     let mut at: usize = 0;
+    while marks.len() - at >= 2 * LANES {
+        sweep_lanes(marks, at, epoch);
+        sweep_lanes(marks, at + LANES, epoch);
+        at += 2 * LANES;
+    }
     while marks.len() - at >= LANES {
         sweep_lanes(marks, at, epoch);
         at += LANES;

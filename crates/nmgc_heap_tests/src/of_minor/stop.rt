@@ -75,10 +75,13 @@ fn young_roots(alloc: Global) -> Result<Roots, Fail>
 // One object moved, to the first block.
 fn compare_move(rt: &impl Abort, moves: &[Move]) {
     assert!(rt; moves.len() == 1);
-    assert!(rt; moves[0].name == Name {
-            maker: 0,
-            serial: 0
-        });
+    assert!(rt;
+        moves[0].name
+            == Name {
+                maker: 0,
+                serial: 0
+            }
+    );
     assert!(rt; moves[0].from == Address(2080));
     assert!(rt; moves[0].to == Address(32));
 }
