@@ -1,4 +1,10 @@
 //! Sweeping segments that wait, in two halves.
+//!
+//! The mark bytes of a segment are its own, so two threads may sweep them without any order between them. States and
+//! tallies are those of all segments, so they are settled afterwards, by the caller alone and in order of numbers: what
+//! is left doesn't depend on which half was first.
+//!
+//! Easy to get wrong: where the number is odd the lower half has one more, and where there is but one no thread starts.
 ghost use Rattle.std.specs.Prelude.{ℕ, ◌≡◌, ◌↔◌, ◌+◌, ◌-◌, ◌/◌, ◌<◌, ◌≤◌, ◌^◌, take, drop, length, if◌then◌else◌};
 ghost use Rattle.nmgc_limits.specs.Limits.{most_segments};
 ghost use Rattle.nmgc_segment.specs.Marks.{IsEpoch};

@@ -10,13 +10,13 @@
 //! Easy to get wrong: the number of a current segment may be of one that was filled or retired since,
 //! so its state is looked at; and the table is right about the absence of a current segment only
 //! because it is written each time that one becomes current.
-ghost use Rattle.std.specs.Prelude.{ℕ, ◌≡◌, ◌≢◌, ◌↔◌, ◌<◌, ◌≤◌, map, min, replicate, count_by, slice_set, IsTrue, IfOk, IfSome, IfNone};
-ghost use Rattle.nmgc_object.specs.Places.{IsLayout};
+ghost use Rattle.std.specs.Prelude.{ℕ, ◌≡◌, ◌≢◌, ◌↔◌, ◌<◌, ◌≤◌, ◌/◌, ◌%◌, map, min, replicate, count_by, slice_set, IsTrue, IfOk, IfSome, IfNone};
+ghost use Rattle.nmgc_object.specs.Places.{IsLayout, IsSegmentSize};
 ghost use Rattle.nmgc_segment.specs.Marks.{IsEpoch};
 ghost use Rattle.nmgc_segment.specs.Segment.{free_segment, block_count};
 ghost use Rattle.nmgc_alloc.specs.CycleSteps.{prepared, carried_over, retired};
 ghost use Rattle.nmgc_alloc.specs.Search.{is, nth, sought_count, IsKind, tally_from};
-ghost use Rattle.nmgc_alloc.specs.Halves.{IsInHalf, SweepsMany, HasSweptBytes, FirstSwept, Settles, SettlesNext};
+ghost use Rattle.nmgc_alloc.specs.Halves.{IsInHalf, SweepsMany, IsSwept, FirstSwept, Settles, SettlesNext};
 
 use crate::search::{self, Sought};
 use crate::tables::{CLASSES, KINDS, PAIRS};
@@ -58,6 +58,17 @@ impl Model for Segments {
     } in IsSegments shown × Leads s.segments.items s.current.items × Tells s.segments.items s.tallies.items s.filled };
 }
 
+// The number of the segment with a word, and how far the word lies from the segment's first: of its distance from the
+// first word of all segments the quotient and the remainder by the words of one. These are a power of two, so that no
+// division is needed.
+fn split(distance: u32, words: u32) -> (u32, u32)
+    requires { IsSegmentSize words }
+    ensures number { result.0 ≡ distance / words }
+    ensures rest { result.1 ≡ distance % words }
+{
+    (distance >> words.trailing_zeros(), distance & (words - 1))
+}
+
 // So many free segments.
 fn free_segments(alloc: Global, layout: Layout) -> Result<Vec<Segment>, NoMemory>
     requires { IsLayout layout }
@@ -87,7 +98,7 @@ fn first_tallies(alloc: Global, segments: u32) -> Result<Vec<Tally>, NoMemory>
 }
 
 impl Segments {
-    ghost use Rattle.nmgc_alloc.specs.Segments.{all_free, IsMutator, IsClass, IsCurrent, HasNumber, HasRoom, HasNone, HasNoneIn, HasNoCurrent, Allocates, SweepsNext, IsBlockAt, IsSegments, IsOwn, IsLeast, IsOpen, CountsFilled, TakesBlock, IsChosen, SweepsSegment, Marks, IsToMark, as_current, block_place, marked_if};
+    ghost use Rattle.nmgc_alloc.specs.Segments.{all_free, IsMutator, IsClass, IsCurrent, HasNumber, HasRoom, HasNone, HasNoneIn, HasNoCurrent, Allocates, SweepsNext, IsBlockAt, IsSegments, IsOwn, IsLeast, IsOpen, CountsFilled, TakesBlock, IsChosen, SweepsSegment, Marks, MarksIfBlock, IsToMark, as_current, block_place, marked_if};
 
     /// All segments of a layout, free.
     pub fn new(alloc: Global, layout: Layout) -> Result<Self, NoMemory>
@@ -322,6 +333,20 @@ impl Segments {
         }
     }
 
+    /// Marks the block that begins there as `mark_at` does, if a block of a segment that isn't free begins there.
+    /// Else the answer is false, and nothing changes. Constant time.
+    pub fn try_mark_at(&mut self, at: Address, epoch: u8) -> bool
+        requires { IsEpoch epoch }
+        ensures marks { MarksIfBlock self.old self.new at.0 epoch result }
+        ensures sound { IsSegments self.new }
+    {
+        let _ = &self.segments;
+        match self.block_at(at) {
+            Some((number, block)) => self.mark(number, block, epoch),
+            None => false,
+        }
+    }
+
     // Marks a block where it is in the snapshot and wasn't marked.
     fn mark(&mut self, number: u32, block: u32, epoch: u8) -> bool
         requires epoch { IsEpoch epoch }
@@ -340,14 +365,12 @@ impl Segments {
         ensures some { IfSome result (λ p. HasNumber self.now p.0 × ((number block : ℕ) → IsBlockAt self.now number block at.0 → (number ≡ p.0) × (block ≡ p.1))) }
         ensures none { IfNone result ((number block : ℕ) → IsBlockAt self.now number block at.0 → ⊥) }
     {
-        let words = self.layout.words;
-        let offset = at.0.saturating_sub(FIRST_PLACE);
-        let number = offset / words;
+        let distance = at.0.saturating_sub(FIRST_PLACE);
+        let (number, offset) = split(distance, self.layout.words);
         if number as usize >= self.segments.len() {
             return None;
         }
-        let segment = &self.segments[number as usize];
-        Some((number, offset % words / block_words(segment.class())))
+        Some((number, self.segments[number as usize].block_of(offset)))
     }
 
     // Whether a block of a segment that isn't free begins there.
@@ -457,7 +480,7 @@ impl Segments {
     fn settle_next(&mut self, epoch: u8)
         requires epoch { IsEpoch epoch }
         requires some { HasNone Sought.Sweeping self.old → ⊥ }
-        requires swept { (number : ℕ) → IsLeast Sought.Sweeping self.old number → HasSweptBytes epoch (nth self.old.segments number) (nth self.old.segments number) }
+        requires swept { (number : ℕ) → IsLeast Sought.Sweeping self.old number → IsSwept epoch (nth self.old.segments number) }
         ensures settles { (number : ℕ) × SettlesNext self.old self.new number }
         ensures sound { IsSegments self.new }
     {
@@ -471,7 +494,7 @@ impl Segments {
     fn settle(&mut self, number: u32, epoch: u8)
         requires epoch { IsEpoch epoch }
         requires least { IsLeast Sought.Sweeping self.old number }
-        requires swept { HasSweptBytes epoch (nth self.old.segments number) (nth self.old.segments number) }
+        requires swept { IsSwept epoch (nth self.old.segments number) }
         ensures settles { Settles (nth self.old.segments number) (nth self.new.segments number) }
         ensures others { self.new ≡ record self.old { segments = slice_set self.old.segments number (nth self.new.segments number) } }
         ensures sound { IsSegments self.new }
