@@ -252,6 +252,20 @@ impl Collector {
         }
     }
 
+    /// The mutators, by their numbers. After a round each has what it remembered and didn't send. Takes no memory.
+    pub fn mutators(&self) -> &[Mutator]
+        ensures { result.now ≡ self.now.mutators.items }
+    {
+        self.mutators.as_slice()
+    }
+
+    /// What was taken out of the mutators' rings since the last stop. Takes no memory.
+    pub fn inbox(&self) -> &Inbox
+        ensures { result.now ≡ self.now.inbox }
+    {
+        &self.inbox
+    }
+
     /// The report of the run. Asks that the run has ended so, as its last stop answered.
     ///
     /// Its rows, words and segments are those of the collector, and each mutator's registers, queue and serial

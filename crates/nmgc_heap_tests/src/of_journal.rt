@@ -90,6 +90,66 @@ fn each_reply_has_its_line(rt: HostRuntime) -> Result<(), Fail> {
     Ok(())
 }
 
+// Names and values with their texts: the first three are names.
+const TEXTS: [(&str, Value); 6] = [
+    ("g", Value::Ref(Name::SHARED)),
+    (
+        "0.0",
+        Value::Ref(Name {
+            maker: 0,
+            serial: 0,
+        }),
+    ),
+    (
+        "31.4294967295",
+        Value::Ref(Name {
+            maker: 31,
+            serial: 4294967295,
+        }),
+    ),
+    ("nil", Value::Nil),
+    ("0", Value::Number(0)),
+    ("4611686018427387903", Value::Number(4611686018427387903)),
+];
+
+// Words that are the text of nothing.
+const NO_TEXTS: [&str; 10] = [
+    "32.0",
+    "00.1",
+    "0.01",
+    "0.4294967296",
+    "4611686018427387904",
+    "",
+    "G",
+    "0.",
+    ".0",
+    "0.0.0",
+];
+
+#[test]
+fn names_and_values_have_one_text(rt: HostRuntime) -> Result<(), Fail> {
+    for (word, value) in &TEXTS {
+        let mut out = Vec::new(rt.alloc());
+        push_value(&mut out, *value)?;
+        assert!(rt; out.as_slice() == word.as_bytes());
+        assert!(rt; read_value(word.as_bytes()) == Some(*value));
+        let name = match value {
+            Value::Ref(name) => Some(*name),
+            Value::Nil | Value::Number(_) => None,
+        };
+        assert!(rt; read_name(word.as_bytes()) == name);
+        if let Some(name) = name {
+            push_name(&mut out, name)?;
+            assert!(rt; out.as_slice()[word.len()..] == *word.as_bytes());
+        }
+    }
+    for word in &NO_TEXTS {
+        assert!(rt; read_name(word.as_bytes()).is_none());
+        assert!(rt; read_value(word.as_bytes()).is_none());
+    }
+    Ok(())
+}
+
 // The largest number that is packed, the next one, which isn't, the largest number and the largest name.
 const ANY_SIZE: [Value; 4] = [
     Value::Number(9223372036854775807),

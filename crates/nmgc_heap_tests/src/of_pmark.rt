@@ -15,9 +15,21 @@ struct Meet {
     given_up: AtomicU64,
 }
 
+impl Meet {
+    // Whether both have come, and neither gave up.
+    fn has_met(&self) -> bool {
+        self.reached[0].load(Ordering::SeqCst) >= 1
+            && self.reached[1].load(Ordering::SeqCst) >= 1
+            && self.given_up.load(Ordering::SeqCst) == 0
+    }
+}
+
 impl Gate for Meet {
     fn pass(&self, who: u8, turn: u64) {
-        let own = if who == 0 { 0 } else { 1 };
+        let own = usize::from(who);
+        if own >= 2 {
+            return;
+        }
         self.reached[own].store(turn, Ordering::SeqCst);
         if turn != 1 {
             return;
@@ -51,7 +63,7 @@ fn markers_run_beside_each_other(rt: HostRuntime) -> Result<(), Fail> {
         blocks: 2,
     };
     let lists = places_marked(rt.alloc(), &rt, &words, &[64u64, 72u64], bounds, &meet)?;
-    assert!(rt; meet.given_up.load(Ordering::SeqCst) == 0);
+    assert!(rt; meet.has_met());
     for list in lists.as_slice() {
         assert!(rt; list.items().len() == 1);
     }

@@ -1,4 +1,4 @@
-//! Tests of whole runs, and of finaliser workers.
+//! Tests of whole runs, of images and paths in them, and of finaliser workers.
 #![tactic(auto)]
 
 #[cfg(test)]
@@ -7,3 +7,7 @@ mod of_cli;
 mod of_cycle;
 #[cfg(test)]
 mod of_fin;
+#[cfg(test)]
+mod of_gates;
+#[cfg(test)]
+mod of_retain;

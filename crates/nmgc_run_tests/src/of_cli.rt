@@ -1,6 +1,7 @@
 //! The top call over memory, and the whole program with its command line.
 //!
-//! - `runs`: scripts that are run or refused, and what is written; `large`: those of the most bytes.
+//! - `runs`: scripts that are run or refused, and what is written; `tables`: those whose reports the collector tells; `large`:
+//!   those of the most bytes.
 //! - `faults`: scripts that are cut, and sources and sinks that fail.
 //! - `images`: images of what a run left, and paths in them. `marks`: what markers mark of it. `upgrades`: upgrades.
 //! - `benches`: benches and their summaries. `lines`: words, command lines, and statuses.
@@ -15,4 +16,5 @@ mod lines;
 mod marks;
 mod running;
 mod runs;
+mod tables;
 mod upgrades;

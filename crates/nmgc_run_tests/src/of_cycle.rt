@@ -20,7 +20,7 @@ use std::test::Fail;
 use std::thread::Threads;
 
 // Two mutators, each of which reads what the other stored in the round before.
-const EXCHANGE: &str =
+pub(crate) const EXCHANGE: &str =
     "nmgc 1\nheap 64 64 64 100 1000 0\nthread 0\nnum r1 5\ncon r0 0 r1\nset g 0 r0\nyield\nget r2 g 1\nthread 1\nnum r1 6\ncon r0 0 r1\nset g 1 r0\nyield\nget r2 g 0\nget r3 r2 0\n";
 
 const EXCHANGE_REPORT: &str =
@@ -32,7 +32,7 @@ const RACE: &str =
 
 // Scripts, each with the text of its report. A nursery of 64 words is filled by 16 constructors of 4 words. With
 // segments and nurseries of 64 words the reserve is 17 for one thread, and 34 for two.
-const RUNS: [(&str, &str); 13] = [
+pub(crate) const RUNS: [(&str, &str); 13] = [
     (
         "nmgc 1\nheap 32 64 64 100 1000 0\nthread 0\n",
         "report 1\nstop 0 idle free 32 filled 0 sweep 0 promoted 0\nend done\n",
@@ -89,7 +89,7 @@ const RUNS: [(&str, &str); 13] = [
 ];
 
 // Scripts whose cycles mark beside the mutators and sweep beside them, each with the text of its report.
-const CYCLES: [(&str, &str); 11] = [
+pub(crate) const CYCLES: [(&str, &str); 11] = [
     // The sixteenth block fills a segment, and the second cycle has it to sweep.
     (
         "nmgc 1\nheap 32 64 64 100 1000 0\nthread 0\ncon r0 0 r0 r1\ncon r0 0 r0 r1\ncon r0 0 r0 r1\ncon r0 0 r0 r1\ncon r0 0 r0 r1\ncon r0 0 r0 r1\ncon r0 0 r0 r1\ncon r0 0 r0 r1\ncon r0 0 r0 r1\ncon r0 0 r0 r1\ncon r0 0 r0 r1\ncon r0 0 r0 r1\ncon r0 0 r0 r1\ncon r0 0 r0 r1\ncon r0 0 r0 r1\ncollect\ncon r0 0 r0 r1\ncollect\n",
@@ -148,7 +148,7 @@ const CYCLES: [(&str, &str); 11] = [
 ];
 
 // Scripts with thunks, stacks and compare-exchange, each with the text of its report.
-const OBJECTS: [(&str, &str); 5] = [
+pub(crate) const OBJECTS: [(&str, &str); 5] = [
     (
         "nmgc 1\nheap 32 64 64 100 1000 0\nthread 0\nnum r1 5\nstack r0 2\npush r0 r1\npush r0 r1\npush r0 r1\npop r2 r0\npop r2 r0\npop r2 r0\nget r2 r0 0\n",
         "report 1\nstop 0 idle free 32 filled 0 sweep 0 promoted 0\nround 1\n0 ok\n0 0.0\n0 ok\n0 ok\n0 stackfull\n0 5\n0 5\n0 stackempty\n0 wrongkind\nstop 1 idle free 31 filled 0 sweep 0 promoted 1\nend done\n",
@@ -192,7 +192,7 @@ const OVERWRITTEN_REPORT: &str =
     "report 1\nstop 0 idle free 32 filled 0 sweep 0 promoted 0\nround 1\n0 ok\n0 0.0\n0 0.1\n0 ok\n0 0.2\n0 0.3\n0 0.4\n0 0.5\n0 0.6\n0 0.7\n0 0.8\n0 0.9\n0 0.10\n0 0.11\n0 0.12\n0 0.13\n0 0.14\n0 0.15\n0 ok\nstop 1 marking free 31 filled 0 sweep 1 promoted 16\nround 2\n0 ok\n0 ok\nstop 2 sweeping free 31 filled 0 sweep 1 promoted 0\nround 3\nstop 3 marking free 31 filled 0 sweep 1 promoted 0\ncycle 1 from 1 closed 2 swept 1 had 16 freed 0 kept 16 dead 0\nround 4\nstop 4 sweeping free 31 filled 0 sweep 1 promoted 0\nround 5\nstop 5 idle free 31 filled 0 sweep 0 promoted 0\ncycle 2 from 3 closed 4 swept 1 had 16 freed 1 kept 15 dead 0\nfreed 0.0\nend done\n";
 
 // Scripts whose cycles close with weak pointers, each with the text of its report.
-const WEAKS: [(&str, &str); 4] = [
+pub(crate) const WEAKS: [(&str, &str); 4] = [
     // A weak pointer's value is read while the cycle marks.
     (
         "nmgc 1\nheap 32 64 128 100 1000 0\nthread 0\nnum r1 5\ncon r4 0 r1\ncon r5 0 r1\nweak r0 r4 r5 r6\nnil r4\nnil r5\ncon r3 0 r3 r1\ncon r3 0 r3 r1\ncon r3 0 r3 r1\ncon r3 0 r3 r1\ncon r3 0 r3 r1\ncon r3 0 r3 r1\ncon r3 0 r3 r1\ncon r3 0 r3 r1\ncon r3 0 r3 r1\ncon r3 0 r3 r1\ncon r3 0 r3 r1\ncon r3 0 r3 r1\ncon r3 0 r3 r1\ncon r3 0 r3 r1\ncollect\nderef r7 r0\nnil r7\nyield\nderef r7 r0\n",
@@ -216,7 +216,7 @@ const WEAKS: [(&str, &str); 4] = [
 ];
 
 // The script with this text.
-fn script_of(alloc: Global, text: &str) -> Result<Script, Fail>
+pub(crate) fn script_of(alloc: Global, text: &str) -> Result<Script, Fail>
     ensures { IfOk result IsInLimits }
 {
     if text.len() > MAX_SCRIPT_BYTES {
@@ -226,7 +226,7 @@ fn script_of(alloc: Global, text: &str) -> Result<Script, Fail>
 }
 
 // The text of the script's report.
-fn told<R: Threads + Sync, G: Gate>(
+pub(crate) fn told<R: Threads + Sync, G: Gate>(
     alloc: Global,
     rt: &R,
     script: &str,
@@ -362,6 +362,8 @@ struct Meet {
     // Of each: the turn that waits, and the turn of the other that it waits for.
     waits: [(u64, u64); 2],
     reached: [AtomicU64; 2],
+    // Of each: 1 once its turn that waits has come.
+    come: [AtomicU64; 2],
     given_up: AtomicU64,
 }
 
@@ -371,12 +373,16 @@ impl Meet {
             who,
             waits,
             reached: [AtomicU64::new(0), AtomicU64::new(0)],
+            come: [AtomicU64::new(0), AtomicU64::new(0)],
             given_up: AtomicU64::new(0),
         }
     }
 
+    // Whether each has come to its turn that waits, and neither gave up.
     fn has_met(&self) -> bool {
-        self.given_up.load(Ordering::SeqCst) == 0
+        self.come[0].load(Ordering::SeqCst) == 1
+            && self.come[1].load(Ordering::SeqCst) == 1
+            && self.given_up.load(Ordering::SeqCst) == 0
     }
 
     // The last turn of each.
@@ -402,6 +408,7 @@ impl Gate for Meet {
         if turn != waits {
             return;
         }
+        self.come[own].store(1, Ordering::SeqCst);
         for _ in 0..200_000_000u32 {
             if self.reached[1 - own].load(Ordering::SeqCst) >= until {
                 return;

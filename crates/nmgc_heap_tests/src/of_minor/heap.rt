@@ -1,15 +1,17 @@
 //! Heaps of plain words, whose objects a test makes one by one, and their promotions.
-ghost use Rattle.nmgc_minor.specs.Resting.{IsResting};
+ghost use Rattle.std.specs.Prelude.{◌≡◌};
+ghost use Rattle.nmgc_object.specs.Places.{IsLayout};
 
 use super::walk::{
     check_lengths, check_nurseries, check_objects, check_queues, check_recorded, check_room,
     check_weaks, check_words,
 };
 use nmgc_alloc::Segments;
-use nmgc_graph::{List, Room};
+use nmgc_graph::{List, NoMemory, Room};
 use nmgc_minor::{Move, Roots, Young, run_passes};
 use nmgc_object::{Address, FinQueue, Layout, Nursery};
 use std::alloc::Global;
+use std::marker::Model;
 use std::process::Abort;
 use std::test::Fail;
 
@@ -17,8 +19,49 @@ use std::test::Fail;
 #[derive(Drop)]
 pub struct Lists {
     pub young: Young,
-    pub moves: Room<Move>,
-    ghost resting: { IsResting young moves },
+    moves: Room<Move>,
+}
+
+impl Model for Lists {
+    ghost use Rattle.std.specs.Prelude.{length};
+    ghost use Rattle.nmgc_minor.specs.Promotion.{Promotion as Shown};
+    ghost use Rattle.nmgc_minor.specs.Resting.{IsResting};
+
+    ghost Value = { Shown };
+
+    ghost view = { λ l. record {
+      base = l.young.base;
+      size = length l.young.table.items;
+      moves = l.moves.items;
+    } };
+
+    ghost invariant = { λ l. IsResting l.young l.moves };
+}
+
+impl Lists {
+    // As `Promotion::reserve` takes them.
+    fn reserve(alloc: Global, layout: Layout) -> Result<Lists, NoMemory>
+        requires { IsLayout layout }
+    {
+        let count = u32::from(layout.mutators) * layout.nursery;
+        let base = layout.nursery_base(0);
+        let table = vec![in alloc; 0u32; count as usize]?;
+        let mut found = Room::new(alloc);
+        found.reserve(count)?;
+        let mut moves = Room::new(alloc);
+        moves.reserve(count)?;
+        Ok(Lists {
+            young: Young { base, table, found },
+            moves,
+        })
+    }
+
+    // The moves of the last promotion.
+    pub fn moves(&self) -> &[Move]
+        ensures { result.now ≡ self.now.moves }
+    {
+        self.moves.items()
+    }
 }
 
 // The words and what is outside them; for each word of the nurseries how many words the object has that begins
@@ -126,22 +169,13 @@ pub fn make_heap(rt: &impl Abort, alloc: Global, layout: Layout) -> Result<Heap,
         queues.push(FinQueue::new(alloc))?;
     }
     let count = u32::from(layout.mutators) * layout.nursery;
-    let mut found = Room::new(alloc);
-    found.reserve(count)?;
-    let mut moves = Room::new(alloc);
-    moves.reserve(count)?;
-    let young = Young {
-        base: layout.nursery_base(0),
-        table: vec![in alloc; 0u32; count as usize]?,
-        found,
-    };
     Ok(Heap {
         words,
         sizes: vec![in alloc; 0u32; count as usize]?,
         segments: Segments::new(alloc, layout)?,
         nurseries,
         roots: Roots { registers, queues },
-        lists: Lists { young, moves },
+        lists: Lists::reserve(alloc, layout)?,
         serial: 0,
     })
 }

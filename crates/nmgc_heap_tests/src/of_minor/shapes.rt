@@ -232,7 +232,7 @@ fn play(rt: &impl Abort, heap: &mut Heap, round: &Round) -> Result<(), Fail> {
 
 // Compares the moves with those that are wanted.
 fn compare_moves(rt: &impl Abort, heap: &Heap, wanted: &[Moved]) {
-    let moves = heap.lists.moves.items();
+    let moves = heap.lists.moves();
     assert!(rt; moves.len() == wanted.len());
     for (moved, (maker, serial, from, to)) in moves.iter().zip(wanted) {
         assert!(rt; moved.name.maker == *maker);
@@ -284,7 +284,7 @@ fn move_sizes(rt: &impl Abort, heap: &mut Heap, sizes: &[(usize, u32)]) {
         hold(rt, heap, index, to(at));
     }
     promote(rt, heap, &[], &[]);
-    let moves = heap.lists.moves.items();
+    let moves = heap.lists.moves();
     assert!(rt; moves.len() == sizes.len());
     for (moved, (size, place)) in moves.iter().zip(sizes) {
         assert!(rt; moved.to.0 == *place);

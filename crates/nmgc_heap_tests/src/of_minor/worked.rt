@@ -166,7 +166,7 @@ fn give(rt: &impl Abort, heap: &mut Heap, command: Make) {
 
 // Compares the moves with a round's.
 fn compare_moves(rt: &impl Abort, heap: &Heap, round: &Round) {
-    let moves = heap.lists.moves.items();
+    let moves = heap.lists.moves();
     assert!(rt; moves.len() == round.promoted as usize);
     for i in 0..moves.len() {
         assert!(rt; i < 4096);

@@ -1,6 +1,6 @@
 //! A round while a cycle is marking: a variable holds the only reference to an object as the cycle begins. The
 //! collector reads the variable before the mutator overwrites it, or after.
-ghost use Rattle.std.specs.Prelude.{◌≡◌, ◌<◌, ◌≤◌, true, [], IfOk, IfSome, vec_capacity};
+ghost use Rattle.std.specs.Prelude.{◌≡◌, ◌*◌, ◌<◌, ◌≤◌, true, [], IfOk, IfSome, vec_capacity};
 ghost use Rattle.nmgc_heap.specs.Samples.{small_layout};
 ghost use Rattle.nmgc_object.specs.Places.{word_total};
 ghost use Rattle.nmgc_round.specs.View.{whole};
@@ -14,7 +14,7 @@ use nmgc_mutator::{Mutator, Step, laws};
 use nmgc_object::{Address, Layout};
 use nmgc_round::chosen::Wanted;
 use nmgc_round::{Chosen, CollectorSeat, MutatorSeat, Opened, Round, Started, Words};
-use nmgc_updrem::link;
+use nmgc_updrem::{UpdSender, link};
 use std::alloc::Global;
 use std::test::Fail;
 
@@ -53,7 +53,7 @@ const OBJECTS: [u64; 96] = [
 ];
 
 // The heap as the cycle begins.
-fn snapshot_heap(alloc: Global) -> Result<Words, NoMemory>
+pub(super) fn snapshot_heap(alloc: Global) -> Result<Words, NoMemory>
     ensures { IfOk result IsSnapshotHeap }
 {
     let rest = Vec::from_elem(alloc, 1u64, 2048)?;
@@ -64,15 +64,19 @@ fn snapshot_heap(alloc: Global) -> Result<Words, NoMemory>
     Ok(heap)
 }
 
-// The mutator as the cycle begins: r0 refers to the variable, r1 has 5, and r3 refers to the last object.
-fn mutator_at(alloc: Global) -> Result<Mutator, NoMemory>
+// The mutator as the cycle begins, with room for so many commands: r0 refers to the variable, r1 has 5, and r3 refers to
+// the last object.
+pub(super) fn mutator_with(
+    alloc: Global,
+    commands: u32,
+    sender: UpdSender,
+) -> Result<Mutator, NoMemory>
     ensures is { IfOk result IsSnapshotMutator }
-    ensures room { IfOk result (λ m. (0 < m.replies.spare) × (0 < m.recorded.spare) × (0 < m.updrem.spare)) }
+    ensures room { IfOk result (λ m. (commands ≤ m.replies.spare) × (commands ≤ m.recorded.spare) × (8 * commands ≤ m.updrem.spare)) }
 {
     let layout = small();
-    let (sender, _receiver) = link(alloc)?;
     let mut mutator = Mutator::new(alloc, 0, layout, sender)?;
-    mutator.reserve(1)?;
+    mutator.reserve(commands)?;
     let mut registers = Vec::from_elem(alloc, 1u64, REGISTERS as usize)?;
     registers[0] = 72;
     registers[1] = 13;
@@ -82,15 +86,28 @@ fn mutator_at(alloc: Global) -> Result<Mutator, NoMemory>
     Ok(mutator)
 }
 
-// A round that began, with its two seats.
-#[derive(Drop)]
-struct Begun {
-    round: Round,
-    seat: MutatorSeat,
-    collector: CollectorSeat,
+// The same with room for one command.
+fn mutator_at(alloc: Global) -> Result<Mutator, NoMemory>
+    ensures is { IfOk result IsSnapshotMutator }
+    ensures room { IfOk result (λ m. (0 < m.replies.spare) × (0 < m.recorded.spare) × (0 < m.updrem.spare)) }
+{
+    let (sender, _receiver) = link(alloc)?;
+    mutator_with(alloc, 1, sender)
 }
 
-fn begin(words: Words, room: Vec<MutatorSeat>, place: Place<MutatorSeat>) -> Option<Begun>
+// A round that began, with its two seats.
+#[derive(Drop)]
+pub(super) struct Begun {
+    pub(super) round: Round,
+    pub(super) seat: MutatorSeat,
+    pub(super) collector: CollectorSeat,
+}
+
+pub(super) fn begin(
+    words: Words,
+    room: Vec<MutatorSeat>,
+    place: Place<MutatorSeat>,
+) -> Option<Begun>
     requires heap { IsSnapshotHeap words }
     requires room { (room.items ≡ []) × (1 ≤ vec_capacity room) }
     ensures { IfSome result (λ b. IsBegun b.round b.seat b.collector × (word_count b.round ≡ word_total small_layout)) }

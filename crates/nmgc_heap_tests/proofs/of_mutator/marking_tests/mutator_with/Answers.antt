@@ -2,7 +2,7 @@ use Rattle.std.proofs.Common.{subst, sym, ◌∙◌}
 use Rattle.nmgc_object.specs.declared.layout.Layout.{Layout}
 use Rattle.nmgc_object.specs.Places.{IsLayout}
 use Rattle.nmgc_mutator.proofs.Sampled.{layout_is, snapshot_mutator}
-use Rattle.nmgc_heap_tests.proofs.of_mutator.marking_tests.mutator_at.Goals as goal
+use Rattle.nmgc_heap_tests.proofs.of_mutator.marking_tests.mutator_with.Goals as goal
 
 pub new-requires-clause-layout : goal.new-requires-clause-layout
 new-requires-clause-layout c = subst (λ (l : Layout). IsLayout l) (sym c.small-layout.ensures) layout_is

@@ -1,0 +1,250 @@
+//! Runs under gates at which all workers of a round wait for each other, and under one that looks at each pass.
+//!
+//! A gate gives up after many turns of its spin, and notes it: so a round that has two of its workers on one thread fails
+//! the test and doesn't hang. It counts those who came: so a worker that passes no gate fails the test, and so does one that
+//! passes it under another number.
+ghost use Rattle.nmgc_cycle.specs.Limits.{IsInLimits};
+
+use crate::of_cycle::{CYCLES, EXCHANGE, RUNS, script_of, told};
+use itoa::Buffer;
+use nmgc_cycle::{Collector, StopEnd};
+use nmgc_graph::{MAKERS, NoMemory};
+use nmgc_round::{Gate, OpenGate};
+use nmgc_script::Script;
+use std::alloc::Global;
+use std::process::Abort;
+use std::sync::atomic::{AtomicU64, Ordering};
+use std::test::Fail;
+use std::thread::Threads;
+
+// A gate at which some workers wait for each other, each at one turn of its own.
+#[derive(Drop)]
+struct Meeting {
+    // Who they are, and each one's turn.
+    awaited: Vec<(u8, u64)>,
+    come: AtomicU64,
+    given_up: AtomicU64,
+}
+
+impl Meeting {
+    // These wait for each other, and so many mutators, all of them at the same turn.
+    fn new(alloc: Global, mutators: u8, turn: u64, others: &[(u8, u64)]) -> Result<Meeting, Fail> {
+        let mut awaited = Vec::from_slice(alloc, others)?;
+        for mutator in 0..mutators {
+            awaited.push((mutator, turn))?;
+        }
+        Ok(Meeting {
+            awaited,
+            come: AtomicU64::new(0),
+            given_up: AtomicU64::new(0),
+        })
+    }
+
+    // Whether all have come, and none gave up.
+    fn has_met(&self) -> bool {
+        self.come.load(Ordering::SeqCst) == self.awaited.len() as u64
+            && self.given_up.load(Ordering::SeqCst) == 0
+    }
+}
+
+impl Gate for Meeting {
+    fn pass(&self, who: u8, turn: u64) {
+        if !self.awaited.contains(&(who, turn)) {
+            return;
+        }
+        self.come.fetch_add(1, Ordering::SeqCst);
+        for _ in 0..200_000_000u32 {
+            if self.come.load(Ordering::SeqCst) >= self.awaited.len() as u64 {
+                return;
+            }
+        }
+        self.given_up.store(1, Ordering::SeqCst);
+    }
+}
+
+// A script of so many mutators, each of which makes an object. The first asks for a cycle then, and in the next round,
+// in which the cycle marks, each has one command.
+fn many(alloc: Global, mutators: u8) -> Result<String, Fail> {
+    let mut text = String::from_str(alloc, "nmgc 2\nheap 1024 64 64 100 1000 0\n")?;
+    for mutator in 0..mutators {
+        let mut number = Buffer::new();
+        text.push_str("thread ")?;
+        text.push_str(number.format(mutator))?;
+        text.push_str("\ncon r0 0 r1\n")?;
+        text.push_str(if mutator == 0 { "collect\n" } else { "yield\n" })?;
+        text.push_str("nil r2\n")?;
+    }
+    Ok(text)
+}
+
+// Looks whether a script's run under the gate is that under an open one.
+fn check_run<R: Threads + Sync + Abort, G: Gate>(
+    alloc: Global,
+    rt: &R,
+    script: &str,
+    gate: &G,
+) -> Result<(), Fail> {
+    let free = told(alloc, rt, script, &OpenGate)?;
+    let held = told(alloc, rt, script, gate)?;
+    assert!(rt; held.as_slice() == free.as_slice());
+    Ok(())
+}
+
+// The third command of each mutator and the collector's first scan wait for one another, for few mutators and for as
+// many as there may be.
+#[test]
+fn all_mutators_run_beside_the_marker(rt: HostRuntime) -> Result<(), Fail> {
+    for mutators in [8u8, 32] {
+        let script = many(rt.alloc(), mutators)?;
+        let meeting = Meeting::new(rt.alloc(), mutators, 3, &[(MAKERS, 1)])?;
+        check_run(rt.alloc(), &rt, script.as_str(), &meeting)?;
+        assert!(rt; meeting.has_met());
+    }
+    Ok(())
+}
+
+// Two mutators of which the first fills two segments and asks for a cycle. Once 32 objects were scanned, each half of the
+// sweep has one segment, and each mutator has one command.
+const TWO_AND_A_SWEEP: &str =
+    "nmgc 1\nheap 64 64 256 100 1000 0\nthread 0\ncon r0 0 r0 r1\ncon r0 0 r0 r1\ncon r0 0 r0 r1\ncon r0 0 r0 r1\ncon r0 0 r0 r1\ncon r0 0 r0 r1\ncon r0 0 r0 r1\ncon r0 0 r0 r1\ncon r0 0 r0 r1\ncon r0 0 r0 r1\ncon r0 0 r0 r1\ncon r0 0 r0 r1\ncon r0 0 r0 r1\ncon r0 0 r0 r1\ncon r0 0 r0 r1\ncon r0 0 r0 r1\ncon r2 0 r2 r1\ncon r2 0 r2 r1\ncon r2 0 r2 r1\ncon r2 0 r2 r1\ncon r2 0 r2 r1\ncon r2 0 r2 r1\ncon r2 0 r2 r1\ncon r2 0 r2 r1\ncon r2 0 r2 r1\ncon r2 0 r2 r1\ncon r2 0 r2 r1\ncon r2 0 r2 r1\ncon r2 0 r2 r1\ncon r2 0 r2 r1\ncon r2 0 r2 r1\ncon r2 0 r2 r1\ncollect\nyield\nnil r3\nthread 1\nyield\nyield\nnil r3\n";
+
+#[test]
+fn mutators_run_beside_both_halves_of_a_sweep(rt: HostRuntime) -> Result<(), Fail> {
+    let meeting = Meeting::new(
+        rt.alloc(),
+        0,
+        0,
+        &[(0, 35), (1, 3), (MAKERS, 33), (MAKERS + 1, 1)],
+    )?;
+    check_run(rt.alloc(), &rt, TWO_AND_A_SWEEP, &meeting)?;
+    assert!(rt; meeting.has_met());
+    Ok(())
+}
+
+// A gate that looks at each pass: a worker's turns are 1, 2, 3 and so on.
+#[derive(Drop)]
+struct Recorder {
+    // The last turn of each worker, by its number.
+    last: Vec<AtomicU64>,
+    wrong: AtomicU64,
+}
+
+impl Recorder {
+    fn new(alloc: Global) -> Result<Recorder, Fail> {
+        let mut last = Vec::new(alloc);
+        for _ in 0..MAKERS + 2 {
+            last.push(AtomicU64::new(0))?;
+        }
+        Ok(Recorder {
+            last,
+            wrong: AtomicU64::new(0),
+        })
+    }
+
+    // Whether just these workers passed, each so often.
+    fn has_seen(&self, passes: &[(u8, u64)]) -> bool {
+        let mut sum = 0u64;
+        for own in self.last.as_slice() {
+            sum = sum.saturating_add(own.load(Ordering::SeqCst));
+        }
+        let mut wanted = 0u64;
+        for (who, count) in passes {
+            wanted = wanted.saturating_add(*count);
+            match self.last.get(usize::from(*who)) {
+                Some(own) if own.load(Ordering::SeqCst) == *count => {}
+                _ => return false,
+            }
+        }
+        sum == wanted && self.wrong.load(Ordering::SeqCst) == 0
+    }
+}
+
+impl Gate for Recorder {
+    fn pass(&self, who: u8, turn: u64) {
+        let Some(own) = self.last.get(usize::from(who)) else {
+            self.wrong.store(1, Ordering::SeqCst);
+            return;
+        };
+        if own.load(Ordering::SeqCst).wrapping_add(1) != turn {
+            self.wrong.store(1, Ordering::SeqCst);
+        }
+        own.store(turn, Ordering::SeqCst);
+    }
+}
+
+// Before each command that is tried there is one pass: the seventeenth of the second script waits for room, and is tried
+// twice. Before each of 31 objects that are scanned, and of three segments that are swept, there is one too.
+#[test]
+fn each_unit_of_work_has_its_pass(rt: HostRuntime) -> Result<(), Fail> {
+    for (script, passes) in [
+        (
+            EXCHANGE,
+            [(0u8, 5u64), (1, 6), (MAKERS, 0), (MAKERS + 1, 0)],
+        ),
+        (RUNS[3].0, [(0, 18), (1, 0), (MAKERS, 0), (MAKERS + 1, 0)]),
+        (
+            CYCLES[1].0,
+            [(0, 52), (1, 0), (MAKERS, 33), (MAKERS + 1, 1)],
+        ),
+    ] {
+        let recorder = Recorder::new(rt.alloc())?;
+        check_run(rt.alloc(), &rt, script, &recorder)?;
+        assert!(rt; recorder.has_seen(&passes));
+    }
+    Ok(())
+}
+
+// A collector after two rounds of a script, each after a stop. `None` where one of these ended the run.
+fn after_two_rounds<R: Threads + Sync, G: Gate>(
+    alloc: Global,
+    rt: &R,
+    script: &Script,
+    gate: &G,
+) -> Result<Option<Collector>, NoMemory>
+    requires { IsInLimits script.now }
+{
+    let mut collector = Collector::new(alloc, script)?;
+    match collector.stop(rt, script)? {
+        StopEnd::GoOn => collector.round(rt, script, gate)?,
+        StopEnd::Done | StopEnd::HeapFull { .. } => return Ok(None),
+    }
+    match collector.stop(rt, script)? {
+        StopEnd::GoOn => collector.round(rt, script, gate)?,
+        StopEnd::Done | StopEnd::HeapFull { .. } => return Ok(None),
+    }
+    Ok(Some(collector))
+}
+
+// A variable is overwritten two hundred times while a cycle marks, whose collector scans three objects a round.
+const OFTEN: &str =
+    "nmgc 1\nheap 32 64 64 1000 3 0\nthread 0\nnum r1 5\ncon r4 0 r1\ncon r5 0 r1\nvar r0 r4\ncon r3 0 r3 r1\ncon r3 0 r3 r1\ncon r3 0 r3 r1\ncon r3 0 r3 r1\ncon r3 0 r3 r1\ncon r3 0 r3 r1\ncon r3 0 r3 r1\ncon r3 0 r3 r1\ncon r3 0 r3 r1\ncon r3 0 r3 r1\ncon r3 0 r3 r1\ncon r3 0 r3 r1\ncon r3 0 r3 r1\ncollect\nset r0 0 r5\nset r0 0 r4\nset r0 0 r5\nset r0 0 r4\nset r0 0 r5\nset r0 0 r4\nset r0 0 r5\nset r0 0 r4\nset r0 0 r5\nset r0 0 r4\nset r0 0 r5\nset r0 0 r4\nset r0 0 r5\nset r0 0 r4\nset r0 0 r5\nset r0 0 r4\nset r0 0 r5\nset r0 0 r4\nset r0 0 r5\nset r0 0 r4\nset r0 0 r5\nset r0 0 r4\nset r0 0 r5\nset r0 0 r4\nset r0 0 r5\nset r0 0 r4\nset r0 0 r5\nset r0 0 r4\nset r0 0 r5\nset r0 0 r4\nset r0 0 r5\nset r0 0 r4\nset r0 0 r5\nset r0 0 r4\nset r0 0 r5\nset r0 0 r4\nset r0 0 r5\nset r0 0 r4\nset r0 0 r5\nset r0 0 r4\nset r0 0 r5\nset r0 0 r4\nset r0 0 r5\nset r0 0 r4\nset r0 0 r5\nset r0 0 r4\nset r0 0 r5\nset r0 0 r4\nset r0 0 r5\nset r0 0 r4\nset r0 0 r5\nset r0 0 r4\nset r0 0 r5\nset r0 0 r4\nset r0 0 r5\nset r0 0 r4\nset r0 0 r5\nset r0 0 r4\nset r0 0 r5\nset r0 0 r4\nset r0 0 r5\nset r0 0 r4\nset r0 0 r5\nset r0 0 r4\nset r0 0 r5\nset r0 0 r4\nset r0 0 r5\nset r0 0 r4\nset r0 0 r5\nset r0 0 r4\nset r0 0 r5\nset r0 0 r4\nset r0 0 r5\nset r0 0 r4\nset r0 0 r5\nset r0 0 r4\nset r0 0 r5\nset r0 0 r4\nset r0 0 r5\nset r0 0 r4\nset r0 0 r5\nset r0 0 r4\nset r0 0 r5\nset r0 0 r4\nset r0 0 r5\nset r0 0 r4\nset r0 0 r5\nset r0 0 r4\nset r0 0 r5\nset r0 0 r4\nset r0 0 r5\nset r0 0 r4\nset r0 0 r5\nset r0 0 r4\nset r0 0 r5\nset r0 0 r4\nset r0 0 r5\nset r0 0 r4\nset r0 0 r5\nset r0 0 r4\nset r0 0 r5\nset r0 0 r4\nset r0 0 r5\nset r0 0 r4\nset r0 0 r5\nset r0 0 r4\nset r0 0 r5\nset r0 0 r4\nset r0 0 r5\nset r0 0 r4\nset r0 0 r5\nset r0 0 r4\nset r0 0 r5\nset r0 0 r4\nset r0 0 r5\nset r0 0 r4\nset r0 0 r5\nset r0 0 r4\nset r0 0 r5\nset r0 0 r4\nset r0 0 r5\nset r0 0 r4\nset r0 0 r5\nset r0 0 r4\nset r0 0 r5\nset r0 0 r4\nset r0 0 r5\nset r0 0 r4\nset r0 0 r5\nset r0 0 r4\nset r0 0 r5\nset r0 0 r4\nset r0 0 r5\nset r0 0 r4\nset r0 0 r5\nset r0 0 r4\nset r0 0 r5\nset r0 0 r4\nset r0 0 r5\nset r0 0 r4\nset r0 0 r5\nset r0 0 r4\nset r0 0 r5\nset r0 0 r4\nset r0 0 r5\nset r0 0 r4\nset r0 0 r5\nset r0 0 r4\nset r0 0 r5\nset r0 0 r4\nset r0 0 r5\nset r0 0 r4\nset r0 0 r5\nset r0 0 r4\nset r0 0 r5\nset r0 0 r4\nset r0 0 r5\nset r0 0 r4\nset r0 0 r5\nset r0 0 r4\nset r0 0 r5\nset r0 0 r4\nset r0 0 r5\nset r0 0 r4\nset r0 0 r5\nset r0 0 r4\nset r0 0 r5\nset r0 0 r4\nset r0 0 r5\nset r0 0 r4\nset r0 0 r5\nset r0 0 r4\nset r0 0 r5\nset r0 0 r4\nset r0 0 r5\nset r0 0 r4\nset r0 0 r5\nset r0 0 r4\nset r0 0 r5\nset r0 0 r4\nset r0 0 r5\nset r0 0 r4\nset r0 0 r5\nset r0 0 r4\nset r0 0 r5\nset r0 0 r4\nset r0 0 r5\nset r0 0 r4\nset r0 0 r5\nset r0 0 r4\nset r0 0 r5\nset r0 0 r4\nset r0 0 r5\nset r0 0 r4\nset r0 0 r5\nset r0 0 r4\nset r0 0 r5\nset r0 0 r4\nset r0 0 r5\nset r0 0 r4\ncollect\n";
+
+// How many entries the collector took out of the ring in the second round, and how many the mutator keeps.
+fn taken_and_kept<R: Threads + Sync, G: Gate>(
+    alloc: Global,
+    rt: &R,
+    gate: &G,
+) -> Result<(usize, usize), Fail> {
+    let script = script_of(alloc, OFTEN)?;
+    let Some(collector) = after_two_rounds(alloc, rt, &script, gate)? else {
+        return Err("the run has ended".into());
+    };
+    let Some(mutator) = collector.mutators().first() else {
+        return Err("no mutator".into());
+    };
+    Ok((
+        collector.inbox().entries(0).len(),
+        mutator.updrem.entries().len(),
+    ))
+}
+
+// The collector's first scan waits until the mutator has done its two hundred: three full blocks are in the ring by then,
+// and eight entries are kept. Before each of its three scans it takes a block out, so nothing is left there.
+#[test]
+fn full_blocks_reach_the_collector_before_the_stop(rt: HostRuntime) -> Result<(), Fail> {
+    let meeting = Meeting::new(rt.alloc(), 0, 0, &[(0, 219), (MAKERS, 1)])?;
+    let (taken, kept) = taken_and_kept(rt.alloc(), &rt, &meeting)?;
+    assert!(rt; meeting.has_met());
+    assert!(rt; taken == 192 && kept == 8);
+    Ok(())
+}
