@@ -29,7 +29,7 @@ use Rattle.nmgc_beside.proofs.Taking.{machine_takes, places_mark, with_names}
 use Rattle.nmgc_beside.proofs.Tying.{MarksLaw, EndsLaw, core_facts, core_snapshot, heap_of_blocks, round_ends}
 
 pub snapshot_is_marking : MarksLaw → TiesAgree → SnapshotIsMarking
-snapshot_is_marking law agree layout s words old new ends weaks o spare h world sound_new same places snapshot marked tied queue_room nothing from noted =
+snapshot_is_marking law agree layout s words old new ends weaks o spare h world sound_new same places snapshot marked tied queue_room nothing from noted nothing_listed =
     let c : Cycle = next_cycle s in
     let core : Core = opening s.world in
     let k = stop_begins layout s words old ends weaks h in
@@ -38,7 +38,7 @@ snapshot_is_marking law agree layout s words old new ends weaks o spare h world 
     let blocks : AreOfBlocks o c new.segments words (cycle_started s).allocation core = heap_of_blocks law layout (cycle_started s) words new.segments ends weaks c s.world core o m.0 sound_new rest.sound rest.machine same (places ∙ sym k.1 ∙ sym m.1) snapshot in
     let here : IsTiedByPlaces o (marks_of core) new.segments new.marker = subst (λ (w : World). IsTiedByPlaces o (marks_of (opening w)) new.segments new.marker) snapshot tied in
     let by_blocks : IsTied c (cycle_started s).allocation new.segments o.places new.marker core = (agree o c new.segments words (cycle_started s).allocation core new.marker blocks).1 (marked.scanned.epoch, here) in
-    cycle_is_marking s new h.places world (subst (λ (l : List Place). IsTied c (cycle_started s).allocation new.segments l new.marker core) places by_blocks) marked.room queue_room nothing from noted
+    cycle_is_marking s new h.places world (subst (λ (l : List Place). IsTied c (cycle_started s).allocation new.segments l new.marker core) places by_blocks) marked.room queue_room nothing from noted nothing_listed
 
 pub round_is_marking : MarksLaw → TiesAgree → EndsLaw → RoundIsMarking
 round_is_marking law agree ending layout c s t old new before after ends weaks o scans seats mutators done core scanned h f sound interval was same places snapshot world allocation g goes marks tied left entries =

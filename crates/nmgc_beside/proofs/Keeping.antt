@@ -24,7 +24,7 @@ use Rattle.nmgc_run.specs.Census.{interval_of}
 use Rattle.nmgc_run.specs.Collector.{IsMarking, EachMutator, weak_count}
 use Rattle.nmgc_run.specs.Listing.{ListsNumbers}
 use Rattle.nmgc_run.specs.Marker.{AreAt, AreRemembered, IsCoreOf, IsTied, HasRoomToMark}
-use Rattle.nmgc_run.specs.Marks.{HasNoted, epoch_of}
+use Rattle.nmgc_run.specs.Marks.{HasListedNothing, HasNoted, epoch_of}
 use Rattle.nmgc_run.specs.Seen.{Seen, CycleSeen, MarkerSeen, MutatorSeen, SweeperSeen}
 use Rattle.nmgc_run.specs.State.{Cycle, State, next_cycle, cycle_started}
 use Rattle.nmgc_beside.specs.Owed.{GoesOn}
@@ -54,9 +54,9 @@ none_low seen nothing k mutator there at d = absurd (nothing_in at (subst (λ (l
 
 -- a cycle begins: the marker has marked what the machine marks of the roots, and the sweeper has noted what it is to sweep
 pub cycle_is_marking : (s : State) (seen : Seen) (places : List Place) → IsWorld s.world → IsTied (next_cycle s) (cycle_begun s.allocation) seen.segments places seen.marker (opening s.world) → HasRoomToMark seen.segments seen.marker
-    → EachMutator seen (λ m mutator. weak_count s.world m seen.weaks ≤ mutator.queue.spare) → NoneRemember seen → seen.cycle.from ≡ s.number → HasNoted (next_cycle s) seen.sweeper
+    → EachMutator seen (λ m mutator. weak_count s.world m seen.weaks ≤ mutator.queue.spare) → NoneRemember seen → seen.cycle.from ≡ s.number → HasNoted (next_cycle s) seen.sweeper → HasListedNothing seen.sweeper
     → IsMarking (next_cycle s) (cycle_started s) seen places
-cycle_is_marking s seen places world tied room queue_room nothing from noted =
+cycle_is_marking s seen places world tied room queue_room nothing from noted nothing_listed =
     let core : Core = opening s.world in
     let b : IsBegun s.world core = begun s.world in
     let none : (k : ℕ) → names_of core.pushed k ≡ [] = λ k. ap (λ (l : List (List Name)). names_of l k) b.pushed_is ∙ none_at_first (length s.world.mutators) k in
@@ -70,6 +70,7 @@ cycle_is_marking s seen places world tied room queue_room nothing from noted =
       queue_room = queue_room;
       from_is = from;
       noted = noted;
+      nothing_listed = nothing_listed;
     }
 
 -- at a stop the machine is at rest, and what it is to scan is at the places in the marker's queue
@@ -96,6 +97,10 @@ still_noted c d old new number heap same n = subst (HasNoted d) (sym same) (reco
   swept = subst (λ (a : AllocState). ListsNumbers (λ k. IsOne (IsIn stands.Filled) a k) old.swept) (sym heap) n.swept;
 })
 
+-- and where it listed nothing, it still has listed nothing
+still_nothing : (old new : SweeperSeen) → new ≡ old → HasListedNothing old → HasListedNothing new
+still_nothing old new same n = subst HasListedNothing (sym same) n
+
 -- over a round: with the machine as it goes on, and a marker that is tied to it and has room
 pub round_keeps_marking : (c : Cycle) (s t : State) (old new : Seen) (o : Opening) (words : List ℕ) (v : View) (h : IsFinished o words v) (mutators : List Mutator) (core : Core) → IsMarking c s old o.places → GoesOn c o words v h mutators core → t.world ≡ (now o h.events).world
     → IsTied (with_rows c (rows_in h.events)) t.allocation new.segments (places_then o h.born) new.marker core → HasRoomToMark new.segments new.marker → new.segments.layout ≡ o.layout → HasLeft c old new → ShowEntries new mutators
@@ -116,6 +121,7 @@ round_keeps_marking c s t old new o words v h mutators core was goes world tied 
       queue_room = left.queue_room;
       from_is = ap (λ (x : CycleSeen). x.from) left.cycle ∙ was.from_is;
       noted = still_noted c d old.sweeper new.sweeper refl refl left.sweeper was.noted;
+      nothing_listed = still_nothing old.sweeper new.sweeper left.sweeper was.nothing_listed;
     }
 
 pub promotion_keeps_marking : PromotionKeepsMarking
@@ -137,6 +143,7 @@ promotion_keeps_marking c s old new t words after registers queues moves placed 
       queue_room = left.queue_room;
       from_is = ap (λ (x : CycleSeen). x.from) left.cycle ∙ was.from_is;
       noted = still_noted c c old.sweeper new.sweeper refl refl left.sweeper was.noted;
+      nothing_listed = still_nothing old.sweeper new.sweeper left.sweeper was.nothing_listed;
     }
 
 -- once the marker has added what was remembered, which the machine took: nothing is remembered any more
@@ -154,6 +161,7 @@ add_keeps_marking c s old new places names core was taken tied room left nothing
   queue_room = left.queue_room;
   from_is = ap (λ (x : CycleSeen). x.from) left.cycle ∙ was.from_is;
   noted = still_noted c c old.sweeper new.sweeper refl refl left.sweeper was.noted;
+  nothing_listed = still_nothing old.sweeper new.sweeper left.sweeper was.nothing_listed;
 }
 
 -- the pace

@@ -19,7 +19,7 @@ use Rattle.nmgc_turn.specs.Worked.{Done}
 use Rattle.nmgc_run.specs.Census.{interval_of}
 use Rattle.nmgc_run.specs.Collector.{EachMutator, IsMarking, weak_count}
 use Rattle.nmgc_run.specs.Heap.{HoldsAtStop}
-use Rattle.nmgc_run.specs.Marks.{HasNoted, epoch_of}
+use Rattle.nmgc_run.specs.Marks.{HasListedNothing, HasNoted, epoch_of}
 use Rattle.nmgc_run.specs.Seen.{Seen, MutatorSeen}
 use Rattle.nmgc_run.specs.State.{Cycle, State, next_cycle, cycle_started}
 use Rattle.nmgc_mark.specs.Marker.{HasMarked, blank}
@@ -38,7 +38,7 @@ abbrev pub SnapshotIsMarking : Type 0
 SnapshotIsMarking = (layout : Layout) (s : State) (words : List ℕ) (old : Segments) (new : Seen) (ends : List MutatorEnd) (weaks : List Place) (o : Opening) (spare : ℕ) → (h : HoldsAtStop layout s words old ends weaks) → IsWorld s.world → IsSegments new.segments
     → o.layout ≡ layout → o.places ≡ h.places → o.core.snapshot ≡ s.world
     → HasMarked (all_prepared old) new.segments (blank (epoch_of (s.begun + 1)) spare) new.marker 0 → IsTiedByPlaces o (marks_of (opening o.core.snapshot)) new.segments new.marker
-    → EachMutator new (λ m mutator. weak_count s.world m new.weaks ≤ mutator.queue.spare) → NoneRemember new → new.cycle.from ≡ s.number → HasNoted (next_cycle s) new.sweeper
+    → EachMutator new (λ m mutator. weak_count s.world m new.weaks ≤ mutator.queue.spare) → NoneRemember new → new.cycle.from ≡ s.number → HasNoted (next_cycle s) new.sweeper → HasListedNothing new.sweeper
     → IsMarking (next_cycle s) (cycle_started s) new h.places
 
 -- it worked beside the slices of a round, after which its marks are those of the collector's scans: it marks on, with the rows of the round and what the mutators remember of it

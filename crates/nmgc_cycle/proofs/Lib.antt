@@ -27,6 +27,7 @@ pub mod GivenBack
 pub mod GoneOn
 pub mod Helping
 pub mod InboxOn
+mod InboxRoom
 pub mod Items
 pub mod KeptAfter
 pub mod Lining

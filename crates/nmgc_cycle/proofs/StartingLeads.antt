@@ -249,8 +249,8 @@ module _ (laws : BeginningLaws) (script : Script) (c : Collector) (s : State) (h
       let o : Opening = snapshot_opening laws.prepares laws.begins script c s h at in
       let tied = st.tied o (beginning laws.prepares laws.begins script c s h at) in
       let m = laws.marks plan s words c.segments (seen next) (ends_of (seen c)) (seen c).weaks o (most_blocks c.segments.layout) h.heap h.sound.world st.sound refl refl refl marked_then tied
-      queue_room_then (λ n mutator e. (rest_then n mutator e).entries) st.from_is notes.noted in
-      subst (λ (l : List Place). IsMarking k t (seen next) l) (sym same_places) (record { core = m.core; machine = m.machine; tied = m.tied; remembered = m.remembered; low = m.low; room = m.room; queue_room = m.queue_room; from_is = m.from_is; noted = m.noted })
+      queue_room_then (λ n mutator e. (rest_then n mutator e).entries) st.from_is notes.noted (begun_then.had, begun_then.freed) in
+      subst (λ (l : List Place). IsMarking k t (seen next) l) (sym same_places) (record { core = m.core; machine = m.machine; tied = m.tied; remembered = m.remembered; low = m.low; room = m.room; queue_room = m.queue_room; from_is = m.from_is; noted = m.noted; nothing_listed = m.nothing_listed })
 
   in_pace : IsPacedAtStop script.config.quota k t (seen next)
   in_pace = laws.pace script.config.quota k t (seen next) refl (let pace = st.marked.scanned.pace in omega (arith, pace))

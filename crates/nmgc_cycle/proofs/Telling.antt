@@ -58,6 +58,7 @@ module _ (script : Script) (old new : Collector) (s t : State) where
       queue_room = h.0.queue_room;
       from_is = h.0.from_is;
       noted = h.0.noted;
+      nothing_listed = h.0.nothing_listed;
     },
     record { scanned = h.1.scanned; not_done = h.1.not_done },
   )

@@ -1,5 +1,6 @@
 -- The slices of a round: what a mutator with its seat does of its program, and what all of them leave.
 use Rattle.std.specs.Prelude.{ℕ, ◌≡◌, ◌↔◌, ◌||◌, IsTrue, Bool, false, ◌+◌, ◌*◌, ◌<◌, ◌≤◌, List, [], ◌++◌, length, map, drop, take, min, All, slice_get, slice_index, slice_index_or, Some, vec_capacity}
+use Rattle.std.specs.Int.{div_ceil}
 use Rattle.std.specs.List.{zip}
 use Rattle.nmgc_graph.specs.declared.command.Command.{Command}
 use Rattle.nmgc_graph.specs.declared.command.Reply.{Reply}
@@ -18,7 +19,8 @@ use Rattle.nmgc_mutator.specs.declared.mutator.SliceEnd.{SliceEnd}
 use Rattle.nmgc_mutator.specs.declared.mutator.SliceEnd.TheVariants as ending
 use Rattle.nmgc_mutator.specs.Does.{SameLine}
 use Rattle.nmgc_mutator.specs.Ready.{IsReady, Reserves}
-use Rattle.nmgc_updrem.specs.Rings.{HavePolled}
+use Rattle.nmgc_updrem.specs.Rings.{HavePolled, Receiver}
+use Rattle.nmgc_updrem.specs.declared.block.TheConstants.{BLOCK_ENTRIES}
 use Rattle.nmgc_mutator.specs.Slice.{HasRoom, HasRun, Ended}
 use Rattle.nmgc_turn.specs.Rest.{opening_at}
 use Rattle.nmgc_turn.specs.Worked.{Done}
@@ -29,6 +31,7 @@ use Rattle.nmgc_run.specs.Slice.{program_of, slice_of, some_asks, is_collect, is
 use Rattle.nmgc_run.specs.State.{State, Progress, marking}
 use Rattle.nmgc_cycle.specs.declared.collector.Collector.{Collector}
 use Rattle.nmgc_cycle.specs.declared.round.Lists.{Lists}
+use Rattle.nmgc_cycle.specs.declared.round.TheConstants.{PUSHED_MOST}
 use Rattle.nmgc_cycle.specs.declared.worker.Worker.{Worker}
 use Rattle.nmgc_cycle.specs.Cycles.{HasHelped}
 use Rattle.nmgc_cycle.specs.Keeps.{IsAfterStop}
@@ -108,6 +111,14 @@ pub record HasLists (count : ℕ) (m : Mutator) : Type 0 where
 -- each mutator has room for its next slice
 abbrev pub HaveSliceRoom : Script → Collector → Type 0
 HaveSliceRoom script c = (k : ℕ) (m : Mutator) → slice_get c.mutators.items k ≡ Some m → HasRoom m (min script.config.slice (length (left_at script c.positions.items k)))
+
+-- so many entries, rounded up to whole blocks
+abbrev pub in_blocks : ℕ → ℕ
+in_blocks entries = div_ceil entries BLOCK_ENTRIES * BLOCK_ENTRIES
+
+-- the inbox has room for what each mutator may send in its next slice: for the most that its commands push, in whole blocks
+abbrev pub HasInboxRoom : Script → List ℕ → List Receiver → Type 0
+HasInboxRoom script positions inbox = (k : ℕ) (r : Receiver) → slice_get inbox k ≡ Some r → in_blocks (PUSHED_MOST * min script.config.slice (length (left_at script positions k))) ≤ r.taken.spare
 
 -- mutators that are the same but for the room of their lists
 pub record AreReserved (old new : List Mutator) : Type 0 where

@@ -15,7 +15,7 @@
 //!
 //! Easy to get wrong: a request for a cycle or a full one that an earlier round made stands until a stop grants it, so
 //! a round may only add to the requests.
-ghost use Rattle.std.specs.Prelude.{ℕ, ◌≡◌, ◌||◌, ◌<◌, ◌≤◌, ◌+◌, ◌^◌, [], ◌∷◌, ◌++◌, None, Some, IfOk, OnOk, length, map, min, slice_get, slice_index, slice_index_or};
+ghost use Rattle.std.specs.Prelude.{ℕ, ◌≡◌, ◌||◌, ◌<◌, ◌≤◌, ◌+◌, ◌^◌, [], ◌∷◌, ◌++◌, true, None, Some, IfOk, OnOk, length, map, min, slice_get, slice_index, slice_index_or};
 ghost use Rattle.std.specs.List.{list_any};
 ghost use Rattle.nmgc_alloc.specs.Segments.{IsSegments};
 ghost use Rattle.nmgc_round.specs.Gate.{passed};
@@ -29,8 +29,8 @@ ghost use Rattle.nmgc_cycle.specs.Limits.{IsInLimits};
 ghost use Rattle.nmgc_cycle.specs.Lined.{IsLined, HasMetSender, HaveLines, HaveMet, RememberInOrder};
 ghost use Rattle.nmgc_cycle.specs.Keeps.{HasStopped, DidRound};
 ghost use Rattle.nmgc_cycle.specs.Cycles.{CanHelp, HasHelped, worked_on, upper_worked_on};
-ghost use Rattle.nmgc_cycle.specs.Shown.{turns_of, upper_turns_of};
-ghost use Rattle.nmgc_cycle.specs.Working.{left_at, HaveRoom, HasLists, HaveSliceRoom, AreReserved, CanAllWork, HaveAllWorked, OpensAt, DidSlices, asks_of, asks_full_of, cleared, replies_of};
+ghost use Rattle.nmgc_cycle.specs.Shown.{is_marking_in, turns_of, upper_turns_of};
+ghost use Rattle.nmgc_cycle.specs.Working.{left_at, HaveRoom, HasLists, HaveSliceRoom, HasInboxRoom, AreReserved, CanAllWork, HaveAllWorked, OpensAt, DidSlices, asks_of, asks_full_of, cleared, replies_of};
 
 use crate::Collector;
 use crate::worker::{Worker, seated, some_ask_full, some_asks, unseated, work_beside};
@@ -203,6 +203,7 @@ impl Collector {
         requires stopped { HasStopped script.now self.old }
         ensures rest { OnOk result (self.new ≡ record self.old { inbox = self.new.inbox }) }
         ensures lists { OnOk result (HavePolled self.old.inbox self.new.inbox) }
+        ensures room { OnOk result (is_marking_in self.old.progress ≡ true → HasInboxRoom script.now self.old.positions.items self.new.inbox) }
     {
         if !self.progress.is_marking() {
             return Ok(());
@@ -222,6 +223,7 @@ impl Collector {
         requires limits { IsInLimits script.now }
         requires opens { OpensAt script.now self.old opening.now.value }
         requires room { HaveSliceRoom script.now self.old }
+        requires inbox { is_marking_in self.old.progress ≡ true → HasInboxRoom script.now self.old.positions.items self.old.inbox }
         requires lists { HaveRoom (length self.old.mutators.items) lists }
         ensures { DidSlices script.now opening.now.value self.old self.new }
     {
@@ -331,7 +333,8 @@ fn reserve_inbox(inbox: &mut Inbox, script: &Script, positions: &[u32]) -> Resul
     requires positions { length positions.now ≡ length inbox.old }
     requires few { length inbox.old ≤ MAKERS }
     requires slice { script.now.config.slice ≤ most_slice }
-    ensures { HavePolled inbox.old inbox.new }
+    ensures lists { HavePolled inbox.old inbox.new }
+    ensures room { OnOk result (HasInboxRoom script.now positions.now inbox.new) }
 {
     for number in 0..positions.len() {
         let program = script.threads.items()[number].items();

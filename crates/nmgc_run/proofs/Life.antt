@@ -407,6 +407,7 @@ marking_first = record {
   queue_room = each_waits;
   from_is = refl;
   noted = noted;
+  nothing_listed = (refl, refl);
 }
 
 pub marking_is : NewStands → IsAtStop array_plan (run_of (first_turn ∷ [])) marking_seen
@@ -447,6 +448,7 @@ marking_last = record {
   queue_room = each_waits;
   from_is = refl;
   noted = noted;
+  nothing_listed = (refl, refl);
 }
 
 pub scanned_is : NewStands → IsAfterRound array_plan (run_of (first_turn ∷ [])) ([] ∷ []) [] scanned scanned_seen

@@ -22,7 +22,7 @@ use Rattle.nmgc_run.specs.Stop.{answer_of}
 use Rattle.nmgc_run.specs.Run.{Run, IsRun, Tells, last_state}
 use Rattle.nmgc_run.specs.Heap.{HoldsAtStop, HoldsAfterRound, snapshots}
 use Rattle.nmgc_run.specs.Seen.{Seen, MutatorSeen, MarkerSeen, ends_of, nurseries_of, recorded_in, young_weaks_in}
-use Rattle.nmgc_run.specs.Marks.{AreSettled, HasNoted, IsSweeping}
+use Rattle.nmgc_run.specs.Marks.{AreSettled, HasListedNothing, HasNoted, IsSweeping}
 use Rattle.nmgc_run.specs.Marker.{IsCoreOf, AreRemembered, IsTied, HasRoomToMark}
 
 -- the state tells the phase, the requests and how many cycles were begun
@@ -61,7 +61,7 @@ weak_count snapshot m weaks = count_by (λ (p : Place). (p.name.maker == m) && i
 abbrev pub HasScanned : MarkerSeen → ℕ → Type 0
 HasScanned marker count = marker.marked ≡ count + length marker.queue
 
--- a cycle that is marking: its marker is a core machine's, with the entries, which are places below the nurseries, as what was pushed, and there is room for what the closing needs
+-- a cycle that is marking: its marker is a core machine's, with the entries, which are places below the nurseries, as what was pushed, and there is room for what the closing needs; its sweeper noted what it is to sweep, and has listed nothing yet
 pub record IsMarking (c : Cycle) (s : State) (seen : Seen) (places : List Place) : Type 0 where
   pub core : Core
   pub machine : IsCoreOf c s.world core
@@ -72,6 +72,7 @@ pub record IsMarking (c : Cycle) (s : State) (seen : Seen) (places : List Place)
   pub queue_room : EachMutator seen (λ m mutator. weak_count c.snapshot m seen.weaks ≤ mutator.queue.spare)
   pub from_is : seen.cycle.from ≡ c.from
   pub noted : HasNoted c seen.sweeper
+  pub nothing_listed : HasListedNothing seen.sweeper
 
 -- the pace of marking at a stop: each round since the snapshot scanned its quota, and the marker isn't done
 pub record IsPacedAtStop (quota : ℕ) (c : Cycle) (s : State) (seen : Seen) : Type 0 where

@@ -1,5 +1,5 @@
 -- What holds of mark bytes between two cycles, and of the sweeper of a closed cycle.
-use Rattle.std.specs.Prelude.{ℕ, ◌≡◌, ◌≢◌, ◌⊎◌, ◌↔◌, ◌%◌, ◌==◌, ◌<◌, List, slice_get, Contains, Some, if◌then◌else◌}
+use Rattle.std.specs.Prelude.{ℕ, ◌≡◌, ◌≢◌, ◌⊎◌, ◌↔◌, ◌%◌, ◌==◌, ◌<◌, List, [], slice_get, Contains, Some, if◌then◌else◌}
 use Rattle.nmgc_graph.specs.declared.value.Name.{Name}
 use Rattle.nmgc_graph.specs.Reach.{Lists}
 use Rattle.nmgc_segment.specs.Segment.{mark_of, IsMarked}
@@ -32,6 +32,10 @@ IsWithoutDoubles {A} items = (i j : ℕ) (item : A) → slice_get items i ≡ So
 pub record HasNoted (c : Cycle) (sweeper : SweeperSeen) : Type 0 where
   pub epoch : sweeper.epoch ≡ epoch_of c.number
   pub swept : ListsNumbers (IsSweptIn c) sweeper.swept
+
+-- it listed nothing yet: so it is until its cycle is closed
+abbrev pub HasListedNothing : SweeperSeen → Type 0
+HasListedNothing sweeper = (sweeper.had ≡ []) × (sweeper.freed ≡ [])
 
 -- a waiting segment is one that the cycle had, and as it was then
 abbrev pub AreAsNoted : Cycle → AllocState → Type 0

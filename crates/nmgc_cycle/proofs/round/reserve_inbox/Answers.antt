@@ -1,9 +1,36 @@
+use Rattle.std.proofs.Common.{ℕ, ◌≡◌, ◌*◌, ◌≤◌, ◌∙◌, List, length, min, get_or, refl, subst, sym, ap, arith}
+use Rattle.nmgc_graph.specs.declared.command.Command.{Command}
 use Rattle.nmgc_mark.proofs.Polls.{polled_all_none, polled_all_then}
+use Rattle.nmgc_cycle.specs.Working.{in_blocks, left_at}
+use Rattle.nmgc_cycle.specs.declared.round.TheConstants.{PUSHED_MOST}
+use Rattle.nmgc_cycle.proofs.InboxRoom.{inbox_more}
 use Rattle.nmgc_cycle.proofs.Lining.{all_reserved}
+use Rattle.nmgc_cycle.proofs.Reserving.{slice_left}
 use Rattle.nmgc_cycle.proofs.round.reserve_inbox.Goals as goal
 
 pub loop-number-init : goal.loop-number-init
-loop-number-init c = polled_all_none c.args.inbox.now
+loop-number-init c = record { polled = polled_all_none c.args.inbox.now; count = refl; room = λ k r lt at. absurd (omega (arith, lt)) }
 
 pub loop-number-preserved : goal.loop-number-preserved
-loop-number-preserved c = polled_all_then c.args.inbox.now c.loop-number.inbox c.reserve.new.self c.loop-number.invariant (all_reserved _ c.loop-number.number c.loop-number.inbox c.reserve.new.self c.in_ok-reserve.ensures.ok)
+loop-number-preserved c =
+    let n = c.loop-number.number in
+    let old = c.loop-number.inbox in
+    let new = c.reserve.new.self in
+    let script = c.args.script.now in
+    let positions = c.args.positions.now in
+    let before = c.loop-number.invariant in
+    let lt = c.loop-number-test.true in
+    let threads = c.requires.threads in
+    let at = c.requires.positions in
+    let program = c.items-program.result.now in
+    let same : program ≡ c.index-items-number.result = c.items-program.ensures in
+    let is : program ≡ get_or script.threads n program = subst (λ (l : List Command). l ≡ get_or script.threads n l) (sym same) (c.index-items-number.is ∙ ap (λ (ls : List (List Command)). get_or ls n c.index-items-number.result) c.items.ensures) in
+    let size : c.min-commands.result ≡ min script.config.slice (length (left_at script positions n)) = slice_left script positions n c.min-commands.result program (omega (arith, lt, threads, at)) is (c.min-commands.ensures ∙ ap (λ (left : ℕ). min left script.config.slice) c.saturating_sub-left.ensures) in
+    let blocks = c.div_ceil-blocks.ensures in
+    let enough : in_blocks (PUSHED_MOST * min script.config.slice (length (left_at script positions n))) ≤ c.div_ceil-blocks.result * 64 = subst (λ (most : ℕ). in_blocks (PUSHED_MOST * most) ≤ c.div_ceil-blocks.result * 64) size (omega (arith, blocks)) in
+    let more = all_reserved _ n old new c.in_ok-reserve.ensures.ok in
+    record {
+      polled = polled_all_then c.args.inbox.now old new before.polled more;
+      count = more.count ∙ before.count;
+      room = inbox_more (λ (k : ℕ). in_blocks (PUSHED_MOST * min script.config.slice (length (left_at script positions k)))) n _ old new c.in_ok-reserve.ensures.ok enough before.room;
+    }

@@ -7,8 +7,8 @@ use Rattle.nmgc_cycle.specs.declared.collector.Collector.{Collector}
 use Rattle.nmgc_round.specs.Gate.{passed}
 use Rattle.nmgc_cycle.specs.Cycles.{worked_on, upper_worked_on}
 use Rattle.nmgc_cycle.specs.Keeps.{DidRound}
-use Rattle.nmgc_cycle.specs.Shown.{turns_of, upper_turns_of}
-use Rattle.nmgc_cycle.specs.Working.{HaveSliceRoom, cleared, replies_of}
+use Rattle.nmgc_cycle.specs.Shown.{is_marking_in, turns_of, upper_turns_of}
+use Rattle.nmgc_cycle.specs.Working.{HaveSliceRoom, HasInboxRoom, cleared, replies_of}
 use Rattle.nmgc_cycle.proofs.MutatorLists.{vec_back}
 use Rattle.nmgc_cycle.proofs.Reserved.{reserved_stopped, still_before}
 use Rattle.nmgc_cycle.proofs.Counted.{round_counts, round_counts_upper}
@@ -27,6 +27,12 @@ make_inbox_room-requires-clause-stopped g c = reserved_stopped c.args.script.now
 
 pub do_slices-requires-clause-room : goal.do_slices-requires-clause-room
 do_slices-requires-clause-room g c κs within = subst (λ (x : Collector). HaveSliceRoom c.args.script.now x) (sym c.in_ok-make_inbox_room.ensures.rest) c.in_ok-make_room.ensures.room
+
+pub do_slices-requires-clause-inbox : goal.do_slices-requires-clause-inbox
+do_slices-requires-clause-inbox g c κs within = λ marks.
+    let roomy : Collector = c.make_inbox_room.new.self in
+    let rest = c.in_ok-make_inbox_room.ensures.rest in
+    subst (λ (x : Collector). HasInboxRoom c.args.script.now x.positions.items roomy.inbox) (sym rest) (c.in_ok-make_inbox_room.ensures.room (sym (ap (λ (x : Collector). is_marking_in x.progress) rest) ∙ marks))
 
 pub returns-clause-worked : goal.returns-clause-worked
 returns-clause-worked g c =
