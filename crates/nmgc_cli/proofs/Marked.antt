@@ -13,8 +13,7 @@ use Rattle.nmgc_run.specs.State.{plan_of, layout_of}
 use Rattle.nmgc_run.specs.laws.Crowding.{runnable_of}
 use Rattle.nmgc_run.specs.laws.Runs.{states_are_sound}
 use Rattle.nmgc_cycle.specs.Limits.{IsInLimits}
-use Rattle.nmgc_pmark.specs.Claims.{Stopped, IsStopped, IsStrong, AreClaims}
-use Rattle.nmgc_pmark.specs.OneMarker.{roots_of}
+use Rattle.nmgc_pmark.specs.Claims.{Stopped, IsStopped, IsStrong, AreClaims, roots_of}
 use Rattle.nmgc_pmark.specs.Stops.{root_words, IsStoppedAs, StopsAreStopped}
 use Rattle.nmgc_cli.specs.Marks.{AreClaimsOf, IsMarksText, last_world, marks_lines}
 

@@ -11,8 +11,7 @@ use Rattle.nmgc_journal.specs.Text.{name_text, end_text}
 use Rattle.nmgc_run.specs.Lawful.{IsLawful}
 use Rattle.nmgc_run.specs.Run.{last_state}
 use Rattle.nmgc_cycle.specs.Limits.{IsInLimits}
-use Rattle.nmgc_pmark.specs.Claims.{IsStrong, AreClaims}
-use Rattle.nmgc_pmark.specs.OneMarker.{roots_of}
+use Rattle.nmgc_pmark.specs.Claims.{IsStrong, AreClaims, roots_of}
 
 -- the line of a name
 abbrev pub name_line : Name → List ℕ

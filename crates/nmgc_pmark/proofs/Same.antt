@@ -15,8 +15,8 @@ use Rattle.nmgc_round.specs.Events.{replay}
 use Rattle.nmgc_round.specs.Rule.{now}
 use Rattle.nmgc_round.specs.View.{Opening}
 use Rattle.nmgc_run.specs.Seen.{MarkerSeen}
-use Rattle.nmgc_pmark.specs.Claims.{IsStart, AreClaims}
-use Rattle.nmgc_pmark.specs.OneMarker.{roots_of, IsClaimed, IsMarkedAlone}
+use Rattle.nmgc_pmark.specs.Claims.{IsStart, AreClaims, roots_of}
+use Rattle.nmgc_pmark.specs.OneMarker.{IsClaimed, IsMarkedAlone}
 use Rattle.nmgc_pmark.proofs.Scans.{IsScanned, scanned_from, start_root, root_start}
 
 -- what is reached from some names is reached from more

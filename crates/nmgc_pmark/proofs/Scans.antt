@@ -28,8 +28,7 @@ use Rattle.nmgc_core.specs.laws.ScanReads.{read_cases}
 use Rattle.nmgc_core.specs.laws.Scans.{scan_facts}
 use Rattle.nmgc_round.specs.Events.{Happening, did, scanned, replay}
 use Rattle.nmgc_mark.specs.Stopped.{AreScans}
-use Rattle.nmgc_pmark.specs.Claims.{IsStart}
-use Rattle.nmgc_pmark.specs.OneMarker.{roots_of}
+use Rattle.nmgc_pmark.specs.Claims.{IsStart, roots_of}
 
 -- but for marks and queue the states are the same
 record IsAsBefore (s t : State) : Type 0 where

@@ -25,8 +25,7 @@ use Rattle.nmgc_journal.specs.declared.report.MutatorEnd.{MutatorEnd}
 use Rattle.nmgc_run.specs.Heap.{HoldsAtStop, snapshots, registers_of, queues_of}
 use Rattle.nmgc_run.specs.State.{State}
 use Rattle.nmgc_run.specs.laws.Places.{block_used, blocks_at_stop}
-use Rattle.nmgc_pmark.specs.Claims.{Stopped, IsStopped}
-use Rattle.nmgc_pmark.specs.OneMarker.{roots_of}
+use Rattle.nmgc_pmark.specs.Claims.{Stopped, IsStopped, roots_of}
 use Rattle.nmgc_pmark.specs.Stops.{root_words, IsStoppedAs, StopsAreStopped}
 use Rattle.nmgc_pmark.proofs.Scans.{start_root}
 

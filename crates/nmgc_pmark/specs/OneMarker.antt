@@ -1,9 +1,6 @@
 -- Several markers against the one marker of a cycle: from the registers and queues of a snapshot they mark the same.
-use Rattle.std.specs.Prelude.{ℕ, ◌≡◌, ◌≢◌, ◌↔◌, List, ◌++◌, slice_get, Some, Contains}
-use Rattle.std.specs.List.{flat_map}
-use Rattle.nmgc_graph.specs.declared.mutator_state.MutatorState.{MutatorState}
+use Rattle.std.specs.Prelude.{ℕ, ◌≡◌, ◌≢◌, ◌↔◌, List, slice_get, Some, Contains}
 use Rattle.nmgc_graph.specs.declared.value.Name.{Name}
-use Rattle.nmgc_graph.specs.declared.value.Value.{Value}
 use Rattle.nmgc_graph.specs.World.{World, IsWorld}
 use Rattle.nmgc_graph.specs.Step.{shared_name}
 use Rattle.nmgc_core.specs.State.{opening}
@@ -13,11 +10,7 @@ use Rattle.nmgc_heap.specs.Places.{Place}
 use Rattle.nmgc_round.specs.View.{Opening}
 use Rattle.nmgc_run.specs.Seen.{MarkerSeen}
 use Rattle.nmgc_mark.specs.Stopped.{HasFinished}
-use Rattle.nmgc_pmark.specs.Claims.{AreClaims}
-
--- what the mutators hold: the registers of each, and then the finaliser queues
-abbrev pub roots_of : World → List Value
-roots_of w = flat_map (λ (state : MutatorState). state.registers) w.mutators ++ flat_map (λ (state : MutatorState). state.queue) w.mutators
+use Rattle.nmgc_pmark.specs.Claims.{AreClaims, roots_of}
 
 -- some marker lists the name
 abbrev pub IsClaimed : List (List Name) → Name → Type 0

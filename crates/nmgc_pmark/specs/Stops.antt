@@ -8,8 +8,7 @@ use Rattle.nmgc_heap.specs.Places.{Place}
 use Rattle.nmgc_journal.specs.declared.report.MutatorEnd.{MutatorEnd}
 use Rattle.nmgc_run.specs.Heap.{HoldsAtStop, registers_of}
 use Rattle.nmgc_run.specs.State.{State}
-use Rattle.nmgc_pmark.specs.Claims.{Stopped, IsStopped}
-use Rattle.nmgc_pmark.specs.OneMarker.{roots_of}
+use Rattle.nmgc_pmark.specs.Claims.{Stopped, IsStopped, roots_of}
 
 -- the words of the registers of all mutators, and then those of the finaliser queues
 abbrev pub root_words : List MutatorEnd → List ℕ
