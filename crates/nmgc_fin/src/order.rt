@@ -2,7 +2,7 @@
 //!
 //! Which worker handled a job, and when, depends on the schedule; the text doesn't. Each job has its place by its number,
 //! so nothing is sorted.
-ghost use Rattle.std.specs.Prelude.{◌≡◌, ◌++◌, All, length, vec_len, IfOk, OnOk, Contains};
+ghost use Rattle.std.specs.Prelude.{◌≡◌, ◌++◌, All, length, IfOk, OnOk, Contains};
 ghost use Rattle.nmgc_fin.specs.Handles.{joined};
 ghost use Rattle.nmgc_fin.specs.Order.{AreWithin, AreAlike, IsPlaced, job_line, jobs_text};
 ghost use Rattle.nmgc_fin.specs.declared.job.Job.{Job as JobOf};
@@ -18,7 +18,7 @@ use std::alloc::Global;
 pub fn in_order(alloc: Global, count: usize, handled: &Handled) -> Result<Vec<Name>, NoMemory>
     requires within { AreWithin count (joined handled.now.by) }
     requires alike { AreAlike (joined handled.now.by) }
-    ensures count { IfOk result (λ names. vec_len names ≡ count) }
+    ensures count { IfOk result (λ names. length names.items ≡ count) }
     ensures placed { IfOk result (λ names. All (IsPlaced names.items) (joined handled.now.by)) }
 {
     let mut names = Vec::from_elem(alloc, Name::SHARED, count)?;

@@ -5,7 +5,7 @@
 //! than there are blocks.
 //!
 //! Easy to get wrong: a pointer may lead to g, or to an object that was born in a round, and there no block
-//! begins. `Segments::mark_at` asks for one, so `block_at` is asked first.
+//! begins. So each mark is a try, and one look-up tells both whether a block begins there and which.
 ghost use Rattle.std.specs.Prelude.{ℕ, ◌≡◌, ◌+◌, ◌-◌, ◌*◌, ◌^◌, ◌<◌, ◌≤◌, [], ◌∷◌, ◌++◌, ◌↔◌, length, Contains, IsTrue, IfSome, IfNone, IfOk};
 ghost use Rattle.nmgc_segment.specs.Marks.{IsEpoch};
 ghost use Rattle.nmgc_object.specs.declared.layout.TheConstants.{FIRST_PLACE};
@@ -228,13 +228,14 @@ impl Marker {
     {
         let epoch = self.epoch();
         let _ = segments.layout();
-        if segments.block_at(at).is_some() && segments.mark_at(at, epoch) {
+        if segments.try_mark_at(at, epoch) {
             self.queue(at);
         }
     }
 
-    /// Marks and queues what a field refers to, if it refers to a block of the snapshot that wasn't marked.
-    pub(crate) fn mark_word(&mut self, segments: &mut Segments, word: u64)
+    /// Marks and queues what a field refers to, if it refers to a block of the snapshot that wasn't marked. The count of
+    /// the gate's passes stays.
+    pub fn mark_word(&mut self, segments: &mut Segments, word: u64)
         requires room { HasRoomToMark segments.old self.old }
         requires small { (at : ℕ) → word ≡ 2 * at → at < 2 ^ 32 }
         ensures marked { HasMarked segments.old segments.new self.old self.new 0 }

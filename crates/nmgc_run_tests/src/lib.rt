@@ -1,12 +1,10 @@
-//! Tests of whole runs, of images and paths in them, and of finaliser workers.
+//! Tests of whole runs, and of images and paths in them.
 #![tactic(auto)]
 
 #[cfg(test)]
 mod of_cli;
 #[cfg(test)]
 mod of_cycle;
-#[cfg(test)]
-mod of_fin;
 #[cfg(test)]
 mod of_gates;
 #[cfg(test)]

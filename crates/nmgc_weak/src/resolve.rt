@@ -7,7 +7,7 @@
 //! Easy to get wrong: the finalisers of those that die may reach their own keys. So all of them are found before
 //! the first finaliser is marked, and their value words become 0 last, while the words still represent the world
 //! in which the marker follows fields.
-ghost use Rattle.std.specs.Prelude.{ℕ, ◌≡◌, ◌↔◌, ◌*◌, ◌^◌, ◌+◌, ◌<◌, ◌≤◌, List, length, slice_index, vec_len, vec_capacity, Contains, IsTrue, IsFalse, [], ◌∷◌};
+ghost use Rattle.std.specs.Prelude.{ℕ, ◌≡◌, ◌↔◌, ◌*◌, ◌^◌, ◌+◌, ◌<◌, ◌≤◌, List, length, slice_index, vec_len, vec_capacity, Contains, IsTrue, [], ◌∷◌};
 ghost use Rattle.nmgc_graph.specs.declared.value.Name.{Name};
 ghost use Rattle.nmgc_segment.specs.Marks.{IsEpoch};
 ghost use Rattle.nmgc_alloc.specs.Blocks.{IsSnapshotAt, IsMarkedAt};
@@ -63,31 +63,31 @@ fn is_key_marked(segments: &Segments, key: u64, epoch: u8) -> bool
     to == SHARED_PLACE || is_marked(segments, Address(to), epoch)
 }
 
+// Whether the key of a weak pointer is nil, a number, g, or marked.
+fn has_marked_key<W: HeapWords>(
+    marker: &Marker,
+    words: &mut W,
+    segments: &Segments,
+    at: Address,
+) -> bool
+    requires { IsWithin (W.words words.old) at.0 }
+    ensures words { W.words words.new ≡ W.words words.old }
+    ensures marked { IsTrue result ↔ IsKeyMarkedWord segments.now marker.now.epoch (slice_index (W.words words.old) (key_place at.0)) }
+    ensures epoch { IsEpoch marker.now.epoch }
+{
+    let key = words.load(at.0 as usize + HEADER_WORDS as usize);
+    is_key_marked(segments, key, marker.epoch())
+}
+
 // Whether a weak pointer is of the snapshot, and its key isn't marked.
 fn is_lost<W: HeapWords>(marker: &Marker, words: &mut W, segments: &Segments, at: Address) -> bool
     requires { IsWithin (W.words words.old) at.0 }
     ensures words { W.words words.new ≡ W.words words.old }
     ensures lost { IsTrue result ↔ IsLostAt segments.now marker.now.epoch at.0 (slice_index (W.words words.old) (key_place at.0)) }
-    ensures key_marked { IsFalse result → IsSnapshotAt segments.now at.0 → IsKeyMarkedWord segments.now marker.now.epoch (slice_index (W.words words.old) (key_place at.0)) }
     ensures epoch { IsEpoch marker.now.epoch }
 {
-    let key = words.load(at.0 as usize + HEADER_WORDS as usize);
-    let key_marked = is_key_marked(segments, key, marker.epoch());
+    let key_marked = has_marked_key(marker, words, segments, at);
     is_of_snapshot(segments, at) && !key_marked
-}
-
-// Marks what a field refers to.
-fn mark_word(marker: &mut Marker, segments: &mut Segments, word: u64)
-    requires room { HasRoomToMark segments.old marker.old }
-    requires small { (to : ℕ) → word ≡ 2 * to → to < 2 ^ 32 }
-    ensures marked { HasMarked segments.old segments.new marker.old marker.new 0 }
-    ensures turns { marker.new.turns ≡ marker.old.turns }
-    ensures tied { (o : Opening) (m : Marks) → IsTied o m segments.old marker.old → IsTied o (with_name o.core.snapshot m (name_meant o.places word)) segments.new marker.new }
-{
-    if word == 0 || word % 2 != 0 {
-        return;
-    }
-    marker.add(segments, &[Address((word / 2) as u32)]);
 }
 
 // Marks a weak pointer with its value and its finaliser, and all that these reach.
@@ -104,8 +104,8 @@ fn keep<W: HeapWords>(marker: &mut Marker, words: &mut W, segments: &mut Segment
     let value = words.load(first + VALUE);
     let finaliser = words.load(first + FINALISER);
     marker.add(segments, &[at]);
-    mark_word(marker, segments, value);
-    mark_word(marker, segments, finaliser);
+    marker.mark_word(segments, value);
+    marker.mark_word(segments, finaliser);
     marker.finish(words, segments);
 }
 
@@ -127,7 +127,7 @@ fn keep_if_key_marked<W: HeapWords>(
     if !is_of_snapshot(segments, weak.at) {
         return;
     }
-    if is_lost(marker, words, segments, weak.at) {
+    if !has_marked_key(marker, words, segments, weak.at) {
         return;
     }
     keep(marker, words, segments, weak.at);
@@ -224,7 +224,7 @@ pub(crate) fn save_finalisers<W: HeapWords>(
             weak: weak.weak,
             finaliser,
         });
-        mark_word(marker, segments, finaliser);
+        marker.mark_word(segments, finaliser);
     }
     marker.finish(words, segments);
 }

@@ -39,19 +39,19 @@ finish-requires-clause-ready g c =
     let o : Opening = r.0 in
     let v = value_is ws at c.load-value.result c.load-value.ensures.word in
     let f = finaliser_is ws (g.W.HeapWords.words c.load-value.new.self) at c.load-finaliser.result c.load-value.ensures.same c.load-finaliser.ensures.word in
-    let st = three o ws c.args.segments.now c.args.marker.now r.1 at r.2 r.3 c.add.new.segments c.mark_word.new.segments c.mark_word-2.new.segments c.add.new.self c.mark_word.new.marker c.mark_word-2.new.marker
+    let st = three o ws c.args.segments.now c.args.marker.now r.1 at r.2 r.3 c.add.new.segments c.mark_word.new.segments c.mark_word-2.new.segments c.add.new.self c.mark_word.new.self c.mark_word-2.new.self
     (λ m h. c.add.ensures.tied o m h)
-    (λ m h. subst (λ (x : ℕ). IsTied o (with_name o.core.snapshot m (name_meant o.places x)) c.mark_word.new.segments c.mark_word.new.marker) v (c.mark_word.ensures.tied o m h))
-    (λ m h. subst (λ (x : ℕ). IsTied o (with_name o.core.snapshot m (name_meant o.places x)) c.mark_word-2.new.segments c.mark_word-2.new.marker) f (c.mark_word-2.ensures.tied o m h)) in
+    (λ m h. subst (λ (x : ℕ). IsTied o (with_name o.core.snapshot m (name_meant o.places x)) c.mark_word.new.segments c.mark_word.new.self) v (c.mark_word.ensures.tied o m h))
+    (λ m h. subst (λ (x : ℕ). IsTied o (with_name o.core.snapshot m (name_meant o.places x)) c.mark_word-2.new.segments c.mark_word-2.new.self) f (c.mark_word-2.ensures.tied o m h)) in
     let m : Marks = third o ws c.args.segments.now c.args.marker.now r.1 at r.2 r.3 in
-    let ready = stage_ready o o.core.opened m ws c.mark_word-2.new.segments c.mark_word-2.new.marker r.3.can.marking r.3.can.ready.opens st in
-    (with_marks o m, subst (λ (l : List ℕ). IsReady (with_marks o m) l c.mark_word-2.new.segments c.mark_word-2.new.marker) (sym (c.load-finaliser.ensures.same ∙ c.load-value.ensures.same)) ready)
+    let ready = stage_ready o o.core.opened m ws c.mark_word-2.new.segments c.mark_word-2.new.self r.3.can.marking r.3.can.ready.opens st in
+    (with_marks o m, subst (λ (l : List ℕ). IsReady (with_marks o m) l c.mark_word-2.new.segments c.mark_word-2.new.self) (sym (c.load-finaliser.ensures.same ∙ c.load-value.ensures.same)) ready)
 
 pub returns-clause-marked : goal.returns-clause-marked
 returns-clause-marked g c =
-    let one = marked_sum c.args.segments.now c.add.new.segments c.mark_word.new.segments c.args.marker.now c.add.new.self c.mark_word.new.marker (0, c.add.ensures.marked) (0, c.mark_word.ensures.marked) in
-    let two = marked_sum c.args.segments.now c.mark_word.new.segments c.mark_word-2.new.segments c.args.marker.now c.mark_word.new.marker c.mark_word-2.new.marker one (0, c.mark_word-2.ensures.marked) in
-    marked_sum c.args.segments.now c.mark_word-2.new.segments c.finish.new.segments c.args.marker.now c.mark_word-2.new.marker c.finish.new.self two c.finish.ensures.marked
+    let one = marked_sum c.args.segments.now c.add.new.segments c.mark_word.new.segments c.args.marker.now c.add.new.self c.mark_word.new.self (0, c.add.ensures.marked) (0, c.mark_word.ensures.marked) in
+    let two = marked_sum c.args.segments.now c.mark_word.new.segments c.mark_word-2.new.segments c.args.marker.now c.mark_word.new.self c.mark_word-2.new.self one (0, c.mark_word-2.ensures.marked) in
+    marked_sum c.args.segments.now c.mark_word-2.new.segments c.finish.new.segments c.args.marker.now c.mark_word-2.new.self c.finish.new.self two c.finish.ensures.marked
 
 pub returns-clause-kept : goal.returns-clause-kept
 returns-clause-kept g c = λ o weaks weak h.
@@ -59,9 +59,9 @@ returns-clause-kept g c = λ o weaks weak h.
     let at : ℕ = c.args.at.0 in
     let v = value_is ws at c.load-value.result c.load-value.ensures.word in
     let f = finaliser_is ws (g.W.HeapWords.words c.load-value.new.self) at c.load-finaliser.result c.load-value.ensures.same c.load-finaliser.ensures.word in
-    let st = three o ws c.args.segments.now c.args.marker.now weaks at weak h c.add.new.segments c.mark_word.new.segments c.mark_word-2.new.segments c.add.new.self c.mark_word.new.marker c.mark_word-2.new.marker
+    let st = three o ws c.args.segments.now c.args.marker.now weaks at weak h c.add.new.segments c.mark_word.new.segments c.mark_word-2.new.segments c.add.new.self c.mark_word.new.self c.mark_word-2.new.self
     (λ m k. c.add.ensures.tied o m k)
-    (λ m k. subst (λ (x : ℕ). IsTied o (with_name o.core.snapshot m (name_meant o.places x)) c.mark_word.new.segments c.mark_word.new.marker) v (c.mark_word.ensures.tied o m k))
-    (λ m k. subst (λ (x : ℕ). IsTied o (with_name o.core.snapshot m (name_meant o.places x)) c.mark_word-2.new.segments c.mark_word-2.new.marker) f (c.mark_word-2.ensures.tied o m k)) in
-    kept o ws c.args.segments.now c.args.marker.now weaks at weak h c.mark_word-2.new.segments c.finish.new.segments c.mark_word-2.new.marker c.finish.new.self st
-    (λ p ready. c.finish.ensures.finished p (subst (λ (l : List ℕ). IsReady p l c.mark_word-2.new.segments c.mark_word-2.new.marker) (sym (c.load-finaliser.ensures.same ∙ c.load-value.ensures.same)) ready))
+    (λ m k. subst (λ (x : ℕ). IsTied o (with_name o.core.snapshot m (name_meant o.places x)) c.mark_word.new.segments c.mark_word.new.self) v (c.mark_word.ensures.tied o m k))
+    (λ m k. subst (λ (x : ℕ). IsTied o (with_name o.core.snapshot m (name_meant o.places x)) c.mark_word-2.new.segments c.mark_word-2.new.self) f (c.mark_word-2.ensures.tied o m k)) in
+    kept o ws c.args.segments.now c.args.marker.now weaks at weak h c.mark_word-2.new.segments c.finish.new.segments c.mark_word-2.new.self c.finish.new.self st
+    (λ p ready. c.finish.ensures.finished p (subst (λ (l : List ℕ). IsReady p l c.mark_word-2.new.segments c.mark_word-2.new.self) (sym (c.load-finaliser.ensures.same ∙ c.load-value.ensures.same)) ready))

@@ -62,9 +62,9 @@ loop-weak-preserved g c =
       words = c.load-finaliser.ensures.same ∙ inv.words;
       deaths = c.push_reserved.ensures.items ∙ ap (λ (l : List Death). l ++ death_with x c.load-finaliser.result ∷ []) inv.deaths ∙ ap (λ (y : ℕ). deaths_of ws (take i c.args.dying.now) ++ death_with x y ∷ []) w ∙ sym (deaths_more ws c.args.dying.now i nobody c.loop-weak-test.true);
       capacity = c.push_reserved.ensures.capacity ∙ inv.capacity;
-      marked = marked_sum c.args.segments.now c.loop-weak.segments c.mark_word.new.segments c.args.marker.now c.loop-weak.marker c.mark_word.new.marker inv.marked (0, c.mark_word.ensures.marked);
+      marked = marked_sum c.args.segments.now c.loop-weak.segments c.mark_word.new.segments c.args.marker.now c.loop-weak.marker c.mark_word.new.self inv.marked (0, c.mark_word.ensures.marked);
       turns = c.mark_word.ensures.turns ∙ inv.turns;
-      each = λ o weaks h. saving_more o ws c.args.segments.now c.args.marker.now weaks c.args.dying.now h c.loop-weak.segments c.mark_word.new.segments c.loop-weak.marker c.mark_word.new.marker i x c.load-finaliser.result (inv.each o weaks h) (get_default c.args.dying.now i nobody c.loop-weak-test.true) w (λ m t. c.mark_word.ensures.tied o m t);
+      each = λ o weaks h. saving_more o ws c.args.segments.now c.args.marker.now weaks c.args.dying.now h c.loop-weak.segments c.mark_word.new.segments c.loop-weak.marker c.mark_word.new.self i x c.load-finaliser.result (inv.each o weaks h) (get_default c.args.dying.now i nobody c.loop-weak-test.true) w (λ m t. c.mark_word.ensures.tied o m t);
     }
 
 pub finish-requires-clause-room : goal.finish-requires-clause-room
