@@ -8,6 +8,7 @@ pub mod Lines
 pub mod Listing
 pub mod Machine
 pub mod NodeLaws
+pub mod OneImage
 pub mod Prints
 pub mod Searching
 pub mod ShownImage

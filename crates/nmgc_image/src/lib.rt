@@ -2,12 +2,14 @@
 //!
 //! An image has all that anybody could still come to hold: what the mutators have in hand, and each object in
 //! their wide reach with its fields, by names and not by places. Its text is one line for each of these. Every
-//! image has one spelling, so two heaps have the same image exactly where they have the same text.
+//! image has one spelling, and a text spells at most one image: so two heaps have the same image exactly where they
+//! have the same text, and what is read back is what was written.
 //!
 //! - `image`: the image. `specs/Image.antt` says what an image is, `specs/Spelling.antt` how it is spelled, and
 //!   `specs/Faults.antt` which line of another text is told.
 //! - `read`: reading. `text`, `nodes`: lines, words and node lines. `declared`: which names have node lines.
 //!   `reader`: what was read so far, and the next line.
+//! - `laws`: what holds of images.
 //! - `write`: the text of an image, and of that which shows the heap of a report.
 //!   `shown`: the image of a heap. `places`, `search`: which objects it has. `objects`: objects read from words.
 #![tactic(auto)]
