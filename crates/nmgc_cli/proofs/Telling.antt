@@ -15,6 +15,9 @@ use Rattle.nmgc_graph.specs.declared.value.Name.{Name}
 use Rattle.nmgc_image.specs.declared.image.Image as shown
 use Rattle.nmgc_image.specs.declared.read.TheConstants.{MAX_IMAGE_BYTES}
 use Rattle.nmgc_image.specs.Spelling as spelling
+use Rattle.nmgc_retain.specs.declared.path.Retained.{Retained}
+use Rattle.nmgc_retain.specs.Levels.{IsCertified}
+use Rattle.nmgc_retain.specs.Text.{retained_text}
 use Rattle.nmgc_journal.specs.Text.{report_text}
 use Rattle.nmgc_journal.specs.Summary.{summary_text}
 use Rattle.nmgc_cli.specs.Answer.{Answer, Reported, refusal_status, answer_status, answer_report, answer_text, text_bytes, IsToldAs}
@@ -24,7 +27,7 @@ use Rattle.nmgc_cli.specs.Runs.{IsRan, IsOfScript}
 use Rattle.nmgc_run.specs.Crowded.{IsRunOf, IsHeapFull}
 use Rattle.nmgc_cli.specs.Status.{status_of}
 use Rattle.nmgc_cli.specs.Task.{Asks, CanBeDone, IsRunning}
-use Rattle.nmgc_cli.specs.Told.{IsRead, IsReadWithin, SpellsOnly, IsUpgraded, Answers, AnswersBytes, AnswersScript, AnswersRetain, TellsReport, TellsOf, IsText, IsSummary, IsImageText, IsTold, IsWritten, Ends, IsReport, IsRunThrough, IsComplete, IsBenchComplete, IsUpgrade, IsUpgradeComplete, IsRetainComplete}
+use Rattle.nmgc_cli.specs.Told.{IsRead, IsReadWithin, SpellsOnly, IsUpgraded, Answers, AnswersBytes, AnswersScript, AnswersRetain, TellsReport, TellsOf, IsText, IsSummary, IsImageText, IsTold, IsWritten, Ends, IsReport, IsRunThrough, IsComplete, IsBenchComplete, IsUpgrade, IsUpgradeComplete, IsPath, IsRetainComplete}
 use Rattle.nmgc_cli.specs.declared.answer.Outcome.{Outcome}
 use Rattle.nmgc_cli.specs.declared.answer.Refusal.{Refusal}
 use Rattle.nmgc_cli.specs.declared.answer.Refusal.TheVariants as no
@@ -263,6 +266,28 @@ upgrades words old new taken taken' read_fault write_fault answer status report 
       ended.report_of ∙ no_report old new read_fault answer h,
       (λ full. elim ended.written [ inl whole ↦ no_full old new read_fault answer h (sym whole.0 ∙ full) | inr front ↦ let e : WriteFault ≡ HeapFull = sym front.0 ∙ full in cc ]),
       (λ done. elim ended.written [ inl whole ↦ spelled old new taken taken' read_fault answer h (sym whole.0 ∙ done) whole.1 | inr front ↦ let e : WriteFault ≡ Done = sym front.0 ∙ done in absurd cc ]),
+    )
+
+-- what is told of a path
+path_no_report : (name : Name) (old new : Option (List ℕ)) (rose : Type 0) (answer : Answer) → AnswersRetain name old new rose answer → answer_report answer ≡ None
+path_no_report name old new rose (Ok outcome) h = h.2.none
+path_no_report name old new rose (Err refusal) h = refl
+
+path_no_full : (name : Name) (old new : Option (List ℕ)) (rose : Type 0) (answer : Answer) → AnswersRetain name old new rose answer → answer_status answer ≢ HeapFull
+path_no_full name old new rose (Ok outcome) h = λ e. let same : Done ≡ HeapFull = sym h.2.status ∙ e in cc
+path_no_full name old new rose (Err refusal) h = (refusal_not refusal).0
+
+-- the text that was told is that of a certified answer
+path_text : (name : Name) (old new taken taken' : Option (List ℕ)) (rose : Type 0) (answer : Answer) → AnswersRetain name old new rose answer → answer_status answer ≡ Done → Appends taken taken' (answer_text answer) → (bytes : List ℕ) × IsReadWithin MAX_IMAGE_BYTES old new bytes × (image : shown.Image) × spelling.Spells bytes image × (found : Retained) × IsCertified image name found × Appends taken taken' (retained_text found)
+path_text name old new taken taken' rose (Ok outcome) h done text = (h.0, h.1, h.2.image, h.2.spells, h.2.answer, h.2.certified, subst (λ (b : List ℕ). Appends taken taken' b) h.2.text text)
+path_text name old new taken taken' rose (Err refusal) h done text = absurd ((refusal_not refusal).1 done)
+
+pub paths : (words : List (List ℕ)) (old new taken taken' : Option (List ℕ)) (read_fault write_fault : Type 0) (answer : Answer) (status : Status) (report : Option Report) → IsTold words old new read_fault answer → Ends taken taken' write_fault answer status report → IsPath words old new taken taken' status report
+paths words old new taken taken' read_fault write_fault answer status report told ended = λ name asks.
+    let h : AnswersRetain name old new read_fault answer = told_asked words (Retain name) old new read_fault answer asks told in (
+      ended.report_of ∙ path_no_report name old new read_fault answer h,
+      (λ full. elim ended.written [ inl whole ↦ path_no_full name old new read_fault answer h (sym whole.0 ∙ full) | inr front ↦ let e : WriteFault ≡ HeapFull = sym front.0 ∙ full in cc ]),
+      (λ done. elim ended.written [ inl whole ↦ path_text name old new taken taken' read_fault answer h (sym whole.0 ∙ done) whole.1 | inr front ↦ let e : WriteFault ≡ Done = sym front.0 ∙ done in absurd cc ]),
     )
 
 -- a path is told where there is no fault

@@ -209,6 +209,11 @@ abbrev pub IsUpgrade : List (List ℕ) → Option (List ℕ) → Option (List �
 IsUpgrade words left left' taken taken' status report = Asks words Upgrade → (report ≡ None) × (status ≢ HeapFull)
     × (status ≡ Done → (bytes : List ℕ) × IsRead left left' bytes × (script : Script) × SpellsOnly bytes script × Appends taken taken' (plain (upgraded script)))
 
+-- words that ask for a path leave no report and tell of no full heap; where it was done, what was left was read to its end and spells an image, and the text of an answer that is certified in it, and so right, was written
+abbrev pub IsPath : List (List ℕ) → Option (List ℕ) → Option (List ℕ) → Option (List ℕ) → Option (List ℕ) → Status → Option Report → Type 0
+IsPath words left left' taken taken' status report = (name : Name) → Asks words (Retain name) → (report ≡ None) × (status ≢ HeapFull)
+    × (status ≡ Done → (bytes : List ℕ) × IsReadWithin MAX_IMAGE_BYTES left left' bytes × (image : shown.Image) × spelling.Spells bytes image × (answer : Retained) × IsCertified image name answer × Appends taken taken' (retained_text answer))
+
 -- the report tells a run that ended as heap full, by the cause that `IsRunOf` tells
 abbrev pub IsFullOf : Script → Option Report → Type 0
 IsFullOf script None = ⊥

@@ -1,7 +1,7 @@
 //! The words `retain NAME`: a shortest path to an object of an image.
 //!
-//! The answer of the search is judged by the image alone before it is told. That it is right is proved of the search too;
-//! the judge takes no memory, and less time than reading the image.
+//! The answer of the search is judged by the image alone before it is told. That the judge says yes is proved of the
+//! search; it takes no memory, and less time than reading the image.
 ghost use Rattle.std.specs.Prelude.{◌≡◌, ◌≢◌, [], ◌∷◌, ℕ, ◌≤◌, length, map, string_bytes, codes, IfSome, IfNone};
 ghost use Rattle.nmgc_graph.specs.declared.value.Name.{Name as NameOf};
 ghost use Rattle.nmgc_io.specs.Causes.{Rose};
@@ -57,9 +57,9 @@ fn path_in(alloc: Global, name: Name, bytes: &[u8]) -> Result<Outcome, Refusal>
 {
     let image = read_image(alloc, bytes)?;
     let answer = find(alloc, &image, name)?;
+    // The search's answer is certified, so the judge says yes.
     if !verify(&image, name, &answer) {
-        // It never comes: the answer is certified. Nothing that isn't is told.
-        return Err(Refusal::NoMemory);
+        unreachable!();
     }
     let text = retained_text(alloc, &answer)?;
     Ok(Outcome {

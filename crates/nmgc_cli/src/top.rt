@@ -7,7 +7,7 @@ ghost use Rattle.std.specs.Prelude.{◌≡◌, map, string_bytes, IfSome};
 ghost use Rattle.nmgc_io.specs.Causes.{Rose};
 ghost use Rattle.nmgc_cli.specs.Answer.{Answer, IsToldAs};
 ghost use Rattle.nmgc_cli.specs.Task.{CanBeDone, IsReading};
-ghost use Rattle.nmgc_cli.specs.Told.{IsTold, Answers, IsWritten, Ends, IsReport, IsComplete, IsBenchComplete, IsUpgrade, IsUpgradeComplete, IsRetainComplete, ReadsNothing};
+ghost use Rattle.nmgc_cli.specs.Told.{IsTold, Answers, IsWritten, Ends, IsReport, IsComplete, IsBenchComplete, IsUpgrade, IsUpgradeComplete, IsPath, IsRetainComplete, ReadsNothing};
 
 use crate::answer::{Outcome, Refusal};
 use crate::bench::bench;
@@ -51,6 +51,8 @@ pub fn nmgc<R: Threads + Sync, S: Source, K: Sink>(
     ensures report { IfSome result.report (λ report. IsReport (map string_bytes words.now) (S.left source.old) (S.left source.new) (K.taken sink.old) (K.taken sink.new) (Rose (K.faults sink.old) (K.faults sink.new)) result.status report) }
     // Where a script was upgraded, the spelling of its upgrade was written; there is no report, and no heap that is full.
     ensures upgrade { IsUpgrade (map string_bytes words.now) (S.left source.old) (S.left source.new) (K.taken sink.old) (K.taken sink.new) result.status result.report }
+    // Where a path was told, it is that of a right answer in the image that was read; there is no report, and no heap that is full.
+    ensures path { IsPath (map string_bytes words.now) (S.left source.old) (S.left source.new) (K.taken sink.old) (K.taken sink.new) result.status result.report }
     // For wrong words and for a bench nothing is read.
     ensures unread { ReadsNothing (map string_bytes words.now) → source.new ≡ source.old }
     // A script within the limit is run to its end where there is no fault, unless the heap or memory ran out.

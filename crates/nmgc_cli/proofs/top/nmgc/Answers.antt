@@ -1,7 +1,7 @@
 use Rattle.std.proofs.Common.{map, Global}
 use Rattle.std.specs.Prelude.{string_bytes}
 use Rattle.nmgc_io.specs.Causes.{Rose}
-use Rattle.nmgc_cli.proofs.Telling.{ends, reports, completes, bench_completes, upgrades, upgrade_completes, retain_completes}
+use Rattle.nmgc_cli.proofs.Telling.{ends, reports, completes, bench_completes, upgrades, upgrade_completes, paths, retain_completes}
 use Rattle.nmgc_cli.proofs.top.nmgc.Goals as goal
 
 pub returns-clause-told : goal.returns-clause-told
@@ -43,4 +43,10 @@ pub returns-clause-retain : goal.returns-clause-retain
 returns-clause-retain g c =
     let t = c.told-status.ensures.told in
     retain_completes (map (string_bytes {Z = Global}) c.args.words.now) (g.S.Source.left c.args.source.now) (g.S.Source.left c.told-status.new.source) (g.K.Sink.taken c.args.sink.now) (g.K.Sink.taken c.written.new.sink) (Rose (g.S.Source.faults c.args.source.now) (g.S.Source.faults c.told-status.new.source)) (Rose (g.K.Sink.faults c.args.sink.now) (g.K.Sink.faults c.written.new.sink)) t.0 c.written.result c.told-status.result.report t.1
+    (ends (g.K.Sink.taken c.args.sink.now) (g.K.Sink.taken c.written.new.sink) (Rose (g.K.Sink.faults c.args.sink.now) (g.K.Sink.faults c.written.new.sink)) t.0 c.told-status.result c.bytes.result.now c.written.result t.2 c.bytes.ensures c.written.ensures)
+
+pub returns-clause-path : goal.returns-clause-path
+returns-clause-path g c =
+    let t = c.told-status.ensures.told in
+    paths (map (string_bytes {Z = Global}) c.args.words.now) (g.S.Source.left c.args.source.now) (g.S.Source.left c.told-status.new.source) (g.K.Sink.taken c.args.sink.now) (g.K.Sink.taken c.written.new.sink) (Rose (g.S.Source.faults c.args.source.now) (g.S.Source.faults c.told-status.new.source)) (Rose (g.K.Sink.faults c.args.sink.now) (g.K.Sink.faults c.written.new.sink)) t.0 c.written.result c.told-status.result.report t.1
     (ends (g.K.Sink.taken c.args.sink.now) (g.K.Sink.taken c.written.new.sink) (Rose (g.K.Sink.faults c.args.sink.now) (g.K.Sink.faults c.written.new.sink)) t.0 c.told-status.result c.bytes.result.now c.written.result t.2 c.bytes.ensures c.written.ensures)
