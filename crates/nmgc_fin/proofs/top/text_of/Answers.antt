@@ -1,17 +1,15 @@
-use Rattle.std.proofs.Common.{◌≡◌, ℕ, List, length, sym, subst, ◌∙◌}
+use Rattle.std.proofs.Common.{◌≡◌, length}
 use Rattle.std.proofs.lemmas.Result.{IfOk-weaker}
-use Rattle.nmgc_fin.specs.Handles.{joined}
-use Rattle.nmgc_fin.specs.Order.{AreWithin}
 use Rattle.nmgc_fin.proofs.Ordered.{handled_within, handled_alike, are_done}
 use Rattle.nmgc_fin.proofs.top.text_of.Goals as goal
 
 pub in_order-requires-clause-within : goal.in_order-requires-clause-within
-in_order-requires-clause-within c = subst (λ (n : ℕ). AreWithin n (joined c.args.handled.now.by)) (sym c.len.ensures) (handled_within c.args.jobs.now c.args.handled.now.by c.requires.numbered c.requires.handled)
+in_order-requires-clause-within c = handled_within c.args.jobs.now c.args.handled.now.by c.requires.numbered c.requires.handled
 
 pub in_order-requires-clause-alike : goal.in_order-requires-clause-alike
 in_order-requires-clause-alike c = handled_alike c.args.jobs.now c.args.handled.now.by c.requires.numbered c.requires.handled
 
 pub returns : goal.returns
 returns c =
-    let count : length c.in_ok-names.names.items ≡ length c.args.jobs.now = c.in_ok-names.ensures.count ∙ c.len.ensures in
+    let count : length c.in_ok-names.names.items ≡ length c.args.jobs.now = c.in_ok-names.ensures.count in
     IfOk-weaker c.handled_text.result _ _ (λ text told. are_done c.args.jobs.now c.args.handled.now.by c.in_ok-names.names.items text.items c.requires.numbered c.requires.handled count c.in_ok-names.ensures.placed told) c.handled_text.ensures

@@ -1,5 +1,8 @@
-use Rattle.std.proofs.Common.{◌∙◌, ap, sym, length, arith, List, ℕ}
+use Rattle.std.proofs.Common.{◌≡◌, ◌∙◌, ap, sym, subst, length, arith, true, List, ℕ, OnOk}
+use Rattle.nmgc_cycle.specs.Shown.{is_marking_in}
+use Rattle.nmgc_cycle.specs.Working.{HasInboxRoom}
 use Rattle.nmgc_cycle.proofs.Plans.{is_runnable}
+use Rattle.nmgc_cycle.proofs.RoundWorked.{on_ok}
 use Rattle.nmgc_cycle.proofs.collector.Collector.make_inbox_room.Goals as goal
 
 pub reserve_inbox-requires-clause-threads : goal.reserve_inbox-requires-clause-threads
@@ -16,3 +19,7 @@ reserve_inbox-requires-clause-few c =
 
 pub reserve_inbox-requires-clause-slice : goal.reserve_inbox-requires-clause-slice
 reserve_inbox-requires-clause-slice c = c.requires.limits.fits.config.slice
+
+pub returns-clause-room : goal.returns-clause-room
+returns-clause-room c =
+    subst (λ (positions : List ℕ). OnOk c.reserve_inbox.result (is_marking_in c.args.self.now.progress ≡ true → HasInboxRoom c.args.script.now positions c.reserve_inbox.new.inbox)) c.as_slice.ensures.value (on_ok c.reserve_inbox.result c.reserve_inbox.ensures.room (λ room marks. room))
