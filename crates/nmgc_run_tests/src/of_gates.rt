@@ -172,26 +172,27 @@ impl Gate for Recorder {
     }
 }
 
+// Looks whether just these workers pass in a script's run, each so often.
+fn check_passes<R: Threads + Sync + Abort>(
+    alloc: Global,
+    rt: &R,
+    script: &str,
+    passes: &[(u8, u64)],
+) -> Result<(), Fail> {
+    let recorder = Recorder::new(alloc)?;
+    check_run(alloc, rt, script, &recorder)?;
+    assert!(rt; recorder.has_seen(passes));
+    Ok(())
+}
+
 // Before each command that is tried there is one pass: the seventeenth of the second script waits for room, and is tried
 // twice. Before each of 31 objects that are scanned, and of three segments that are swept, there is one too.
 #[test]
 fn each_unit_of_work_has_its_pass(rt: HostRuntime) -> Result<(), Fail> {
-    for (script, passes) in [
-        (
-            EXCHANGE,
-            [(0u8, 5u64), (1, 6), (MAKERS, 0), (MAKERS + 1, 0)],
-        ),
-        (RUNS[3].0, [(0, 18), (1, 0), (MAKERS, 0), (MAKERS + 1, 0)]),
-        (
-            CYCLES[1].0,
-            [(0, 52), (1, 0), (MAKERS, 33), (MAKERS + 1, 1)],
-        ),
-    ] {
-        let recorder = Recorder::new(rt.alloc())?;
-        check_run(rt.alloc(), &rt, script, &recorder)?;
-        assert!(rt; recorder.has_seen(&passes));
-    }
-    Ok(())
+    check_passes(rt.alloc(), &rt, EXCHANGE, &[(0, 5), (1, 6)])?;
+    check_passes(rt.alloc(), &rt, RUNS[3].0, &[(0, 18)])?;
+    let passes = [(0, 52), (MAKERS, 33), (MAKERS + 1, 1)];
+    check_passes(rt.alloc(), &rt, CYCLES[1].0, &passes)
 }
 
 // A collector after two rounds of a script, each after a stop. `None` where one of these ended the run.

@@ -3,9 +3,10 @@ ghost use Rattle.std.specs.Prelude.{◌^◌, IfOk};
 ghost use Rattle.nmgc_image.specs.Spelling.{IsSpelledWithin};
 
 use nmgc_graph::{List, Name, NoMemory, Node, Value};
-use nmgc_image::{Image, ImageFault, image_text, read_image};
+use nmgc_image::{Image, image_text, read_image};
 use nmgc_retain::{Hop, Level, Levels, Path, Retained, Root, retain, verify};
 use std::alloc::Global;
+use std::process::Abort;
 use std::test::Fail;
 
 // Two mutators. Register 3 of the first refers to 0.2, which refers to 0.1; the queue of the second to 1.0, which refers to
@@ -27,23 +28,38 @@ end
 ";
 
 // An object of a mutator.
-fn name(maker: u8, serial: u32) -> Name {
+const fn name(maker: u8, serial: u32) -> Name {
     Name { maker, serial }
 }
 
-// The image of the text.
-fn image(alloc: Global) -> Result<Image, ImageFault>
+// The names of its nodes.
+const NAMES: [Name; 7] = [
+    name(0, 0),
+    name(0, 1),
+    name(0, 2),
+    name(0, 3),
+    name(1, 0),
+    name(1, 1),
+    Name::SHARED,
+];
+
+// The image of a text.
+fn image_of(alloc: Global, text: &str) -> Result<Image, Fail>
     ensures { IfOk result (IsSpelledWithin (2 ^ 31)) }
 {
-    read_image(alloc, TEXT.as_bytes())
+    if text.len() > 2_147_483_648 {
+        return Err("too long".into());
+    }
+    match read_image(alloc, text.as_bytes()) {
+        Ok(image) => Ok(image),
+        Err(_) => Err("no image".into()),
+    }
 }
 
 // An image has what its text says, and its text again.
 #[test]
 fn an_image_is_read(rt: HostRuntime) -> Result<(), Fail> {
-    let Ok(image) = read_image(rt.alloc(), TEXT.as_bytes()) else {
-        panic!(rt; "no image");
-    };
+    let image = image_of(rt.alloc(), TEXT)?;
     let [first, second] = image.mutators.items() else {
         panic!(rt; "not two mutators");
     };
@@ -57,15 +73,7 @@ fn an_image_is_read(rt: HostRuntime) -> Result<(), Fail> {
     assert!(rt; (held.register, held.value) == (3, Value::Ref(name(0, 2))));
     let nodes = image.nodes.items();
     assert!(rt; nodes.len() == 7);
-    for (entry, wanted) in nodes.iter().zip(&[
-        name(0, 0),
-        name(0, 1),
-        name(0, 2),
-        name(0, 3),
-        name(1, 0),
-        name(1, 1),
-        Name::SHARED,
-    ]) {
+    for (entry, wanted) in nodes.iter().zip(&NAMES) {
         assert!(rt; entry.name == *wanted);
     }
     let Node::Stack { size: 4, values } = &nodes[4].node else {
@@ -122,23 +130,38 @@ fn held(
     })
 }
 
-// What the search answers has these levels, and the judge says yes to it.
-#[test]
-fn answers_are_certified(rt: HostRuntime) -> Result<(), Fail> {
-    let Ok(image) = image(rt.alloc()) else {
-        panic!(rt; "no image");
-    };
-    for (maker, serial, hops) in &LEVELS {
-        let answer = retain(rt.alloc(), &image, name(*maker, *serial))?;
+// Looks whether the search answers a path of so many hops for each name, with these levels, and the judge says yes to it.
+fn check_paths(
+    rt: &impl Abort,
+    alloc: Global,
+    text: &str,
+    rows: &[(u8, u32, u32)],
+) -> Result<(), Fail> {
+    let image = image_of(alloc, text)?;
+    for (maker, serial, hops) in rows {
+        let answer = retain(alloc, &image, name(*maker, *serial))?;
         assert!(rt; verify(&image, name(*maker, *serial), &answer));
         let Retained::Held { path, levels } = &answer else {
             panic!(rt; "no path");
         };
         assert!(rt; path.hops.items().len() as u64 == u64::from(*hops));
-        for (told, (maker, serial, hops)) in levels.list.items().iter().zip(&LEVELS) {
-            assert!(rt; *told == level(name(*maker, *serial), *hops));
-        }
+        check_levels(rt, levels.list.items(), rows);
     }
+    Ok(())
+}
+
+// Looks whether these are the levels.
+fn check_levels(rt: &impl Abort, told: &[Level], rows: &[(u8, u32, u32)]) {
+    assert!(rt; told.len() == rows.len());
+    for (told, (maker, serial, hops)) in told.iter().zip(rows) {
+        assert!(rt; *told == level(name(*maker, *serial), *hops));
+    }
+}
+
+#[test]
+fn answers_are_certified(rt: HostRuntime) -> Result<(), Fail> {
+    check_paths(&rt, rt.alloc(), TEXT, &LEVELS)?;
+    let image = image_of(rt.alloc(), TEXT)?;
     let loose = retain(rt.alloc(), &image, name(1, 1))?;
     assert!(rt; matches!(loose, Retained::Loose { .. }));
     assert!(rt; verify(&image, name(1, 1), &loose));
@@ -156,50 +179,71 @@ const BY_QUEUE: Root = Root::Queue {
     place: 0,
 };
 
-// The judge says yes to both, and no where the root isn't there, a field isn't the one, the path doesn't end at the name, a
-// level is too low, a name that is held has none, or a name that has a level is told to be loose.
+// The two ways to 0.1 from there.
+const SECOND_FIELD: [Hop; 1] = [Hop {
+    field: 1,
+    to: name(0, 1),
+}];
+
+const FIRST_FIELD: [Hop; 1] = [Hop {
+    field: 0,
+    to: name(0, 1),
+}];
+
+// An answer for 0.1: the root, what it refers to, the hops and the levels; and whether it is certified.
+type Answer = (Root, Name, &'static [Hop], &'static [(u8, u32, u32)], bool);
+
+// The last two have a level that is too low, and one level less than there are objects that are held.
+const ANSWERS: [Answer; 8] = [
+    (BY_REGISTER, name(0, 2), &SECOND_FIELD, &LEVELS, true),
+    (BY_QUEUE, name(1, 0), &FIRST_FIELD, &LEVELS, true),
+    (BY_REGISTER, name(1, 0), &FIRST_FIELD, &LEVELS, false),
+    (Root::Shared, name(0, 2), &SECOND_FIELD, &LEVELS, false),
+    (BY_REGISTER, name(0, 2), &FIRST_FIELD, &LEVELS, false),
+    (BY_REGISTER, name(0, 2), &[], &LEVELS, false),
+    (
+        BY_REGISTER,
+        name(0, 2),
+        &SECOND_FIELD,
+        &[
+            (0, 0, 2),
+            (0, 1, 0),
+            (0, 2, 0),
+            (0, 3, 1),
+            (1, 0, 0),
+            (32, 0, 0),
+        ],
+        false,
+    ),
+    (
+        BY_REGISTER,
+        name(0, 2),
+        &SECOND_FIELD,
+        &[(0, 0, 2), (0, 1, 1), (0, 2, 0), (0, 3, 1), (32, 0, 0)],
+        false,
+    ),
+];
+
+// Looks what the judge says of each answer.
+fn check_answers(rt: &impl Abort, alloc: Global, text: &str, rows: &[Answer]) -> Result<(), Fail> {
+    let image = image_of(alloc, text)?;
+    for (root, from, hops, levels, right) in rows {
+        let answer = held(alloc, *root, *from, hops, levels)?;
+        assert!(rt; verify(&image, name(0, 1), &answer) == *right);
+    }
+    Ok(())
+}
+
+// The judge says no where the root isn't there, a field isn't the one, the path doesn't end at the name, a level is too low,
+// or an object that is held has none; and to an answer that an object which has a level is loose.
 #[test]
 fn wrong_answers_are_not_certified(rt: HostRuntime) -> Result<(), Fail> {
-    let alloc = rt.alloc();
-    let Ok(image) = image(alloc) else {
-        panic!(rt; "no image");
-    };
-    let wanted = name(0, 1);
-    let second = [Hop {
-        field: 1,
-        to: wanted,
-    }];
-    let first = [Hop {
-        field: 0,
-        to: wanted,
-    }];
-    let too_low = [
-        (0, 0, 2),
-        (0, 1, 0),
-        (0, 2, 0),
-        (0, 3, 1),
-        (1, 0, 0),
-        (32, 0, 0),
-    ];
-    let one_less = [(0, 0, 2), (0, 1, 1), (0, 2, 0), (0, 3, 1), (32, 0, 0)];
-    let (first, second, all) = (first.as_slice(), second.as_slice(), LEVELS.as_slice());
-    for (root, from, hops, rows, right) in [
-        (BY_REGISTER, name(0, 2), second, all, true),
-        (BY_QUEUE, name(1, 0), first, all, true),
-        (BY_REGISTER, name(1, 0), first, all, false),
-        (Root::Shared, name(0, 2), second, all, false),
-        (BY_REGISTER, name(0, 2), first, all, false),
-        (BY_REGISTER, name(0, 2), [].as_slice(), all, false),
-        (BY_REGISTER, name(0, 2), second, too_low.as_slice(), false),
-        (BY_REGISTER, name(0, 2), second, one_less.as_slice(), false),
-    ] {
-        let answer = held(alloc, root, from, hops, rows)?;
-        assert!(rt; verify(&image, wanted, &answer) == right);
-    }
+    check_answers(&rt, rt.alloc(), TEXT, &ANSWERS)?;
+    let image = image_of(rt.alloc(), TEXT)?;
     let loose = Retained::Loose {
-        levels: levels(alloc, &LEVELS)?,
+        levels: levels(rt.alloc(), &LEVELS)?,
     };
-    assert!(rt; !verify(&image, wanted, &loose));
+    assert!(rt; !verify(&image, name(0, 1), &loose));
     assert!(rt; verify(&image, name(1, 1), &loose));
     Ok(())
 }
