@@ -1,2 +1,3 @@
 pub mod CheckedLaws
 pub mod TwoObjects
+mod Started

@@ -28,18 +28,36 @@ end
 ";
 
 // An object of a mutator.
-const fn name(maker: u8, serial: u32) -> Name {
+fn name(maker: u8, serial: u32) -> Name {
     Name { maker, serial }
 }
 
 // The names of its nodes.
 const NAMES: [Name; 7] = [
-    name(0, 0),
-    name(0, 1),
-    name(0, 2),
-    name(0, 3),
-    name(1, 0),
-    name(1, 1),
+    Name {
+        maker: 0,
+        serial: 0,
+    },
+    Name {
+        maker: 0,
+        serial: 1,
+    },
+    Name {
+        maker: 0,
+        serial: 2,
+    },
+    Name {
+        maker: 0,
+        serial: 3,
+    },
+    Name {
+        maker: 1,
+        serial: 0,
+    },
+    Name {
+        maker: 1,
+        serial: 1,
+    },
     Name::SHARED,
 ];
 
@@ -182,12 +200,18 @@ const BY_QUEUE: Root = Root::Queue {
 // The two ways to 0.1 from there.
 const SECOND_FIELD: [Hop; 1] = [Hop {
     field: 1,
-    to: name(0, 1),
+    to: Name {
+        maker: 0,
+        serial: 1,
+    },
 }];
 
 const FIRST_FIELD: [Hop; 1] = [Hop {
     field: 0,
-    to: name(0, 1),
+    to: Name {
+        maker: 0,
+        serial: 1,
+    },
 }];
 
 // An answer for 0.1: the root, what it refers to, the hops and the levels; and whether it is certified.
@@ -195,15 +219,72 @@ type Answer = (Root, Name, &'static [Hop], &'static [(u8, u32, u32)], bool);
 
 // The last two have a level that is too low, and one level less than there are objects that are held.
 const ANSWERS: [Answer; 8] = [
-    (BY_REGISTER, name(0, 2), &SECOND_FIELD, &LEVELS, true),
-    (BY_QUEUE, name(1, 0), &FIRST_FIELD, &LEVELS, true),
-    (BY_REGISTER, name(1, 0), &FIRST_FIELD, &LEVELS, false),
-    (Root::Shared, name(0, 2), &SECOND_FIELD, &LEVELS, false),
-    (BY_REGISTER, name(0, 2), &FIRST_FIELD, &LEVELS, false),
-    (BY_REGISTER, name(0, 2), &[], &LEVELS, false),
     (
         BY_REGISTER,
-        name(0, 2),
+        Name {
+            maker: 0,
+            serial: 2,
+        },
+        &SECOND_FIELD,
+        &LEVELS,
+        true,
+    ),
+    (
+        BY_QUEUE,
+        Name {
+            maker: 1,
+            serial: 0,
+        },
+        &FIRST_FIELD,
+        &LEVELS,
+        true,
+    ),
+    (
+        BY_REGISTER,
+        Name {
+            maker: 1,
+            serial: 0,
+        },
+        &FIRST_FIELD,
+        &LEVELS,
+        false,
+    ),
+    (
+        Root::Shared,
+        Name {
+            maker: 0,
+            serial: 2,
+        },
+        &SECOND_FIELD,
+        &LEVELS,
+        false,
+    ),
+    (
+        BY_REGISTER,
+        Name {
+            maker: 0,
+            serial: 2,
+        },
+        &FIRST_FIELD,
+        &LEVELS,
+        false,
+    ),
+    (
+        BY_REGISTER,
+        Name {
+            maker: 0,
+            serial: 2,
+        },
+        &[],
+        &LEVELS,
+        false,
+    ),
+    (
+        BY_REGISTER,
+        Name {
+            maker: 0,
+            serial: 2,
+        },
         &SECOND_FIELD,
         &[
             (0, 0, 2),
@@ -217,7 +298,10 @@ const ANSWERS: [Answer; 8] = [
     ),
     (
         BY_REGISTER,
-        name(0, 2),
+        Name {
+            maker: 0,
+            serial: 2,
+        },
         &SECOND_FIELD,
         &[(0, 0, 2), (0, 1, 1), (0, 2, 0), (0, 3, 1), (32, 0, 0)],
         false,

@@ -1,4 +1,4 @@
-use Rattle.std.proofs.Common.{subst, sym, ◌∙◌}
+use Rattle.std.proofs.Common.{ℕ, List, subst, sym, ap, set, ◌∙◌}
 use Rattle.nmgc_object.specs.declared.layout.Layout.{Layout}
 use Rattle.nmgc_object.specs.Places.{IsLayout}
 use Rattle.nmgc_mutator.proofs.Sampled.{layout_is, snapshot_mutator}
@@ -8,4 +8,4 @@ pub new-requires-clause-layout : goal.new-requires-clause-layout
 new-requires-clause-layout c = subst (λ (l : Layout). IsLayout l) (sym c.small-layout.ensures) layout_is
 
 pub returns-clause-is : goal.returns-clause-is
-returns-clause-is c = snapshot_mutator c.small-layout.result c.in_ok-mutator.mutator c.reserve.new.self c.in_ok-mutator-2.field-0 c.small-layout.ensures c.in_ok-mutator.ensures.new c.reserve.ensures.kept (c.in_ok-mutator-2.ensures ∙ c.in_ok-registers.ensures.items)
+returns-clause-is c = snapshot_mutator c.small-layout.result c.in_ok-mutator.mutator c.reserve.new.self c.in_ok-mutator-2.field-0 c.small-layout.ensures c.in_ok-mutator.ensures.new c.reserve.ensures.kept (c.in_ok-mutator-2.ensures ∙ ap (λ (items : List ℕ). set (set (set items 0 72) 1 13) 3 184) (c.in_ok-registers.ensures.items_if_clones_equal (λ y e. e)))
