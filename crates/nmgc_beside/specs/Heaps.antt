@@ -1,8 +1,9 @@
 -- The heap of a marking cycle in the words of a run: at a stop it is at rest, and what a round and its promotion leave of it.
-use Rattle.std.specs.Prelude.{ℕ, ◌≡◌, List, [], ◌∷◌, map, replicate, slice_get, Some, All, refl}
+use Rattle.std.specs.Prelude.{ℕ, ◌≡◌, ◌-◌, List, [], ◌∷◌, map, replicate, slice_get, Some, All, refl}
 use Rattle.std.specs.Ptr.{null_ptr}
 use Rattle.std.proofs.Common.{lit<, lit≤}
 use Rattle.nmgc_graph.specs.World.{World}
+use Rattle.nmgc_limits.specs.declared.mutators.TheConstants.{REGISTERS}
 use Rattle.nmgc_object.specs.declared.layout.Layout.{Layout}
 use Rattle.nmgc_core.specs.State.{State as Core}
 use Rattle.nmgc_alloc.specs.AllocState.{StandsFor}
@@ -87,7 +88,7 @@ abbrev pub marking_mutator : Mutator
 marking_mutator = record {
   number = 0;
   layout = array_layout;
-  registers = 64 ∷ replicate 63 1;
+  registers = 64 ∷ replicate (REGISTERS - 1) 1;
   queue = record { words = []; spare = 0 };
   queue_place = empty_place;
   nursery = record { base = 320; top = 320; end = 336 };

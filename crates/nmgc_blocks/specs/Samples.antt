@@ -1,9 +1,10 @@
 -- A small heap at a stop, and what its words stand for: 32 segments of 64 words, none of which was used yet,
 -- one mutator, and a nursery as large as a segment. The round before the stop made one object.
-use Rattle.std.specs.Prelude.{ℕ, ◌≡◌, ◌+◌, ◌<◌, List, [], ◌∷◌, length, replicate, slice_index}
+use Rattle.std.specs.Prelude.{ℕ, ◌≡◌, ◌+◌, ◌-◌, ◌<◌, List, [], ◌∷◌, length, replicate, slice_index}
 use Rattle.nmgc_graph.specs.declared.command.Command.TheVariants.{Num, Con}
 use Rattle.nmgc_graph.specs.declared.command.Operand.TheVariants.{Register}
 use Rattle.nmgc_graph.specs.World.{World, new_world}
+use Rattle.nmgc_limits.specs.declared.mutators.TheConstants.{REGISTERS, SHARED_MAKER, SHARED_SLOTS}
 use Rattle.nmgc_object.specs.Places.{word_total, nursery_place}
 use Rattle.nmgc_object.specs.declared.layout.Nursery.{Nursery}
 use Rattle.nmgc_alloc.specs.Segments.{Segments, IsSegments, all_free}
@@ -27,15 +28,15 @@ young_stop = record { world = young_world; began = new_world 1; later = []; plac
 pub record HoldsYoung (words : List ℕ) : Type 0 where
   pub total : length words ≡ word_total small_layout
   pub shared_header : slice_index words 1 ≡ 32771
-  pub shared_name : slice_index words 2 ≡ 32
-  pub slots : (i : ℕ) → i < 16 → slice_index words (3 + i) ≡ 1
+  pub shared_name : slice_index words 2 ≡ SHARED_MAKER
+  pub slots : (i : ℕ) → i < SHARED_SLOTS → slice_index words (3 + i) ≡ 1
   pub header : slice_index words 2080 ≡ 2105
   pub name : slice_index words 2081 ≡ 0
   pub field : slice_index words 2082 ≡ 13
 
 -- a pointer to the constructor, the number 5, and nil in the other registers
 abbrev pub young_registers : List ℕ
-young_registers = 4160 ∷ 13 ∷ replicate 62 1
+young_registers = 4160 ∷ 13 ∷ replicate (REGISTERS - 2) 1
 
 -- three words of the nursery are used
 abbrev pub young_nurseries : List Nursery

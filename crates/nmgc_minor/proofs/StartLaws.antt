@@ -3,6 +3,7 @@ use Rattle.std.proofs.Common.{◌≡◌, ◌<◌, ◌+◌, ◌*◌, ℕ, List, [
 use Rattle.std.specs.Prelude.{Contains, slice_index}
 use Rattle.std.proofs.lemmas.List.{take_more}
 use Rattle.std.proofs.lemmas.List.Elements.{Contains-append_left, Contains-push, Contains-push_cases}
+use Rattle.nmgc_limits.specs.declared.mutators.TheConstants.{SHARED_SLOTS}
 use Rattle.nmgc_object.specs.FinQueue.{FinQueue}
 use Rattle.nmgc_object.specs.declared.words.Address.{Address}
 use Rattle.nmgc_object.specs.declared.size.TheConstants.{HEADER_WORDS}
@@ -55,7 +56,7 @@ module _ (registers : List ℕ) (queues : List FinQueue) (recorded weaks : List 
   OfQueue w = (queue : FinQueue) × Contains queues queue × Contains queue.words w
 
   abbrev pub OfShared : ℕ → Type 0
-  OfShared w = (i : ℕ) × (i < 16) × (slice_index words (3 + i) ≡ w)
+  OfShared w = (i : ℕ) × (i < SHARED_SLOTS) × (slice_index words (3 + i) ≡ w)
 
   abbrev pub OfRecorded : ℕ → Type 0
   OfRecorded w = (at : Address) × Contains recorded at × (slice_index words at.0 ≡ w)

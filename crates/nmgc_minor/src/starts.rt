@@ -1,5 +1,6 @@
 //! The first pass: what the search starts at, and the search.
 ghost use Rattle.std.specs.Prelude.{ℕ, ◌≡◌, ◌+◌, ◌≤◌, ◌<◌, List, [], length, slice_index, Contains};
+ghost use Rattle.nmgc_limits.specs.declared.mutators.TheConstants.{SHARED_SLOTS};
 ghost use Rattle.nmgc_object.specs.declared.words.Address.{Address};
 ghost use Rattle.nmgc_object.specs.FinQueue.{FinQueue as Queue};
 ghost use Rattle.nmgc_minor.specs.Found.{IsStart, IsFound};
@@ -69,8 +70,8 @@ fn note_weaks<W: HeapWords>(young: &mut Young, words: &mut W, weaks: &[Address])
 fn note_shared<W: HeapWords>(young: &mut Young, words: &mut W)
     requires young { IsYoung young.old }
     requires inside { 32 ≤ length (W.words words.old) }
-    requires within { (i : ℕ) → i < 16 → IsWithin young.old (slice_index (W.words words.old) (3 + i)) }
-    ensures notes { Notes young.old young.new (λ w. (i : ℕ) × (i < 16) × (slice_index (W.words words.old) (3 + i) ≡ w)) }
+    requires within { (i : ℕ) → i < SHARED_SLOTS → IsWithin young.old (slice_index (W.words words.old) (3 + i)) }
+    ensures notes { Notes young.old young.new (λ w. (i : ℕ) × (i < SHARED_SLOTS) × (slice_index (W.words words.old) (3 + i) ≡ w)) }
     ensures same { W.words words.new ≡ W.words words.old }
 {
     let first = (SHARED_PLACE + HEADER_WORDS) as usize;

@@ -3,13 +3,14 @@
 -- The script makes an array and asks for a cycle. The array fills its segment, so the cycle has something
 -- to sweep: it begins at the first stop, marks beside the second round, is closed at the second stop,
 -- sweeps beside the third round and ends at the third stop.
-use Rattle.std.specs.Prelude.{ℕ, List, [], ◌∷◌, ◌++◌, replicate, true, false, Some, None}
+use Rattle.std.specs.Prelude.{ℕ, ◌-◌, List, [], ◌∷◌, ◌++◌, replicate, true, false, Some, None}
 use Rattle.nmgc_graph.specs.declared.value.Value.TheVariants.{Ref}
 use Rattle.nmgc_graph.specs.declared.command.Command.TheVariants.{Arr, Collect}
 use Rattle.nmgc_graph.specs.declared.command.Operand.TheVariants.{Register}
 use Rattle.nmgc_graph.specs.declared.command.Reply.{Reply}
 use Rattle.nmgc_graph.specs.History.{Row}
 use Rattle.nmgc_graph.specs.declared.command.Reply.TheVariants.{Fine, Given}
+use Rattle.nmgc_limits.specs.declared.mutators.TheConstants.{REGISTERS, SHARED_MAKER, SHARED_SLOTS}
 use Rattle.nmgc_object.specs.declared.layout.Layout.{Layout}
 use Rattle.nmgc_segment.specs.Segment.{Segment, free_segment}
 use Rattle.nmgc_segment.specs.declared.state.State.TheVariants as stands
@@ -46,7 +47,7 @@ array_replies = Given (Ref object_name) ∷ Fine ∷ []
 
 -- the words of word 0 and of g, whose slots are nil
 abbrev pub shared_words : List ℕ
-shared_words = 0 ∷ 32771 ∷ 32 ∷ replicate 16 1
+shared_words = 0 ∷ 32771 ∷ SHARED_MAKER ∷ replicate SHARED_SLOTS 1
 
 -- the words of the array: its header, its name, and seven nils
 abbrev pub array_words : List ℕ
@@ -75,7 +76,7 @@ segments_of first = record { layout = array_layout; segments = first ∷ replica
 
 -- a mutator with this word in its first register and nil in the others, a next serial, and the end of what is used in its nursery
 abbrev pub hand : ℕ → ℕ → ℕ → MutatorSeen
-hand word serial top = record { registers = word ∷ replicate 63 1; queue = record { words = []; spare = 0 }; serial = serial; nursery = record { base = 320; top = top; end = 336 }; recorded = []; young_weaks = []; entries = [] }
+hand word serial top = record { registers = word ∷ replicate (REGISTERS - 1) 1; queue = record { words = []; spare = 0 }; serial = serial; nursery = record { base = 320; top = top; end = 336 }; recorded = []; young_weaks = []; entries = [] }
 
 abbrev pub array_stop : ℕ → Phase → ℕ → ℕ → ℕ → ℕ → StopRow
 array_stop number phase free filled sweep promoted = record { number = number; phase = phase; free = free; filled = filled; sweep = sweep; promoted = promoted }

@@ -1,5 +1,5 @@
 -- Four small scripts, and what is told of a run of each.
-use Rattle.std.specs.Prelude.{ℕ, ◌≡◌, List, [], ◌∷◌, ◌++◌, replicate, codes, false, Some}
+use Rattle.std.specs.Prelude.{ℕ, ◌≡◌, ◌-◌, List, [], ◌∷◌, ◌++◌, replicate, codes, false, Some}
 use Rattle.nmgc_graph.specs.declared.value.Name.{Name}
 use Rattle.nmgc_graph.specs.declared.value.Value.TheVariants.{Number, Ref}
 use Rattle.nmgc_graph.specs.declared.command.Command.{Command}
@@ -15,6 +15,7 @@ use Rattle.nmgc_journal.specs.declared.report.StopRow.{StopRow}
 use Rattle.nmgc_journal.specs.declared.report.CycleRow.{CycleRow}
 use Rattle.nmgc_journal.specs.declared.report.End.{End}
 use Rattle.nmgc_journal.specs.declared.report.End.TheVariants.{Done, HeapFull}
+use Rattle.nmgc_limits.specs.declared.mutators.TheConstants.{REGISTERS, SHARED_MAKER, SHARED_SLOTS}
 use Rattle.nmgc_object.specs.Places.{reserve_count}
 use Rattle.nmgc_segment.specs.Segment.{free_segment}
 use Rattle.nmgc_segment.specs.declared.state.State.TheVariants.{Current}
@@ -63,7 +64,7 @@ object_replies = Fine ∷ Given (Ref object_name) ∷ Given (Number 5) ∷ Given
 
 -- the words after it: word 0; g, whose slots are nil, and the unused words up to 31; in the first block of the first segment the object's header, name and field; and nothing else
 abbrev pub object_words : List ℕ
-object_words = 0 ∷ 32771 ∷ 32 ∷ (replicate 16 1 ++ (replicate 13 0 ++ (2105 ∷ 0 ∷ 13 ∷ replicate 2109 0)))
+object_words = 0 ∷ 32771 ∷ SHARED_MAKER ∷ (replicate SHARED_SLOTS 1 ++ (replicate 13 0 ++ (2105 ∷ 0 ∷ 13 ∷ replicate 2109 0)))
 
 -- the segments after it
 abbrev pub object_segments : Segments
@@ -75,7 +76,7 @@ object_segments = record {
 
 -- the mutator after it: its registers hold the object, two fives and nil
 abbrev pub object_mutator : MutatorEnd
-object_mutator = record { registers = 64 ∷ 13 ∷ 13 ∷ replicate 61 1; queue = []; serial = 1 }
+object_mutator = record { registers = 64 ∷ 13 ∷ 13 ∷ replicate (REGISTERS - 3) 1; queue = []; serial = 1 }
 
 -- the whole report
 abbrev pub object_report : Report
