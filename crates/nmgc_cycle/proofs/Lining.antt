@@ -9,7 +9,7 @@ use Rattle.nmgc_object.specs.declared.words.Address.{Address}
 use Rattle.nmgc_updrem.specs.Lines.{HasMetSo, Reserves}
 use Rattle.nmgc_updrem.specs.Rings.{Sender, Receiver, AreNew, AtLine, HasPolled, HavePolled}
 use Rattle.nmgc_updrem.specs.laws.Lines.{line_goes_on, new_line}
-use Rattle.nmgc_mark.proofs.Polls.{at_polled}
+use Rattle.nmgc_updrem.specs.laws.Polls.{at_polled}
 use Rattle.nmgc_cycle.specs.Lined.{IsLined, IsPaired}
 
 -- a list of which one item was set

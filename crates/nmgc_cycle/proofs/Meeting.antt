@@ -9,7 +9,7 @@ use Rattle.nmgc_mutator.specs.Records.{numbers}
 use Rattle.nmgc_updrem.specs.Lines.{HasMetSo}
 use Rattle.nmgc_updrem.specs.Rings.{Receiver, AtLine, IsInOrder, IsLine}
 use Rattle.nmgc_updrem.specs.laws.Lines.{line_is}
-use Rattle.nmgc_mark.proofs.Polls.{polled_all_none, polled_all_then}
+use Rattle.nmgc_updrem.specs.laws.Polls.{polled_all_none, polled_all_then}
 use Rattle.nmgc_cycle.specs.Lined.{IsLined, HasMetSender, HaveLines, HaveMet, RememberInOrder}
 use Rattle.nmgc_cycle.proofs.Lining.{set_here, set_other, same_item, line_here, line_other, lined_on, all_met}
 

@@ -5,7 +5,6 @@ pub mod Fields
 pub mod Growth
 pub mod Names
 pub mod OneMark
-pub mod Polls
 pub mod Queues
 pub mod Reached
 pub mod Roots

@@ -48,16 +48,6 @@ pub(crate) fn is_result(header: Header, field: u32, word: u64) -> bool
     }
 }
 
-// Polls the ring of each mutator once.
-fn poll_all(inbox: &mut Inbox, mutators: u8)
-    requires { mutators ≤ length inbox.old }
-    ensures { HavePolled inbox.old inbox.new }
-{
-    for mutator in 0..mutators {
-        let _ = inbox.poll(mutator);
-    }
-}
-
 impl Marker {
     // Passes the gate.
     fn pass<G: Gate>(&mut self, gate: &G)
@@ -154,7 +144,7 @@ impl Marker {
                 }
                 Some(at) => {
                     self.pass(gate);
-                    poll_all(inbox, mutators);
+                    inbox.poll_each(mutators);
                     self.scan(round, seat, segments, at);
                 }
             }

@@ -150,7 +150,7 @@ impl UpdReceiver {
         if self.entries.capacity() - self.entries.len() < BLOCK_ENTRIES {
             return Polled::NoRoom;
         }
-        if self.consumer.is_empty() {
+        if self.consumer.slots() == 0 {
             return Polled::Nothing;
         }
         receive(&mut self.consumer, &mut self.entries);

@@ -1,6 +1,6 @@
 use Rattle.std.proofs.Common.{ℕ, ◌≡◌, ◌*◌, ◌≤◌, ◌∙◌, List, length, min, get_or, refl, subst, sym, ap, arith}
 use Rattle.nmgc_graph.specs.declared.command.Command.{Command}
-use Rattle.nmgc_mark.proofs.Polls.{polled_all_none, polled_all_then}
+use Rattle.nmgc_updrem.specs.laws.Polls.{polled_all_none, polled_all_then}
 use Rattle.nmgc_cycle.specs.Working.{in_blocks, left_at}
 use Rattle.nmgc_cycle.specs.declared.round.TheConstants.{PUSHED_MOST}
 use Rattle.nmgc_cycle.proofs.InboxRoom.{inbox_more}

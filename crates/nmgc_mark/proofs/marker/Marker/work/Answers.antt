@@ -4,7 +4,7 @@ use Rattle.nmgc_round.specs.Seat.{seen}
 use Rattle.nmgc_run.specs.Seen.{MarkerSeen}
 use Rattle.nmgc_mark.proofs.Scanning.{begins}
 use Rattle.nmgc_mark.proofs.Fields.{marked_none, object_marked, room_taken, passed_taken, passed_more, same_seat, later_seat}
-use Rattle.nmgc_mark.proofs.Polls.{polled_all_none, polled_all_then}
+use Rattle.nmgc_updrem.specs.laws.Polls.{polled_all_none, polled_all_then}
 use Rattle.nmgc_mark.proofs.marker.Marker.work.Goals as goal
 
 pub loop-scanned-init : goal.loop-scanned-init
@@ -37,5 +37,5 @@ loop-scanned-preserved g c =
         tied = done.tied;
       };
       turns = c.scan.ensures.turns ∙ ap (λ (m : MarkerSeen). m.turns) c.pass.ensures ∙ ap (λ n. next_turn n) (ap (λ (m : MarkerSeen). m.turns) s.1 ∙ c.loop-scanned.invariant.turns) ∙ passed_more c.args.self.now.turns c.loop-scanned.scanned;
-      polled = polled_all_then c.args.inbox.now c.loop-scanned.inbox c.poll_all.new.inbox c.loop-scanned.invariant.polled c.poll_all.ensures;
+      polled = polled_all_then c.args.inbox.now c.loop-scanned.inbox c.poll_each.new.self c.loop-scanned.invariant.polled c.poll_each.ensures;
     }

@@ -1,10 +1,9 @@
 -- Polls of the rings: each receiver has more of its own, and there are as many.
-use Rattle.std.proofs.Common.{ℕ, ◌≡◌, ◌<◌, ◌∙◌, sym, ap, subst, List, [], ◌++◌, length, append-nil, set, get_or, length-set, inl, inr, refl}
+use Rattle.std.proofs.Common.{ℕ, ◌≡◌, ◌<◌, ◌∙◌, sym, ap, subst, List, [], length, append-nil, set, get_or, length-set, inl, inr, refl}
 use Rattle.std.specs.Prelude.{slice_get, Some}
 use Rattle.std.proofs.lemmas.Bool.{cases_eq}
 use Rattle.std.proofs.lemmas.List.{get_or-set_same, get_or-set_other}
 use Rattle.std.proofs.lemmas.Option.{slice_get-get_or, slice_get_within, get_or_from_slice_get}
-use Rattle.nmgc_object.specs.declared.words.Address.{Address}
 use Rattle.nmgc_updrem.specs.Lines.{PollsSo}
 use Rattle.nmgc_updrem.specs.Rings.{Receiver, Polls, HasPolled, HavePolled, AtLine}
 use Rattle.nmgc_updrem.specs.declared.polled.Polled.{Polled}
