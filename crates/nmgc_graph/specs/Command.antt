@@ -13,12 +13,12 @@ use Rattle.nmgc_graph.specs.declared.command.Command.TheVariants.{Num, Nil, Mov,
 abbrev pub IsRegisterBelow : ℕ → ℕ → Type 0
 IsRegisterBelow bound r = r < bound
 
--- the operand's register is, if it has one
+-- the operand's register is one of so many, if it has one
 abbrev pub IsOperandBelow : ℕ → Operand → Type 0
 IsOperandBelow bound (Register r) = IsRegisterBelow bound r
 IsOperandBelow bound Shared = Unit {0}
 
--- the registers of a command are
+-- the registers that a command names are among so many
 abbrev pub HasRegistersBelow : ℕ → Command → Type 0
 HasRegistersBelow b (Num dest number) = IsRegisterBelow b dest
 HasRegistersBelow b (Nil dest) = IsRegisterBelow b dest

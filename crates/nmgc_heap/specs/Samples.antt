@@ -3,6 +3,7 @@
 -- the last object are left open; the other words of which nothing is told are 0: word 0, those between g
 -- and the first segment, and the last word of a block that its object doesn't fill.
 use Rattle.std.specs.Prelude.{ℕ, zero, suc, ◌≡◌, ◌≢◌, ◌+◌, ◌-◌, ◌*◌, List, [], ◌∷◌, ◌++◌, length, map, replicate, slice_index, Contains}
+use Rattle.nmgc_limits.specs.declared.mutators.TheConstants.{REGISTERS, SHARED_MAKER, SHARED_SLOTS}
 use Rattle.nmgc_graph.specs.declared.value.Name.{Name}
 use Rattle.nmgc_graph.specs.declared.node.Node.{Node}
 use Rattle.nmgc_graph.specs.declared.command.Command.{Command}
@@ -11,6 +12,7 @@ use Rattle.nmgc_graph.specs.declared.command.Operand.TheVariants.{Register}
 use Rattle.nmgc_graph.specs.World.{World, new_world}
 use Rattle.nmgc_graph.specs.Step.{shared_name, step}
 use Rattle.nmgc_object.specs.declared.layout.Layout.{Layout}
+use Rattle.nmgc_object.specs.declared.words.TheConstants.{SERIAL_UNIT}
 use Rattle.nmgc_object.specs.declared.layout.TheConstants.{SHARED_PLACE, FIRST_PLACE}
 use Rattle.nmgc_reach.specs.Wide.{IsWide}
 use Rattle.nmgc_heap.specs.Tracked.{IsTracked}
@@ -39,7 +41,7 @@ places_of serials = shared_place ∷ map block serials
 
 -- the words up to the first segment: word 0, g with nil in each slot, and thirteen words that nobody has
 abbrev pub first_words : List ℕ
-first_words = 0 ∷ 32771 ∷ 32 ∷ (replicate 16 1 ++ replicate 13 0)
+first_words = 0 ∷ 32771 ∷ SHARED_MAKER ∷ (replicate SHARED_SLOTS 1 ++ replicate 13 0)
 
 -- one object: a constructor of tag 7 with the number 5
 
@@ -54,7 +56,7 @@ object_serials = 0 ∷ []
 
 -- words, registers and the empty list of weak pointers stand for it, whatever the other words are
 abbrev pub OneObject : Type 0
-OneObject = (rest : List ℕ) → length rest ≡ 2109 → Represents small_layout [] NoNode (places_of object_serials) object_world (object_words rest) × RepresentsRoots (places_of object_serials) object_world (64 ∷ 13 ∷ 13 ∷ replicate 61 1) ([] ∷ []) (1 ∷ []) × ListsWeaks small_layout (places_of object_serials) object_world []
+OneObject = (rest : List ℕ) → length rest ≡ 2109 → Represents small_layout [] NoNode (places_of object_serials) object_world (object_words rest) × RepresentsRoots (places_of object_serials) object_world (64 ∷ 13 ∷ 13 ∷ replicate (REGISTERS - 3) 1) ([] ∷ []) (1 ∷ []) × ListsWeaks small_layout (places_of object_serials) object_world []
 
 -- overwritten during marking: a variable that holds the only reference to a constructor, and a chain of fourteen more; a cycle begins, and then the variable is overwritten
 
@@ -73,7 +75,7 @@ chain_serials = 0 ∷ 1 ∷ 2 ∷ 3 ∷ 4 ∷ 5 ∷ 6 ∷ 7 ∷ 8 ∷ 9 ∷ 10 �
 
 -- the words of a link of the chain: header, name, a pointer to the link before, and the number 5
 abbrev pub link : ℕ → List ℕ → List ℕ
-link serial rest = 4097 ∷ 64 * serial ∷ 2 * (FIRST_PLACE + 4 * serial - 4) ∷ 13 ∷ rest
+link serial rest = 4097 ∷ SERIAL_UNIT * serial ∷ 2 * (FIRST_PLACE + 4 * serial - 4) ∷ 13 ∷ rest
 
 abbrev pub links : List ℕ
 links = link 3 (link 4 (link 5 (link 6 (link 7 (link 8 (link 9 (link 10 (link 11 (link 12 (link 13 (link 14 (link 15 []))))))))))))
@@ -84,7 +86,7 @@ chain_words word rest = first_words ++ (2049 ∷ 0 ∷ 13 ∷ 0 ∷ 2050 ∷ 64 
 
 -- at the snapshot the variable has a pointer to word 32
 abbrev pub SnapshotStands : Type 0
-SnapshotStands = (rest : List ℕ) → length rest ≡ 2048 → Represents small_layout [] NoNode (places_of chain_serials) snapshot (chain_words 64 rest) × RepresentsRoots (places_of chain_serials) snapshot (72 ∷ 13 ∷ 1 ∷ 184 ∷ replicate 60 1) ([] ∷ []) (16 ∷ [])
+SnapshotStands = (rest : List ℕ) → length rest ≡ 2048 → Represents small_layout [] NoNode (places_of chain_serials) snapshot (chain_words 64 rest) × RepresentsRoots (places_of chain_serials) snapshot (72 ∷ 13 ∷ 1 ∷ 184 ∷ replicate (REGISTERS - 4) 1) ([] ∷ []) (16 ∷ [])
 
 -- once it was overwritten, it has the number; what it referred to is outside the wide reach, and tracked for the snapshot alone: its words stand there still
 abbrev pub OverwrittenStands : Type 0

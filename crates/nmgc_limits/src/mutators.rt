@@ -12,7 +12,7 @@ pub const REGISTERS: u8 = 64;
 /// The greatest number of mutators. A mutator's number is below it.
 pub const MAKERS: u8 = 32;
 
-/// The maker in the name of the shared array.
+/// The maker in the name of the shared array: no mutator has this number, since all are below `MAKERS`.
 pub const SHARED_MAKER: u8 = 32;
 
 /// The number of slots of the shared array.

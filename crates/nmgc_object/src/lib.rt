@@ -1,9 +1,9 @@
 //! The layout of the heap's words: what a word means, how many words an object has, and which words
 //! belong to whom.
 //!
-//! The collector's heap is one array of 64-bit words. This crate is the only one that knows how a
-//! header, a name and a field are written there, and where segments and nurseries begin. Everything
-//! above it speaks of headers, names, fields and places, and cites the definitions in `specs/`.
+//! The collector's heap is one array of 64-bit words. What a header, a name and a field are there is
+//! defined here alone, and where segments and nurseries begin. Everything above it cites the
+//! definitions in `specs/`.
 //!
 //! `words` has the three kinds of word, `size` the words of an object and the classes of blocks,
 //! `layout` the places, and `fin_queue` the queue of finalisers, which is kept as field words
