@@ -1,8 +1,8 @@
 -- From the live names to the dead weak pointers and the kept names.
-use Rattle.std.proofs.Common.{◌≡◌, ◌<◌, ◌≤◌, ◌+◌, ℕ, List, [], ◌∷◌, ◌++◌, length, get_or, inl, inr, refl, sym, ap, subst, ◌∙◌, arith, Bool, true, false, not, Option, Some, None, Bor}
-use Rattle.std.specs.Prelude.{Contains, All, IsSome, filter, option_copied, is_some}
+use Rattle.std.proofs.Common.{◌≡◌, ◌<◌, ◌≤◌, ◌+◌, ℕ, List, [], ◌∷◌, ◌++◌, length, inl, inr, refl, sym, ap, subst, ◌∙◌, arith, Bool, true, false, not, Option, Some, None, Bor}
+use Rattle.std.specs.Prelude.{Contains, IsSome, filter, option_copied, is_some}
 use Rattle.std.proofs.lemmas.Bool.{false≢true, and_parts, and_from, not-true, not_from_false, false_from_ne_true}
-use Rattle.std.proofs.lemmas.List.Elements.{All-nil, All-tail, All-append, All-get_or, Contains-append_left, Contains-append_right, Contains-append_cases, Contains-push, Contains-push_cases, Contains-get_or}
+use Rattle.std.proofs.lemmas.List.Elements.{All-nil, All-tail, All-append, All-get_or, Contains-append_left, Contains-append_right, Contains-append_cases, Contains-push, Contains-push_cases}
 use Rattle.nmgc_graph.specs.declared.value.Name.{Name}
 use Rattle.nmgc_graph.specs.declared.value.Value.{Value}
 use Rattle.nmgc_graph.specs.declared.value.Value.TheVariants.{Nil, Number, Ref}
@@ -162,10 +162,6 @@ module _ (w : World) (extra finalised : List Name) (s : Search) (f : IsLiveFound
     sound = λ weak c. lost_dead weak (l.sound weak c);
     complete = λ weak d. l.complete weak (dead_lost weak d);
   }
-
--- the dead weak pointers are alive so far, so the world may be closed with them
-pub dead_alive : (w : World) (extra finalised names : List Name) → Lists (IsDead w extra finalised) names → All (IsAliveWeak w) names
-dead_alive w extra finalised names l = λ k d below. let is = l.sound (get_or names k d) (Contains-get_or names k d below) in (is.parts, is.alive)
 
 -- a finaliser among those of weak pointers
 finalisers_contain : (w : World) (weaks : List Name) (v : Value) → Contains (finalisers_of w weaks) v → (weak : Name) × Contains weaks weak × Contains (finaliser_in (parts_of w weak)) v

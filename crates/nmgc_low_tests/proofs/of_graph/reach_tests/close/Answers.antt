@@ -1,5 +1,14 @@
-use Rattle.nmgc_graph.proofs.Kepts.{dead_alive}
+use Rattle.std.proofs.Common.{List, get_or}
+use Rattle.std.specs.Prelude.{All}
+use Rattle.std.proofs.lemmas.List.Elements.{Contains-get_or}
+use Rattle.nmgc_graph.specs.declared.value.Name.{Name}
+use Rattle.nmgc_graph.specs.World.{World}
+use Rattle.nmgc_graph.specs.Reach.{IsAliveWeak, IsDead, Lists}
 use Rattle.nmgc_low_tests.proofs.of_graph.reach_tests.close.Goals as goal
+
+-- the dead weak pointers are alive so far, so the world may be closed with them
+dead_alive : (w : World) (extra finalised names : List Name) → Lists (IsDead w extra finalised) names → All (IsAliveWeak w) names
+dead_alive w extra finalised names l = λ k d below. let is = l.sound (get_or names k d) (Contains-get_or names k d below) in (is.parts, is.alive)
 
 pub close-requires-clause-alive : goal.close-requires-clause-alive
 close-requires-clause-alive g c = rw c.items.ensures (dead_alive c.args.world.now _ _ c.in_ok-dead.dead c.in_ok-dead.ensures)
