@@ -1,3 +1,7 @@
 pub mod CheckedLaws
-pub mod TwoObjects
+pub mod Many
+mod Sampled
+pub mod Samples
+pub mod SharedSlots
 mod Started
+pub mod TwoObjects

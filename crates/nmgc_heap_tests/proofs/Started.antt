@@ -10,7 +10,7 @@ use Rattle.nmgc_round.specs.Seating.{alone}
 use Rattle.nmgc_round.specs.declared.table.Round.{Round}
 use Rattle.nmgc_mutator.specs.declared.mutator.Mutator.{Mutator}
 use Rattle.nmgc_mutator.specs.Ready.{IsReady, IsWhole, IsUnused, HasHand}
-use Rattle.nmgc_mutator.specs.Sample.{snapshot_opening, IsSnapshotHeap, IsSnapshotMutator}
+use Rattle.nmgc_heap_tests.specs.Sample.{snapshot_opening, IsSnapshotHeap, IsSnapshotMutator}
 
 -- any words behind the last object
 any_rest : (rest : List ℕ) × (length rest ≡ 2048)

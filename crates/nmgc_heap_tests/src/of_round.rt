@@ -118,6 +118,7 @@ fn worked<R: Threads + Sync>(
     requires room { (room.items ≡ []) × (layout.mutators ≤ vec_capacity room) }
     ensures { length result.0 ≡ word_total layout }
 {
+    nmgc_round::laws::empty_heap_opens();
     let opening = first_of(&layout);
     let Started {
         round,

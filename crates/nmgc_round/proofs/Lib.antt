@@ -8,7 +8,6 @@ pub mod Fields
 pub mod Finishings
 pub mod Fixes
 pub mod Frames
-pub mod Gathering
 pub mod Histories
 pub mod Keeping
 pub mod Lifts
@@ -27,7 +26,6 @@ pub mod Parts
 pub mod Pushes
 pub mod Refusals
 pub mod Runs
-pub mod Samples
 pub mod Scans
 pub mod Slotting
 pub mod Standing

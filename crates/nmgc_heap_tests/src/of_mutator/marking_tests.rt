@@ -7,8 +7,9 @@ ghost use Rattle.nmgc_round.specs.View.{whole};
 ghost use Rattle.nmgc_round.specs.Seat.{IsAt, seen, word_count};
 ghost use Rattle.nmgc_round.specs.Seating.{alone, collecting};
 ghost use Rattle.nmgc_round.specs.Ready.{HasPart, scanned_by};
-ghost use Rattle.nmgc_mutator.specs.Sample.{snapshot_opening, IsSnapshotHeap, IsSnapshotMutator, IsBegun};
+ghost use Rattle.nmgc_heap_tests.specs.Sample.{snapshot_opening, IsSnapshotHeap, IsSnapshotMutator, IsBegun};
 
+use super::laws::a_marking_round_opens;
 use nmgc_graph::{Command, List, NoMemory, Operand, Place, REGISTERS, Reply};
 use nmgc_mutator::{Mutator, Step, laws};
 use nmgc_object::{Address, Layout};
@@ -112,7 +113,7 @@ pub(super) fn begin(
     requires room { (room.items ≡ []) × (1 ≤ vec_capacity room) }
     ensures { IfSome result (λ b. IsBegun b.round b.seat b.collector × (word_count b.round ≡ word_total small_layout)) }
 {
-    laws::a_marking_round_opens();
+    a_marking_round_opens();
     let layout = small();
     let opening = opening(&layout);
     let Started {
@@ -155,7 +156,7 @@ fn overwrite(round: &Round, seat: &mut MutatorSeat, mutator: &mut Mutator) -> bo
     ensures { IsAt round.now seat.new × HasPart (seen seat.new) 0 }
 {
     laws::a_round_finds_mutators_ready();
-    laws::a_marking_round_opens();
+    a_marking_round_opens();
     let command = Command::Set {
         object: Operand::Register(0),
         index: 0,
@@ -175,7 +176,7 @@ fn compare(round: &Round, seat: &mut MutatorSeat, mutator: &mut Mutator) -> bool
     ensures { IsAt round.now seat.new × HasPart (seen seat.new) 0 }
 {
     laws::a_round_finds_mutators_ready();
-    laws::a_marking_round_opens();
+    a_marking_round_opens();
     let command = Command::Cas {
         object: Operand::Register(0),
         index: 0,

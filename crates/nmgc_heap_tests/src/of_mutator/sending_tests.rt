@@ -2,8 +2,9 @@
 ghost use Rattle.std.specs.Prelude.{◌≡◌, ◌≤◌, [], vec_capacity};
 ghost use Rattle.nmgc_round.specs.Seat.{IsAt, seen};
 ghost use Rattle.nmgc_round.specs.Seating.{alone};
-ghost use Rattle.nmgc_mutator.specs.Sample.{snapshot_opening, IsSnapshotHeap, IsSnapshotMutator};
+ghost use Rattle.nmgc_heap_tests.specs.Sample.{snapshot_opening, IsSnapshotHeap, IsSnapshotMutator};
 
+use super::laws::a_marking_round_opens;
 use super::marking_tests::{Begun, begin, mutator_with, snapshot_heap};
 use nmgc_graph::{Command, Operand, Place, Reply};
 use nmgc_mutator::{Mutator, Step, laws};
@@ -22,7 +23,7 @@ fn overwrite_often(round: &Round, seat: &mut MutatorSeat, mutator: &mut Mutator)
     requires room { (TIMES ≤ mutator.old.replies.spare) × (TIMES ≤ mutator.old.recorded.spare) × (TIMES ≤ mutator.old.updrem.spare) }
 {
     laws::a_round_finds_mutators_ready();
-    laws::a_marking_round_opens();
+    a_marking_round_opens();
     for number in 0..TIMES {
         let command = Command::Set {
             object: Operand::Register(0),

@@ -5,12 +5,11 @@ use Rattle.nmgc_round.specs.Seat.{RoundSeat, IsAt, seen}
 use Rattle.nmgc_round.specs.Seating.{all_together}
 use Rattle.nmgc_round.specs.Starting.{CanOpen}
 use Rattle.nmgc_round.specs.Finishing.{HasAll}
-use Rattle.nmgc_round.proofs.Beginnings.{first_opens}
-use Rattle.nmgc_round.proofs.Samples.{are_ready, has_all, written}
+use Rattle.nmgc_heap_tests.proofs.SharedSlots.{are_ready, has_all, written}
 use Rattle.nmgc_heap_tests.proofs.of_round.worked.Goals as goal
 
 pub start-round-requires-clause-opens : goal.start-round-requires-clause-opens
-start-round-requires-clause-opens g c = subst (λ (o : Opening). CanOpen o c.args.words) (sym c.first_of-opening.ensures) (first_opens c.args.layout c.args.words c.requires.layout c.requires.heap)
+start-round-requires-clause-opens g c = subst (λ (o : Opening). CanOpen o c.args.words) (sym c.first_of-opening.ensures) (c.empty_heap_opens.ensures c.args.layout c.args.words c.requires.layout c.requires.heap)
 
 pub work_all-requires-clause-seats : goal.work_all-requires-clause-seats
 work_all-requires-clause-seats g c = λ κs out.

@@ -1,4 +1,4 @@
-use Rattle.nmgc_mutator.proofs.Sampled.{header_first}
+use Rattle.nmgc_heap_tests.proofs.Sampled.{header_first}
 use Rattle.nmgc_round.specs.Seat.{seen}
 use Rattle.nmgc_heap_tests.proofs.of_mutator.marking_tests.scan_header.Goals as goal
 

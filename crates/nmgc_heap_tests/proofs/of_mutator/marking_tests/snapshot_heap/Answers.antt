@@ -1,5 +1,5 @@
 use Rattle.std.proofs.Common.{◌∙◌, ap, List, ℕ, ◌++◌}
-use Rattle.nmgc_mutator.proofs.Sampled.{snapshot_words}
+use Rattle.nmgc_heap_tests.proofs.Sampled.{snapshot_words}
 use Rattle.nmgc_heap_tests.proofs.of_mutator.marking_tests.snapshot_heap.Goals as goal
 
 pub returns : goal.returns

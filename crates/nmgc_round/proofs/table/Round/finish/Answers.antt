@@ -4,7 +4,7 @@ use Rattle.nmgc_round.specs.Seat.{seen, opening_of}
 use Rattle.nmgc_round.specs.Seating.{all_together}
 use Rattle.nmgc_round.specs.Finishing.{HasAll, HasEach, IsFinished}
 use Rattle.nmgc_round.proofs.Finishings.{leaves}
-use Rattle.nmgc_round.proofs.Gathering.{same_opening}
+use Rattle.nmgc_round.specs.laws.Gathering.{same_opening}
 use Rattle.nmgc_round.proofs.table.Round.finish.Goals as goal
 
 pub end-requires : goal.end-requires

@@ -1,7 +1,7 @@
 -- What the mutators of the tests do: each makes a variable, stores it into its slot of g and reads it back.
 use Rattle.std.proofs.Common.{◌≡◌, ℕ, zero, suc, ◌+◌, ◌*◌, ◌<◌, ◌≤◌, true, false, List, [], ◌∷◌, ◌++◌, map, length, get_or, set, take, drop, All, refl, sym, ap, subst, ◌∙◌, arith, Some, inl}
 use Rattle.std.specs.Prelude.{Contains, slice_get, slice_index_or}
-use Rattle.std.proofs.lemmas.List.{length-replicate}
+use Rattle.std.proofs.lemmas.List.{length-replicate, get_or-replicate}
 use mathlib.Core.Option.{some, some-injective, some-ne-none}
 use lib.ListN.{get_elem?}
 use Rattle.nmgc_graph.specs.declared.node.Kind.TheVariants as kind
@@ -24,8 +24,7 @@ use Rattle.nmgc_round.specs.Told.{CanFix, CanTake, taken, told_by}
 use Rattle.nmgc_round.specs.Finishing.{HasAll}
 use Rattle.nmgc_round.specs.Empty.{new_hand, first_opening}
 use Rattle.nmgc_round.specs.declared.table.Round.{Round}
-use Rattle.nmgc_round.proofs.Beginnings.{all_equal}
-use Rattle.nmgc_round.proofs.Gathering.{gathered}
+use Rattle.nmgc_round.specs.laws.Gathering.{gathered}
 
 -- the view of a seat with one mutator's part
 abbrev pub with_part : Layout → Part → Seen
@@ -101,7 +100,7 @@ module _ (layout : Layout) (is : IsLayout layout) (m : ℕ) (mine : m < layout.m
   o = first_opening layout
 
   hand_is : new_hand ≡ hand_of o.hands m
-  hand_is = sym (all_equal layout.mutators m new_hand no_hand mine)
+  hand_is = sym (get_or-replicate layout.mutators m new_hand no_hand mine)
 
   pub header_fixed : (p : Part) → CanFix o p 1 0
   header_fixed p = inl (Shared, refl, omega arith)
