@@ -35,7 +35,8 @@ settled_sweeps x m y epoch h s =
     let next : y.next_free ≡ m.next_free = ap (λ (t : Segment). t.next_free) s.rest in
     record {
       used = subst (λ (t : Segment). (b : ℕ) → InUse t b ↔ IsMarked x epoch b) (sym s.rest) h.used;
-      rest = s.rest ∙ ap (λ (t : Segment). record t { state = y.state }) h.rest ∙ ap (λ (n : ℕ). record x { state = y.state; marks = map (swept epoch) x.marks; next_free = n; snap = 0 }) (sym next);
+      rest = s.rest ∙ ap (λ (t : Segment). record t { state = y.state }) h.rest ∙
+          ap (λ (n : ℕ). record x { state = y.state; marks = map (swept epoch) x.marks; next_free = n; snap = 0 }) (sym next);
       free = ((λ e b marked. s.free.0 e b ((h.used b).1 marked)), (λ none. s.free.1 (λ b used. none b ((h.used b).0 used))));
       filled = (
         (λ e b inside. (h.used b).0 (s.filled.0 e b (subst (λ (n : ℕ). b < n) (sym blocks) inside))),
@@ -45,7 +46,8 @@ settled_sweeps x m y epoch h s =
     }
 
 -- the same, of what the code has
-pub settled_from : (s now : Segments) (n epoch : ℕ) (x y : Segment) → s ≡ now → n < length now.segments → x ≡ slice_index_or s.segments n x → HasSweptBytes epoch (nth now.segments n) (nth now.segments n) → Settles x y → SweepsSegment x y epoch
+pub settled_from : (s now : Segments) (n epoch : ℕ) (x y : Segment) → s ≡ now → n < length now.segments → x ≡ slice_index_or s.segments n x →
+    HasSweptBytes epoch (nth now.segments n) (nth now.segments n) → Settles x y → SweepsSegment x y epoch
 settled_from s now n epoch x y seen exists is bytes settles =
     let here : n < length s.segments = subst (λ (t : Segments). n < length t.segments) (sym seen) exists in
     let same : x ≡ nth now.segments n = is ∙ sym (get_or_default s.segments n (free_segment 0) x here) ∙ ap (λ (t : Segments). nth t.segments n) seen in
@@ -73,7 +75,8 @@ swept_is epoch mark e = elim (cases_eq mark epoch) [
 pub bytes_stay : (x m : Segment) (epoch : ℕ) → IsEpoch epoch → HasSweptBytes epoch x m → HasSweptBytes epoch m m
 bytes_stay x m epoch e h =
     let marks : m.marks ≡ map (swept epoch) x.marks = ap (λ (t : Segment). t.marks) h.rest in
-    let at : (b : ℕ) → mark_of m b ≡ swept epoch (mark_of x b) = λ b. ap (λ (ms : List ℕ). slice_index ms b) marks ∙ mark-map (swept epoch) x.marks b (zero_swept epoch e) in
+    let at : (b : ℕ) → mark_of m b ≡ swept epoch (mark_of x b) = λ b. ap (λ (ms : List ℕ). slice_index ms b) marks ∙
+    mark-map (swept epoch) x.marks b (zero_swept epoch e) in
     let same : m.marks ≡ map (swept epoch) m.marks = marks ∙ sym (all_twice epoch x.marks e) ∙ ap (map (swept epoch)) (sym marks) in
     let none : m.snap ≡ 0 = ap (λ (t : Segment). t.snap) h.rest in
     record {
@@ -188,13 +191,16 @@ module _ (epoch end left : ℕ) (t s u : Segments) (number : ℕ) (h : IsHalf ep
   half_next =
       let size : length (take end t.segments) ≡ end = length-take-le end t.segments h.within in
       let at : nth (take end t.segments) number ≡ nth t.segments number = get_or-take end t.segments number (free_segment 0) first in
-      let falls = count_falls Sweeping (take end t.segments) number y (omega (arith, first, size)) (ap (λ (x : Segment). x.state) at ∙ waits) (settled_not_waiting (nth s.segments number) y next.settles) in
+      let falls = count_falls Sweeping (take end t.segments) number y (omega (arith, first, size)) (ap (λ (x : Segment). x.state) at ∙
+      waits) (settled_not_waiting (nth s.segments number) y next.settles) in
       let is : take end (set t.segments number y) ≡ set (take end t.segments) number y = take-set-lt end t.segments number y first in
-      let fewer : sought_count Sweeping (take end v.segments) ≡ sought_count Sweeping (set (take end t.segments) number y) = ap (λ (xs : List Segment). sought_count Sweeping xs) is in (
+      let fewer : sought_count Sweeping (take end v.segments) ≡ sought_count Sweeping (set (take end t.segments) number y) =
+      ap (λ (xs : List Segment). sought_count Sweeping xs) is in (
         v,
         sweeps_next,
         record {
-          rest = next.others ∙ ap (λ (x : Segments). record x { segments = set s.segments number y }) h.rest ∙ ap (λ (xs : List Segment). record t { segments = xs }) (sym u_is);
+          rest = next.others ∙ ap (λ (x : Segments). record x { segments = set s.segments number y }) h.rest ∙
+              ap (λ (xs : List Segment). record t { segments = xs }) (sym u_is);
           size = ap (λ (xs : List Segment). length xs) u_is ∙ length-set s.segments number y ∙ h.size ∙ sym (length-set t.segments number y);
           within = let l = length-set t.segments number y in omega (arith, l, h.within);
           counted = omega (arith, falls, fewer, h.counted);
@@ -229,7 +235,8 @@ pub record IsSettling (epoch done left : ℕ) (old s : Segments) : Type 0 where
   pub sweeps : SweepsMany epoch done old swept
   pub half : IsHalf epoch end left swept s
 
-pub settling_first : (epoch count : ℕ) (old s : Segments) → s ≡ record old { segments = s.segments } → FirstSwept epoch count old.segments s.segments → IsSettling epoch 0 count old s
+pub settling_first : (epoch count : ℕ) (old s : Segments) → s ≡ record old { segments = s.segments } →
+    FirstSwept epoch count old.segments s.segments → IsSettling epoch 0 count old s
 settling_first epoch count old s rest h = record {
   end = h.end;
   swept = old;
@@ -237,7 +244,8 @@ settling_first epoch count old s rest h = record {
   half = record { rest = rest; size = h.size; within = h.within; counted = h.counted; below = h.below; above = h.above };
 }
 
-pub settling_next : (epoch done left number : ℕ) (old s u : Segments) → IsSettling epoch done (suc left) old s → SettlesNext s u number → IsSettling epoch (suc done) left old u
+pub settling_next : (epoch done left number : ℕ) (old s u : Segments) → IsSettling epoch done (suc left) old s → SettlesNext s u number →
+    IsSettling epoch (suc done) left old u
 settling_next epoch done left number old s u h next =
     let n = half_next epoch h.end left h.swept s u number h.half next in
     record { end = h.end; swept = n.0; sweeps = sweeps_more epoch done number old h.swept n.0 h.sweeps n.1; half = n.2 }
@@ -260,10 +268,12 @@ settling_some epoch done left old s some h none =
     let size : length (take h.end t.segments) ≡ h.end = length-take-le h.end t.segments h.half.within in
     let low : i < h.end = let l = found.1 in omega (arith, l, size) in
     let at : nth (take h.end t.segments) i ≡ nth t.segments i = get_or-take h.end t.segments i (free_segment 0) low in
-    let waits : (nth t.segments i).state ≡ state.Sweeping = sym (ap (λ (x : Segment). x.state) at) ∙ from_test Sweeping (nth (take h.end t.segments) i) found.2 in
+    let waits : (nth t.segments i).state ≡ state.Sweeping = sym (ap (λ (x : Segment). x.state) at) ∙
+    from_test Sweeping (nth (take h.end t.segments) i) found.2 in
     none i (omega (arith, low, h.half.within, h.half.size)) (half_state epoch h.end left t s h.half i ∙ waits)
 
-pub settling_bytes : (epoch done left : ℕ) (old s : Segments) → IsEpoch epoch → 0 < left → IsSettling epoch done left old s → (number : ℕ) → IsLeast Sweeping s number → HasSweptBytes epoch (nth s.segments number) (nth s.segments number)
+pub settling_bytes : (epoch done left : ℕ) (old s : Segments) → IsEpoch epoch → 0 < left → IsSettling epoch done left old s → (number : ℕ) →
+    IsLeast Sweeping s number → HasSweptBytes epoch (nth s.segments number) (nth s.segments number)
 settling_bytes epoch done left old s e some h number least =
     let t : Segments = h.swept in
     let below : NoneBelow Sweeping t.segments number = λ i low w. least.none_below i low (half_state epoch h.end left t s h.half i ∙ w) in
@@ -275,10 +285,12 @@ settling_bytes epoch done left old s e some h number least =
     bytes_stay (nth t.segments number) (nth s.segments number) epoch e ((h.half.below number first).0 waits)
 
 -- as the loop counts them
-pub settling_begins : (epoch count left : ℕ) (old s : Segments) → left ≡ count → s ≡ record old { segments = s.segments } → FirstSwept epoch count old.segments s.segments → IsSettling epoch 0 left old s
+pub settling_begins : (epoch count left : ℕ) (old s : Segments) → left ≡ count → s ≡ record old { segments = s.segments } →
+    FirstSwept epoch count old.segments s.segments → IsSettling epoch 0 left old s
 settling_begins epoch count left old s e rest h = subst (λ (n : ℕ). IsSettling epoch 0 n old s) (sym e) (settling_first epoch count old s rest h)
 
-pub settling_step : (epoch done next left fewer : ℕ) (old s u : Segments) → next ≡ suc done → left ≡ suc fewer → IsSettling epoch done left old s → (number : ℕ) × SettlesNext s u number → IsSettling epoch next fewer old u
+pub settling_step : (epoch done next left fewer : ℕ) (old s u : Segments) → next ≡ suc done → left ≡ suc fewer → IsSettling epoch done left old s →
+    (number : ℕ) × SettlesNext s u number → IsSettling epoch next fewer old u
 settling_step epoch done next left fewer old s u n l h found =
     subst (λ (k : ℕ). IsSettling epoch k fewer old u) (sym n)
     (settling_next epoch done fewer found.0 old s u (subst (λ (k : ℕ). IsSettling epoch done k old s) l h) found.1)

@@ -22,7 +22,8 @@ count_both xs ys = sum_by-append (λ (t : Segment). one_if (is_sought Sweeping t
 pub count_cut : (n : ℕ) (xs : List Segment) → sought_count Sweeping xs ≡ sought_count Sweeping (take n xs) + sought_count Sweeping (drop n xs)
 count_cut n xs = ap (λ (l : List Segment). sought_count Sweeping l) (sym (take-append-drop n xs)) ∙ count_both (take n xs) (drop n xs)
 
-pub count_more : (xs : List Segment) (n : ℕ) → n < length xs → sought_count Sweeping (take (n + 1) xs) ≡ sought_count Sweeping (take n xs) + one_if (is_sought Sweeping (nth xs n))
+pub count_more : (xs : List Segment) (n : ℕ) → n < length xs →
+    sought_count Sweeping (take (n + 1) xs) ≡ sought_count Sweeping (take n xs) + one_if (is_sought Sweeping (nth xs n))
 count_more xs n lt =
     let both : sought_count Sweeping (take (n + 1) xs) ≡ sought_count Sweeping (take n xs) + sought_count Sweeping (nth xs n ∷ []) =
     ap (λ (l : List Segment). sought_count Sweeping l) (take_more xs n (free_segment 0) lt) ∙ count_both (take n xs) (nth xs n ∷ []) in
@@ -58,13 +59,15 @@ pub record SweptSo (epoch i : ℕ) (was now : List Segment) : Type 0 where
 pub swept_start : (epoch : ℕ) (was : List Segment) → SweptSo epoch 0 was was
 swept_start epoch was = record { size = refl; each = λ j lt. absurd (omega (arith, lt)); rest = λ j ge. refl }
 
-pub swept_next : (epoch i : ℕ) (was now : List Segment) (y : Segment) → i < length now → SweptSo epoch i was now → SweptWaiting epoch (nth now i) y → SweptSo epoch (i + 1) was (set now i y)
+pub swept_next : (epoch i : ℕ) (was now : List Segment) (y : Segment) → i < length now → SweptSo epoch i was now →
+    SweptWaiting epoch (nth now i) y → SweptSo epoch (i + 1) was (set now i y)
 swept_next epoch i was now y inside h s = record {
   size = length-set now i y ∙ h.size;
   each = λ j lt. elim (cases_eq j i) [
     | inl e ↦
         subst (λ (k : ℕ). SweptWaiting epoch (nth was k) (nth (set now i y) k)) (sym e)
-        (subst (λ (x : Segment). SweptWaiting epoch (nth was i) x) (sym (nth-set_same now i y inside)) (subst (λ (x : Segment). SweptWaiting epoch x y) (h.rest i (omega arith)) s))
+        (subst (λ (x : Segment). SweptWaiting epoch (nth was i) x) (sym (nth-set_same now i y inside)) (subst (λ (x : Segment).
+        SweptWaiting epoch x y) (h.rest i (omega arith)) s))
     | inr ne ↦ subst (λ (x : Segment). SweptWaiting epoch (nth was j) x) (sym (nth-set_other now i j y ne)) (h.each j (omega (arith, lt, ne)))
   ];
   rest = λ j ge. nth-set_other now i j y (λ e. omega (arith, e, ge)) ∙ h.rest j (omega (arith, ge));
@@ -88,16 +91,19 @@ swept_both epoch a b c d x y =
         | inl low ↦
             let was : nth (a ++ b) i ≡ nth a i = get_or_append_left a b (free_segment 0) i low in
             let now : nth (c ++ d) i ≡ nth c i = get_or_append_left c d (free_segment 0) i (omega (arith, low, x.size)) in
-            subst (λ (t : Segment). SweptWaiting epoch t (nth (c ++ d) i)) (sym was) (subst (λ (t : Segment). SweptWaiting epoch (nth a i) t) (sym now) (x.each i low))
+            subst (λ (t : Segment). SweptWaiting epoch t (nth (c ++ d) i)) (sym was) (subst (λ (t : Segment).
+            SweptWaiting epoch (nth a i) t) (sym now) (x.each i low))
         | inr high ↦
             let was : nth (a ++ b) i ≡ nth b (i - length a) = get_or-append_right a b (length a) i (free_segment 0) refl high in
             let now : nth (c ++ d) i ≡ nth d (i - length a) = get_or-append_right c d (length a) i (free_segment 0) x.size high in
-            subst (λ (t : Segment). SweptWaiting epoch t (nth (c ++ d) i)) (sym was) (subst (λ (t : Segment). SweptWaiting epoch (nth b (i - length a)) t) (sym now) (y.each (i - length a) (omega (arith, lt, all, high))))
+            subst (λ (t : Segment). SweptWaiting epoch t (nth (c ++ d) i)) (sym was) (subst (λ (t : Segment).
+            SweptWaiting epoch (nth b (i - length a)) t) (sym now) (y.each (i - length a) (omega (arith, lt, all, high))))
       ];
     }
 
 -- and others behind them that stay
-pub first_from : (epoch end count : ℕ) (was new : List Segment) → end ≤ length was → sought_count Sweeping (take end was) ≡ count → AllSwept epoch (take end was) new → FirstSwept epoch count was (new ++ drop end was)
+pub first_from : (epoch end count : ℕ) (was new : List Segment) → end ≤ length was → sought_count Sweeping (take end was) ≡ count →
+    AllSwept epoch (take end was) new → FirstSwept epoch count was (new ++ drop end was)
 first_from epoch end count was new within counted h =
     let size : length (take end was) ≡ end = length-take-le end was within in
     let long : length new ≡ end = h.size ∙ size in
@@ -111,7 +117,8 @@ first_from epoch end count was new within counted h =
       below = λ i lt.
           let old : nth (take end was) i ≡ nth was i = get_or-take end was i (free_segment 0) lt in
           let now : nth (new ++ drop end was) i ≡ nth new i = get_or_append_left new (drop end was) (free_segment 0) i (omega (arith, lt, long)) in
-          subst (λ (t : Segment). SweptWaiting epoch (nth was i) t) (sym now) (subst (λ (t : Segment). SweptWaiting epoch t (nth new i)) old (h.each i (omega (arith, lt, size))));
+          subst (λ (t : Segment). SweptWaiting epoch (nth was i) t) (sym now) (subst (λ (t : Segment).
+          SweptWaiting epoch t (nth new i)) old (h.each i (omega (arith, lt, size))));
       above = λ i ge.
           let split : end + (i - end) ≡ i = omega (arith, ge) in
           get_or-append_right new (drop end was) end i (free_segment 0) long ge
@@ -120,7 +127,11 @@ first_from epoch end count was new within counted h =
     }
 
 -- as the code cuts them
-pub swept_parts : (epoch middle end lower_count upper_count count : ℕ) (was front back low high low_new high_new : List Segment) → front ≡ take end was → back ≡ drop end was → low ≡ take middle front → high ≡ drop middle front → middle ≤ end → end ≤ length was → sought_count Sweeping (take (middle - 0) (drop 0 was)) ≡ lower_count → sought_count Sweeping (take (end - middle) (drop middle was)) ≡ upper_count → lower_count + upper_count ≡ count → AllSwept epoch low low_new → AllSwept epoch high high_new → FirstSwept epoch count was ((low_new ++ high_new) ++ back)
+pub swept_parts : (epoch middle end lower_count upper_count count : ℕ) (was front back low high low_new high_new : List Segment) →
+    front ≡ take end was → back ≡ drop end was → low ≡ take middle front → high ≡ drop middle front → middle ≤ end → end ≤ length was →
+    sought_count Sweeping (take (middle - 0) (drop 0 was)) ≡ lower_count →
+    sought_count Sweeping (take (end - middle) (drop middle was)) ≡ upper_count → lower_count + upper_count ≡ count → AllSwept epoch low low_new →
+    AllSwept epoch high high_new → FirstSwept epoch count was ((low_new ++ high_new) ++ back)
 swept_parts epoch middle end lower_count upper_count count was front back low high low_new high_new f b l h order within lower upper total x y =
     let both : AllSwept epoch (low ++ high) (low_new ++ high_new) = swept_both epoch low high low_new high_new x y in
     let whole : low ++ high ≡ take end was = (λ i. l i ++ h i) ∙ take-append-drop middle front ∙ f in
@@ -141,23 +152,27 @@ none_counted_below xs n none within = elim (cases_eq (sought_count Sweeping (tak
   | inr ne ↦ absurd (none_below_none xs n none within (omega (arith, ne)))
 ]
 
-pub count_behind : (n count : ℕ) (xs back : List Segment) → back ≡ drop n xs → n ≤ length xs → NoneBelow Sweeping xs n → count ≤ sought_count Sweeping xs → count ≤ sought_count Sweeping back
+pub count_behind : (n count : ℕ) (xs back : List Segment) → back ≡ drop n xs → n ≤ length xs → NoneBelow Sweeping xs n →
+    count ≤ sought_count Sweeping xs → count ≤ sought_count Sweeping back
 count_behind n count xs back b within none enough =
     let cut = count_cut n xs in
     let low = none_counted_below xs n none within in
     let same : sought_count Sweeping back ≡ sought_count Sweeping (drop n xs) = ap (λ (l : List Segment). sought_count Sweeping l) b in
     omega (arith, cut, low, same, enough)
 
-pub first_behind : (epoch count n : ℕ) (was front back new : List Segment) → front ≡ take n was → back ≡ drop n was → n ≤ length was → NoneBelow Sweeping was n → FirstSwept epoch count back new → FirstSwept epoch count was (front ++ new)
+pub first_behind : (epoch count n : ℕ) (was front back new : List Segment) → front ≡ take n was → back ≡ drop n was → n ≤ length was →
+    NoneBelow Sweeping was n → FirstSwept epoch count back new → FirstSwept epoch count was (front ++ new)
 first_behind epoch count n was front back new f b within none h =
     let size : length front ≡ n = ap (λ (xs : List Segment). length xs) f ∙ length-take-le n was within in
     let left : length back ≡ length was - n = ap (λ (xs : List Segment). length xs) b ∙ length-drop n was in
     let all : length (front ++ new) ≡ length front + length new = length-append front new in
     let cut : take (n + h.end) was ≡ take n was ++ take h.end back = take-add n h.end was ∙ ap (λ (xs : List Segment). take n was ++ take h.end xs) (sym b) in
-    let sum : sought_count Sweeping (take (n + h.end) was) ≡ sought_count Sweeping (take n was) + sought_count Sweeping (take h.end back) = ap (λ (xs : List Segment). sought_count Sweeping xs) cut ∙ count_both (take n was) (take h.end back) in
+    let sum : sought_count Sweeping (take (n + h.end) was) ≡ sought_count Sweeping (take n was) + sought_count Sweeping (take h.end back) =
+    ap (λ (xs : List Segment). sought_count Sweeping xs) cut ∙ count_both (take n was) (take h.end back) in
     let low = none_counted_below was n none within in
     let here : (i : ℕ) → i < n → nth (front ++ new) i ≡ nth was i = λ i lt.
-    get_or_append_left front new (free_segment 0) i (omega (arith, lt, size)) ∙ ap (λ (xs : List Segment). nth xs i) f ∙ get_or-take n was i (free_segment 0) lt in
+    get_or_append_left front new (free_segment 0) i (omega (arith, lt, size)) ∙ ap (λ (xs : List Segment). nth xs i) f ∙
+    get_or-take n was i (free_segment 0) lt in
     let there : (i : ℕ) → n ≤ i → nth (front ++ new) i ≡ nth new (i - n) = λ i ge. get_or-append_right front new n i (free_segment 0) size ge in
     let before : (i : ℕ) → n ≤ i → nth back (i - n) ≡ nth was i = λ i ge.
     let split : n + (i - n) ≡ i = omega (arith, ge) in
@@ -169,7 +184,8 @@ first_behind epoch count n was front back new f b within none h =
       size = omega (arith, all, size, h.size, left, within);
       below = λ i lt. elim (cases_lt i n) [
         | inl less ↦ ((λ w. absurd (none i less w)), (λ _. here i less))
-        | inr ge ↦ subst (λ (t : Segment). SweptWaiting epoch (nth was i) t) (sym (there i ge)) (subst (λ (t : Segment). SweptWaiting epoch t (nth new (i - n))) (before i ge) (h.below (i - n) (omega (arith, lt, ge))))
+        | inr ge ↦ subst (λ (t : Segment). SweptWaiting epoch (nth was i) t) (sym (there i ge)) (subst (λ (t : Segment).
+            SweptWaiting epoch t (nth new (i - n))) (before i ge) (h.below (i - n) (omega (arith, lt, ge))))
       ];
       above = λ i ge. there i (omega (arith, ge)) ∙ h.above (i - n) (omega (arith, ge)) ∙ before i (omega (arith, ge));
     }

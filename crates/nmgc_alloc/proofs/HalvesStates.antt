@@ -84,7 +84,11 @@ current_same m c x y s k h = (sym s ∙ h.0, sym k ∙ h.1)
 pub same_leads : (xs ys : List Segment) (current : List ℕ) → SameStates xs ys → Leads xs current → Leads ys current
 same_leads xs ys current h leads = record {
   pairs = leads.pairs;
-  owned = λ m c n mutator class low is. leads.owned m c n mutator class (omega (arith, low, h.size)) (current_same m c (nth xs n) (nth ys n) (h.state n) (h.class n) is);
+  owned = λ m c n mutator class low is. leads.owned m c n mutator class (omega (
+    arith,
+    low,
+    h.size,
+  )) (current_same m c (nth xs n) (nth ys n) (h.state n) (h.class n) is);
 }
 
 -- and each is as a segment has to be
@@ -102,7 +106,9 @@ swept_member layout epoch x y h m = elim (waits_or_not x) [
   | inr n ↦ subst (λ (t : Segment). IsMember layout t) (sym (h.1 n)) m
 ]
 
-pub first_segments : (s : Segments) (epoch count filled : ℕ) (new : List Segment) (current : List ℕ) (tallies : List Tally) → FirstSwept epoch count s.segments new → IsSegments s × Leads s.segments current × Tells s.segments tallies filled → IsSegments (record s { segments = new }) × Leads new current × Tells new tallies filled
+pub first_segments : (s : Segments) (epoch count filled : ℕ) (new : List Segment) (current : List ℕ) (tallies : List Tally) →
+    FirstSwept epoch count s.segments new → IsSegments s × Leads s.segments current × Tells s.segments tallies filled →
+    IsSegments (record s { segments = new }) × Leads new current × Tells new tallies filled
 first_segments s epoch count filled new current tallies h sound =
     let same : SameStates s.segments new = first_same epoch count s.segments new h in
     let after : Segments = record s { segments = new } in
@@ -125,14 +131,20 @@ first_segments s epoch count filled new current tallies h sound =
     )
 
 -- as the code's loan of them leaves the list
-pub first_to : (s : Segments) (epoch count filled len : ℕ) (slice new : List Segment) (current : List ℕ) (tallies : List Tally) → slice ≡ s.segments → length slice ≡ len → FirstSwept epoch count slice new → IsSegments s × Leads s.segments current × Tells s.segments tallies filled → IsSegments (record s { segments = take len (new ++ drop (length new) s.segments) }) × Leads (take len (new ++ drop (length new) s.segments)) current × Tells (take len (new ++ drop (length new) s.segments)) tallies filled
+pub first_to : (s : Segments) (epoch count filled len : ℕ) (slice new : List Segment) (current : List ℕ) (tallies : List Tally) →
+    slice ≡ s.segments → length slice ≡ len → FirstSwept epoch count slice new → IsSegments s × Leads s.segments current ×
+    Tells s.segments tallies filled → IsSegments (record s { segments = take len (new ++ drop (length new) s.segments) }) ×
+    Leads (take len (new ++ drop (length new) s.segments)) current × Tells (take len (new ++ drop (length new) s.segments)) tallies filled
 first_to s epoch count filled len slice new current tallies is long h sound =
     let here : FirstSwept epoch count s.segments new = subst (λ (xs : List Segment). FirstSwept epoch count xs new) is h in
     let whole : take len (new ++ drop (length new) s.segments) ≡ new = take_at new (drop (length new) s.segments) len (h.size ∙ long) in
-    subst (λ (xs : List Segment). IsSegments (record s { segments = xs }) × Leads xs current × Tells xs tallies filled) (sym whole) (first_segments s epoch count filled new current tallies here sound)
+    subst (λ (xs : List Segment). IsSegments (record s { segments = xs }) × Leads xs current ×
+    Tells xs tallies filled) (sym whole) (first_segments s epoch count filled new current tallies here sound)
 
 -- where the search for one that waits begins
-pub search_begins : (s now : Segments) (at filled : ℕ) (t : Tally) (slice : List Segment) (current : List ℕ) (tallies : List Tally) → s ≡ now → IsSegments s × Leads s.segments current × Tells s.segments tallies filled → at ≡ tally_place Sweeping → t ≡ slice_index_or tallies at t → slice ≡ s.segments → (t.from ≤ length slice) × NoneBelow Sweeping slice t.from
+pub search_begins : (s now : Segments) (at filled : ℕ) (t : Tally) (slice : List Segment) (current : List ℕ) (tallies : List Tally) → s ≡ now →
+    IsSegments s × Leads s.segments current × Tells s.segments tallies filled → at ≡ tally_place Sweeping → t ≡ slice_index_or tallies at t →
+    slice ≡ s.segments → (t.from ≤ length slice) × NoneBelow Sweeping slice t.from
 search_begins s now at filled t slice current tallies seen h place read is =
     let found = tally_read Sweeping tallies at t tt h.2.kinds place read in
     let told : IsTally Sweeping s.segments t = subst (λ (k : Tally). IsTally Sweeping s.segments k) found.1 (h.2.tally Sweeping tt) in

@@ -353,7 +353,10 @@ impl Segments {
         requires exists { HasNumber self.old number }
         requires block { block < block_count (nth self.old.segments number) }
         ensures answer { IsTrue result ↔ IsToMark (nth self.old.segments number) epoch block }
-        ensures value { self.new ≡ record self.old { segments = slice_set self.old.segments number (marked_if result epoch block (nth self.old.segments number)) } }
+        ensures value { self.new ≡ record self.old {
+          segments =
+              slice_set self.old.segments number (marked_if result epoch block (nth self.old.segments number));
+        } }
         ensures sound { IsSegments self.new }
     {
         let segment = &mut self.segments[number as usize];
@@ -362,7 +365,8 @@ impl Segments {
 
     // The only block that may begin there.
     fn candidate(&self, at: Address) -> Option<(u32, u32)>
-        ensures some { IfSome result (λ p. HasNumber self.now p.0 × ((number block : ℕ) → IsBlockAt self.now number block at.0 → (number ≡ p.0) × (block ≡ p.1))) }
+        ensures some { IfSome result (λ p. HasNumber self.now p.0 ×
+            ((number block : ℕ) → IsBlockAt self.now number block at.0 → (number ≡ p.0) × (block ≡ p.1))) }
         ensures none { IfNone result ((number block : ℕ) → IsBlockAt self.now number block at.0 → ⊥) }
     {
         let distance = at.0.saturating_sub(FIRST_PLACE);

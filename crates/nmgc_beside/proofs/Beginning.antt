@@ -66,14 +66,16 @@ past_lies a number block name past lies =
     none_some (name_in no_cells block) name refl (ap (λ (x : Cells). name_in x block) (sym none) ∙ lies)
 
 -- where a name lies, there is a segment
-pub lies_within : (s : Segments) (words : List ℕ) (a : AllocState) → StandsFor s words a → (number block : ℕ) (name : Name) → LiesIn a number block name → HasNumber s number
+pub lies_within : (s : Segments) (words : List ℕ) (a : AllocState) → StandsFor s words a → (number block : ℕ) (name : Name) →
+    LiesIn a number block name → HasNumber s number
 lies_within s words a stood number block name lies = elim (cases_lt number (length a.segments)) [
   | inl lt ↦ let many = stood.count in omega arith
   | inr past ↦ absurd (past_lies a number block name past lies)
 ]
 
 -- where marks are settled and no segment waits, none is of the next epoch
-pub unmarked_there : (t : RunState) (s : Segments) (words : List ℕ) → StandsFor s words t.allocation → NoneIs (IsIn stands.Sweeping) t.allocation → AreSettled t.begun s → (number block : ℕ) → HasNumber s number → mark_of (nth s.segments number) block ≡ epoch_of (t.begun + 1) → ⊥
+pub unmarked_there : (t : RunState) (s : Segments) (words : List ℕ) → StandsFor s words t.allocation → NoneIs (IsIn stands.Sweeping) t.allocation →
+    AreSettled t.begun s → (number block : ℕ) → HasNumber s number → mark_of (nth s.segments number) block ≡ epoch_of (t.begun + 1) → ⊥
 unmarked_there t s words stood none settled number block lt e =
     let state = (stood.shows number lt).state in
     let many = stood.count in
@@ -92,7 +94,13 @@ pub record IsBegun (w : World) (s : State) : Type 0 where
 
 begun_name : (w : World) (s : State) (name : Name) → IsBegun w s → IsBegun w (mark_name s name)
 begun_name w s name h = mark_cases (IsBegun w) s name
-    (λ new. record { world_is = h.world_is; owed_is = h.owed_is; pushed_is = h.pushed_is; open_yet = h.open_yet; fresh = All-append IsFresh s.queue (entry_of name ∷ []) h.fresh (All-cons IsFresh (entry_of name) [] refl (All-nil IsFresh)) })
+    (λ new. record {
+      world_is = h.world_is;
+      owed_is = h.owed_is;
+      pushed_is = h.pushed_is;
+      open_yet = h.open_yet;
+      fresh = All-append IsFresh s.queue (entry_of name ∷ []) h.fresh (All-cons IsFresh (entry_of name) [] refl (All-nil IsFresh));
+    })
     (λ old. h)
 
 begun_values : (w : World) (s : State) (values : List Value) → IsBegun w s → IsBegun w (mark_values s values)
@@ -115,7 +123,15 @@ opening_rests s world =
     let b = begun s.world in
     record {
       sound = record { world = world; rows = tt };
-      machine = record { events = []; runs = (refl, refl); open_yet = b.open_yet; world_is = b.world_is; nothing_owed = all_empty (opening s.world).owed (λ k lt. ap (λ (l : List (List Name)). names_of l k) b.owed_is ∙ none_at_first (length s.world.mutators) k) };
-      none_pushed = all_empty (opening s.world).pushed (λ k lt. ap (λ (l : List (List Name)). names_of l k) b.pushed_is ∙ none_at_first (length s.world.mutators) k);
+      machine = record {
+        events = [];
+        runs = (refl, refl);
+        open_yet = b.open_yet;
+        world_is = b.world_is;
+        nothing_owed = all_empty (opening s.world).owed (λ k lt. ap (λ (l : List (List Name)). names_of l k) b.owed_is ∙
+            none_at_first (length s.world.mutators) k);
+      };
+      none_pushed = all_empty (opening s.world).pushed (λ k lt. ap (λ (l : List (List Name)). names_of l k) b.pushed_is ∙
+          none_at_first (length s.world.mutators) k);
       fresh = b.fresh;
     }

@@ -21,18 +21,21 @@ no_rows (did m c r ∷ hs) alone = absurd alone
 no_rows (scanned entry v ∷ hs) alone = no_rows hs alone
 
 -- the machine at a stop goes on by scans alone, and is at rest again where it scanned whole objects
-pub machine_scans : (c : Cycle) (w : World) (core : State) (events : List Happening) → IsMachineAtRest c w core → IsLegal core events → AreScans events → All IsFresh (replay core events).queue → IsMachineAtRest c w (replay core events)
+pub machine_scans : (c : Cycle) (w : World) (core : State) (events : List Happening) → IsMachineAtRest c w core → IsLegal core events →
+    AreScans events → All IsFresh (replay core events).queue → IsMachineAtRest c w (replay core events)
 machine_scans c w core events h legal scans fresh =
     let none : rows_in events ≡ [] = no_rows events scans in
     let t : State = replay core events in
     let l : Leaves core t = leaves_round core events in
     let m = h.machine in
-    let runs : Runs (opening c.snapshot) (m.events ++ map event_of events) (c.rows ++ rows_in events) t = runs_then (opening c.snapshot) core t m.events (map event_of events) c.rows (rows_in events) m.runs (round_runs core events legal) in
+    let runs : Runs (opening c.snapshot) (m.events ++ map event_of events) (c.rows ++ rows_in events) t =
+    runs_then (opening c.snapshot) core t m.events (map event_of events) c.rows (rows_in events) m.runs (round_runs core events legal) in
     record {
       sound = h.sound;
       machine = record {
         events = m.events ++ map event_of events;
-        runs = subst (λ (rows : List Row). Runs (opening c.snapshot) (m.events ++ map event_of events) rows t) (ap (λ (x : List Row). c.rows ++ x) none ∙ append-nil c.rows) runs;
+        runs = subst (λ (rows : List Row). Runs (opening c.snapshot) (m.events ++ map event_of events) rows t) (ap (λ (x : List Row). c.rows ++
+            x) none ∙ append-nil c.rows) runs;
         open_yet = l.is_closed ∙ m.open_yet;
         world_is = same_world core events none ∙ m.world_is;
         nothing_owed = subst AreEmpty (sym (same_owed core events none)) m.nothing_owed;

@@ -43,7 +43,8 @@ use Rattle.nmgc_run.specs.laws.Tracks.{tracked_before, tracked_itself}
 use Rattle.nmgc_beside.specs.Drops.{FreesUntracked, RoundFreesUntracked, StopFreesUntracked, FreeGrows, DropsFreed, SweptHoldsAfterRound, SweptHoldsAtStop, DropKeepsRound}
 
 -- places, each of which is to stay or to go, without those that go
-split_places : (P Q : Place → Type 0) (places : List Place) → ((p : Place) → Contains places p → P p ⊎ Q p) → (fewer : List Place) × ((p : Place) → Contains fewer p → Contains places p × P p) × ((p : Place) → Contains places p → Contains fewer p ⊎ Q p)
+split_places : (P Q : Place → Type 0) (places : List Place) → ((p : Place) → Contains places p → P p ⊎ Q p) → (fewer : List Place) ×
+    ((p : Place) → Contains fewer p → Contains places p × P p) × ((p : Place) → Contains places p → Contains fewer p ⊎ Q p)
 split_places P Q [] decide = ([], λ p d. absurd (nothing_in p d), λ p d. absurd (nothing_in p d))
 split_places P Q (x ∷ places) decide =
     let r = split_places P Q places (λ p d. decide p (contains_tail x places p d)) in
@@ -69,7 +70,9 @@ split_places P Q (x ∷ places) decide =
       )
     ]
 
-module _ (layout : Layout) (earlier : List World) (began w : World) (allocation swept : AllocState) (f : FreesUntracked earlier began w allocation swept) (places : List Place) (Born : Place → Type 0) (sound : (p : Place) → Contains places p → IsPlaceAtStop layout allocation p ⊎ Born p) where
+module _ (layout : Layout) (earlier : List World) (began w : World) (allocation swept : AllocState)
+    (f : FreesUntracked earlier began w allocation swept) (places : List Place) (Born : Place → Type 0) (sound : (p : Place) → Contains places p →
+    IsPlaceAtStop layout allocation p ⊎ Born p) where
   -- a place that stays, and one that goes
   abbrev Stays : Place → Type 0
   Stays p = IsPlaceAtStop layout swept p ⊎ Born p
@@ -83,7 +86,13 @@ module _ (layout : Layout) (earlier : List World) (began w : World) (allocation 
       let was = f.lies b.number b.block name e in
       let both : Some name ≡ Some p.name = sym was.0 ∙ b.lies in
       let is : name ≡ p.name = cc in
-      inl (inl (inr (record { number = b.number; block = b.block; lies = e ∙ both; at = b.at ∙ ap (λ (class : ℕ). block_place layout b.number class b.block) (sym was.1) })))
+      inl (inl (inr (record {
+        number = b.number;
+        block = b.block;
+        lies = e ∙ both;
+        at = b.at ∙
+            ap (λ (class : ℕ). block_place layout b.number class b.block) (sym was.1);
+      })))
 
   decide : (p : Place) → Contains places p → Stays p ⊎ Goes p
   decide p d = elim (sound p d) [
@@ -109,7 +118,8 @@ module _ (layout : Layout) (earlier : List World) (began w : World) (allocation 
   not_gone p gone has =
       let b = gone.0 in
       let same = f.once has.0 has.1 b.number b.block p.name (f.lies has.0 has.1 p.name has.2).0 b.lies in
-      let there : LiesIn swept b.number b.block p.name = subst (λ (n : ℕ). LiesIn swept n b.block p.name) same.0 (subst (λ (k : ℕ). LiesIn swept has.0 k p.name) same.1 has.2) in
+      let there : LiesIn swept b.number b.block p.name = subst (λ (n : ℕ).
+      LiesIn swept n b.block p.name) same.0 (subst (λ (k : ℕ). LiesIn swept has.0 k p.name) same.1 has.2) in
       none_some (name_in (cells swept b.number) b.block) p.name gone.1 there
 
   keep_if : (p : Place) → Contains places p → (Goes p → ⊥) → Contains fewer p
@@ -132,19 +142,22 @@ module _ (layout : Layout) (earlier : List World) (began w : World) (allocation 
   back : (p : Place) → IsPlaceAtStop layout swept p → IsPlaceAtStop layout allocation p
   back p h = elim h [
     | inl g ↦ inl g
-    | inr b ↦ let was = f.lies b.number b.block p.name b.lies in inr (record { number = b.number; block = b.block; lies = was.0; at = b.at ∙ ap (λ (class : ℕ). block_place layout b.number class b.block) was.1 })
+    | inr b ↦ let was = f.lies b.number b.block p.name b.lies in
+        inr (record { number = b.number; block = b.block; lies = was.0; at = b.at ∙ ap (λ (class : ℕ). block_place layout b.number class b.block) was.1 })
   ]
 
   keep_left : (p : Place) → Contains places p → IsPlaceAtStop layout swept p → Contains fewer p
   keep_left p d h = elim h [
-    | inl g ↦ keep_if p d (λ gone. f.shared gone.0.number gone.0.block (subst (λ (n : Name). LiesIn allocation gone.0.number gone.0.block n) (ap (λ (q : Place). q.name) g) gone.0.lies))
+    | inl g ↦ keep_if p d (λ gone. f.shared gone.0.number gone.0.block (subst (λ (n : Name).
+        LiesIn allocation gone.0.number gone.0.block n) (ap (λ (q : Place). q.name) g) gone.0.lies))
     | inr b ↦ keep_if p d (λ gone. not_gone p gone (b.number, b.block, b.lies))
   ]
 
   drops : DropsPlaces earlier NoNode places fewer w
   drops = record { old = λ p d. (is_old p d).0; tracked = keep_tracked; free = f.free; kept = λ name n before t k. absurd k }
 
-  module _ (words : List ℕ) (old new : Segments) (ends : List MutatorEnd) (h : HeapStandsFor layout earlier places w allocation words old ends) (segments : IsSegments old) (stands : StandsFor new words swept) (same_layout : new.layout ≡ layout) where
+  module _ (words : List ℕ) (old new : Segments) (ends : List MutatorEnd) (h : HeapStandsFor layout earlier places w allocation words old ends)
+      (segments : IsSegments old) (stands : StandsFor new words swept) (same_layout : new.layout ≡ layout) where
     fit : FitBlocks w swept
     fit number block name node lies there =
         let was = f.lies number block name lies in
@@ -179,7 +192,8 @@ module _ (layout : Layout) (earlier : List World) (began w : World) (allocation 
       young = λ p d up. keep_if p d (λ gone. let below = low p gone.0 in omega (arith, up, below));
     }
 
-    listed : (seen : World) (weaks : List Place) → ListsWeaks layout places seen weaks → ((p : Place) → Contains weaks p → HasBlock swept p.name) → ListsWeaks layout fewer seen weaks
+    listed : (seen : World) (weaks : List Place) → ListsWeaks layout places seen weaks → ((p : Place) → Contains weaks p → HasBlock swept p.name) →
+        ListsWeaks layout fewer seen weaks
     listed seen weaks was left = record {
       ordered = was.ordered;
       sound = λ p d. let one = was.sound p d in (keep_if p one.0 (λ gone. not_gone p gone (left p d)), one.1, one.2);
@@ -193,10 +207,15 @@ swept_holds_after_round layout s t swept places words old new ends weaks h segme
       fewer layout earlier s.world t.world t.allocation swept f places Born h.sound,
       record {
         sound = λ p d. (is_old layout earlier s.world t.world t.allocation swept f places Born h.sound p d).1;
-        old = λ p is. keep_left layout earlier s.world t.world t.allocation swept f places Born h.sound p (h.old p (back layout earlier s.world t.world t.allocation swept f places Born h.sound p is)) is;
-        born = λ name young. let b = h.born name young in (b.0, keep_unknown layout earlier s.world t.world t.allocation swept f places Born h.sound (record { at = b.0; name = name }) b.1 young.0);
+        old = λ p is. keep_left layout earlier s.world t.world t.allocation swept f places Born h.sound p
+            (h.old p (back layout earlier s.world t.world t.allocation swept f places Born h.sound p is)) is;
+        born = λ name young. let b = h.born name young in (
+          b.0,
+          keep_unknown layout earlier s.world t.world t.allocation swept f places Born h.sound (record { at = b.0; name = name }) b.1 young.0,
+        );
         holds = holds_then layout earlier s.world t.world t.allocation swept f places Born h.sound words old new ends h.holds segments stands same;
-        listed = listed layout earlier s.world t.world t.allocation swept f places Born h.sound words old new ends h.holds segments stands same s.world weaks h.listed left;
+        listed = listed layout earlier s.world t.world t.allocation swept f places Born h.sound words old new ends h.holds segments stands same
+            s.world weaks h.listed left;
       },
       dropped layout earlier s.world t.world t.allocation swept f places Born h.sound words old new ends h.holds segments stands same,
     )
@@ -210,10 +229,12 @@ swept_holds_at_stop layout s swept words old new ends weaks h segments f stands 
         places = fewer layout earlier s.world s.world s.allocation swept f h.places None_born sound;
         all = λ p. (
           λ d. elim ((is_old layout earlier s.world s.world s.allocation swept f h.places None_born sound p d).1) [ inl is ↦ is | inr none ↦ absurd none ],
-          λ is. keep_left layout earlier s.world s.world s.allocation swept f h.places None_born sound p ((h.all p).1 (back layout earlier s.world s.world s.allocation swept f h.places None_born sound p is)) is,
+          λ is. keep_left layout earlier s.world s.world s.allocation swept f h.places None_born sound p
+              ((h.all p).1 (back layout earlier s.world s.world s.allocation swept f h.places None_born sound p is)) is,
         );
         holds = holds_then layout earlier s.world s.world s.allocation swept f h.places None_born sound words old new ends h.holds segments stands same;
-        listed = listed layout earlier s.world s.world s.allocation swept f h.places None_born sound words old new ends h.holds segments stands same s.world weaks h.listed left;
+        listed = listed layout earlier s.world s.world s.allocation swept f h.places None_born sound words old new ends h.holds segments stands same
+            s.world weaks h.listed left;
       },
       dropped layout earlier s.world s.world s.allocation swept f h.places None_born sound words old new ends h.holds segments stands same,
     )
@@ -236,12 +257,14 @@ drop_keeps_round layout earlier w places less nurseries recorded weaks d n order
 -- a sweep leaves names where they lay
 
 module _ (K : Name → Type 0) where
-  one_left : (a b : AllocState) (number : ℕ) (s : Sweeps a b number (HoldsKept K a number)) (k block : ℕ) (name : Name) → LiesIn b k block name → LiesIn a k block name × ((cells b k).class ≡ (cells a k).class)
+  one_left : (a b : AllocState) (number : ℕ) (s : Sweeps a b number (HoldsKept K a number)) (k block : ℕ) (name : Name) → LiesIn b k block name →
+      LiesIn a k block name × ((cells b k).class ≡ (cells a k).class)
   one_left a b number s k block name lies = (
     swept_back a b number (HoldsKept K a number) s k block name lies,
     elim (cases_eq k number) [
       | inl e ↦ subst (λ (i : ℕ). (cells b i).class ≡ (cells a i).class) (sym e) (elim s.swept [
-        | inl none ↦ absurd (none_some (name_in (cells b number) block) name (ap (λ (c : Cells). name_in c block) none.1) (ap (λ (i : ℕ). name_in (cells b i) block) (sym e) ∙ lies))
+        | inl none ↦ absurd (none_some (name_in (cells b number) block) name (ap (λ (c : Cells). name_in c block) none.1) (ap (λ (i : ℕ).
+            name_in (cells b i) block) (sym e) ∙ lies))
         | inr (inl full) ↦ ap (λ (c : Cells). c.class) full.1
         | inr (inr some) ↦ ap (λ (c : Cells). c.class) some.2
       ])
@@ -249,8 +272,10 @@ module _ (K : Name → Type 0) where
     ],
   )
 
-  all_left : (a b : AllocState) (numbers : List ℕ) → SweepsEach K a numbers b → (k block : ℕ) (name : Name) → LiesIn b k block name → LiesIn a k block name × ((cells b k).class ≡ (cells a k).class)
-  all_left a b [] e k block name lies = subst (λ (x : AllocState). LiesIn x k block name → LiesIn a k block name × ((cells x k).class ≡ (cells a k).class)) (sym e) (λ l. (l, refl)) lies
+  all_left : (a b : AllocState) (numbers : List ℕ) → SweepsEach K a numbers b → (k block : ℕ) (name : Name) → LiesIn b k block name →
+      LiesIn a k block name × ((cells b k).class ≡ (cells a k).class)
+  all_left a b [] e k block name lies = subst (λ (x : AllocState). LiesIn x k block name → LiesIn a k block name ×
+      ((cells x k).class ≡ (cells a k).class)) (sym e) (λ l. (l, refl)) lies
   all_left a b (number ∷ numbers) h k block name lies =
       let later = all_left h.0 b numbers h.2 k block name lies in
       let now = one_left a h.0 number h.1 k block name later.0 in
@@ -259,7 +284,8 @@ module _ (K : Name → Type 0) where
 -- and no free segment is lost
 one_frees : (a b : AllocState) (number : ℕ) (K : ℕ → Type 0) → Sweeps a b number K → count_in stands.Free a ≤ count_in stands.Free b
 one_frees a b number K s =
-    let set_is : sum_by free (set a.segments number (cells b number)) + free (cells a number) ≡ sum_by free a.segments + free (cells b number) = sum_by-set free a.segments number (cells b number) no_cells s.least.is.0 in
+    let set_is : sum_by free (set a.segments number (cells b number)) + free (cells a number) ≡ sum_by free a.segments + free (cells b number) =
+    sum_by-set free a.segments number (cells b number) no_cells s.least.is.0 in
     let none : free (cells a number) ≡ 0 = ap (λ (state : Stands). cond (is state stands.Free) 1 0) s.least.is.1 in
     let new : count_in stands.Free b ≡ sum_by free (set a.segments number (cells b number)) = ap (λ (x : AllocState). sum_by free x.segments) s.others in
     omega (arith, set_is, none, new)
@@ -291,9 +317,11 @@ round_frees plan run c closed replies rows t runnable i round is =
     let can = (rounds_are_sound plan s t replies rows sound round).can in
     let world : t.world ≡ replayed s.world rows = ap (λ (x : State). x.world) round.rest in
     let cycle : IsInCycle (sweeping c closed) s.world s.allocation = subst (λ (p : Progress). IsInCycle p s.world s.allocation) is sound.cycle in
-    let sweeps : SweepsBeside plan.config.quota (sweeping c closed) s.allocation t.allocation = subst (λ (p : Progress). SweepsBeside plan.config.quota p s.allocation t.allocation) is round.swept in
+    let sweeps : SweepsBeside plan.config.quota (sweeping c closed) s.allocation t.allocation =
+    subst (λ (p : Progress). SweepsBeside plan.config.quota p s.allocation t.allocation) is round.swept in
     let wide : (name : Name) → IsTracked t.world (s.world ∷ []) name → IsSome (node_of s.world name) → IsTracked s.world [] name = λ name u there.
-    tracked_itself s.world name (tracked_before s.world (s.world ∷ []) rows sound.world can name (subst (λ (x : World). IsTracked x (s.world ∷ []) name) world u) there)
+    tracked_itself s.world name (tracked_before s.world (s.world ∷
+    []) rows sound.world can name (subst (λ (x : World). IsTracked x (s.world ∷ []) name) world u) there)
     in
     record {
       once = sound.sound_blocks.once;
@@ -307,7 +335,8 @@ round_frees plan run c closed replies rows t runnable i round is =
       free = λ e name n before d u was held. elim (contains_cases s.world [] e d) [
         | inl same ↦
             let now : node_of s.world name ≡ Some before = ap (λ (x : World). node_of x name) same ∙ was in
-            free_tracked t.world s.world (s.world ∷ []) name before n (contains_head s.world []) (tracked_wide s.world name (wide name u (some_of (node_of s.world name) before now))) now held
+            free_tracked t.world s.world (s.world ∷
+            []) name before n (contains_head s.world []) (tracked_wide s.world name (wide name u (some_of (node_of s.world name) before now))) now held
         | inr none ↦ absurd (nothing_in e none)
       ];
     }

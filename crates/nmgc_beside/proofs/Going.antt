@@ -16,7 +16,14 @@ use Rattle.nmgc_round.specs.Events.{Happening, did, scanned, event_of, replay, I
 -- one run after another
 pub runs_then : (s t u : State) (es fs : List Event) (rows more : List Row) → Runs s es rows t → Runs t fs more u → Runs s (es ++ fs) (rows ++ more) u
 runs_then s t u [] fs rows more a b = subst (λ (l : List Row). Runs s fs (l ++ more) u) (sym a.0) (subst (λ (x : State). Runs x fs more u) a.1 b)
-runs_then s t u (e ∷ es) fs rows more (done, next, rest, first, is, later) b = (done, next, rest ++ more, first, ap (λ (l : List Row). l ++ more) is ∙ append_assoc (rows_if done e) rest more, runs_then next t u es fs rest more later b)
+runs_then s t u (e ∷ es) fs rows more (done, next, rest, first, is, later) b = (
+  done,
+  next,
+  rest ++ more,
+  first,
+  ap (λ (l : List Row). l ++ more) is ∙ append_assoc (rows_if done e) rest more,
+  runs_then next t u es fs rest more later b,
+)
 
 -- the events of a round, each of which happens
 pub round_runs : (s : State) (hs : List Happening) → IsLegal s hs → Runs s (map event_of hs) (rows_in hs) (replay s hs)
@@ -59,8 +66,13 @@ leaves_scan s (entry ∷ rest) =
 
 pub leaves_round : (s : State) (hs : List Happening) → Leaves s (replay s hs)
 leaves_round s [] = leaves_itself s
-leaves_round s (did m c r ∷ hs) = leaves_both s (after_command s m c) (replay (after_command s m c) hs) (record { snapshot = refl; pushed = refl; is_closed = refl }) (leaves_round (after_command s m c) hs)
-leaves_round s (scanned entry v ∷ hs) = leaves_both s (after_scan s s.queue) (replay (after_scan s s.queue) hs) (leaves_scan s s.queue) (leaves_round (after_scan s s.queue) hs)
+leaves_round s (did m c r ∷ hs) = leaves_both s (after_command s m c) (replay (after_command s m c) hs) (record {
+  snapshot = refl;
+  pushed = refl;
+  is_closed = refl;
+}) (leaves_round (after_command s m c) hs)
+leaves_round s (scanned entry v ∷ hs) =
+    leaves_both s (after_scan s s.queue) (replay (after_scan s s.queue) hs) (leaves_scan s s.queue) (leaves_round (after_scan s s.queue) hs)
 
 -- scans owe nothing
 owed_if : (b : Bool) (s : State) (name : Name) → (cond b (with_mark s name) s).owed ≡ s.owed

@@ -37,7 +37,8 @@ use Rattle.nmgc_beside.specs.Stays.{places_after}
 -- a place in a segment is below the nurseries
 in_segment_low : (layout : Layout) (segment at : ℕ) → InSegment layout segment at → at < nursery_place layout 0
 in_segment_low layout segment at i =
-    let up : (segment + 1) * layout.words ≤ layout.segments * layout.words = let e : segment + 1 ≤ layout.segments = let x = i.exists in omega (arith, x) in mul-le-mul_right layout.words e in
+    let up : (segment + 1) * layout.words ≤ layout.segments * layout.words =
+    let e : segment + 1 ≤ layout.segments = let x = i.exists in omega (arith, x) in mul-le-mul_right layout.words e in
     let high = i.before in
     omega (arith, high, up)
 
@@ -58,7 +59,8 @@ weak_of (Weak parts) e = (parts, refl)
 weak_of (Stack size values) e = absurd (let bad : kind.Stack ≡ kind.Weak = ap (λ (h : Header). h.kind) e in cc)
 
 -- a word that has a meaning isn't 0
-set_word : (layout : Layout) (earlier : List World) (places : List Place) (w : World) (words : List ℕ) (word : ℕ) (v : Value) → Represents layout earlier NoNode places w words → ((p : Place) → Contains places p → 1 ≤ p.at) → Means (Contains places) word v → word ≢ 0
+set_word : (layout : Layout) (earlier : List World) (places : List Place) (w : World) (words : List ℕ) (word : ℕ) (v : Value) →
+    Represents layout earlier NoNode places w words → ((p : Place) → Contains places p → 1 ≤ p.at) → Means (Contains places) word v → word ≢ 0
 set_word layout earlier places w words word value.Nil r above m e = omega arith
 set_word layout earlier places w words word (value.Number n) r above m e = omega arith
 set_word layout earlier places w words word (value.Ref name) r above m e =
@@ -66,7 +68,9 @@ set_word layout earlier places w words word (value.Ref name) r above m e =
     let is = m.1 in
     omega arith
 
-module _ (law : HeadersDiffer) (t : Stopped) (s new : Segments) (words after : List ℕ) (nurseries : List Nursery) (registers registers_then : List ℕ) (queues queues_then : List (List ℕ)) (recorded weaks : List ℕ) (moves : List Moved) (h : IsStopped t s words nurseries registers queues recorded weaks) (k : IsSettled t new after registers_then queues_then moves) where
+module _ (law : HeadersDiffer) (t : Stopped) (s new : Segments) (words after : List ℕ) (nurseries : List Nursery)
+    (registers registers_then : List ℕ) (queues queues_then : List (List ℕ)) (recorded weaks : List ℕ) (moves : List Moved)
+    (h : IsStopped t s words nurseries registers queues recorded weaks) (k : IsSettled t new after registers_then queues_then moves) where
   abbrev base : ℕ
   base = young_base s
 
@@ -90,24 +94,29 @@ module _ (law : HeadersDiffer) (t : Stopped) (s new : Segments) (words after : L
   known : (m : Moved) → Contains moves m → (node : Node) × (node_of t.world m.name ≡ Some node)
   known m c = is_some_of (node_of t.world m.name) (h.represents.named (old_place m) (k.moved m c)).known
 
-  was_object : (m : Moved) (c : Contains moves m) (node : Node) → node_of t.world m.name ≡ Some node → IsObject s.layout t.places words (old_place m) node × (node ≡ Weak None → slice_index words (m.from + HEADER_WORDS + 1) ≡ 0)
+  was_object : (m : Moved) (c : Contains moves m) (node : Node) → node_of t.world m.name ≡ Some node →
+      IsObject s.layout t.places words (old_place m) node × (node ≡ Weak None → slice_index words (m.from + HEADER_WORDS + 1) ≡ 0)
   was_object m c node is = h.represents.born (old_place m) node (k.moved m c) (in_nursery m c).1 is
 
-  pub joiners_new : (old : List Place) → ListsWeaks s.layout t.places t.world old → (m : Moved) (p : Place) → Contains moves m → Contains old p → p.name ≢ m.name
+  pub joiners_new : (old : List Place) → ListsWeaks s.layout t.places t.world old → (m : Moved) (p : Place) → Contains moves m → Contains old p →
+      p.name ≢ m.name
   joiners_new old listed m p c d same =
       let l = listed.sound p d in
       let low = in_segment_low s.layout l.2.0 p.at l.2.1 in
       let high = (h.round.young p l.0).1 (ap (λ (n : Name). node_of t.began n) same ∙ young m c) in
       omega (arith, low, high)
 
-  module _ (layout_is : new.layout ≡ s.layout) (moved : HaveMoved (young_base s) moves words after) (old list : List Place) (listed : ListsWeaks s.layout t.places t.world old) (joined : HaveJoinedList after moves old list) where
+  module _ (layout_is : new.layout ≡
+      s.layout) (moved : HaveMoved (young_base s) moves words after) (old list : List Place) (listed : ListsWeaks s.layout t.places t.world old)
+      (joined : HaveJoinedList after moves old list) where
     abbrev places : List Place
     places = places_after new moves t
 
     same_base : young_base new ≡ base
     same_base = ap (λ (l : Layout). nursery_place l 0) layout_is
 
-    copied : (m : Moved) (c : Contains moves m) (node : Node) → node_of t.world m.name ≡ Some node → Copies moved.forward words after m.from m.to (header_of node).fields
+    copied : (m : Moved) (c : Contains moves m) (node : Node) → node_of t.world m.name ≡ Some node →
+        Copies moved.forward words after m.from m.to (header_of node).fields
     copied m c node is = let o = (was_object m c node is).0 in moved.copied m (header_of node) c o.valid o.header
 
     header_then : (m : Moved) (c : Contains moves m) (node : Node) → node_of t.world m.name ≡ Some node → slice_index after m.to ≡ header_word (header_of node)
@@ -139,7 +148,8 @@ module _ (law : HeadersDiffer) (t : Stopped) (s new : Segments) (words after : L
         by_parts (Some parts) is = (parts, is)
         by_parts None is =
             let zero_ : slice_index words (m.from + HEADER_WORDS + 1) ≡ 0 = (was_object m c (Weak None) is).1 refl in
-            let then : slice_index after (m.to + HEADER_WORDS + 1) ≡ 0 = (copied m c (Weak None) is).fields 1 (omega arith) ∙ ap moved.forward zero_ ∙ moved.forwards.unset in
+            let then : slice_index after (m.to + HEADER_WORDS + 1) ≡ 0 = (copied m c (Weak None) is).fields 1 (omega arith) ∙
+            ap moved.forward zero_ ∙ moved.forwards.unset in
             let at : m.to + HEADER_WORDS + 1 ≡ m.to + (HEADER_WORDS + 1) = omega arith in
             absurd (a.value (subst (λ (i : ℕ). slice_index after i ≡ 0) at then))
 
@@ -153,14 +163,20 @@ module _ (law : HeadersDiffer) (t : Stopped) (s new : Segments) (words after : L
     -- an alive weak pointer among what moved has its words
     alive_words : (m : Moved) (c : Contains moves m) (parts : Parts) → IsAlive t.world m.name parts → IsAliveAt after m.to
     alive_words m c parts alive =
-        let tracked : IsTracked t.world t.later m.name = IsReached.start m.name (t.world, contains_head t.world t.later, IsReached.start m.name (inr (m.name, parts, alive, inl refl))) in
+        let tracked : IsTracked t.world t.later m.name = IsReached.start m.name (
+          t.world,
+          contains_head t.world t.later,
+          IsReached.start m.name (inr (m.name, parts, alive, inl refl)),
+        ) in
         let placed = k.represents.tracked m.name (Weak (Some parts)) tracked alive in
         let same = k.represents.one (record { at = placed.at; name = m.name }) (new_place m) placed.there (there m c) (inl refl) in
         let e : placed.at ≡ m.to = ap (λ (p : Place). p.at) same in
         let at : placed.at + HEADER_WORDS + 1 ≡ m.to + (HEADER_WORDS + 1) = omega arith in
         record {
           header = header_then m c (Weak (Some parts)) alive;
-          value = subst (λ (i : ℕ). slice_index after i ≢ 0) at (set_word new.layout t.later places t.world after (slice_index after (placed.at + HEADER_WORDS + 1)) parts.value k.represents above (placed.fields 1 (holds parts.value) refl));
+          value = subst (λ (i : ℕ).
+              slice_index after i ≢ 0) at (set_word new.layout t.later places t.world after (slice_index after (placed.at + HEADER_WORDS + 1))
+              parts.value k.represents above (placed.fields 1 (holds parts.value) refl));
         }
 
     lists : ListsWeaks new.layout places t.world list
@@ -169,21 +185,27 @@ module _ (law : HeadersDiffer) (t : Stopped) (s new : Segments) (words after : L
       sound = λ p c. elim (joined.from p c) [
         | inl was ↦
             let l = listed.sound p was in
-            let low = in_segment_low s.layout l.2.0 p.at l.2.1 in
-            (settled_stays (young_base new) moves t.places p l.0 (let e = same_base in omega (arith, low, e)), l.1, (l.2.0, subst (λ (y : Layout). InSegment y l.2.0 p.at) (sym layout_is) l.2.1))
+            let low = in_segment_low s.layout l.2.0 p.at l.2.1 in (
+              settled_stays (young_base new) moves t.places p l.0 (let e = same_base in omega (arith, low, e)),
+              l.1,
+              (l.2.0, subst (λ (y : Layout). InSegment y l.2.0 p.at) (sym layout_is) l.2.1),
+            )
         | inr (m, d, is, a) ↦ subst (λ (q : Place). IsListedWeak new.layout places t.world q) (sym is) (there m d, alive_then m d a, in_segment m d)
       ];
       complete = λ p l. elim (settled_cases (young_base new) moves t.places p l.0) [
-        | inl (m, d, is) ↦ subst (λ (q : Place). Contains list q) (sym is) (joined.new_join m d (alive_words m d l.1.0 (subst (λ (q : Place). IsAlive t.world q.name l.1.0) is l.1.1)))
+        | inl (m, d, is) ↦ subst (λ (q : Place). Contains list q) (sym is) (joined.new_join m d (alive_words m d l.1.0 (subst (λ (q : Place).
+            IsAlive t.world q.name l.1.0) is l.1.1)))
         | inr (was, low) ↦ joined.old_stay p (listed.complete p (was, l.1, (l.2.0, subst (λ (y : Layout). InSegment y l.2.0 p.at) layout_is l.2.1)))
       ];
     }
 
 pub joining_lists : HeadersDiffer → JoiningLists
-joining_lists law t s new words after nurseries registers registers_then queues queues_then recorded weaks moves old list h k same moved listed joined = lists law t s new words after nurseries registers registers_then queues queues_then recorded weaks moves h k same moved old list listed joined
+joining_lists law t s new words after nurseries registers registers_then queues queues_then recorded weaks moves old list h k same moved listed
+    joined = lists law t s new words after nurseries registers registers_then queues queues_then recorded weaks moves h k same moved old list listed joined
 
 pub joiners_are_new : HeadersDiffer → JoinersAreNew
-joiners_are_new law t s new words after nurseries registers registers_then queues queues_then recorded weaks moves old h k listed m p c d = joiners_new law t s new words after nurseries registers registers_then queues queues_then recorded weaks moves h k old listed m p c d
+joiners_are_new law t s new words after nurseries registers registers_then queues queues_then recorded weaks moves old h k listed m p c d =
+    joiners_new law t s new words after nurseries registers registers_then queues queues_then recorded weaks moves h k old listed m p c d
 
 -- counting
 
@@ -223,7 +245,10 @@ remove f x (y ∷ ys) c = elim (contains_cases y ys x c) [
       )
 ]
 
-step_by : (f : Place → Bool) (x : Place) (xs ys : List Place) → IsInOrder (map (λ (p : Place). p.name) (x ∷ xs)) → ((p : Place) → Contains (x ∷ xs) p → f p ≡ true → Contains ys p) → ((zs : List Place) → ((p : Place) → Contains xs p → f p ≡ true → Contains zs p) → count_by f xs ≤ count_by f zs) → (b : Bool) → f x ≡ b → count_by f (x ∷ xs) ≤ count_by f ys
+step_by : (f : Place → Bool) (x : Place) (xs ys : List Place) → IsInOrder (map (λ (p : Place). p.name) (x ∷ xs)) →
+    ((p : Place) → Contains (x ∷ xs) p → f p ≡ true → Contains ys p) →
+    ((zs : List Place) → ((p : Place) → Contains xs p → f p ≡ true → Contains zs p) → count_by f xs ≤ count_by f zs) → (b : Bool) → f x ≡ b →
+    count_by f (x ∷ xs) ≤ count_by f ys
 step_by f x xs ys order among rest false e =
     let fewer = rest ys (λ p c is. among p (contains_tail x xs p c) is) in
     let none : one_if f x ≡ 0 = ap (λ (b : Bool). let n : ℕ = cond b 1 0 in n) e in
@@ -232,15 +257,19 @@ step_by f x xs ys order among rest false e =
 step_by f x xs ys order among rest true e =
     let less : (zs : List Place) × IsLess f x ys zs = remove f x ys (among x (contains_head x xs) e) in
     let many = less.1.many in
-    let other : (p : Place) → Contains xs p → p ≢ x = λ p c same. not_before_itself x.name (subst (λ (n : Name). IsBefore x.name n) (ap (λ (q : Place). q.name) same) (in_order_first x.name (map (λ (q : Place). q.name) xs) order p.name (contains_map (λ (q : Place). q.name) xs p c))) in
+    let other : (p : Place) → Contains xs p → p ≢ x = λ p c same.
+    not_before_itself x.name (subst (λ (n : Name). IsBefore x.name n) (ap (λ (q : Place).
+    q.name) same) (in_order_first x.name (map (λ (q : Place). q.name) xs) order p.name (contains_map (λ (q : Place). q.name) xs p c))) in
     let fewer = rest less.0 (λ p c is. less.1.kept p (among p (contains_tail x xs p c) is) (other p c)) in
     let step = count_step f x xs in
     let one : one_if f x ≡ 1 = ap (λ (b : Bool). let n : ℕ = cond b 1 0 in n) e in
     omega (arith, fewer, many, step, one)
 
-fewer : (f : Place → Bool) (xs ys : List Place) → IsInOrder (map (λ (p : Place). p.name) xs) → ((p : Place) → Contains xs p → f p ≡ true → Contains ys p) → count_by f xs ≤ count_by f ys
+fewer : (f : Place → Bool) (xs ys : List Place) → IsInOrder (map (λ (p : Place). p.name) xs) →
+    ((p : Place) → Contains xs p → f p ≡ true → Contains ys p) → count_by f xs ≤ count_by f ys
 fewer f [] ys order among = omega arith
-fewer f (x ∷ xs) ys order among = step_by f x xs ys order among (λ zs in_them. fewer f xs zs (in_order_rest x.name (map (λ (p : Place). p.name) xs) order) in_them) (f x) refl
+fewer f (x ∷ xs) ys order among = step_by f x xs ys order among (λ zs in_them.
+    fewer f xs zs (in_order_rest x.name (map (λ (p : Place). p.name) xs) order) in_them) (f x) refl
 
 pub fewer_listed : FewerListed
 fewer_listed snapshot m old list order among =

@@ -49,22 +49,33 @@ none_pushed c places entries pushed none r =
     sym r.counted ∙ ap (λ (l : List Name). filter (is_pushed_in c.snapshot) l) names
 
 -- nor is any place
-none_low : (seen : Seen) → NoneRemember seen → (k : ℕ) (mutator : MutatorSeen) → slice_get seen.mutators k ≡ Some mutator → (at : ℕ) → Contains mutator.entries at → at < nursery_place seen.segments.layout 0
+none_low : (seen : Seen) → NoneRemember seen → (k : ℕ) (mutator : MutatorSeen) → slice_get seen.mutators k ≡ Some mutator → (at : ℕ) →
+    Contains mutator.entries at → at < nursery_place seen.segments.layout 0
 none_low seen nothing k mutator there at d = absurd (nothing_in at (subst (λ (l : List ℕ). Contains l at) (nothing k mutator there) d))
 
 -- a cycle begins: the marker has marked what the machine marks of the roots, and the sweeper has noted what it is to sweep
-pub cycle_is_marking : (s : State) (seen : Seen) (places : List Place) → IsWorld s.world → IsTied (next_cycle s) (cycle_begun s.allocation) seen.segments places seen.marker (opening s.world) → HasRoomToMark seen.segments seen.marker
-    → EachMutator seen (λ m mutator. weak_count s.world m seen.weaks ≤ mutator.queue.spare) → NoneRemember seen → seen.cycle.from ≡ s.number → HasNoted (next_cycle s) seen.sweeper → HasListedNothing seen.sweeper
+pub cycle_is_marking : (s : State) (seen : Seen) (places : List Place) → IsWorld s.world →
+    IsTied (next_cycle s) (cycle_begun s.allocation) seen.segments places seen.marker (opening s.world) → HasRoomToMark seen.segments seen.marker
+    → EachMutator seen (λ m mutator. weak_count s.world m seen.weaks ≤ mutator.queue.spare) → NoneRemember seen → seen.cycle.from ≡ s.number →
+    HasNoted (next_cycle s) seen.sweeper → HasListedNothing seen.sweeper
     → IsMarking (next_cycle s) (cycle_started s) seen places
 cycle_is_marking s seen places world tied room queue_room nothing from noted nothing_listed =
     let core : Core = opening s.world in
     let b : IsBegun s.world core = begun s.world in
-    let none : (k : ℕ) → names_of core.pushed k ≡ [] = λ k. ap (λ (l : List (List Name)). names_of l k) b.pushed_is ∙ none_at_first (length s.world.mutators) k in
+    let none : (k : ℕ) → names_of core.pushed k ≡ [] = λ k. ap (λ (l : List (List Name)). names_of l k) b.pushed_is ∙
+    none_at_first (length s.world.mutators) k in
     record {
       core = core;
-      machine = record { events = []; runs = (refl, refl); open_yet = b.open_yet; world_is = b.world_is; nothing_owed = all_empty core.owed (λ k lt. ap (λ (l : List (List Name)). names_of l k) b.owed_is ∙ none_at_first (length s.world.mutators) k) };
+      machine = record {
+        events = [];
+        runs = (refl, refl);
+        open_yet = b.open_yet;
+        world_is = b.world_is;
+        nothing_owed = all_empty core.owed (λ k lt. ap (λ (l : List (List Name)). names_of l k) b.owed_is ∙ none_at_first (length s.world.mutators) k);
+      };
       tied = tied;
-      remembered = λ k mutator there. subst (λ (y : List ℕ × List Name). AreRemembered (next_cycle s) places y.0 y.1) (λ i. (sym (nothing k mutator there) i, sym (none k) i)) (record { names = []; at = tt; counted = refl });
+      remembered = λ k mutator there. subst (λ (y : List ℕ × List Name). AreRemembered (next_cycle s) places y.0 y.1) (λ i.
+          (sym (nothing k mutator there) i, sym (none k) i)) (record { names = []; at = tt; counted = refl });
       low = none_low seen nothing;
       room = room;
       queue_room = queue_room;
@@ -74,7 +85,8 @@ cycle_is_marking s seen places world tied room queue_room nothing from noted not
     }
 
 -- at a stop the machine is at rest, and what it is to scan is at the places in the marker's queue
-pub stop_is_at_rest : (c : Cycle) (s : State) (seen : Seen) (places : List Place) (h : IsMarking c s seen places) → IsSound (interval_of c) → length seen.mutators ≡ length s.world.mutators → NoneRemember seen →
+pub stop_is_at_rest : (c : Cycle) (s : State) (seen : Seen) (places : List Place) (h : IsMarking c s seen places) → IsSound (interval_of c) →
+    length seen.mutators ≡ length s.world.mutators → NoneRemember seen →
     IsMachineAtRest c s.world h.core × AreAt places seen.marker.queue (map (λ (entry : Entry). entry.name) h.core.queue)
 stop_is_at_rest c s seen places h sound many nothing =
     let core : Core = h.core in
@@ -84,7 +96,8 @@ stop_is_at_rest c s seen places h sound many nothing =
       record {
         sound = sound;
         machine = h.machine;
-        none_pushed = all_empty core.pushed (λ k lt. let m = item seen.mutators k (omega arith) in none_pushed c places m.0.entries (names_of core.pushed k) (nothing k m.0 m.1) (h.remembered k m.0 m.1));
+        none_pushed = all_empty core.pushed (λ k lt. let m = item seen.mutators k (omega arith) in
+            none_pushed c places m.0.entries (names_of core.pushed k) (nothing k m.0 m.1) (h.remembered k m.0 m.1));
         fresh = h.tied.fresh;
       },
       h.tied.queue,
@@ -102,8 +115,10 @@ still_nothing : (old new : SweeperSeen) → new ≡ old → HasListedNothing old
 still_nothing old new same n = subst HasListedNothing (sym same) n
 
 -- over a round: with the machine as it goes on, and a marker that is tied to it and has room
-pub round_keeps_marking : (c : Cycle) (s t : State) (old new : Seen) (o : Opening) (words : List ℕ) (v : View) (h : IsFinished o words v) (mutators : List Mutator) (core : Core) → IsMarking c s old o.places → GoesOn c o words v h mutators core → t.world ≡ (now o h.events).world
-    → IsTied (with_rows c (rows_in h.events)) t.allocation new.segments (places_then o h.born) new.marker core → HasRoomToMark new.segments new.marker → new.segments.layout ≡ o.layout → HasLeft c old new → ShowEntries new mutators
+pub round_keeps_marking : (c : Cycle) (s t : State) (old new : Seen) (o : Opening) (words : List ℕ) (v : View) (h : IsFinished o words v)
+    (mutators : List Mutator) (core : Core) → IsMarking c s old o.places → GoesOn c o words v h mutators core → t.world ≡ (now o h.events).world
+    → IsTied (with_rows c (rows_in h.events)) t.allocation new.segments (places_then o h.born) new.marker core →
+    HasRoomToMark new.segments new.marker → new.segments.layout ≡ o.layout → HasLeft c old new → ShowEntries new mutators
     → IsMarking (with_rows c (rows_in h.events)) t new (places_then o h.born)
 round_keeps_marking c s t old new o words v h mutators core was goes world tied room layout left entries =
     let d : Cycle = with_rows c (rows_in h.events) in
@@ -128,8 +143,11 @@ pub promotion_keeps_marking : PromotionKeepsMarking
 promotion_keeps_marking c s old new t words after registers queues moves placed sound world was promoted same left entries =
     let core : Core = was.core in
     let machine : IsCoreOf c t.world core = subst (λ (w : World). IsCoreOf c w core) (sym world) was.machine in
-    let low : (k : ℕ) (mutator : MutatorSeen) → slice_get old.mutators k ≡ Some mutator → (at : ℕ) → Contains mutator.entries at → at < nursery_place new.segments.layout 0 = λ k mutator there at d. subst (λ (l : Layout). at < nursery_place l 0) (sym promoted.layout_is) (was.low k mutator there at d) in
-    let kept = tie_is_kept c t old.segments new.segments words after registers queues moves s.allocation placed old.marker core promoted sound.world machine was.tied in
+    let low : (k : ℕ) (mutator : MutatorSeen) → slice_get old.mutators k ≡ Some mutator → (at : ℕ) → Contains mutator.entries at →
+    at < nursery_place new.segments.layout 0 = λ k mutator there at d.
+    subst (λ (l : Layout). at < nursery_place l 0) (sym promoted.layout_is) (was.low k mutator there at d) in
+    let kept = tie_is_kept c t old.segments new.segments words after registers queues moves s.allocation placed old.marker core promoted sound.world
+    machine was.tied in
     record {
       core = core;
       machine = was.machine;
@@ -147,7 +165,9 @@ promotion_keeps_marking c s old new t words after registers queues moves placed 
     }
 
 -- once the marker has added what was remembered, which the machine took: nothing is remembered any more
-pub add_keeps_marking : (c : Cycle) (s : State) (old new : Seen) (places : List Place) (names : List Name) (core : Core) (h : IsMarking c s old places) → HasTaken c s.world h.core names core → IsTied c s.allocation new.segments places new.marker core → HasRoomToMark new.segments new.marker → HasLeft c old new → NoneRemember new →
+pub add_keeps_marking : (c : Cycle) (s : State) (old new : Seen) (places : List Place) (names : List Name) (core : Core)
+    (h : IsMarking c s old places) → HasTaken c s.world h.core names core → IsTied c s.allocation new.segments places new.marker core →
+    HasRoomToMark new.segments new.marker → HasLeft c old new → NoneRemember new →
     IsMarking c s new places
 add_keeps_marking c s old new places names core was taken tied room left nothing = record {
   core = core;
@@ -155,7 +175,11 @@ add_keeps_marking c s old new places names core was taken tied room left nothing
   tied = tied;
   remembered = λ k mutator there.
       let none : names_of core.pushed k ≡ [] = each_empty core.pushed taken.none_pushed k in
-      subst (λ (y : List ℕ × List Name). AreRemembered c places y.0 y.1) (λ i. (sym (nothing k mutator there) i, sym none i)) (record { names = []; at = tt; counted = refl });
+      subst (λ (y : List ℕ × List Name). AreRemembered c places y.0 y.1) (λ i. (sym (nothing k mutator there) i, sym none i)) (record {
+        names = [];
+        at = tt;
+        counted = refl;
+      });
   low = none_low new nothing;
   room = room;
   queue_room = left.queue_room;
@@ -200,7 +224,8 @@ pace_at_stop quota c t old new was later more scans grows =
     let rounds = one_more t.number c.from quota (omega arith) in
     record {
       scanned = omega arith;
-      not_done = λ after. not_empty old.marker.queue new.marker.queue (omega arith) (λ none. let done = (was.empty).1 none in let bad : true ≡ false = sym done ∙ more in cc);
+      not_done = λ after. not_empty old.marker.queue new.marker.queue (omega arith) (λ none. let done = (was.empty).1 none in
+          let bad : true ≡ false = sym done ∙ more in cc);
     }
 
 pub pace_begins : PaceBegins

@@ -31,7 +31,8 @@ use Rattle.nmgc_beside.proofs.Pushing.{each_empty}
 use Rattle.nmgc_beside.proofs.Snapshots.{IsReachedBy, reached_by, tracked_wide, marked_there, marked_tracked, queued_marked, are_earlier, node_later, fresh_at}
 
 -- what waits is at a place
-pub at_found : (places : List Place) (ats : List ℕ) (entries : List Entry) (entry : Entry) → AreAt places ats (map (λ (e : Entry). e.name) entries) → Contains entries entry → (at : ℕ) × Contains places (record { at = at; name = entry.name })
+pub at_found : (places : List Place) (ats : List ℕ) (entries : List Entry) (entry : Entry) →
+    AreAt places ats (map (λ (e : Entry). e.name) entries) → Contains entries entry → (at : ℕ) × Contains places (record { at = at; name = entry.name })
 at_found places ats [] entry h c = absurd (nothing_in entry c)
 at_found places [] (first ∷ entries) entry h c = absurd h
 at_found places (at ∷ ats) (first ∷ entries) entry h c = elim (contains_cases first entries entry c) [
@@ -39,7 +40,8 @@ at_found places (at ∷ ats) (first ∷ entries) entry h c = elim (contains_case
   | inr d ↦ at_found places ats entries entry h.1 d
 ]
 
-module _ (c : Cycle) (core : State) (s : Segments) (places : List Place) (w : World) (words : List ℕ) (mutators : List Mutator) (queue : List ℕ) (h : IsAtRest c core s places w words mutators queue) where
+module _ (c : Cycle) (core : State) (s : Segments) (places : List Place) (w : World) (words : List ℕ) (mutators : List Mutator) (queue : List ℕ)
+    (h : IsAtRest c core s places w words mutators queue) where
   abbrev o : Opening
   o = opening_beside s.layout core places mutators
 
@@ -87,7 +89,8 @@ module _ (c : Cycle) (core : State) (s : Segments) (places : List Place) (w : Wo
   hand_at m lt =
       let many = h.count in
       let n = item mutators m (omega arith) in
-      let is : get_or o.hands m no_hand ≡ hand_of core.world places n.0 = get_or_from_slice_get o.hands m (hand_of core.world places n.0) no_hand (item_map (hand_of core.world places) mutators m n.0 n.1) in
+      let is : get_or o.hands m no_hand ≡ hand_of core.world places n.0 =
+      get_or_from_slice_get o.hands m (hand_of core.world places n.0) no_hand (item_map (hand_of core.world places) mutators m n.0 n.1) in
       let exists : m < length core.world.mutators = subst (λ (k : ℕ). m < k) (sym as_many) lt in
       subst (λ (x : Hand). HandStands o m x) (sym is) (record {
         registers = own_mean (Contains places) mutators all_whole m n.0 n.1 (state_of core.world m).registers (world.registers m exists) (roots.held m exists);
@@ -101,7 +104,8 @@ module _ (c : Cycle) (core : State) (s : Segments) (places : List Place) (w : Wo
   queued entry d =
       let marked = queued_marked c.snapshot c.rows core reached entry d in
       let place = at_found places queue core.queue entry h.waits d in
-      let there : IsSome (node_of core.snapshot entry.name) = subst (λ (x : World). IsSome (node_of x entry.name)) snapshot_is (marked_there c.snapshot c.rows core reached entry.name marked) in
+      let there : IsSome (node_of core.snapshot entry.name) =
+      subst (λ (x : World). IsSome (node_of x entry.name)) snapshot_is (marked_there c.snapshot c.rows core reached entry.name marked) in
       let before = is_some_of (node_of core.snapshot entry.name) there in
       let later = reached.facts.base.later entry.name before.0 before.1 in
       let fresh = fresh_at core.queue h.machine.fresh entry d in
@@ -130,4 +134,7 @@ module _ (c : Cycle) (core : State) (s : Segments) (places : List Place) (w : Wo
   }
 
 pub rest_opens : RestOpens
-rest_opens c core s places w words mutators queue h = (opens c core s places w words mutators queue h, are_earlier c.snapshot c.rows core (reached_by c w core h.machine))
+rest_opens c core s places w words mutators queue h = (
+  opens c core s places w words mutators queue h,
+  are_earlier c.snapshot c.rows core (reached_by c w core h.machine),
+)

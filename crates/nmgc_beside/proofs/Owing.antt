@@ -38,15 +38,19 @@ use Rattle.nmgc_beside.proofs.Seats.{parts_gathered}
 
 pub slices_owed : SlicesAreOwed
 slices_owed o before round old mutators seats done scans opens h nothing k p n there new =
-    let here : slice_get (map own_part seats) k ≡ Some p = subst (λ (ps : List Part). slice_get ps k ≡ Some p) (parts_gathered o scans seats ∙ parts_are o before round old mutators seats done opens h) there in
+    let here : slice_get (map own_part seats) k ≡ Some p = subst (λ (ps : List Part). slice_get ps k ≡ Some p) (parts_gathered o scans seats ∙
+    parts_are o before round old mutators seats done opens h) there in
     let seat = map_item own_part seats k p here in
     let s = slice_at o before round old mutators seats done opens h k seat.0 seat.1 in
     let both : Some s.n ≡ Some n = sym s.new ∙ new in
     let is : s.n ≡ n = cc in
-    let own : remembered_of s.n ≡ all_pushed o.layout (own_part seat.0).owed = s.did.pushed ∙ ap (λ l. l ++ all_pushed s.m.layout s.did.owed) (nothing k s.m s.was) ∙ (λ i. all_pushed (s.resting.layout_is i) (sym s.did.went.owed_is i)) in
+    let own : remembered_of s.n ≡ all_pushed o.layout (own_part seat.0).owed = s.did.pushed ∙
+    ap (λ l. l ++ all_pushed s.m.layout s.did.owed) (nothing k s.m s.was) ∙ (λ i. all_pushed (s.resting.layout_is i) (sym s.did.went.owed_is i)) in
     subst (λ (y : Mutator × Part). remembered_of y.0 ≡ all_pushed o.layout y.1.owed) (λ i. (is i, sym seat.2 i)) own
 
-module _ (c : Cycle) (o : Opening) (before words : List ℕ) (v : Seen) (mutators : List Mutator) (done : List (List Done)) (on : o.marking ≡ true) (can : CanOpen o before) (rest : IsMachineAtRest c o.core.world o.core) (h : IsFinished o words v) (worked : HaveWorked o v.parts mutators done) (owed : HaveOwed o v.parts mutators) where
+module _ (c : Cycle) (o : Opening) (before words : List ℕ) (v : Seen) (mutators : List Mutator) (done : List (List Done)) (on : o.marking ≡
+    true) (can : CanOpen o before) (rest : IsMachineAtRest c o.core.world o.core) (h : IsFinished o words v)
+    (worked : HaveWorked o v.parts mutators done) (owed : HaveOwed o v.parts mutators) where
   -- the state after the events of the round
   abbrev then : State
   then = now o h.events
@@ -61,7 +65,8 @@ module _ (c : Cycle) (o : Opening) (before words : List ℕ) (v : Seen) (mutator
   left = leaves_round o.core h.events
 
   runs : Runs (opening c.snapshot) events rows then
-  runs = runs_then (opening c.snapshot) o.core then rest.machine.events (map event_of h.events) c.rows (rows_in h.events) rest.machine.runs (round_runs o.core h.events h.legal)
+  runs = runs_then (opening c.snapshot) o.core then rest.machine.events (map event_of h.events) c.rows (rows_in h.events) rest.machine.runs
+      (round_runs o.core h.events h.legal)
 
   running : then.is_closed ≡ false
   running = left.is_closed ∙ rest.machine.open_yet
@@ -82,7 +87,8 @@ module _ (c : Cycle) (o : Opening) (before words : List ℕ) (v : Seen) (mutator
   machine : IsCoreOf (with_rows c (rows_in h.events)) then.world core
   machine = record {
     events = events ++ all.1.events;
-    runs = subst (λ (l : List Row). Runs (opening c.snapshot) (events ++ all.1.events) l core) (append-nil rows) (runs_then (opening c.snapshot) then core events all.1.events rows [] runs all.1.runs);
+    runs = subst (λ (l : List Row). Runs (opening c.snapshot) (events ++
+        all.1.events) l core) (append-nil rows) (runs_then (opening c.snapshot) then core events all.1.events rows [] runs all.1.runs);
     open_yet = ap (λ (x : State). x.is_closed) all.1.rest ∙ running;
     world_is = ap (λ (x : State). x.world) all.1.rest;
     nothing_owed = all.1.none;
@@ -105,13 +111,15 @@ module _ (c : Cycle) (o : Opening) (before words : List ℕ) (v : Seen) (mutator
       record {
         part = p.0;
         entries = owed k p.0 m p.1 e;
-        owes = subst (λ (j : ℕ). AreOwed (IsIn o h.born) p.0.owed (names_of then.owed j)) number (subst (λ (b : Bool). Owes b (IsIn o h.born) p.0.owed (names_of then.owed p.0.number)) on owes);
+        owes = subst (λ (j : ℕ). AreOwed (IsIn o h.born) p.0.owed (names_of then.owed j)) number (subst (λ (b : Bool).
+            Owes b (IsIn o h.born) p.0.owed (names_of then.owed p.0.number)) on owes);
       }
 
   none_before : (k : ℕ) → names_of then.pushed k ≡ []
   none_before k = ap (λ (l : List (List Name)). names_of l k) left.pushed ∙ each_empty o.core.pushed rest.none_pushed k
 
-  remembered : (k : ℕ) (m : Mutator) → slice_get mutators k ≡ Some m → AreRemembered (with_rows c (rows_in h.events)) (places_then o h.born) (remembered_of m) (names_of core.pushed k)
+  remembered : (k : ℕ) (m : Mutator) → slice_get mutators k ≡ Some m →
+      AreRemembered (with_rows c (rows_in h.events)) (places_then o h.born) (remembered_of m) (names_of core.pushed k)
   remembered k m e =
       let own = own_at k m e in
       let f = all_found o before words v can h own.part.owed own.owes.0 own.owes.1 in

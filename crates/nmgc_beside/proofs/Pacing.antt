@@ -49,12 +49,15 @@ closing_is_paced quota c t seen allocation places core sound m tied after paced 
   after = after;
   work = λ none.
       let queue : seen.marker.queue ≡ [] = (paced.empty).0 empty in
-      let waits : core.queue ≡ [] = none_waits places core.queue (subst (λ (l : List ℕ). AreAt places l (map (λ (entry : Entry). entry.name) core.queue)) queue tied.queue) in
+      let waits : core.queue ≡ [] = none_waits places core.queue (subst (λ (l : List ℕ).
+      AreAt places l (map (λ (entry : Entry). entry.name) core.queue)) queue tied.queue) in
       let e : IsExactlyStrong c.snapshot sound.world core = exactly_strong c.snapshot sound.world m.events c.rows core m.runs m.open_yet none waits in
       let o : IsOnce core = once_runs (opening c.snapshot) m.events c.rows core m.runs m.open_yet (once_opening c.snapshot) in
       let long : length core.marked ≡ length o.others + 1 = ap (λ (l : List Name). length l) o.marked_are ∙ (omega arith) in
       let counted = tied.count in
-      let all : Counts (IsStrongObject c.snapshot) (length o.others) = others_counted (Strong c.snapshot sound.world) shared_name core.marked o.once (subst (λ (l : List Name). Contains l shared_name) (sym o.marked_are) (contains_head shared_name o.others)) e.sound e.complete (length o.others) (sym long) in
+      let all : Counts (IsStrongObject c.snapshot) (length o.others) =
+      others_counted (Strong c.snapshot sound.world) shared_name core.marked o.once (subst (λ (l : List Name).
+      Contains l shared_name) (sym o.marked_are) (contains_head shared_name o.others)) e.sound e.complete (length o.others) (sym long) in
       let none_left : length seen.marker.queue ≡ 0 = ap (λ (l : List ℕ). length l) queue in
       let scanned = paced.scanned in let most = paced.most in let more = one_more t.number c.from quota after in
       (length o.others, all, omega arith);

@@ -27,11 +27,14 @@ module _ (layout : Layout) (a b : AllocState) (m class : ℕ) (name : Name) (p :
   abbrev Keeps : ℕ → Type 0
   Keeps number = ((cells b number).class ≡ (cells a number).class) × (IsIn Free (cells b number) → ⊥)
 
-  by_cells : (c : Cells) (fresh : ℕ) → c.class ≡ class → c.state ≢ Free → b ≡ with_cells a p.number c fresh → (number : ℕ) → (IsIn Free (cells a number) → ⊥) → Keeps number
+  by_cells : (c : Cells) (fresh : ℕ) → c.class ≡ class → c.state ≢ Free → b ≡ with_cells a p.number c fresh → (number : ℕ) →
+      (IsIn Free (cells a number) → ⊥) → Keeps number
   by_cells c fresh is not_free e number used = elim (cases_eq number p.number) [
     | inl here ↦
-        let now : cells b number ≡ c = ap (λ (k : ℕ). cells b k) here ∙ ap (λ (x : AllocState). cells x p.number) e ∙ get_or-set_same a.segments p.number c no_cells (exists p.target) in
-        let was : (cells a number).class ≡ class = ap (λ (k : ℕ). (cells a k).class) here ∙ class_is p.target (subst (λ (k : ℕ). IsIn Free (cells a k) → ⊥) here used) in
+        let now : cells b number ≡ c = ap (λ (k : ℕ). cells b k) here ∙ ap (λ (x : AllocState). cells x p.number) e ∙
+        get_or-set_same a.segments p.number c no_cells (exists p.target) in
+        let was : (cells a number).class ≡ class = ap (λ (k : ℕ). (cells a k).class) here ∙
+        class_is p.target (subst (λ (k : ℕ). IsIn Free (cells a k) → ⊥) here used) in
         (ap (λ (x : Cells). x.class) now ∙ is ∙ sym was, λ free. not_free (ap (λ (x : Cells). x.state) (sym now) ∙ free))
     | inr other ↦
         let same : cells b number ≡ cells a number = ap (λ (x : AllocState). cells x number) e ∙ get_or-set_other a.segments p.number number c no_cells other in
@@ -60,7 +63,8 @@ each_stay layout w a b (name ∷ names) p free =
     let mid : AllocState = p.0 in
     let step = p.1.places in
     let rest : Stay mid b names = each_stay layout w mid b names p.2 (placed_free layout a mid name.maker p.1.class name step free) in
-    let kept : (number : ℕ) → (IsIn Free (cells a number) → ⊥) → Keeps layout a mid name.maker p.1.class name step number = keeps layout a mid name.maker p.1.class name step in
+    let kept : (number : ℕ) → (IsIn Free (cells a number) → ⊥) →
+    Keeps layout a mid name.maker p.1.class name step number = keeps layout a mid name.maker p.1.class name step in
     record {
       lies = λ number block n h. rest.lies number block n (placed_stays layout a mid name.maker p.1.class name step free number block n h);
       class = λ number used. rest.class number (kept number used).1 ∙ (kept number used).0;

@@ -34,22 +34,39 @@ begun_place : (layout : Layout) (a : AllocState) (p : Place) → IsPlaceAtStop l
 begun_place layout a p = (
   λ h. elim h [
     | inl g ↦ inl g
-    | inr b ↦ inr (record { number = b.number; block = b.block; lies = (begun_names a b.number b.block p.name).1 b.lies; at = b.at ∙ ap (λ (class : ℕ). block_place layout b.number class b.block) (sym (begun_class a b.number)) })
+    | inr b ↦ inr (record {
+      number = b.number;
+      block = b.block;
+      lies = (begun_names a b.number b.block p.name).1 b.lies;
+      at = b.at ∙
+          ap (λ (class : ℕ). block_place layout b.number class b.block) (sym (begun_class a b.number));
+    })
   ],
   λ h. elim h [
     | inl g ↦ inl g
-    | inr b ↦ inr (record { number = b.number; block = b.block; lies = (begun_names a b.number b.block p.name).0 b.lies; at = b.at ∙ ap (λ (class : ℕ). block_place layout b.number class b.block) (begun_class a b.number) })
+    | inr b ↦ inr (record {
+      number = b.number;
+      block = b.block;
+      lies = (begun_names a b.number b.block p.name).0 b.lies;
+      at = b.at ∙
+          ap (λ (class : ℕ). block_place layout b.number class b.block) (begun_class a b.number);
+    })
   ],
 )
 
 -- the world itself may be remembered
-own_snapshot : (layout : Layout) (earlier : List World) (places : List Place) (w : World) (words : List ℕ) → Represents layout earlier NoNode places w words → Represents layout (w ∷ []) NoNode places w words
+own_snapshot : (layout : Layout) (earlier : List World) (places : List Place) (w : World) (words : List ℕ) →
+    Represents layout earlier NoNode places w words → Represents layout (w ∷ []) NoNode places w words
 own_snapshot layout earlier places w words r = remembered layout earlier (w ∷ []) NoNode NoNode places w words (record {
-  worlds = λ e d. elim (contains_cases w [] e d) [ inl is ↦ subst (λ (x : World). Contains (w ∷ earlier) x) is (contains_head w earlier) | inr more ↦ absurd (nothing_in e more) ];
+  worlds = λ e d. elim (contains_cases w [] e d) [
+    | inl is ↦ subst (λ (x : World). Contains (w ∷ earlier) x) is (contains_head w earlier)
+    | inr more ↦ absurd (nothing_in e more)
+  ];
   nodes = λ name node none. absurd none;
 }) r
 
-pub no_snapshot : (layout : Layout) (earlier later : List World) (places : List Place) (w : World) (words : List ℕ) → later ≡ [] → Represents layout earlier NoNode places w words → Represents layout later NoNode places w words
+pub no_snapshot : (layout : Layout) (earlier later : List World) (places : List Place) (w : World) (words : List ℕ) → later ≡ [] →
+    Represents layout earlier NoNode places w words → Represents layout later NoNode places w words
 no_snapshot layout earlier later places w words none r = remembered layout earlier later NoNode NoNode places w words (record {
   worlds = λ e d. absurd (nothing_in e (subst (λ (l : List World). Contains l e) none d));
   nodes = λ name node k. absurd k;
@@ -63,7 +80,8 @@ stop_begins layout s words segments ends weaks h = (
     holds = record {
       fit = λ number block name node lies there.
           let fits = h.holds.fit number block name node ((begun_names s.allocation number block name).0 lies) there in
-          let same : block_size (cells (cycle_begun s.allocation) number).class ≡ block_size (cells s.allocation number).class = ap (λ (class : ℕ). block_size class) (begun_class s.allocation number) in
+          let same : block_size (cells (cycle_begun s.allocation) number).class ≡ block_size (cells s.allocation number).class =
+          ap (λ (class : ℕ). block_size class) (begun_class s.allocation number) in
           omega (arith, fits, same);
       represents = own_snapshot layout (snapshots s.progress) h.places s.world words h.holds.represents;
       registers = h.holds.registers;
@@ -103,19 +121,28 @@ stop_is_prepared layout s words segments ends weaks queues o h world sound sound
     let epoch : ℕ = epoch_of (s.begun + 1) in record {
       world = subst IsWorld (sym same_world) world;
       earlier = snapshots s.progress;
-      represents = subst (λ (y : Layout × List Place × World). Represents y.0 (snapshots s.progress) NoNode y.1 y.2 words) (λ i. (sym same_layout i, sym same_places i, sym same_world i)) h.holds.represents;
+      represents = subst (λ (y : Layout × List Place × World). Represents y.0 (snapshots s.progress) NoNode y.1 y.2 words) (λ i. (
+        sym same_layout i,
+        sym same_places i,
+        sym same_world i,
+      )) h.holds.represents;
       serials = serials_of ends;
-      roots = subst (λ (y : List Place × World × List (List ℕ)). RepresentsRoots y.0 y.1 (registers_of ends) y.2 (serials_of ends)) (λ i. (sym same_places i, sym same_world i, same_queues i)) h.holds.roots;
+      roots = subst (λ (y : List Place × World × List (List ℕ)). RepresentsRoots y.0 y.1 (registers_of ends) y.2 (serials_of ends)) (λ i.
+          (sym same_places i, sym same_world i, same_queues i)) h.holds.roots;
       sound = sound_after;
       layout = h.holds.layout_is ∙ sym same_layout;
       allocation = cycle_begun s.allocation;
       stands = prepared_stands segments words s.allocation h.holds.stands;
       places = λ p. (
-        λ d. subst (λ (l : Layout). IsPlaceAtStop l (cycle_begun s.allocation) p) (sym same_layout) ((begun_place layout s.allocation p).0 ((h.all p).0 (subst (λ (l : List Place). Contains l p) same_places d))),
-        λ is. subst (λ (l : List Place). Contains l p) (sym same_places) ((h.all p).1 ((begun_place layout s.allocation p).1 (subst (λ (l : Layout). IsPlaceAtStop l (cycle_begun s.allocation) p) same_layout is))),
+        λ d. subst (λ (l : Layout).
+            IsPlaceAtStop l (cycle_begun s.allocation) p) (sym same_layout)
+            ((begun_place layout s.allocation p).0 ((h.all p).0 (subst (λ (l : List Place). Contains l p) same_places d))),
+        λ is. subst (λ (l : List Place). Contains l p) (sym same_places) ((h.all p).1 ((begun_place layout s.allocation p).1 (subst (λ (l : Layout).
+            IsPlaceAtStop l (cycle_begun s.allocation) p) same_layout is))),
       );
       in_use = in_use segments sound;
       unmarked = λ at m.
           let lt = there segments sound m.0 m.2.exists in
-          unmarked_there s segments words h.holds.stands none settled m.0 m.1 lt (ap (λ (x : Segment). mark_of x m.1) (sym (segment_is segments sound m.0 lt)) ∙ m.3);
+          unmarked_there s segments words h.holds.stands none settled m.0 m.1 lt (ap (λ (x : Segment).
+          mark_of x m.1) (sym (segment_is segments sound m.0 lt)) ∙ m.3);
     }

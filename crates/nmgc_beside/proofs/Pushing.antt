@@ -18,8 +18,10 @@ one_passed : (b : Bool) (name : Name) (rest : List Name) → cond b (name ∷ []
 one_passed true name rest = refl
 one_passed false name rest = refl
 
-passed_first : (test : Name → Bool) (old : List Name) (name : Name) (rest : List Name) → (old ++ cond (test name) (name ∷ []) []) ++ filter test rest ≡ old ++ filter test (name ∷ rest)
-passed_first test old name rest = append_assoc old (cond (test name) (name ∷ []) []) (filter test rest) ∙ ap (λ (l : List Name). old ++ l) (one_passed (test name) name (filter test rest))
+passed_first : (test : Name → Bool) (old : List Name) (name : Name) (rest : List Name) →
+    (old ++ cond (test name) (name ∷ []) []) ++ filter test rest ≡ old ++ filter test (name ∷ rest)
+passed_first test old name rest = append_assoc old (cond (test name) (name ∷ []) []) (filter test rest) ∙
+    ap (λ (l : List Name). old ++ l) (one_passed (test name) name (filter test rest))
 
 -- a mutator that owed these names has pushed those that count, and nothing else changed
 record HasPushed (s t : State) (m : ℕ) (names : List Name) : Type 0 where
@@ -34,23 +36,36 @@ record HasPushed (s t : State) (m : ℕ) (names : List Name) : Type 0 where
   others_pushed : (k : ℕ) → k ≢ m → names_of t.pushed k ≡ names_of s.pushed k
 
 -- one push, and those after it
-push_first : (s t : State) (m : ℕ) (name : Name) (rest : List Name) → s.is_closed ≡ false → m < length s.owed → m < length s.pushed → names_of s.owed m ≡ name ∷ rest → HasPushed (after_push s m (name ∷ rest)) t m rest → HasPushed s t m (name ∷ rest)
+push_first : (s t : State) (m : ℕ) (name : Name) (rest : List Name) → s.is_closed ≡ false → m < length s.owed → m < length s.pushed →
+    names_of s.owed m ≡ name ∷ rest → HasPushed (after_push s m (name ∷ rest)) t m rest → HasPushed s t m (name ∷ rest)
 push_first s t m name rest running lt there e h =
     let next : State = after_push s m (name ∷ rest) in
     let more : List Name = names_of s.pushed m ++ pushed_of s name in
     record {
       events = event.Push m ∷ h.events;
-      runs = (true, next, [], ((running, λ none. absurd (let bad : name ∷ rest ≡ [] = sym e ∙ none in cc)), ap (λ (l : List Name). after_push s m l) (sym e)), refl, h.runs);
+      runs = (
+        true,
+        next,
+        [],
+        (
+          (running, λ none. absurd (let bad : name ∷ rest ≡ [] = sym e ∙ none in cc)),
+          ap (λ (l : List Name). after_push s m l) (sym e),
+        ),
+        refl,
+        h.runs,
+      );
       rest = h.rest;
       owed_count = h.owed_count ∙ length-set s.owed m rest;
       pushed_count = h.pushed_count ∙ length-set s.pushed m more;
       none = h.none;
-      pushed_is = h.pushed_is ∙ ap (λ (l : List Name). l ++ filter (is_pushed_in s.snapshot) rest) (names_same s.pushed m more there) ∙ passed_first (is_pushed_in s.snapshot) (names_of s.pushed m) name rest;
+      pushed_is = h.pushed_is ∙ ap (λ (l : List Name). l ++ filter (is_pushed_in s.snapshot) rest) (names_same s.pushed m more there) ∙
+          passed_first (is_pushed_in s.snapshot) (names_of s.pushed m) name rest;
       others_owed = λ k ne. h.others_owed k ne ∙ names_other s.owed m k rest ne;
       others_pushed = λ k ne. h.others_pushed k ne ∙ names_other s.pushed m k more ne;
     }
 
-push_names : (s : State) (m : ℕ) (names : List Name) → s.is_closed ≡ false → m < length s.owed → m < length s.pushed → names_of s.owed m ≡ names → (t : State) × HasPushed s t m names
+push_names : (s : State) (m : ℕ) (names : List Name) → s.is_closed ≡ false → m < length s.owed → m < length s.pushed → names_of s.owed m ≡ names →
+    (t : State) × HasPushed s t m names
 push_names s m [] running lt there e = (
   s,
   record {
@@ -67,7 +82,8 @@ push_names s m [] running lt there e = (
 )
 push_names s m (name ∷ rest) running lt there e =
     let more : List Name = names_of s.pushed m ++ pushed_of s name in
-    let later = push_names (after_push s m (name ∷ rest)) m rest running (subst (λ n. m < n) (sym (length-set s.owed m rest)) lt) (subst (λ n. m < n) (sym (length-set s.pushed m more)) there) (names_same s.owed m rest lt) in
+    let later = push_names (after_push s m (name ∷ rest)) m rest running (subst (λ n. m < n) (sym (length-set s.owed m rest)) lt) (subst (λ n.
+    m < n) (sym (length-set s.pushed m more)) there) (names_same s.owed m rest lt) in
     (later.0, push_first s later.0 m name rest running lt there e later.1)
 
 -- the mutators below one have pushed all that they owed
@@ -99,7 +115,8 @@ push_next s u t m h p =
       ];
       pushed_is = λ k lt. elim (cases_eq k m) [
         | inl is ↦ subst (λ (j : ℕ). names_of t.pushed j ≡ names_of s.pushed j ++ filter (is_pushed_in s.snapshot) (names_of s.owed j)) (sym is)
-            (p.pushed_is ∙ ap (λ (l : List Name). l ++ filter (is_pushed_in u.snapshot) own) (h.others_pushed m (omega arith)) ∙ ap (λ (w : World). names_of s.pushed m ++ filter (is_pushed_in w) own) snapshot)
+            (p.pushed_is ∙ ap (λ (l : List Name). l ++ filter (is_pushed_in u.snapshot) own) (h.others_pushed m (omega arith)) ∙
+            ap (λ (w : World). names_of s.pushed m ++ filter (is_pushed_in w) own) snapshot)
         | inr ne ↦ p.others_pushed k ne ∙ h.pushed_is k (omega arith)
       ];
       others_owed = λ k le. let ne : k ≢ m = λ e. omega arith in p.others_owed k ne ∙ h.others_owed k (omega arith);
@@ -125,7 +142,8 @@ push_below s (suc m) running le same =
     let before = push_below s m running (omega arith) same in
     let h : HavePushed s before.0 m = before.1 in
     let many = h.owed_count in let as_many = h.pushed_count in
-    let last = push_names before.0 m (names_of s.owed m) (ap (λ (x : State). x.is_closed) h.rest ∙ running) (omega arith) (omega arith) (h.others_owed m (omega arith)) in
+    let last = push_names before.0 m (names_of s.owed m) (ap (λ (x : State). x.is_closed) h.rest ∙
+    running) (omega arith) (omega arith) (h.others_owed m (omega arith)) in
     (last.0, push_next s before.0 last.0 m h last.1)
 
 -- lists of names that are empty one by one
@@ -162,7 +180,8 @@ push_all s running same =
         pushed_count = h.pushed_count;
         pushed_is = λ k. elim (cases_lt k (length s.owed)) [
           | inl lt ↦ h.pushed_is k lt
-          | inr le ↦ h.others_pushed k le ∙ sym (append-nil (names_of s.pushed k)) ∙ ap (λ (l : List Name). names_of s.pushed k ++ filter (is_pushed_in s.snapshot) l) (sym (get_or_past s.owed k [] le))
+          | inr le ↦ h.others_pushed k le ∙ sym (append-nil (names_of s.pushed k)) ∙
+              ap (λ (l : List Name). names_of s.pushed k ++ filter (is_pushed_in s.snapshot) l) (sym (get_or_past s.owed k [] le))
         ];
       },
     )

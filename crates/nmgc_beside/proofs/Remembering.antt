@@ -34,7 +34,8 @@ old_word : (layout : Layout) (at : ℕ) → FIRST_PLACE ≤ at → at < nursery_
 old_word layout at above low =
     let half : 2 * at / 2 ≡ at = omega arith in
     and_from (eqb (2 * at % 2) 0) (leb FIRST_PLACE (2 * at / 2) && leb (2 * at / 2 + 1) (nursery_place layout 0)) (eq-eqb (2 * at % 2) 0 (omega arith))
-    (and_from (leb FIRST_PLACE (2 * at / 2)) (leb (2 * at / 2 + 1) (nursery_place layout 0)) (le-leb FIRST_PLACE (2 * at / 2) (omega arith)) (le-leb (2 * at / 2 + 1) (nursery_place layout 0) (omega arith)))
+    (and_from (leb FIRST_PLACE (2 * at / 2)) (leb (2 * at / 2 + 1) (nursery_place layout 0)) (le-leb FIRST_PLACE (2 * at / 2) (omega arith))
+    (le-leb (2 * at / 2 + 1) (nursery_place layout 0) (omega arith)))
 
 -- and of an odd word, none
 odd_word : (layout : Layout) (w : ℕ) → w % 2 ≡ 1 → is_old layout w ≡ false
@@ -47,7 +48,8 @@ old_low layout w old =
     let below = leb-true (w / 2 + 1) (nursery_place layout 0) (and_parts (leb FIRST_PLACE (w / 2)) (leb (w / 2 + 1) (nursery_place layout 0)) second).1 in
     omega arith
 
-low_first : (layout : Layout) (w : ℕ) (b : Bool) (rest : List ℕ) → is_old layout w ≡ b → ((at : ℕ) → Contains rest at → at < nursery_place layout 0) → (at : ℕ) → Contains (cond b (w / 2 ∷ []) [] ++ rest) at → at < nursery_place layout 0
+low_first : (layout : Layout) (w : ℕ) (b : Bool) (rest : List ℕ) → is_old layout w ≡ b →
+    ((at : ℕ) → Contains rest at → at < nursery_place layout 0) → (at : ℕ) → Contains (cond b (w / 2 ∷ []) [] ++ rest) at → at < nursery_place layout 0
 low_first layout w true rest old later at c = elim (contains_cases (w / 2) rest at c) [
   | inl is ↦ subst (λ n. n < nursery_place layout 0) is (old_low layout w old)
   | inr d ↦ later at d
@@ -96,15 +98,24 @@ module _ (o : Opening) (before words : List ℕ) (v : Seen) (can : CanOpen o bef
       let low : at < nursery_place o.layout 0 = opened_below o before can p old.there in
       by_place low (can.represents.named p old.there).lies
     where
-      by_place : at < nursery_place o.layout 0 → LiesWell o.layout (record { at = at; name = name }) HEADER_WORDS → (is_old o.layout (2 * at) ≡ true) ⊎ (counts name ≡ false)
+      by_place : at < nursery_place o.layout 0 → LiesWell o.layout (record { at = at; name = name }) HEADER_WORDS →
+          (is_old o.layout (2 * at) ≡ true) ⊎ (counts name ≡ false)
       by_place low (inl g) =
-          let same = h.stands.one (record { at = at; name = name }) (record { at = SHARED_PLACE; name = shared_name }) (is_place o h.born (record { at = at; name = name }) (node, inl old)) (is_place o h.born (record { at = SHARED_PLACE; name = shared_name }) h.shared) (inr g.1) in
+          let same = h.stands.one (record { at = at; name = name }) (record {
+            at = SHARED_PLACE;
+            name = shared_name;
+          }) (is_place o h.born (record { at = at; name = name }) (
+            node,
+            inl old,
+          )) (is_place o h.born (record { at = SHARED_PLACE; name = shared_name }) h.shared) (inr g.1) in
           inr (shared_counts name (ap (λ (q : Place). q.name) same))
       by_place low (inr (own, inl s)) = let k = (s.1 at (omega arith) (omega arith)).from in inl (old_word o.layout at (omega arith) low)
       by_place low (inr (own, inr n)) = absurd (let k = (n.1 at (omega arith) (omega arith)).from in omega arith)
 
   -- one more word, that of a reference
-  found_first : (at : ℕ) (name : Name) (b : Bool) (entries : List ℕ) (all : List Name) → is_old o.layout (2 * at) ≡ b → IsIn o h.born (record { at = at; name = name }) → AreFound snapshot places entries all → AreFound snapshot places (cond b (2 * at / 2 ∷ []) [] ++ entries) (name ∷ all)
+  found_first : (at : ℕ) (name : Name) (b : Bool) (entries : List ℕ) (all : List Name) → is_old o.layout (2 * at) ≡ b →
+      IsIn o h.born (record { at = at; name = name }) → AreFound snapshot places entries all →
+      AreFound snapshot places (cond b (2 * at / 2 ∷ []) [] ++ entries) (name ∷ all)
   found_first at name true entries all old here f =
       let half : 2 * at / 2 ≡ at = omega arith in
       record {
@@ -122,16 +133,19 @@ module _ (o : Opening) (before words : List ℕ) (v : Seen) (can : CanOpen o bef
   }
 
   -- so of all words that are owed, those of objects in segments are remembered, and as many names count
-  pub all_found : (ws : List ℕ) (values : List Value) → ListMeans (IsIn o h.born) ws values → AreFound snapshot places (all_pushed o.layout ws) (names_among values)
+  pub all_found : (ws : List ℕ) (values : List Value) → ListMeans (IsIn o h.born) ws values →
+      AreFound snapshot places (all_pushed o.layout ws) (names_among values)
   all_found [] [] means = record { names = []; at = tt; counted = refl }
   all_found [] (x ∷ values) means = absurd means
   all_found (w ∷ ws) [] means = absurd means
   all_found (w ∷ ws) (value.Nil ∷ values) means =
       let none : is_old o.layout w ≡ false = odd_word o.layout w (let e = means.0 in omega arith) in
-      subst (λ (b : Bool). AreFound snapshot places (cond b (w / 2 ∷ []) [] ++ all_pushed o.layout ws) (names_among values)) (sym none) (all_found ws values means.1)
+      subst (λ (b : Bool). AreFound snapshot places (cond b (w / 2 ∷ []) [] ++
+      all_pushed o.layout ws) (names_among values)) (sym none) (all_found ws values means.1)
   all_found (w ∷ ws) (value.Number n ∷ values) means =
       let none : is_old o.layout w ≡ false = odd_word o.layout w (let e = means.0 in omega arith) in
-      subst (λ (b : Bool). AreFound snapshot places (cond b (w / 2 ∷ []) [] ++ all_pushed o.layout ws) (names_among values)) (sym none) (all_found ws values means.1)
+      subst (λ (b : Bool). AreFound snapshot places (cond b (w / 2 ∷ []) [] ++
+      all_pushed o.layout ws) (names_among values)) (sym none) (all_found ws values means.1)
   all_found (w ∷ ws) (value.Ref name ∷ values) means =
       let at : ℕ = means.0.0 in
       subst (λ n. AreFound snapshot places (cond (is_old o.layout n) (n / 2 ∷ []) [] ++ all_pushed o.layout ws) (name ∷ names_among values)) (sym means.0.1)

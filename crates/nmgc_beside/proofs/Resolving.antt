@@ -52,7 +52,8 @@ use Rattle.nmgc_beside.proofs.Tying.{MarksLaw, core_snapshot, heap_of_blocks}
 
 -- the machine once the marker has finished
 
-module _ (layout : Layout) (c : Cycle) (s : State) (seen : Seen) (mutators : List Mutator) (h : IsStopOf layout c s seen mutators) (marked : Segments) (marker : MarkerSeen) (f : HasFinished (stop_opening layout c s seen mutators h) marked marker) where
+module _ (layout : Layout) (c : Cycle) (s : State) (seen : Seen) (mutators : List Mutator) (h : IsStopOf layout c s seen mutators)
+    (marked : Segments) (marker : MarkerSeen) (f : HasFinished (stop_opening layout c s seen mutators h) marked marker) where
   abbrev places : List Place
   places = h.heap.places
 
@@ -72,7 +73,8 @@ module _ (layout : Layout) (c : Cycle) (s : State) (seen : Seen) (mutators : Lis
   same_snapshot = ap (λ (x : Core). x.snapshot) (sym f.rest)
 
   at_rest : IsMachineAtRest c s.world core
-  at_rest = machine_scans c s.world h.kept.core f.events h.rest.machine f.legal f.scans (subst (λ (l : List Entry). All IsFresh l) (sym empty) (All-nil IsFresh))
+  at_rest = machine_scans c s.world h.kept.core f.events h.rest.machine f.legal f.scans (subst (λ (l : List Entry).
+      All IsFresh l) (sym empty) (All-nil IsFresh))
 
   rests : IsAtRest c core seen.segments places s.world seen.words mutators []
   rests = record {
@@ -112,20 +114,28 @@ module _ (layout : Layout) (c : Cycle) (s : State) (seen : Seen) (mutators : Lis
   same_world = at_rest.machine.world_is ∙ sym h.rest.machine.machine.world_is
 
   listed : ListsWeaks then.layout then.places core.world seen.weaks
-  listed = subst (λ (y : Layout × World). ListsWeaks y.0 places y.1 seen.weaks) (λ i. (sym h.heap.holds.layout_is i, sym at_rest.machine.world_is i)) h.heap.listed
+  listed = subst (λ (y : Layout × World). ListsWeaks y.0 places y.1 seen.weaks) (λ i. (
+    sym h.heap.holds.layout_is i,
+    sym at_rest.machine.world_is i,
+  )) h.heap.listed
 
   can_resolve : CycleMayResolve → CanResolve then seen.words marked marker seen.weaks
   can_resolve may =
       let rested = rest_opens c core seen.segments places s.world seen.words mutators [] rests in
-      let opens : CanOpen then seen.words = subst (λ (w : World). CanOpen (record then { hands = map (hand_of w places) mutators }) seen.words) same_world rested.0 in
-      may c then seen.words marked marker seen.weaks at_rest.sound machine_now at_rest.none_pushed empty refl rested.1 (record { opens = opens; tied = tied }) listed
+      let opens : CanOpen then seen.words = subst (λ (w : World).
+      CanOpen (record then { hands = map (hand_of w places) mutators }) seen.words) same_world rested.0 in
+      may c then seen.words marked marker seen.weaks at_rest.sound machine_now at_rest.none_pushed empty refl rested.1 (record {
+        opens = opens;
+        tied = tied;
+      }) listed
 
 pub finish_may_resolve : CycleMayResolve → FinishMayResolve
 finish_may_resolve may layout c s seen mutators marked marker h f = can_resolve layout c s seen mutators h marked marker f may
 
 -- the closed cycle, and the heap then
 
-module _ (layout : Layout) (c : Cycle) (s : State) (seen : Seen) (mutators : List Mutator) (words : List ℕ) (marked : Segments) (marker : MarkerSeen) (list : List OldWeak) (deaths : List Death) (k : IsClosingOf layout c s seen mutators words marked marker list deaths) where
+module _ (layout : Layout) (c : Cycle) (s : State) (seen : Seen) (mutators : List Mutator) (words : List ℕ) (marked : Segments)
+    (marker : MarkerSeen) (list : List OldWeak) (deaths : List Death) (k : IsClosingOf layout c s seen mutators words marked marker list deaths) where
   abbrev stood : List Place
   stood = k.stop.heap.places
 
@@ -151,8 +161,11 @@ module _ (layout : Layout) (c : Cycle) (s : State) (seen : Seen) (mutators : Lis
   has_closed law closes =
       let heap = marked_holds layout s seen.words seen.segments marked (ends_of seen) seen.weaks k.stop.heap layout_then stands_before in
       let snapshot : machine.snapshot ≡ c.snapshot = core_snapshot c s.world machine rest_then.sound rest_then.machine in
-      let blocks : AreOfBlocks o c marked seen.words s.allocation machine = heap_of_blocks law layout s seen.words marked (ends_of seen) seen.weaks c s.world machine o heap.0 k.sound rest_then.sound rest_then.machine k.stop.heap.holds.layout_is (sym heap.1) snapshot in
-      closes c s o seen.words words marked marker list deaths rest_then.sound rest_then.machine rest_then.none_pushed (empty layout c s seen mutators k.stop k.between k.finisher k.finished) blocks epoch_is k.resolved
+      let blocks : AreOfBlocks o c marked seen.words s.allocation machine =
+      heap_of_blocks law layout s seen.words marked (ends_of seen) seen.weaks c s.world machine o heap.0 k.sound rest_then.sound
+      rest_then.machine k.stop.heap.holds.layout_is (sym heap.1) snapshot in
+      closes c s o seen.words words marked marker list deaths rest_then.sound rest_then.machine rest_then.none_pushed
+      (empty layout c s seen mutators k.stop k.between k.finisher k.finished) blocks epoch_is k.resolved
 
   abbrev dead : List Name
   dead = k.resolved.closing.dead
@@ -171,7 +184,11 @@ module _ (layout : Layout) (c : Cycle) (s : State) (seen : Seen) (mutators : Lis
 
   represents : Represents layout [] NoNode stood w words
   represents =
-      let told : Represents layout (earlier o) NoNode stood w words = subst (λ (y : Layout × World). Represents y.0 (earlier o) NoNode stood y.1 words) (λ i. (k.stop.heap.holds.layout_is i, world_is i)) k.resolved.represents in
+      let told : Represents layout (earlier o) NoNode stood w words =
+      subst (λ (y : Layout × World). Represents y.0 (earlier o) NoNode stood y.1 words) (λ i. (
+        k.stop.heap.holds.layout_is i,
+        world_is i,
+      )) k.resolved.represents in
       no_snapshot layout (earlier o) [] stood w words refl told
 
   -- no header changed
@@ -186,14 +203,21 @@ module _ (layout : Layout) (c : Cycle) (s : State) (seen : Seen) (mutators : Lis
       omega (arith, size, fits)
     where
       old_known : (number block : ℕ) (name : Name) → LiesIn s.allocation number block name → IsSome (node_of s.world name)
-      old_known number block name lies = (k.stop.heap.holds.represents.named (record { at = block_place layout number (cells s.allocation number).class block; name = name }) ((k.stop.heap.all _).1 (inr (record { number = number; block = block; lies = lies; at = refl })))).known
+      old_known number block name lies = (k.stop.heap.holds.represents.named (record {
+        at =
+            block_place layout number (cells s.allocation number).class block;
+        name = name;
+      }) ((k.stop.heap.all _).1 (inr (record { number = number; block = block; lies = lies; at = refl })))).known
 
   -- each name of a block stands in the words
-  named : (number : ℕ) → Shows marked seen.words number (cells s.allocation number) → (block : ℕ) (name : Name) → LiesIn s.allocation number block name → slice_index words (block_place marked.layout number (nth marked.segments number).class block + 1) ≡ slice_index words (block_place layout number (cells s.allocation number).class block + 1)
+  named : (number : ℕ) → Shows marked seen.words number (cells s.allocation number) → (block : ℕ) (name : Name) →
+      LiesIn s.allocation number block name → slice_index words (block_place marked.layout number (nth marked.segments number).class block + 1) ≡
+      slice_index words (block_place layout number (cells s.allocation number).class block + 1)
   named number shows block name lies =
       let own : Cells = cells s.allocation number in
       let class = shows.class (not_free own block name shows.free lies) in
-      let place : block_place layout number own.class block ≡ block_place marked.layout number (nth marked.segments number).class block = ap (λ (l : Layout). block_place l number own.class block) (sym layout_then) ∙ ap (λ (j : ℕ). block_place marked.layout number j block) class in
+      let place : block_place layout number own.class block ≡ block_place marked.layout number (nth marked.segments number).class block =
+      ap (λ (l : Layout). block_place l number own.class block) (sym layout_then) ∙ ap (λ (j : ℕ). block_place marked.layout number j block) class in
       ap (λ (at : ℕ). slice_index words (at + 1)) (sym place)
 
   stand : StandsFor marked words s.allocation
@@ -219,16 +243,26 @@ module _ (layout : Layout) (c : Cycle) (s : State) (seen : Seen) (mutators : Lis
             };
       }
 
-  roots_then : QueuesClose → (queues : List FinQueue) (ends : List MutatorEnd) → FinalisersInHand seen deaths queues ends → RepresentsRoots stood w (registers_of ends) (queues_of ends) (serials_of ends)
+  roots_then : QueuesClose → (queues : List FinQueue) (ends : List MutatorEnd) → FinalisersInHand seen deaths queues ends →
+      RepresentsRoots stood w (registers_of ends) (queues_of ends) (serials_of ends)
   roots_then close queues ends j =
-      let before : RepresentsRoots stood machine.world (registers_of ends) (map (λ (q : FinQueue). q.words) j.old) (serials_of ends) = subst (λ (y : World × List ℕ × List (List ℕ) × List ℕ). RepresentsRoots stood y.0 y.1 y.2 y.3) (λ i. (sym rest_then.machine.world_is i, sym j.registers i, j.old_are i, sym j.serials i)) k.stop.heap.holds.roots in
-      let after = close o dead deaths (registers_of ends) j.old queues (serials_of ends) is_world k.resolved.deaths_are k.resolved.closing.lists.ordered before j.joined in
-      subst (λ (y : World × List (List ℕ)). RepresentsRoots stood y.0 (registers_of ends) y.1 (serials_of ends)) (λ i. (ap (λ (x : World). closed x dead) rest_then.machine.world_is i, sym j.queues_are i)) after
+      let before : RepresentsRoots stood machine.world (registers_of ends) (map (λ (q : FinQueue). q.words) j.old) (serials_of ends) =
+      subst (λ (y : World × List ℕ × List (List ℕ) × List ℕ). RepresentsRoots stood y.0 y.1 y.2 y.3) (λ i. (
+        sym rest_then.machine.world_is i,
+        sym j.registers i,
+        j.old_are i,
+        sym j.serials i,
+      )) k.stop.heap.holds.roots in
+      let after = close o dead deaths (registers_of ends) j.old queues (serials_of ends) is_world k.resolved.deaths_are
+      k.resolved.closing.lists.ordered before j.joined in
+      subst (λ (y : World × List (List ℕ)). RepresentsRoots stood y.0 (registers_of ends) y.1 (serials_of ends)) (λ i.
+      (ap (λ (x : World). closed x dead) rest_then.machine.world_is i, sym j.queues_are i)) after
 
   listed_then : ListsWeaks layout stood w (places_of list)
   listed_then = subst (λ (y : Layout × World). ListsWeaks y.0 stood y.1 (places_of list)) (λ i. (k.stop.heap.holds.layout_is i, world_is i)) k.resolved.listed
 
-  heap_then : QueuesClose → (queues : List FinQueue) (ends : List MutatorEnd) → FinalisersInHand seen deaths queues ends → (g : HoldsAtStop layout t words marked ends (places_of list)) × (g.places ≡ stood)
+  heap_then : QueuesClose → (queues : List FinQueue) (ends : List MutatorEnd) → FinalisersInHand seen deaths queues ends →
+      (g : HoldsAtStop layout t words marked ends (places_of list)) × (g.places ≡ stood)
   heap_then close queues ends j = (
     record {
       places = stood;
@@ -247,7 +281,9 @@ module _ (layout : Layout) (c : Cycle) (s : State) (seen : Seen) (mutators : Lis
   )
 
 pub resolve_closes : MarksLaw → CycleCloses → ResolveCloses
-resolve_closes law closes layout c s seen mutators words marked marker list deaths k = has_closed layout c s seen mutators words marked marker list deaths k law closes
+resolve_closes law closes layout c s seen mutators words marked marker list deaths k =
+    has_closed layout c s seen mutators words marked marker list deaths k law closes
 
 pub closed_holds : QueuesClose → ClosedHolds
-closed_holds close layout c s seen mutators words marked marker list deaths queues ends k j = heap_then layout c s seen mutators words marked marker list deaths k close queues ends j
+closed_holds close layout c s seen mutators words marked marker list deaths queues ends k j =
+    heap_then layout c s seen mutators words marked marker list deaths k close queues ends j

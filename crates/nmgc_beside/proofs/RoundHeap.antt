@@ -35,9 +35,11 @@ use Rattle.nmgc_beside.specs.Heaps.{IsRoundFrom, RoundHolds, MarkedHolds}
 
 -- a segment with a name isn't free
 pub not_free : (own : Cells) (block : ℕ) (name : Name) → (own.state ≡ stands.Free → own ≡ no_cells) → name_in own block ≡ Some name → own.state ≢ stands.Free
-not_free own block name free lies e = let none : name_in own block ≡ None = ap (λ (k : Cells). name_in k block) (free e) in let bad : Some name ≡ None = sym lies ∙ none in cc
+not_free own block name free lies e = let none : name_in own block ≡ None = ap (λ (k : Cells). name_in k block) (free e) in
+    let bad : Some name ≡ None = sym lies ∙ none in cc
 
-module _ (layout : Layout) (s t : State) (o : Opening) (before after : List ℕ) (v : View) (old new : Segments) (ends later : List MutatorEnd) (weaks : List Place) (r : IsRoundFrom layout s t o before after v old new ends later weaks) where
+module _ (layout : Layout) (s t : State) (o : Opening) (before after : List ℕ) (v : View) (old new : Segments) (ends later : List MutatorEnd)
+    (weaks : List Place) (r : IsRoundFrom layout s t o before after v old new ends later weaks) where
   abbrev born : List Object
   born = r.left.0.born
 
@@ -62,12 +64,24 @@ module _ (layout : Layout) (s t : State) (o : Opening) (before after : List ℕ)
   represents =
       let w : World = (now o r.left.0.events).world in
       let all : List World = o.core.world ∷ earlier o in
-      let plain : Represents o.layout all NoNode places w after = remembered o.layout all all (IsKeptThen o born) NoNode places w after (record { worlds = λ e d. contains_tail w all e d; nodes = λ name node none. absurd none }) r.left.1 in
-      subst (λ (y : Layout × World × List World × World). Represents y.0 (y.1 ∷ y.2) NoNode places y.3 after) (λ i. (r.layout_is i, r.began i, sym r.earlier_is i, sym r.world_is i)) plain
+      let plain : Represents o.layout all NoNode places w after =
+      remembered o.layout all all (IsKeptThen o born) NoNode places w after (record {
+        worlds = λ e d. contains_tail w all e d;
+        nodes = λ name node none. absurd none;
+      }) r.left.1 in
+      subst (λ (y : Layout × World × List World × World). Represents y.0 (y.1 ∷ y.2) NoNode places y.3 after) (λ i. (
+        r.layout_is i,
+        r.began i,
+        sym r.earlier_is i,
+        sym r.world_is i,
+      )) plain
 
   -- no header changed
   still : IsEarlier s.world t.world
-  still = subst (λ (y : World × World). IsEarlier y.0 y.1) (λ i. (r.began i, sym r.world_is i)) (still_earlier o.core.world o.core r.left.0.events r.left.0.legal r.can.world (world_is_earlier o.core.world r.can.world))
+  still = subst (λ (y : World × World). IsEarlier y.0 y.1) (λ i. (
+    r.began i,
+    sym r.world_is i,
+  )) (still_earlier o.core.world o.core r.left.0.events r.left.0.legal r.can.world (world_is_earlier o.core.world r.can.world))
 
   fit : FitBlocks t.world s.allocation
   fit number block name node lies there =
@@ -77,11 +91,14 @@ module _ (layout : Layout) (s t : State) (o : Opening) (before after : List ℕ)
       omega (arith, size, fits)
 
   -- each name of a block stands in the words
-  named : (number : ℕ) → Shows new before number (cells s.allocation number) → (block : ℕ) (name : Name) → LiesIn s.allocation number block name → slice_index after (block_place new.layout number (nth new.segments number).class block + 1) ≡ slice_index after (block_place layout number (cells s.allocation number).class block + 1)
+  named : (number : ℕ) → Shows new before number (cells s.allocation number) → (block : ℕ) (name : Name) → LiesIn s.allocation number block name →
+      slice_index after (block_place new.layout number (nth new.segments number).class block + 1) ≡
+      slice_index after (block_place layout number (cells s.allocation number).class block + 1)
   named number shows block name lies =
       let own : Cells = cells s.allocation number in
       let class = shows.class (not_free own block name shows.free lies) in
-      let place : block_place layout number own.class block ≡ block_place new.layout number (nth new.segments number).class block = ap (λ (l : Layout). block_place l number own.class block) (sym r.new_layout) ∙ ap (λ (k : ℕ). block_place new.layout number k block) class in
+      let place : block_place layout number own.class block ≡ block_place new.layout number (nth new.segments number).class block =
+      ap (λ (l : Layout). block_place l number own.class block) (sym r.new_layout) ∙ ap (λ (k : ℕ). block_place new.layout number k block) class in
       ap (λ (at : ℕ). slice_index after (at + 1)) (sym place)
 
   stand : StandsFor new after s.allocation
@@ -117,7 +134,11 @@ module _ (layout : Layout) (s t : State) (o : Opening) (before after : List ℕ)
         let to = new_one.to in
         inr (subst (IsBornPlace layout s.world t.world) (sym is) (record {
           young = (subst (λ (w : World). node_of w x.name ≡ None) r.began new_one.unknown, (represents.named (place_of x) (born_there x is_born)).known);
-          nursery = subst (λ (l : Layout). InNursery l x.name.maker x.at) r.layout_is (record { exists = maker; from = from; before = omega (arith, from, to) });
+          nursery = subst (λ (l : Layout). InNursery l x.name.maker x.at) r.layout_is (record {
+            exists = maker;
+            from = from;
+            before = omega (arith, from, to);
+          });
         }))
   ]
 
@@ -140,7 +161,8 @@ module _ (layout : Layout) (s t : State) (o : Opening) (before after : List ℕ)
         complete = λ p one. elim (place_cases o born p one.0) [
           | inl there ↦ was.complete p (subst (λ (l : List Place). Contains l p) r.places_are there, one.1, one.2)
           | inr (x, d, is) ↦
-              let none : node_of s.world p.name ≡ None = ap (λ (q : Place). node_of s.world q.name) is ∙ subst (λ (w : World). node_of w x.name ≡ None) r.began (r.left.0.new x d).unknown in
+              let none : node_of s.world p.name ≡ None = ap (λ (q : Place). node_of s.world q.name) is ∙
+              subst (λ (w : World). node_of w x.name ≡ None) r.began (r.left.0.new x d).unknown in
               absurd (absent (node_of s.world p.name) none (some_of (node_of s.world p.name) _ one.1.1))
         ];
       }
@@ -172,7 +194,14 @@ marked_holds layout s words old new ends weaks h same stands = (
   record {
     places = h.places;
     all = h.all;
-    holds = record { fit = h.holds.fit; represents = h.holds.represents; registers = h.holds.registers; roots = h.holds.roots; layout_is = same; stands = stands };
+    holds = record {
+      fit = h.holds.fit;
+      represents = h.holds.represents;
+      registers = h.holds.registers;
+      roots = h.holds.roots;
+      layout_is = same;
+      stands = stands;
+    };
     listed = h.listed;
   },
   refl,

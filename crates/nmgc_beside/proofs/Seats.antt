@@ -28,7 +28,8 @@ same_scans : (v : Seen) (ws : List Seen) → ((k : ℕ) (w : Seen) → slice_get
 same_scans v [] none = refl
 same_scans v (w ∷ ws) none = same_scans (together v w) ws (λ k u e. none (suc k) u e) ∙ ap (λ (b : Bool). cond b w.scans v.scans) (none 0 w refl)
 
-pub parts_gathered : (o : Opening) (scans : List Scan) (seats : List RoundSeat) → (gathered o scans seats).parts ≡ (all_together (collecting (whole o)) (map seen seats)).parts
+pub parts_gathered : (o : Opening) (scans : List Scan) (seats : List RoundSeat) →
+    (gathered o scans seats).parts ≡ (all_together (collecting (whole o)) (map seen seats)).parts
 parts_gathered o scans seats = same_parts (record (collecting (whole o)) { scans = scans }) (collecting (whole o)) (map seen seats) refl
 
 pub seats_gathered : SlicesAreGathered
@@ -37,13 +38,17 @@ seats_gathered o before round old mutators seats done scans opens h =
     let first : Seen = record (collecting (whole o)) { scans = scans } in
     let parts = parts_gathered o scans seats in
     let opening : (gathered o scans seats).opening ≡ o = same_opening first (map seen seats) in
-    let each : HasEach o (all_together (collecting (whole o)) (map seen seats)) = subst (λ (y : Opening). HasEach y (all_together (collecting (whole o)) (map seen seats))) (same_opening (collecting (whole o)) (map seen seats)) plain.0.1 in
+    let each : HasEach o (all_together (collecting (whole o)) (map seen seats)) =
+    subst (λ (y : Opening).
+    HasEach y (all_together (collecting (whole o)) (map seen seats))) (same_opening (collecting (whole o)) (map seen seats)) plain.0.1 in
     record {
       all = (
         still_collects first (map seen seats) refl,
-        subst (λ (y : Opening). HasEach y (gathered o scans seats)) (sym opening) (subst (λ (ps : List Part). HasEach o (record (gathered o scans seats) { parts = ps })) (sym parts) each),
+        subst (λ (y : Opening). HasEach y (gathered o scans seats)) (sym opening) (subst (λ (ps : List Part).
+            HasEach o (record (gathered o scans seats) { parts = ps })) (sym parts) each),
       );
       worked = subst (λ (ps : List Part). HaveWorked o ps mutators done) (sym parts) plain.2;
       opening = opening;
-      scans_are = same_scans first (map seen seats) (λ k w e. let seat = map_item seen seats k w e in ap (λ (x : Seen). x.collects) seat.2 ∙ (slice_at o before round old mutators seats done opens h k seat.0 seat.1).did.went.is.no_collector);
+      scans_are = same_scans first (map seen seats) (λ k w e. let seat = map_item seen seats k w e in ap (λ (x : Seen). x.collects) seat.2 ∙
+          (slice_at o before round old mutators seats done opens h k seat.0 seat.1).did.went.is.no_collector);
     }

@@ -104,7 +104,14 @@ none_current mutator class (suc k) own =
 
 layout_sound : IsLayout array_layout
 unfolding ones
-layout_sound = record { some = lit≤ tt; segments = lit≤ tt; words = record { power = refl; least = lit≤ tt; most = lit≤ tt }; nursery = lit≤ tt; mutators = (lit≤ tt, lit≤ tt); heap = lit≤ tt }
+layout_sound = record {
+  some = lit≤ tt;
+  segments = lit≤ tt;
+  words = record { power = refl; least = lit≤ tt; most = lit≤ tt };
+  nursery = lit≤ tt;
+  mutators = (lit≤ tt, lit≤ tt);
+  heap = lit≤ tt;
+}
 
 segments_sound : IsSegments marking_seen.segments
 segments_sound = record {
@@ -119,18 +126,25 @@ whole : IsWhole marking_mutator
 whole = record { layout = layout_sound; number = lit< tt; size = refl }
 
 each_shown : (k : ℕ) (m : Mutator) → slice_get (marking_mutator ∷ []) k ≡ Some m → (m.number ≡ k) × (m.layout ≡ array_layout) × IsWhole m
-each_shown zero m e = let is : marking_mutator ≡ m = cc in subst (λ (x : Mutator). (x.number ≡ 0) × (x.layout ≡ array_layout) × IsWhole x) is (refl, refl, whole)
+each_shown zero m e = let is : marking_mutator ≡ m = cc in subst (λ (x : Mutator). (x.number ≡ 0) × (x.layout ≡ array_layout) × IsWhole x) is (
+  refl,
+  refl,
+  whole,
+)
 each_shown (suc k) m e = absurd cc
 
 are_shown : AreShown array_layout marking_seen (marking_mutator ∷ [])
 are_shown = record { are = refl; each = each_shown }
 
 -- the heap at a stop of a run is at rest, with the machine to which the marker is tied
-stop_rests : (plan : Plan) (run : Run) (seen : Seen) (c : Cycle) (mutators : List Mutator) → IsRunnable plan → (h : IsAtStop plan run seen) → (last_state run).progress ≡ marking c → IsSegments seen.segments → AreShown seen.segments.layout seen mutators →
-    (k : IsMarking c (last_state run) seen h.heap.places) × IsAtRest c k.core seen.segments h.heap.places (last_state run).world seen.words mutators seen.marker.queue
+stop_rests : (plan : Plan) (run : Run) (seen : Seen) (c : Cycle) (mutators : List Mutator) → IsRunnable plan → (h : IsAtStop plan run seen) →
+    (last_state run).progress ≡ marking c → IsSegments seen.segments → AreShown seen.segments.layout seen mutators →
+    (k : IsMarking c (last_state run) seen h.heap.places) ×
+    IsAtRest c k.core seen.segments h.heap.places (last_state run).world seen.words mutators seen.marker.queue
 stop_rests plan run seen c mutators runnable h marks segments are =
     let s : State = last_state run in
-    let both : IsMarking c s seen h.heap.places × IsPacedAtStop plan.config.quota c s seen = subst (λ (p : Progress). HoldsInCycle (λ (k : Cycle). IsPacedAtStop plan.config.quota k s seen) p s seen h.heap.places) marks h.cycle in
+    let both : IsMarking c s seen h.heap.places × IsPacedAtStop plan.config.quota c s seen =
+    subst (λ (p : Progress). HoldsInCycle (λ (k : Cycle). IsPacedAtStop plan.config.quota k s seen) p s seen h.heap.places) marks h.cycle in
     (both.0, rests plan s seen c mutators (states_are_sound plan run runnable h.is_run) h.heap h.at_rest marks both.0 segments are)
 
 pub small_life_rests : LifeIsSeen → SmallLifeRests

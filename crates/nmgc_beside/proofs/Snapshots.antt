@@ -54,7 +54,8 @@ live_wide S X opens n (plain_key weak _ parts alive plain kept) = IsReached.star
 live_wide S X opens n (live_key weak _ key parts alive is l kept) = IsReached.start n (inr (weak, parts, alive, of_kept weak n parts kept))
 
 -- what rows open was held
-opened_held : (P : Name → Type 0) (w : World) (rows : List Row) → IsWorld w → CountsNew P w → HoldsOnly P w → CanReplay w rows → (n : Name) → Contains (opened w rows) n → P n
+opened_held : (P : Name → Type 0) (w : World) (rows : List Row) → IsWorld w → CountsNew P w → HoldsOnly P w → CanReplay w rows → (n : Name) →
+    Contains (opened w rows) n → P n
 opened_held P w [] is new h can n c = absurd (nothing_in n c)
 opened_held P w (row ∷ rows) is new h can n c =
     let v : World = (step w row.mutator row.command).0 in
@@ -63,7 +64,9 @@ opened_held P w (row ∷ rows) is new h can n c =
     let next : P name = new name (λ there. absent (node_of w name) (next_is_new w row.mutator own) there) in
     elim (Contains-append_cases (opened_by w row.mutator row.command) (opened v rows) n c) [
       | inl first ↦ opened_has P w row.mutator row.command (weaks_held P w h) n first
-      | inr later ↦ opened_held P v rows (step_keeps_world w row.mutator row.command is can.0) (λ k gone. new k (λ there. gone ((step_grows w row.mutator row.command can.0.mutator).names k there))) (step_holds_only P w row.mutator row.command is can.0 next h) can.1 n later
+      | inr later ↦ opened_held P v rows (step_keeps_world w row.mutator row.command is can.0) (λ k gone.
+          new k (λ there. gone ((step_grows w row.mutator row.command can.0.mutator).names k there)))
+          (step_holds_only P w row.mutator row.command is can.0 next h) can.1 n later
     ]
 
 -- free variables by either name
@@ -107,7 +110,8 @@ module _ (S : World) (rows : List Row) (core : State) (h : IsReachedBy S rows co
   tracked_wide n t there =
       let same = h.marking.snapshot in
       subst (λ (x : World). IsWide x n) (sym same)
-      (held_tracked core.world (core.snapshot ∷ []) Old (λ e k in_ wide known. subst (λ (x : World). IsWide x k) (sym (one_is core.snapshot e in_) ∙ same) wide) holds n t (subst (λ (x : World). IsSome (node_of x n)) same there))
+      (held_tracked core.world (core.snapshot ∷ []) Old (λ e k in_ wide known. subst (λ (x : World). IsWide x k) (sym (one_is core.snapshot e in_) ∙
+      same) wide) holds n t (subst (λ (x : World). IsSome (node_of x n)) same there))
 
   -- what is marked was in it
   pub marked_wide : (n : Name) → Contains core.marked n → IsWide S n
@@ -117,7 +121,8 @@ module _ (S : World) (rows : List Row) (core : State) (h : IsReachedBy S rows co
   marked_there n c = live_there S core.opened h.world n (h.marking.live n c)
 
   pub marked_tracked : (n : Name) → Contains core.marked n → IsTracked core.world (core.snapshot ∷ []) n
-  marked_tracked n c = past_tracked core.world (core.snapshot ∷ []) core.snapshot n (contains_head core.snapshot []) (subst (λ (x : World). IsWide x n) (sym h.marking.snapshot) (marked_wide n c))
+  marked_tracked n c = past_tracked core.world (core.snapshot ∷
+      []) core.snapshot n (contains_head core.snapshot []) (subst (λ (x : World). IsWide x n) (sym h.marking.snapshot) (marked_wide n c))
 
   -- and so was what waits
   pub queued_marked : (entry : Entry) → Contains core.queue entry → Contains core.marked entry.name
@@ -125,7 +130,10 @@ module _ (S : World) (rows : List Row) (core : State) (h : IsReachedBy S rows co
 
   -- the snapshot is an earlier world
   pub snapshot_earlier : IsEarlier core.snapshot core.world
-  snapshot_earlier = subst (λ (y : World × World). IsEarlier y.0 y.1) (λ i. (sym h.marking.snapshot i, sym h.marking.world i)) (rows_keep_headers S rows h.world h.can)
+  snapshot_earlier = subst (λ (y : World × World). IsEarlier y.0 y.1) (λ i. (
+    sym h.marking.snapshot i,
+    sym h.marking.world i,
+  )) (rows_keep_headers S rows h.world h.can)
 
   pub are_earlier : AreEarlier (core.snapshot ∷ []) core.world
   are_earlier e c = subst (λ (x : World). IsEarlier x core.world) (one_is core.snapshot e c) snapshot_earlier
@@ -155,7 +163,8 @@ module _ (S : World) (rows : List Row) (core : State) (h : IsReachedBy S rows co
           listed_free (Stack size values) = refl
 
       alive_then : (parts : Parts) → node_of core.world name ≡ Some (Weak (Some parts)) → before ≡ Weak (Some parts)
-      alive_then parts alive = let then = (h.facts.base.weaks name parts alive).old (subst (λ (o : Option Node). IsSome o) (sym was) refl) in let both : Some before ≡ Some (Weak (Some parts)) = sym was ∙ then in cc
+      alive_then parts alive = let then = (h.facts.base.weaks name parts alive).old (subst (λ (o : Option Node). IsSome o) (sym was) refl) in
+          let both : Some before ≡ Some (Weak (Some parts)) = sym was ∙ then in cc
 
 -- nothing was read yet of what waits
 pub fresh_at : (queue : List Entry) → All IsFresh queue → (entry : Entry) → Contains queue entry → entry.position ≡ 0

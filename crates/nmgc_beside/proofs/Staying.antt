@@ -38,7 +38,8 @@ use Rattle.nmgc_beside.proofs.Beginning.{epoch_is_some, epoch_is_epoch, lies_wit
 use Rattle.nmgc_beside.proofs.Placing.{Stay, each_stay}
 
 -- places of names that are kept among others
-pub at_kept : (places more : List Place) (ats : List ℕ) (names : List Name) → ((p : Place) → Contains places p → Contains ats p.at → Contains names p.name → Contains more p) → AreAt places ats names → AreAt more ats names
+pub at_kept : (places more : List Place) (ats : List ℕ) (names : List Name) →
+    ((p : Place) → Contains places p → Contains ats p.at → Contains names p.name → Contains more p) → AreAt places ats names → AreAt more ats names
 at_kept places more [] [] kept h = tt
 at_kept places more [] (name ∷ names) kept h = h
 at_kept places more (at ∷ ats) [] kept h = h
@@ -48,15 +49,18 @@ at_kept places more (at ∷ ats) (name ∷ names) kept h = (
 )
 
 -- what was remembered at places below the nurseries is at these places still
-pub remembered_stays : (c : Cycle) (t : Stopped) (new : Segments) (moves : List Moved) (entries : List ℕ) (pushed : List Name) → ((at : ℕ) → Contains entries at → at < young_base new) → AreRemembered c t.places entries pushed → AreRemembered c (places_after new moves t) entries pushed
+pub remembered_stays : (c : Cycle) (t : Stopped) (new : Segments) (moves : List Moved) (entries : List ℕ) (pushed : List Name) →
+    ((at : ℕ) → Contains entries at → at < young_base new) → AreRemembered c t.places entries pushed → AreRemembered c (places_after new moves t) entries pushed
 remembered_stays c t new moves entries pushed low r = record {
   names = r.names;
   at = at_kept t.places (places_after new moves t) entries r.names (λ p d e f. settled_stays (young_base new) moves t.places p d (low p.at e)) r.at;
   counted = r.counted;
 }
 
-module _ (c : Cycle) (t : Stopped) (s new : Segments) (words after registers : List ℕ) (queues : List (List ℕ)) (moves : List Moved) (allocation placed : AllocState) (marker : MarkerSeen) (core : Core)
-    (h : HasPromoted c t s new words after registers queues moves allocation placed) (world : IsWorld c.snapshot) (machine : IsCoreOf c t.world core) (tied : IsTied c allocation s t.places marker core) where
+module _ (c : Cycle) (t : Stopped) (s new : Segments) (words after registers : List ℕ) (queues : List (List ℕ)) (moves : List Moved)
+    (allocation placed : AllocState) (marker : MarkerSeen) (core : Core)
+    (h : HasPromoted c t s new words after registers queues moves allocation placed) (world : IsWorld c.snapshot)
+    (machine : IsCoreOf c t.world core) (tied : IsTied c allocation s t.places marker core) where
   abbrev moved_names : List Name
   moved_names = map (λ (m : Moved). m.name) moves
 
@@ -80,7 +84,8 @@ module _ (c : Cycle) (t : Stopped) (s new : Segments) (words after registers : L
       absurd (omega arith)
 
   stay : Stay allocation placed moved_names
-  stay = each_stay s.layout t.world allocation placed moved_names h.places_each (free_empty s.layout allocation (stands_sound s words allocation h.sound h.stood))
+  stay = each_stay s.layout t.world allocation placed moved_names h.places_each
+      (free_empty s.layout allocation (stands_sound s words allocation h.sound h.stood))
 
   old_or_new : (number block : ℕ) (n : Name) → LiesIn placed number block n → Contains moved_names n ⊎ LiesIn allocation number block n
   old_or_new = stay.was
@@ -89,7 +94,8 @@ module _ (c : Cycle) (t : Stopped) (s new : Segments) (words after registers : L
   not_before number block n d lies = absent (node_of t.began n) (new_to_began n d) (h.known number block n lies)
 
   marked_there : (n : Name) → Contains core.marked n → IsSome (node_of c.snapshot n)
-  marked_there n d = live_there c.snapshot core.opened world n (((snapshot_theorem c.snapshot world machine.events c.rows core machine.runs).before machine.open_yet).live n d)
+  marked_there n d = live_there c.snapshot core.opened world n
+      (((snapshot_theorem c.snapshot world machine.events c.rows core machine.runs).before machine.open_yet).live n d)
 
   same_size : length new.segments ≡ length s.segments
   same_size = h.sound_after.count ∙ ap (λ (l : Layout). l.segments) h.layout_is ∙ sym h.sound.count
@@ -134,7 +140,11 @@ module _ (c : Cycle) (t : Stopped) (s new : Segments) (words after registers : L
   are_marked : AreMarked core placed new marker.epoch
   are_marked number block n lies = elim (old_or_new number block n lies) [
     | inl young ↦ (λ marked. absurd (not_marked number block n young lies marked), λ d. absurd (new_to_snapshot n young (marked_there n d)))
-    | inr old ↦ (λ marked. (tied.marks number block n old).0 (sym (same_mark number block) ∙ marked), λ d. same_mark number block ∙ (tied.marks number block n old).1 d)
+    | inr old ↦ (
+      λ marked. (tied.marks number block n old).0 (sym (same_mark number block) ∙ marked),
+      λ d. same_mark number block ∙
+          (tied.marks number block n old).1 d,
+    )
   ]
 
   -- what waits is of the snapshot, so it lies below the nurseries
@@ -148,7 +158,8 @@ module _ (c : Cycle) (t : Stopped) (s new : Segments) (words after registers : L
 
   queue_stays : AreAt (places_after new moves t) marker.queue (map (λ (entry : Entry). entry.name) core.queue)
   queue_stays = at_kept t.places (places_after new moves t) marker.queue (map (λ (entry : Entry). entry.name) core.queue) (λ p d e f.
-      settled_stays (young_base new) moves t.places p d (let low = h.round.outside c.snapshot p spoken d (waits_there p.name f) in subst (λ n. p.at < n) (sym base_is) low)) tied.queue
+      settled_stays (young_base new) moves t.places p d (let low = h.round.outside c.snapshot p spoken d (waits_there p.name f) in
+      subst (λ n. p.at < n) (sym base_is) low)) tied.queue
 
   tie_stays : IsTied c placed new (places_after new moves t) marker core
   tie_stays = record { epoch = tied.epoch; snapshot = right_snapshot; marks = are_marked; queue = queue_stays; fresh = tied.fresh; count = tied.count }
@@ -161,7 +172,9 @@ module _ (c : Cycle) (t : Stopped) (s new : Segments) (words after registers : L
       let in_use : IsIn Free (cells allocation number) → ⊥ = λ free. used (sym was.state ∙ free) in
       sym (now.class (stay.used number in_use)) ∙ stay.class number in_use ∙ was.class in_use
 
-  carries : (Such : Segment → ℕ → Type 0) → Within Such → ((number block : ℕ) → Such (nth new.segments number) block → Such (nth s.segments number) block) → ((number block : ℕ) → Such (nth s.segments number) block → Such (nth new.segments number) block) → (number : ℕ) → HasNumber s number → Carries Such Such (nth s.segments number) (nth new.segments number)
+  carries : (Such : Segment → ℕ → Type 0) → Within Such → ((number block : ℕ) → Such (nth new.segments number) block →
+      Such (nth s.segments number) block) → ((number block : ℕ) → Such (nth s.segments number) block → Such (nth new.segments number) block) →
+      (number : ℕ) → HasNumber s number → Carries Such Such (nth s.segments number) (nth new.segments number)
   carries Such within back on number there = record {
     same = λ block. (back number block, on number block);
     class = elim (free_or_not (nth s.segments number).state) [
@@ -175,7 +188,8 @@ module _ (c : Cycle) (t : Stopped) (s new : Segments) (words after registers : L
   epoch_sound = subst IsEpoch (sym tied.epoch) (epoch_is_epoch c.number)
 
   snapshot_at : (at : ℕ) → IsSnapshotAt new at → IsSnapshotAt s at
-  snapshot_at at = (carried_at InSnapshot InSnapshot snapshot_within snapshot_within s new h.sound h.sound_after h.layout_is same_size (carries InSnapshot snapshot_within snapshot_before snapshot_after) at).0
+  snapshot_at at = (carried_at InSnapshot InSnapshot snapshot_within snapshot_within s new h.sound h.sound_after h.layout_is same_size
+      (carries InSnapshot snapshot_within snapshot_before snapshot_after) at).0
 
   marked_at : (at : ℕ) → IsMarkedAt s marker.epoch at → IsMarkedAt new marker.epoch at
   marked_at at =
@@ -188,7 +202,10 @@ module _ (c : Cycle) (t : Stopped) (s new : Segments) (words after registers : L
   room_stays r = record { places = r.places; all = λ at snap not. r.all at (snapshot_at at snap) (λ was. not (marked_at at was)); room = r.room }
 
 -- the marker is tied to the same machine, at the places after the promotion, and has room as before
-pub tie_is_kept : (c : Cycle) (t : Stopped) (s new : Segments) (words after registers : List ℕ) (queues : List (List ℕ)) (moves : List Moved) (allocation placed : AllocState) (marker : MarkerSeen) (core : Core) → HasPromoted c t s new words after registers queues moves allocation placed → IsWorld c.snapshot → IsCoreOf c t.world core → IsTied c allocation s t.places marker core →
+pub tie_is_kept : (c : Cycle) (t : Stopped) (s new : Segments) (words after registers : List ℕ) (queues : List (List ℕ)) (moves : List Moved)
+    (allocation placed : AllocState) (marker : MarkerSeen) (core : Core) →
+    HasPromoted c t s new words after registers queues moves allocation placed → IsWorld c.snapshot → IsCoreOf c t.world core →
+    IsTied c allocation s t.places marker core →
     IsTied c placed new (places_after new moves t) marker core × (HasRoomToMark s marker → HasRoomToMark new marker)
 tie_is_kept c t s new words after registers queues moves allocation placed marker core h world machine tied = (
   tie_stays c t s new words after registers queues moves allocation placed marker core h world machine tied,

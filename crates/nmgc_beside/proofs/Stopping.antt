@@ -58,7 +58,10 @@ none_told : (l : List Address) → numbers l ≡ [] → l ≡ []
 none_told [] e = refl
 none_told (a ∷ l) e = absurd cc
 
-module _ (plan : Plan) (s : State) (seen : Seen) (c : Cycle) (mutators : List Mutator) (sound : IsSoundState plan s) (heap : HoldsAtStop (layout_of plan) s seen.words seen.segments (ends_of seen) seen.weaks) (at_rest : AreAtRest (layout_of plan) heap.places s.world seen) (marks : s.progress ≡ marking c) (kept : IsMarking c s seen heap.places) (segments : IsSegments seen.segments) (are : AreShown seen.segments.layout seen mutators) where
+module _ (plan : Plan) (s : State) (seen : Seen) (c : Cycle) (mutators : List Mutator) (sound : IsSoundState plan s)
+    (heap : HoldsAtStop (layout_of plan) s seen.words seen.segments (ends_of seen) seen.weaks)
+    (at_rest : AreAtRest (layout_of plan) heap.places s.world seen) (marks : s.progress ≡
+    marking c) (kept : IsMarking c s seen heap.places) (segments : IsSegments seen.segments) (are : AreShown seen.segments.layout seen mutators) where
   abbrev places : List Place
   places = heap.places
 
@@ -100,15 +103,19 @@ module _ (plan : Plan) (s : State) (seen : Seen) (c : Cycle) (mutators : List Mu
   unused k m e =
       let own = are.each k m e in
       let rest = at_rest in
-      let at : nursery_at (nurseries_of seen) k ≡ m.nursery = get_or_from_slice_get (nurseries_of seen) k m.nursery _ (item_map (λ (x : MutatorSeen). x.nursery) seen.mutators k (seen_mutator m) (seen_at k m e)) in
+      let at : nursery_at (nurseries_of seen) k ≡ m.nursery =
+      get_or_from_slice_get (nurseries_of seen) k m.nursery _ (item_map (λ (x : MutatorSeen).
+      x.nursery) seen.mutators k (seen_mutator m) (seen_at k m e)) in
       let same : m.layout ≡ layout_of plan = own.1 ∙ layout_is in
       let within = slice_get_within mutators k m e in
       let as_many = ap (λ (l : Layout). l.mutators) layout_is in
       let there : k < (layout_of plan).mutators = let all = count in omega arith in
       record {
-        base = sym (ap (λ (n : Nursery). n.base) at) ∙ rest.nurseries.used.places_are k there ∙ ap (λ (l : Layout). nursery_place l k) (sym same) ∙ ap (nursery_place m.layout) (sym own.0);
+        base = sym (ap (λ (n : Nursery). n.base) at) ∙ rest.nurseries.used.places_are k there ∙ ap (λ (l : Layout). nursery_place l k) (sym same) ∙
+            ap (nursery_place m.layout) (sym own.0);
         top = sym (ap (λ (n : Nursery). n.top) at) ∙ rest.empty k ∙ ap (λ (n : Nursery). n.base) at;
-        end = sym (ap (λ (n : Nursery). n.end) at) ∙ rest.nurseries.ends k there ∙ ap (λ (n : Nursery). n.base + (layout_of plan).nursery) at ∙ ap (λ (l : Layout). m.nursery.base + l.nursery) (sym same);
+        end = sym (ap (λ (n : Nursery). n.end) at) ∙ rest.nurseries.ends k there ∙ ap (λ (n : Nursery). n.base + (layout_of plan).nursery) at ∙
+            ap (λ (l : Layout). m.nursery.base + l.nursery) (sym same);
       }
 
   resting : (k : ℕ) (m : Mutator) → slice_get mutators k ≡ Some m → IsResting seen.segments.layout k m
@@ -126,15 +133,21 @@ module _ (plan : Plan) (s : State) (seen : Seen) (c : Cycle) (mutators : List Mu
 
   pub rests : IsAtRest c kept.core seen.segments places s.world seen.words mutators seen.marker.queue
   rests =
-      let length_seen : length seen.mutators ≡ length s.world.mutators = ap (λ (l : List MutatorSeen). length l) are.are ∙ length-map mutators seen_mutator ∙ many in
+      let length_seen : length seen.mutators ≡ length s.world.mutators = ap (λ (l : List MutatorSeen). length l) are.are ∙
+      length-map mutators seen_mutator ∙ many in
       let at_stop = stop_is_at_rest c s seen places kept in_cycle.0 length_seen (λ k mutator e. (at_rest.nothing k mutator e).entries) in
       record {
         world = sound.world;
         machine = at_stop.0;
         sound = segments;
-        represents = subst (λ (y : Layout × List World). Represents y.0 y.1 NoNode places s.world seen.words) (λ i. (sym layout_is i, ap snapshots marks i)) heap.holds.represents;
+        represents = subst (λ (y : Layout × List World). Represents y.0 y.1 NoNode places s.world seen.words) (λ i. (
+          sym layout_is i,
+          ap snapshots marks i,
+        )) heap.holds.represents;
         roots = roots;
-        blocks = subst (λ (l : Layout). AreBlocks seen.segments (nursery_place l 0) places s.world) (sym layout_is) (blocks_at_stop (layout_of plan) s seen.words seen.segments (ends_of seen) seen.weaks heap);
+        blocks = subst (λ (l : Layout).
+            AreBlocks seen.segments (nursery_place l 0) places s.world) (sym layout_is)
+            (blocks_at_stop (layout_of plan) s seen.words seen.segments (ends_of seen) seen.weaks heap);
         low = low;
         count = count;
         mutators_are = resting;
@@ -148,5 +161,12 @@ heap_rests law agree plan s seen c mutators sound heap at_rest marks kept segmen
     let interval = rest.machine.sound in
     let o : Opening = opening_beside seen.segments.layout kept.core heap.places mutators in
     let snapshot = core_snapshot c s.world kept.core interval kept.machine in
-    let blocks : AreOfBlocks o c seen.segments seen.words s.allocation kept.core = heap_of_blocks law (layout_of plan) s seen.words seen.segments (ends_of seen) seen.weaks c s.world kept.core o heap segments interval kept.machine heap.holds.layout_is refl snapshot in
-    (rest, record { opens = (rest_opens c kept.core seen.segments heap.places s.world seen.words mutators seen.marker.queue rest).0; tied = ((agree o c seen.segments seen.words s.allocation kept.core seen.marker blocks).0 kept.tied).1 })
+    let blocks : AreOfBlocks o c seen.segments seen.words s.allocation kept.core =
+    heap_of_blocks law (layout_of plan) s seen.words seen.segments (ends_of seen) seen.weaks c s.world kept.core o heap segments interval
+    kept.machine heap.holds.layout_is refl snapshot in (
+      rest,
+      record {
+        opens = (rest_opens c kept.core seen.segments heap.places s.world seen.words mutators seen.marker.queue rest).0;
+        tied = ((agree o c seen.segments seen.words s.allocation kept.core seen.marker blocks).0 kept.tied).1;
+      },
+    )

@@ -85,28 +85,35 @@ module _ (S : World) (is : IsWorld S) where
   -- what the snapshot's roots and reached objects hold
   held_fields : (name : Name) → Kept name → (o : Option Node) → node_of S name ≡ o → IfSome o (Fields (Names Kept))
   held_fields name k None e = tt
-  held_fields name k (Some node) e = all_from_contains Kept (strong_fields node) (λ target c there. IsReached.field name target (k (some_of (node_of S name) node e)) (node, e, c))
+  held_fields name k (Some node) e = all_from_contains Kept (strong_fields node) (λ target c there.
+      IsReached.field name target (k (some_of (node_of S name) node e)) (node, e, c))
 
   snapshot_holds : CoversReach Kept S
   snapshot_holds = record {
-    registers = λ m. all_from_contains Kept (state_of S m).registers (λ n c there. IsReached.start n (inr (m, Contains-append_left (state_of S m).registers (state_of S m).queue (value.Ref n) c)));
-    queues = λ m. all_from_contains Kept (state_of S m).queue (λ n c there. IsReached.start n (inr (m, Contains-append_right (state_of S m).registers (state_of S m).queue (value.Ref n) c)));
+    registers = λ m. all_from_contains Kept (state_of S m).registers (λ n c there.
+        IsReached.start n (inr (m, Contains-append_left (state_of S m).registers (state_of S m).queue (value.Ref n) c)));
+    queues = λ m. all_from_contains Kept (state_of S m).queue (λ n c there.
+        IsReached.start n (inr (m, Contains-append_right (state_of S m).registers (state_of S m).queue (value.Ref n) c)));
     fields = λ name k. held_fields name k (node_of S name) refl;
   }
 
   shared_kept : Kept shared_name
   shared_kept there = IsReached.start shared_name (inl refl)
 
-  each_flat : (f : MutatorState → List Value) (states : List MutatorState) → ((m : MutatorState) → Contains states m → All (Names Kept) (f m)) → All (Names Kept) (flat_map f states)
+  each_flat : (f : MutatorState → List Value) (states : List MutatorState) → ((m : MutatorState) → Contains states m → All (Names Kept) (f m)) →
+      All (Names Kept) (flat_map f states)
   each_flat f [] g = All-nil (Names Kept)
-  each_flat f (m ∷ states) g = All-append (Names Kept) (f m) (flat_map f states) (g m (contains_head m states)) (each_flat f states (λ t c. g t (contains_tail m states t c)))
+  each_flat f (m ∷ states) g = All-append (Names Kept) (f m) (flat_map f states) (g m (contains_head m states)) (each_flat f states (λ t c.
+      g t (contains_tail m states t c)))
 
   roots_kept : All (Names Kept) (root_values S)
   roots_kept =
       All-append (Names Kept) (flat_map (λ (m : MutatorState). m.registers) S.mutators) _
-      (each_flat (λ (m : MutatorState). m.registers) S.mutators (λ m c. let p = place_of S.mutators m c in subst (λ (t : MutatorState). All (Names Kept) t.registers) (get_or_from_slice_get S.mutators p.0 m no_mutator p.1) (snapshot_holds.registers p.0)))
+      (each_flat (λ (m : MutatorState). m.registers) S.mutators (λ m c. let p = place_of S.mutators m c in
+      subst (λ (t : MutatorState). All (Names Kept) t.registers) (get_or_from_slice_get S.mutators p.0 m no_mutator p.1) (snapshot_holds.registers p.0)))
       (All-append (Names Kept) (flat_map (λ (m : MutatorState). m.queue) S.mutators) (strong_fields S.shared)
-      (each_flat (λ (m : MutatorState). m.queue) S.mutators (λ m c. let p = place_of S.mutators m c in subst (λ (t : MutatorState). All (Names Kept) t.queue) (get_or_from_slice_get S.mutators p.0 m no_mutator p.1) (snapshot_holds.queues p.0)))
+      (each_flat (λ (m : MutatorState). m.queue) S.mutators (λ m c. let p = place_of S.mutators m c in
+      subst (λ (t : MutatorState). All (Names Kept) t.queue) (get_or_from_slice_get S.mutators p.0 m no_mutator p.1) (snapshot_holds.queues p.0)))
       (held_fields shared_name shared_kept (Some S.shared) refl))
 
   -- what is marked is reached so
@@ -117,7 +124,8 @@ module _ (S : World) (is : IsWorld S) where
   strong_name s name same kept h = mark_cases AreStrong s name
       (λ new n c. elim (Contains-append_cases s.marked (name ∷ []) n c) [
         | inl old ↦ h n old
-        | inr last ↦ subst Strong (one_is name n last) (kept (subst (λ (w : World). IsSome (node_of w name)) same (and_parts (is_some (node_of s.snapshot name)) (not (is_listed name s.marked)) new).0))
+        | inr last ↦ subst Strong (one_is name n last) (kept (subst (λ (w : World).
+            IsSome (node_of w name)) same (and_parts (is_some (node_of s.snapshot name)) (not (is_listed name s.marked)) new).0))
       ])
       (λ old. h)
 
@@ -126,7 +134,8 @@ module _ (S : World) (is : IsWorld S) where
   strong_values s (value.Nil ∷ values) same kept h = strong_values s values same (All-tail (Names Kept) value.Nil values kept) h
   strong_values s (value.Number n ∷ values) same kept h = strong_values s values same (All-tail (Names Kept) (value.Number n) values kept) h
   strong_values s (value.Ref name ∷ values) same kept h =
-      strong_values (mark_name s name) values (mark_cases (λ (t : State). t.snapshot ≡ S) s name (λ e. same) (λ e. same)) (All-tail (Names Kept) (value.Ref name) values kept)
+      strong_values (mark_name s name) values (mark_cases (λ (t : State). t.snapshot ≡ S) s name (λ e. same) (λ e.
+      same)) (All-tail (Names Kept) (value.Ref name) values kept)
       (strong_name s name same (All-head (Names Kept) (value.Ref name) values kept) h)
 
   -- a state of the machine so far, in which nothing was ever owed
@@ -145,11 +154,16 @@ module _ (S : World) (is : IsWorld S) where
     entry_strong = h.strong entry.name (h.facts.base.queued entry waits)
 
     entry_there : IsSome (node_of S entry.name)
-    entry_there = subst (λ (w : World). IsSome (node_of w entry.name)) h.snapshot_is (live_there s.snapshot s.opened h.facts.base.snapshot entry.name (h.facts.base.live entry.name (h.facts.base.queued entry waits)))
+    entry_there = subst (λ (w : World).
+        IsSome (node_of w entry.name)) h.snapshot_is (live_there s.snapshot s.opened h.facts.base.snapshot entry.name
+        (h.facts.base.live entry.name (h.facts.base.queued entry waits)))
 
-    read_field : (node : Node) (i : ℕ) (n : Name) → node_of s.world entry.name ≡ Some node → entry.position ≡ suc i → field_at node i ≡ Some (value.Ref n) → Kept n
+    read_field : (node : Node) (i : ℕ) (n : Name) → node_of s.world entry.name ≡ Some node → entry.position ≡ suc i →
+        field_at node i ≡ Some (value.Ref n) → Kept n
     read_field node i n e at reads = elim (read_cases node i (value.Ref n) reads) [
-      | inl st ↦ All-contains (Names Kept) (strong_fields node) (value.Ref n) (at_some (node_of s.world entry.name) node (Fields (Names Kept)) e (h.holds.fields entry.name (λ there. entry_strong))) (field_at_place node i (value.Ref n) st)
+      | inl st ↦ All-contains (Names Kept) (strong_fields node) (value.Ref n)
+          (at_some (node_of s.world entry.name) node (Fields (Names Kept)) e (h.holds.fields entry.name (λ there.
+          entry_strong))) (field_at_place node i (value.Ref n) st)
       | inr (has, one, frees) ↦
           let before = is_some_of (node_of S entry.name) entry_there in
           let there : node_of s.snapshot entry.name ≡ Some before.0 = ap (λ (w : World). node_of w entry.name) h.snapshot_is ∙ before.1 in
@@ -164,7 +178,8 @@ module _ (S : World) (is : IsWorld S) where
           (λ known. IsReached.field entry.name n entry_strong (before.0, before.1, field_at_place before.0 i (value.Ref n) st))
     ]
 
-    read_kept : (o : Option Node) (position : ℕ) (n : Name) → node_of s.world entry.name ≡ o → entry.position ≡ position → read_at o position ≡ Some (value.Ref n) → Kept n
+    read_kept : (o : Option Node) (position : ℕ) (n : Name) → node_of s.world entry.name ≡ o → entry.position ≡ position →
+        read_at o position ≡ Some (value.Ref n) → Kept n
     read_kept None position n e at reads = absurd cc
     read_kept (Some node) zero n e at reads = absurd cc
     read_kept (Some node) (suc i) n e at reads = read_field node i n e at reads
@@ -187,14 +202,16 @@ module _ (S : World) (is : IsWorld S) where
       strong_advanced t t.queue (strong_read s h entry (subst (λ (l : List Entry). Contains l entry) (sym e) (contains_head entry rest)) v refl)
 
   -- each event keeps it, where the command owes nothing
-  strong_command : (s next : State) (m : ℕ) (c : Command) (answer : Reply) → IsStrongSo s → Passes s (event.Command m c answer) true next → next.is_closed ≡ false → owed_by s.world m c ≡ [] → IsStrongSo next
+  strong_command : (s next : State) (m : ℕ) (c : Command) (answer : Reply) → IsStrongSo s → Passes s (event.Command m c answer) true next →
+      next.is_closed ≡ false → owed_by s.world m c ≡ [] → IsStrongSo next
   strong_command s next m c answer h p running none =
       let kept : Facts next × IsWorld next.world = event_keeps_facts s next (event.Command m c answer) h.facts h.world p running in
       let can : CanApply s.world m c = p.0.1 in
       let own = not_shared s.world m h.world can.mutator in
       let name : Name = next_name (state_of s.world m) m in
       let fresh : Kept name = λ there. absurd (next_absent s m h.facts.base own (subst (λ (w : World). IsSome (node_of w name)) (sym h.snapshot_is) there)) in
-      let moves = all_moves Kept s.world m c can.mutator own shared_kept fresh (λ n d. absurd (nothing_in n (subst (λ (l : List Name). Contains l n) none (opened_owed s.world m c n d)))) h.holds in
+      let moves = all_moves Kept s.world m c can.mutator own shared_kept fresh (λ n d.
+      absurd (nothing_in n (subst (λ (l : List Name). Contains l n) none (opened_owed s.world m c n d)))) h.holds in
       let place : m < length s.owed = let a = h.facts.base.owed_lists in let b = can.mutator in omega arith in
       let empty : names_of s.owed m ++ owed_by s.world m c ≡ [] = ap (λ (l : List Name). l ++ owed_by s.world m c) (h.none_owed m) ∙ none in
       subst IsStrongSo (sym p.1) (record {
@@ -229,15 +246,21 @@ module _ (S : World) (is : IsWorld S) where
       by_test false e = e
 
   -- and so does a run whose commands owe nothing
-  strong_runs : (s : State) (es : List Event) (rows : List Row) (t : State) → Runs s es rows t → t.is_closed ≡ false → owed_along s.world rows ≡ [] → IsStrongSo s → IsStrongSo t
+  strong_runs : (s : State) (es : List Event) (rows : List Row) (t : State) → Runs s es rows t → t.is_closed ≡ false →
+      owed_along s.world rows ≡ [] → IsStrongSo s → IsStrongSo t
   strong_runs s [] rows t h running none so = subst IsStrongSo (sym h.1) so
   strong_runs s (e ∷ es) rows t (false, next, rest, first, same, later) running none so =
-      strong_runs next es rest t later running (subst (λ (y : World × List Row). owed_along y.0 y.1 ≡ []) (λ i. ((sym first.1 i).world, same i)) none) (subst IsStrongSo (sym first.1) so)
+      strong_runs next es rest t later running (subst (λ (y : World × List Row). owed_along y.0 y.1 ≡ []) (λ i. (
+        (sym first.1 i).world,
+        same i,
+      )) none) (subst IsStrongSo (sym first.1) so)
   strong_runs s (event.Command m c answer ∷ es) rows t (true, next, rest, first, same, later) running none so =
       let own : owed_by s.world m c ++ owed_along (step s.world m c).0 rest ≡ [] = ap (λ (l : List Row). owed_along s.world l) (sym same) ∙ none in
       strong_runs next es rest t later running
-      (subst (λ (w : World). owed_along w rest ≡ []) (ap (λ (x : State). x.world) (sym first.1)) (none_last (owed_by s.world m c) (owed_along (step s.world m c).0 rest) own))
-      (strong_command s next m c answer so first (open_before next es rest t later running) (none_first (owed_by s.world m c) (owed_along (step s.world m c).0 rest) own))
+      (subst (λ (w : World). owed_along w rest ≡ []) (ap (λ (x : State).
+      x.world) (sym first.1)) (none_last (owed_by s.world m c) (owed_along (step s.world m c).0 rest) own))
+      (strong_command s next m c answer so first (open_before next es rest t later running)
+      (none_first (owed_by s.world m c) (owed_along (step s.world m c).0 rest) own))
   strong_runs s (event.Push m ∷ es) rows t (true, next, rest, first, same, later) running none so = absurd (first.0.1 (so.none_owed m))
   strong_runs s (event.Take m ∷ es) rows t (true, next, rest, first, same, later) running none so = absurd (first.0.1 (so.none_pushed m))
   strong_runs s (event.Scan ∷ es) rows t (true, next, rest, first, same, later) running none so =
@@ -245,7 +268,8 @@ module _ (S : World) (is : IsWorld S) where
       (subst (λ (y : World × List Row). owed_along y.0 y.1 ≡ []) (λ i. (sym (ap (λ (x : State). x.world) first.1 ∙ world_scanned s s.queue) i, same i)) none)
       (strong_scanned s next so first (open_before next es rest t later running))
   strong_runs s (event.Close ∷ es) rows t (true, next, rest, first, same, later) running none so =
-      absurd (let on : next.is_closed ≡ true = ap (λ (x : State). x.is_closed) first.1.rest in let off = open_before next es rest t later running in let bad : true ≡ false = sym on ∙ off in cc)
+      absurd (let on : next.is_closed ≡ true = ap (λ (x : State). x.is_closed) first.1.rest in let off = open_before next es rest t later running in
+      let bad : true ≡ false = sym on ∙ off in cc)
 
   -- as marking begins
   strong_opening : IsStrongSo (opening S)
@@ -258,7 +282,8 @@ module _ (S : World) (is : IsWorld S) where
         holds = subst (λ (w : World). CoversReach Kept w) (sym b.world_is) snapshot_holds;
         none_owed = λ m. ap (λ (l : List (List Name)). names_of l m) b.owed_is ∙ none_at_first (length S.mutators) m;
         none_pushed = λ m. ap (λ (l : List (List Name)). names_of l m) b.pushed_is ∙ none_at_first (length S.mutators) m;
-        strong = strong_values (first_state S) (root_values S) refl roots_kept (λ n c. subst Strong (one_is shared_name n c) (IsReached.start shared_name (inl refl)));
+        strong = strong_values (first_state S) (root_values S) refl roots_kept (λ n c.
+            subst Strong (one_is shared_name n c) (IsReached.start shared_name (inl refl)));
       }
 
   -- where nothing waits, all that is reached so is marked, and nothing else
@@ -266,9 +291,11 @@ module _ (S : World) (is : IsWorld S) where
     pub sound : (n : Name) → Contains core.marked n → Strong n
     pub complete : (n : Name) → Strong n → Contains core.marked n
 
-  pub exactly_strong : (es : List Event) (rows : List Row) (core : State) → Runs (opening S) es rows core → core.is_closed ≡ false → owed_along S rows ≡ [] → core.queue ≡ [] → IsExactlyStrong core
+  pub exactly_strong : (es : List Event) (rows : List Row) (core : State) → Runs (opening S) es rows core → core.is_closed ≡ false →
+      owed_along S rows ≡ [] → core.queue ≡ [] → IsExactlyStrong core
   exactly_strong es rows core runs running none empty =
-      let so : IsStrongSo core = strong_runs (opening S) es rows core runs running (subst (λ (w : World). owed_along w rows ≡ []) (sym (opening_world S)) none) strong_opening in
+      let so : IsStrongSo core = strong_runs (opening S) es rows core runs running (subst (λ (w : World). owed_along w rows ≡
+      []) (sym (opening_world S)) none) strong_opening in
       record { sound = so.strong; complete = all_marked so }
     where
       all_marked : IsStrongSo core → (n : Name) → Strong n → Contains core.marked n

@@ -39,10 +39,13 @@ carried_byte begun mark some = by (mark == 0) refl
     by true e = inl (ap (λ (b : Bool). cond b 0 (epoch_of begun)) e)
     by false e = inr (some, ap (λ (b : Bool). cond b 0 (epoch_of begun)) e)
 
-carried_there : (begun : ℕ) (x : Segment) (block : ℕ) → 0 < begun → IsSettledByte begun (mark_of (record x { marks = map (carried (epoch_of begun)) x.marks }) block)
-carried_there begun x block some = subst (IsSettledByte begun) (sym (mark-map (carried (epoch_of begun)) x.marks block refl)) (carried_byte begun (mark_of x block) some)
+carried_there : (begun : ℕ) (x : Segment) (block : ℕ) → 0 < begun →
+    IsSettledByte begun (mark_of (record x { marks = map (carried (epoch_of begun)) x.marks }) block)
+carried_there begun x block some =
+    subst (IsSettledByte begun) (sym (mark-map (carried (epoch_of begun)) x.marks block refl)) (carried_byte begun (mark_of x block) some)
 
-carried_settled : (begun : ℕ) (x : Segment) (state : Stands) (block : ℕ) → IsSegment x → x.state ≡ state → state ≢ stands.Sweeping → 0 < begun → IsSettledByte begun (mark_of (carried_in state (epoch_of begun) x) block)
+carried_settled : (begun : ℕ) (x : Segment) (state : Stands) (block : ℕ) → IsSegment x → x.state ≡ state → state ≢ stands.Sweeping → 0 < begun →
+    IsSettledByte begun (mark_of (carried_in state (epoch_of begun) x) block)
 carried_settled begun x stands.Free block sound is awake some = inl ((sound.free is).unmarked block)
 carried_settled begun x (stands.Current m) block sound is awake some = carried_there begun x block some
 carried_settled begun x stands.Active block sound is awake some = carried_there begun x block some
@@ -65,12 +68,15 @@ pub carry_settles : (begun : ℕ) (segments : Segments) → IsSegments segments 
 carry_settles begun segments sound some number block there awake =
     let lt : HasNumber segments number = carried_number (epoch_of begun) segments number there in
     let x : Segment = nth segments.segments number in
-    let is : nth (all_carried (epoch_of begun) segments).segments number ≡ carried_over (epoch_of begun) x = nth-map (carried_over (epoch_of begun)) segments.segments number lt in
+    let is : nth (all_carried (epoch_of begun) segments).segments number ≡ carried_over (epoch_of begun) x =
+    nth-map (carried_over (epoch_of begun)) segments.segments number lt in
     let not : x.state ≢ stands.Sweeping = λ e. awake (ap (λ (y : Segment). y.state) is ∙ carried_state (epoch_of begun) x x.state ∙ e) in
-    subst (λ (y : Segment). IsSettledByte begun (mark_of y block)) (sym is) (carried_settled begun x x.state block (sound.members number lt).sound refl not some)
+    subst (λ (y : Segment).
+    IsSettledByte begun (mark_of y block)) (sym is) (carried_settled begun x x.state block (sound.members number lt).sound refl not some)
 
 -- a segment that waits exists, and stands for its cells
-waits_there : (s : Segments) (words : List ℕ) (a : AllocState) → StandsFor s words a → (number : ℕ) → IsIn stands.Sweeping (cells a number) → HasNumber s number × ((nth s.segments number).state ≡ stands.Sweeping)
+waits_there : (s : Segments) (words : List ℕ) (a : AllocState) → StandsFor s words a → (number : ℕ) → IsIn stands.Sweeping (cells a number) →
+    HasNumber s number × ((nth s.segments number).state ≡ stands.Sweeping)
 waits_there s words a stood number is =
     let low = used_exists a number (λ free. let bad : stands.Sweeping ≡ stands.Free = sym is ∙ free in cc) in
     let many = stood.count in
@@ -78,16 +84,20 @@ waits_there s words a stood number is =
     (there, sym (stood.shows number there).state ∙ is)
 
 -- and carrying leaves it as it was
-carry_leaves : (epoch : ℕ) (s : Segments) (number : ℕ) → HasNumber s number → (nth s.segments number).state ≡ stands.Sweeping → nth (all_carried epoch s).segments number ≡ nth s.segments number
-carry_leaves epoch s number lt is = nth-map (carried_over epoch) s.segments number lt ∙ ap (λ (state : Stands). carried_in state epoch (nth s.segments number)) is
+carry_leaves : (epoch : ℕ) (s : Segments) (number : ℕ) → HasNumber s number → (nth s.segments number).state ≡ stands.Sweeping →
+    nth (all_carried epoch s).segments number ≡ nth s.segments number
+carry_leaves epoch s number lt is = nth-map (carried_over epoch) s.segments number lt ∙
+    ap (λ (state : Stands). carried_in state epoch (nth s.segments number)) is
 
-none_freed : (c : Cycle) (allocation : AllocState) → WaitsWhole c allocation → (freed : List Name) → freed ≡ [] → (name : Name) → Contains freed name ↔ IsFreedSoFar c allocation name
+none_freed : (c : Cycle) (allocation : AllocState) → WaitsWhole c allocation → (freed : List Name) → freed ≡ [] → (name : Name) →
+    Contains freed name ↔ IsFreedSoFar c allocation name
 none_freed c allocation whole freed none name = (
   λ d. absurd (nothing_in name (subst (λ (l : List Name). Contains l name) none d)),
   λ f. absurd (f.3 (whole.all f.0 f.2)),
 )
 
-none_had : (c : Cycle) (allocation : AllocState) → WaitsWhole c allocation → (had : List Name) → had ≡ [] → (name : Name) → Contains had name ↔ IsHadSoFar c allocation name
+none_had : (c : Cycle) (allocation : AllocState) → WaitsWhole c allocation → (had : List Name) → had ≡ [] → (name : Name) → Contains had name ↔
+    IsHadSoFar c allocation name
 none_had c allocation whole had none name = (
   λ d. absurd (nothing_in name (subst (λ (l : List Name). Contains l name) none d)),
   λ f. absurd (f.3 (whole.all f.0 f.2)),
@@ -166,7 +176,8 @@ module _ (old new : Segments) (words after : List ℕ) (allocation placed : Allo
 waits_within : (s : Segments) (number : ℕ) → IsWaiting s number → HasNumber s number
 waits_within s number is = elim (cases_lt number (length s.segments)) [
   | inl lt ↦ lt
-  | inr past ↦ absurd (let none : nth s.segments number ≡ free_segment 0 = get_or-eq_default s.segments (free_segment 0) past in let bad : stands.Free ≡ stands.Sweeping = sym (ap (λ (x : Segment). x.state) none) ∙ is in cc)
+  | inr past ↦ absurd (let none : nth s.segments number ≡ free_segment 0 = get_or-eq_default s.segments (free_segment 0) past in
+      let bad : stands.Free ≡ stands.Sweeping = sym (ap (λ (x : Segment). x.state) none) ∙ is in cc)
 ]
 
 cell_waits : (s : Segments) (words : List ℕ) (a : AllocState) → StandsFor s words a → (number : ℕ) → IsWaiting s number → IsIn stands.Sweeping (cells a number)
@@ -181,8 +192,10 @@ marked_wait old new words after a stood stands_now number = (
 pub placed_wait : PlacedWait
 placed_wait old new words after allocation placed h number =
     let w = same old new words after allocation placed h in (
-      λ is. let at = cell_waits new after placed h.stands number is in (waits_there old words allocation h.stood number (ap (λ (x : Cells). x.state) (sym (w.back number at)) ∙ at)).1,
-      λ is. let at = cell_waits old words allocation h.stood number is in (waits_there new after placed h.stands number (ap (λ (x : Cells). x.state) (w.same number at) ∙ at)).1,
+      λ is. let at = cell_waits new after placed h.stands number is in
+          (waits_there old words allocation h.stood number (ap (λ (x : Cells). x.state) (sym (w.back number at)) ∙ at)).1,
+      λ is. let at = cell_waits old words allocation h.stood number is in
+          (waits_there new after placed h.stands number (ap (λ (x : Cells). x.state) (w.same number at) ∙ at)).1,
     )
 
 pub settled_stays : SettledStays

@@ -40,7 +40,8 @@ use Rattle.nmgc_beside.specs.Tie.{CoreHasSnapshot, RoundBeginsTied}
 use Rattle.nmgc_beside.proofs.RoundHeap.{marked_holds}
 
 -- places of names, among more places
-pub at_more : (places more : List Place) (ats : List ℕ) (names : List Name) → ((p : Place) → Contains places p → Contains more p) → AreAt places ats names → AreAt more ats names
+pub at_more : (places more : List Place) (ats : List ℕ) (names : List Name) → ((p : Place) → Contains places p → Contains more p) →
+    AreAt places ats names → AreAt more ats names
 at_more places more [] [] all h = tt
 at_more places more [] (name ∷ names) all h = h
 at_more places more (at ∷ ats) [] all h = h
@@ -53,7 +54,8 @@ lies_above layout p size pos (inl g) = let e = g.1 in omega arith
 lies_above layout p size pos (inr (ne, inl segment)) = let first = segment.1 p.at (omega arith) (omega arith) in let from = first.from in omega arith
 lies_above layout p size pos (inr (ne, inr nursery)) = let first = nursery.1 p.at (omega arith) (omega arith) in let from = first.from in omega arith
 
-places_apart : (layout : Layout) (earlier : List World) (places : List Place) (w : World) (words : List ℕ) → Represents layout earlier NoNode places w words → AreApart layout places
+places_apart : (layout : Layout) (earlier : List World) (places : List Place) (w : World) (words : List ℕ) →
+    Represents layout earlier NoNode places w words → AreApart layout places
 places_apart layout earlier places w words h = record {
   one = h.one;
   above = λ p d. lies_above layout p HEADER_WORDS (omega arith) (h.named p d).lies;
@@ -72,8 +74,13 @@ core_snapshot c w core sound m = ((snapshot_theorem c.snapshot sound.world m.eve
 abbrev pub MarksLaw : Type 0
 MarksLaw = (core : Core) → Facts core → ((name : Name) → Contains core.marked name → IsSome (node_of core.snapshot name)) × Contains core.marked shared_name
 
--- where words and segments stand for a heap at a stop, an opening with its places has those of the blocks, whatever the machine has scanned since; so the tie by places and that by blocks are one (`TiesAgree`): as a round begins, at the places and the words of before as it ends, after the promotion, and as a cycle begins
-pub heap_of_blocks : MarksLaw → (layout : Layout) (s : State) (words : List ℕ) (segments : Segments) (ends : List MutatorEnd) (weaks : List Place) (c : Cycle) (w : World) (core : Core) (o : Opening) → (h : HoldsAtStop layout s words segments ends weaks) → IsSegments segments → IsSound (interval_of c) → IsCoreOf c w core → o.layout ≡ layout → o.places ≡ h.places → o.core.snapshot ≡ c.snapshot →
+-- where words and segments stand for a heap at a stop, an opening with its places has those of the blocks, whatever
+-- the machine has scanned since; so the tie by places and that by blocks are one (`TiesAgree`): as a round begins, at
+-- the places and the words of before as it ends, after the promotion, and as a cycle begins
+pub heap_of_blocks : MarksLaw →
+    (layout : Layout) (s : State) (words : List ℕ) (segments : Segments) (ends : List MutatorEnd) (weaks : List Place) (c : Cycle) (w : World)
+    (core : Core) (o : Opening) → (h : HoldsAtStop layout s words segments ends weaks) → IsSegments segments → IsSound (interval_of c) →
+    IsCoreOf c w core → o.layout ≡ layout → o.places ≡ h.places → o.core.snapshot ≡ c.snapshot →
     AreOfBlocks o c segments words s.allocation core
 heap_of_blocks law layout s words segments ends weaks c w core o h segments_are sound machine same places snapshot =
     let marked = law core (core_facts c w core sound machine) in
@@ -83,10 +90,19 @@ heap_of_blocks law layout s words segments ends weaks c w core o h segments_are 
       stands = h.holds.stands;
       layout = h.holds.layout_is ∙ sym same;
       cycle = sym snapshot;
-      apart = subst (λ (y : Layout × List Place). AreApart y.0 y.1) (λ i. (sym same i, sym places i)) (places_apart layout _ h.places s.world words h.holds.represents);
+      apart = subst (λ (y : Layout × List Place). AreApart y.0 y.1) (λ i. (
+        sym same i,
+        sym places i,
+      )) (places_apart layout _ h.places s.world words h.holds.represents);
       shared = here shared_place ((h.all shared_place).1 (inl (λ i. shared_place)));
-      blocks = λ number block name lies. here _ ((h.all _).1 (inr (record { number = number; block = block; lies = lies; at = ap (λ (l : Layout). block_place l number (cells s.allocation number).class block) same })));
-      named = λ p d known. subst (λ (l : Layout). (p ≡ shared_place) ⊎ IsBlockPlace l s.allocation p) (sym same) ((h.all p).0 (subst (λ (l : List Place). Contains l p) places d));
+      blocks = λ number block name lies. here _ ((h.all _).1 (inr (record {
+        number = number;
+        block = block;
+        lies = lies;
+        at = ap (λ (l : Layout). block_place l number (cells s.allocation number).class block) same;
+      })));
+      named = λ p d known. subst (λ (l : Layout). (p ≡ shared_place) ⊎
+          IsBlockPlace l s.allocation p) (sym same) ((h.all p).0 (subst (λ (l : List Place). Contains l p) places d));
       marked = λ name d. subst (λ (x : World). IsSome (node_of x name)) (core_snapshot c w core sound machine ∙ sym snapshot) (marked.0 name d);
       shared_marked = marked.1;
     }
@@ -95,25 +111,37 @@ heap_of_blocks law layout s words segments ends weaks c w core o h segments_are 
 
 -- what the marker's laws say
 abbrev pub BeginsLaw : Type 0
-BeginsLaw = (o : Opening) (s : Segments) (marker : MarkerSeen) → IsTiedByPlaces o (marks_of o.core) s marker → IsTiedByPlaces o (marks_seen (collecting (whole o))) s marker
+BeginsLaw = (o : Opening) (s : Segments) (marker : MarkerSeen) → IsTiedByPlaces o (marks_of o.core) s marker →
+    IsTiedByPlaces o (marks_seen (collecting (whole o))) s marker
 
 abbrev pub EndsLaw : Type 0
-EndsLaw = (o : Opening) (words : List ℕ) (v : Seen) (s : Segments) (marker : MarkerSeen) (h : IsFinished o words v) → v.collects ≡ true → v.opening ≡ o → IsTiedByPlaces v.opening (marks_seen v) s marker → IsTiedByPlaces o (marks_of (now o h.events)) s marker
+EndsLaw = (o : Opening) (words : List ℕ) (v : Seen) (s : Segments) (marker : MarkerSeen) (h : IsFinished o words v) → v.collects ≡ true →
+    v.opening ≡ o → IsTiedByPlaces v.opening (marks_seen v) s marker → IsTiedByPlaces o (marks_of (now o h.events)) s marker
 
 pub round_begins : MarksLaw → TiesAgree → BeginsLaw → RoundBeginsTied
 round_begins law agree begins layout s words segments ends weaks c o marker h sound interval machine same places tied =
-    let blocks : AreOfBlocks o c segments words s.allocation o.core = heap_of_blocks law layout s words segments ends weaks c s.world o.core o h sound interval machine same places (core_snapshot c s.world o.core interval machine) in
+    let blocks : AreOfBlocks o c segments words s.allocation o.core =
+    heap_of_blocks law layout s words segments ends weaks c s.world o.core o h sound interval machine same places
+    (core_snapshot c s.world o.core interval machine) in
     begins o segments marker ((agree o c segments words s.allocation o.core marker blocks).0 tied).1
 
 -- once it is over, a marker that is tied by places to the view of all seats, with segments of which blocks were marked, is tied to the machine as it goes on
-pub round_ends : MarksLaw → TiesAgree → EndsLaw → (layout : Layout) (s : State) (before after : List ℕ) (old new : Segments) (ends : List MutatorEnd) (weaks : List Place) (c : Cycle) (o : Opening) (v : Seen) (mutators : List Mutator) (core : Core) (marker : MarkerSeen) (h : HoldsAtStop layout s before old ends weaks) (f : IsFinished o after v) → IsSegments new → new.layout ≡ layout → StandsFor new before s.allocation
-    → IsSound (interval_of (with_rows c (rows_in f.events))) → GoesOn c o after v f mutators core → v.collects ≡ true → v.opening ≡ o → o.layout ≡ layout → o.places ≡ h.places → o.core.snapshot ≡ c.snapshot → marker.epoch ≡ epoch_of c.number → IsTiedByPlaces v.opening (marks_seen v) new marker
+pub round_ends : MarksLaw → TiesAgree → EndsLaw →
+    (layout : Layout) (s : State) (before after : List ℕ) (old new : Segments) (ends : List MutatorEnd) (weaks : List Place) (c : Cycle)
+    (o : Opening) (v : Seen) (mutators : List Mutator) (core : Core) (marker : MarkerSeen) (h : HoldsAtStop layout s before old ends weaks)
+    (f : IsFinished o after v) → IsSegments new → new.layout ≡ layout → StandsFor new before s.allocation
+    → IsSound (interval_of (with_rows c (rows_in f.events))) → GoesOn c o after v f mutators core → v.collects ≡ true → v.opening ≡ o →
+    o.layout ≡ layout → o.places ≡ h.places → o.core.snapshot ≡ c.snapshot → marker.epoch ≡ epoch_of c.number →
+    IsTiedByPlaces v.opening (marks_seen v) new marker
     → IsTied (with_rows c (rows_in f.events)) s.allocation new (places_then o f.born) marker core
-round_ends law agree ending layout s before after old new ends weaks c o v mutators core marker h f sound same_layout stands interval goes on opening same places snapshot epoch tied =
+round_ends law agree ending layout s before after old new ends weaks c o v mutators core marker h f sound same_layout stands interval goes on
+    opening same places snapshot epoch tied =
     let d : Cycle = with_rows c (rows_in f.events) in
     let k = marked_holds layout s before old new ends weaks h same_layout stands in
-    let then : IsTiedByPlaces o (marks_of core) new marker = subst (λ (m : Marks). IsTiedByPlaces o m new marker) (sym goes.marks) (ending o after v new marker f on opening tied) in
-    let blocks : AreOfBlocks o d new before s.allocation core = heap_of_blocks law layout s before new ends weaks d (now o f.events).world core o k.0 sound interval goes.machine same (places ∙ sym k.1) snapshot in
+    let then : IsTiedByPlaces o (marks_of core) new marker = subst (λ (m : Marks).
+    IsTiedByPlaces o m new marker) (sym goes.marks) (ending o after v new marker f on opening tied) in
+    let blocks : AreOfBlocks o d new before s.allocation core =
+    heap_of_blocks law layout s before new ends weaks d (now o f.events).world core o k.0 sound interval goes.machine same (places ∙ sym k.1) snapshot in
     let t : IsTied d s.allocation new o.places marker core = (agree o d new before s.allocation core marker blocks).1 (epoch, then) in
     record {
       epoch = t.epoch;

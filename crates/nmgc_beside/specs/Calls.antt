@@ -35,23 +35,35 @@ all_entries mutators = flat_map (λ (m : MutatorSeen). m.entries) mutators
 
 -- a marker took the snapshot of a heap at a stop: a cycle marks
 abbrev pub SnapshotIsMarking : Type 0
-SnapshotIsMarking = (layout : Layout) (s : State) (words : List ℕ) (old : Segments) (new : Seen) (ends : List MutatorEnd) (weaks : List Place) (o : Opening) (spare : ℕ) → (h : HoldsAtStop layout s words old ends weaks) → IsWorld s.world → IsSegments new.segments
+SnapshotIsMarking = (layout : Layout) (s : State) (words : List ℕ) (old : Segments) (new : Seen) (ends : List MutatorEnd) (weaks : List Place)
+    (o : Opening) (spare : ℕ) → (h : HoldsAtStop layout s words old ends weaks) → IsWorld s.world → IsSegments new.segments
     → o.layout ≡ layout → o.places ≡ h.places → o.core.snapshot ≡ s.world
-    → HasMarked (all_prepared old) new.segments (blank (epoch_of (s.begun + 1)) spare) new.marker 0 → IsTiedByPlaces o (marks_of (opening o.core.snapshot)) new.segments new.marker
-    → EachMutator new (λ m mutator. weak_count s.world m new.weaks ≤ mutator.queue.spare) → NoneRemember new → new.cycle.from ≡ s.number → HasNoted (next_cycle s) new.sweeper → HasListedNothing new.sweeper
+    → HasMarked (all_prepared old) new.segments (blank (epoch_of (s.begun + 1)) spare) new.marker 0 →
+    IsTiedByPlaces o (marks_of (opening o.core.snapshot)) new.segments new.marker
+    → EachMutator new (λ m mutator. weak_count s.world m new.weaks ≤ mutator.queue.spare) → NoneRemember new → new.cycle.from ≡ s.number →
+    HasNoted (next_cycle s) new.sweeper → HasListedNothing new.sweeper
     → IsMarking (next_cycle s) (cycle_started s) new h.places
 
--- it worked beside the slices of a round, after which its marks are those of the collector's scans: it marks on, with the rows of the round and what the mutators remember of it
+-- it worked beside the slices of a round, after which its marks are those of the collector's scans: it marks on, with
+-- the rows of the round and what the mutators remember of it
 abbrev pub RoundIsMarking : Type 0
-RoundIsMarking = (layout : Layout) (c : Cycle) (s t : State) (old new : Seen) (before after : List ℕ) (ends : List MutatorEnd) (weaks : List Place) (o : Opening) (scans : List Scan) (seats : List RoundSeat) (mutators : List Mutator) (done : List (List Done)) (core : Core) (scanned : ℕ) → (h : HoldsAtStop layout s before old.segments ends weaks) → (f : IsFinished o after (gathered o scans seats)) → IsSegments new.segments → IsSound (interval_of (with_rows c (rows_in f.events))) → IsMarking c s old h.places
+RoundIsMarking = (layout : Layout) (c : Cycle) (s t : State) (old new : Seen) (before after : List ℕ) (ends : List MutatorEnd) (weaks : List Place)
+    (o : Opening) (scans : List Scan) (seats : List RoundSeat) (mutators : List Mutator) (done : List (List Done)) (core : Core) (scanned : ℕ) →
+    (h : HoldsAtStop layout s before old.segments ends weaks) → (f : IsFinished o after (gathered o scans seats)) → IsSegments new.segments →
+    IsSound (interval_of (with_rows c (rows_in f.events))) → IsMarking c s old h.places
     → o.layout ≡ layout → o.places ≡ h.places → o.core.snapshot ≡ c.snapshot → t.world ≡ (now o f.events).world → t.allocation ≡ s.allocation
     → IsGathered o scans seats mutators done → GoesOn c o after (gathered o scans seats) f mutators core
-    → HasMarked old.segments new.segments old.marker new.marker scanned → IsTiedByPlaces o (marks_after o scans) new.segments new.marker → HasLeft c old new → ShowEntries new mutators
+    → HasMarked old.segments new.segments old.marker new.marker scanned → IsTiedByPlaces o (marks_after o scans) new.segments new.marker →
+    HasLeft c old new → ShowEntries new mutators
     → IsMarking (with_rows c (rows_in f.events)) t new (places_then o f.born)
 
 -- it added all that the mutators remembered: it marks on, and nothing is remembered
 abbrev pub AddIsMarking : Type 0
-AddIsMarking = (layout : Layout) (c : Cycle) (s : State) (old new : Seen) (words : List ℕ) (ends : List MutatorEnd) (weaks : List Place) → (h : HoldsAtStop layout s words old.segments ends weaks) → IsSegments old.segments → IsSegments new.segments → IsSound (interval_of c) → length old.mutators ≡ length s.world.mutators → IsMarking c s old h.places
-    → HasMarked old.segments new.segments old.marker new.marker 0 → ((o : Opening) (m : Marks) → IsTiedByPlaces o m old.segments old.marker → IsTiedByPlaces o (with_places o m (all_entries old.mutators)) new.segments new.marker)
+AddIsMarking = (layout : Layout) (c : Cycle) (s : State) (old new : Seen) (words : List ℕ) (ends : List MutatorEnd) (weaks : List Place) →
+    (h : HoldsAtStop layout s words old.segments ends weaks) → IsSegments old.segments → IsSegments new.segments → IsSound (interval_of c) →
+    length old.mutators ≡ length s.world.mutators → IsMarking c s old h.places
+    → HasMarked old.segments new.segments old.marker new.marker 0 →
+    ((o : Opening) (m : Marks) → IsTiedByPlaces o m old.segments old.marker →
+    IsTiedByPlaces o (with_places o m (all_entries old.mutators)) new.segments new.marker)
     → HasLeft c old new → NoneRemember new
     → IsMarking c s new h.places

@@ -47,13 +47,19 @@ pub record AreShown (layout : Layout) (seen : Seen) (mutators : List Mutator) : 
   pub are : seen.mutators ≡ map seen_mutator mutators
   pub each : (k : ℕ) (m : Mutator) → slice_get mutators k ≡ Some m → (m.number ≡ k) × (m.layout ≡ layout) × IsWhole m
 
--- the heap of a sound state at a stop, also before the stop has answered, is at rest beside a cycle that marks, where nothing is left of the mutators' round; so the marker may finish there
+-- the heap of a sound state at a stop, also before the stop has answered, is at rest beside a cycle that marks, where
+-- nothing is left of the mutators' round; so the marker may finish there
 abbrev pub HeapRests : Type 0
-HeapRests = (plan : Plan) (s : State) (seen : Seen) (c : Cycle) (mutators : List Mutator) → IsSoundState plan s → (h : HoldsAtStop (layout_of plan) s seen.words seen.segments (ends_of seen) seen.weaks) → AreAtRest (layout_of plan) h.places s.world seen → s.progress ≡ marking c → (k : IsMarking c s seen h.places) → IsSegments seen.segments → AreShown seen.segments.layout seen mutators →
-    IsAtRest c k.core seen.segments h.places s.world seen.words mutators seen.marker.queue × IsReady (opening_beside seen.segments.layout k.core h.places mutators) seen.words seen.segments seen.marker
+HeapRests = (plan : Plan) (s : State) (seen : Seen) (c : Cycle) (mutators : List Mutator) → IsSoundState plan s →
+    (h : HoldsAtStop (layout_of plan) s seen.words seen.segments (ends_of seen) seen.weaks) → AreAtRest (layout_of plan) h.places s.world seen →
+    s.progress ≡ marking c → (k : IsMarking c s seen h.places) → IsSegments seen.segments → AreShown seen.segments.layout seen mutators →
+    IsAtRest c k.core seen.segments h.places s.world seen.words mutators seen.marker.queue ×
+    IsReady (opening_beside seen.segments.layout k.core h.places mutators) seen.words seen.segments seen.marker
 
--- a round that began with the heap of a stop: what it left, and what its mutators have in hand; the segments stand for what they stood for, whatever blocks the marker marked
-pub record IsRoundFrom (layout : Layout) (s t : State) (o : Opening) (before after : List ℕ) (v : View) (old new : Segments) (ends later : List MutatorEnd) (weaks : List Place) : Type 0 where
+-- a round that began with the heap of a stop: what it left, and what its mutators have in hand; the segments stand
+-- for what they stood for, whatever blocks the marker marked
+pub record IsRoundFrom (layout : Layout) (s t : State) (o : Opening) (before after : List ℕ) (v : View) (old new : Segments)
+    (ends later : List MutatorEnd) (weaks : List Place) : Type 0 where
   pub heap : HoldsAtStop layout s before old ends weaks
   pub known : LieKnown s.world s.allocation
   pub can : CanOpen o before
@@ -71,17 +77,25 @@ pub record IsRoundFrom (layout : Layout) (s t : State) (o : Opening) (before aft
 
 -- words and segments then stand for the state after the round
 abbrev pub RoundHolds : Type 0
-RoundHolds = (layout : Layout) (s t : State) (o : Opening) (before after : List ℕ) (v : View) (old new : Segments) (ends later : List MutatorEnd) (weaks : List Place) → (r : IsRoundFrom layout s t o before after v old new ends later weaks) →
+RoundHolds = (layout : Layout) (s t : State) (o : Opening) (before after : List ℕ) (v : View) (old new : Segments) (ends later : List MutatorEnd)
+    (weaks : List Place) → (r : IsRoundFrom layout s t o before after v old new ends later weaks) →
     HoldsAfterRound layout s t (places_then o r.left.0.born) after new later weaks
 
 -- segments of which blocks were marked stand for the same heap
 abbrev pub MarkedHolds : Type 0
-MarkedHolds = (layout : Layout) (s : State) (words : List ℕ) (old new : Segments) (ends : List MutatorEnd) (weaks : List Place) (h : HoldsAtStop layout s words old ends weaks) → new.layout ≡ layout → StandsFor new words s.allocation →
+MarkedHolds = (layout : Layout) (s : State) (words : List ℕ) (old new : Segments) (ends : List MutatorEnd) (weaks : List Place)
+    (h : HoldsAtStop layout s words old ends weaks) → new.layout ≡ layout → StandsFor new words s.allocation →
     (k : HoldsAtStop layout s words new ends weaks) × (k.places ≡ h.places)
 
 -- a place for a list, as one is made: its vector is empty and has no memory
 abbrev pub empty_place : ListPlace ℕ
-empty_place = record { vector = record { ptr = null_ptr; alloc = record { memory = record { seal = tt } }; value = record { ptr = null_ptr; len = 0; cap = 0; alloc = record { memory = record { seal = tt } }; items = []; ok = (refl, lit≤ tt); small = lit< tt } } }
+empty_place = record {
+  vector = record {
+    ptr = null_ptr;
+    alloc = record { memory = record { seal = tt } };
+    value = record { ptr = null_ptr; len = 0; cap = 0; alloc = record { memory = record { seal = tt } }; items = []; ok = (refl, lit≤ tt); small = lit< tt };
+  };
+}
 
 -- the one mutator of the array script, at the stop at which its cycle began
 abbrev pub marking_mutator : Mutator
@@ -98,9 +112,16 @@ marking_mutator = record {
   recorded = record { items = []; spare = 0 };
   young_weaks = record { items = []; spare = 0 };
   updrem = record { items = []; spare = 0 };
-  sender = record { ring = record { words = null_ptr; slots = null_ptr; names = (0, (0, 0)); heap = record { memory = record { seal = tt } } }; before = []; since = []; free = 0 };
+  sender = record {
+    ring = record { words = null_ptr; slots = null_ptr; names = (0, (0, 0)); heap = record { memory = record { seal = tt } } };
+    before = [];
+    since = [];
+    free = 0;
+  };
 }
 
 -- its collector has a heap at rest beside the cycle: so there is one
 abbrev pub SmallLifeRests : Type 0
-SmallLifeRests = AreShown array_layout marking_seen (marking_mutator ∷ []) × ((c : Cycle) × (core : Core) × (places : List Place) × (w : World) × IsAtRest c core marking_seen.segments places w marking_seen.words (marking_mutator ∷ []) marking_seen.marker.queue)
+SmallLifeRests = AreShown array_layout marking_seen (marking_mutator ∷ []) ×
+    ((c : Cycle) × (core : Core) × (places : List Place) × (w : World) ×
+    IsAtRest c core marking_seen.segments places w marking_seen.words (marking_mutator ∷ []) marking_seen.marker.queue)

@@ -28,7 +28,8 @@ pub record IsAliveAt (words : List ℕ) (at : ℕ) : Type 0 where
 pub record HaveMoved (base : ℕ) (moves : List Moved) (old new : List ℕ) : Type 0 where
   pub forward : ℕ → ℕ
   pub forwards : Forwards base moves forward
-  pub copied : (m : Moved) (header : Header) → Contains moves m → IsHeader header → slice_index old m.from ≡ header_word header → Copies forward old new m.from m.to header.fields
+  pub copied : (m : Moved) (header : Header) → Contains moves m → IsHeader header → slice_index old m.from ≡ header_word header →
+      Copies forward old new m.from m.to header.fields
 
 -- of what moved, the weak pointers that are alive have joined the others
 pub record HaveJoinedList (words : List ℕ) (moves : List Moved) (old list : List Place) : Type 0 where
@@ -39,15 +40,22 @@ pub record HaveJoinedList (words : List ℕ) (moves : List Moved) (old list : Li
 
 -- a list of those that were alive before the promotion, which they have joined, is that of the alive ones with a block after it
 abbrev pub JoiningLists : Type 0
-JoiningLists = (t : Stopped) (s new : Segments) (words after : List ℕ) (nurseries : List Nursery) (registers registers_then : List ℕ) (queues queues_then : List (List ℕ)) (recorded weaks : List ℕ) (moves : List Moved) (old list : List Place) → IsStopped t s words nurseries registers queues recorded weaks → IsSettled t new after registers_then queues_then moves → new.layout ≡ s.layout → HaveMoved (young_base s) moves words after
+JoiningLists = (t : Stopped) (s new : Segments) (words after : List ℕ) (nurseries : List Nursery) (registers registers_then : List ℕ)
+    (queues queues_then : List (List ℕ)) (recorded weaks : List ℕ) (moves : List Moved) (old list : List Place) →
+    IsStopped t s words nurseries registers queues recorded weaks → IsSettled t new after registers_then queues_then moves → new.layout ≡ s.layout →
+    HaveMoved (young_base s) moves words after
     → ListsWeaks s.layout t.places t.world old → HaveJoinedList after moves old list
     → ListsWeaks new.layout (places_after new moves t) t.world list
 
 -- names that have joined aren't listed yet
 abbrev pub JoinersAreNew : Type 0
-JoinersAreNew = (t : Stopped) (s new : Segments) (words after : List ℕ) (nurseries : List Nursery) (registers registers_then : List ℕ) (queues queues_then : List (List ℕ)) (recorded weaks : List ℕ) (moves : List Moved) (old : List Place) → IsStopped t s words nurseries registers queues recorded weaks → IsSettled t new after registers_then queues_then moves → ListsWeaks s.layout t.places t.world old
+JoinersAreNew = (t : Stopped) (s new : Segments) (words after : List ℕ) (nurseries : List Nursery) (registers registers_then : List ℕ)
+    (queues queues_then : List (List ℕ)) (recorded weaks : List ℕ) (moves : List Moved) (old : List Place) →
+    IsStopped t s words nurseries registers queues recorded weaks → IsSettled t new after registers_then queues_then moves →
+    ListsWeaks s.layout t.places t.world old
     → (m : Moved) (p : Place) → Contains moves m → Contains old p → p.name ≢ m.name
 
 -- of the weak pointers of a snapshot no more are listed where none was added
 abbrev pub FewerListed : Type 0
-FewerListed = (snapshot : World) (m : ℕ) (old list : List Place) → IsInOrder (map (λ (p : Place). p.name) list) → ((p : Place) → Contains list p → IsSome (node_of snapshot p.name) → Contains old p) → weak_count snapshot m list ≤ weak_count snapshot m old
+FewerListed = (snapshot : World) (m : ℕ) (old list : List Place) → IsInOrder (map (λ (p : Place). p.name) list) →
+    ((p : Place) → Contains list p → IsSome (node_of snapshot p.name) → Contains old p) → weak_count snapshot m list ≤ weak_count snapshot m old

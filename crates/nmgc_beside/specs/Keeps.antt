@@ -28,8 +28,12 @@ ShowEntries seen mutators = EachMutator seen (λ k mutator. (m : Mutator) × (sl
 
 -- over a promotion: the marker and what is remembered stay as they are
 abbrev pub PromotionKeepsMarking : Type 0
-PromotionKeepsMarking = (c : Cycle) (s : State) (old new : Seen) (t : Stopped) (words after registers : List ℕ) (queues : List (List ℕ)) (moves : List Moved) (placed : AllocState) → IsSound (interval_of c) → t.world ≡ s.world → IsMarking c s old t.places → HasPromoted c t old.segments new.segments words after registers queues moves s.allocation placed
-    → new.marker ≡ old.marker → HasLeft c old new → EachMutator new (λ m mutator. (before : MutatorSeen) × (slice_get old.mutators m ≡ Some before) × (mutator.entries ≡ before.entries))
+PromotionKeepsMarking =
+    (c : Cycle) (s : State) (old new : Seen) (t : Stopped) (words after registers : List ℕ) (queues : List (List ℕ)) (moves : List Moved)
+    (placed : AllocState) → IsSound (interval_of c) → t.world ≡ s.world → IsMarking c s old t.places →
+    HasPromoted c t old.segments new.segments words after registers queues moves s.allocation placed
+    → new.marker ≡ old.marker → HasLeft c old new → EachMutator new (λ m mutator. (before : MutatorSeen) ×
+    (slice_get old.mutators m ≡ Some before) × (mutator.entries ≡ before.entries))
     → IsMarking c (record s { allocation = placed }) new (places_after new.segments moves t)
 
 -- of what the marker had marked, it scanned so many objects more
@@ -38,13 +42,17 @@ Scans old new count = new.marked + length old.queue ≡ old.marked + length new.
 
 -- the pace over a round, of which the marker did as much as its work tells
 abbrev pub PaceAfterRound : Type 0
-PaceAfterRound = (quota : ℕ) (c : Cycle) (s t : State) (old new : Seen) → 1 ≤ quota → IsPacedAtStop quota c s old → c.from ≤ s.number → t.number ≡ s.number + 1 → Scans old.marker new.marker new.work.scanned → old.marker.marked ≤ new.marker.marked → new.work.scanned ≤ quota → (new.work.scanned ≡ quota) ⊎ (new.work.empty ≡ true) → ((new.work.empty ≡ true) ↔ (new.marker.queue ≡ []))
+PaceAfterRound = (quota : ℕ) (c : Cycle) (s t : State) (old new : Seen) → 1 ≤ quota → IsPacedAtStop quota c s old → c.from ≤ s.number →
+    t.number ≡ s.number + 1 → Scans old.marker new.marker new.work.scanned → old.marker.marked ≤ new.marker.marked → new.work.scanned ≤ quota →
+    (new.work.scanned ≡ quota) ⊎ (new.work.empty ≡ true) → ((new.work.empty ≡ true) ↔ (new.marker.queue ≡ []))
     → IsPacedAfterRound quota c t new
 
 -- and over the stop after it, where the cycle goes on: what was added waits behind what waited
 abbrev pub PaceAtStop : Type 0
-PaceAtStop = (quota : ℕ) (c : Cycle) (t : State) (old new : Seen) → IsPacedAfterRound quota c t old → c.from < t.number → old.work.empty ≡ false → Scans old.marker new.marker 0 → old.marker.marked ≤ new.marker.marked → IsPacedAtStop quota c t new
+PaceAtStop = (quota : ℕ) (c : Cycle) (t : State) (old new : Seen) → IsPacedAfterRound quota c t old → c.from < t.number → old.work.empty ≡ false →
+    Scans old.marker new.marker 0 → old.marker.marked ≤ new.marker.marked → IsPacedAtStop quota c t new
 
 -- as the cycle begins nothing was scanned yet
 abbrev pub PaceBegins : Type 0
-PaceBegins = (quota : ℕ) (c : Cycle) (s : State) (seen : Seen) → c.from ≡ s.number → seen.marker.marked ≡ length seen.marker.queue → IsPacedAtStop quota c s seen
+PaceBegins = (quota : ℕ) (c : Cycle) (s : State) (seen : Seen) → c.from ≡ s.number → seen.marker.marked ≡ length seen.marker.queue →
+    IsPacedAtStop quota c s seen

@@ -21,11 +21,14 @@ all_prepared s = record s { segments = map prepared s.segments; fresh = 0 }
 
 -- where no segment waits and marks are settled, the heap with prepared segments is one with which marking begins: no byte is the epoch of the next cycle
 abbrev pub StopIsPrepared : Type 0
-StopIsPrepared = (layout : Layout) (s : State) (words : List ℕ) (segments : Segments) (ends : List MutatorEnd) (weaks : List Place) (queues : List FinQueue) (o : Opening) → (h : HoldsAtStop layout s words segments ends weaks) → IsWorld s.world → IsSegments segments → IsSegments (all_prepared segments) → NoneIs (IsIn stands.Sweeping) s.allocation → AreSettled s.begun segments
+StopIsPrepared = (layout : Layout) (s : State) (words : List ℕ) (segments : Segments) (ends : List MutatorEnd) (weaks : List Place)
+    (queues : List FinQueue) (o : Opening) → (h : HoldsAtStop layout s words segments ends weaks) → IsWorld s.world → IsSegments segments →
+    IsSegments (all_prepared segments) → NoneIs (IsIn stands.Sweeping) s.allocation → AreSettled s.begun segments
     → queues_of ends ≡ map (λ (q : FinQueue). q.words) queues → o.layout ≡ layout → o.places ≡ h.places → o.core.snapshot ≡ s.world
     → IsPrepared o (all_prepared segments) (epoch_of (s.begun + 1)) words (registers_of ends) queues
 
 -- words and prepared segments stand for the state with which the cycle begins, at the same places
 abbrev pub StopBegins : Type 0
-StopBegins = (layout : Layout) (s : State) (words : List ℕ) (segments : Segments) (ends : List MutatorEnd) (weaks : List Place) → (h : HoldsAtStop layout s words segments ends weaks) →
+StopBegins = (layout : Layout) (s : State) (words : List ℕ) (segments : Segments) (ends : List MutatorEnd) (weaks : List Place) →
+    (h : HoldsAtStop layout s words segments ends weaks) →
     (k : HoldsAtStop layout (cycle_started s) words (all_prepared segments) ends weaks) × (k.places ≡ h.places)

@@ -1,4 +1,6 @@
--- A closing by its calls: the marker finishes, the weak pointers are resolved, and the finalisers of those that die join their makers' queues. In the words of a run the cycle is closed then, and words, roots and list stand for the closed world.
+-- A closing by its calls: the marker finishes, the weak pointers are resolved, and the finalisers of those that die
+-- join their makers' queues. In the words of a run the cycle is closed then, and words, roots and list stand for the
+-- closed world.
 use Rattle.std.specs.Prelude.{ℕ, ◌≡◌, List, [], map, All}
 use Rattle.nmgc_graph.specs.declared.value.Name.{Name}
 use Rattle.nmgc_graph.specs.Reach.{closed}
@@ -43,11 +45,13 @@ stop_opening layout c s seen mutators h = opening_beside seen.segments.layout h.
 
 -- once the marker has finished, the weak pointers may be resolved
 abbrev pub FinishMayResolve : Type 0
-FinishMayResolve = (layout : Layout) (c : Cycle) (s : State) (seen : Seen) (mutators : List Mutator) (marked : Segments) (marker : MarkerSeen) → (h : IsStopOf layout c s seen mutators) → (f : HasFinished (stop_opening layout c s seen mutators h) marked marker) →
+FinishMayResolve = (layout : Layout) (c : Cycle) (s : State) (seen : Seen) (mutators : List Mutator) (marked : Segments) (marker : MarkerSeen) →
+    (h : IsStopOf layout c s seen mutators) → (f : HasFinished (stop_opening layout c s seen mutators h) marked marker) →
     CanResolve (finished_on (stop_opening layout c s seen mutators h) marked marker f) seen.words marked marker seen.weaks
 
 -- the marker finished there, and the weak pointers were resolved, with this list and these deaths
-pub record IsClosingOf (layout : Layout) (c : Cycle) (s : State) (seen : Seen) (mutators : List Mutator) (words : List ℕ) (marked : Segments) (marker : MarkerSeen) (list : List OldWeak) (deaths : List Death) : Type 0 where
+pub record IsClosingOf (layout : Layout) (c : Cycle) (s : State) (seen : Seen) (mutators : List Mutator) (words : List ℕ) (marked : Segments)
+    (marker : MarkerSeen) (list : List OldWeak) (deaths : List Death) : Type 0 where
   pub stop : IsStopOf layout c s seen mutators
   pub between : Segments
   pub finisher : MarkerSeen
@@ -59,7 +63,8 @@ pub record IsClosingOf (layout : Layout) (c : Cycle) (s : State) (seen : Seen) (
 
 -- so the cycle is closed, and these die
 abbrev pub ResolveCloses : Type 0
-ResolveCloses = (layout : Layout) (c : Cycle) (s : State) (seen : Seen) (mutators : List Mutator) (words : List ℕ) (marked : Segments) (marker : MarkerSeen) (list : List OldWeak) (deaths : List Death) → (k : IsClosingOf layout c s seen mutators words marked marker list deaths) →
+ResolveCloses = (layout : Layout) (c : Cycle) (s : State) (seen : Seen) (mutators : List Mutator) (words : List ℕ) (marked : Segments)
+    (marker : MarkerSeen) (list : List OldWeak) (deaths : List Death) → (k : IsClosingOf layout c s seen mutators words marked marker list deaths) →
     HasClosed c s k.resolved.closing.dead marked marker
 
 -- the world closed with these, while the cycle sweeps
@@ -78,7 +83,9 @@ pub record FinalisersInHand (seen : Seen) (deaths : List Death) (queues : List F
 
 -- words, roots and list then stand for the closed world, at the same places; no snapshot is tracked any more
 abbrev pub ClosedHolds : Type 0
-ClosedHolds = (layout : Layout) (c : Cycle) (s : State) (seen : Seen) (mutators : List Mutator) (words : List ℕ) (marked : Segments) (marker : MarkerSeen) (list : List OldWeak) (deaths : List Death) (queues : List FinQueue) (ends : List MutatorEnd) → (k : IsClosingOf layout c s seen mutators words marked marker list deaths) → FinalisersInHand seen deaths queues ends →
+ClosedHolds = (layout : Layout) (c : Cycle) (s : State) (seen : Seen) (mutators : List Mutator) (words : List ℕ) (marked : Segments)
+    (marker : MarkerSeen) (list : List OldWeak) (deaths : List Death) (queues : List FinQueue) (ends : List MutatorEnd) →
+    (k : IsClosingOf layout c s seen mutators words marked marker list deaths) → FinalisersInHand seen deaths queues ends →
     (g : HoldsAtStop layout (closed_state c s k.resolved.closing.dead) words marked ends (places_of list)) × (g.places ≡ k.stop.heap.places)
 
 -- what contracts see of a cycle that was closed at this stop, where these died
@@ -90,6 +97,8 @@ pub record TellsDeaths (c : Cycle) (closed : ℕ) (dead : List Name) (marker : M
 
 -- a cycle that closes while all of its segments wait begins to sweep, and nothing was listed or freed yet
 abbrev pub ClosedCycleSweeps : Type 0
-ClosedCycleSweeps = (c : Cycle) (s : State) (dead : List Name) (words : List ℕ) (segments : Segments) (marker : MarkerSeen) (cycle : CycleSeen) (sweeper : SweeperSeen) → IsSegments segments → StandsFor segments words s.allocation → IsLastBegun c s.number s.begun → WaitsWhole c s.allocation
-    → HasClosed c s dead segments marker → marker.epoch ≡ epoch_of c.number → TellsDeaths c s.number dead marker cycle → HasNoted c sweeper → sweeper.had ≡ [] → sweeper.freed ≡ []
+ClosedCycleSweeps = (c : Cycle) (s : State) (dead : List Name) (words : List ℕ) (segments : Segments) (marker : MarkerSeen) (cycle : CycleSeen)
+    (sweeper : SweeperSeen) → IsSegments segments → StandsFor segments words s.allocation → IsLastBegun c s.number s.begun → WaitsWhole c s.allocation
+    → HasClosed c s dead segments marker → marker.epoch ≡ epoch_of c.number → TellsDeaths c s.number dead marker cycle → HasNoted c sweeper →
+    sweeper.had ≡ [] → sweeper.freed ≡ []
     → IsSweeping c s.number s.allocation (all_carried marker.epoch segments) cycle sweeper × AreSettled s.begun (all_carried marker.epoch segments)

@@ -28,7 +28,8 @@ use Rattle.nmgc_run.specs.State.{Cycle}
 abbrev pub with_rows : Cycle → List Row → Cycle
 with_rows c rows = record c { rows = c.rows ++ rows }
 
--- the machine of a cycle at a stop: its rows lead from the snapshot to the world, nothing is owed, all that was pushed was taken, and of what waits nothing was read yet
+-- the machine of a cycle at a stop: its rows lead from the snapshot to the world, nothing is owed, all that was
+-- pushed was taken, and of what waits nothing was read yet
 pub record IsMachineAtRest (c : Cycle) (w : World) (core : Core) : Type 0 where
   pub sound : IsSound (interval_of c)
   pub machine : IsCoreOf c w core
@@ -36,7 +37,8 @@ pub record IsMachineAtRest (c : Cycle) (w : World) (core : Core) : Type 0 where
   pub fresh : All IsFresh core.queue
 
 -- words, blocks and mutators stand for the world and speak of the snapshot too, the nurseries are empty, and what waits to be scanned is at these places
-pub record IsAtRest (c : Cycle) (core : Core) (s : Segments) (places : List Place) (w : World) (words : List ℕ) (mutators : List Mutator) (queue : List ℕ) : Type 0 where
+pub record IsAtRest (c : Cycle) (core : Core) (s : Segments) (places : List Place) (w : World) (words : List ℕ) (mutators : List Mutator)
+    (queue : List ℕ) : Type 0 where
   pub world : IsWorld w
   pub machine : IsMachineAtRest c w core
   pub sound : IsSegments s
@@ -50,9 +52,16 @@ pub record IsAtRest (c : Cycle) (core : Core) (s : Segments) (places : List Plac
 
 -- the opening of a round that begins there
 abbrev pub opening_beside : Layout → Core → List Place → List Mutator → Opening
-opening_beside layout core places mutators = record { layout = layout; marking = true; core = core; places = places; hands = map (hand_of core.world places) mutators }
+opening_beside layout core places mutators = record {
+  layout = layout;
+  marking = true;
+  core = core;
+  places = places;
+  hands = map (hand_of core.world places) mutators;
+}
 
 -- a heap at rest opens a round, and the collector may speak of the snapshot there
 abbrev pub RestOpens : Type 0
-RestOpens = (c : Cycle) (core : Core) (s : Segments) (places : List Place) (w : World) (words : List ℕ) (mutators : List Mutator) (queue : List ℕ) → IsAtRest c core s places w words mutators queue →
+RestOpens = (c : Cycle) (core : Core) (s : Segments) (places : List Place) (w : World) (words : List ℕ) (mutators : List Mutator) (queue : List ℕ) →
+    IsAtRest c core s places w words mutators queue →
     let o = opening_beside s.layout core places mutators in CanOpen o words × AreEarlier (earlier o) o.core.world

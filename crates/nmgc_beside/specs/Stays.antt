@@ -10,8 +10,10 @@ use Rattle.nmgc_blocks.specs.Stopped.{Stopped, IsRoundOf, IsSettled, young_base}
 use Rattle.nmgc_run.specs.Sound.{LieKnown}
 use Rattle.nmgc_run.specs.State.{Cycle}
 
--- a promotion at a stop of a marking cycle placed what it moved, in blocks that were not in use, and left mark bytes and snapshot index of each segment; of earlier worlds the collector speaks of the snapshot alone afterwards
-pub record HasPromoted (c : Cycle) (t : Stopped) (s new : Segments) (words after registers : List ℕ) (queues : List (List ℕ)) (moves : List Moved) (allocation placed : AllocState) : Type 0 where
+-- a promotion at a stop of a marking cycle placed what it moved, in blocks that were not in use, and left mark bytes
+-- and snapshot index of each segment; of earlier worlds the collector speaks of the snapshot alone afterwards
+pub record HasPromoted (c : Cycle) (t : Stopped) (s new : Segments) (words after registers : List ℕ) (queues : List (List ℕ)) (moves : List Moved)
+    (allocation placed : AllocState) : Type 0 where
   pub later_is : t.later ≡ c.snapshot ∷ []
   pub round : IsRoundOf (young_base s) t
   pub known : LieKnown t.began allocation

@@ -28,14 +28,19 @@ pub record HasPlaced (old new : Segments) (words after : List ℕ) (allocation p
 
 -- as many wait where marks change alone, as by a marker or as they are carried over, and over a promotion: so what a sweeper has left is right still
 abbrev pub MarkedWait : Type 0
-MarkedWait = (old new : Segments) (words after : List ℕ) (allocation : AllocState) → StandsFor old words allocation → StandsFor new after allocation → (number : ℕ) → IsWaiting new number ↔ IsWaiting old number
+MarkedWait = (old new : Segments) (words after : List ℕ) (allocation : AllocState) → StandsFor old words allocation →
+    StandsFor new after allocation → (number : ℕ) → IsWaiting new number ↔ IsWaiting old number
 
 abbrev pub PlacedWait : Type 0
-PlacedWait = (old new : Segments) (words after : List ℕ) (allocation placed : AllocState) → HasPlaced old new words after allocation placed → (number : ℕ) → IsWaiting new number ↔ IsWaiting old number
+PlacedWait = (old new : Segments) (words after : List ℕ) (allocation placed : AllocState) → HasPlaced old new words after allocation placed →
+    (number : ℕ) → IsWaiting new number ↔ IsWaiting old number
 
 -- no segment that waits was touched, so the cycle sweeps as before, and marks are settled as before
 abbrev pub SweepingStays : Type 0
-SweepingStays = (c : Cycle) (closed : ℕ) (old new : Segments) (words after : List ℕ) (allocation placed : AllocState) (cycle : CycleSeen) (sweeper : SweeperSeen) → HasPlaced old new words after allocation placed → IsSweeping c closed allocation old cycle sweeper → IsSweeping c closed placed new cycle sweeper
+SweepingStays = (c : Cycle) (closed : ℕ) (old new : Segments) (words after : List ℕ) (allocation placed : AllocState) (cycle : CycleSeen)
+    (sweeper : SweeperSeen) → HasPlaced old new words after allocation placed → IsSweeping c closed allocation old cycle sweeper →
+    IsSweeping c closed placed new cycle sweeper
 
 abbrev pub SettledStays : Type 0
-SettledStays = (begun : ℕ) (old new : Segments) (words after : List ℕ) (allocation placed : AllocState) → HasPlaced old new words after allocation placed → AreSettled begun old → AreSettled begun new
+SettledStays = (begun : ℕ) (old new : Segments) (words after : List ℕ) (allocation placed : AllocState) →
+    HasPlaced old new words after allocation placed → AreSettled begun old → AreSettled begun new

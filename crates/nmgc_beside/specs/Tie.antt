@@ -23,5 +23,7 @@ CoreHasSnapshot = (c : Cycle) (w : World) (core : Core) → IsSound (interval_of
 
 -- as a round begins with the heap of a stop and the machine's state, a marker that is tied to the machine is tied by places to the view of the collector's seat
 abbrev pub RoundBeginsTied : Type 0
-RoundBeginsTied = (layout : Layout) (s : State) (words : List ℕ) (segments : Segments) (ends : List MutatorEnd) (weaks : List Place) (c : Cycle) (o : Opening) (marker : MarkerSeen) → (h : HoldsAtStop layout s words segments ends weaks) → IsSegments segments → IsSound (interval_of c) → IsCoreOf c s.world o.core → o.layout ≡ layout → o.places ≡ h.places → IsTied c s.allocation segments o.places marker o.core →
+RoundBeginsTied = (layout : Layout) (s : State) (words : List ℕ) (segments : Segments) (ends : List MutatorEnd) (weaks : List Place) (c : Cycle)
+    (o : Opening) (marker : MarkerSeen) → (h : HoldsAtStop layout s words segments ends weaks) → IsSegments segments → IsSound (interval_of c) →
+    IsCoreOf c s.world o.core → o.layout ≡ layout → o.places ≡ h.places → IsTied c s.allocation segments o.places marker o.core →
     IsTiedByPlaces o (marks_seen (collecting (whole o))) segments marker

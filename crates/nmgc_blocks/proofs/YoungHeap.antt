@@ -55,15 +55,22 @@ abbrev places : List Place
 places = young_stop.places
 
 -- what a world of one mutator knows: g, and its objects
-shared_or : (b d : Bool) (shared node : Node) (serial : ℕ) (A : Type 0) → (b ≡ true → d ≡ true → Some shared ≡ Some node → A) → (if b then (if d then Some shared else None) else slice_get {X = Node} [] serial) ≡ Some node → A
+shared_or : (b d : Bool) (shared node : Node) (serial : ℕ) (A : Type 0) → (b ≡ true → d ≡ true → Some shared ≡ Some node → A) →
+    (if b then (if d then Some shared else None) else slice_get {X = Node} [] serial) ≡ Some node → A
 shared_or true true shared node serial A is e = is refl refl e
 shared_or true false shared node serial A is e = absurd cc
 shared_or false d shared node serial A is e = absurd cc
 
-known : (shared : Node) (state : MutatorState) (maker serial : ℕ) (node : Node) → node_of (record { shared = shared; mutators = state ∷ [] }) (record { maker = maker; serial = serial }) ≡ Some node → ((shared_name ≡ record { maker = maker; serial = serial }) × (shared ≡ node)) ⊎ ((maker ≡ 0) × (slice_get state.nodes serial ≡ Some node))
+known : (shared : Node) (state : MutatorState) (maker serial : ℕ) (node : Node) →
+    node_of (record { shared = shared; mutators = state ∷ [] }) (record { maker = maker; serial = serial }) ≡ Some node →
+    ((shared_name ≡ record { maker = maker; serial = serial }) × (shared ≡ node)) ⊎ ((maker ≡ 0) × (slice_get state.nodes serial ≡ Some node))
 known shared state zero serial node e = inr (refl, e)
 known shared state (suc maker) serial node e = shared_or (suc maker == SHARED_MAKER) (serial == 0) shared node serial _
-    (λ b d s. inl (ap (λ (m : ℕ). record { maker = m; serial = 0 }) (sym (eqb-true (suc maker) SHARED_MAKER b)) ∙ ap (λ (n : ℕ). record { maker = suc maker; serial = n }) (sym (eqb-true serial 0 d)), cc))
+    (λ b d s. inl (
+      ap (λ (m : ℕ). record { maker = m; serial = 0 }) (sym (eqb-true (suc maker) SHARED_MAKER b)) ∙
+          ap (λ (n : ℕ). record { maker = suc maker; serial = n }) (sym (eqb-true serial 0 d)),
+      cc,
+    ))
     e
 
 began_knows : (name : Name) (node : Node) → node_of began name ≡ Some node → (shared_name ≡ name) × (sixteen ≡ node)
@@ -107,7 +114,11 @@ third_world = step_keeps_world numbered 0 (command.Con 0 7 (Register 1 ∷ [])) 
 
 is_earlier : IsEarlier began young_world
 is_earlier = step_keeps_earlier began numbered 0 (command.Con 0 7 (Register 1 ∷ [])) second_world takes
-    (step_keeps_earlier began began 0 (command.Num 1 5) first_world (record { mutator = lit< tt; registers = lit< tt; serial = lit< tt }) (world_is_earlier began first_world))
+    (step_keeps_earlier began began 0 (command.Num 1 5) first_world (record {
+      mutator = lit< tt;
+      registers = lit< tt;
+      serial = lit< tt;
+    }) (world_is_earlier began first_world))
 
 -- the places
 
@@ -155,7 +166,8 @@ module _ (words : List ℕ) (h : HoldsYoung words) where
   made_slots zero slot e = let is : holds (Number 5) ≡ slot = cc in subst (λ (x : Slot). Fills (Contains places) (slice_index words 2082) x) is h.field
   made_slots (suc i) slot e = absurd cc
 
-  none_free : (e : World) (name : Name) (before : Node) (from : ℕ) → Contains earlier e → node_of e name ≡ Some before → HasSlots (Contains places) words from (free_slots before)
+  none_free : (e : World) (name : Name) (before : Node) (from : ℕ) → Contains earlier e → node_of e name ≡ Some before →
+      HasSlots (Contains places) words from (free_slots before)
   none_free e name before from c was =
       let was' : node_of began name ≡ Some before = ap (λ (x : World). node_of x name) (one_is began e c) ∙ was in
       subst (λ (x : Node). HasSlots (Contains places) words from (free_slots x)) (began_knows name before was').1 (λ i slot f. absurd cc)
@@ -169,7 +181,13 @@ module _ (words : List ℕ) (h : HoldsYoung words) where
   }
 
   young_lies : (size : ℕ) → size ≤ 3 → LiesWell small_layout young_place size
-  young_lies size most = inr (λ e. omega (arith, e), inr (omega (arith, most), λ i from before. record { exists = lit< tt; from = omega (arith, from); before = omega (arith, before, most) }))
+  young_lies size most = inr (
+    λ e. omega (arith, e),
+    inr (
+      omega (arith, most),
+      λ i from before. record { exists = lit< tt; from = omega (arith, from); before = omega (arith, before, most) },
+    ),
+  )
 
   young_object : IsObject small_layout places words young_place made
   young_object = record {
@@ -221,15 +239,20 @@ module _ (words : List ℕ) (h : HoldsYoung words) where
         (record { known = refl; valid = (lit≤ tt, lit< tt, λ e. refl); name = h.shared_name; lies = inl (refl, refl, lit≤ tt) })
         (record { known = refl; valid = (lit≤ tt, lit< tt, λ e. refl); name = h.name; lies = young_lies 2 (lit≤ tt) });
     tracked = λ name node t is. elim (knows name node is) [
-      | inl g ↦ subst (λ (n : Name). IsPlaced small_layout earlier NoNode places words n node) g.0 (subst (λ (x : Node). IsPlaced small_layout earlier NoNode places words shared_name x) g.1 shared_placed)
-      | inr y ↦ subst (λ (n : Name). IsPlaced small_layout earlier NoNode places words n node) y.0 (subst (λ (x : Node). IsPlaced small_layout earlier NoNode places words (own 0) x) y.1 young_placed)
+      | inl g ↦ subst (λ (n : Name). IsPlaced small_layout earlier NoNode places words n node) g.0 (subst (λ (x : Node).
+          IsPlaced small_layout earlier NoNode places words shared_name x) g.1 shared_placed)
+      | inr y ↦ subst (λ (n : Name). IsPlaced small_layout earlier NoNode places words n node) y.0 (subst (λ (x : Node).
+          IsPlaced small_layout earlier NoNode places words (own 0) x) y.1 young_placed)
     ];
     born = λ p node c young is.
         let first = young.from in
         let here = is_young p c (omega (arith, first)) in
         let was : node_of young_world (own 0) ≡ Some node = ap (λ (q : Place). node_of young_world q.name) here ∙ is in
-        let same = (first_of 0 node was).1 in
-        (subst (λ (q : Place). IsObject small_layout places words q node) here (subst (λ (x : Node). IsObject small_layout places words young_place x) same young_object), λ dead. absurd (let e = same ∙ dead in cc));
+        let same = (first_of 0 node was).1 in (
+          subst (λ (q : Place). IsObject small_layout places words q node) here (subst (λ (x : Node).
+              IsObject small_layout places words young_place x) same young_object),
+          λ dead. absurd (let e = same ∙ dead in cc),
+        );
   }
 
 registers_mean : AllMean (Contains places) young_registers 0 (state_of young_world 0).registers
@@ -237,7 +260,8 @@ registers_mean zero v e = let is : Ref (own 0) ≡ v = cc in subst (λ (x : Valu
 registers_mean (suc zero) v e = let is : Number 5 ≡ v = cc in subst (λ (x : Value). Means (Contains places) 13 x) is refl
 registers_mean (suc (suc i)) v e =
     let is = all_item 62 i Nil v e in
-    let word : get_or (4160 ∷ 13 ∷ replicate 62 1) (0 + suc (suc i)) 0 ≡ 1 = ap (λ (k : ℕ). get_or (4160 ∷ 13 ∷ replicate 62 1) k 0) (zero-add (suc (suc i))) ∙ get_or-replicate 62 i 1 0 is.1 in
+    let word : get_or (4160 ∷ 13 ∷ replicate 62 1) (0 + suc (suc i)) 0 ≡ 1 =
+    ap (λ (k : ℕ). get_or (4160 ∷ 13 ∷ replicate 62 1) k 0) (zero-add (suc (suc i))) ∙ get_or-replicate 62 i 1 0 is.1 in
     subst (λ (x : Value). Means (Contains places) (get_or (4160 ∷ 13 ∷ replicate 62 1) (0 + suc (suc i)) 0) x) (sym is.0) word
 
 roots : RepresentsRoots places young_world young_registers ([] ∷ []) (1 ∷ [])
@@ -288,7 +312,8 @@ stands words sound h = record {
   roots = roots;
   segments = sound;
   blocks = record {
-    held = λ p node c low other is. at_place (λ (q : Place). q.at < 2080 → q.name.maker ≢ SHARED_MAKER → (size : ℕ) × IsOccupied (all_free small_layout) q.at size × (size_of node ≤ size)) (λ l ne. absurd (ne refl)) (λ l. absurd (omega (arith, l))) p c low other;
+    held = λ p node c low other is. at_place (λ (q : Place). q.at < 2080 → q.name.maker ≢ SHARED_MAKER → (size : ℕ) ×
+        IsOccupied (all_free small_layout) q.at size × (size_of node ≤ size)) (λ l ne. absurd (ne refl)) (λ l. absurd (omega (arith, l))) p c low other;
     filled = λ at size o. absurd (none_used at size o);
   };
   used = record {
@@ -298,7 +323,8 @@ stands words sound h = record {
     used = λ p node c l is.
         let here = is_young p c l in
         let was : node_of young_world (own 0) ≡ Some node = ap (λ (q : Place). node_of young_world q.name) here ∙ is in
-        subst (λ (q : Place). q.at + size_of node ≤ (nursery_at young_nurseries q.name.maker).top) here (subst (λ (x : Node). 2080 + size_of x ≤ 2083) (first_of 0 node was).1 (lit≤ tt));
+        subst (λ (q : Place). q.at + size_of node ≤ (nursery_at young_nurseries q.name.maker).top) here (subst (λ (x : Node).
+        2080 + size_of x ≤ 2083) (first_of 0 node was).1 (lit≤ tt));
   };
   order = λ a b c d l lt.
       let here = is_young a c l in
@@ -307,7 +333,8 @@ stands words sound h = record {
       absurd (omega (arith, same, lt));
   left = record {
     fields = λ at c. absurd (nothing_in at c);
-    all_fields = λ p q node i c low other t is slot d young. absurd (at_place (λ (x : Place). x.at < 2080 → x.name.maker ≢ SHARED_MAKER → ⊥) (λ l ne. ne refl) (λ l. omega (arith, l)) p c low other);
+    all_fields = λ p q node i c low other t is slot d young. absurd (at_place (λ (x : Place). x.at < 2080 → x.name.maker ≢ SHARED_MAKER →
+        ⊥) (λ l ne. ne refl) (λ l. omega (arith, l)) p c low other);
     weak_places = λ at c. absurd (nothing_in at c);
     all_weaks = λ p parts c l alive. absurd (no_weak p.name (Some parts) alive);
   };
@@ -318,7 +345,8 @@ stands words sound h = record {
     first_nursery zero lt = refl
     first_nursery (suc maker) lt = absurd (omega (arith, lt))
 
-    tops : (maker : ℕ) → maker < 1 → ((nursery_at young_nurseries maker).base ≤ (nursery_at young_nurseries maker).top) × ((nursery_at young_nurseries maker).top ≤ (nursery_at young_nurseries maker).base + 64)
+    tops : (maker : ℕ) → maker < 1 → ((nursery_at young_nurseries maker).base ≤ (nursery_at young_nurseries maker).top) ×
+        ((nursery_at young_nurseries maker).top ≤ (nursery_at young_nurseries maker).base + 64)
     tops zero lt = (lit≤ tt, lit≤ tt)
     tops (suc maker) lt = absurd (omega (arith, lt))
 

@@ -17,8 +17,10 @@ nursery_at nurseries maker = slice_index_or nurseries maker (record { base = 0; 
 pub record AreUsed (layout : Layout) (base : ℕ) (places : List Place) (w : World) (nurseries : List Nursery) : Type 0 where
   pub count : length nurseries ≡ layout.mutators
   pub places_are : (maker : ℕ) → maker < layout.mutators → (nursery_at nurseries maker).base ≡ nursery_place layout maker
-  pub tops : (maker : ℕ) → maker < layout.mutators → ((nursery_at nurseries maker).base ≤ (nursery_at nurseries maker).top) × ((nursery_at nurseries maker).top ≤ (nursery_at nurseries maker).base + layout.nursery)
-  pub used : (p : Place) (node : Node) → Contains places p → base ≤ p.at → node_of w p.name ≡ Some node → p.at + size_of node ≤ (nursery_at nurseries p.name.maker).top
+  pub tops : (maker : ℕ) → maker < layout.mutators → ((nursery_at nurseries maker).base ≤ (nursery_at nurseries maker).top) ×
+      ((nursery_at nurseries maker).top ≤ (nursery_at nurseries maker).base + layout.nursery)
+  pub used : (p : Place) (node : Node) → Contains places p → base ≤ p.at → node_of w p.name ≡ Some node →
+      p.at + size_of node ≤ (nursery_at nurseries p.name.maker).top
 
 -- young objects lie in the order of their names
 abbrev pub LieInOrder : ℕ → List Place → Type 0

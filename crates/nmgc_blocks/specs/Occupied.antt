@@ -21,7 +21,8 @@ pub record IsOccupied (s : Segments) (at size : ℕ) : Type 0 where
 
 -- below the base, where the nurseries begin, the places of objects but g are exactly those of the blocks in use, and each object fits its block, tracked or not
 pub record AreBlocks (s : Segments) (base : ℕ) (places : List Place) (w : World) : Type 0 where
-  pub held : (p : Place) (node : Node) → Contains places p → p.at < base → p.name.maker ≢ SHARED_MAKER → node_of w p.name ≡ Some node → (size : ℕ) × IsOccupied s p.at size × (size_of node ≤ size)
+  pub held : (p : Place) (node : Node) → Contains places p → p.at < base → p.name.maker ≢ SHARED_MAKER → node_of w p.name ≡ Some node → (size : ℕ) ×
+      IsOccupied s p.at size × (size_of node ≤ size)
   pub filled : (at size : ℕ) → IsOccupied s at size → (name : Name) × Contains places (record { at = at; name = name })
 
 -- each segment has the mark bytes and the snapshot index that it had

@@ -28,4 +28,6 @@ AllocatesAll s (p ∷ rest) new = (next : Segments) × AllocatesOne s next p × 
 
 -- with the reserve free before, and no more words placed since than the nurseries have, there is room for every class of every mutator
 abbrev pub ReserveSuffices : Type 0
-ReserveSuffices = (s new : Segments) (placed : List Placing) (maker class : ℕ) → IsSegments s → reserve_count s.layout ≤ free_count s.segments → AllocatesAll s placed new → sum_by (λ p. p.words) placed ≤ s.layout.mutators * s.layout.nursery → IsMutator s.layout maker → IsClass s.layout class → HasRoom new maker class
+ReserveSuffices = (s new : Segments) (placed : List Placing) (maker class : ℕ) → IsSegments s → reserve_count s.layout ≤ free_count s.segments →
+    AllocatesAll s placed new → sum_by (λ p. p.words) placed ≤ s.layout.mutators * s.layout.nursery → IsMutator s.layout maker →
+    IsClass s.layout class → HasRoom new maker class

@@ -44,4 +44,5 @@ young_nurseries = record { base = 2080; top = 2083; end = 2144 } ∷ []
 
 -- these words stand for that stop, with nothing recorded and no weak pointer, whatever the other words are
 abbrev pub OneYoung : Type 0
-OneYoung = (s : Segments) (words : List ℕ) → IsSegments s → s ≡ all_free small_layout → HoldsYoung words → IsStopped young_stop s words young_nurseries young_registers ([] ∷ []) [] []
+OneYoung = (s : Segments) (words : List ℕ) → IsSegments s → s ≡ all_free small_layout → HoldsYoung words →
+    IsStopped young_stop s words young_nurseries young_registers ([] ∷ []) [] []

@@ -23,7 +23,8 @@ use nmgc_object::laws::words_differ;
 
 /// Blocks in use lie each in one segment, above g and below the nurseries, and apart from one another.
 pub fn blocks_lie_apart()
-    ensures inside { (s : Segments) (at size : ℕ) → IsSegments s → (o : IsOccupied s at size) → (i : ℕ) → at ≤ i → i < at + size → InSegment s.layout o.number i }
+    ensures inside { (s : Segments) (at size : ℕ) → IsSegments s → (o : IsOccupied s at size) → (i : ℕ) → at ≤ i → i < at + size →
+        InSegment s.layout o.number i }
     ensures apart { (s : Segments) (p a q b : ℕ) → IsSegments s → IsOccupied s p a → IsOccupied s q b → (p ≡ q) ⊎ ((p + a ≤ q) ⊎ (q + b ≤ p)) }
     ensures above { (s : Segments) (at size : ℕ) → IsSegments s → IsOccupied s at size → 32 ≤ at }
     ensures below { (s : Segments) (at size : ℕ) → IsSegments s → IsOccupied s at size → at + size ≤ nursery_place s.layout 0 }
@@ -32,8 +33,14 @@ pub fn blocks_lie_apart()
 /// The strong fields that the words of a tracked object show are those of its node: each pointer in one
 /// of them goes to a name that the node refers to, and each such name has its pointer there.
 pub fn fields_are_shown()
-    ensures sound { (layout : Layout) (earlier : List World) (places : List Place) (w : World) (words : List ℕ) → IsWorld w → Represents layout earlier NoNode places w words → (name : Name) (node : Node) (at to : ℕ) → IsTracked w earlier name → node_of w name ≡ Some node → Contains places (record { at = at; name = name }) → 1 ≤ to → HasStrong words at (2 * to) → (n : Name) × Contains places (record { at = to; name = n }) × RefersTo w name n }
-    ensures complete { (layout : Layout) (earlier : List World) (places : List Place) (w : World) (words : List ℕ) → IsWorld w → Represents layout earlier NoNode places w words → (name : Name) (node : Node) (at : ℕ) (n : Name) (to : ℕ) → IsTracked w earlier name → node_of w name ≡ Some node → Contains places (record { at = at; name = name }) → Contains (strong_fields node) (Ref n) → Contains places (record { at = to; name = n }) → HasStrong words at (2 * to) }
+    ensures sound { (layout : Layout) (earlier : List World) (places : List Place) (w : World) (words : List ℕ) → IsWorld w →
+        Represents layout earlier NoNode places w words → (name : Name) (node : Node) (at to : ℕ) → IsTracked w earlier name →
+        node_of w name ≡ Some node → Contains places (record { at = at; name = name }) → 1 ≤ to → HasStrong words at (2 * to) → (n : Name) ×
+        Contains places (record { at = to; name = n }) × RefersTo w name n }
+    ensures complete { (layout : Layout) (earlier : List World) (places : List Place) (w : World) (words : List ℕ) → IsWorld w →
+        Represents layout earlier NoNode places w words → (name : Name) (node : Node) (at : ℕ) (n : Name) (to : ℕ) → IsTracked w earlier name →
+        node_of w name ≡ Some node → Contains places (record { at = at; name = name }) → Contains (strong_fields node) (Ref n) →
+        Contains places (record { at = to; name = n }) → HasStrong words at (2 * to) }
 {
     words_differ();
 }
@@ -42,9 +49,12 @@ pub fn fields_are_shown()
 /// block comes into use, and no mark changes.
 pub fn placing_takes_a_new_block()
     ensures occupies { (s new : Segments) (m c at : ℕ) → IsSegments s → IsSegments new → Allocates s new m c at → IsOccupied new at (block_size c) }
-    ensures stays { (s new : Segments) (m c at : ℕ) → IsSegments s → IsSegments new → Allocates s new m c at → (p size : ℕ) → IsOccupied s p size → IsOccupied new p size }
-    ensures only { (s new : Segments) (m c at : ℕ) → IsSegments s → IsSegments new → Allocates s new m c at → (p size : ℕ) → IsOccupied new p size → IsOccupied s p size ⊎ (p ≡ at) }
-    ensures apart { (s new : Segments) (m c at : ℕ) → IsSegments s → IsSegments new → Allocates s new m c at → (p size : ℕ) → IsOccupied s p size → (p + size ≤ at) ⊎ (at + block_size c ≤ p) }
+    ensures stays { (s new : Segments) (m c at : ℕ) → IsSegments s → IsSegments new → Allocates s new m c at → (p size : ℕ) → IsOccupied s p size →
+        IsOccupied new p size }
+    ensures only { (s new : Segments) (m c at : ℕ) → IsSegments s → IsSegments new → Allocates s new m c at → (p size : ℕ) → IsOccupied new p size →
+        IsOccupied s p size ⊎ (p ≡ at) }
+    ensures apart { (s new : Segments) (m c at : ℕ) → IsSegments s → IsSegments new → Allocates s new m c at → (p size : ℕ) → IsOccupied s p size →
+        (p + size ≤ at) ⊎ (at + block_size c ≤ p) }
     ensures marks { (s new : Segments) (m c at : ℕ) → IsSegments s → IsSegments new → Allocates s new m c at → KeepsMarks s new }
 {}
 

@@ -13,7 +13,9 @@ use Rattle.nmgc_cli.specs.declared.task.Task.{Task}
 use Rattle.nmgc_cli.specs.declared.task.Task.TheVariants.{Run, Bench, Upgrade, Image, Retain, Marks}
 
 -- words that ask for none of the tasks are wrong
-pub none_asked : (words : List (List ℕ)) → (words ≡ codes "run" ∷ [] → ⊥) → (words ≡ codes "upgrade" ∷ [] → ⊥) → (words ≡ codes "image" ∷ [] → ⊥) → ((name : Name) → Asks words (Retain name) → ⊥) → ((markers : ℕ) → Asks words (Marks markers) → ⊥) → ((batches : ℕ) → Asks words (Bench batches) → ⊥) → IsWrong words
+pub none_asked : (words : List (List ℕ)) → (words ≡ codes "run" ∷ [] → ⊥) → (words ≡ codes "upgrade" ∷ [] → ⊥) → (words ≡ codes "image" ∷ [] → ⊥) →
+    ((name : Name) → Asks words (Retain name) → ⊥) → ((markers : ℕ) → Asks words (Marks markers) → ⊥) →
+    ((batches : ℕ) → Asks words (Bench batches) → ⊥) → IsWrong words
 none_asked words no_run no_upgrade no_image no_retain no_marks no_bench = by
   where
     by : (task : Task) → Asks words task → ⊥
@@ -119,10 +121,12 @@ one_number word number n most nothing spells small within same =
 two : (a b x y : List ℕ) → x ≡ a → y ≡ b → x ∷ y ∷ [] ≡ a ∷ b ∷ []
 two a b x y e f = cc
 
-pub asked_in : (T : ℕ → Task) (a b x y : List ℕ) (found : Option ℕ) → x ≡ a → y ≡ b → IfSome found (λ n. Asks (x ∷ y ∷ []) (T n)) → IfSome found (λ n. Asks (a ∷ b ∷ []) (T n))
+pub asked_in : (T : ℕ → Task) (a b x y : List ℕ) (found : Option ℕ) → x ≡ a → y ≡ b → IfSome found (λ n. Asks (x ∷ y ∷ []) (T n)) →
+    IfSome found (λ n. Asks (a ∷ b ∷ []) (T n))
 asked_in T a b x y found e f h = let P : List (List ℕ) → Type 0 = λ words. IfSome found (λ n. Asks words (T n)) in subst P (two a b x y e f) h
 
-pub none_in : (T : ℕ → Task) (a b x y : List ℕ) (found : Option ℕ) → x ≡ a → y ≡ b → IfNone found ((n : ℕ) → Asks (x ∷ y ∷ []) (T n) → ⊥) → IfNone found ((n : ℕ) → Asks (a ∷ b ∷ []) (T n) → ⊥)
+pub none_in : (T : ℕ → Task) (a b x y : List ℕ) (found : Option ℕ) → x ≡ a → y ≡ b → IfNone found ((n : ℕ) → Asks (x ∷ y ∷ []) (T n) → ⊥) →
+    IfNone found ((n : ℕ) → Asks (a ∷ b ∷ []) (T n) → ⊥)
 none_in T a b x y found e f h = let P : List (List ℕ) → Type 0 = λ words. IfNone found ((n : ℕ) → Asks words (T n) → ⊥) in subst P (two a b x y e f) h
 
 -- a list of two items is these two alone
@@ -133,8 +137,11 @@ pair (a ∷ b ∷ []) x y some few e f = cc
 pair (a ∷ b ∷ c ∷ xs) x y some few e f = absurd (omega arith)
 
 -- the same of two words that ask for a path
-pub name_in : (a b x y : List ℕ) (found : Option Name) → x ≡ a → y ≡ b → IfSome found (λ name. Asks (x ∷ y ∷ []) (Retain name)) → IfSome found (λ name. Asks (a ∷ b ∷ []) (Retain name))
+pub name_in : (a b x y : List ℕ) (found : Option Name) → x ≡ a → y ≡ b → IfSome found (λ name. Asks (x ∷ y ∷ []) (Retain name)) →
+    IfSome found (λ name. Asks (a ∷ b ∷ []) (Retain name))
 name_in a b x y found e f h = let P : List (List ℕ) → Type 0 = λ words. IfSome found (λ name. Asks words (Retain name)) in subst P (two a b x y e f) h
 
-pub no_name_in : (a b x y : List ℕ) (found : Option Name) → x ≡ a → y ≡ b → IfNone found ((name : Name) → Asks (x ∷ y ∷ []) (Retain name) → ⊥) → IfNone found ((name : Name) → Asks (a ∷ b ∷ []) (Retain name) → ⊥)
-no_name_in a b x y found e f h = let P : List (List ℕ) → Type 0 = λ words. IfNone found ((name : Name) → Asks words (Retain name) → ⊥) in subst P (two a b x y e f) h
+pub no_name_in : (a b x y : List ℕ) (found : Option Name) → x ≡ a → y ≡ b → IfNone found ((name : Name) → Asks (x ∷ y ∷ []) (Retain name) → ⊥) →
+    IfNone found ((name : Name) → Asks (a ∷ b ∷ []) (Retain name) → ⊥)
+no_name_in a b x y found e f h = let P : List (List ℕ) → Type 0 = λ words. IfNone found ((name : Name) → Asks words (Retain name) → ⊥) in
+    subst P (two a b x y e f) h

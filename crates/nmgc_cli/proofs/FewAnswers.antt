@@ -33,7 +33,10 @@ next_few false c rest n h = omega arith
 slice_few : (commands words : ℕ) (program : List Command) → length (slice commands words program) ≤ length program
 slice_few commands words [] = omega arith
 slice_few commands words (c ∷ program) =
-    let few : length (slice commands words (c ∷ program)) ≤ length program + 1 = next_few (is_next commands words c) c (if ends_slice c then [] else slice (commands - 1) (words - words_made c) program) (length program) (either_few (ends_slice c) (slice (commands - 1) (words - words_made c) program) (length program) (slice_few (commands - 1) (words - words_made c) program)) in
+    let few : length (slice commands words (c ∷ program)) ≤ length program + 1 =
+    next_few (is_next commands words c) c (if ends_slice c then [] else slice (commands - 1) (words - words_made c) program) (length program)
+    (either_few (ends_slice c) (slice (commands - 1) (words - words_made c) program) (length program)
+    (slice_few (commands - 1) (words - words_made c) program)) in
     omega (arith, few)
 
 -- how many items lists have together
@@ -47,8 +50,10 @@ parts config (program ∷ left) =
     let own : length (slice_of config program) ≤ length program = slice_few config.slice config.nursery program in
     let rest : length (rest_of config program) ≡ length program - length (slice_of config program) = length-drop (length (slice_of config program)) program in
     let before : total (slices config left) + total (map (rest_of config) left) ≡ total left = parts config left in
-    let a : total (slices config (program ∷ left)) ≡ length (slice_of config program) + total (slices config left) = sum_by-cons length (slice_of config program) (slices config left) in
-    let b : total (map (rest_of config) (program ∷ left)) ≡ length (rest_of config program) + total (map (rest_of config) left) = sum_by-cons length (rest_of config program) (map (rest_of config) left) in
+    let a : total (slices config (program ∷ left)) ≡ length (slice_of config program) + total (slices config left) =
+    sum_by-cons length (slice_of config program) (slices config left) in
+    let b : total (map (rest_of config) (program ∷ left)) ≡ length (rest_of config program) + total (map (rest_of config) left) =
+    sum_by-cons length (rest_of config program) (map (rest_of config) left) in
     let c : total (program ∷ left) ≡ length program + total left = sum_by-cons length program left in
     omega (arith, own, rest, before, a, b, c)
 
@@ -64,32 +69,45 @@ same_total (x ∷ xs) (y ∷ ys) e =
     omega (arith, head, rest, sum_by-cons length x xs, sum_by-cons length y ys)
 
 -- a round answers what it takes from the programs
-round_counts : (config : Config) (s t : State) (replies : List (List Reply)) (rows : List Row) → IsRound config s replies rows t → total replies + total t.left ≡ total s.left
+round_counts : (config : Config) (s t : State) (replies : List (List Reply)) (rows : List Row) → IsRound config s replies rows t →
+    total replies + total t.left ≡ total s.left
 round_counts config s t replies rows round =
     let answers : total replies ≡ total (slices config s.left) = same_total replies (slices config s.left) round.history.lengths in
     let left : total t.left ≡ total (map (rest_of config) s.left) = ap (λ (x : State). total x.left) round.rest in
     omega (arith, answers, left, parts config s.left)
 
-turns_count : (plan : Plan) (s : State) (turns : List Turn) → AreTurns plan s turns → command_count (map (λ (turn : Turn). turn.replies) turns) + total (state_after s turns).left ≡ total s.left
+turns_count : (plan : Plan) (s : State) (turns : List Turn) → AreTurns plan s turns →
+    command_count (map (λ (turn : Turn). turn.replies) turns) + total (state_after s turns).left ≡ total s.left
 turns_count plan s [] are = omega arith
 turns_count plan s (turn ∷ turns) are =
-    let rest : command_count (map (λ (turn : Turn). turn.replies) turns) + total (state_after turn.stop.state turns).left ≡ total turn.stop.state.left = turns_count plan turn.stop.state turns are.1 in
-    let stopped : total turn.stop.state.left ≡ total turn.worked.left = ap (λ (left : List (List Command)). total left) (stop_left plan s.world turn.worked turn.stop.state turn.stop.row turn.stop.cycles are.0.stop) in
-    let own : total turn.replies.replies + total turn.worked.left ≡ total s.left = round_counts plan.config s turn.worked turn.replies.replies turn.history are.0.round in
-    let more : command_count (map (λ (turn : Turn). turn.replies) (turn ∷ turns)) ≡ reply_count turn.replies + command_count (map (λ (turn : Turn). turn.replies) turns) = sum_by-cons reply_count turn.replies (map (λ (turn : Turn). turn.replies) turns) in
+    let rest : command_count (map (λ (turn : Turn). turn.replies) turns) + total (state_after turn.stop.state turns).left ≡
+    total turn.stop.state.left = turns_count plan turn.stop.state turns are.1 in
+    let stopped : total turn.stop.state.left ≡ total turn.worked.left =
+    ap (λ (left : List (List Command)). total left) (stop_left plan s.world turn.worked turn.stop.state turn.stop.row turn.stop.cycles are.0.stop) in
+    let own : total turn.replies.replies + total turn.worked.left ≡ total s.left =
+    round_counts plan.config s turn.worked turn.replies.replies turn.history are.0.round in
+    let more : command_count (map (λ (turn : Turn). turn.replies) (turn ∷ turns)) ≡
+    reply_count turn.replies + command_count (map (λ (turn : Turn). turn.replies) turns) =
+    sum_by-cons reply_count turn.replies (map (λ (turn : Turn). turn.replies) turns) in
     omega (arith, rest, stopped, own, more)
 
 -- the programs of a lawful report's script have more commands than it answers, or as many
 lawful_count : (script : Script) (report : Report) → IsLawful script report → command_count report.rounds ≤ total script.threads
 lawful_count script report lawful =
     let plan : Plan = plan_of script in
-    let turns : command_count (map (λ (turn : Turn). turn.replies) lawful.run.turns) + total (state_after lawful.run.opening.state lawful.run.turns).left ≡ total lawful.run.opening.state.left = turns_count plan lawful.run.opening.state lawful.run.turns lawful.is_run.turns in
-    let opened : total lawful.run.opening.state.left ≡ total script.threads = ap (λ (left : List (List Command)). total left) (stop_left plan _ (start plan) lawful.run.opening.state lawful.run.opening.row lawful.run.opening.cycles lawful.is_run.opening) in
-    let told : command_count report.rounds ≡ command_count (map (λ (turn : Turn). turn.replies) lawful.run.turns) = ap (λ (rounds : List RoundRows). command_count rounds) lawful.tells.rounds_are in
+    let turns : command_count (map (λ (turn : Turn).
+    turn.replies) lawful.run.turns) + total (state_after lawful.run.opening.state lawful.run.turns).left ≡
+    total lawful.run.opening.state.left = turns_count plan lawful.run.opening.state lawful.run.turns lawful.is_run.turns in
+    let opened : total lawful.run.opening.state.left ≡ total script.threads =
+    ap (λ (left : List (List Command)).
+    total left) (stop_left plan _ (start plan) lawful.run.opening.state lawful.run.opening.row lawful.run.opening.cycles lawful.is_run.opening) in
+    let told : command_count report.rounds ≡ command_count (map (λ (turn : Turn). turn.replies) lawful.run.turns) =
+    ap (λ (rounds : List RoundRows). command_count rounds) lawful.tells.rounds_are in
     omega (arith, turns, opened, told)
 
 -- they are few
-pub few_answers : (script : Script) (report : Report) → length script.threads ≤ MAKERS → HasFewCommands script → IsLawful script report → command_count report.rounds < 2 ^ 64
+pub few_answers : (script : Script) (report : Report) → length script.threads ≤ MAKERS → HasFewCommands script → IsLawful script report →
+    command_count report.rounds < 2 ^ 64
 few_answers script report threads few lawful =
     let programs : total script.threads ≤ length script.threads * most_script_bytes = sum_by-le length most_script_bytes script.threads few in
     let answered : command_count report.rounds ≤ total script.threads = lawful_count script report lawful in

@@ -22,7 +22,8 @@ use Rattle.nmgc_cycle.specs.Limits.{IsInLimits}
 use Rattle.nmgc_image.specs.Left.{IsLeftAs}
 
 -- while the nurseries are empty, all places lie below them
-places_low : (layout : Layout) (s : State) (words : List ℕ) (segments : Segments) (mutators : List MutatorEnd) (weaks : List Place) → IsSegments segments → (h : HoldsAtStop layout s words segments mutators weaks) → (p : Place) → Contains h.places p → p.at < nursery_place layout 0
+places_low : (layout : Layout) (s : State) (words : List ℕ) (segments : Segments) (mutators : List MutatorEnd) (weaks : List Place) →
+    IsSegments segments → (h : HoldsAtStop layout s words segments mutators weaks) → (p : Place) → Contains h.places p → p.at < nursery_place layout 0
 places_low layout s words segments mutators weaks sound h p c = elim ((h.all p).0 c) [
   | inl g ↦ let at = ap (λ (q : Place). q.at) g in omega (arith, at)
   | inr b ↦
@@ -35,7 +36,8 @@ places_low layout s words segments mutators weaks sound h p c = elim ((h.all p).
       omega (arith, at, below, four)
 ]
 
-pub left_as : (script : Script) (report : Report) → IsSegments report.segments → IsInLimits script → (run : IsRunOf script report) → IsLeftAs report (last_state run.lawful.run).world
+pub left_as : (script : Script) (report : Report) → IsSegments report.segments → IsInLimits script → (run : IsRunOf script report) →
+    IsLeftAs report (last_state run.lawful.run).world
 left_as script report segments limits run =
     let plan : Plan = plan_of script in
     let lawful = run.lawful in

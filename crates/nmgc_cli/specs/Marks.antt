@@ -19,7 +19,8 @@ name_line name = name_text name ++ 10 ∷ []
 
 -- how many markers there were, how many names were reached, each of them, and how the run ended
 abbrev pub marks_lines : ℕ → List Name → End → List ℕ
-marks_lines markers names end = (codes "marks " ++ decimal markers ++ 10 ∷ []) ++ (codes "reached " ++ decimal (length names) ++ 10 ∷ []) ++ flat_map name_line names ++ end_text end
+marks_lines markers names end = (codes "marks " ++ decimal markers ++ 10 ∷ []) ++ (codes "reached " ++ decimal (length names) ++ 10 ∷ []) ++
+    flat_map name_line names ++ end_text end
 
 -- the world that a lawful report's run leaves
 abbrev pub last_world : (script : Script) (report : Report) → IsLawful script report → World
@@ -27,7 +28,8 @@ last_world script report lawful = (last_state lawful.run).world
 
 -- what so many markers claim in that world from what its mutators hold, for every script within the limits of which the report is lawful
 abbrev pub AreClaimsOf : ℕ → Report → List (List Name) → Type 0
-AreClaimsOf markers report by = (script : Script) → IsInLimits script → (lawful : IsLawful script report) → AreClaims (last_world script report lawful) (roots_of (last_world script report lawful)) markers by
+AreClaimsOf markers report by = (script : Script) → IsInLimits script → (lawful : IsLawful script report) →
+    AreClaims (last_world script report lawful) (roots_of (last_world script report lawful)) markers by
 
 -- the names are those that strong fields reach in that world from what its mutators hold and from the slots of g, in order, and the text tells them
 pub record IsMarksOf (markers : ℕ) (script : Script) (report : Report) (lawful : IsLawful script report) (text : List ℕ) : Type 0 where

@@ -7,8 +7,10 @@ use Rattle.nmgc_cli.specs.Told.{IsTold, Ends, ReadsNothing}
 use Rattle.nmgc_arguments.specs.Words.{ArePassed}
 use Rattle.nmgc_cli.specs.declared.status.Status.{Status}
 
--- the command line's words were passed on, there is an answer to them, where they ask for nothing that is read the source is as it was, the answer was written, and the number is that of the status
-pub record Ran (line : Option (List (List ℕ))) (left left' : Option (List ℕ)) (read_fault as_it_was : Type 0) (taken taken' : Option (List ℕ)) (write_fault : Type 0) (number : ℕ) : Type 0 where
+-- the command line's words were passed on, there is an answer to them, where they ask for nothing that is read the
+-- source is as it was, the answer was written, and the number is that of the status
+pub record Ran (line : Option (List (List ℕ))) (left left' : Option (List ℕ)) (read_fault as_it_was : Type 0) (taken taken' : Option (List ℕ))
+    (write_fault : Type 0) (number : ℕ) : Type 0 where
   pub words : List (List ℕ)
   pub answer : Answer
   pub status : Status

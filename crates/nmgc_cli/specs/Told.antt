@@ -157,7 +157,8 @@ pub record Ends (old new : Option (List ℕ)) (rose : Type 0) (answer : Answer) 
   pub report_of : report ≡ answer_report answer
   pub written : IsWritten old new rose (answer_status answer) (answer_text answer) status
 
--- a report of `run`: what was left was read to its end and spells one script; the report is one of a run of it, and so lawful; and its text was written, with the status of its end
+-- a report of `run`: what was left was read to its end and spells one script; the report is one of a run of it, and
+-- so lawful; and its text was written, with the status of its end
 pub record IsReportOfRun (words : List (List ℕ)) (left left' taken taken' : Option (List ℕ)) (rose : Type 0) (status : Status) (report : Report) : Type 0 where
   pub asked : Asks words Run
   pub bytes : List ℕ
@@ -167,8 +168,10 @@ pub record IsReportOfRun (words : List (List ℕ)) (left left' taken taken' : Op
   pub run : IsRunOf script report
   pub written : IsWritten taken taken' rose (status_of report.end) (report_text report) status
 
--- a report of `bench N`: nothing was read; the report is one of a run of the bench's script, and so lawful; and its summary was written, with the status of its end
-pub record IsReportOfBench (words : List (List ℕ)) (left left' taken taken' : Option (List ℕ)) (rose : Type 0) (status : Status) (report : Report) : Type 0 where
+-- a report of `bench N`: nothing was read; the report is one of a run of the bench's script, and so lawful; and its
+-- summary was written, with the status of its end
+pub record IsReportOfBench (words : List (List ℕ)) (left left' taken taken' : Option (List ℕ)) (rose : Type 0) (status : Status) (report : Report) :
+    Type 0 where
   pub batches : ℕ
   pub asked : Asks words (Bench batches)
   pub unread : Keeps left left'
@@ -176,7 +179,8 @@ pub record IsReportOfBench (words : List (List ℕ)) (left left' taken taken' : 
   pub written : IsWritten taken taken' rose (status_of report.end) (summary_text batches report) status
 
 -- a report of `image`: as one of `run`, and what was written is the spelling of the image that shows the last world
-pub record IsReportOfImage (words : List (List ℕ)) (left left' taken taken' : Option (List ℕ)) (rose : Type 0) (status : Status) (report : Report) : Type 0 where
+pub record IsReportOfImage (words : List (List ℕ)) (left left' taken taken' : Option (List ℕ)) (rose : Type 0) (status : Status) (report : Report) :
+    Type 0 where
   pub asked : Asks words Image
   pub bytes : List ℕ
   pub read : IsRead left left' bytes
@@ -188,7 +192,8 @@ pub record IsReportOfImage (words : List (List ℕ)) (left left' taken taken' : 
   pub written : IsWritten taken taken' rose (status_of report.end) text status
 
 -- a report of `marks N`: as one of `run`, and what was written are the lines of what the registers and queues of the run's last world reach by strong fields
-pub record IsReportOfMarks (words : List (List ℕ)) (left left' taken taken' : Option (List ℕ)) (rose : Type 0) (status : Status) (report : Report) : Type 0 where
+pub record IsReportOfMarks (words : List (List ℕ)) (left left' taken taken' : Option (List ℕ)) (rose : Type 0) (status : Status) (report : Report) :
+    Type 0 where
   pub markers : ℕ
   pub asked : Asks words (Marks markers)
   pub bytes : List ℕ
@@ -202,17 +207,23 @@ pub record IsReportOfMarks (words : List (List ℕ)) (left left' taken taken' : 
 
 -- what a report is: it follows from what is told (`IsTold`, `Ends`), and is said in one piece for readers
 abbrev pub IsReport : List (List ℕ) → Option (List ℕ) → Option (List ℕ) → Option (List ℕ) → Option (List ℕ) → Type 0 → Status → Report → Type 0
-IsReport words left left' taken taken' rose status report = IsReportOfRun words left left' taken taken' rose status report ⊎ (IsReportOfBench words left left' taken taken' rose status report ⊎ (IsReportOfImage words left left' taken taken' rose status report ⊎ IsReportOfMarks words left left' taken taken' rose status report))
+IsReport words left left' taken taken' rose status report = IsReportOfRun words left left' taken taken' rose status report ⊎
+    (IsReportOfBench words left left' taken taken' rose status report ⊎
+    (IsReportOfImage words left left' taken taken' rose status report ⊎ IsReportOfMarks words left left' taken taken' rose status report))
 
--- words that ask for an upgrade leave no report and tell of no full heap; where it was done, what was left was read to its end and spells one script, and the plain spelling of its upgrade was written
+-- words that ask for an upgrade leave no report and tell of no full heap; where it was done, what was left was read
+-- to its end and spells one script, and the plain spelling of its upgrade was written
 abbrev pub IsUpgrade : List (List ℕ) → Option (List ℕ) → Option (List ℕ) → Option (List ℕ) → Option (List ℕ) → Status → Option Report → Type 0
 IsUpgrade words left left' taken taken' status report = Asks words Upgrade → (report ≡ None) × (status ≢ HeapFull)
-    × (status ≡ Done → (bytes : List ℕ) × IsRead left left' bytes × (script : Script) × SpellsOnly bytes script × Appends taken taken' (plain (upgraded script)))
+    × (status ≡ Done → (bytes : List ℕ) × IsRead left left' bytes × (script : Script) × SpellsOnly bytes script ×
+    Appends taken taken' (plain (upgraded script)))
 
--- words that ask for a path leave no report and tell of no full heap; where it was done, what was left was read to its end and spells an image, and the text of an answer that is certified in it, and so right, was written
+-- words that ask for a path leave no report and tell of no full heap; where it was done, what was left was read to
+-- its end and spells an image, and the text of an answer that is certified in it, and so right, was written
 abbrev pub IsPath : List (List ℕ) → Option (List ℕ) → Option (List ℕ) → Option (List ℕ) → Option (List ℕ) → Status → Option Report → Type 0
 IsPath words left left' taken taken' status report = (name : Name) → Asks words (Retain name) → (report ≡ None) × (status ≢ HeapFull)
-    × (status ≡ Done → (bytes : List ℕ) × IsReadWithin MAX_IMAGE_BYTES left left' bytes × (image : shown.Image) × spelling.Spells bytes image × (answer : Retained) × IsCertified image name answer × Appends taken taken' (retained_text answer))
+    × (status ≡ Done → (bytes : List ℕ) × IsReadWithin MAX_IMAGE_BYTES left left' bytes × (image : shown.Image) × spelling.Spells bytes image ×
+    (answer : Retained) × IsCertified image name answer × Appends taken taken' (retained_text answer))
 
 -- the report tells a run that ended as heap full, by the cause that `IsRunOf` tells
 abbrev pub IsFullOf : Script → Option Report → Type 0
@@ -225,21 +236,25 @@ IsRunThrough script status report = (status ≡ NoMemory) ⊎ (status ≡ Done) 
 
 -- a script within the limit is run through, where neither the source nor the sink fails
 abbrev pub IsComplete : List (List ℕ) → Option (List ℕ) → Type 0 → Type 0 → Status → Option Report → Type 0
-IsComplete words left read_fault write_fault status report = (bytes : List ℕ) (script : Script) (task : Task) → Asks words task → IsRunning task → left ≡ Some bytes → length bytes ≤ most_script_bytes → Spells bytes script
+IsComplete words left read_fault write_fault status report = (bytes : List ℕ) (script : Script) (task : Task) → Asks words task → IsRunning task →
+    left ≡ Some bytes → length bytes ≤ most_script_bytes → Spells bytes script
     → (read_fault → ⊥) → (write_fault → ⊥) → IsRunThrough script status report
 
 -- a bench is run through, where the sink doesn't fail
 abbrev pub IsBenchComplete : List (List ℕ) → Type 0 → Status → Option Report → Type 0
-IsBenchComplete words write_fault status report = (batches : ℕ) → Asks words (Bench batches) → (write_fault → ⊥) → IsRunThrough (bench_script batches) status report
+IsBenchComplete words write_fault status report = (batches : ℕ) → Asks words (Bench batches) → (write_fault → ⊥) →
+    IsRunThrough (bench_script batches) status report
 
 -- a script within the limit is upgraded or there was no memory, where neither the source nor the sink fails
 abbrev pub IsUpgradeComplete : List (List ℕ) → Option (List ℕ) → Type 0 → Type 0 → Status → Type 0
-IsUpgradeComplete words left read_fault write_fault status = (bytes : List ℕ) (script : Script) → Asks words Upgrade → left ≡ Some bytes → length bytes ≤ most_script_bytes → Spells bytes script
+IsUpgradeComplete words left read_fault write_fault status = (bytes : List ℕ) (script : Script) → Asks words Upgrade → left ≡ Some bytes →
+    length bytes ≤ most_script_bytes → Spells bytes script
     → (read_fault → ⊥) → (write_fault → ⊥) → (status ≡ NoMemory) ⊎ (status ≡ Done)
 
 -- so is an image within the limit, for a path to any name: the path is told, or there was no memory
 abbrev pub IsRetainComplete : List (List ℕ) → Option (List ℕ) → Type 0 → Type 0 → Status → Type 0
-IsRetainComplete words left read_fault write_fault status = (name : Name) (bytes : List ℕ) (image : shown.Image) → Asks words (Retain name) → left ≡ Some bytes → length bytes ≤ MAX_IMAGE_BYTES → spelling.Spells bytes image
+IsRetainComplete words left read_fault write_fault status = (name : Name) (bytes : List ℕ) (image : shown.Image) → Asks words (Retain name) →
+    left ≡ Some bytes → length bytes ≤ MAX_IMAGE_BYTES → spelling.Spells bytes image
     → (read_fault → ⊥) → (write_fault → ⊥) → (status ≡ NoMemory) ⊎ (status ≡ Done)
 
 -- the words ask for nothing that is read

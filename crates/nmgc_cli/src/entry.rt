@@ -19,7 +19,8 @@ pub fn program<R: Threads + Sync, L: CommandLine, S: Source, K: Sink>(
     source: &mut S,
     sink: &mut K,
 ) -> u8
-    ensures { Ran (L.words line.now) (S.left source.old) (S.left source.new) (Rose (S.faults source.old) (S.faults source.new)) (source.new ≡ source.old) (K.taken sink.old) (K.taken sink.new) (Rose (K.faults sink.old) (K.faults sink.new)) result
+    ensures { Ran (L.words line.now) (S.left source.old) (S.left source.new) (Rose (S.faults source.old) (S.faults source.new)) (source.new ≡
+        source.old) (K.taken sink.old) (K.taken sink.new) (Rose (K.faults sink.old) (K.faults sink.new)) result
         ⊎ ((result ≡ 7) × (source.new ≡ source.old) × (sink.new ≡ sink.old)) }
 {
     let Ok(words) = words_of(alloc, line) else {

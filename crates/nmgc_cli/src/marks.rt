@@ -70,7 +70,8 @@ pub fn marks<R: Threads + Sync, S: Source>(
     markers: u8,
 ) -> Result<Outcome, Refusal>
     requires { AreMarkers markers }
-    ensures { TellsOf (IsMarksText markers) (AnswersScript IsRan (S.left source.old) (S.left source.new) (Rose (S.faults source.old) (S.faults source.new))) result }
+    ensures { TellsOf (IsMarksText markers) (AnswersScript IsRan (S.left source.old) (S.left source.new)
+        (Rose (S.faults source.old) (S.faults source.new))) result }
 {
     let report = read_and_run(alloc, rt, source)?;
     let text = marks_text(alloc, rt, markers, &report)?;

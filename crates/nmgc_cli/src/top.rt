@@ -48,19 +48,26 @@ pub fn nmgc<R: Threads + Sync, S: Source, K: Sink>(
         × IsTold (map string_bytes words.now) (S.left source.old) (S.left source.new) (Rose (S.faults source.old) (S.faults source.new)) answer
         × Ends (K.taken sink.old) (K.taken sink.new) (Rose (K.faults sink.old) (K.faults sink.new)) answer result.status result.report }
     // A report is lawful for the script that was read, ends by its cause, and its text was written.
-    ensures report { IfSome result.report (λ report. IsReport (map string_bytes words.now) (S.left source.old) (S.left source.new) (K.taken sink.old) (K.taken sink.new) (Rose (K.faults sink.old) (K.faults sink.new)) result.status report) }
+    ensures report { IfSome result.report (λ report.
+        IsReport (map string_bytes words.now) (S.left source.old) (S.left source.new) (K.taken sink.old) (K.taken sink.new)
+        (Rose (K.faults sink.old) (K.faults sink.new)) result.status report) }
     // Where a script was upgraded, the spelling of its upgrade was written; there is no report, and no heap that is full.
-    ensures upgrade { IsUpgrade (map string_bytes words.now) (S.left source.old) (S.left source.new) (K.taken sink.old) (K.taken sink.new) result.status result.report }
+    ensures upgrade { IsUpgrade (map string_bytes words.now) (S.left source.old) (S.left source.new) (K.taken sink.old) (K.taken sink.new)
+        result.status result.report }
     // Where a path was told, it is that of a right answer in the image that was read; there is no report, and no heap that is full.
-    ensures path { IsPath (map string_bytes words.now) (S.left source.old) (S.left source.new) (K.taken sink.old) (K.taken sink.new) result.status result.report }
+    ensures path { IsPath (map string_bytes words.now) (S.left source.old) (S.left source.new) (K.taken sink.old) (K.taken sink.new) result.status
+        result.report }
     // For wrong words and for a bench nothing is read.
     ensures unread { ReadsNothing (map string_bytes words.now) → source.new ≡ source.old }
     // A script within the limit is run to its end where there is no fault, unless the heap or memory ran out.
-    ensures complete { IsComplete (map string_bytes words.now) (S.left source.old) (Rose (S.faults source.old) (S.faults source.new)) (Rose (K.faults sink.old) (K.faults sink.new)) result.status result.report }
+    ensures complete { IsComplete (map string_bytes words.now) (S.left source.old) (Rose (S.faults source.old) (S.faults source.new))
+        (Rose (K.faults sink.old) (K.faults sink.new)) result.status result.report }
     // A script within the limit is upgraded where there is no fault, unless memory ran out.
-    ensures upgraded { IsUpgradeComplete (map string_bytes words.now) (S.left source.old) (Rose (S.faults source.old) (S.faults source.new)) (Rose (K.faults sink.old) (K.faults sink.new)) result.status }
+    ensures upgraded { IsUpgradeComplete (map string_bytes words.now) (S.left source.old) (Rose (S.faults source.old) (S.faults source.new))
+        (Rose (K.faults sink.old) (K.faults sink.new)) result.status }
     // A path is found in an image within the limit where there is no fault, unless memory ran out.
-    ensures retain { IsRetainComplete (map string_bytes words.now) (S.left source.old) (Rose (S.faults source.old) (S.faults source.new)) (Rose (K.faults sink.old) (K.faults sink.new)) result.status }
+    ensures retain { IsRetainComplete (map string_bytes words.now) (S.left source.old) (Rose (S.faults source.old) (S.faults source.new))
+        (Rose (K.faults sink.old) (K.faults sink.new)) result.status }
     // A bench is run to its end as a script is; it has no source that could fail.
     ensures bench { IsBenchComplete (map string_bytes words.now) (Rose (K.faults sink.old) (K.faults sink.new)) result.status result.report }
 {

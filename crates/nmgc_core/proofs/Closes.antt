@@ -29,7 +29,10 @@ same_test false false f g = refl
 node_mutators : (w : World) (name : Name) (made : Node) → length (with_node w name made).mutators ≡ length w.mutators
 node_mutators w name made = by_test (name.maker == SHARED_MAKER)
   where
-    by_test : (b : Bool) → length (cond b (record w { shared = made }) (with_state w name.maker (with_nth (state_of w name.maker) name.serial made))).mutators ≡ length w.mutators
+    by_test : (b : Bool) → length (cond b (record w {
+      shared =
+          made;
+    }) (with_state w name.maker (with_nth (state_of w name.maker) name.serial made))).mutators ≡ length w.mutators
     by_test true = refl
     by_test false = length-set w.mutators name.maker (with_nth (state_of w name.maker) name.serial made)
 
@@ -64,14 +67,18 @@ pub marked_there : (marks : List (List Bool)) (s : State) → IsCore marks s →
 marked_there marks s c name h = placed_there s.snapshot marks name c.places (marked_place marks name (c.same name ∙ listed_from name s.marked h))
 
 -- the weak pointers that die are alive
-pub dying_alive : (marks : List (List Bool)) (s : State) (dead : List Name) → IsCore marks s → s.is_closed ≡ false → Lists (IsDying s) dead → All (IsAliveWeak s.world) dead
-dying_alive marks s dead c running l = λ k d lt. let dies = l.sound (get_or dead k d) (Contains-get_or dead k d lt) in (dies.parts, c.alive running (get_or dead k d) dies.parts dies.waiting.alive dies.waiting.not_finalised)
+pub dying_alive : (marks : List (List Bool)) (s : State) (dead : List Name) → IsCore marks s → s.is_closed ≡ false → Lists (IsDying s) dead →
+    All (IsAliveWeak s.world) dead
+dying_alive marks s dead c running l = λ k d lt. let dies = l.sound (get_or dead k d) (Contains-get_or dead k d lt) in
+    (dies.parts, c.alive running (get_or dead k d) dies.parts dies.waiting.alive dies.waiting.not_finalised)
 
 -- the names that are marked in the end, as a set and as a list
-last_listed : (s : State) (found : Closing) (marked : List Name) → IsFound s found → Lists (IsMarked found.marks) marked → (name : Name) → Contains marked name ↔ IsMarkedLast s name
+last_listed : (s : State) (found : Closing) (marked : List Name) → IsFound s found → Lists (IsMarked found.marks) marked → (name : Name) →
+    Contains marked name ↔ IsMarkedLast s name
 last_listed s found marked f l name = (λ c. (f.marked name).0 (l.sound name c), λ m. l.complete name ((f.marked name).1 m))
 
-pub closing_done : (s : State) (found : Closing) (marked : List Name) (world : World) → IsFound s found → Lists (IsMarked found.marks) marked → world ≡ closed s.world found.dead → IsClosing s (record s { world = world; marked = marked; is_closed = true })
+pub closing_done : (s : State) (found : Closing) (marked : List Name) (world : World) → IsFound s found → Lists (IsMarked found.marks) marked →
+    world ≡ closed s.world found.dead → IsClosing s (record s { world = world; marked = marked; is_closed = true })
 closing_done s found marked world f l e = record {
   dead = found.dead;
   lists = f.dead;
@@ -80,12 +87,15 @@ closing_done s found marked world f l e = record {
 }
 
 -- the core after the closing
-pub core_closed : (marks : List (List Bool)) (s : State) (found : Closing) (marked : List Name) (world : World) → IsCore marks s → IsFound s found → Lists (IsMarked found.marks) marked → world ≡ closed s.world found.dead → IsWorld world → IsCore found.marks (record s { world = world; marked = marked; is_closed = true })
+pub core_closed : (marks : List (List Bool)) (s : State) (found : Closing) (marked : List Name) (world : World) → IsCore marks s → IsFound s found →
+    Lists (IsMarked found.marks) marked → world ≡ closed s.world found.dead → IsWorld world →
+    IsCore found.marks (record s { world = world; marked = marked; is_closed = true })
 core_closed marks s found marked world c f l e is =
     let count : length world.mutators ≡ length s.world.mutators = rw e (closed_mutators s.world found.dead) in
     record {
       places = f.places;
-      same = λ name. same_test (mark_of found.marks name) (is_listed name marked) (λ m. listed_from name marked (l.complete name m)) (λ h. l.sound name (contains_listed name marked h));
+      same = λ name. same_test (mark_of found.marks name) (is_listed name marked) (λ m. listed_from name marked (l.complete name m)) (λ h.
+          l.sound name (contains_listed name marked h));
       owed = c.owed ∙ sym count;
       pushed = c.pushed ∙ sym count;
       alive = λ running. absurd cc;

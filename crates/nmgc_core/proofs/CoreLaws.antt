@@ -38,7 +38,8 @@ is_listed-push name [] x = by_test (is_same_name x name)
     by_test false = refl
 is_listed-push name (y ∷ ys) x = by_test (is_same_name y name) (is_listed-push name ys x)
   where
-    by_test : (b : Bool) → is_listed name (ys ++ x ∷ []) ≡ (is_listed name ys || is_same_name x name) → (b || is_listed name (ys ++ x ∷ [])) ≡ ((b || is_listed name ys) || is_same_name x name)
+    by_test : (b : Bool) → is_listed name (ys ++ x ∷ []) ≡ (is_listed name ys || is_same_name x name) →
+        (b || is_listed name (ys ++ x ∷ [])) ≡ ((b || is_listed name ys) || is_same_name x name)
     by_test true e = refl
     by_test false e = e
 
@@ -72,7 +73,8 @@ snoc_front (z ∷ xs) (w ∷ ys) x y e =
     rw (h, snoc_front xs ys x y t) refl
 
 -- a set and a list that have the same names still do after both got one more
-pub set_more : (marks : List (List Bool)) (name : Name) (names : List Name) → HasPlace marks name → ((n : Name) → mark_of marks n ≡ is_listed n names) → (n : Name) → mark_of (with_mark marks name) n ≡ is_listed n (names ++ name ∷ [])
+pub set_more : (marks : List (List Bool)) (name : Name) (names : List Name) → HasPlace marks name →
+    ((n : Name) → mark_of marks n ≡ is_listed n names) → (n : Name) → mark_of (with_mark marks name) n ≡ is_listed n (names ++ name ∷ [])
 set_more marks name names place same n = elim (name_cases n name) [
   | inl e ↦ rw e (added marks name place ∙ sym (listed_last name names))
   | inr ne ↦ kept_others marks name place n ne ∙ same n ∙ sym (listed_other n name names ne)
@@ -80,7 +82,11 @@ set_more marks name names place same n = elim (name_cases n name) [
 
 -- and the set has the same places
 pub places_more : (w : World) (marks : List (List Bool)) (name : Name) → HasPlace marks name → HasPlaces w marks → HasPlaces w (with_mark marks name)
-places_more w marks name place p = record { makers = makers_kept marks name place ∙ p.makers; counts = λ maker. places_kept marks name place maker ∙ p.counts maker }
+places_more w marks name place p = record {
+  makers = makers_kept marks name place ∙ p.makers;
+  counts = λ maker. places_kept marks name place maker ∙
+      p.counts maker;
+}
 
 -- a new name has a place
 pub new_placed : (marks : List (List Bool)) (s : State) (name : Name) → IsCore marks s → is_new s name ≡ true → HasPlace marks name
@@ -91,12 +97,14 @@ new_placed marks s name c new = name_placed s.snapshot marks c.places name (ther
     there false h = absurd cc
 
 -- what came on last comes off
-pub taken_off : (r : Option Name) (xs ys zs : List Name) (x : Name) → zs ≡ xs ++ x ∷ [] → IfSome r (λ (y : Name). zs ≡ ys ++ y ∷ []) → IfNone r ((zs ≡ []) × (ys ≡ [])) → ys ≡ xs
+pub taken_off : (r : Option Name) (xs ys zs : List Name) (x : Name) → zs ≡ xs ++ x ∷ [] → IfSome r (λ (y : Name). zs ≡ ys ++ y ∷ []) →
+    IfNone r ((zs ≡ []) × (ys ≡ [])) → ys ≡ xs
 taken_off (Some y) xs ys zs x e last none = snoc_front ys xs y x (sym last ∙ e)
 taken_off None xs ys zs x e last none = absurd (not_empty xs x (sym e ∙ none.0))
 
 -- a core after a name was marked
-pub core_marked : (marks marks' : List (List Bool)) (s : State) (name : Name) (marked : List Name) (queue : List Entry) → IsCore marks s → is_new s name ≡ true → marks' ≡ with_mark marks name → marked ≡ s.marked ++ name ∷ [] → IsCore marks' (record s { marked = marked; queue = queue })
+pub core_marked : (marks marks' : List (List Bool)) (s : State) (name : Name) (marked : List Name) (queue : List Entry) → IsCore marks s →
+    is_new s name ≡ true → marks' ≡ with_mark marks name → marked ≡ s.marked ++ name ∷ [] → IsCore marks' (record s { marked = marked; queue = queue })
 core_marked marks marks' s name marked queue c new e f =
     let place : HasPlace marks name = new_placed marks s name c new in
     rw (e, f) (record {
@@ -123,9 +131,12 @@ set_twice (z ∷ xs) zero x y = refl
 set_twice (z ∷ xs) (suc i) x y = ap (λ l. z ∷ l) (set_twice xs i x y)
 
 -- names that were added are taken back
-pub taken_back : (lists lists' : List (List Name)) (m : ℕ) (names : List Name) (count : ℕ) → m < length lists → lists' ≡ set lists m (names_of lists m ++ names) → count ≡ length (names_of lists m) → set lists' m (take count (names_of lists' m)) ≡ lists
+pub taken_back : (lists lists' : List (List Name)) (m : ℕ) (names : List Name) (count : ℕ) → m < length lists →
+    lists' ≡ set lists m (names_of lists m ++ names) → count ≡ length (names_of lists m) → set lists' m (take count (names_of lists' m)) ≡ lists
 taken_back lists lists' m names count lt e f =
-    let back : take (length (names_of lists m)) (names_of lists m ++ names) ≡ names_of lists m = take-append-le (length (names_of lists m)) (names_of lists m) names (omega arith) ∙ take_all (length (names_of lists m)) (names_of lists m) (omega arith) in
+    let back : take (length (names_of lists m)) (names_of lists m ++ names) ≡ names_of lists m =
+    take-append-le (length (names_of lists m)) (names_of lists m) names (omega arith) ∙
+    take_all (length (names_of lists m)) (names_of lists m) (omega arith) in
     rw (e, f, get_or-set_same lists m (names_of lists m ++ names) [] lt, back, set_twice) (set-get_or lists m [])
 
 pub none_first : {A : Type 0} (xs : List A) → slice_get xs 0 ≡ None → xs ≡ []
@@ -154,20 +165,25 @@ read_first s (Some (value.Ref name)) entry h = mark_first s name entry h
 pub mark_pushed : (s : State) (name : Name) → (mark_name s name).pushed ≡ s.pushed
 mark_pushed s name = mark_cases (λ t. t.pushed ≡ s.pushed) s name (λ e. refl) (λ e. refl)
 
-pub names_listed : (r : Result (List Name) NoMemory) (marks : List (List Bool)) (s : State) → IsCore marks s → IfOk r (Lists (IsMarked marks)) → IfOk r (Lists (Contains s.marked))
+pub names_listed : (r : Result (List Name) NoMemory) (marks : List (List Bool)) (s : State) → IsCore marks s → IfOk r (Lists (IsMarked marks)) →
+    IfOk r (Lists (Contains s.marked))
 names_listed (Ok names) marks s c l = set_marked marks s names c l
 names_listed (Err e) marks s c l = tt
 
 -- a command that wanted memory leaves everything as it was
-pub command_undone : (s : State) (world : World) (lists lists' : List (List Name)) (m : ℕ) (names : List Name) (count : ℕ) → m < length s.owed → world ≡ s.world → lists ≡ set s.owed m (names_of s.owed m ++ names) → count ≡ length (names_of s.owed m) → lists' ≡ set lists m (take count (names_of lists m)) → record s { world = world; owed = lists' } ≡ s
-command_undone s world lists lists' m names count lt e f g h = let back : lists' ≡ s.owed = h ∙ taken_back s.owed lists m names count lt f g in rw (e, back) refl
+pub command_undone : (s : State) (world : World) (lists lists' : List (List Name)) (m : ℕ) (names : List Name) (count : ℕ) → m < length s.owed →
+    world ≡ s.world → lists ≡ set s.owed m (names_of s.owed m ++ names) → count ≡ length (names_of s.owed m) →
+    lists' ≡ set lists m (take count (names_of lists m)) → record s { world = world; owed = lists' } ≡ s
+command_undone s world lists lists' m names count lt e f g h = let back : lists' ≡ s.owed = h ∙ taken_back s.owed lists m names count lt f g in
+    rw (e, back) refl
 
 -- names that were added at the end are taken back
 pub front_taken : (old new last : List Name) (xs : List Name) (count : ℕ) → new ≡ old ++ xs → count ≡ length old → last ≡ take count new → last ≡ old
 front_taken old new last xs count e f g = rw (g, e, f) (take-append-le (length old) old xs (omega arith) ∙ take_all (length old) old (omega arith))
 
 -- a core with more that is finalised
-pub core_ended : (marks : List (List Bool)) (s : State) (ends : List Name) (now : List Name) → IsCore marks s → now ≡ s.finalised ++ ends → IsCore marks (record s { finalised = now })
+pub core_ended : (marks : List (List Bool)) (s : State) (ends : List Name) (now : List Name) → IsCore marks s → now ≡ s.finalised ++ ends →
+    IsCore marks (record s { finalised = now })
 core_ended marks s ends now c e = rw e (record {
   places = c.places;
   same = c.same;
@@ -179,7 +195,8 @@ core_ended marks s ends now c e = rw e (record {
 })
 
 -- and with what was finalised before
-pub core_back : (marks marks' : List (List Bool)) (s t : State) (now back : List Name) → IsCore marks s → IsCore marks' t → t ≡ record s { finalised = now } → back ≡ s.finalised → IsCore marks' (record t { finalised = back })
+pub core_back : (marks marks' : List (List Bool)) (s t : State) (now back : List Name) → IsCore marks s → IsCore marks' t →
+    t ≡ record s { finalised = now } → back ≡ s.finalised → IsCore marks' (record t { finalised = back })
 core_back marks marks' s t now back k k' e f =
     let R : State → Type 0 = λ u. IsCore marks' u → IsCore marks' (record u { finalised = back }) in
     subst R (sym e) (λ c. rw f (record {
@@ -193,7 +210,10 @@ core_back marks marks' s t now back k k' e f =
     })) k'
 
 -- a core whose world took a command, where what the command finalised is among what is finalised
-pub core_given : (marks : List (List Bool)) (s : State) (m : ℕ) (c : Command) (r : Reply) (world : World) (lists : List (List Name)) (names : List Name) → IsCore marks s → CanApply s.world m c → step s.world m c ≡ (world, r) → IsWorld world → ((weak : Name) → Contains (finalised_by s.world m c) weak → Contains s.finalised weak) → lists ≡ set s.owed m (names_of s.owed m ++ names) → IsCore marks (record s { world = world; owed = lists })
+pub core_given : (marks : List (List Bool)) (s : State) (m : ℕ) (c : Command) (r : Reply) (world : World) (lists : List (List Name))
+    (names : List Name) → IsCore marks s → CanApply s.world m c → step s.world m c ≡ (world, r) → IsWorld world →
+    ((weak : Name) → Contains (finalised_by s.world m c) weak → Contains s.finalised weak) → lists ≡ set s.owed m (names_of s.owed m ++ names) →
+    IsCore marks (record s { world = world; owed = lists })
 core_given marks s m c r world lists names k can e is ended f =
     let w : world ≡ (step s.world m c).0 = ap (λ (p : World × Reply). p.0) (sym e) in
     let count : length world.mutators ≡ length s.world.mutators = rw w (step_grows s.world m c can.mutator).mutators in
@@ -215,14 +235,19 @@ core_given marks s m c r world lists names k can e is ended f =
     all_plain : (values : List Value) → All (Names (λ n. Unit {0})) values
     all_plain values i d lt = plain (get_or values i d)
 
-    still_alive : (weak : Name) (parts : Parts) → world ≡ (step s.world m c).0 → IsAlive s.world weak parts → (Contains s.finalised weak → ⊥) → IsAlive world weak parts
-    still_alive weak parts w a not = elim (step_alive (λ n. Unit {0}) s.world m can.mutator (not_shared s.world m k.world can.mutator) tt (all_plain (state_of s.world m).registers) c weak parts a) [
-      | inl b ↦ subst (λ (v : World). IsAlive v weak parts) (sym w) b
-      | inr d ↦ absurd (not (ended weak d))
-    ]
+    still_alive : (weak : Name) (parts : Parts) → world ≡ (step s.world m c).0 → IsAlive s.world weak parts → (Contains s.finalised weak → ⊥) →
+        IsAlive world weak parts
+    still_alive weak parts w a not =
+        elim (step_alive (λ n.
+        Unit {0}) s.world m can.mutator (not_shared s.world m k.world can.mutator) tt (all_plain (state_of s.world m).registers) c weak parts a) [
+          | inl b ↦ subst (λ (v : World). IsAlive v weak parts) (sym w) b
+          | inr d ↦ absurd (not (ended weak d))
+        ]
 
 -- the state after a command that was given
-pub given_state : (s : State) (m : ℕ) (c : Command) (r : Reply) (world : World) (lists : List (List Name)) (names : List Name) → step s.world m c ≡ (world, r) → lists ≡ set s.owed m (names_of s.owed m ++ names) → record s { world = world; owed = lists } ≡ record s { world = (step s.world m c).0; owed = set s.owed m (names_of s.owed m ++ names) }
+pub given_state : (s : State) (m : ℕ) (c : Command) (r : Reply) (world : World) (lists : List (List Name)) (names : List Name) →
+    step s.world m c ≡ (world, r) → lists ≡ set s.owed m (names_of s.owed m ++ names) →
+    record s { world = world; owed = lists } ≡ record s { world = (step s.world m c).0; owed = set s.owed m (names_of s.owed m ++ names) }
 given_state s m c r world lists names e f = let w : world ≡ (step s.world m c).0 = ap (λ (p : World × Reply). p.0) (sym e) in rw (w, f) refl
 
 -- one more value
@@ -231,5 +256,6 @@ values_more s [] v = refl
 values_more s (x ∷ values) v = values_more (mark_value s x) values v
 
 -- the step of a loop that marks values
-pub values_step : (s t u : State) (values : List Value) (i : ℕ) (d : Value) → i < length values → t ≡ mark_values s (take i values) → u ≡ mark_value t (get_or values i d) → u ≡ mark_values s (take (i + 1) values)
+pub values_step : (s t u : State) (values : List Value) (i : ℕ) (d : Value) → i < length values → t ≡ mark_values s (take i values) →
+    u ≡ mark_value t (get_or values i d) → u ≡ mark_values s (take (i + 1) values)
 values_step s t u values i d lt e f = rw (take_more values i d lt, values_more s (take i values) (get_or values i d), ← e) f

@@ -16,7 +16,8 @@ use Rattle.nmgc_core.specs.Finding.{Adds}
 use Rattle.nmgc_reach.specs.laws.ItemLaws.{contains_one, one_is}
 
 -- nothing is marked for values that lead to no unmarked name of the snapshot
-pub none_added : (snapshot : World) (s : Finding) (values : List Value) → HasPlaces snapshot s.marks → ((n : Name) → IsSome (node_of snapshot n) → Contains values (value.Ref n) → IsMarked s.marks n) → Adds snapshot s s values
+pub none_added : (snapshot : World) (s : Finding) (values : List Value) → HasPlaces snapshot s.marks →
+    ((n : Name) → IsSome (node_of snapshot n) → Contains values (value.Ref n) → IsMarked s.marks n) → Adds snapshot s s values
 none_added snapshot s values places shown = record {
   kept = λ n m. m;
   waits = λ n c. c;
@@ -53,7 +54,8 @@ then_adds snapshot s t u xs ys a b = record {
 }
 
 -- a new name
-pub name_added : (snapshot : World) (s t : Finding) (name : Name) → HasPlaces snapshot s.marks → IsSome (node_of snapshot name) → mark_of s.marks name ≡ false → t.marks ≡ with_mark s.marks name → t.work ≡ s.work ++ name ∷ [] → Adds snapshot s t (value.Ref name ∷ [])
+pub name_added : (snapshot : World) (s t : Finding) (name : Name) → HasPlaces snapshot s.marks → IsSome (node_of snapshot name) →
+    mark_of s.marks name ≡ false → t.marks ≡ with_mark s.marks name → t.work ≡ s.work ++ name ∷ [] → Adds snapshot s t (value.Ref name ∷ [])
 name_added snapshot s t name places there new marks work =
     let place : HasPlace s.marks name = name_placed snapshot s.marks places name there in
     let mine : IsMarked t.marks name = rw marks (added s.marks name place) in
@@ -65,25 +67,40 @@ name_added snapshot s t name places there new marks work =
         | inr ne ↦ rw marks (kept_others s.marks name place n ne ∙ m)
       ];
       waits = λ n c. rw work (Contains-append_left s.work (name ∷ []) n c);
-      hit = λ n known c. let e : value.Ref name ≡ value.Ref n = one_is (value.Ref name) (value.Ref n) c in let same : name ≡ n = cc in subst (IsMarked t.marks) same mine;
+      hit = λ n known c. let e : value.Ref name ≡ value.Ref n = one_is (value.Ref name) (value.Ref n) c in let same : name ≡ n = cc in
+          subst (IsMarked t.marks) same mine;
       fresh = λ n m. elim (name_cases n name) [
-        | inl e ↦ inr (subst (λ (k : Name). IsSome (node_of snapshot k)) (sym e) there, subst (λ (k : Name). Contains (value.Ref name ∷ []) (value.Ref k)) (sym e) (contains_one (value.Ref name)), rw (work, e) (Contains-push s.work name))
+        | inl e ↦ inr (
+          subst (λ (k : Name). IsSome (node_of snapshot k)) (sym e) there,
+          subst (λ (k : Name). Contains (value.Ref name ∷ []) (value.Ref k)) (sym e) (contains_one (value.Ref name)),
+          rw (work, e) (Contains-push s.work name),
+        )
         | inr ne ↦ inl (sym (kept_others s.marks name place n ne) ∙ (rw marks at m))
       ];
       waiting = λ n c. elim (Contains-push_cases s.work name n (rw work at c)) [
         | inl d ↦ inl d
-        | inr e ↦ inr (subst (IsMarked t.marks) e mine, λ k. let old : mark_of s.marks name ≡ true = subst (λ (x : Name). mark_of s.marks x ≡ true) (sym e) k in cc)
+        | inr e ↦ inr (
+          subst (IsMarked t.marks) e mine,
+          λ k. let old : mark_of s.marks name ≡ true = subst (λ (x : Name). mark_of s.marks x ≡ true) (sym e) k in cc,
+        )
       ];
       count = omega (arith, more, fewer);
       longer = omega (arith, more);
-      places = rw marks (record { makers = makers_kept s.marks name place ∙ places.makers; counts = λ maker. places_kept s.marks name place maker ∙ places.counts maker });
+      places = rw marks (record {
+        makers = makers_kept s.marks name place ∙ places.makers;
+        counts = λ maker. places_kept s.marks name place maker ∙
+            places.counts maker;
+      });
     }
 
 -- and where it could join the worklist
-pub name_pushed : (snapshot : World) (s : Finding) (marks : List (List Bool)) (work : List Name) (name : Name) (r : Result (Unit {0}) NoMemory) → HasPlaces snapshot s.marks → IsSome (node_of snapshot name) → mark_of s.marks name ≡ false → marks ≡ with_mark s.marks name → OnOk r (work ≡ s.work ++ name ∷ []) → OnOk r (Adds snapshot s (record { marks = marks; work = work }) (value.Ref name ∷ []))
+pub name_pushed : (snapshot : World) (s : Finding) (marks : List (List Bool)) (work : List Name) (name : Name) (r : Result (Unit {0}) NoMemory) →
+    HasPlaces snapshot s.marks → IsSome (node_of snapshot name) → mark_of s.marks name ≡ false → marks ≡ with_mark s.marks name →
+    OnOk r (work ≡ s.work ++ name ∷ []) → OnOk r (Adds snapshot s (record { marks = marks; work = work }) (value.Ref name ∷ []))
 name_pushed snapshot s marks work name (Ok u) places there new e f = name_added snapshot s (record { marks = marks; work = work }) name places there new e f
 name_pushed snapshot s marks work name (Err error) places there new e f = tt
 
 -- the step of a loop that marks values
-pub values_added : (snapshot : World) (s t u : Finding) (values : List Value) (i : ℕ) (d : Value) → i < length values → Adds snapshot s t (take i values) → Adds snapshot t u (get_or values i d ∷ []) → Adds snapshot s u (take (i + 1) values)
+pub values_added : (snapshot : World) (s t u : Finding) (values : List Value) (i : ℕ) (d : Value) → i < length values →
+    Adds snapshot s t (take i values) → Adds snapshot t u (get_or values i d ∷ []) → Adds snapshot s u (take (i + 1) values)
 values_added snapshot s t u values i d lt a b = rw (take_more values i d lt) (then_adds snapshot s t u (take i values) (get_or values i d ∷ []) a b)

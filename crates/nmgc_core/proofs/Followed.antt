@@ -24,7 +24,8 @@ module _ (s : State) (old f : Finding) (rest : List Name) (name : Name) (off : f
   taken_off : IsMarked f.marks name × (Contains s.marked name → ⊥)
   taken_off = h.search.waiting name (rw off (Contains-push rest name))
 
-  still_waits : (n target : Name) → IsMarked f.marks n → (Contains s.marked n → ⊥) → RefersTo s.world n target → IsSome (node_of s.snapshot target) → (name ≡ n) ⊎ (Contains rest n ⊎ IsMarked f.marks target)
+  still_waits : (n target : Name) → IsMarked f.marks n → (Contains s.marked n → ⊥) → RefersTo s.world n target →
+      IsSome (node_of s.snapshot target) → (name ≡ n) ⊎ (Contains rest n ⊎ IsMarked f.marks target)
   still_waits n target m new r there = elim (h.search.traced n target m new r there) [
     | inl c ↦ elim (Contains-push_cases rest name n (rw off at c)) [ inl d ↦ inr (inl d) | inr e ↦ inl e ]
     | inr t ↦ inr (inr t)
@@ -38,7 +39,8 @@ module _ (s : State) (old f : Finding) (rest : List Name) (name : Name) (off : f
       begun = h.search.begun;
       waiting = in_rest;
       traced = λ n target m new r there. elim (still_waits n target m new r there) [
-        | inl e ↦ let lost : node_of s.world n ≡ None = subst (λ (k : Name). node_of s.world k ≡ None) e none in let is : node_of s.world n ≡ Some r.0 = r.1 in absurd cc
+        | inl e ↦ let lost : node_of s.world n ≡ None = subst (λ (k : Name). node_of s.world k ≡ None) e none in
+            let is : node_of s.world n ≡ Some r.0 = r.1 in absurd cc
         | inr d ↦ d
       ];
     };
@@ -48,12 +50,16 @@ module _ (s : State) (old f : Finding) (rest : List Name) (name : Name) (off : f
   }
 
   -- what its strong fields refer to is marked
-  module _ (node : Node) (is : node_of s.world name ≡ Some node) (t : Finding) (a : Adds s.snapshot (record { marks = f.marks; work = rest }) t (strong_fields node)) where
+  module _ (node : Node) (is : node_of s.world name ≡ Some node) (t : Finding) (a : Adds s.snapshot (record {
+    marks = f.marks;
+    work = rest;
+  }) t (strong_fields node)) where
     same_node : (other : Node) → node_of s.world name ≡ Some other → other ≡ node
     same_node other e = let both : Some other ≡ Some node = sym e ∙ is in cc
 
     field_of : (n target : Name) → name ≡ n → (r : RefersTo s.world n target) → Contains (strong_fields node) (value.Ref target)
-    field_of n target e r = subst (λ (x : Node). Contains (strong_fields x) (value.Ref target)) (same_node r.0 (subst (λ (k : Name). node_of s.world k ≡ Some r.0) (sym e) r.1)) r.2
+    field_of n target e r = subst (λ (x : Node). Contains (strong_fields x) (value.Ref target)) (same_node r.0 (subst (λ (k : Name).
+        node_of s.world k ≡ Some r.0) (sym e) r.1)) r.2
 
     pub follow_fields : IsFollowed s old t
     follow_fields = record {
@@ -77,7 +83,11 @@ module _ (s : State) (old f : Finding) (rest : List Name) (name : Name) (off : f
         | inl before ↦ h.sound n before
         | inr unmarked ↦ elim (a.fresh n k) [
           | inl before ↦ h.sound n before
-          | inr fresh ↦ IsReached.field name n (h.sound name taken_off.0) taken_off.1 (node, is, fresh.1) (record { there = fresh.0; unmarked = λ c. let marked : mark_of f.marks n ≡ true = h.search.begun n c in absurd cc })
+          | inr fresh ↦ IsReached.field name n (h.sound name taken_off.0) taken_off.1 (
+            node,
+            is,
+            fresh.1,
+          ) (record { there = fresh.0; unmarked = λ c. let marked : mark_of f.marks n ≡ true = h.search.begun n c in absurd cc })
         ]
       ];
       fewer = omega (arith, a.count, a.longer, h.fewer);

@@ -24,18 +24,28 @@ use Rattle.nmgc_core.proofs.Reviving.{adds_search, was_unmarked}
 
 -- the finalisers of one more weak pointer
 finalisers_more : (w : World) (weaks : List Name) (weak : Name) → finalisers_of w (weaks ++ weak ∷ []) ≡ finalisers_of w weaks ++ finaliser_in (parts_of w weak)
-finalisers_more w weaks weak = flat_map-append (λ (n : Name). finaliser_in (parts_of w n)) weaks (weak ∷ []) ∙ ap (λ (l : List Value). finalisers_of w weaks ++ l) (append-nil (finaliser_in (parts_of w weak)))
+finalisers_more w weaks weak = flat_map-append (λ (n : Name). finaliser_in (parts_of w n)) weaks (weak ∷ []) ∙
+    ap (λ (l : List Value). finalisers_of w weaks ++ l) (append-nil (finaliser_in (parts_of w weak)))
 
 -- the step of a loop that marks them
-pub finalisers_step : (w : World) (old f t : Finding) (weaks : List Name) (i : ℕ) (d : Name) → i < length weaks → Adds w old f (finalisers_of w (take i weaks)) → Adds w f t (finaliser_in (parts_of w (get_or weaks i d))) → Adds w old t (finalisers_of w (take (i + 1) weaks))
-finalisers_step w old f t weaks i d lt a b = rw (take_more weaks i d lt, finalisers_more w (take i weaks) (get_or weaks i d)) (then_adds w old f t (finalisers_of w (take i weaks)) (finaliser_in (parts_of w (get_or weaks i d))) a b)
+pub finalisers_step : (w : World) (old f t : Finding) (weaks : List Name) (i : ℕ) (d : Name) → i < length weaks →
+    Adds w old f (finalisers_of w (take i weaks)) → Adds w f t (finaliser_in (parts_of w (get_or weaks i d))) →
+    Adds w old t (finalisers_of w (take (i + 1) weaks))
+finalisers_step w old f t weaks i d lt a b = rw (
+  take_more weaks i d lt,
+  finalisers_more w (take i weaks) (get_or weaks i d),
+) (then_adds w old f t (finalisers_of w (take i weaks))
+    (finaliser_in (parts_of w (get_or weaks i d))) a b)
 
-module _ (s : State) (f : Finding) (h : IsFirstFound s f) (dead : List Name) (l : Lists (IsDying s) dead) (g : Finding) (a : Adds s.snapshot f g (finalisers_of s.snapshot dead)) where
+module _ (s : State) (f : Finding) (h : IsFirstFound s f) (dead : List Name) (l : Lists (IsDying s) dead) (g : Finding)
+    (a : Adds s.snapshot f g (finalisers_of s.snapshot dead)) where
   pub rescue_search : IsSearch s g
   rescue_search = adds_search s f g (finalisers_of s.snapshot dead) a h.search
 
-  finaliser_is : (weak target : Name) (d : IsDying s weak) → Contains (finaliser_in (parts_of s.snapshot weak)) (value.Ref target) → d.parts.finaliser ≡ value.Ref target
-  finaliser_is weak target d c = one_is d.parts.finaliser (value.Ref target) (subst (λ (o : Option Parts). Contains (finaliser_in o) (value.Ref target)) (parts_from_alive s.snapshot weak d.parts d.waiting.alive) c)
+  finaliser_is : (weak target : Name) (d : IsDying s weak) → Contains (finaliser_in (parts_of s.snapshot weak)) (value.Ref target) →
+      d.parts.finaliser ≡ value.Ref target
+  finaliser_is weak target d c = one_is d.parts.finaliser (value.Ref target) (subst (λ (o : Option Parts).
+      Contains (finaliser_in o) (value.Ref target)) (parts_from_alive s.snapshot weak d.parts d.waiting.alive) c)
 
   begun_last : (n : Name) → IsMarked g.marks n → IsMarkedLast s n
   begun_last n m = elim (cases_Bool (mark_of f.marks n)) [
@@ -51,8 +61,11 @@ module _ (s : State) (f : Finding) (h : IsFirstFound s f) (dead : List Name) (l 
 
   finaliser_hit : (weak target : Name) (d : IsDying s weak) → d.parts.finaliser ≡ value.Ref target → Contains (finalisers_of s.snapshot dead) (value.Ref target)
   finaliser_hit weak target d e =
-      let c : Contains (finaliser_in (parts_of s.snapshot weak)) d.parts.finaliser = subst (λ (o : Option Parts). Contains (finaliser_in o) d.parts.finaliser) (sym (parts_from_alive s.snapshot weak d.parts d.waiting.alive)) (contains_one d.parts.finaliser) in
-      contains_flat (λ (x : Name). finaliser_in (parts_of s.snapshot x)) dead weak (value.Ref target) (l.complete weak d) (subst (λ (v : Value). Contains (finaliser_in (parts_of s.snapshot weak)) v) e c)
+      let c : Contains (finaliser_in (parts_of s.snapshot weak)) d.parts.finaliser =
+      subst (λ (o : Option Parts).
+      Contains (finaliser_in o) d.parts.finaliser) (sym (parts_from_alive s.snapshot weak d.parts d.waiting.alive)) (contains_one d.parts.finaliser) in
+      contains_flat (λ (x : Name). finaliser_in (parts_of s.snapshot x)) dead weak (value.Ref target) (l.complete weak d) (subst (λ (v : Value).
+      Contains (finaliser_in (parts_of s.snapshot weak)) v) e c)
 
   module _ (t : Finding) (k : IsFollowed s g t) (empty : t.work ≡ []) where
     reached_last : (n : Name) → IsReached s (IsMarked g.marks) n → IsMarkedLast s n

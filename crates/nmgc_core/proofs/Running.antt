@@ -23,7 +23,12 @@ run_begins w s e h =
     record { rows = []; runs = runs; theorem = snapshot_theorem w at [] [] s runs }
 
 -- the next event of a list of events
-pub run_event : (w : World) (events : List Event) (i : ℕ) (e : Event) (s t : State) (done : Bool) → IsWorld w → i < length events → e ≡ get_or events i e → IsRunning w (take i events) s → Passes s e done t → IsRunning w (take (i + 1) events) t
+pub run_event : (w : World) (events : List Event) (i : ℕ) (e : Event) (s t : State) (done : Bool) → IsWorld w → i < length events →
+    e ≡ get_or events i e → IsRunning w (take i events) s → Passes s e done t → IsRunning w (take (i + 1) events) t
 run_event w events i e s t done h lt is r p =
     let runs : Runs (opening w) (take i events ++ e ∷ []) (r.rows ++ rows_if done e) t = runs_push (opening w) s t (take i events) r.rows e done r.runs p in
-    rw (take_more events i e lt, ← is) (record { rows = r.rows ++ rows_if done e; runs = runs; theorem = snapshot_theorem w h (take i events ++ e ∷ []) (r.rows ++ rows_if done e) t runs })
+    rw (take_more events i e lt, ← is) (record {
+      rows = r.rows ++ rows_if done e;
+      runs = runs;
+      theorem = snapshot_theorem w h (take i events ++ e ∷ []) (r.rows ++ rows_if done e) t runs;
+    })

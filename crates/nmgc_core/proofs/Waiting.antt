@@ -24,7 +24,14 @@ parts_from_alive w weak parts e = ap (λ (o : Option Node). option_and_then part
 -- the alive weak pointers that aren't in the set of the finalised ones are those that wait
 module _ (s : State) (ended : List (List Bool)) (set : IsSetOf s.snapshot s.finalised ended) where
   test_waits : (weak : Name) → IsAliveWeak s.snapshot weak → not (mark_of ended weak) ≡ true → IsWaitingWeak s weak
-  test_waits weak a t = (a.0, record { alive = a.1; not_finalised = λ c. false≢true (sym (not-true (mark_of ended weak) t) ∙ set.complete weak c (rw a.1 refl)) })
+  test_waits weak a t = (
+    a.0,
+    record {
+      alive = a.1;
+      not_finalised = λ c. false≢true (sym (not-true (mark_of ended weak) t) ∙
+          set.complete weak c (rw a.1 refl));
+    },
+  )
 
   waits_test : (weak : Name) → IsWaitingWeak s weak → not (mark_of ended weak) ≡ true
   waits_test weak w = not_from_false (mark_of ended weak) (false_from_ne_true (mark_of ended weak) (λ m. w.1.not_finalised (set.sound weak m)))
@@ -54,9 +61,13 @@ module _ (s : State) (f : Finding) (h : IsFirstFound s f) where
       let absent : mark_of f.marks d.key ≡ false = false_from_ne_true (mark_of f.marks d.key) (λ m. d.lost (h.sound d.key m)) in
       rw (parts_from_alive s.snapshot weak d.parts d.waiting.alive, d.key_is) (not_from_false (mark_of f.marks d.key) absent)
 
-  pub dying_listed : (weaks : List Name) → Lists (IsWaitingWeak s) weaks → Lists (IsDying s) (filter (λ weak. is_hidden f.marks (parts_of s.snapshot weak)) weaks)
+  pub dying_listed : (weaks : List Name) → Lists (IsWaitingWeak s) weaks →
+      Lists (IsDying s) (filter (λ weak. is_hidden f.marks (parts_of s.snapshot weak)) weaks)
   dying_listed weaks l = record {
     ordered = in_order_filter (λ weak. is_hidden f.marks (parts_of s.snapshot weak)) weaks l.ordered;
     sound = λ weak c. let p = filter_contains (λ weak. is_hidden f.marks (parts_of s.snapshot weak)) weaks weak c in hidden_dies weak (l.sound weak p.0) p.1;
-    complete = λ weak d. contains_filter (λ weak. is_hidden f.marks (parts_of s.snapshot weak)) weaks weak (l.complete weak (d.parts, d.waiting)) (dies_hidden weak d);
+    complete = λ weak d. contains_filter (λ weak. is_hidden f.marks (parts_of s.snapshot weak)) weaks weak (l.complete weak (
+      d.parts,
+      d.waiting,
+    )) (dies_hidden weak d);
   }

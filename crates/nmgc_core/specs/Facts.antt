@@ -50,7 +50,9 @@ Kept s name i target = IsSafe s target ⊎ (HasStrongField s.world name i (value
 abbrev pub IsPassed : State → Entry → Type 0
 IsPassed s entry = (entry.position ≤ 1) ⊎ ((node : Node) → node_of s.snapshot entry.name ≡ Some node → has_result node ≡ false)
 
--- what holds from the first mark on: what is held, owed and pushed was live or is new (`holds`, `owed`, `pushed`), and so are the parts of a new weak pointer (`weaks`); a name that isn't live keeps its node (`others`); a weak pointer that wasn't finalised keeps its parts (`alive`); and what is marked is live
+-- what holds from the first mark on: what is held, owed and pushed was live or is new (`holds`, `owed`, `pushed`),
+-- and so are the parts of a new weak pointer (`weaks`); a name that isn't live keeps its node (`others`); a weak
+-- pointer that wasn't finalised keeps its parts (`alive`); and what is marked is live
 pub record Base (s : State) : Type 0 where
   pub snapshot : IsWorld s.snapshot
   pub mutators : length s.world.mutators ≡ length s.snapshot.mutators
@@ -69,11 +71,13 @@ pub record Base (s : State) : Type 0 where
   pub queued : (entry : Entry) → Contains s.queue entry → Contains s.marked entry.name
   pub passed : (entry : Entry) → Contains s.queue entry → IsPassed s entry
 
--- what holds from the opening on: the roots are marked, each strong field of the snapshot is looked after, and what was opened, every finalised weak pointer (`ended`) and what these kept (`finalised`) is safe
+-- what holds from the opening on: the roots are marked, each strong field of the snapshot is looked after, and what
+-- was opened, every finalised weak pointer (`ended`) and what these kept (`finalised`) is safe
 pub record Facts (s : State) : Type 0 where
   pub base : Base s
   pub roots : (name : Name) → IsRoot s.snapshot name → Contains s.marked name
   pub kept : (name : Name) (i : ℕ) (target : Name) → HasStrongField s.snapshot name i (value.Ref target) → Kept s name i target
   pub opened : (name : Name) → Contains s.opened name → IsSome (node_of s.snapshot name) → IsSafe s name
   pub ended : (weak : Name) → Contains s.finalised weak → IsSome (node_of s.snapshot weak) → IsSafe s weak
-  pub finalised : (weak target : Name) (parts : Parts) → Contains s.finalised weak → IsAlive s.snapshot weak parts → IsKeptBy weak parts target → IsSafe s target
+  pub finalised : (weak target : Name) (parts : Parts) → Contains s.finalised weak → IsAlive s.snapshot weak parts → IsKeptBy weak parts target →
+      IsSafe s target

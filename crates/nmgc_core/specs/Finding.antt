@@ -23,12 +23,14 @@ pub record Adds (snapshot : World) (s t : Finding) (values : List Value) : Type 
   pub longer : length s.work ≤ length t.work
   pub places : HasPlaces snapshot t.marks
 
--- what holds of the search at every step: what was marked before is marked, what waits was not, and each field of a name that was not marked before and doesn't wait was followed
+-- what holds of the search at every step: what was marked before is marked, what waits was not, and each field of a
+-- name that was not marked before and doesn't wait was followed
 pub record IsSearch (s : State) (f : Finding) : Type 0 where
   pub places : HasPlaces s.snapshot f.marks
   pub begun : (n : Name) → Contains s.marked n → IsMarked f.marks n
   pub waiting : (n : Name) → Contains f.work n → IsMarked f.marks n × (Contains s.marked n → ⊥)
-  pub traced : (n target : Name) → IsMarked f.marks n → (Contains s.marked n → ⊥) → RefersTo s.world n target → IsSome (node_of s.snapshot target) → Contains f.work n ⊎ IsMarked f.marks target
+  pub traced : (n target : Name) → IsMarked f.marks n → (Contains s.marked n → ⊥) → RefersTo s.world n target → IsSome (node_of s.snapshot target) →
+      Contains f.work n ⊎ IsMarked f.marks target
 
 -- names with P, and what fields lead to from those that were not marked before the closing
 pub data IsReached (s : State) (P : Name → Type 0) : Name → Type 0 where
@@ -58,7 +60,9 @@ pub record IsReviving (s : State) (f : Finding) : Type 0 where
 
 -- each of the weak pointers whose key is marked has marked what it keeps, unless the key still waits
 abbrev pub AreRevived : State → List Name → Finding → Type 0
-AreRevived s weaks f = (weak target : Name) (parts : Parts) → Contains weaks weak → IsAlive s.snapshot weak parts → is_key_marked f.marks parts.key ≡ true → IsKeptBy weak parts target → IsSome (node_of s.snapshot target) → ((key : Name) × (parts.key ≡ value.Ref key) × Contains f.work key) ⊎ IsMarked f.marks target
+AreRevived s weaks f = (weak target : Name) (parts : Parts) → Contains weaks weak → IsAlive s.snapshot weak parts →
+    is_key_marked f.marks parts.key ≡ true → IsKeptBy weak parts target → IsSome (node_of s.snapshot target) →
+    ((key : Name) × (parts.key ≡ value.Ref key) × Contains f.work key) ⊎ IsMarked f.marks target
 
 -- a pass over the weak pointers
 pub record IsPass (s : State) (weaks : List Name) (old new : Finding) : Type 0 where

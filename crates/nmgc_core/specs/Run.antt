@@ -37,7 +37,8 @@ pub record IsMarking (w : World) (rows : List Row) (s : State) : Type 0 where
   pub finalised : s.finalised ≡ finalised w rows
   pub live : (name : Name) → Contains s.marked name → IsLive w s.opened name
 
--- at the closing, from the state to which the events before it ran, where it could happen: what is marked is what is live, what dies is what is dead, and what is marked in the end is what is kept
+-- at the closing, from the state to which the events before it ran, where it could happen: what is marked is what is
+-- live, what dies is what is dead, and what is marked in the end is what is kept
 pub record IsExact (w : World) (events : List Event) (rows : List Row) (s : State) : Type 0 where
   pub earlier : List Event
   pub later : List Event
@@ -59,7 +60,8 @@ pub record IsSnapshotMarking (w : World) (events : List Event) (rows : List Row)
 
 -- the snapshot theorem, for every run from a closed world, by whomever its events were done
 abbrev pub SnapshotTheorem : Type 0
-SnapshotTheorem = (w : World) → IsWorld w → (events : List Event) (rows : List Row) (s : State) → Runs (opening w) events rows s → IsSnapshotMarking w events rows s
+SnapshotTheorem = (w : World) → IsWorld w → (events : List Event) (rows : List Row) (s : State) → Runs (opening w) events rows s →
+    IsSnapshotMarking w events rows s
 
 -- and until the closing, each state of such a run has the facts
 abbrev pub FactsAreKept : Type 0

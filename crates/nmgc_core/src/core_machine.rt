@@ -259,7 +259,12 @@ impl Core {
     ) -> Result<(), NoMemory>
         requires can { CanApply self.old.world mutator command.now }
         requires ends { ends.now ≡ finalised_by self.old.world mutator command.now }
-        ensures ok { OnOk result (self.new ≡ (record self.old { world = (step self.old.world mutator command.now).0; owed = slice_set self.old.owed mutator (names_of self.old.owed mutator ++ names.now); opened = self.old.opened ++ opens.now; finalised = self.old.finalised ++ ends.now })) }
+        ensures ok { OnOk result (self.new ≡ (record self.old {
+          world = (step self.old.world mutator command.now).0;
+          owed = slice_set self.old.owed mutator (names_of self.old.owed mutator ++ names.now);
+          opened = self.old.opened ++ opens.now;
+          finalised = self.old.finalised ++ ends.now;
+        })) }
         ensures err { OnErr result (self.new ≡ self.old) }
     {
         let before = self.opened.items().len();
@@ -281,7 +286,11 @@ impl Core {
     ) -> Result<(), NoMemory>
         requires can { CanApply self.old.world mutator command.now }
         requires ends { ends.now ≡ finalised_by self.old.world mutator command.now }
-        ensures ok { OnOk result (self.new ≡ (record self.old { world = (step self.old.world mutator command.now).0; owed = slice_set self.old.owed mutator (names_of self.old.owed mutator ++ names.now); finalised = self.old.finalised ++ ends.now })) }
+        ensures ok { OnOk result (self.new ≡ (record self.old {
+          world = (step self.old.world mutator command.now).0;
+          owed = slice_set self.old.owed mutator (names_of self.old.owed mutator ++ names.now);
+          finalised = self.old.finalised ++ ends.now;
+        })) }
         ensures err { OnErr result (self.new ≡ self.old) }
     {
         let before = self.finalised.items().len();
@@ -297,7 +306,10 @@ impl Core {
     fn give(&mut self, mutator: u8, command: &Command, names: &[Name]) -> Result<(), NoMemory>
         requires can { CanApply self.old.world mutator command.now }
         requires ended { (weak : NameAt) → Contains (finalised_by self.old.world mutator command.now) weak → Contains self.old.finalised weak }
-        ensures ok { OnOk result (self.new ≡ (record self.old { world = (step self.old.world mutator command.now).0; owed = slice_set self.old.owed mutator (names_of self.old.owed mutator ++ names.now) })) }
+        ensures ok { OnOk result (self.new ≡ (record self.old {
+          world = (step self.old.world mutator command.now).0;
+          owed = slice_set self.old.owed mutator (names_of self.old.owed mutator ++ names.now);
+        })) }
         ensures err { OnErr result (self.new ≡ self.old) }
     {
         let before = count_at(self.owed.items(), mutator);

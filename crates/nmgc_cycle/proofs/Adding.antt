@@ -51,7 +51,12 @@ added_then a b s t u m n k x y =
     record {
       marked = record {
         room = y.marked.room;
-        scanned = record { epoch = after.epoch ∙ epoch; grows = omega (arith, grows, grows_after); pace = omega (arith, pace, pace_after); room = omega (arith, room, room_after) };
+        scanned = record {
+          epoch = after.epoch ∙ epoch;
+          grows = omega (arith, grows, grows_after);
+          pace = omega (arith, pace, pace_after);
+          room = omega (arith, room, room_after);
+        };
         layout = y.marked.layout ∙ x.marked.layout;
         stands = λ words l h. y.marked.stands words l (x.marked.stands words l h);
       };
@@ -60,7 +65,8 @@ added_then a b s t u m n k x y =
     }
 
 -- one mutator more
-pub remembered_more : (ms : List Mutator) (i : ℕ) (d : Mutator) → i < length ms → remembered_by (take i ms) ++ remembered (get_or ms i d) ≡ remembered_by (take (i + 1) ms)
+pub remembered_more : (ms : List Mutator) (i : ℕ) (d : Mutator) → i < length ms →
+    remembered_by (take i ms) ++ remembered (get_or ms i d) ≡ remembered_by (take (i + 1) ms)
 remembered_more ms i d lt = sym (ap remembered_by (take_more ms i d lt) ∙ and_then (take i ms) (get_or ms i d))
   where
     and_then : (xs : List Mutator) (m : Mutator) → remembered_by (xs ++ m ∷ []) ≡ remembered_by xs ++ remembered m
@@ -85,7 +91,8 @@ both_numbers a b = map-append (λ (x : Address). x.0) a b
 
 module _ (old new : Segments) (before marker : MarkerSeen) (first inbox : List Receiver) (number : ℕ) (was m : Mutator) where
   -- nothing of the ring yet
-  pub giving_none : (lined : IsLined first number was.sender) (entries : List Address) → entries ≡ lined.0.taken.items → HasAdded (numbers entries) old new before marker → inbox ≡ first → m ≡ was → IsGiving old new before marker first inbox number was m
+  pub giving_none : (lined : IsLined first number was.sender) (entries : List Address) → entries ≡ lined.0.taken.items →
+      HasAdded (numbers entries) old new before marker → inbox ≡ first → m ≡ was → IsGiving old new before marker first inbox number was m
   giving_none lined entries are added same_inbox same = record {
     lined = lined;
     given = [];
@@ -95,7 +102,11 @@ module _ (old new : Segments) (before marker : MarkerSeen) (first inbox : List R
     ring = refl;
     received = sym (append-nil lined.0.received);
     rest = same ∙ ap (λ (s : Sender). record was { sender = s }) (sym (ap (λ (x : Mutator). x.sender) same));
-    looked = record { ring = ap (λ (x : Mutator). x.sender.ring) same; before = ap (λ (x : Mutator). x.sender.before) same; since = ap (λ (x : Mutator). x.sender.since) same };
+    looked = record {
+      ring = ap (λ (x : Mutator). x.sender.ring) same;
+      before = ap (λ (x : Mutator). x.sender.before) same;
+      since = ap (λ (x : Mutator). x.sender.since) same;
+    };
     added = subst (λ (l : List Address). HasAdded (numbers l) old new before marker) (are ∙ sym (append-nil lined.0.taken.items)) added;
   }
 
@@ -105,12 +116,16 @@ module _ (old new : Segments) (before marker : MarkerSeen) (first inbox : List R
     giving_paired = (g.now, g.at, g.ring ∙ g.lined.2.pair ∙ sym g.looked.ring)
 
     -- one block more
-    pub giving_more : (later : Segments) (then : MarkerSeen) (after : List Receiver) (n : Mutator) (block entries : List Address) → n ≡ record m { sender = n.sender } → AtLine (TakesRestSo m.sender n.sender block) number inbox after → entries ≡ block → HasAdded (numbers entries) new later marker then → IsGiving old later before then first after number was n
+    pub giving_more : (later : Segments) (then : MarkerSeen) (after : List Receiver) (n : Mutator) (block entries : List Address) →
+        n ≡ record m { sender = n.sender } → AtLine (TakesRestSo m.sender n.sender block) number inbox after → entries ≡ block →
+        HasAdded (numbers entries) new later marker then → IsGiving old later before then first after number was n
     giving_more later then after n block entries rest h are added =
         let own : h.was ≡ g.now = same_item inbox number h.was g.now h.at g.at in
         let more : HasAdded (numbers block) new later marker then = subst (λ (l : List Address). HasAdded (numbers l) new later marker then) are added in
-        let all : HasAdded (numbers (g.lined.0.taken.items ++ g.given) ++ numbers block) old later before then = added_then (numbers (g.lined.0.taken.items ++ g.given)) (numbers block) old new later before marker then g.added more in
-        let is : numbers (g.lined.0.taken.items ++ g.given) ++ numbers block ≡ numbers (g.lined.0.taken.items ++ (g.given ++ block)) = sym (both_numbers (g.lined.0.taken.items ++ g.given) block) ∙ ap numbers (append_assoc g.lined.0.taken.items g.given block) in
+        let all : HasAdded (numbers (g.lined.0.taken.items ++ g.given) ++ numbers block) old later before then =
+        added_then (numbers (g.lined.0.taken.items ++ g.given)) (numbers block) old new later before marker then g.added more in
+        let is : numbers (g.lined.0.taken.items ++ g.given) ++ numbers block ≡ numbers (g.lined.0.taken.items ++ (g.given ++ block)) =
+        sym (both_numbers (g.lined.0.taken.items ++ g.given) block) ∙ ap numbers (append_assoc g.lined.0.taken.items g.given block) in
         record {
           lined = g.lined;
           given = g.given ++ block;
@@ -118,14 +133,20 @@ module _ (old new : Segments) (before marker : MarkerSeen) (first inbox : List R
           at = line_here (TakesRestSo m.sender n.sender block) number inbox after h;
           took = any_then number first inbox after g.took (as_any (TakesRestSo m.sender n.sender block) number inbox after h);
           ring = h.changes.receives.ring ∙ ap (λ (r : Receiver). r.ring) own ∙ g.ring;
-          received = h.changes.receives.received ∙ ap (λ (r : Receiver). r.received ++ block) own ∙ ap (λ (l : List Address). l ++ block) g.received ∙ append_assoc g.lined.0.received g.given block;
+          received = h.changes.receives.received ∙ ap (λ (r : Receiver). r.received ++ block) own ∙
+              ap (λ (l : List Address). l ++ block) g.received ∙ append_assoc g.lined.0.received g.given block;
           rest = rest ∙ ap (λ (x : Mutator). record x { sender = n.sender }) g.rest;
-          looked = record { ring = h.changes.looked.ring ∙ g.looked.ring; before = h.changes.looked.before ∙ g.looked.before; since = h.changes.looked.since ∙ g.looked.since };
+          looked = record {
+            ring = h.changes.looked.ring ∙ g.looked.ring;
+            before = h.changes.looked.before ∙ g.looked.before;
+            since = h.changes.looked.since ∙ g.looked.since;
+          };
           added = subst (λ (l : List ℕ). HasAdded l old later before then) is all;
         }
 
     -- the ring is empty: all that was sent since the ends were level is given
-    module _ (after : List Receiver) (n : Mutator) (rest : n ≡ record m { sender = n.sender }) (h : AtLine (IsLevelSo m.sender n.sender) number inbox after) where
+    module _ (after : List Receiver) (n : Mutator) (rest : n ≡
+        record m { sender = n.sender }) (h : AtLine (IsLevelSo m.sender n.sender) number inbox after) where
       all_sent : g.lined.0.taken.items ++ g.given ≡ was.sender.since
       all_sent =
           let own : h.was ≡ g.now = same_item inbox number h.was g.now h.at g.at in
@@ -139,12 +160,16 @@ module _ (old new : Segments) (before marker : MarkerSeen) (first inbox : List R
           (sym (append_assoc was.sender.before g.lined.0.taken.items g.given) ∙ ap (λ (l : List Address). l ++ g.given) (sym g.lined.2.received) ∙ total)
 
       -- and then what it keeps
-      pub given_all : (later : Segments) (then : MarkerSeen) (entries : List Address) → entries ≡ n.updrem.items → HasAdded (numbers entries) new later marker then → HasAdded (remembered was) old later before then
+      pub given_all : (later : Segments) (then : MarkerSeen) (entries : List Address) → entries ≡ n.updrem.items →
+          HasAdded (numbers entries) new later marker then → HasAdded (remembered was) old later before then
       given_all later then entries are added =
           let kept : n.updrem.items ≡ was.updrem.items = ap (λ (x : Mutator). x.updrem.items) rest ∙ ap (λ (x : Mutator). x.updrem.items) g.rest in
-          let more : HasAdded (numbers was.updrem.items) new later marker then = subst (λ (l : List Address). HasAdded (numbers l) new later marker then) (are ∙ kept) added in
-          let all : HasAdded (numbers (g.lined.0.taken.items ++ g.given) ++ numbers was.updrem.items) old later before then = added_then (numbers (g.lined.0.taken.items ++ g.given)) (numbers was.updrem.items) old new later before marker then g.added more in
-          let is : numbers (g.lined.0.taken.items ++ g.given) ++ numbers was.updrem.items ≡ remembered was = ap (λ (l : List Address). numbers l ++ numbers was.updrem.items) all_sent ∙ sym (both_numbers was.sender.since was.updrem.items) in
+          let more : HasAdded (numbers was.updrem.items) new later marker then =
+          subst (λ (l : List Address). HasAdded (numbers l) new later marker then) (are ∙ kept) added in
+          let all : HasAdded (numbers (g.lined.0.taken.items ++ g.given) ++ numbers was.updrem.items) old later before then =
+          added_then (numbers (g.lined.0.taken.items ++ g.given)) (numbers was.updrem.items) old new later before marker then g.added more in
+          let is : numbers (g.lined.0.taken.items ++ g.given) ++ numbers was.updrem.items ≡ remembered was =
+          ap (λ (l : List Address). numbers l ++ numbers was.updrem.items) all_sent ∙ sym (both_numbers was.sender.since was.updrem.items) in
           subst (λ (l : List ℕ). HasAdded l old later before then) is all
 
       pub given_rest : n ≡ record was { sender = n.sender }
@@ -155,5 +180,9 @@ module _ (old new : Segments) (before marker : MarkerSeen) (first inbox : List R
 
       pub given_paired : IsPaired after number n.sender
       given_paired =
-          let own : h.was ≡ g.now = same_item inbox number h.was g.now h.at g.at in
-          (h.is, line_here (IsLevelSo m.sender n.sender) number inbox after h, h.changes.ring.0 ∙ ap (λ (r : Receiver). r.ring) own ∙ g.ring ∙ g.lined.2.pair ∙ sym g.looked.ring ∙ sym h.changes.ring.1)
+          let own : h.was ≡ g.now = same_item inbox number h.was g.now h.at g.at in (
+            h.is,
+            line_here (IsLevelSo m.sender n.sender) number inbox after h,
+            h.changes.ring.0 ∙ ap (λ (r : Receiver). r.ring) own ∙ g.ring ∙
+                g.lined.2.pair ∙ sym g.looked.ring ∙ sym h.changes.ring.1,
+          )

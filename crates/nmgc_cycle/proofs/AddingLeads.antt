@@ -54,14 +54,17 @@ pub record HasAddingLaws : Type 0 where
   pub left : LeftStays
 
 -- of mutators that forgot, contracts see the same but for what they remembered
-seen_forgot : {B : Type 0} (f : MutatorSeen → B) → ((m n : Mutator) → HasForgotten m n → f (seen_mutator n) ≡ f (seen_mutator m)) → (old new : List Mutator) → HaveForgotten old new → map f (map seen_mutator new) ≡ map f (map seen_mutator old)
-seen_forgot f same old new h = same_maps f f (map seen_mutator new) (map seen_mutator old) (length-map new seen_mutator ∙ h.count ∙ sym (length-map old seen_mutator)) (λ k a b e g.
+seen_forgot : {B : Type 0} (f : MutatorSeen → B) → ((m n : Mutator) → HasForgotten m n → f (seen_mutator n) ≡ f (seen_mutator m)) →
+    (old new : List Mutator) → HaveForgotten old new → map f (map seen_mutator new) ≡ map f (map seen_mutator old)
+seen_forgot f same old new h = same_maps f f (map seen_mutator new) (map seen_mutator old) (length-map new seen_mutator ∙ h.count ∙
+    sym (length-map old seen_mutator)) (λ k a b e g.
     let x = map_item seen_mutator new k a e in
     let y = map_item seen_mutator old k b g in
     ap f x.2 ∙ same y.0 x.0 (h.each k y.0 x.0 y.1 x.1) ∙ sym (ap f y.2))
 
 -- whatever was added, but for the cycle
-module _ (script : Script) (old : Collector) (s : State) (h : StandsPromoted script old s) (segments : Segments) (p : Doing) (inbox : List Receiver) (mutators : Vec Mutator Global)
+module _ (script : Script) (old : Collector) (s : State) (h : StandsPromoted script old s) (segments : Segments) (p : Doing) (inbox : List Receiver)
+    (mutators : Vec Mutator Global)
     (inbox_is : length inbox ≡ length old.inbox)
     (lines : (k : ℕ) (n : Mutator) → slice_get mutators.items k ≡ Some n → IsLined inbox k n.sender)
     (forgot : HaveForgotten old.mutators.items mutators.items)
@@ -99,13 +102,15 @@ module _ (script : Script) (old : Collector) (s : State) (h : StandsPromoted scr
       })
 
   -- the queues have room as before
-  pub room_left : (snapshot : World) → EachMutator (seen old) (λ m mutator. weak_count snapshot m (seen old).weaks ≤ mutator.queue.spare) → EachMutator (seen then) (λ m mutator. weak_count snapshot m (seen then).weaks ≤ mutator.queue.spare)
+  pub room_left : (snapshot : World) → EachMutator (seen old) (λ m mutator. weak_count snapshot m (seen old).weaks ≤ mutator.queue.spare) →
+      EachMutator (seen then) (λ m mutator. weak_count snapshot m (seen then).weaks ≤ mutator.queue.spare)
   room_left snapshot room k m e =
       let x = map_item seen_mutator mutators.items k m e in
       let was = one_forgot k x.0 x.1 in
       let had : weak_count snapshot k (seen old).weaks ≤ was.0.queue.spare = room k (seen_mutator was.0) (seen_at old.mutators.items k was.0 was.1) in
       let f = was.2 in
-      subst (λ (n : MutatorSeen). weak_count snapshot k (seen old).weaks ≤ n.queue.spare) (sym x.2) (subst (λ (y : Mutator). weak_count snapshot k (seen old).weaks ≤ y.queue.spare) (sym f.rest) had)
+      subst (λ (n : MutatorSeen). weak_count snapshot k (seen old).weaks ≤ n.queue.spare) (sym x.2) (subst (λ (y : Mutator).
+      weak_count snapshot k (seen old).weaks ≤ y.queue.spare) (sym f.rest) had)
 
   -- there are as many
   pub many : length mutators.items ≡ length old.mutators.items
@@ -148,14 +153,16 @@ module _ (script : Script) (old : Collector) (s : State) (h : StandsPromoted scr
       fit = h.heap.holds.fit;
       represents = h.heap.holds.represents;
       registers = subst (λ (es : List MutatorEnd). All HasAllRegisters es) (sym ends_are) h.heap.holds.registers;
-      roots = subst (λ (es : List MutatorEnd). RepresentsRoots h.heap.places s.world (registers_of es) (queues_of es) (serials_of es)) (sym ends_are) h.heap.holds.roots;
+      roots = subst (λ (es : List MutatorEnd).
+          RepresentsRoots h.heap.places s.world (registers_of es) (queues_of es) (serials_of es)) (sym ends_are) h.heap.holds.roots;
       layout_is = layout ∙ h.heap.holds.layout_is;
       stands = stands;
     };
     listed = h.heap.listed;
   }
 
-  pub stands_within : HoldsInCycle (λ (k : Cycle). IsPacedWithin script.config.quota k s (seen then)) s.progress s (seen then) h.heap.places → HasClosingRoom p (length mutators.items) → Sweeps s.progress s then → StandsWithin script then s
+  pub stands_within : HoldsInCycle (λ (k : Cycle). IsPacedWithin script.config.quota k s (seen then)) s.progress s (seen then) h.heap.places →
+      HasClosingRoom p (length mutators.items) → Sweeps s.progress s then → StandsWithin script then s
   stands_within cycle closing sweeper = record {
     kept = kept;
     sound = h.sound;
@@ -173,12 +180,19 @@ module _ (script : Script) (old : Collector) (s : State) (h : StandsPromoted scr
 
 -- where no cycle marks
 
-unmarked_cycle : (script : Script) (old : Collector) (s : State) (inbox : List Receiver) (mutators : Vec Mutator Global) (q : Progress) → ((k : Cycle) → q ≡ marking k → ⊥) → (places : _) → HoldsInCycle (λ (k : Cycle). IsPacedPromoted script.config.quota k s (seen old)) q s (seen old) places → HoldsInCycle (λ (k : Cycle). IsPacedWithin script.config.quota k s (seen (record old { inbox = inbox; mutators = mutators }))) q s (seen (record old { inbox = inbox; mutators = mutators })) places
+unmarked_cycle : (script : Script) (old : Collector) (s : State) (inbox : List Receiver) (mutators : Vec Mutator Global) (q : Progress) →
+    ((k : Cycle) → q ≡ marking k → ⊥) → (places : _) → HoldsInCycle (λ (k : Cycle).
+    IsPacedPromoted script.config.quota k s (seen old)) q s (seen old) places →
+    HoldsInCycle (λ (k : Cycle). IsPacedWithin script.config.quota k s (seen (record old {
+      inbox = inbox;
+      mutators = mutators;
+    }))) q s (seen (record old { inbox = inbox; mutators = mutators })) places
 unmarked_cycle script old s inbox mutators idle never places h = h
 unmarked_cycle script old s inbox mutators (marking k) never places h = absurd (never k refl)
 unmarked_cycle script old s inbox mutators (sweeping k closed) never places h = h
 
-unmarked_sweeper : (old : Collector) (s : State) (inbox : List Receiver) (mutators : Vec Mutator Global) (q : Progress) → ((k : Cycle) → q ≡ marking k → ⊥) → Sweeps q s old → Sweeps q s (record old { inbox = inbox; mutators = mutators })
+unmarked_sweeper : (old : Collector) (s : State) (inbox : List Receiver) (mutators : Vec Mutator Global) (q : Progress) →
+    ((k : Cycle) → q ≡ marking k → ⊥) → Sweeps q s old → Sweeps q s (record old { inbox = inbox; mutators = mutators })
 unmarked_sweeper old s inbox mutators idle never h = tt
 unmarked_sweeper old s inbox mutators (marking k) never h = absurd (never k refl)
 unmarked_sweeper old s inbox mutators (sweeping k closed) never h = h
@@ -191,9 +205,11 @@ module _ (script : Script) (old new : Collector) (s : State) (h : StandsPromoted
       ∙ ap (λ (g : Segments). record old { segments = g; progress = new.progress; inbox = new.inbox; mutators = new.mutators }) segments
       ∙ ap (λ (d : Doing). record old { progress = d; inbox = new.inbox; mutators = new.mutators }) progress in
       subst (λ (c : Collector). StandsWithin script c s) (sym is)
-      (stands_within script old s h old.segments old.progress new.inbox new.mutators taken.inbox taken.lines taken.mutators refl refl h.kept.sound h.heap.holds.stands
+      (stands_within script old s h old.segments old.progress new.inbox new.mutators taken.inbox taken.lines taken.mutators refl refl h.kept.sound
+      h.heap.holds.stands
       (unmarked_cycle script old s new.inbox new.mutators s.progress never h.heap.places h.cycle)
-      (subst (λ (n : ℕ). HasClosingRoom old.progress n) (sym (many script old s h old.segments old.progress new.inbox new.mutators taken.inbox taken.lines taken.mutators refl refl h.kept.sound h.heap.holds.stands)) h.closing)
+      (subst (λ (n : ℕ). HasClosingRoom old.progress n) (sym (many script old s h old.segments old.progress new.inbox new.mutators taken.inbox
+      taken.lines taken.mutators refl refl h.kept.sound h.heap.holds.stands)) h.closing)
       (unmarked_sweeper old s new.inbox new.mutators s.progress never h.sweeper))
 
 -- where one does
@@ -220,24 +236,52 @@ module _ (laws : HasAddingLaws) (script : Script) (was : Collector) (r : State) 
 
   marks : IsMarking k s (seen c) h.heap.places
   marks =
-      let left : HasLeft k (seen old) (seen c) = record { cycle = refl; sweeper = refl; queue_room = room_left script old s h segments (doing.Marking (record m { marker = marker })) inbox mutators inbox_is lines forgot refl added.marked.layout sound stands k.snapshot h.cycle.0.queue_room } in
-      let count : length (seen old).mutators ≡ length s.world.mutators = length-map was.mutators.items seen_mutator ∙ h.kept.count ∙ sym h.sound.able.mutators in
-      laws.marking (layout_of (plan_of script)) k s (seen old) (seen c) (seen old).words (ends_of (seen old)) (seen old).weaks h.heap h.kept.sound sound h.sound.cycle.0 count h.cycle.0 added.marked added.tied left (λ n mutator e. (at_rest script old s h segments (doing.Marking (record m { marker = marker })) inbox mutators inbox_is lines forgot refl added.marked.layout sound stands n mutator e).entries)
+      let left : HasLeft k (seen old) (seen c) = record {
+        cycle = refl;
+        sweeper = refl;
+        queue_room = room_left script old s h segments (doing.Marking (record m {
+          marker =
+              marker;
+        })) inbox mutators inbox_is lines forgot refl added.marked.layout sound stands k.snapshot h.cycle.0.queue_room;
+      } in
+      let count : length (seen old).mutators ≡ length s.world.mutators = length-map was.mutators.items seen_mutator ∙ h.kept.count ∙
+      sym h.sound.able.mutators in
+      laws.marking (layout_of (plan_of script)) k s (seen old) (seen c) (seen old).words (ends_of (seen old)) (seen old).weaks h.heap h.kept.sound
+      sound h.sound.cycle.0 count h.cycle.0 added.marked added.tied left (λ n mutator e.
+      (at_rest script old s h segments (doing.Marking (record m {
+        marker =
+            marker;
+      })) inbox mutators inbox_is lines forgot refl added.marked.layout sound stands n mutator e).entries)
 
   paced : IsPacedWithin script.config.quota k s (seen c)
-  paced = paced_within laws.soon laws.paced laws.pace script.config.quota k s (seen old) (seen c) s.allocation h.heap.places h.cycle.0.core h.sound.cycle.0 h.cycle.0.machine h.cycle.0.tied h.cycle.1.later h.cycle.1.paced added.marked.scanned.pace added.marked.scanned.grows refl
+  paced = paced_within laws.soon laws.paced laws.pace script.config.quota k s (seen old) (seen c) s.allocation h.heap.places h.cycle.0.core
+      h.sound.cycle.0 h.cycle.0.machine h.cycle.0.tied h.cycle.1.later h.cycle.1.paced added.marked.scanned.pace added.marked.scanned.grows refl
 
   marked : StandsWithin script c s
   marked =
       let waits = laws.waits was.segments segments (seen old).words (seen old).words s.allocation h.heap.holds.stands stands in
-      stands_within script old s h segments (doing.Marking (record m { marker = marker })) inbox mutators inbox_is lines forgot refl added.marked.layout sound stands
-      (marks, paced)
-      (h.closing.0, subst (λ (n : ℕ). n ≤ vec_capacity m.queues) (sym (many script old s h segments (doing.Marking (record m { marker = marker })) inbox mutators inbox_is lines forgot refl added.marked.layout sound stands)) h.closing.1)
-      (record { notes = h.sweeper.0.notes; left = laws.left was.segments segments m.sweeper waits added.marked.layout h.sweeper.0.left }, h.sweeper.1, h.sweeper.2, h.sweeper.3)
+      stands_within script old s h segments (doing.Marking (record m {
+        marker =
+            marker;
+      })) inbox mutators inbox_is lines forgot refl added.marked.layout sound stands
+      (marks, paced) (
+        h.closing.0,
+        subst (λ (n : ℕ). n ≤ vec_capacity m.queues) (sym (many script old s h segments (doing.Marking (record m {
+          marker =
+              marker;
+        })) inbox mutators inbox_is lines forgot refl added.marked.layout sound stands)) h.closing.1,
+      ) (
+        record { notes = h.sweeper.0.notes; left = laws.left was.segments segments m.sweeper waits added.marked.layout h.sweeper.0.left },
+        h.sweeper.1,
+        h.sweeper.2,
+        h.sweeper.3,
+      )
 
 module _ (laws : HasAddingLaws) (script : Script) (old new : Collector) (s : State) (h : StandsPromoted script old s) (taken : HasTaken old new) where
-  by_case : (p : Doing) (q : Progress) → old.progress ≡ p → s.progress ≡ q → phase_in p ≡ phase_of q → AddsTo (remembered_by old.mutators.items) old.segments new.segments p new.progress → StandsWithin script new s
-  by_case doing.Idle idle at is e step = unmarked script old new s h taken (λ k marks. let bad : idle ≡ marking k = sym is ∙ marks in cc) (step.0 ∙ sym at) step.1
+  by_case : (p : Doing) (q : Progress) → old.progress ≡ p → s.progress ≡ q → phase_in p ≡ phase_of q →
+      AddsTo (remembered_by old.mutators.items) old.segments new.segments p new.progress → StandsWithin script new s
+  by_case doing.Idle idle at is e step = unmarked script old new s h taken (λ k marks. let bad : idle ≡ marking k = sym is ∙ marks in cc) (step.0 ∙
+      sym at) step.1
   by_case doing.Idle (marking k) at is e step = absurd (let bad : phase.Idle ≡ phase.Marking = e in cc)
   by_case doing.Idle (sweeping k closed) at is e step = absurd (let bad : phase.Idle ≡ phase.Sweeping = e in cc)
   by_case (doing.Marking m) idle at is e step = absurd (let bad : phase.Marking ≡ phase.Idle = e in cc)
@@ -246,13 +290,29 @@ module _ (laws : HasAddingLaws) (script : Script) (old new : Collector) (s : Sta
       subst (λ (d : Doing). StandsPromoted script (record old { progress = d }) (record s { progress = marking k })) at
       (subst (λ (q : Progress). StandsPromoted script old (record s { progress = q })) is h) in
       let then = marked laws script old s m k own new.segments step.0 new.inbox new.mutators taken.inbox taken.lines taken.mutators step.2 step.3 in
-      let same : new ≡ record old { segments = new.segments; progress = doing.Marking (record m { marker = step.0 }); inbox = new.inbox; mutators = new.mutators } = taken.rest ∙ ap (λ (d : Doing). record old { segments = new.segments; progress = d; inbox = new.inbox; mutators = new.mutators }) step.1 in
+      let same : new ≡ record old {
+        segments = new.segments;
+        progress = doing.Marking (record m { marker = step.0 });
+        inbox = new.inbox;
+        mutators = new.mutators;
+      } = taken.rest ∙ ap (λ (d : Doing). record old {
+        segments = new.segments;
+        progress = d;
+        inbox = new.inbox;
+        mutators = new.mutators;
+      }) step.1 in
       subst (λ (c : Collector). StandsWithin script c s) (sym same)
-      (subst (λ (q : Progress). StandsWithin script (record old { segments = new.segments; progress = doing.Marking (record m { marker = step.0 }); inbox = new.inbox; mutators = new.mutators }) (record s { progress = q })) (sym is) then)
+      (subst (λ (q : Progress). StandsWithin script (record old {
+        segments = new.segments;
+        progress = doing.Marking (record m { marker = step.0 });
+        inbox = new.inbox;
+        mutators = new.mutators;
+      }) (record s { progress = q })) (sym is) then)
   by_case (doing.Marking m) (sweeping k closed) at is e step = absurd (let bad : phase.Marking ≡ phase.Sweeping = e in cc)
   by_case (doing.Sweeping w) idle at is e step = absurd (let bad : phase.Sweeping ≡ phase.Idle = e in cc)
   by_case (doing.Sweeping w) (marking k) at is e step = absurd (let bad : phase.Sweeping ≡ phase.Marking = e in cc)
-  by_case (doing.Sweeping w) (sweeping k closed) at is e step = unmarked script old new s h taken (λ r marks. let bad : sweeping k closed ≡ marking r = sym is ∙ marks in cc) (step.0 ∙ sym at) step.1
+  by_case (doing.Sweeping w) (sweeping k closed) at is e step =
+      unmarked script old new s h taken (λ r marks. let bad : sweeping k closed ≡ marking r = sym is ∙ marks in cc) (step.0 ∙ sym at) step.1
 
 pub adding_leads : HasAddingLaws → AddingLeads
 adding_leads laws script old new s limits h taken =
@@ -267,7 +327,8 @@ can_add script c s h = by c.progress s.progress refl refl h.matches.phase
     by doing.Idle q at is e = tt
     by (doing.Marking m) idle at is e = absurd (let bad : phase.Marking ≡ phase.Idle = e in cc)
     by (doing.Marking m) (marking k) at is e =
-        let cycle = subst (λ (q : Progress). HoldsInCycle (λ (r : Cycle). IsPacedPromoted script.config.quota r s (seen c)) q s (seen c) h.heap.places) is h.cycle in
+        let cycle = subst (λ (q : Progress). HoldsInCycle (λ (r : Cycle).
+        IsPacedPromoted script.config.quota r s (seen c)) q s (seen c) h.heap.places) is h.cycle in
         subst (λ (d : Doing). HasRoomToMark c.segments (marker_in d)) at cycle.0.room
     by (doing.Marking m) (sweeping k closed) at is e = absurd (let bad : phase.Marking ≡ phase.Sweeping = e in cc)
     by (doing.Sweeping w) q at is e = tt

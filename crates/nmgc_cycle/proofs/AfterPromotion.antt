@@ -151,7 +151,8 @@ module _ (script : Script) (old new : Collector) (kept : IsWellFormed script old
   rest k m e = let x = map_item seen_mutator new.mutators.items k m e in subst HasOnlyEntries (sym x.2) (own k x.0 x.1).1
 
   -- what it remembers is what it remembered
-  pub remembers : (k : ℕ) (m : MutatorSeen) → slice_get (seen new).mutators k ≡ Some m → (before : MutatorSeen) × (slice_get (seen old).mutators k ≡ Some before) × (m.entries ≡ before.entries)
+  pub remembers : (k : ℕ) (m : MutatorSeen) → slice_get (seen new).mutators k ≡ Some m → (before : MutatorSeen) ×
+      (slice_get (seen old).mutators k ≡ Some before) × (m.entries ≡ before.entries)
   remembers k m e =
       let x = map_item seen_mutator new.mutators.items k m e in
       let was = one_given p.registers p.queues old.mutators.items new.mutators.items p.given k x.0 x.1 in
@@ -161,7 +162,8 @@ module _ (script : Script) (old new : Collector) (kept : IsWellFormed script old
   emptied_are = nurseries_seen new ∙ lists.nurseries_are ∙ ap (λ (ns : List Nursery). map emptied ns) (sym (nurseries_seen old))
 
   emptied_at : (maker : ℕ) → nursery_at (nurseries_of (seen new)) maker ≡ emptied (nursery_at (nurseries_of (seen old)) maker)
-  emptied_at maker = ap (λ (ns : List Nursery). nursery_at ns maker) emptied_are ∙ get_or-map emptied (nurseries_of (seen old)) maker (record { base = 0; top = 0; end = 0 })
+  emptied_at maker = ap (λ (ns : List Nursery). nursery_at ns maker) emptied_are ∙
+      get_or-map emptied (nurseries_of (seen old)) maker (record { base = 0; top = 0; end = 0 })
 
   pub are_empty : AreEmpty (nurseries_of (seen new))
   are_empty maker = ap (λ (n : Nursery). n.top) (emptied_at maker) ∙ ap (λ (n : Nursery). n.base) (sym (emptied_at maker))
@@ -171,7 +173,8 @@ module _ (script : Script) (old new : Collector) (kept : IsWellFormed script old
 
   own_nurseries : AreNurseries new.segments.layout places w (nurseries_of (seen new))
   own_nurseries =
-      let before : AreNurseries new.segments.layout b.places w (nurseries_of (seen old)) = subst (λ (l : Layout). AreNurseries l b.places w (nurseries_of (seen old))) (sym layout_is) b.nurseries in
+      let before : AreNurseries new.segments.layout b.places w (nurseries_of (seen old)) =
+      subst (λ (l : Layout). AreNurseries l b.places w (nurseries_of (seen old))) (sym layout_is) b.nurseries in
       record {
         used = record {
           count = ap (λ (ns : List Nursery). length ns) emptied_are ∙ length-map (nurseries_of (seen old)) emptied ∙ before.used.count;
@@ -198,15 +201,22 @@ module _ (script : Script) (old new : Collector) (kept : IsWellFormed script old
       (subst (λ (y : List ℕ). RepresentsRoots places w y (words_of p.queues) (serials_of (ends_of (seen old)))) registers settled_heap.roots))
 
   -- of a mutator's queue the room is what it was
-  pub same_spare : (k : ℕ) (m : MutatorSeen) → slice_get (seen new).mutators k ≡ Some m → (before : MutatorSeen) × (slice_get (seen old).mutators k ≡ Some before) × (m.queue.spare ≡ before.queue.spare)
+  pub same_spare : (k : ℕ) (m : MutatorSeen) → slice_get (seen new).mutators k ≡ Some m → (before : MutatorSeen) ×
+      (slice_get (seen old).mutators k ≡ Some before) × (m.queue.spare ≡ before.queue.spare)
   same_spare k m e =
       let x = map_item seen_mutator new.mutators.items k m e in
       let was = one_given p.registers p.queues old.mutators.items new.mutators.items p.given k x.0 x.1 in
-      let own : m.queue.spare ≡ (slice_index_or p.queues k no_queue).spare = ap (λ (y : MutatorSeen). y.queue.spare) x.2 ∙ ap (λ (y : Mutator). y.queue.spare) was.3 in
-      let given : slice_index_or (map (λ (queue : FinQueue). queue.spare) p.queues) k 0 ≡ (slice_index_or p.queues k no_queue).spare = get_or-map (λ (queue : FinQueue). queue.spare) p.queues k no_queue in
-      let had : slice_index_or (map (λ (y : Mutator). y.queue.spare) old.mutators.items) k was.0.queue.spare ≡ (slice_index_or old.mutators.items k was.0).queue.spare = get_or-map (λ (y : Mutator). y.queue.spare) old.mutators.items k was.0 in
-      let there : k < length (map (λ (y : Mutator). y.queue.spare) old.mutators.items) = rw (length-map old.mutators.items (λ (y : Mutator). y.queue.spare)) was.1 in
-      let one : slice_index_or (map (λ (y : Mutator). y.queue.spare) old.mutators.items) k 0 ≡ slice_index_or (map (λ (y : Mutator). y.queue.spare) old.mutators.items) k was.0.queue.spare = get_or_default (map (λ (y : Mutator). y.queue.spare) old.mutators.items) k 0 was.0.queue.spare there in
+      let own : m.queue.spare ≡ (slice_index_or p.queues k no_queue).spare = ap (λ (y : MutatorSeen). y.queue.spare) x.2 ∙
+      ap (λ (y : Mutator). y.queue.spare) was.3 in
+      let given : slice_index_or (map (λ (queue : FinQueue). queue.spare) p.queues) k 0 ≡ (slice_index_or p.queues k no_queue).spare =
+      get_or-map (λ (queue : FinQueue). queue.spare) p.queues k no_queue in
+      let had : slice_index_or (map (λ (y : Mutator). y.queue.spare) old.mutators.items) k was.0.queue.spare ≡
+      (slice_index_or old.mutators.items k was.0).queue.spare = get_or-map (λ (y : Mutator). y.queue.spare) old.mutators.items k was.0 in
+      let there : k < length (map (λ (y : Mutator). y.queue.spare) old.mutators.items) =
+      rw (length-map old.mutators.items (λ (y : Mutator). y.queue.spare)) was.1 in
+      let one : slice_index_or (map (λ (y : Mutator). y.queue.spare) old.mutators.items) k 0 ≡
+      slice_index_or (map (λ (y : Mutator). y.queue.spare) old.mutators.items) k was.0.queue.spare =
+      get_or_default (map (λ (y : Mutator). y.queue.spare) old.mutators.items) k 0 was.0.queue.spare there in
       let item : Some (slice_index_or old.mutators.items k was.0) ≡ Some was.0 = sym (slice_get-get_or old.mutators.items k was.0 was.1) ∙ was.2 in
       let is : slice_index_or old.mutators.items k was.0 ≡ was.0 = cc in (
         seen_mutator was.0,
@@ -217,7 +227,8 @@ module _ (script : Script) (old new : Collector) (kept : IsWellFormed script old
   -- the heap at the stop
   module _ (back : BlocksArePlaces) (l : HasListed old new) where
     pub told : FitBlocks w placed.0 × ((q : Place) → Contains places q ↔ IsPlaceAtStop new.segments.layout placed.0 q)
-    told = back new.segments.layout (snapshots b.state.progress) places w placed.0 (words_in new.words) new.segments settled_heap.represents p.sound refl placed.2 low settled_heap.blocks
+    told = back new.segments.layout (snapshots b.state.progress) places w placed.0 (words_in new.words) new.segments settled_heap.represents p.sound
+        refl placed.2 low settled_heap.blocks
 
     -- listed are those that are alive and have a block
     pub listed : ListsWeaks new.segments.layout places w (seen new).weaks

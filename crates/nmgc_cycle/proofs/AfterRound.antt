@@ -29,11 +29,13 @@ module _ (laws : HasLaws) (script : Script) (c new : Collector) (o : Opening) (x
 
   has_reserve_then : (g : HasGoneOn script c new o x) → HasReserve (layout script c new o x) (shown script c new o x)
   has_reserve_then g = elim (has_reserve script c new o x) [
-    | inl more ↦ inl (subst (λ (l : Layout). reserve_count l ≤ reserve.free_count new.segments.segments) x.still.kept.layout (let free = g.free in omega (arith, more, free)))
+    | inl more ↦ inl (subst (λ (l : Layout). reserve_count l ≤ reserve.free_count new.segments.segments) x.still.kept.layout (let free = g.free in
+        omega (arith, more, free)))
     | inr empty ↦ inr (subst AreEmpty (sym (same_nurseries new.mutators.items)) empty)
   ]
 
-  pub is_after : (g : HasGoneOn script c new o x) → IsAfterRound (plan script c new o x) x.run (told script c new o x) (rows script c new o x) (t script c new o x g.blocks) (shown script c new o x)
+  pub is_after : (g : HasGoneOn script c new o x) →
+      IsAfterRound (plan script c new o x) x.run (told script c new o x) (rows script c new o x) (t script c new o x g.blocks) (shown script c new o x)
   is_after g = record {
     is_run = x.still.at_stop.is_run;
     goes_on = went_on script c x.run x.still x.goes_on;

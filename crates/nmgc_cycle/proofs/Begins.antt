@@ -84,7 +84,8 @@ pub record IsSoundBefore (plan : Plan) (began : World) (s : State) : Type 0 wher
   pub cycle : IsInCycle s.progress s.world s.allocation
   pub earlier : AreEarlier s
 
--- the world before, and the state that the stop begins with: words, segments, mutators, marker and sweeper stand for it, and a stop of it is one more of the run
+-- the world before, and the state that the stop begins with: words, segments, mutators, marker and sweeper stand for
+-- it, and a stop of it is one more of the run
 pub record Begins (script : Script) (c : Collector) : Type 0 where
   pub began : World
   pub state : State
@@ -99,18 +100,23 @@ pub record Begins (script : Script) (c : Collector) : Type 0 where
   pub closing : HasClosingRoom c.progress (length c.mutators.items)
   pub sweeper : Sweeps state.progress state c
   pub named : AreNamed (layout_of (plan_of script)) c.names state.allocation
-  pub low : (p : Place) → Contains places p → p.at < nursery_place (layout_of (plan_of script)) 0 → IsPlaceAtStop (layout_of (plan_of script)) state.allocation p
+  pub low : (p : Place) → Contains places p → p.at < nursery_place (layout_of (plan_of script)) 0 →
+      IsPlaceAtStop (layout_of (plan_of script)) state.allocation p
   pub sound : IsSoundBefore (plan_of script) began state
   pub course : IsStateInCourse state
   pub number : state.number ≡ length c.stops
   pub few : AreFew (state.world ≡ began) script c (length c.stops + 1)
   pub begun : c.begun ≤ length c.stops
   pub left : IsLeft script c.rounds state.left
-  pub goes_on : (t : State) (row : StopRow) (cycles : List CycleRow) → IsStop (plan_of script) began state t row cycles → IsToldBut (plan_of script) c.rounds c.stops (told_cycles c ++ cycles) row t
+  pub goes_on : (t : State) (row : StopRow) (cycles : List CycleRow) → IsStop (plan_of script) began state t row cycles →
+      IsToldBut (plan_of script) c.rounds c.stops (told_cycles c ++ cycles) row t
 
 -- the heap at a stop, by the mutators themselves
-stands_of : (t : Stopped) (c : Collector) → IsStopped t c.segments (seen c).words (nurseries_of (seen c)) (registers_of (ends_of (seen c))) (queues_of (ends_of (seen c))) (recorded_in (seen c)) (young_weaks_in (seen c)) → StandsStopped t c
-stands_of t c h = same_stopped t c.segments (seen c).words (seen c).words _ _ _ _ _ _ _ _ _ _ refl (nurseries_seen c) (registers_seen c) (queues_seen c) (recorded_seen c) (young_seen c) h
+stands_of : (t : Stopped) (c : Collector) →
+    IsStopped t c.segments (seen c).words (nurseries_of (seen c)) (registers_of (ends_of (seen c))) (queues_of (ends_of (seen c)))
+    (recorded_in (seen c)) (young_weaks_in (seen c)) → StandsStopped t c
+stands_of t c h = same_stopped t c.segments (seen c).words (seen c).words _ _ _ _ _ _ _ _ _ _ refl (nurseries_seen c) (registers_seen c)
+    (queues_seen c) (recorded_seen c) (young_seen c) h
 
 -- the list of weak pointers over the round
 
@@ -145,7 +151,8 @@ can_list_of t c h listed =
       listed = listed;
       old = record {
         blocks = λ p there inside. elim (known_or_none (node_of t.began p.name)) [
-          | inl none ↦ absurd (let high = (h.round.young p there).1 none in let low = segment_low c.segments.layout inside.0 p.at inside.1 in omega (arith, high, low))
+          | inl none ↦ absurd (let high = (h.round.young p there).1 none in let low = segment_low c.segments.layout inside.0 p.at inside.1 in
+              omega (arith, high, low))
           | inr known ↦ known
         ];
         alive = λ weak parts alive old. h.round.parts weak parts old alive;
@@ -167,13 +174,16 @@ new_begins script c limits f =
     let no_stops : length c.stops ≡ 0 = ap (λ (stops : List StopRow). length stops) none.1 in
     let opening = opening_worked plan runnable in
     let able = start_programs plan runnable in
-    let stopped : StandsStopped (stopped_in (new_world count) (start plan) f.new.heap.places (seen c)) c = stands_of (stopped_in (new_world count) (start plan) f.new.heap.places (seen c)) c (new_stopped plan (seen c) (new_is_world count runnable.some runnable.few) f.kept.sound f.new.heap f.new.at_rest) in
+    let stopped : StandsStopped (stopped_in (new_world count) (start plan) f.new.heap.places (seen c)) c =
+    stands_of (stopped_in (new_world count) (start plan) f.new.heap.places (seen c)) c
+    (new_stopped plan (seen c) (new_is_world count runnable.some runnable.few) f.kept.sound f.new.heap f.new.at_rest) in
     record {
       began = new_world count;
       state = start plan;
       places = f.new.heap.places;
       stopped = stopped;
-      can_list = can_list_of (stopped_in (new_world count) (start plan) f.new.heap.places (seen c)) c stopped (subst (λ (l : Layout). ListsWeaks l f.new.heap.places (new_world count) (seen c).weaks) (sym f.kept.layout) f.new.heap.listed);
+      can_list = can_list_of (stopped_in (new_world count) (start plan) f.new.heap.places (seen c)) c stopped (subst (λ (l : Layout).
+          ListsWeaks l f.new.heap.places (new_world count) (seen c).weaks) (sym f.kept.layout) f.new.heap.listed);
       stands = f.new.heap.holds.stands;
       nurseries = f.new.at_rest.nurseries;
       matches = f.new.matches;
@@ -191,7 +201,8 @@ new_begins script c limits f =
         cycle = tt;
         earlier = λ e there. absurd (nothing_in e there);
       };
-      course = λ number there is. let bad : stands.Free ≡ stands.Sweeping = sym (ap (λ (x : Cells). x.state) (first_cells script.config.segments number)) ∙ is in cc;
+      course = λ number there is.
+          let bad : stands.Free ≡ stands.Sweeping = sym (ap (λ (x : Cells). x.state) (first_cells script.config.segments number)) ∙ is in cc;
       number = sym no_stops;
       few = fresh_few _ script c f;
       begun = fresh_begun script c f;
@@ -199,14 +210,19 @@ new_begins script c limits f =
       goes_on = λ t row cycles stop. record {
         run = record { opening = record { state = t; row = row; cycles = cycles }; turns = [] };
         is_run = record { opening = stop; turns = tt };
-        tells = record { rounds_are = none.0; stops_are = ap (λ (stops : List StopRow). stops ++ row ∷ []) none.1; cycles_are = ap (λ (rows : List CycleRow). rows ++ cycles) none.2 ∙ sym (append-nil cycles) };
+        tells = record {
+          rounds_are = none.0;
+          stops_are = ap (λ (stops : List StopRow). stops ++ row ∷ []) none.1;
+          cycles_are = ap (λ (rows : List CycleRow). rows ++ cycles) none.2 ∙ sym (append-nil cycles);
+        };
         last = refl;
       };
     }
 
 -- a round comes after the stop at which a cycle that marks began
 
-from_before : (p : Progress) (number begun : ℕ) (a : AllocState) (rows : List Row) → IsInCourse p number begun a → (k : Cycle) → noted p rows ≡ marking k → k.from + 1 ≤ number + 1
+from_before : (p : Progress) (number begun : ℕ) (a : AllocState) (rows : List Row) → IsInCourse p number begun a → (k : Cycle) →
+    noted p rows ≡ marking k → k.from + 1 ≤ number + 1
 from_before idle number begun a rows h k e = absurd (let bad : idle ≡ marking k = e in cc)
 from_before (marking c) number begun a rows h k e =
     let same : c.from ≡ k.from = cc in
@@ -233,7 +249,8 @@ module _ (script : Script) (c : Collector) (limits : IsInLimits script) (h : Has
       stands_of at c after
 
   can_list : CanList (stopped_in before.world h.worked h.after.places (seen c)) c
-  can_list = can_list_of (stopped_in before.world h.worked h.after.places (seen c)) c stopped (subst (λ (l : Layout). ListsWeaks l h.after.places before.world (seen c).weaks) (sym h.kept.layout) h.after.heap.listed)
+  can_list = can_list_of (stopped_in before.world h.worked h.after.places (seen c)) c stopped (subst (λ (l : Layout).
+      ListsWeaks l h.after.places before.world (seen c).weaks) (sym h.kept.layout) h.after.heap.listed)
 
   numbers : h.worked.number ≡ length c.stops
   numbers =
@@ -243,19 +260,22 @@ module _ (script : Script) (c : Collector) (limits : IsInLimits script) (h : Has
 
   left : IsLeft script c.rounds h.worked.left
   left = record {
-    count = ap (λ (x : State). length x.left) h.after.round.rest ∙ length-map before.left _ ∙ (states_are_sound plan h.run (is_runnable script limits) h.after.is_run).able.programs;
+    count = ap (λ (x : State). length x.left) h.after.round.rest ∙ length-map before.left _ ∙
+        (states_are_sound plan h.run (is_runnable script limits) h.after.is_run).able.programs;
     each = λ m.
         let told = left_is_told plan h.run h.after.before c.stops (told_cycles c) h.after.is_run h.after.tells m in
         let count : ℕ = length (slice_index_or h.replies m []) in
         round_left plan.config before h.worked h.replies h.history m h.after.round
         ∙ ap (λ (program : List Command). drop count program) told
         ∙ drop-drop count (answered_count h.after.before m) (program_of script.threads m)
-        ∙ ap (λ (n : ℕ). drop n (program_of script.threads m)) (sym (ap (λ (r : List RoundRows). answered_count r m) h.after.rounds ∙ answered_more h.after.before rows m));
+        ∙ ap (λ (n : ℕ). drop n (program_of script.threads m)) (sym (ap (λ (r : List RoundRows). answered_count r m) h.after.rounds ∙
+        answered_more h.after.before rows m));
   }
 
   sound : IsSoundBefore plan before.world h.worked
   sound =
-      let r : IsSoundRound plan before h.history h.worked = rounds_are_sound plan before h.worked h.replies h.history (states_are_sound plan h.run (is_runnable script limits) h.after.is_run) h.after.round in
+      let r : IsSoundRound plan before h.history h.worked =
+      rounds_are_sound plan before h.worked h.replies h.history (states_are_sound plan h.run (is_runnable script limits) h.after.is_run) h.after.round in
       record { world = r.world; able = r.able; sound_blocks = r.sound_blocks; known = r.known; cycle = r.cycle; earlier = r.earlier }
 
   later : (k : Cycle) → h.worked.progress ≡ marking k → k.from + 1 ≤ h.worked.number
@@ -266,11 +286,13 @@ module _ (script : Script) (c : Collector) (limits : IsInLimits script) (h : Has
       let from = from_before before.progress before.number before.begun before.allocation h.history (runs_are plan h.run h.after.is_run) k is in
       omega (arith, number, from)
 
-  goes_on : (t : State) (row : StopRow) (cycles : List CycleRow) → IsStop plan before.world h.worked t row cycles → IsToldBut plan c.rounds c.stops (told_cycles c ++ cycles) row t
+  goes_on : (t : State) (row : StopRow) (cycles : List CycleRow) → IsStop plan before.world h.worked t row cycles →
+      IsToldBut plan c.rounds c.stops (told_cycles c ++ cycles) row t
   goes_on t row cycles stop =
       let turn : Turn = record { replies = rows; history = h.history; worked = h.worked; stop = record { state = t; row = row; cycles = cycles } } in
       let is : IsTurn plan before turn = record { goes_on = h.after.goes_on; round = h.after.round; stop = stop } in
-      let told : Tells (with_turn h.run turn) (h.after.before ++ rows ∷ []) (c.stops ++ row ∷ []) (told_cycles c ++ cycles) = tells_one_more h.run turn h.after.before c.stops (told_cycles c) h.after.tells in
+      let told : Tells (with_turn h.run turn) (h.after.before ++ rows ∷ []) (c.stops ++ row ∷ []) (told_cycles c ++ cycles) =
+      tells_one_more h.run turn h.after.before c.stops (told_cycles c) h.after.tells in
       record {
         run = with_turn h.run turn;
         is_run = run_goes_on plan h.run turn h.after.is_run is;
@@ -311,6 +333,20 @@ begins script c limits (inl fresh) = new_begins script c limits fresh
 begins script c limits (inr worked) = worked_begins script c limits worked
 
 -- a stop after a round is the last of one turn more
-pub one_turn : (script : Script) (c : Collector) (limits : IsInLimits script) (h : HasWorked script c) (t : State) (row : StopRow) (cycles : List CycleRow) (stop : IsStop (plan_of script) (begins script c limits (inr h)).began (begins script c limits (inr h)).state t row cycles) → (turn : Turn) × (turn.replies ≡ record { replies = h.replies }) × (turn.worked ≡ h.worked) × (turn.history ≡ h.history) × (((begins script c limits (inr h)).goes_on t row cycles stop).run ≡ with_turn h.run turn)
+pub one_turn : (script : Script) (c : Collector) (limits : IsInLimits script) (h : HasWorked script c) (t : State) (row : StopRow)
+    (cycles : List CycleRow) (stop : IsStop (plan_of script) (begins script c limits (inr h)).began (begins script c limits (inr h)).state t row
+    cycles) → (turn : Turn) × (turn.replies ≡ record { replies = h.replies }) × (turn.worked ≡ h.worked) × (turn.history ≡ h.history) ×
+    (((begins script c limits (inr h)).goes_on t row cycles stop).run ≡ with_turn h.run turn)
 unfolding begins worked_begins goes_on
-one_turn script c limits h t row cycles stop = (record { replies = record { replies = h.replies }; history = h.history; worked = h.worked; stop = record { state = t; row = row; cycles = cycles } }, refl, refl, refl, refl)
+one_turn script c limits h t row cycles stop = (
+  record {
+    replies = record { replies = h.replies };
+    history = h.history;
+    worked = h.worked;
+    stop = record { state = t; row = row; cycles = cycles };
+  },
+  refl,
+  refl,
+  refl,
+  refl,
+)

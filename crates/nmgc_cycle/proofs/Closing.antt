@@ -22,12 +22,15 @@ words_same (Some a) None some other e = absurd cc
 words_same (Some a) (Some b) some other e = ap Some e
 
 -- a cycle that goes on in pace
-in_pace : (quota : ℕ) (s : State) (shown : Seen) (places : List Place) (q : Progress) → ((k : Cycle) → q ≡ marking k → IsPacedWithin quota k s shown → IsPacedAtStop quota k s shown) → HoldsInCycle (λ (k : Cycle). IsPacedWithin quota k s shown) q s shown places → HoldsInCycle (λ (k : Cycle). IsPacedAtStop quota k s shown) q s shown places
+in_pace : (quota : ℕ) (s : State) (shown : Seen) (places : List Place) (q : Progress) →
+    ((k : Cycle) → q ≡ marking k → IsPacedWithin quota k s shown → IsPacedAtStop quota k s shown) →
+    HoldsInCycle (λ (k : Cycle). IsPacedWithin quota k s shown) q s shown places → HoldsInCycle (λ (k : Cycle). IsPacedAtStop quota k s shown) q s shown places
 in_pace quota s shown places idle goes h = h
 in_pace quota s shown places (marking k) goes h = (h.0, goes k refl h.1)
 in_pace quota s shown places (sweeping k closed) goes h = h
 
-stands_on : (script : Script) (c : Collector) (s : State) → ((k : Cycle) → s.progress ≡ marking k → IsPacedWithin script.config.quota k s (seen c) → IsPacedAtStop script.config.quota k s (seen c)) → StandsWithin script c s → StandsAt script c s
+stands_on : (script : Script) (c : Collector) (s : State) → ((k : Cycle) → s.progress ≡ marking k → IsPacedWithin script.config.quota k s (seen c) →
+    IsPacedAtStop script.config.quota k s (seen c)) → StandsWithin script c s → StandsAt script c s
 stands_on script c s goes h = record {
   kept = h.kept;
   sound = h.sound;
@@ -43,18 +46,22 @@ stands_on script c s goes h = record {
   named = h.named;
 }
 
-module _ (law : FinishingLeads) (script : Script) (old new : Collector) (s : State) (limits : IsInLimits script) (h : StandsWithin script old s) (closed : HasClosed Closes s.number old new) where
+module _ (law : FinishingLeads) (script : Script) (old new : Collector) (s : State) (limits : IsInLimits script) (h : StandsWithin script old s)
+    (closed : HasClosed Closes s.number old new) where
   abbrev Leads : Type 0
   Leads = (t : State) × ClosesOrWaits script.config.quota s.progress s t × StandsAt script new t
 
-  stays : (p : Doing) (q : Progress) → old.progress ≡ p → s.progress ≡ q → ClosesOrWaits script.config.quota q s s → ((k : Cycle) → s.progress ≡ marking k → IsPacedWithin script.config.quota k s (seen old) → IsPacedAtStop script.config.quota k s (seen old)) → new ≡ old → Leads
+  stays : (p : Doing) (q : Progress) → old.progress ≡ p → s.progress ≡ q → ClosesOrWaits script.config.quota q s s →
+      ((k : Cycle) → s.progress ≡ marking k → IsPacedWithin script.config.quota k s (seen old) → IsPacedAtStop script.config.quota k s (seen old)) →
+      new ≡ old → Leads
   stays p q at is waits goes same = (
     s,
     subst (λ (x : Progress). ClosesOrWaits script.config.quota x s s) (sym is) waits,
     subst (λ (c : Collector). StandsAt script c s) (sym same) (stands_on script old s goes h),
   )
 
-  no_marking : (q : Progress) → s.progress ≡ q → ((k : Cycle) → q ≡ marking k → ⊥) → (k : Cycle) → s.progress ≡ marking k → IsPacedWithin script.config.quota k s (seen old) → IsPacedAtStop script.config.quota k s (seen old)
+  no_marking : (q : Progress) → s.progress ≡ q → ((k : Cycle) → q ≡ marking k → ⊥) → (k : Cycle) → s.progress ≡ marking k →
+      IsPacedWithin script.config.quota k s (seen old) → IsPacedAtStop script.config.quota k s (seen old)
   no_marking q is never k marks paced = absurd (never k (sym is ∙ marks))
 
   by_case : (p : Doing) (q : Progress) → old.progress ≡ p → s.progress ≡ q → phase_in p ≡ phase_of q → Closes s.number p old new → Leads
@@ -71,7 +78,8 @@ module _ (law : FinishingLeads) (script : Script) (old new : Collector) (s : Sta
   by_case (doing.Marking m) (sweeping k since) at is e step = absurd (let bad : phase.Marking ≡ phase.Sweeping = e in cc)
   by_case (doing.Sweeping w) idle at is e step = absurd (let bad : phase.Sweeping ≡ phase.Idle = e in cc)
   by_case (doing.Sweeping w) (marking k) at is e step = absurd (let bad : phase.Sweeping ≡ phase.Marking = e in cc)
-  by_case (doing.Sweeping w) (sweeping k since) at is e step = stays (doing.Sweeping w) (sweeping k since) at is refl (no_marking (sweeping k since) is (λ r bad. cc)) step
+  by_case (doing.Sweeping w) (sweeping k since) at is e step =
+      stays (doing.Sweeping w) (sweeping k since) at is refl (no_marking (sweeping k since) is (λ r bad. cc)) step
 
 pub closing_leads : FinishingLeads → ClosingLeads
 closing_leads law script old new s limits h closed =

@@ -38,15 +38,21 @@ taken old new h = by old.progress h.adds
     same : ◌≡◌ {A = ℕ × ℕ} (new.turns, new.upper_turns) (old.turns, old.upper_turns)
     same = ap (λ (c : Collector). let counts : ℕ × ℕ = (c.turns, c.upper_turns) in counts) h.rest
 
-    by : (p : Doing) → AddsTo (remembered_by old.mutators.items) old.segments new.segments p new.progress → counts_by new.progress new.turns new.upper_turns ≡ counts_by p old.turns old.upper_turns
+    by : (p : Doing) → AddsTo (remembered_by old.mutators.items) old.segments new.segments p new.progress →
+        counts_by new.progress new.turns new.upper_turns ≡ counts_by p old.turns old.upper_turns
     by doing.Idle a = ap (λ (q : Doing). counts_by q new.turns new.upper_turns) a.0 ∙ same
-    by (doing.Marking m) a = ap (λ (q : Doing). counts_by q new.turns new.upper_turns) a.1 ∙ ap (λ (n : ℕ). let counts : ℕ × ℕ = (n, m.sweeper.upper_turns) in counts) a.2.turns
+    by (doing.Marking m) a = ap (λ (q : Doing). counts_by q new.turns new.upper_turns) a.1 ∙
+        ap (λ (n : ℕ). let counts : ℕ × ℕ = (n, m.sweeper.upper_turns) in counts) a.2.turns
     by (doing.Sweeping w) a = ap (λ (q : Doing). counts_by q new.turns new.upper_turns) a.0
 
 -- the cycle was closed
 module _ (stop : ℕ) (old new : Collector) where
-  done : (m : Marking) (w : Sweeping) → old.progress ≡ doing.Marking m → new.progress ≡ doing.Sweeping w → IsClosed stop (words_in old.words) (words_in new.words) old.segments new.segments old.weaks new.weaks old.mutators.items new.mutators.items m w → counts_of new ≡ counts_of old
-  done m w is at h = ap (λ (q : Doing). counts_by q new.turns new.upper_turns) at ∙ ap (λ (v : Sweeping). let counts : ℕ × ℕ = (v.sweeper.turns, v.sweeper.upper_turns) in counts) h.is ∙ sym (ap (λ (q : Doing). counts_by q old.turns old.upper_turns) is)
+  done : (m : Marking) (w : Sweeping) → old.progress ≡ doing.Marking m → new.progress ≡ doing.Sweeping w →
+      IsClosed stop (words_in old.words) (words_in new.words) old.segments new.segments old.weaks new.weaks old.mutators.items new.mutators.items m
+      w → counts_of new ≡ counts_of old
+  done m w is at h = ap (λ (q : Doing). counts_by q new.turns new.upper_turns) at ∙
+      ap (λ (v : Sweeping). let counts : ℕ × ℕ = (v.sweeper.turns, v.sweeper.upper_turns) in counts) h.is ∙
+      sym (ap (λ (q : Doing). counts_by q old.turns old.upper_turns) is)
 
   closes : (p : Doing) → old.progress ≡ p → Closes stop p old new → counts_of new ≡ counts_of old
   closes doing.Idle is h = ap counts_of h
@@ -80,13 +86,15 @@ swept old new h = by old.progress h.sweeps
     same : ◌≡◌ {A = ℕ × ℕ} (new.turns, new.upper_turns) (old.turns, old.upper_turns)
     same = ap (λ (c : Collector). let counts : ℕ × ℕ = (c.turns, c.upper_turns) in counts) h.rest
 
-    by : (p : Doing) → SweepsRest old.segments new.segments old.names p new.progress → counts_by new.progress new.turns new.upper_turns ≡ counts_by p old.turns old.upper_turns
+    by : (p : Doing) → SweepsRest old.segments new.segments old.names p new.progress →
+        counts_by new.progress new.turns new.upper_turns ≡ counts_by p old.turns old.upper_turns
     by doing.Idle a = ap (λ (q : Doing). counts_by q new.turns new.upper_turns) a.0 ∙ same
     by (doing.Marking m) a = ap (λ (q : Doing). counts_by q new.turns new.upper_turns) a.0
     by (doing.Sweeping w) a = ap (λ (q : Doing). counts_by q new.turns new.upper_turns) a.1 ∙ both a.2.turns.0 a.2.turns.1
 
 finished : (stop : ℕ) (old new : Collector) → HasFinished stop old new → counts_of new ≡ counts_of old
-finished stop old new h = ends stop h.swept new h.swept.progress refl h.ends ∙ swept h.closed h.swept h.sweeps ∙ closes_now stop old h.closed old.progress refl h.closes.closes
+finished stop old new h = ends stop h.swept new h.swept.progress refl h.ends ∙ swept h.closed h.swept h.sweeps ∙
+    closes_now stop old h.closed old.progress refl h.closes.closes
 
 full : (stop : ℕ) (old new : Collector) → HasDoneFull stop old new → counts_of new ≡ counts_of old
 full stop old new h =
@@ -114,28 +122,42 @@ stop_counts_upper script old new x = ap (λ (n : ℕ × ℕ). n.1) (stepped_coun
 
 -- A round
 
-helped : (round : Round) (quota : ℕ) (from seat : RoundSeat) (old new : Segments) (names : List Name) (p q : Doing) (s t : ℕ) → t ≡ s → HasHelped round quota from seat old new names p q → turns_by q t ≡ passed (turns_by p s) (worked_on p q)
-helped round quota from seat old new names doing.Idle q s t same h = subst (λ (x : Doing). turns_by x t ≡ passed (turns_by doing.Idle s) (worked_on doing.Idle x)) (sym h.2) same
-helped round quota from seat old new names (doing.Marking m) q s t same h = subst (λ (x : Doing). turns_by x t ≡ passed (turns_by (doing.Marking m) s) (worked_on (doing.Marking m) x)) (sym h.1) h.2.turns
+helped : (round : Round) (quota : ℕ) (from seat : RoundSeat) (old new : Segments) (names : List Name) (p q : Doing) (s t : ℕ) → t ≡ s →
+    HasHelped round quota from seat old new names p q → turns_by q t ≡ passed (turns_by p s) (worked_on p q)
+helped round quota from seat old new names doing.Idle q s t same h =
+    subst (λ (x : Doing). turns_by x t ≡ passed (turns_by doing.Idle s) (worked_on doing.Idle x)) (sym h.2) same
+helped round quota from seat old new names (doing.Marking m) q s t same h =
+    subst (λ (x : Doing). turns_by x t ≡ passed (turns_by (doing.Marking m) s) (worked_on (doing.Marking m) x)) (sym h.1) h.2.turns
 helped round quota from seat old new names (doing.Sweeping w) q s t same h =
     let done = h.3 in
     let count : done.count ≡ swept_beside w h.0 = (let fewer = done.swept.fewer in omega (arith, fewer)) in
-    subst (λ (x : Doing). turns_by x t ≡ passed (turns_by (doing.Sweeping w) s) (worked_on (doing.Sweeping w) x)) (sym h.1) (done.turns ∙ ap (λ (n : ℕ). passed w.sweeper.turns (n - n / 2)) count)
+    subst (λ (x : Doing). turns_by x t ≡ passed (turns_by (doing.Sweeping w) s) (worked_on (doing.Sweeping w) x)) (sym h.1) (done.turns ∙
+    ap (λ (n : ℕ). passed w.sweeper.turns (n - n / 2)) count)
 
-helped_upper : (round : Round) (quota : ℕ) (from seat : RoundSeat) (old new : Segments) (names : List Name) (p q : Doing) (s t : ℕ) → t ≡ s → HasHelped round quota from seat old new names p q → upper_turns_by q t ≡ passed (upper_turns_by p s) (upper_worked_on p q)
-helped_upper round quota from seat old new names doing.Idle q s t same h = subst (λ (x : Doing). upper_turns_by x t ≡ passed (upper_turns_by doing.Idle s) (upper_worked_on doing.Idle x)) (sym h.2) same
-helped_upper round quota from seat old new names (doing.Marking m) q s t same h = subst (λ (x : Doing). upper_turns_by x t ≡ passed (upper_turns_by (doing.Marking m) s) (upper_worked_on (doing.Marking m) x)) (sym h.1) (ap (λ (n : Marking). n.sweeper.upper_turns) h.2.rest)
+helped_upper : (round : Round) (quota : ℕ) (from seat : RoundSeat) (old new : Segments) (names : List Name) (p q : Doing) (s t : ℕ) → t ≡ s →
+    HasHelped round quota from seat old new names p q → upper_turns_by q t ≡ passed (upper_turns_by p s) (upper_worked_on p q)
+helped_upper round quota from seat old new names doing.Idle q s t same h =
+    subst (λ (x : Doing). upper_turns_by x t ≡ passed (upper_turns_by doing.Idle s) (upper_worked_on doing.Idle x)) (sym h.2) same
+helped_upper round quota from seat old new names (doing.Marking m) q s t same h =
+    subst (λ (x : Doing). upper_turns_by x t ≡
+    passed (upper_turns_by (doing.Marking m) s) (upper_worked_on (doing.Marking m) x)) (sym h.1) (ap (λ (n : Marking). n.sweeper.upper_turns) h.2.rest)
 helped_upper round quota from seat old new names (doing.Sweeping w) q s t same h =
     let done = h.3 in
     let count : done.count ≡ swept_beside w h.0 = (let fewer = done.swept.fewer in omega (arith, fewer)) in
-    subst (λ (x : Doing). upper_turns_by x t ≡ passed (upper_turns_by (doing.Sweeping w) s) (upper_worked_on (doing.Sweeping w) x)) (sym h.1) (done.upper_turns ∙ ap (λ (n : ℕ). passed w.sweeper.upper_turns (n / 2)) count)
+    subst (λ (x : Doing). upper_turns_by x t ≡
+    passed (upper_turns_by (doing.Sweeping w) s) (upper_worked_on (doing.Sweeping w) x)) (sym h.1) (done.upper_turns ∙
+    ap (λ (n : ℕ). passed w.sweeper.upper_turns (n / 2)) count)
 
-pub round_counts : (script : Script) (o : Opening) (old new : Collector) → DidSlices script o old new → turns_of new ≡ passed (turns_of old) (worked_on old.progress new.progress)
+pub round_counts : (script : Script) (o : Opening) (old new : Collector) → DidSlices script o old new →
+    turns_of new ≡ passed (turns_of old) (worked_on old.progress new.progress)
 round_counts script o old new h =
     let beside = h.helped in
-    helped beside.round script.config.quota beside.from beside.seat old.segments new.segments old.names old.progress new.progress old.turns new.turns (ap (λ (c : Collector). c.turns) h.rest) beside.helped
+    helped beside.round script.config.quota beside.from beside.seat old.segments new.segments old.names old.progress new.progress old.turns
+    new.turns (ap (λ (c : Collector). c.turns) h.rest) beside.helped
 
-pub round_counts_upper : (script : Script) (o : Opening) (old new : Collector) → DidSlices script o old new → upper_turns_of new ≡ passed (upper_turns_of old) (upper_worked_on old.progress new.progress)
+pub round_counts_upper : (script : Script) (o : Opening) (old new : Collector) → DidSlices script o old new →
+    upper_turns_of new ≡ passed (upper_turns_of old) (upper_worked_on old.progress new.progress)
 round_counts_upper script o old new h =
     let beside = h.helped in
-    helped_upper beside.round script.config.quota beside.from beside.seat old.segments new.segments old.names old.progress new.progress old.upper_turns new.upper_turns (ap (λ (c : Collector). c.upper_turns) h.rest) beside.helped
+    helped_upper beside.round script.config.quota beside.from beside.seat old.segments new.segments old.names old.progress new.progress
+    old.upper_turns new.upper_turns (ap (λ (c : Collector). c.upper_turns) h.rest) beside.helped

@@ -41,10 +41,11 @@ g_has_place layout count p (inr b) = absurd (lies_nowhere count b.number b.block
 
 -- a new world has no weak pointer
 pub no_weak : (count : ℕ) (name : Name) → IsAliveWeak (new_world count) name → ⊥
-no_weak count name alive = elim (node_of (new_world count) name) as (λ (o : Option Node). o ≡ Some (Weak (Some alive.0)) → IfSome o (λ node. (parts : Parts) → node ≡ Weak (Some parts) → ⊥) → ⊥) [
-  | None ↦ λ e h. cc
-  | Some node ↦ λ e h. let same : node ≡ Weak (Some alive.0) = cc in h alive.0 same
-] alive.1 (new_nodes (λ n node. (parts : Parts) → node ≡ Weak (Some parts) → ⊥) (λ parts e. cc) count name)
+no_weak count name alive = elim (node_of (new_world count) name) as (λ (o : Option Node). o ≡ Some (Weak (Some alive.0)) →
+    IfSome o (λ node. (parts : Parts) → node ≡ Weak (Some parts) → ⊥) → ⊥) [
+      | None ↦ λ e h. cc
+      | Some node ↦ λ e h. let same : node ≡ Weak (Some alive.0) = cc in h alive.0 same
+    ] alive.1 (new_nodes (λ n node. (parts : Parts) → node ≡ Weak (Some parts) → ⊥) (λ parts e. cc) count name)
 
 -- so none is listed
 pub lists_no_weaks : (layout : Layout) (places : List Place) (count : ℕ) → ListsWeaks layout places (new_world count) []

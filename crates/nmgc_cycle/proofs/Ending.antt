@@ -39,7 +39,8 @@ ended c turns upper row = record c { progress = doing.Idle; turns = turns; upper
 abbrev pub idled : State → State
 idled s = record s { progress = idle }
 
-module _ (script : Script) (c : Collector) (s : State) (h : StandsAt script c s) (w : Sweeping) (at : c.progress ≡ doing.Sweeping w) (k : Cycle) (closed : ℕ) (is : s.progress ≡ sweeping k closed) where
+module _ (script : Script) (c : Collector) (s : State) (h : StandsAt script c s) (w : Sweeping) (at : c.progress ≡
+    doing.Sweeping w) (k : Cycle) (closed : ℕ) (is : s.progress ≡ sweeping k closed) where
   abbrev plan : Plan
   plan = plan_of script
 
@@ -86,7 +87,8 @@ module _ (script : Script) (c : Collector) (s : State) (h : StandsAt script c s)
 
   census : EndTellsCensus → IsSwept s → IsCensus k closed s.number (told_row row)
   census law swept =
-      let told : TellsCensus k w.sweeper = law k closed (seen c).words s.allocation c.segments (cycle_in (doing.Sweeping w) (died c.weaks.deaths)) w.sweeper work swept in
+      let told : TellsCensus k w.sweeper =
+      law k closed (seen c).words s.allocation c.segments (cycle_in (doing.Sweeping w) (died c.weaks.deaths)) w.sweeper work swept in
       record {
         number = h.matches.begun ∙ sym course.0.number_is;
         from = work.sweeping.from_is;
@@ -117,12 +119,16 @@ module _ (script : Script) (c : Collector) (s : State) (h : StandsAt script c s)
   }
 
   -- the cycle ended
-  pub ends_now : EndTellsCensus → (new : Collector) → HasNone sought.Sweeping c.segments → new ≡ ended c w.sweeper.turns w.sweeper.upper_turns row → (t : State) × (rows : List CycleRow) × EndsOrWaits s.progress s t rows × (told_cycles new ≡ told_cycles c ++ rows) × StandsAt script new t
+  pub ends_now : EndTellsCensus → (new : Collector) → HasNone sought.Sweeping c.segments → new ≡ ended c w.sweeper.turns w.sweeper.upper_turns row →
+      (t : State) × (rows : List CycleRow) × EndsOrWaits s.progress s t rows × (told_cycles new ≡ told_cycles c ++ rows) × StandsAt script new t
   ends_now law new waits new_is =
       let swept : IsSwept s = none_to_sweep c.segments (seen c).words s.allocation h.heap.holds.stands waits in (
         idled s,
         told_row row ∷ [],
-        subst (λ (q : Progress). EndsOrWaits q s (idled s) (told_row row ∷ [])) (sym is) (inl (swept, record { row = told_row row; census = census law swept; told = refl; rest = refl })),
+        subst (λ (q : Progress). EndsOrWaits q s (idled s) (told_row row ∷ [])) (sym is) (inl (
+          swept,
+          record { row = told_row row; census = census law swept; told = refl; rest = refl },
+        )),
         ap told_cycles new_is ∙ map-append told_row c.cycles (row ∷ []),
         subst (λ (x : Collector). StandsAt script x (idled s)) (sym new_is) (stands_then w.sweeper.turns w.sweeper.upper_turns swept),
       )
@@ -151,7 +157,11 @@ module _ (law : EndTellsCensus) (script : Script) (old new : Collector) (s : Sta
   by_case (doing.Sweeping w) (marking k) at is e step = absurd (let bad : phase.Sweeping ≡ phase.Marking = e in cc)
   by_case (doing.Sweeping w) (sweeping k closed) at is e step = elim step [
     | inl x ↦ ends_now script old s h w at k closed is law new x.0 x.1
-    | inr x ↦ stays (sweeping k closed) is (inr ((λ swept. x.0 (none_back old.segments (seen old).words s.allocation h.heap.holds.stands swept)), refl, refl)) x.1
+    | inr x ↦ stays (sweeping k closed) is (inr (
+      (λ swept. x.0 (none_back old.segments (seen old).words s.allocation h.heap.holds.stands swept)),
+      refl,
+      refl,
+    )) x.1
   ]
 
 -- so it is at every stop

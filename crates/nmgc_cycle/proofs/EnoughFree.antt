@@ -19,7 +19,8 @@ use Rattle.nmgc_cycle.specs.Keeps.{IsAfterStop}
 use Rattle.nmgc_cycle.specs.Shown.{seen}
 
 -- it gave no end: where commands are left, it isn't short of segments
-not_less : (left less quiet : Bool) (full : End) → (if left && less then Some full else (if not left && quiet then Some Done else None)) ≡ None → (left ≡ false) ⊎ (less ≡ false)
+not_less : (left less quiet : Bool) (full : End) → (if left && less then Some full else (if not left && quiet then Some Done else None)) ≡ None →
+    (left ≡ false) ⊎ (less ≡ false)
 not_less true true quiet full e = absurd cc
 not_less true false quiet full e = inr refl
 not_less false less quiet full e = inl refl
@@ -29,7 +30,9 @@ none_left : (left : List (List Command)) → has_left left ≡ false → (m : �
 none_left [] e m = refl
 none_left ([] ∷ left) e zero = refl
 none_left ([] ∷ left) e (suc m) = none_left left e m
-none_left ((c ∷ program) ∷ left) e m = let some : (nat_lt 0 (length (c ∷ program)) || has_left left) ≡ true = ap (λ (b : Bool). b || has_left left) (lt-ltb 0 (length (c ∷ program)) (omega arith)) in let bad : true ≡ false = sym some ∙ e in absurd cc
+none_left ((c ∷ program) ∷ left) e m =
+    let some : (nat_lt 0 (length (c ∷ program)) || has_left left) ≡ true =
+    ap (λ (b : Bool). b || has_left left) (lt-ltb 0 (length (c ∷ program)) (omega arith)) in let bad : true ≡ false = sym some ∙ e in absurd cc
 
 enough : (plan : Plan) (s : State) → answer_of plan s ≡ None → (has_left s.left ≡ false) ⊎ (reserve_of plan ≤ free_count s)
 enough plan s e = elim (not_less (has_left s.left) (nat_lt (free_count s) (reserve_of plan)) (is_idle s.progress) _ e) [

@@ -27,7 +27,9 @@ stops_fit script limits =
     omega arith
 
 -- a step that leaves the commands as they are, and no more for the cycle in progress
-pub leaves_few : (N M : Type 0) (script : Script) (c d : Collector) (stops : ℕ) → d.rounds ≡ c.rounds → phase_left script.config.segments d.progress ≤ phase_left script.config.segments c.progress → (N → NoneIsDue script.config.trigger c → M × NoneIsDue script.config.trigger d) → AreFew N script c stops → AreFew M script d stops
+pub leaves_few : (N M : Type 0) (script : Script) (c d : Collector) (stops : ℕ) → d.rounds ≡ c.rounds →
+    phase_left script.config.segments d.progress ≤ phase_left script.config.segments c.progress →
+    (N → NoneIsDue script.config.trigger c → M × NoneIsDue script.config.trigger d) → AreFew N script c stops → AreFew M script d stops
 leaves_few N M script c d stops rounds fewer due few = record {
   follow = by few.follow;
   phase = (let most = few.phase in omega (arith, fewer, most));
@@ -42,7 +44,8 @@ leaves_few N M script c d stops rounds fewer due few = record {
     by (no_cycle none nothing not h) = let both = due nothing not in no_cycle (same ∙ none) both.0 both.1 (omega (arith, h, fewer))
 
 -- nothing changed that is counted
-pub same_few : (N : Type 0) (script : Script) (c d : Collector) (stops : ℕ) → d.rounds ≡ c.rounds → d.progress ≡ c.progress → d.collect ≡ c.collect → d.segments.fresh ≡ c.segments.fresh → AreFew N script c stops → AreFew N script d stops
+pub same_few : (N : Type 0) (script : Script) (c d : Collector) (stops : ℕ) → d.rounds ≡ c.rounds → d.progress ≡ c.progress →
+    d.collect ≡ c.collect → d.segments.fresh ≡ c.segments.fresh → AreFew N script c stops → AreFew N script d stops
 same_few N script c d stops rounds progress collect fresh few =
     let same = ap (phase_left script.config.segments) progress in
     leaves_few N N script c d stops rounds (omega (arith, same)) (λ nothing not. (
@@ -57,7 +60,8 @@ same_few N script c d stops rounds progress collect fresh few =
 pub fresh_few : (N : Type 0) (script : Script) (c : Collector) → IsFresh script c → AreFew N script c (length c.stops + 1)
 fresh_few N script c fresh =
     let no_stops : length c.stops ≡ 0 = ap (λ (stops : List StopRow). length stops) fresh.new.nothing.1 in
-    let left : commands_left script.threads c.rounds ≡ commands_left script.threads [] = ap (λ (r : List RoundRows). commands_left script.threads r) fresh.new.nothing.0 in
+    let left : commands_left script.threads c.rounds ≡ commands_left script.threads [] =
+    ap (λ (r : List RoundRows). commands_left script.threads r) fresh.new.nothing.0 in
     let idle : phase_left script.config.segments c.progress ≡ 0 = ap (phase_left script.config.segments) (when_idle c.progress fresh.new.matches.phase) in
     record { follow = commands (omega (arith, no_stops, left)); phase = omega (arith, idle) }
 

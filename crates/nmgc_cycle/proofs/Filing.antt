@@ -73,16 +73,21 @@ waits_back stands.Filled e = absurd (let bad : stands.Filled ≡ stands.Sweeping
 waits_back stands.Sweeping e = refl
 
 none_then : (a : AllocState) → NoneIs (IsIn stands.Sweeping) a → NoneIs (IsIn stands.Sweeping) (all_retired a)
-none_then a none number exists is = none number (let count = length-map a.segments (restated retired_state) in omega (arith, exists, count)) (waits_back (cells a number).state (sym (ap (λ (x : Cells). x.state) (retired_cells a number)) ∙ is))
+none_then a none number exists is = none number (let count = length-map a.segments (restated retired_state) in
+    omega (arith, exists, count)) (waits_back (cells a number).state (sym (ap (λ (x : Cells). x.state) (retired_cells a number)) ∙ is))
 
 -- marks stay
 settled_then : (begun : ℕ) (s : Segments) → AreSettled begun s → AreSettled begun (record s { segments = map retired s.segments })
 settled_then begun s settled number block exists other =
     let there : number < length s.segments = (let count = length-map s.segments retired in omega (arith, exists, count)) in
     let is : nth (map retired s.segments) number ≡ retired (nth s.segments number) = nth-map retired s.segments number there in
-    subst (λ (x : Segment). IsSettledByte begun (mark_of x block)) (sym is) (settled number block there (λ waits. other (ap (λ (x : Segment). x.state) is ∙ ap retired_state waits)))
+    subst (λ (x : Segment). IsSettledByte begun (mark_of x block)) (sym is) (settled number block there (λ waits.
+    other (ap (λ (x : Segment). x.state) is ∙ ap retired_state waits)))
 
-module _ (script : Script) (c : Collector) (st : State) (h : StandsAt script (record c { progress = doing.Idle }) (record st { progress = idle })) (sound : IsSegments (filed_by c).segments) where
+module _ (script : Script) (c : Collector) (st : State) (h : StandsAt script (record c { progress = doing.Idle }) (record st {
+  progress =
+      idle;
+})) (sound : IsSegments (filed_by c).segments) where
   abbrev old : Collector
   old = record c { progress = doing.Idle }
 
@@ -162,6 +167,9 @@ filing_leads script c s limits h at sound =
     let quiet : s.progress ≡ idle = idle_state s.progress (sym (ap phase_in at) ∙ h.matches.phase) in
     let was : c ≡ record c { progress = doing.Idle } = ap (λ (p : Doing). record c { progress = p }) at in
     let state : s ≡ record s { progress = idle } = ap (λ (q : Progress). record s { progress = q }) quiet in
-    let stood : StandsAt script (record c { progress = doing.Idle }) (record s { progress = idle }) = subst (λ (x : Collector). StandsAt script x (record s { progress = idle })) was (subst (λ (y : State). StandsAt script c y) state h) in
-    let there : StandsAt script (filed_by (record c { progress = doing.Idle })) (with_all_retired (record s { progress = idle })) = stands_filed script c s stood sound in
-    subst (λ (x : Collector). StandsAt script (filed_by x) (with_all_retired s)) (sym was) (subst (λ (y : State). StandsAt script (filed_by (record c { progress = doing.Idle })) (with_all_retired y)) (sym state) there)
+    let stood : StandsAt script (record c { progress = doing.Idle }) (record s { progress = idle }) =
+    subst (λ (x : Collector). StandsAt script x (record s { progress = idle })) was (subst (λ (y : State). StandsAt script c y) state h) in
+    let there : StandsAt script (filed_by (record c { progress = doing.Idle })) (with_all_retired (record s { progress = idle })) =
+    stands_filed script c s stood sound in
+    subst (λ (x : Collector). StandsAt script (filed_by x) (with_all_retired s)) (sym was) (subst (λ (y : State).
+    StandsAt script (filed_by (record c { progress = doing.Idle })) (with_all_retired y)) (sym state) there)

@@ -1,4 +1,5 @@
--- A marker that finished, with the weak pointers resolved, closes its cycle within the bounds, and the collector stands for the closed state, in which the cycle sweeps.
+-- A marker that finished, with the weak pointers resolved, closes its cycle within the bounds, and the collector
+-- stands for the closed state, in which the cycle sweeps.
 use Rattle.std.proofs.Common.{ℕ, ◌≡◌, ◌+◌, ◌-◌, ◌^◌, ◌<◌, ◌≤◌, ◌%◌, List, [], ◌∷◌, Bool, true, false, length, refl, sym, ap, subst, ◌∙◌, arith}
 use Rattle.std.specs.Prelude.{IsSome, ◌==◌, if◌then◌else◌}
 use Rattle.std.proofs.lemmas.List.{length-map}
@@ -141,7 +142,16 @@ module _ (Paced : Cycle → State → Seen → Type 0) (laws : ClosingLaws) (scr
   resolved = cl.resolved (finished_on o cl.between cl.finisher finished) (laws.may layout k s (seen old) c.mutators.items cl.between cl.finisher stop finished)
 
   abbrev closing : IsClosingOf layout k s (seen old) c.mutators.items words cl.marked cl.marker weaks.list weaks.deaths
-  closing = record { stop = stop; between = cl.between; finisher = cl.finisher; first = cl.first; second = cl.second; finished = finished; resolved = resolved; sound = cl.sound.0 }
+  closing = record {
+    stop = stop;
+    between = cl.between;
+    finisher = cl.finisher;
+    first = cl.first;
+    second = cl.second;
+    finished = finished;
+    resolved = resolved;
+    sound = cl.sound.0;
+  }
 
   abbrev dead : List Name
   dead = resolved.closing.dead
@@ -191,7 +201,8 @@ module _ (Paced : Cycle → State → Seen → Type 0) (laws : ClosingLaws) (scr
   -- words, roots and list stand for the closed world
 
   closed_heap : (g : HoldsAtStop layout t words cl.marked (ends_of (seen next)) (places_of weaks.list)) × (g.places ≡ h.heap.places)
-  closed_heap = laws.holds layout k s (seen old) c.mutators.items words cl.marked cl.marker weaks.list weaks.deaths cl.joined.queues (ends_of (seen next)) closing joined
+  closed_heap = laws.holds layout k s (seen old) c.mutators.items words cl.marked cl.marker weaks.list weaks.deaths cl.joined.queues
+      (ends_of (seen next)) closing joined
 
   epoch_is : cl.marker.epoch ≡ epoch_of k.number
   epoch_is = cl.second.1.scanned.epoch ∙ cl.first.1.scanned.epoch ∙ now.0.tied.epoch
@@ -213,13 +224,20 @@ module _ (Paced : Cycle → State → Seen → Type 0) (laws : ClosingLaws) (scr
   -- the cycle sweeps
 
   tells : TellsDeaths k st.number dead cl.marker (seen next).cycle
-  tells = record { from_is = now.0.from_is; closed_is = refl; dead_is = died_are (finished_on o cl.between cl.finisher finished) dead weaks.deaths resolved.deaths_are; kept_is = refl }
+  tells = record {
+    from_is = now.0.from_is;
+    closed_is = refl;
+    dead_is = died_are (finished_on o cl.between cl.finisher finished) dead weaks.deaths resolved.deaths_are;
+    kept_is = refl;
+  }
 
   sweeps_then : IsSweeping k st.number st.allocation segments (seen next).cycle m.sweeper.seen × AreSettled st.begun segments
-  sweeps_then = laws.sweeps k s dead words cl.marked cl.marker (seen next).cycle m.sweeper.seen cl.sound.0 closed_heap.0.holds.stands h.course.0 h.course.1 closed_by epoch_is tells now.0.noted h.sweeper.2 h.sweeper.3
+  sweeps_then = laws.sweeps k s dead words cl.marked cl.marker (seen next).cycle m.sweeper.seen cl.sound.0 closed_heap.0.holds.stands h.course.0
+      h.course.1 closed_by epoch_is tells now.0.noted h.sweeper.2 h.sweeper.3
 
   left_then : AreLeft segments m.sweeper
-  left_then = laws.left c.segments segments m.sweeper (laws.waits c.segments segments before words st.allocation h.heap.holds.stands stands_then) marked_layout h.sweeper.0.left
+  left_then = laws.left c.segments segments m.sweeper (laws.waits c.segments segments before words st.allocation h.heap.holds.stands stands_then)
+      marked_layout h.sweeper.0.left
 
   left_turned : AreLeft segments (turned m.sweeper m.marker.turns)
   left_turned = record { numbers = left_then.numbers; room = left_then.room }
@@ -240,7 +258,8 @@ module _ (Paced : Cycle → State → Seen → Type 0) (laws : ClosingLaws) (scr
   notes_then = let was = h.sweeper.0.notes in record { noted = was.noted; once = was.once }
 
   at_work : IsAtWork k st.number words st.allocation segments (seen next).cycle (turned m.sweeper m.marker.turns)
-  at_work = laws.works k st.number words st.allocation segments (seen next).cycle (turned m.sweeper m.marker.turns) stands_then notes_then left_turned h.sweeper.1 h.sweeper.2 h.sweeper.3 closed_now
+  at_work = laws.works k st.number words st.allocation segments (seen next).cycle (turned m.sweeper m.marker.turns) stands_then notes_then
+      left_turned h.sweeper.1 h.sweeper.2 h.sweeper.3 closed_now
 
   -- the collector keeps what it keeps, and the state is sound
 
@@ -295,7 +314,8 @@ module _ (Paced : Cycle → State → Seen → Type 0) (laws : ClosingLaws) (scr
           h.sound.cycle.2,
         );
         earlier = λ e there. absurd (nothing_in e there);
-        blocks = λ name tracked other. h.sound.blocks name (closing_tracks st.world dead (k.snapshot ∷ []) world name (tracked_fewer (closed st.world dead) (k.snapshot ∷ []) name tracked)) other;
+        blocks = λ name tracked other. h.sound.blocks name (closing_tracks st.world dead (k.snapshot ∷
+            []) world name (tracked_fewer (closed st.world dead) (k.snapshot ∷ []) name tracked)) other;
       }
 
   -- no header changed
@@ -334,7 +354,10 @@ module _ (Paced : Cycle → State → Seen → Type 0) (laws : ClosingLaws) (scr
       course = (h.course.0, h.course.1.as_noted);
       matches = record { phase = refl; begun = h.matches.begun; collect = h.matches.collect; full = h.matches.full };
       heap = heap.0;
-      nurseries = subst (λ (y : List Place × List Nursery). AreNurseries layout y.0 (closed st.world dead) y.1) (λ i. (sym heap.1 i, sym same_there i)) nurseries_then;
+      nurseries = subst (λ (y : List Place × List Nursery). AreNurseries layout y.0 (closed st.world dead) y.1) (λ i. (
+        sym heap.1 i,
+        sym same_there i,
+      )) nurseries_then;
       empty = subst AreEmpty (sym same_there) h.empty;
       rest = rest_then;
       cycle = sweeps_then;
@@ -345,16 +368,19 @@ module _ (Paced : Cycle → State → Seen → Type 0) (laws : ClosingLaws) (scr
   )
 
 -- whatever is known of its pace, a marker that finished closes its cycle
-module _ (Paced : Cycle → State → Seen → Type 0) (laws : ClosingLaws) (script : Script) (old new : Collector) (s : State) (k : Cycle) (m : Marking) (w : Sweeping)
+module _ (Paced : Cycle → State → Seen →
+    Type 0) (laws : ClosingLaws) (script : Script) (old new : Collector) (s : State) (k : Cycle) (m : Marking) (w : Sweeping)
     (h : StandsInPace Paced script old s) (is : s.progress ≡ marking k) (at : old.progress ≡ doing.Marking m) (progress : new.progress ≡ doing.Sweeping w)
     (rest : new ≡ record old { words = new.words; segments = new.segments; progress = new.progress; weaks = new.weaks; mutators = new.mutators })
     (some : IsSome new.words)
-    (cl : IsClosed s.number (words_in old.words) (words_in new.words) old.segments new.segments old.weaks new.weaks old.mutators.items new.mutators.items m w) where
+    (cl : IsClosed s.number (words_in old.words) (words_in new.words) old.segments new.segments old.weaks new.weaks old.mutators.items
+    new.mutators.items m w) where
   stood : StandsInPace Paced script (record old { progress = doing.Marking m }) (record s { progress = marking k })
   stood =
       let was : old ≡ record old { progress = doing.Marking m } = ap (λ (p : Doing). record old { progress = p }) at in
       let state : s ≡ record s { progress = marking k } = ap (λ (q : Progress). record s { progress = q }) is in
-      subst (λ (x : Collector). StandsInPace Paced script x (record s { progress = marking k })) was (subst (λ (y : State). StandsInPace Paced script old y) state h)
+      subst (λ (x : Collector). StandsInPace Paced script x (record s { progress = marking k })) was (subst (λ (y : State).
+      StandsInPace Paced script old y) state h)
 
   pub paced_there : Paced k (record s { progress = marking k }) (seen (record old { progress = doing.Marking m }))
   paced_there = in_pace Paced laws script old s k m stood new some w cl
@@ -370,10 +396,27 @@ module _ (Paced : Cycle → State → Seen → Type 0) (laws : ClosingLaws) (scr
       let all = leads Paced laws script old s k m stood new some w cl in
       let t : State = closed_state k s (resolved Paced laws script old s k m stood new some w cl).closing.dead in
       let carried : Segments = all_carried cl.marker.epoch cl.marked in
-      let next : new ≡ record old { words = new.words; segments = carried; progress = doing.Sweeping (record { from = m.from; closed = s.number; kept = cl.marker.marked; sweeper = turned m.sweeper m.marker.turns }); weaks = new.weaks; mutators = new.mutators } =
+      let next : new ≡ record old {
+        words = new.words;
+        segments = carried;
+        progress = doing.Sweeping (record {
+          from = m.from;
+          closed = s.number;
+          kept = cl.marker.marked;
+          sweeper = turned m.sweeper m.marker.turns;
+        });
+        weaks = new.weaks;
+        mutators = new.mutators;
+      } =
       rest
       ∙ ap (λ (g : Segments). record old { words = new.words; segments = g; progress = new.progress; weaks = new.weaks; mutators = new.mutators }) cl.carried
-      ∙ ap (λ (p : Doing). record old { words = new.words; segments = carried; progress = p; weaks = new.weaks; mutators = new.mutators }) (progress ∙ ap doing.Sweeping cl.is) in (
+      ∙ ap (λ (p : Doing). record old {
+        words = new.words;
+        segments = carried;
+        progress = p;
+        weaks = new.weaks;
+        mutators = new.mutators;
+      }) (progress ∙ ap doing.Sweeping cl.is) in (
         t,
         subst (λ (q : Progress). Closes k (record s { progress = q }) t) (sym is) all.0,
         subst (λ (x : Collector). StandsAt script x t) (sym next) all.1,
@@ -383,13 +426,15 @@ pub finishing_leads : ClosingLaws → FinishingLeads
 finishing_leads laws script old new s k m w limits h is at none_left progress closing cl =
     let P : Cycle → State → Seen → Type 0 = IsPacedWithin script.config.quota in
     let there = closes_there P laws script old new s k m w h is at progress closing.rest closing.has_words cl in
-    let paced : IsPacedWithin script.config.quota k (record s { progress = marking k }) (seen (record old { progress = doing.Marking m })) = paced_there P laws script old new s k m w h is at progress closing.rest closing.has_words cl in
+    let paced : IsPacedWithin script.config.quota k (record s { progress = marking k }) (seen (record old { progress = doing.Marking m })) =
+    paced_there P laws script old new s k m w h is at progress closing.rest closing.has_words cl in
     let counted = counts_kept P laws script old new s k m w h is at progress closing.rest closing.has_words cl in
     let more = marks_more P laws script old new s k m w h is at progress closing.rest closing.has_words cl in
     (there.0, there.1, paced.closes none_left cl.marker.marked more counted, there.2)
 
 -- a closing whatever the bounds needs no pace
-module _ (laws : ClosingLaws) (script : Script) (old new : Collector) (s : State) (h : StandsAt script old s) (closing : HasClosed ClosesNowBy s.number old new) where
+module _ (laws : ClosingLaws) (script : Script) (old new : Collector) (s : State) (h : StandsAt script old s)
+    (closing : HasClosed ClosesNowBy s.number old new) where
   abbrev Leads : Type 0
   Leads = (t : State) × ClosesNow s.progress s t × StandsAt script new t
 
@@ -410,4 +455,5 @@ module _ (laws : ClosingLaws) (script : Script) (old new : Collector) (s : State
   by_case (doing.Sweeping w) (sweeping k since) at is e step = stays (sweeping k since) is refl step
 
 pub finishing_now_leads : ClosingLaws → FinishingNowLeads
-finishing_now_leads laws script old new s limits h closing = by_case laws script old new s h closing old.progress s.progress refl refl h.matches.phase closing.closes
+finishing_now_leads laws script old new s limits h closing =
+    by_case laws script old new s h closing old.progress s.progress refl refl h.matches.phase closing.closes

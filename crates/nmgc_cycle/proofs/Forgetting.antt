@@ -19,16 +19,20 @@ waiting_in None s = 0
 waiting_in (Some r) s = length (in_ring s r)
 
 -- a block that was taken waits no more
-pub fewer_wait : (inbox after : List Receiver) (k : ℕ) (s t : Sender) (block : List Address) → AtLine (TakesRestSo s t block) k inbox after → waiting_in (slice_get after k) t < waiting_in (slice_get inbox k) s
+pub fewer_wait : (inbox after : List Receiver) (k : ℕ) (s t : Sender) (block : List Address) → AtLine (TakesRestSo s t block) k inbox after →
+    waiting_in (slice_get after k) t < waiting_in (slice_get inbox k) s
 fewer_wait inbox after k s t block h =
     let now : slice_get after k ≡ Some h.is = line_here (TakesRestSo s t block) k inbox after h in
-    let oldest : length (in_ring s h.was) ≡ length block + length (in_ring t h.is) = ap (λ (l : List Address). length l) h.changes.oldest ∙ length-append block (in_ring t h.is) in
+    let oldest : length (in_ring s h.was) ≡ length block + length (in_ring t h.is) = ap (λ (l : List Address). length l) h.changes.oldest ∙
+    length-append block (in_ring t h.is) in
     let size : length block ≡ BLOCK_ENTRIES = h.changes.receives.size in
     let less : length (in_ring t h.is) < length (in_ring s h.was) = omega (arith, oldest, size) in
-    subst (λ (o : Option Receiver). waiting_in (slice_get after k) t < waiting_in o s) (sym h.at) (subst (λ (o : Option Receiver). waiting_in o t < length (in_ring s h.was)) (sym now) less)
+    subst (λ (o : Option Receiver). waiting_in (slice_get after k) t < waiting_in o s) (sym h.at) (subst (λ (o : Option Receiver).
+    waiting_in o t < length (in_ring s h.was)) (sym now) less)
 
 -- the ends stay a pair
-pub still_paired : (inbox after : List Receiver) (k : ℕ) (s t : Sender) (block : List Address) → IsPaired inbox k s → AtLine (TakesRestSo s t block) k inbox after → IsPaired after k t
+pub still_paired : (inbox after : List Receiver) (k : ℕ) (s t : Sender) (block : List Address) → IsPaired inbox k s →
+    AtLine (TakesRestSo s t block) k inbox after → IsPaired after k t
 still_paired inbox after k s t block (r, at, pair) h =
     let is : h.was ≡ r = same_item inbox k h.was r h.at at in
     let own : IsPair s h.was = subst (λ (x : Receiver). IsPair s x) (sym is) pair in
@@ -61,7 +65,8 @@ any_none k inbox r at = record {
 }
 
 -- ends that were found level are those of a mutator that remembers nothing, once its list and its set are empty
-pub level_lined : (inbox mid after : List Receiver) (k : ℕ) (s t : Sender) → IsPaired inbox k s → AtLine (IsLevelSo s t) k inbox mid → AtLine Clears k mid after → IsLined after k t
+pub level_lined : (inbox mid after : List Receiver) (k : ℕ) (s t : Sender) → IsPaired inbox k s → AtLine (IsLevelSo s t) k inbox mid →
+    AtLine Clears k mid after → IsLined after k t
 level_lined inbox mid after k s t (r, at, pair) h c =
     let is : h.was ≡ r = same_item inbox k h.was r h.at at in
     let own : IsPair s h.was = subst (λ (x : Receiver). IsPair s x) (sym is) pair in
@@ -70,7 +75,8 @@ level_lined inbox mid after k s t (r, at, pair) h c =
     let received : c.is.received ≡ h.is.received = ap (λ (x : Receiver). x.received) c.changes.rest ∙ ap (λ (x : Receiver). x.received) between in
     let line : IsLine c.is t = record {
       pair = ring ∙ h.changes.ring.0 ∙ own ∙ sym h.changes.ring.1;
-      received = received ∙ h.changes.received.0 ∙ h.changes.received.1 ∙ sym h.changes.before ∙ sym (append-nil t.before) ∙ ap (λ (l : List Address). t.before ++ l) (sym c.changes.items);
+      received = received ∙ h.changes.received.0 ∙ h.changes.received.1 ∙ sym h.changes.before ∙ sym (append-nil t.before) ∙
+          ap (λ (l : List Address). t.before ++ l) (sym c.changes.items);
     } in
     (c.is, line_here Clears k mid after c, line)
 
@@ -85,7 +91,8 @@ forgot_none inbox mutators have = record {
   lines = have.lines;
 }
 
-module _ (first inbox after : List Receiver) (was now : List Mutator) (k : ℕ) (m n : Mutator) (h : HaveForgottenSoFar k first inbox was now) (at : slice_get now k ≡ Some m) (forgot : HasForgotten m n) (took : AtLine AnyLine k inbox after) (line : IsLined after k n.sender) where
+module _ (first inbox after : List Receiver) (was now : List Mutator) (k : ℕ) (m n : Mutator) (h : HaveForgottenSoFar k first inbox was now)
+    (at : slice_get now k ≡ Some m) (forgot : HasForgotten m n) (took : AtLine AnyLine k inbox after) (line : IsLined after k n.sender) where
   abbrev then : List Mutator
   then = set now k n
 
@@ -133,7 +140,8 @@ all_forgot first after was now h = record {
 }
 
 -- so many and more
-pub forgot_enough : (n : ℕ) (first after : List Receiver) (was now : List Mutator) → length was ≤ n → HaveForgottenSoFar n first after was now → HaveForgottenSoFar (length was) first after was now
+pub forgot_enough : (n : ℕ) (first after : List Receiver) (was now : List Mutator) → length was ≤ n → HaveForgottenSoFar n first after was now →
+    HaveForgottenSoFar (length was) first after was now
 forgot_enough n first after was now enough h = record {
   inbox_is = h.inbox_is;
   count = h.count;
@@ -158,7 +166,9 @@ pub record IsDraining (first inbox : List Receiver) (number : ℕ) (was m : Muta
 pub draining_none : (inbox : List Receiver) (number : ℕ) (m : Mutator) → IsPaired inbox number m.sender → IsDraining inbox inbox number m m
 draining_none inbox number m pair = record { paired = pair; took = any_none number inbox pair.0 pair.1; rest = refl }
 
-pub draining_more : (first inbox after : List Receiver) (number : ℕ) (was m n : Mutator) (block : List Address) → IsDraining first inbox number was m → n ≡ record m { sender = n.sender } → AtLine (TakesRestSo m.sender n.sender block) number inbox after → IsDraining first after number was n
+pub draining_more : (first inbox after : List Receiver) (number : ℕ) (was m n : Mutator) (block : List Address) →
+    IsDraining first inbox number was m → n ≡ record m { sender = n.sender } → AtLine (TakesRestSo m.sender n.sender block) number inbox after →
+    IsDraining first after number was n
 draining_more first inbox after number was m n block d rest h = record {
   paired = still_paired inbox after number m.sender n.sender block d.paired h;
   took = any_then number first inbox after d.took (as_any (TakesRestSo m.sender n.sender block) number inbox after h);
@@ -166,7 +176,9 @@ draining_more first inbox after number was m n block d rest h = record {
 }
 
 -- it is, and list and set were emptied
-module _ (first inbox mid after : List Receiver) (number : ℕ) (was m n p : Mutator) (d : IsDraining first inbox number was m) (rest : n ≡ record m { sender = n.sender }) (h : AtLine (IsLevelSo m.sender n.sender) number inbox mid) (clears : AtLine Clears number mid after) (last : p ≡ record n { updrem = p.updrem }) (empty : p.updrem.items ≡ []) where
+module _ (first inbox mid after : List Receiver) (number : ℕ) (was m n p : Mutator) (d : IsDraining first inbox number was m) (rest : n ≡
+    record m { sender = n.sender }) (h : AtLine (IsLevelSo m.sender n.sender) number inbox mid) (clears : AtLine Clears number mid after)
+    (last : p ≡ record n { updrem = p.updrem }) (empty : p.updrem.items ≡ []) where
   same_sender : p.sender ≡ n.sender
   same_sender = ap (λ (x : Mutator). x.sender) last
 
@@ -177,11 +189,13 @@ module _ (first inbox mid after : List Receiver) (number : ℕ) (was m n p : Mut
         ∙ ap (λ (x : Mutator). record x { updrem = p.updrem }) rest
         ∙ ap (λ (x : Mutator). record x { updrem = p.updrem; sender = n.sender }) d.rest
         ∙ ap (λ (s : Sender). record was { updrem = p.updrem; sender = s }) (sym same_sender);
-    nothing = ap (λ (s : Sender). numbers (s.since ++ p.updrem.items)) same_sender ∙ ap (λ (l : List Address). numbers (l ++ p.updrem.items)) h.changes.since ∙ ap (λ (l : List Address). numbers l) empty;
+    nothing = ap (λ (s : Sender). numbers (s.since ++ p.updrem.items)) same_sender ∙
+        ap (λ (l : List Address). numbers (l ++ p.updrem.items)) h.changes.since ∙ ap (λ (l : List Address). numbers l) empty;
   }
 
   pub drained_took : AtLine AnyLine number first after
-  drained_took = any_then number first mid after (any_then number first inbox mid d.took (as_any (IsLevelSo m.sender n.sender) number inbox mid h)) (as_any Clears number mid after clears)
+  drained_took = any_then number first mid after (any_then number first inbox mid d.took (as_any (IsLevelSo m.sender n.sender) number inbox mid h))
+      (as_any Clears number mid after clears)
 
   pub drained_line : IsLined after number p.sender
   drained_line = subst (λ (s : Sender). IsLined after number s) (sym same_sender) (level_lined inbox mid after number m.sender n.sender d.paired h clears)

@@ -104,7 +104,8 @@ module _ (script : Script) (c : Collector) (made : IsMade (layout_of (plan_of sc
     own = own;
     inbox = made.inbox;
     positions_are = ap length made.positions ∙ length-replicate (length script.threads) 0;
-    positions = λ k lt. ap (λ (items : List ℕ). slice_index items k) made.positions ∙ get_or-replicate (length script.threads) k 0 0 lt ∙ sym (ap (λ (rounds : List RoundRows). answered_count rounds k) made.nothing.0);
+    positions = λ k lt. ap (λ (items : List ℕ). slice_index items k) made.positions ∙ get_or-replicate (length script.threads) k 0 0 lt ∙
+        sym (ap (λ (rounds : List RoundRows). answered_count rounds k) made.nothing.0);
     no_ends = made.no_ends;
     room = made.room;
   }
@@ -114,9 +115,12 @@ module _ (script : Script) (c : Collector) (made : IsMade (layout_of (plan_of sc
     fit = fit_blocks (new_world (length script.threads)) script.config.segments;
     represents = made.opens.represents;
     registers = subst (All HasAllRegisters) (sym all_new) (have_registers (length script.threads));
-    roots = subst (λ (es : List MutatorEnd). RepresentsRoots (shared_place ∷ []) (new_world (length script.threads)) (registers_of es) (queues_of es) (serials_of es)) (sym all_new) (new_roots (shared_place ∷ []) (length script.threads));
+    roots = subst (λ (es : List MutatorEnd). RepresentsRoots (shared_place ∷
+        []) (new_world (length script.threads)) (registers_of es) (queues_of es) (serials_of es)) (sym all_new) (new_roots (shared_place ∷
+        []) (length script.threads));
     layout_is = same_layout;
-    stands = subst (λ (s : Segments). StandsFor s (seen c).words (all_empty script.config.segments)) (sym made.segments) (first_stands sizes (seen c).words made.total);
+    stands = subst (λ (s : Segments).
+        StandsFor s (seen c).words (all_empty script.config.segments)) (sym made.segments) (first_stands sizes (seen c).words made.total);
   }
 
   is_new : IsNew (plan_of script) (seen c)
@@ -127,7 +131,8 @@ module _ (script : Script) (c : Collector) (made : IsMade (layout_of (plan_of sc
       places = shared_place ∷ [];
       all = λ p. (place_of_g sizes script.config.segments p, g_has_place sizes script.config.segments p);
       holds = holds;
-      listed = subst (λ (l : List OldWeak). ListsWeaks sizes (shared_place ∷ []) (new_world (length script.threads)) (places_of l)) (sym made.weakless) (lists_no_weaks sizes (shared_place ∷ []) (length script.threads));
+      listed = subst (λ (l : List OldWeak). ListsWeaks sizes (shared_place ∷
+          []) (new_world (length script.threads)) (places_of l)) (sym made.weakless) (lists_no_weaks sizes (shared_place ∷ []) (length script.threads));
     };
     at_rest = record {
       nurseries = are_nurseries sizes c.mutators.items made.new (new_world (length script.threads)) made.count;

@@ -42,7 +42,8 @@ full_fresh : (s t : State) (rows : List CycleRow) → DoesFullCycle s t rows →
 full_fresh s t rows d = ap (λ (x : State). x.allocation.fresh) d.rest ∙ finishing_fresh (cycle_started (with_all_retired d.idled)) d.last d.own d.again
 
 -- none is in progress, and none is due
-module _ (script : Script) (old new : Collector) (stops : ℕ) (rounds : new.rounds ≡ old.rounds) (none : new.progress ≡ doing.Idle) (not_asked : new.collect ≡ false) (fresh : new.segments.fresh ≡ 0) where
+module _ (script : Script) (old new : Collector) (stops : ℕ) (rounds : new.rounds ≡ old.rounds) (none : new.progress ≡
+    doing.Idle) (not_asked : new.collect ≡ false) (fresh : new.segments.fresh ≡ 0) where
   none_due : NoneIsDue script.config.trigger new
   none_due = record { not_asked = not_asked; not_filled = λ some. omega (arith, fresh, some) }
 
@@ -68,7 +69,10 @@ pub fresh_where_due : (plan : Plan) (s t : State) (rows : List CycleRow) → Pro
 fresh_where_due plan s t rows (inl x) due = full_fresh s t rows x.1
 fresh_where_due plan s t rows (inr x) due = absurd (x.0 due)
 
-pub proceeding_few : (script : Script) (old new : Collector) (stops stop : ℕ) (some : Bool) (t : State) → old.segments.layout ≡ heap_of script → (old.progress ≡ doing.Idle → HasStood (all_prepared old.segments) (words_in old.words)) → (words : List ℕ) → StandsFor new.segments words t.allocation → ProceedsThen script.config.trigger some stop old new → AreFew (Unit {0}) script old stops → new.rounds ≡ old.rounds → (IsDueBy some old → t.allocation.fresh ≡ 0) → AreFew (Unit {0}) script new stops
+pub proceeding_few : (script : Script) (old new : Collector) (stops stop : ℕ) (some : Bool) (t : State) → old.segments.layout ≡ heap_of script →
+    (old.progress ≡ doing.Idle → HasStood (all_prepared old.segments) (words_in old.words)) → (words : List ℕ) →
+    StandsFor new.segments words t.allocation → ProceedsThen script.config.trigger some stop old new → AreFew (Unit {0}) script old stops →
+    new.rounds ≡ old.rounds → (IsDueBy some old → t.allocation.fresh ≡ 0) → AreFew (Unit {0}) script new stops
 proceeding_few script old new stops stop some t layout stood words stands (inl x) few rounds fresh =
     idle_few script old new stops rounds (full_idle stop old new x.1) (ap (λ (y : Collector). y.collect) x.1.is) (sym stands.fresh ∙ fresh x.0) few
 proceeding_few script old new stops stop some t layout stood words stands (inr x) few rounds fresh =
@@ -87,6 +91,7 @@ proceeding_begun trigger some stop old new (inl x) =
 proceeding_begun trigger some stop old new (inr x) = beginning_begun trigger stop old new x.1
 
 -- what goes on has something left
-pub proceeding_more : (trigger : ℕ) (some : Bool) (stop : ℕ) (old new : Collector) → ProceedsThen trigger some stop old new → HasMore old.progress → HasMore new.progress
+pub proceeding_more : (trigger : ℕ) (some : Bool) (stop : ℕ) (old new : Collector) → ProceedsThen trigger some stop old new → HasMore old.progress →
+    HasMore new.progress
 proceeding_more trigger some stop old new (inl x) more = subst HasMore (sym (full_idle stop old new x.1)) tt
 proceeding_more trigger some stop old new (inr x) more = beginning_more trigger stop old new x.1 more

@@ -40,7 +40,9 @@ pub record AllDid (script : Script) (c : Collector) (round : Round) (o : Opening
   pub count : length done ≡ length new
   pub each : (k : ℕ) (x : Worker) (d : List Done) → slice_get new k ≡ Some x → slice_get done k ≡ Some d → OneDid script c round o k x d
 
-module _ (script : Script) (c : Collector) (run : Run) (limits : IsInLimits script) (still : IsAfterStop script c run) (o : Opening) (op : IsOpened script c run still o) (round : Round) (seats : List RoundSeat) (has : HasSeats o round seats) (new : List Worker) (worked : HaveAllWorked round script c.positions.items (workers_of c.mutators.items seats) new) where
+module _ (script : Script) (c : Collector) (run : Run) (limits : IsInLimits script) (still : IsAfterStop script c run) (o : Opening)
+    (op : IsOpened script c run still o) (round : Round) (seats : List RoundSeat) (has : HasSeats o round seats) (new : List Worker)
+    (worked : HaveAllWorked round script c.positions.items (workers_of c.mutators.items seats) new) where
   old_count : length (workers_of c.mutators.items seats) ≡ length c.mutators.items
   old_count = workers_count c.mutators.items seats (seats_counted c.mutators.items o op.hands_are round seats has)
 
@@ -50,11 +52,18 @@ module _ (script : Script) (c : Collector) (run : Run) (limits : IsInLimits scri
       let count = worked.count in
       let m = item c.mutators.items k (omega (arith, within, count, old_count)) in
       let seat = item seats k (let n = seats_counted c.mutators.items o op.hands_are round seats has in omega (arith, within, count, old_count, n)) in
-      let was : slice_index_or (workers_of c.mutators.items seats) k x ≡ worker_of (m.0, seat.0) = get_or_from_slice_get (workers_of c.mutators.items seats) k (worker_of (m.0, seat.0)) x (workers_at c.mutators.items seats k m.0 seat.0 m.1 seat.1) in
+      let was : slice_index_or (workers_of c.mutators.items seats) k x ≡ worker_of (m.0, seat.0) =
+      get_or_from_slice_get (workers_of c.mutators.items seats) k (worker_of (
+        m.0,
+        seat.0,
+      )) x (workers_at c.mutators.items seats k m.0 seat.0 m.1 seat.1) in
       let now : slice_index_or new k x ≡ x = get_or_from_slice_get new k x x e in
       let left : List Command = left_at script c.positions.items k in
-      let did : HasWorkedOn round script.config.slice left (worker_of (m.0, seat.0)) x = subst (HasWorkedOn round script.config.slice left (worker_of (m.0, seat.0))) now (subst (λ (w : Worker). HasWorkedOn round script.config.slice left w (slice_index_or new k x)) was (worked.each k x (omega (arith, within, count)))) in
-      let nursery : m.0.layout.nursery ≡ script.config.nursery = ap (λ (l : Layout). l.nursery) ((resting script c run limits still k m.0 m.1).layout_is ∙ still.kept.layout) in
+      let did : HasWorkedOn round script.config.slice left (worker_of (m.0, seat.0)) x =
+      subst (HasWorkedOn round script.config.slice left (worker_of (m.0, seat.0))) now (subst (λ (w : Worker).
+      HasWorkedOn round script.config.slice left w (slice_index_or new k x)) was (worked.each k x (omega (arith, within, count)))) in
+      let nursery : m.0.layout.nursery ≡ script.config.nursery =
+      ap (λ (l : Layout). l.nursery) ((resting script c run limits still k m.0 m.1).layout_is ∙ still.kept.layout) in
       let h = slice_done script.config round o k left m.0 seat.0 x (seat_alone c.mutators.items o op.hands_are round seats has k seat.0 seat.1) nursery did in
       (h.0, record { old = m.0; old_is = m.1; slice = h.1 })
 
@@ -79,7 +88,9 @@ module _ (script : Script) (c : Collector) (run : Run) (limits : IsInLimits scri
       new_count : length new ≡ length c.mutators.items
       new_count = worked.count ∙ old_count
 
-      each : (k : ℕ) (m n : Mutator) (seat : RoundSeat) (d : List Done) → slice_get c.mutators.items k ≡ Some m → slice_get (map mutator_of new) k ≡ Some n → slice_get (map seat_of new) k ≡ Some seat → slice_get did.done k ≡ Some d → HasDone round (alone o k) seat m n d
+      each : (k : ℕ) (m n : Mutator) (seat : RoundSeat) (d : List Done) → slice_get c.mutators.items k ≡ Some m →
+          slice_get (map mutator_of new) k ≡ Some n → slice_get (map seat_of new) k ≡ Some seat → slice_get did.done k ≡ Some d →
+          HasDone round (alone o k) seat m n d
       each k m n seat d e f g i =
           let x = map_item mutator_of new k n f in
           let y = map_item seat_of new k seat g in
@@ -90,4 +101,5 @@ module _ (script : Script) (c : Collector) (run : Run) (limits : IsInLimits scri
           let old_is = h.old_is in
           let old : h.old ≡ m = cc (old_is, e) in
           let place : x.0.seat ≡ seat = ap seat_of same ∙ sym y.2 in
-          subst (λ (u : Mutator). HasDone round (alone o k) seat u n d) old (subst (λ (u : RoundSeat). HasDone round (alone o k) u h.old n d) place (subst (λ (u : Mutator). HasDone round (alone o k) x.0.seat h.old u d) (sym x.2) h.slice.did))
+          subst (λ (u : Mutator). HasDone round (alone o k) seat u n d) old (subst (λ (u : RoundSeat).
+          HasDone round (alone o k) u h.old n d) place (subst (λ (u : Mutator). HasDone round (alone o k) x.0.seat h.old u d) (sym x.2) h.slice.did))

@@ -20,12 +20,14 @@ pub record HaveGiven (registers : List ℕ) (queues : List FinQueue) (old new : 
   pub nurseries_are : nurseries_of new ≡ map emptied (nurseries_of old)
 
 -- the first mutator, and the others
-pub first_given : (registers : List ℕ) (queue : FinQueue) (queues : List FinQueue) (m n : Mutator) (old new : List Mutator) → AreGivenBack registers (queue ∷ queues) (m ∷ old) (n ∷ new) → n ≡ given_back (take REGISTERS registers) queue m
+pub first_given : (registers : List ℕ) (queue : FinQueue) (queues : List FinQueue) (m n : Mutator) (old new : List Mutator) →
+    AreGivenBack registers (queue ∷ queues) (m ∷ old) (n ∷ new) → n ≡ given_back (take REGISTERS registers) queue m
 first_given registers queue queues m n old new h =
     let e : slice_get (n ∷ new) 0 ≡ Some (given_back (take REGISTERS registers) queue m) = h.each 0 m refl in
     cc
 
-pub rest_given : (registers : List ℕ) (queue : FinQueue) (queues : List FinQueue) (m n : Mutator) (old new : List Mutator) → AreGivenBack registers (queue ∷ queues) (m ∷ old) (n ∷ new) → AreGivenBack (drop REGISTERS registers) queues old new
+pub rest_given : (registers : List ℕ) (queue : FinQueue) (queues : List FinQueue) (m n : Mutator) (old new : List Mutator) →
+    AreGivenBack registers (queue ∷ queues) (m ∷ old) (n ∷ new) → AreGivenBack (drop REGISTERS registers) queues old new
 rest_given registers queue queues m n old new h = record {
   count = let all : length (n ∷ new) ≡ length (m ∷ old) = h.count in omega (arith, all);
   each = λ k x e.
@@ -42,8 +44,14 @@ rest_given registers queue queues m n old new h = record {
         ∙ ap (λ (n : ℕ). take ((k * REGISTERS + REGISTERS) - k * REGISTERS) (drop n registers)) from
         ∙ ap (λ (l : List ℕ). take ((k * REGISTERS + REGISTERS) - k * REGISTERS) l) (sym (drop-drop (k * REGISTERS) REGISTERS registers))
 
-pub have_given : (registers : List ℕ) (queues : List FinQueue) (old new : List Mutator) → AreGivenBack registers queues old new → length registers ≡ REGISTERS * length old → length queues ≡ length old → HaveGiven registers queues old new
-have_given registers [] [] [] h r q = record { registers_are = sym (nil_from_length registers (omega (arith, r))); queues_are = refl; serials_are = refl; nurseries_are = refl }
+pub have_given : (registers : List ℕ) (queues : List FinQueue) (old new : List Mutator) → AreGivenBack registers queues old new →
+    length registers ≡ REGISTERS * length old → length queues ≡ length old → HaveGiven registers queues old new
+have_given registers [] [] [] h r q = record {
+  registers_are = sym (nil_from_length registers (omega (arith, r)));
+  queues_are = refl;
+  serials_are = refl;
+  nurseries_are = refl;
+}
 have_given registers [] [] (n ∷ new) h r q = absurd (let all : length (n ∷ new) ≡ 0 = h.count in omega (arith, all))
 have_given registers [] (m ∷ old) new h r q = absurd (omega (arith, q))
 have_given registers (queue ∷ queues) [] new h r q = absurd (omega (arith, q))
@@ -51,16 +59,23 @@ have_given registers (queue ∷ queues) (m ∷ old) [] h r q = absurd (let all :
 have_given registers (queue ∷ queues) (m ∷ old) (n ∷ new) h r q =
     let is : n ≡ given_back (take REGISTERS registers) queue m = first_given registers queue queues m n old new h in
     let dropped : length (drop REGISTERS registers) ≡ length registers - REGISTERS = length-drop REGISTERS registers in
-    let rest = have_given (drop REGISTERS registers) queues old new (rest_given registers queue queues m n old new h) (omega (arith, dropped, r)) (omega (arith, q)) in
+    let rest = have_given (drop REGISTERS registers) queues old new (rest_given registers queue queues m n old new h) (omega (
+      arith,
+      dropped,
+      r,
+    )) (omega (arith, q)) in
     record {
-      registers_are = ap (λ (x : Mutator). x.registers ++ registers_of new) is ∙ ap (λ (l : List ℕ). take REGISTERS registers ++ l) rest.registers_are ∙ take-append-drop REGISTERS registers;
+      registers_are = ap (λ (x : Mutator). x.registers ++ registers_of new) is ∙
+          ap (λ (l : List ℕ). take REGISTERS registers ++ l) rest.registers_are ∙ take-append-drop REGISTERS registers;
       queues_are = ap (λ (x : Mutator). x.queue.words ∷ queues_of new) is ∙ ap (λ (l : List (List ℕ)). queue.words ∷ l) rest.queues_are;
       serials_are = ap (λ (x : Mutator). x.serial ∷ serials_of new) is ∙ ap (λ (l : List ℕ). m.serial ∷ l) rest.serials_are;
       nurseries_are = ap (λ (x : Mutator). x.nursery ∷ nurseries_of new) is ∙ ap (λ (l : List Nursery). emptied m.nursery ∷ l) rest.nurseries_are;
     }
 
 -- a mutator is what one was, with its part given back
-pub one_given : (registers : List ℕ) (queues : List FinQueue) (old new : List Mutator) → AreGivenBack registers queues old new → (k : ℕ) (n : Mutator) → slice_get new k ≡ Some n → (m : Mutator) × (k < length old) × (slice_get old k ≡ Some m) × (n ≡ given_back (own_registers registers k) (slice_index_or queues k no_queue) m)
+pub one_given : (registers : List ℕ) (queues : List FinQueue) (old new : List Mutator) → AreGivenBack registers queues old new →
+    (k : ℕ) (n : Mutator) → slice_get new k ≡ Some n → (m : Mutator) × (k < length old) × (slice_get old k ≡ Some m) ×
+    (n ≡ given_back (own_registers registers k) (slice_index_or queues k no_queue) m)
 one_given registers queues old new h k n e =
     let within : k < length new = slice_get_within new k n e in
     let lt : k < length old = (let count = h.count in omega (arith, within, count)) in
@@ -74,4 +89,5 @@ pub own_count : (registers : List ℕ) (count k : ℕ) → length registers ≡ 
 own_count registers count k all lt =
     let many : (k * REGISTERS + REGISTERS) - k * REGISTERS ≡ REGISTERS = omega arith in
     let dropped : length (drop (k * REGISTERS) registers) ≡ length registers - k * REGISTERS = length-drop (k * REGISTERS) registers in
-    ap (λ (n : ℕ). length (take n (drop (k * REGISTERS) registers))) many ∙ length-take-le REGISTERS (drop (k * REGISTERS) registers) (omega (arith, dropped, all, lt))
+    ap (λ (n : ℕ). length (take n (drop (k * REGISTERS) registers))) many ∙
+    length-take-le REGISTERS (drop (k * REGISTERS) registers) (omega (arith, dropped, all, lt))

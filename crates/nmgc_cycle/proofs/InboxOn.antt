@@ -26,24 +26,29 @@ use Rattle.nmgc_cycle.proofs.Mapped.{same_maps}
 
 -- inbox and mutators are no part of what sweeps, nor of how many stops may follow
 
-sweeps_both : (p : Progress) (s : State) (c : Collector) (inbox : List Receiver) (mutators : Vec Mutator Global) → Sweeps p s c → Sweeps p s (record c { inbox = inbox; mutators = mutators })
+sweeps_both : (p : Progress) (s : State) (c : Collector) (inbox : List Receiver) (mutators : Vec Mutator Global) → Sweeps p s c →
+    Sweeps p s (record c { inbox = inbox; mutators = mutators })
 sweeps_both idle s c inbox mutators h = h
 sweeps_both (marking k) s c inbox mutators h = (record { notes = h.0.notes; left = h.0.left }, h.1, h.2, h.3)
 sweeps_both (sweeping k closed) s c inbox mutators h = h
 
-follow_both : (Nothing : Type 0) (script : Script) (c : Collector) (inbox : List Receiver) (mutators : Vec Mutator Global) (count : ℕ) → MayFollow Nothing script c count → MayFollow Nothing script (record c { inbox = inbox; mutators = mutators }) count
+follow_both : (Nothing : Type 0) (script : Script) (c : Collector) (inbox : List Receiver) (mutators : Vec Mutator Global) (count : ℕ) →
+    MayFollow Nothing script c count → MayFollow Nothing script (record c { inbox = inbox; mutators = mutators }) count
 follow_both Nothing script c inbox mutators count (commands h) = commands h
 follow_both Nothing script c inbox mutators count (one_cycle none h) = one_cycle none h
-follow_both Nothing script c inbox mutators count (no_cycle none same undue h) = no_cycle none same (record { not_asked = undue.not_asked; not_filled = undue.not_filled }) h
+follow_both Nothing script c inbox mutators count (no_cycle none same undue h) =
+    no_cycle none same (record { not_asked = undue.not_asked; not_filled = undue.not_filled }) h
 
-few_stop : (script : Script) (c : Collector) (inbox : List Receiver) (mutators : Vec Mutator Global) → AreFewAtStop script c → AreFewAtStop script (record c { inbox = inbox; mutators = mutators })
+few_stop : (script : Script) (c : Collector) (inbox : List Receiver) (mutators : Vec Mutator Global) → AreFewAtStop script c →
+    AreFewAtStop script (record c { inbox = inbox; mutators = mutators })
 few_stop script c inbox mutators h = record {
   few = record { follow = follow_both (Unit {0}) script c inbox mutators (length c.stops) h.few.follow; phase = h.few.phase };
   begun = h.begun;
   more = h.more;
 }
 
-few_before : (script : Script) (c : Collector) (inbox : List Receiver) (mutators : Vec Mutator Global) (began w : World) → AreFewBeforeStop script c began w → AreFewBeforeStop script (record c { inbox = inbox; mutators = mutators }) began w
+few_before : (script : Script) (c : Collector) (inbox : List Receiver) (mutators : Vec Mutator Global) (began w : World) →
+    AreFewBeforeStop script c began w → AreFewBeforeStop script (record c { inbox = inbox; mutators = mutators }) began w
 few_before script c inbox mutators began w h = record {
   few = record { follow = follow_both (w ≡ began) script c inbox mutators (length c.stops + 1) h.few.follow; phase = h.few.phase };
   begun = h.begun;
@@ -63,7 +68,13 @@ module _ (script : Script) (c : Collector) (inbox : List Receiver) where
     entries = k.entries;
     has_words = k.has_words;
     count = k.count;
-    own = λ n m e. let o = k.own n m e in record { number = o.number; layout = o.layout; whole = o.whole; no_replies = o.no_replies; line = lined_on c.inbox inbox polled n m.sender m.sender refl refl o.line };
+    own = λ n m e. let o = k.own n m e in record {
+      number = o.number;
+      layout = o.layout;
+      whole = o.whole;
+      no_replies = o.no_replies;
+      line = lined_on c.inbox inbox polled n m.sender m.sender refl refl o.line;
+    };
     inbox = polled.count ∙ k.inbox;
     positions_are = k.positions_are;
     positions = k.positions;
@@ -82,19 +93,27 @@ module _ (script : Script) (c : Collector) (inbox : List Receiver) where
     few = few_stop script c inbox c.mutators still.few;
   }
 
-pub inbox_stopped : (script : Script) (old new : Collector) → HasStopped script old → new ≡ record old { inbox = new.inbox } → HavePolled old.inbox new.inbox → HasStopped script new
-inbox_stopped script old new (r, still) rest polled = (r, subst (λ (x : Collector). IsAfterStop script x r) (sym rest) (stop_inbox script old new.inbox r (kept_inbox script old new.inbox polled still.kept) still))
+pub inbox_stopped : (script : Script) (old new : Collector) → HasStopped script old → new ≡ record old { inbox = new.inbox } →
+    HavePolled old.inbox new.inbox → HasStopped script new
+inbox_stopped script old new (r, still) rest polled = (
+  r,
+  subst (λ (x : Collector).
+      IsAfterStop script x r) (sym rest) (stop_inbox script old new.inbox r (kept_inbox script old new.inbox polled still.kept) still),
+)
 
 -- and so is the other way round
-pub inbox_before : (script : Script) (old new : Collector) (r : Run) → IsWellFormed script old → new ≡ record old { inbox = new.inbox } → IsAfterStop script new r → IsAfterStop script old r
-inbox_before script old new r kept rest still = stop_inbox script (record old { inbox = new.inbox }) old.inbox r kept (subst (λ (x : Collector). IsAfterStop script x r) rest still)
+pub inbox_before : (script : Script) (old new : Collector) (r : Run) → IsWellFormed script old → new ≡ record old { inbox = new.inbox } →
+    IsAfterStop script new r → IsAfterStop script old r
+inbox_before script old new r kept rest still = stop_inbox script (record old { inbox = new.inbox }) old.inbox r kept (subst (λ (x : Collector).
+    IsAfterStop script x r) rest still)
 
 -- Both, once the ends of the rings have met
 
 met_seen : (m n : Mutator) → HasMetSender m n → seen_mutator n ≡ seen_mutator m
 met_seen m n h = ap seen_mutator h.rest ∙ ap (λ (l : List Address). record (seen_mutator m) { entries = numbers (l ++ m.updrem.items) }) h.looked.since
 
-module _ (script : Script) (c : Collector) (inbox : List Receiver) (mutators : Vec Mutator Global) (many : ℕ) (met : HaveMet many c.inbox inbox c.mutators.items mutators.items) where
+module _ (script : Script) (c : Collector) (inbox : List Receiver) (mutators : Vec Mutator Global) (many : ℕ)
+    (met : HaveMet many c.inbox inbox c.mutators.items mutators.items) where
   abbrev after : Collector
   after = record c { inbox = inbox; mutators = mutators }
 
@@ -151,9 +170,11 @@ module _ (script : Script) (c : Collector) (inbox : List Receiver) (mutators : V
   }
 
 -- so a round is done still
-pub round_met : (script : Script) (old mid new : Collector) (many : ℕ) → new ≡ record mid { inbox = new.inbox; mutators = new.mutators } → HaveMet many mid.inbox new.inbox mid.mutators.items new.mutators.items → DidRound script old mid → DidRound script old new
+pub round_met : (script : Script) (old mid new : Collector) (many : ℕ) → new ≡ record mid { inbox = new.inbox; mutators = new.mutators } →
+    HaveMet many mid.inbox new.inbox mid.mutators.items new.mutators.items → DidRound script old mid → DidRound script old new
 unfolding worked_met
-round_met script old mid new many rest met did = subst (λ (x : Collector). DidRound script old x) (sym rest) (worked_met script mid new.inbox new.mutators many met did.0, did.1)
+round_met script old mid new many rest met did = subst (λ (x : Collector).
+    DidRound script old x) (sym rest) (worked_met script mid new.inbox new.mutators many met did.0, did.1)
 
 -- each of a collector's mutators has its ring
 pub lines_of : (script : Script) (c : Collector) → length script.threads ≤ MAKERS → IsWellFormed script c → HaveLines c.inbox c.mutators.items

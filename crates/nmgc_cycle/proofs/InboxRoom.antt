@@ -7,7 +7,9 @@ use Rattle.nmgc_updrem.specs.Rings.{Receiver, AtLine}
 use Rattle.nmgc_cycle.proofs.Lining.{line_here, line_other, same_item}
 
 -- one receiver got its room, and those before it have theirs
-pub inbox_more : (room_at : ℕ → ℕ) (n entries : ℕ) (old new : List Receiver) → AtLine (Reserves entries) n old new → room_at n ≤ entries → ((k : ℕ) (r : Receiver) → k < n → slice_get old k ≡ Some r → room_at k ≤ r.taken.spare) → (k : ℕ) (r : Receiver) → k < n + 1 → slice_get new k ≡ Some r → room_at k ≤ r.taken.spare
+pub inbox_more : (room_at : ℕ → ℕ) (n entries : ℕ) (old new : List Receiver) → AtLine (Reserves entries) n old new → room_at n ≤ entries →
+    ((k : ℕ) (r : Receiver) → k < n → slice_get old k ≡ Some r → room_at k ≤ r.taken.spare) → (k : ℕ) (r : Receiver) → k < n + 1 →
+    slice_get new k ≡ Some r → room_at k ≤ r.taken.spare
 inbox_more room_at n entries old new h enough before k r lt at = elim (cases_lt k n) [
   | inl less ↦ before k r less (sym (line_other (Reserves entries) n old new h k (λ (e : k ≡ n). omega (arith, e, less))) ∙ at)
   | inr more ↦

@@ -53,15 +53,18 @@ same_cleared [] = refl
 same_cleared (m ∷ ms) = ap (λ (l : List run.MutatorSeen). seen_mutator m ∷ l) (same_cleared ms)
 
 -- the list that takes the queues at the closing is as it was
-closing_on : (round : Round) (quota : ℕ) (from seat : RoundSeat) (old new : Segments) (names : List Name) (p q : Doing) (count : ℕ) → HasHelped round quota from seat old new names p q → HasClosingRoom p count → HasClosingRoom q count
+closing_on : (round : Round) (quota : ℕ) (from seat : RoundSeat) (old new : Segments) (names : List Name) (p q : Doing) (count : ℕ) →
+    HasHelped round quota from seat old new names p q → HasClosingRoom p count → HasClosingRoom q count
 closing_on round quota from seat old new names doing.Idle q count h room = subst (λ (d : Doing). HasClosingRoom d count) (sym h.2) tt
 closing_on round quota from seat old new names (doing.Marking m) q count h room =
     let same : h.0.queues ≡ m.queues = ap (λ (n : Marking). n.queues) h.2.rest in
-    let kept : HasClosingRoom (doing.Marking h.0) count = subst (λ (queues : Vec FinQueue Global). (queues.items ≡ []) × (count ≤ vec_capacity queues)) (sym same) room in
+    let kept : HasClosingRoom (doing.Marking h.0) count = subst (λ (queues : Vec FinQueue Global). (queues.items ≡ []) ×
+    (count ≤ vec_capacity queues)) (sym same) room in
     subst (λ (d : Doing). HasClosingRoom d count) (sym h.1) kept
 closing_on round quota from seat old new names (doing.Sweeping w) q count h room = subst (λ (d : Doing). HasClosingRoom d count) (sym h.1) tt
 
-module _ (laws : HasLaws) (script : Script) (c new : Collector) (o : Opening) (x : IsOver script c new o) (mutators : Vec Mutator Global) (mutators_are : mutators.items ≡ map cleared new.mutators.items) where
+module _ (laws : HasLaws) (script : Script) (c new : Collector) (o : Opening) (x : IsOver script c new o) (mutators : Vec Mutator Global)
+    (mutators_are : mutators.items ≡ map cleared new.mutators.items) where
   abbrev row : RoundRows
   row = record { replies = told script c new o x }
 
@@ -69,10 +72,14 @@ module _ (laws : HasLaws) (script : Script) (c new : Collector) (o : Opening) (x
   after = record (last script c new o x) { mutators = mutators }
 
   seen_is : shown script c new o x ≡ seen after
-  seen_is = ap (λ (l : List run.MutatorSeen). record (shown script c new o x) { mutators = l }) (sym (ap (λ (l : List Mutator). map seen_mutator l) mutators_are ∙ same_cleared new.mutators.items))
+  seen_is = ap (λ (l : List run.MutatorSeen). record (shown script c new o x) {
+    mutators =
+        l;
+  }) (sym (ap (λ (l : List Mutator). map seen_mutator l) mutators_are ∙ same_cleared new.mutators.items))
 
   same_count : length mutators.items ≡ length c.mutators.items
-  same_count = ap (λ (l : List Mutator). length l) mutators_are ∙ length-map new.mutators.items cleared ∙ mutators_count script c new o x ∙ sym x.still.kept.count
+  same_count = ap (λ (l : List Mutator). length l) mutators_are ∙ length-map new.mutators.items cleared ∙ mutators_count script c new o x ∙
+      sym x.still.kept.count
 
   same_layout : new.segments.layout ≡ c.segments.layout
   same_layout = (gone_on laws script c new o x).heap.holds.layout_is ∙ sym x.still.kept.layout
@@ -97,18 +104,23 @@ module _ (laws : HasLaws) (script : Script) (c new : Collector) (o : Opening) (x
         };
         no_replies = refl;
         line =
-            let d = item x.did.done k (let n = done_count script c new o x in let there = slice_get_within new.mutators.items k was.0 was.1 in let many = mutators_count script c new o x in omega (arith, there, many, n)) in
+            let d = item x.did.done k (let n = done_count script c new o x in let there = slice_get_within new.mutators.items k was.0 was.1 in
+            let many = mutators_count script c new o x in omega (arith, there, many, n)) in
             let h = one script c new o x k d.0 d.1 in
             let is : h.1 ≡ was.0 = same_item new.mutators.items k h.1 was.0 h.3 was.1 in
-            subst (λ (y : Mutator). IsLined new.inbox k y.sender) is (lined_on c.inbox new.inbox x.did.polled k h.0.sender h.1.sender h.4.sends.0 h.4.sends.1 (x.still.kept.own k h.0 h.2).line);
+            subst (λ (y : Mutator).
+            IsLined new.inbox k y.sender) is (lined_on c.inbox new.inbox x.did.polled k h.0.sender h.1.sender h.4.sends.0 h.4.sends.1
+            (x.still.kept.own k h.0 h.2).line);
       })
 
   position_is : (k : ℕ) → k < length script.threads → slice_index new.positions.items k ≡ answered_count (c.rounds ++ row ∷ []) k
   position_is k lt =
       let d = item x.did.done k (let n = done_count script c new o x in omega (arith, lt, n)) in
       let own : slice_index_or x.did.done k [] ≡ d.0 = get_or_from_slice_get x.did.done k d.0 [] d.1 in
-      let replied : slice_index_or (told script c new o x) k [] ≡ replies_in d.0 = ap (λ (l : List (List Reply)). slice_index_or l k []) (told_is script c new o x) ∙ get_or-map replies_in x.did.done k [] ∙ ap replies_in own in
-      let many : length (slice_index_or (told script c new o x) k []) ≡ length d.0 = ap (λ (l : List Reply). length l) replied ∙ length-map d.0 (λ (y : Done). y.1) in
+      let replied : slice_index_or (told script c new o x) k [] ≡ replies_in d.0 =
+      ap (λ (l : List (List Reply)). slice_index_or l k []) (told_is script c new o x) ∙ get_or-map replies_in x.did.done k [] ∙ ap replies_in own in
+      let many : length (slice_index_or (told script c new o x) k []) ≡ length d.0 = ap (λ (l : List Reply). length l) replied ∙
+      length-map d.0 (λ (y : Done). y.1) in
       let before = x.still.kept.positions k lt in
       let now = (one script c new o x k d.0 d.1).4.position in
       let more = answered_more c.rounds row k in
@@ -133,7 +145,9 @@ module _ (laws : HasLaws) (script : Script) (c new : Collector) (o : Opening) (x
   pub did_round : DidRound script c after
   did_round =
       let g : HasGoneOn script c new o x = gone_on laws script c new o x in
-      let is : IsAfterRound (plan_of script) x.run (told script c new o x) (rows script c new o x) (t script c new o x g.blocks) (seen after) = subst (IsAfterRound (plan_of script) x.run (told script c new o x) (rows script c new o x) (t script c new o x g.blocks)) seen_is (is_after laws script c new o x g) in (
+      let is : IsAfterRound (plan_of script) x.run (told script c new o x) (rows script c new o x) (t script c new o x g.blocks) (seen after) =
+      subst (IsAfterRound (plan_of script) x.run (told script c new o x) (rows script c new o x) (t script c new o x g.blocks)) seen_is
+      (is_after laws script c new o x g) in (
         record {
           kept = kept;
           goes_on = x.goes_on;
@@ -142,10 +156,12 @@ module _ (laws : HasLaws) (script : Script) (c new : Collector) (o : Opening) (x
           history = rows script c new o x;
           worked = t script c new o x g.blocks;
           after = is;
-          closing = closing_on x.did.helped.round script.config.quota x.did.helped.from x.did.helped.seat c.segments new.segments c.names c.progress new.progress (length mutators.items) x.did.helped.helped (subst (HasClosingRoom c.progress) (sym same_count) x.still.closing);
+          closing = closing_on x.did.helped.round script.config.quota x.did.helped.from x.did.helped.seat c.segments new.segments c.names c.progress
+              new.progress (length mutators.items) x.did.helped.helped (subst (HasClosingRoom c.progress) (sym same_count) x.still.closing);
           sweeper = sweeps_on (t script c new o x g.blocks).progress (t script c new o x g.blocks) (last script c new o x) mutators g.sweeper;
           named = g.named;
-          few = round_few script c after x.run (told script c new o x) (rows script c new o x) (t script c new o x g.blocks) x.limits x.still is x.did.helped.round x.did.helped.from x.did.helped.seat x.did.helped.helped;
+          few = round_few script c after x.run (told script c new o x) (rows script c new o x) (t script c new o x g.blocks) x.limits x.still is
+              x.did.helped.round x.did.helped.from x.did.helped.seat x.did.helped.helped;
         },
         x.still,
       )

@@ -18,7 +18,8 @@ set_here l k x lt = slice_get-get_or (set l k x) k x (subst (λ (n : ℕ). k < n
 
 pub set_other : {X : Type 0} (l : List X) (k j : ℕ) (x : X) → j ≢ k → slice_get (set l k x) j ≡ slice_get l j
 set_other l k j x ne = elim (cases_lt j (length l)) [
-  | inl lt ↦ slice_get-get_or (set l k x) j x (subst (λ (n : ℕ). j < n) (sym (length-set l k x)) lt) ∙ ap Some (get_or-set_other l k j x x ne) ∙ sym (slice_get-get_or l j x lt)
+  | inl lt ↦ slice_get-get_or (set l k x) j x (subst (λ (n : ℕ). j < n) (sym (length-set l k x)) lt) ∙ ap Some (get_or-set_other l k j x x ne) ∙
+      sym (slice_get-get_or l j x lt)
   | inr past ↦ slice_get_past (set l k x) j (subst (λ (n : ℕ). n ≤ j) (sym (length-set l k x)) past) ∙ sym (slice_get_past l j past)
 ]
 
@@ -41,7 +42,8 @@ module _ (C : Receiver → Receiver → Type 0) (k : ℕ) (old new : List Receiv
   line_count = ap (λ (l : List Receiver). length l) h.rest ∙ length-set old k h.is
 
 -- the receivers were polled, or not, and the sender sent, or not
-pub lined_on : (old new : List Receiver) → HavePolled old new → (k : ℕ) (s t : Sender) → t.ring ≡ s.ring → t.before ≡ s.before → IsLined old k s → IsLined new k t
+pub lined_on : (old new : List Receiver) → HavePolled old new → (k : ℕ) (s t : Sender) → t.ring ≡ s.ring → t.before ≡ s.before → IsLined old k s →
+    IsLined new k t
 lined_on old new polled k s t ring before (r, at, line) =
     let there : k < length new = subst (λ (n : ℕ). k < n) (sym polled.count) (slice_get_within old k r at) in
     let q : Receiver = get_or new k r in

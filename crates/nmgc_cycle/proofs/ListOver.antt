@@ -113,7 +113,8 @@ moved_few words moves =
     omega (arith, all, counted, most)
 
 -- each is one that moved
-one_moved : (words : List ℕ) (moves : List Move) (weak : OldWeak) → Contains (moved_weaks words moves) weak → (m : Move) × Contains moves m × (listed_move m ≡ weak) × (is_alive_at words m.to.0 ≡ true)
+one_moved : (words : List ℕ) (moves : List Move) (weak : OldWeak) → Contains (moved_weaks words moves) weak → (m : Move) × Contains moves m ×
+    (listed_move m ≡ weak) × (is_alive_at words m.to.0 ≡ true)
 one_moved words moves weak c =
     let test : Move → Bool = λ (m : Move). is_alive_at words m.to.0 in
     let r = map_contains listed_move (filter test moves) weak c in
@@ -124,9 +125,11 @@ name_moved : (words : List ℕ) (moves : List Move) (n : Name) → Contains (nam
 name_moved words moves n c =
     let r = map_contains (λ (w : OldWeak). w.weak) (moved_weaks words moves) n c in
     let m = one_moved words moves r.0 r.1 in
-    subst (λ (k : Name). Contains (map (λ (x : Move). x.name) moves) k) (ap (λ (w : OldWeak). w.weak) m.2 ∙ sym r.2) (contains_map (λ (x : Move). x.name) moves m.0 m.1)
+    subst (λ (k : Name). Contains (map (λ (x : Move). x.name) moves) k) (ap (λ (w : OldWeak). w.weak) m.2 ∙
+    sym r.2) (contains_map (λ (x : Move). x.name) moves m.0 m.1)
 
-order_kept : (b : Bool) (m : Move) (kept : List Move) → IsInOrder (names_of (map listed_move kept)) → ((n : Name) → Contains (names_of (map listed_move kept)) n → IsBefore m.name n) → IsInOrder (names_of (map listed_move (cond b (m ∷ kept) kept)))
+order_kept : (b : Bool) (m : Move) (kept : List Move) → IsInOrder (names_of (map listed_move kept)) →
+    ((n : Name) → Contains (names_of (map listed_move kept)) n → IsBefore m.name n) → IsInOrder (names_of (map listed_move (cond b (m ∷ kept) kept)))
 order_kept true m kept h first = in_order_cons m.name (names_of (map listed_move kept)) h first
 order_kept false m kept h first = h
 
@@ -137,7 +140,8 @@ moved_ordered words (m ∷ moves) h =
     (moved_ordered words moves (in_order_rest m.name (map (λ (x : Move). x.name) moves) h))
     (λ n c. in_order_first m.name (map (λ (x : Move). x.name) moves) h n (name_moved words moves n c))
 
-pub moved_new : (words : List ℕ) (list : List OldWeak) (moves : List Move) → CanJoin words list moves → (one other : OldWeak) → Contains (moved_weaks words moves) one → Contains list other → other.weak ≢ one.weak
+pub moved_new : (words : List ℕ) (list : List OldWeak) (moves : List Move) → CanJoin words list moves → (one other : OldWeak) →
+    Contains (moved_weaks words moves) one → Contains list other → other.weak ≢ one.weak
 moved_new words list moves can one other c d =
     let m = one_moved words moves one c in
     λ e. can.new m.0 other m.1 d (e ∙ sym (ap (λ (w : OldWeak). w.weak) m.2))
@@ -146,18 +150,26 @@ module _ (old a : Collector) (l : FinalisedLeft old a) where
   -- those that leave change nothing of the heap
   pub stopped_then : (t : Stopped) → StandsStopped t old → StandsStopped t a
   stopped_then t h =
-      let words : IsStopped t old.segments (words_in a.words) (nurseries_of old.mutators.items) (registers_of old.mutators.items) (queues_of old.mutators.items) (recorded_of old.mutators.items) (young_weaks_of old.mutators.items) = subst (λ (w : List ℕ). IsStopped t old.segments w (nurseries_of old.mutators.items) (registers_of old.mutators.items) (queues_of old.mutators.items) (recorded_of old.mutators.items) (young_weaks_of old.mutators.items)) (sym l.words.0) h in
-      subst (λ (x : Collector). IsStopped t x.segments (words_in a.words) (nurseries_of x.mutators.items) (registers_of x.mutators.items) (queues_of x.mutators.items) (recorded_of x.mutators.items) (young_weaks_of x.mutators.items)) (sym l.rest) words
+      let words : IsStopped t old.segments (words_in a.words) (nurseries_of old.mutators.items) (registers_of old.mutators.items)
+      (queues_of old.mutators.items) (recorded_of old.mutators.items) (young_weaks_of old.mutators.items) =
+      subst (λ (w : List ℕ).
+      IsStopped t old.segments w (nurseries_of old.mutators.items) (registers_of old.mutators.items) (queues_of old.mutators.items)
+      (recorded_of old.mutators.items) (young_weaks_of old.mutators.items)) (sym l.words.0) h in
+      subst (λ (x : Collector).
+      IsStopped t x.segments (words_in a.words) (nurseries_of x.mutators.items) (registers_of x.mutators.items) (queues_of x.mutators.items)
+      (recorded_of x.mutators.items) (young_weaks_of x.mutators.items)) (sym l.rest) words
 
   pub segments_same : a.segments ≡ old.segments
   segments_same = ap (λ (x : Collector). x.segments) l.rest
 
-module _ (left : LeavingLists) (joining : JoiningLists) (fresh : JoinersAreNew) (old a b new : Collector) (l : FinalisedLeft old a) (p : HasPromoted a b) (same : b.weaks ≡ a.weaks) where
+module _ (left : LeavingLists) (joining : JoiningLists) (fresh : JoinersAreNew) (old a b new : Collector) (l : FinalisedLeft old a)
+    (p : HasPromoted a b) (same : b.weaks ≡ a.weaks) where
   module _ (t : Stopped) (h : StandsStopped t old) (can : CanList t old) where
     -- the list once some have left
     left_listed : ListsWeaks a.segments.layout t.places t.world (places_of a.weaks.list)
     left_listed =
-        let then = left old.segments.layout t.later t.places t.began t.world (words_in old.words) old.weaks.list can.began h.world h.represents can.listed can.old in
+        let then = left old.segments.layout t.later t.places t.began t.world (words_in old.words) old.weaks.list can.began h.world h.represents
+        can.listed can.old in
         let kept = subst (λ (list : List OldWeak). ListsWeaks old.segments.layout t.places t.world (places_of list)) (sym l.list) then in
         subst (λ (y : Layout). ListsWeaks y t.places t.world (places_of a.weaks.list)) (ap (λ (s : Collector). s.segments.layout) (sym l.rest)) kept
 
@@ -199,7 +211,11 @@ module _ (left : LeavingLists) (joining : JoiningLists) (fresh : JoinersAreNew) 
       ordered = subst IsInOrder (names_moved b.promotion.moves) settled_there.promoted.ordered;
       new = λ m other c d.
           let d_then : Contains a.weaks.list other = subst (λ (list : List OldWeak). Contains list other) (ap (λ (w : Weaks). w.list) same) d in
-          fresh t a.segments b.segments (words_in a.words) (words_in b.words) (nurseries_of a.mutators.items) (registers_of a.mutators.items) p.registers (queues_of a.mutators.items) (map (λ (q : FinQueue). q.words) p.queues) (recorded_of a.mutators.items) (young_weaks_of a.mutators.items) (moves_of b) (places_of a.weaks.list) (stopped_then old a l t h) settled_there left_listed (moved_of m) (place_of other) (moved_there m c) (contains_map place_of a.weaks.list other d_then);
+          fresh t a.segments b.segments (words_in a.words) (words_in b.words) (nurseries_of a.mutators.items) (registers_of a.mutators.items)
+          p.registers (queues_of a.mutators.items) (map (λ (q : FinQueue).
+          q.words) p.queues) (recorded_of a.mutators.items) (young_weaks_of a.mutators.items) (moves_of b) (places_of a.weaks.list)
+          (stopped_then old a l t h) settled_there left_listed (moved_of m) (place_of other) (moved_there m c)
+          (contains_map place_of a.weaks.list other d_then);
       few = few;
     }
 
@@ -208,7 +224,8 @@ module _ (left : LeavingLists) (joining : JoiningLists) (fresh : JoinersAreNew) 
     old_list weak c = subst (λ (w : Weaks). Contains w.list weak) same c
 
     -- one that joined is one that moved, and is alive by its words
-    joiner : (weak : OldWeak) → Contains (moved_weaks (words_in b.words) b.promotion.moves) weak → (m : Move) × Contains b.promotion.moves m × (listed_move m ≡ weak) × IsAliveAt (words_in b.words) m.to.0
+    joiner : (weak : OldWeak) → Contains (moved_weaks (words_in b.words) b.promotion.moves) weak → (m : Move) × Contains b.promotion.moves m ×
+        (listed_move m ≡ weak) × IsAliveAt (words_in b.words) m.to.0
     joiner weak c =
         let m = one_moved (words_in b.words) b.promotion.moves weak c in
         (m.0, m.1, m.2, tested (words_in b.words) m.0.to.0 m.3)
@@ -233,8 +250,12 @@ module _ (left : LeavingLists) (joining : JoiningLists) (fresh : JoinersAreNew) 
       new_join = λ m c alive.
           let x = map_contains moved_of b.promotion.moves m c in
           let at : IsAliveAt (words_in b.words) x.0.to.0 = subst (λ (y : Moved). IsAliveAt (words_in b.words) y.to) x.2 alive in
-          let found = contains_map listed_move (filter (λ (z : Move). is_alive_at (words_in b.words) z.to.0) b.promotion.moves) x.0 (filter_keeps (λ (z : Move). is_alive_at (words_in b.words) z.to.0) b.promotion.moves x.0 x.1 (tests (words_in b.words) x.0.to.0 at)) in
-          subst (λ (y : Moved). Contains (places_of new.weaks.list) (new_place y)) (sym x.2) (contains_map place_of new.weaks.list (listed_move x.0) ((j.joins.list (listed_move x.0)).1 (inr found)));
+          let found = contains_map listed_move (filter (λ (z : Move).
+          is_alive_at (words_in b.words) z.to.0) b.promotion.moves) x.0 (filter_keeps (λ (z : Move).
+          is_alive_at (words_in b.words) z.to.0) b.promotion.moves x.0 x.1 (tests (words_in b.words) x.0.to.0 at)) in
+          subst (λ (y : Moved).
+          Contains (places_of new.weaks.list) (new_place y)) (sym x.2)
+          (contains_map place_of new.weaks.list (listed_move x.0) ((j.joins.list (listed_move x.0)).1 (inr found)));
     }
 
     -- all of the collector as after the joining
@@ -248,35 +269,71 @@ module _ (left : LeavingLists) (joining : JoiningLists) (fresh : JoinersAreNew) 
     listed = record {
       from = λ weak c. elim (came_from weak c) [
         | inl was ↦ inl (filter_had (is_alive (words_in old.words)) old.weaks.list weak (subst (λ (list : List OldWeak). Contains list weak) l.list was)).0
-        | inr more ↦ let m = joiner weak more in inr (moved_of m.0, subst (λ (list : List Moved). Contains list (moved_of m.0)) (sym same_moves) (contains_map moved_of b.promotion.moves m.0 m.1), ap (λ (w : OldWeak). w.weak) (sym m.2))
+        | inr more ↦ let m = joiner weak more in inr (
+          moved_of m.0,
+          subst (λ (list : List Moved). Contains list (moved_of m.0)) (sym same_moves) (contains_map moved_of b.promotion.moves m.0 m.1),
+          ap (λ (w : OldWeak). w.weak) (sym m.2),
+        )
       ];
       lists = λ t h can.
-          let then = joining t a.segments b.segments (words_in a.words) (words_in b.words) (nurseries_of a.mutators.items) (registers_of a.mutators.items) p.registers (queues_of a.mutators.items) (map (λ (q : FinQueue). q.words) p.queues) (recorded_of a.mutators.items) (young_weaks_of a.mutators.items) (moves_of b) (places_of a.weaks.list) (places_of new.weaks.list) (stopped_then old a l t h) (settled_there t h can) p.layout p.copied (left_listed t h can) joined_list in
-          subst (λ (x : Collector). ListsWeaks x.segments.layout (settled (young_base x.segments) (moves_of x) t.places) t.world (places_of new.weaks.list)) (sym new_is) then;
+          let then = joining t a.segments b.segments (words_in a.words) (words_in b.words) (nurseries_of a.mutators.items)
+          (registers_of a.mutators.items) p.registers (queues_of a.mutators.items) (map (λ (q : FinQueue).
+          q.words) p.queues) (recorded_of a.mutators.items) (young_weaks_of a.mutators.items) (moves_of b) (places_of a.weaks.list)
+          (places_of new.weaks.list) (stopped_then old a l t h) (settled_there t h can) p.layout p.copied (left_listed t h can) joined_list in
+          subst (λ (x : Collector).
+          ListsWeaks x.segments.layout (settled (young_base x.segments) (moves_of x) t.places) t.world (places_of new.weaks.list)) (sym new_is) then;
       deaths = j.deaths ∙ ap (λ (w : Weaks). w.deaths) same ∙ l.deaths;
     }
 
     -- and the promotion is that of the whole step
     pub promoted : HasPromoted old new
     promoted = record {
-      rest = new_is ∙ ap (λ (x : Collector). record x { words = new.words; weaks = new.weaks }) p.rest ∙ ap (λ (x : Collector). record x { words = new.words; segments = b.segments; promotion = b.promotion; names = b.names; mutators = b.mutators; weaks = new.weaks }) l.rest
-          ∙ sym (ap (λ (x : Collector). record old { words = new.words; segments = x.segments; promotion = x.promotion; names = x.names; mutators = x.mutators; weaks = new.weaks }) new_is);
+      rest = new_is ∙ ap (λ (x : Collector). record x { words = new.words; weaks = new.weaks }) p.rest ∙
+          ap (λ (x : Collector). record x {
+            words = new.words;
+            segments = b.segments;
+            promotion = b.promotion;
+            names = b.names;
+            mutators = b.mutators;
+            weaks = new.weaks;
+          }) l.rest
+          ∙ sym (ap (λ (x : Collector). record old {
+            words = new.words;
+            segments = x.segments;
+            promotion = x.promotion;
+            names = x.names;
+            mutators = x.mutators;
+            weaks = new.weaks;
+          }) new_is);
       has_words = j.words.1;
       noted = subst (λ (y : Collector × Collector). HaveNoted (moves_of y.1) y.0.names y.1.names) (λ i. (l.rest i, sym new_is i)) p.noted;
       registers = p.registers;
       queues = p.queues;
-      given = subst (λ (x : Collector). AreGivenBack p.registers p.queues old.mutators.items x.mutators.items) (sym new_is) (subst (λ (x : Collector). AreGivenBack p.registers p.queues x.mutators.items b.mutators.items) l.rest p.given);
-      settled = λ t h. subst (λ (y : Collector × List ℕ). IsSettled t y.0.segments y.1 p.registers (map (λ (q : FinQueue). q.words) p.queues) (moves_of y.0)) (λ i. (sym new_is i, sym j.words.0 i)) (p.settled t (stopped_then old a l t h));
+      given = subst (λ (x : Collector).
+          AreGivenBack p.registers p.queues old.mutators.items x.mutators.items) (sym new_is) (subst (λ (x : Collector).
+          AreGivenBack p.registers p.queues x.mutators.items b.mutators.items) l.rest p.given);
+      settled = λ t h. subst (λ (y : Collector × List ℕ). IsSettled t y.0.segments y.1 p.registers (map (λ (q : FinQueue).
+          q.words) p.queues) (moves_of y.0)) (λ i. (sym new_is i, sym j.words.0 i)) (p.settled t (stopped_then old a l t h));
       places = λ t h x shown.
-          let shown_then : StandsFor a.segments (words_in a.words) x = subst (λ (y : Segments × List ℕ). StandsFor y.0 y.1 x) (λ i. (sym (segments_same old a l) i, sym l.words.0 i)) shown in
-          let r = p.places t (stopped_then old a l t h) x shown_then in
-          (r.0, subst (λ (y : Collector × Collector). PlacesEach y.0.segments.layout t.world x (map (λ (m : Moved). m.name) (moves_of y.1)) r.0) (λ i. (l.rest i, sym new_is i)) r.1, subst (λ (y : Collector × List ℕ). StandsFor y.0.segments y.1 r.0) (λ i. (sym new_is i, sym j.words.0 i)) r.2);
+          let shown_then : StandsFor a.segments (words_in a.words) x =
+          subst (λ (y : Segments × List ℕ). StandsFor y.0 y.1 x) (λ i. (sym (segments_same old a l) i, sym l.words.0 i)) shown in
+          let r = p.places t (stopped_then old a l t h) x shown_then in (
+            r.0,
+            subst (λ (y : Collector × Collector). PlacesEach y.0.segments.layout t.world x (map (λ (m : Moved).
+                m.name) (moves_of y.1)) r.0) (λ i. (l.rest i, sym new_is i)) r.1,
+            subst (λ (y : Collector × List ℕ). StandsFor y.0.segments y.1 r.0) (λ i. (sym new_is i, sym j.words.0 i)) r.2,
+          );
       sound = subst (λ (x : Collector). IsSegments x.segments) (sym new_is) p.sound;
       marks = subst (λ (y : Collector × Collector). KeepsMarks y.0.segments y.1.segments) (λ i. (l.rest i, sym new_is i)) p.marks;
       layout = ap (λ (x : Collector). x.segments.layout) new_is ∙ p.layout ∙ ap (λ (x : Collector). x.segments.layout) l.rest;
       lists = subst (λ (y : Collector × Collector). IsFor y.0.segments.layout y.1.promotion) (λ i. (l.rest i, sym new_is i)) p.lists;
       spares = p.spares ∙ ap (λ (x : Collector). map (λ (m : Mutator). m.queue.spare) x.mutators.items) l.rest;
-      copied = subst (λ (y : Collector × Collector × List ℕ × List ℕ). HaveMoved (young_base y.0.segments) (moves_of y.1) y.2 y.3) (λ i. (l.rest i, sym new_is i, l.words.0 i, sym j.words.0 i)) p.copied;
+      copied = subst (λ (y : Collector × Collector × List ℕ × List ℕ). HaveMoved (young_base y.0.segments) (moves_of y.1) y.2 y.3) (λ i. (
+        l.rest i,
+        sym new_is i,
+        l.words.0 i,
+        sym j.words.0 i,
+      )) p.copied;
     }
 
 -- those of the list lie within the heap's words
@@ -284,7 +341,11 @@ pub lists_inside : (t : Stopped) (c : Collector) → StandsStopped t c → CanLi
 lists_inside t c h can weak d =
     let l = can.listed.sound (place_of weak) (contains_map place_of c.weaks.list weak d) in
     let now = can.old.weak weak.weak l.1.0 l.1.1 in
-    let tracked : IsTracked t.world (earlier_of t) weak.weak = IsReached.start weak.weak (t.began, contains_tail t.world (earlier_of t) t.began (contains_head t.began t.later), IsReached.start weak.weak (inr (weak.weak, l.1.0, l.1.1, inl refl))) in
+    let tracked : IsTracked t.world (earlier_of t) weak.weak = IsReached.start weak.weak (
+      t.began,
+      contains_tail t.world (earlier_of t) t.began (contains_head t.began t.later),
+      IsReached.start weak.weak (inr (weak.weak, l.1.0, l.1.1, inl refl)),
+    ) in
     let placed = h.represents.tracked weak.weak (Weak now.0) tracked now.1 in
     let same = h.represents.one (record { at = placed.at; name = weak.weak }) (place_of weak) placed.there l.0 (inl refl) in
     let e : placed.at ≡ weak.at.0 = ap (λ (q : Place). q.at) same in

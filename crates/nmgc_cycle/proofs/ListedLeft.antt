@@ -21,7 +21,18 @@ not_shared w weak is alive e =
     let few = is.few in
     omega (arith, maker, within, few)
 
-pub listed_left : (layout : Layout) (earlier : List World) (began w : World) (allocation swept : AllocState) (places weaks : List Place) → IsWorld began → Contains (w ∷ earlier) began → FreesUntracked earlier began w allocation swept → ListsWeaks layout places began weaks → (p : Place) → Contains weaks p → HasBlock swept p.name
+pub listed_left : (layout : Layout) (earlier : List World) (began w : World) (allocation swept : AllocState) (places weaks : List Place) →
+    IsWorld began → Contains (w ∷ earlier) began → FreesUntracked earlier began w allocation swept → ListsWeaks layout places began weaks →
+    (p : Place) → Contains weaks p → HasBlock swept p.name
 listed_left layout earlier began w allocation swept places weaks is known frees lists p there =
     let alive : IsAliveWeak began p.name = (lists.sound p there).1 in
-    frees.tracked p.name (start p.name (began, known, start p.name (inr (p.name, alive.0, alive.1, inl refl)))) (not_shared began p.name is alive) (subst IsSome (sym alive.1) refl)
+    frees.tracked p.name (start p.name (
+      began,
+      known,
+      start p.name (inr (
+        p.name,
+        alive.0,
+        alive.1,
+        inl refl,
+      )),
+    )) (not_shared began p.name is alive) (subst IsSome (sym alive.1) refl)

@@ -4,7 +4,8 @@ use Rattle.std.specs.Prelude.{slice_get}
 use Rattle.nmgc_reach.specs.laws.NodeLaws.{get-append_cases}
 
 -- what holds of each item by its place, and of one more, holds of all of them
-pub each_pushed : {A : Type 0} (P : ℕ → A → Type 0) (xs : List A) (x : A) → ((k : ℕ) (a : A) → slice_get xs k ≡ Some a → P k a) → P (length xs) x → (k : ℕ) (a : A) → slice_get (xs ++ x ∷ []) k ≡ Some a → P k a
+pub each_pushed : {A : Type 0} (P : ℕ → A → Type 0) (xs : List A) (x : A) → ((k : ℕ) (a : A) → slice_get xs k ≡ Some a → P k a) → P (length xs) x →
+    (k : ℕ) (a : A) → slice_get (xs ++ x ∷ []) k ≡ Some a → P k a
 each_pushed {A} P xs x old new k a e = elim (get-append_cases xs x k) [
   | inl last ↦
       let some : Some x ≡ Some a = sym last.1 ∙ e in

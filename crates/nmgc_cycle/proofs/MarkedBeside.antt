@@ -53,11 +53,14 @@ module _ (laws : HasLaws) (script : Script) (c new : Collector) (o : Opening) (x
   pub phase_with : (p : Progress) → (s script c new o x).progress ≡ p → phase_in c.progress ≡ phase_of p
   phase_with p e = x.still.at_stop.matches.phase ∙ ap phase_of e
 
-  pub helped_as : (q : held.Progress) → c.progress ≡ q → HasHelped x.did.helped.round script.config.quota x.did.helped.from x.did.helped.seat c.segments new.segments c.names q new.progress
-  helped_as q e = subst (λ (r : held.Progress). HasHelped x.did.helped.round script.config.quota x.did.helped.from x.did.helped.seat c.segments new.segments c.names r new.progress) e x.did.helped.helped
+  pub helped_as : (q : held.Progress) → c.progress ≡ q →
+      HasHelped x.did.helped.round script.config.quota x.did.helped.from x.did.helped.seat c.segments new.segments c.names q new.progress
+  helped_as q e = subst (λ (r : held.Progress).
+      HasHelped x.did.helped.round script.config.quota x.did.helped.from x.did.helped.seat c.segments new.segments c.names r new.progress) e x.did.helped.helped
 
   -- as many segments are free where they stand for the same blocks
-  same_free : StandsFor new.segments (seen c).words (s script c new o x).allocation → reserve.free_count c.segments.segments ≤ reserve.free_count new.segments.segments
+  same_free : StandsFor new.segments (seen c).words (s script c new o x).allocation →
+      reserve.free_count c.segments.segments ≤ reserve.free_count new.segments.segments
   same_free after =
       let before = counts_stand c.segments (seen c).words (s script c new o x).allocation stands.Free x.still.at_stop.heap.holds.stands in
       let now = counts_stand new.segments (seen c).words (s script c new o x).allocation stands.Free after in
@@ -77,13 +80,19 @@ module _ (laws : HasLaws) (script : Script) (c new : Collector) (o : Opening) (x
       swept = subst (λ (p : Progress). SweepsBeside script.config.quota p (s script c new o x).allocation (s script c new o x).allocation) (sym e) refl;
       phase = ap phase_in (nothing.2 ∙ sym is_idle);
       at = places script c new o x;
-      heap = laws.holds (layout script c new o x) (s script c new o x) (t script c new o x (s script c new o x).allocation) o (seen c).words x.did.words (view script c new o x) c.segments new.segments (ends_of (seen c)) (ends_of (shown script c new o x)) (seen c).weaks (round_from script c new o x laws.stopped new.segments same_layout stands_still);
+      heap = laws.holds (layout script c new o x) (s script c new o x) (t script c new o x (s script c new o x).allocation) o (seen c).words
+          x.did.words (view script c new o x) c.segments new.segments (ends_of (seen c)) (ends_of (shown script c new o x)) (seen c).weaks
+          (round_from script c new o x laws.stopped new.segments same_layout stands_still);
       nurseries = nurseries_left script c new o x laws.stopped;
       ordered = in_order script c new o x laws.stopped;
       remembers = remembered script c new o x laws.stopped;
       free = same_free stands_still;
-      cycle = subst (λ (p : Progress). HoldsInCycle (λ (k : Cycle). IsPacedAfterRound script.config.quota k (t script c new o x (s script c new o x).allocation) (shown script c new o x)) (noted p (rows script c new o x)) (t script c new o x (s script c new o x).allocation) (shown script c new o x) (places script c new o x)) (sym e) settled;
-      sweeper = subst (λ (p : Progress). Sweeps (noted p (rows script c new o x)) (t script c new o x (s script c new o x).allocation) (last script c new o x)) (sym e) tt;
+      cycle = subst (λ (p : Progress). HoldsInCycle (λ (k : Cycle).
+          IsPacedAfterRound script.config.quota k (t script c new o x (s script c new o x).allocation) (shown script c new o x))
+          (noted p (rows script c new o x)) (t script c new o x (s script c new o x).allocation) (shown script c new o x) (places script c new o x))
+          (sym e) settled;
+      sweeper = subst (λ (p : Progress).
+          Sweeps (noted p (rows script c new o x)) (t script c new o x (s script c new o x).allocation) (last script c new o x)) (sym e) tt;
       named = x.still.named;
     }
       where
@@ -94,7 +103,10 @@ module _ (laws : HasLaws) (script : Script) (c new : Collector) (o : Opening) (x
         stands_still = subst (λ (g : Segments). StandsFor g (seen c).words (s script c new o x).allocation) (sym nothing.1) x.still.at_stop.heap.holds.stands
 
         settled : AreSettled (s script c new o x).begun new.segments
-        settled = subst (AreSettled (s script c new o x).begun) (sym nothing.1) (subst (λ (p : Progress). HoldsInCycle (λ (k : Cycle). IsPacedAtStop script.config.quota k (s script c new o x) (seen c)) p (s script c new o x) (seen c) x.still.at_stop.heap.places) e x.still.at_stop.cycle)
+        settled = subst (AreSettled (s script c new o x).begun) (sym nothing.1) (subst (λ (p : Progress).
+            HoldsInCycle (λ (k : Cycle).
+            IsPacedAtStop script.config.quota k (s script c new o x) (seen c)) p (s script c new o x) (seen c) x.still.at_stop.heap.places) e
+            x.still.at_stop.cycle)
 
   -- a cycle marks
   module _ (k : Cycle) (e : (s script c new o x).progress ≡ marking k) where
@@ -104,7 +116,8 @@ module _ (laws : HasLaws) (script : Script) (c new : Collector) (o : Opening) (x
     abbrev m : held_marking.Marking
     m = before.0
 
-    did : (n : held_marking.Marking) × (new.progress ≡ doing.Marking n) × HasScanned x.did.helped.round script.config.quota x.did.helped.from x.did.helped.seat c.segments new.segments m n
+    did : (n : held_marking.Marking) × (new.progress ≡ doing.Marking n) ×
+        HasScanned x.did.helped.round script.config.quota x.did.helped.from x.did.helped.seat c.segments new.segments m n
     did = helped_as (doing.Marking m) before.1
 
     abbrev n : held_marking.Marking
@@ -126,7 +139,8 @@ module _ (laws : HasLaws) (script : Script) (c new : Collector) (o : Opening) (x
     same_cycle : (shown script c new o x).cycle ≡ (seen c).cycle
     same_cycle =
         let dead : List Name = died c.weaks.deaths in
-        ap (λ (q : held.Progress). cycle_in q dead) did.1 ∙ ap (λ (y : held_marking.Marking). cycle_in (doing.Marking y) dead) did.2.rest ∙ sym (ap (λ (q : held.Progress). cycle_in q dead) before.1)
+        ap (λ (q : held.Progress). cycle_in q dead) did.1 ∙ ap (λ (y : held_marking.Marking). cycle_in (doing.Marking y) dead) did.2.rest ∙
+        sym (ap (λ (q : held.Progress). cycle_in q dead) before.1)
 
     marked : HasMarked c.segments new.segments (seen c).marker (shown script c new o x).marker n.last.scanned
     marked =
@@ -158,20 +172,25 @@ module _ (laws : HasLaws) (script : Script) (c new : Collector) (o : Opening) (x
     at_rest : IsMachineAtRest k o.core.world o.core
     at_rest =
         subst (λ (core : Core). IsMachineAtRest k core.world core) (sym same_core)
-        (subst (λ (world : World). IsMachineAtRest k world opens.0.core) (sym opens.0.machine.world_is) (rests_beside laws.opens script c x.run x.limits x.still k e opens.0).machine)
+        (subst (λ (world : World).
+        IsMachineAtRest k world opens.0.core) (sym opens.0.machine.world_is) (rests_beside laws.opens script c x.run x.limits x.still k e opens.0).machine)
 
     goes_on : (core : Core) × GoesOn k o x.did.words (view script c new o x) x.did.leaves.0 new.mutators.items core
-    goes_on = laws.goes_on k o x.before x.did.words (view script c new o x) new.mutators.items x.did.done (ap (λ (y : Opening). y.marking) opens.1) (can script c new o x) at_rest x.did.leaves.0 (worked script c new o x) x.did.owed
+    goes_on = laws.goes_on k o x.before x.did.words (view script c new o x) new.mutators.items x.did.done (ap (λ (y : Opening).
+        y.marking) opens.1) (can script c new o x) at_rest x.did.leaves.0 (worked script c new o x) x.did.owed
 
     snapshot : o.core.snapshot ≡ k.snapshot
-    snapshot = ap (λ (core : Core). core.snapshot) same_core ∙ laws.opens.snapshot k (s script c new o x).world opens.0.core (in_cycle laws.opens script c x.run x.limits x.still (marking k) e).0 opens.0.machine
+    snapshot = ap (λ (core : Core). core.snapshot) same_core ∙
+        laws.opens.snapshot k (s script c new o x).world opens.0.core (in_cycle laws.opens script c x.run x.limits x.still (marking k) e).0 opens.0.machine
 
     swept_none : SweepsBeside script.config.quota (s script c new o x).progress (s script c new o x).allocation (s script c new o x).allocation
     swept_none = subst (λ (p : Progress). SweepsBeside script.config.quota p (s script c new o x).allocation (s script c new o x).allocation) (sym e) refl
 
     sound : IsSound (interval_of (with_rows k (rows script c new o x)))
     sound =
-        let h = rounds_are_sound (plan script c new o x) (s script c new o x) (t script c new o x (s script c new o x).allocation) (told script c new o x) (rows script c new o x) (sound_state script c x.run x.limits x.still) (is_round script c new o x laws.history (s script c new o x).allocation swept_none) in
+        let h = rounds_are_sound (plan script c new o x) (s script c new o x) (t script c new o x (s script c new o x).allocation)
+        (told script c new o x) (rows script c new o x) (sound_state script c x.run x.limits x.still)
+        (is_round script c new o x laws.history (s script c new o x).allocation swept_none) in
         (subst (λ (p : Progress). IsInCycle (noted p (rows script c new o x)) (w script c new o x) (s script c new o x).allocation) e h.cycle).0
 
     left_as : HasLeft k (seen c) (shown script c new o x)
@@ -188,15 +207,23 @@ module _ (laws : HasLaws) (script : Script) (c new : Collector) (o : Opening) (x
     entries : ShowEntries (shown script c new o x) new.mutators.items
     entries i mutator is = let h = map_item seen_mutator new.mutators.items i mutator is in (h.0, h.1, ap (λ (y : MutatorSeen). y.entries) h.2)
 
-    marks_on : IsMarking (with_rows k (rows script c new o x)) (t script c new o x (s script c new o x).allocation) (shown script c new o x) (places script c new o x)
-    marks_on = laws.is_marking (layout script c new o x) k (s script c new o x) (t script c new o x (s script c new o x).allocation) (seen c) (shown script c new o x) (seen c).words x.did.words (ends_of (seen c)) (seen c).weaks o x.did.scans x.did.seats new.mutators.items x.did.done goes_on.0 n.last.scanned x.still.at_stop.heap x.did.leaves.0 x.did.sound sound opens.0 (opening_layout script c new o x) x.op.places_are snapshot refl refl x.did.gathers goes_on.1 marked tied left_as entries
+    marks_on : IsMarking (with_rows k (rows script c new o x)) (t script c new o x (s script c new o x).allocation) (shown script c new o x)
+        (places script c new o x)
+    marks_on = laws.is_marking (layout script c new o x) k (s script c new o x) (t script c new o x (s script c new o x).allocation) (seen c)
+        (shown script c new o x) (seen c).words x.did.words (ends_of (seen c)) (seen c).weaks o x.did.scans x.did.seats new.mutators.items
+        x.did.done goes_on.0 n.last.scanned x.still.at_stop.heap x.did.leaves.0 x.did.sound sound opens.0 (opening_layout script c new o x)
+        x.op.places_are snapshot refl refl x.did.gathers goes_on.1 marked tied left_as entries
 
     -- the pace
     paced_before : IsPacedAtStop script.config.quota k (s script c new o x) (seen c)
-    paced_before = (subst (λ (p : Progress). HoldsInCycle (λ (j : Cycle). IsPacedAtStop script.config.quota j (s script c new o x) (seen c)) p (s script c new o x) (seen c) x.still.at_stop.heap.places) e x.still.at_stop.cycle).1
+    paced_before = (subst (λ (p : Progress). HoldsInCycle (λ (j : Cycle).
+        IsPacedAtStop script.config.quota j (s script c new o x) (seen c)) p (s script c new o x) (seen c) x.still.at_stop.heap.places) e
+        x.still.at_stop.cycle).1
 
     course : IsLastBegun k (s script c new o x).number (s script c new o x).begun
-    course = (subst (λ (p : Progress). IsInCourse p (s script c new o x).number (s script c new o x).begun (s script c new o x).allocation) e (runs_are (plan script c new o x) x.run x.still.at_stop.is_run)).0
+    course = (subst (λ (p : Progress).
+        IsInCourse p (s script c new o x).number (s script c new o x).begun (s script c new o x).allocation) e
+        (runs_are (plan script c new o x) x.run x.still.at_stop.is_run)).0
 
     scanned_is : (shown script c new o x).work.scanned ≡ n.last.scanned
     scanned_is = ap (λ (y : WorkSeen). y.scanned) work_now
@@ -221,9 +248,15 @@ module _ (laws : HasLaws) (script : Script) (c new : Collector) (o : Opening) (x
         let some = x.limits.fits.config.some_quota in
         let most = did.2.most in
         let pace = marked.scanned.pace in
-        laws.pace script.config.quota k (s script c new o x) (t script c new o x (s script c new o x).allocation) (seen c) (shown script c new o x) some paced_before course.from_before refl (omega (arith, pace, scanned_is)) marked.scanned.grows (omega (arith, scanned_is, most)) all_or_none empty_where
+        laws.pace script.config.quota k (s script c new o x) (t script c new o x (s script c new o x).allocation) (seen c) (shown script c new o x)
+        some paced_before course.from_before refl (omega (arith, pace, scanned_is)) marked.scanned.grows (omega (
+          arith,
+          scanned_is,
+          most,
+        )) all_or_none empty_where
 
-    paced_on : IsPacedAfterRound script.config.quota (with_rows k (rows script c new o x)) (t script c new o x (s script c new o x).allocation) (shown script c new o x)
+    paced_on : IsPacedAfterRound script.config.quota (with_rows k (rows script c new o x)) (t script c new o x (s script c new o x).allocation)
+        (shown script c new o x)
     paced_on = record { scanned = paced.scanned; most = paced.most; some = paced.some; quota_or_done = paced.quota_or_done; empty = paced.empty }
 
     -- the sweeper is as it was, and the same segments wait
@@ -239,7 +272,9 @@ module _ (laws : HasLaws) (script : Script) (c new : Collector) (o : Opening) (x
         }
 
     left_on : AreLeft new.segments (sweeper_in c.progress)
-    left_on = laws.left c.segments new.segments (sweeper_in c.progress) (laws.waits c.segments new.segments (seen c).words (seen c).words (s script c new o x).allocation x.still.at_stop.heap.holds.stands stands_still) marked.layout sweeps_before.0.left
+    left_on = laws.left c.segments new.segments (sweeper_in c.progress)
+        (laws.waits c.segments new.segments (seen c).words (seen c).words (s script c new o x).allocation x.still.at_stop.heap.holds.stands
+        stands_still) marked.layout sweeps_before.0.left
 
     sweeps_on : Sweeps (marking (with_rows k (rows script c new o x))) (t script c new o x (s script c new o x).allocation) (last script c new o x)
     sweeps_on = (
@@ -258,12 +293,18 @@ module _ (laws : HasLaws) (script : Script) (c new : Collector) (o : Opening) (x
       swept = swept_none;
       phase = ap phase_in did.1 ∙ sym (ap phase_in before.1);
       at = places script c new o x;
-      heap = laws.holds (layout script c new o x) (s script c new o x) (t script c new o x (s script c new o x).allocation) o (seen c).words x.did.words (view script c new o x) c.segments new.segments (ends_of (seen c)) (ends_of (shown script c new o x)) (seen c).weaks (round_from script c new o x laws.stopped new.segments same_layout stands_still);
+      heap = laws.holds (layout script c new o x) (s script c new o x) (t script c new o x (s script c new o x).allocation) o (seen c).words
+          x.did.words (view script c new o x) c.segments new.segments (ends_of (seen c)) (ends_of (shown script c new o x)) (seen c).weaks
+          (round_from script c new o x laws.stopped new.segments same_layout stands_still);
       nurseries = nurseries_left script c new o x laws.stopped;
       ordered = in_order script c new o x laws.stopped;
       remembers = remembered script c new o x laws.stopped;
       free = same_free stands_still;
-      cycle = subst (λ (p : Progress). HoldsInCycle (λ (j : Cycle). IsPacedAfterRound script.config.quota j (t script c new o x (s script c new o x).allocation) (shown script c new o x)) (noted p (rows script c new o x)) (t script c new o x (s script c new o x).allocation) (shown script c new o x) (places script c new o x)) (sym e) (marks_on, paced_on);
-      sweeper = subst (λ (p : Progress). Sweeps (noted p (rows script c new o x)) (t script c new o x (s script c new o x).allocation) (last script c new o x)) (sym e) sweeps_on;
+      cycle = subst (λ (p : Progress). HoldsInCycle (λ (j : Cycle).
+          IsPacedAfterRound script.config.quota j (t script c new o x (s script c new o x).allocation) (shown script c new o x))
+          (noted p (rows script c new o x)) (t script c new o x (s script c new o x).allocation) (shown script c new o x) (places script c new o x))
+          (sym e) (marks_on, paced_on);
+      sweeper = subst (λ (p : Progress).
+          Sweeps (noted p (rows script c new o x)) (t script c new o x (s script c new o x).allocation) (last script c new o x)) (sym e) sweeps_on;
       named = x.still.named;
     }

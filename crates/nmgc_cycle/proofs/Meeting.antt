@@ -33,7 +33,8 @@ met_then m n p x y = record {
   looked = record { ring = y.looked.ring ∙ x.looked.ring; before = y.looked.before ∙ x.looked.before; since = y.looked.since ∙ x.looked.since };
 }
 
-module _ (first inbox after : List Receiver) (was now : List Mutator) (k : ℕ) (m n : Mutator) (h : HaveMet k first inbox was now) (at : slice_get now k ≡ Some m) (met : HasMetSender m n) (line : AtLine (HasMetSo m.sender n.sender) k inbox after) where
+module _ (first inbox after : List Receiver) (was now : List Mutator) (k : ℕ) (m n : Mutator) (h : HaveMet k first inbox was now)
+    (at : slice_get now k ≡ Some m) (met : HasMetSender m n) (line : AtLine (HasMetSo m.sender n.sender) k inbox after) where
   abbrev then : List Mutator
   then = set now k n
 
@@ -53,19 +54,23 @@ module _ (first inbox after : List Receiver) (was now : List Mutator) (k : ℕ) 
   lines : (j : ℕ) (b : Mutator) → slice_get then j ≡ Some b → IsLined after j b.sender
   lines j b f = elim (cases_eq j k) [
     | inl same ↦
-        let own : IsLined after k n.sender = lined_on inbox after (all_met m.sender n.sender k inbox after line) k m.sender n.sender met.looked.ring met.looked.before (h.lines k m at) in
+        let own : IsLined after k n.sender =
+        lined_on inbox after (all_met m.sender n.sender k inbox after line) k m.sender n.sender met.looked.ring met.looked.before (h.lines k m at) in
         let is : n ≡ b = same_item then k n b there (ap (λ (i : ℕ). slice_get then i) (sym same) ∙ f) in
         subst (λ (x : Mutator). IsLined after j x.sender) is (subst (λ (i : ℕ). IsLined after i n.sender) (sym same) own)
-    | inr ne ↦ lined_on inbox after (all_met m.sender n.sender k inbox after line) j b.sender b.sender refl refl (h.lines j b (sym (set_other now k j n ne) ∙ f))
+    | inr ne ↦ lined_on inbox after (all_met m.sender n.sender k inbox after line) j b.sender b.sender refl refl
+        (h.lines j b (sym (set_other now k j n ne) ∙ f))
   ]
 
   in_order : (j : ℕ) (r : Receiver) (b : Mutator) → j < k + 1 → slice_get after j ≡ Some r → slice_get then j ≡ Some b → IsInOrder r b.sender
   in_order j r b lt e f = elim (cases_eq j k) [
     | inl same ↦
         let is : n ≡ b = same_item then k n b there (ap (λ (i : ℕ). slice_get then i) (sym same) ∙ f) in
-        let own : line.is ≡ r = same_item after k line.is r (line_here (HasMetSo m.sender n.sender) k inbox after line) (ap (λ (i : ℕ). slice_get after i) (sym same) ∙ e) in
+        let own : line.is ≡ r = same_item after k line.is r (line_here (HasMetSo m.sender n.sender) k inbox after line) (ap (λ (i : ℕ).
+        slice_get after i) (sym same) ∙ e) in
         subst (λ (x : Mutator). IsInOrder r x.sender) is (subst (λ (x : Receiver). IsInOrder x n.sender) own line.changes.in_order)
-    | inr ne ↦ h.in_order j r b (omega (arith, lt, ne)) (sym (line_other (HasMetSo m.sender n.sender) k inbox after line j ne) ∙ e) (sym (set_other now k j n ne) ∙ f)
+    | inr ne ↦ h.in_order j r b (omega (arith, lt, ne)) (sym (line_other (HasMetSo m.sender n.sender) k inbox after line j ne) ∙
+        e) (sym (set_other now k j n ne) ∙ f)
   ]
 
   pub met_more : HaveMet (k + 1) first after was then

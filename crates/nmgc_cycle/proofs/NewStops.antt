@@ -44,7 +44,8 @@ module _ (plan : Plan) (seen : Seen)
   at_stop = stopped_in w (start plan) h.places seen
 
   low : (p : Place) → Contains h.places p → base ≤ p.at → ⊥
-  low p c high = let l = places_low (layout_of plan) (start plan) seen.words seen.segments (ends_of seen) seen.weaks segments h p c in absurd (omega (arith, l, high))
+  low p c high = let l = places_low (layout_of plan) (start plan) seen.words seen.segments (ends_of seen) seen.weaks segments h p c in
+      absurd (omega (arith, l, high))
 
   round : IsRoundOf base at_stop
   round = record {
@@ -80,18 +81,23 @@ module _ (plan : Plan) (seen : Seen)
     all_weaks = λ p parts c high alive. absurd (low p c high);
   }
 
-  pub new_stopped : IsStopped at_stop seen.segments seen.words (nurseries_of seen) (registers_of (ends_of seen)) (queues_of (ends_of seen)) (recorded_in seen) (young_weaks_in seen)
+  pub new_stopped : IsStopped at_stop seen.segments seen.words (nurseries_of seen) (registers_of (ends_of seen)) (queues_of (ends_of seen))
+      (recorded_in seen) (young_weaks_in seen)
   new_stopped =
       let layout : layout_of plan ≡ seen.segments.layout = sym h.holds.layout_is in
       record {
         world = is;
         round = subst (λ (l : Layout). IsRoundOf (nursery_place l 0) at_stop) layout round;
-        represents = subst (λ (l : Layout). Represents l (w ∷ []) NoNode h.places w seen.words) layout (remembered (layout_of plan) [] (w ∷ []) NoNode NoNode h.places w seen.words (record { worlds = λ e c. c; nodes = λ name node k. inl k }) h.holds.represents);
+        represents = subst (λ (l : Layout). Represents l (w ∷ []) NoNode h.places w seen.words) layout (remembered (layout_of plan) [] (w ∷
+            []) NoNode NoNode h.places w seen.words (record { worlds = λ e c. c; nodes = λ name node k. inl k }) h.holds.represents);
         roots = h.holds.roots;
         segments = segments;
-        blocks = subst (λ (l : Layout). AreBlocks seen.segments (nursery_place l 0) h.places w) layout (blocks_at_stop (layout_of plan) (start plan) seen.words seen.segments (ends_of seen) seen.weaks h);
+        blocks = subst (λ (l : Layout).
+            AreBlocks seen.segments (nursery_place l 0) h.places w) layout
+            (blocks_at_stop (layout_of plan) (start plan) seen.words seen.segments (ends_of seen) seen.weaks h);
         used = subst (λ (l : Layout). AreUsed l (nursery_place l 0) h.places w (nurseries_of seen)) layout rest.nurseries.used;
-        order = subst (λ (l : Layout). (a b : Place) → Contains h.places a → Contains h.places b → nursery_place l 0 ≤ a.at → a.at < b.at → IsBefore a.name b.name) layout (λ a b c d high. absurd (low a c high));
+        order = subst (λ (l : Layout). (a b : Place) → Contains h.places a → Contains h.places b → nursery_place l 0 ≤ a.at → a.at < b.at →
+            IsBefore a.name b.name) layout (λ a b c d high. absurd (low a c high));
         left = subst (λ (l : Layout). Remembers (nursery_place l 0) (w ∷ []) h.places w (recorded_in seen) (young_weaks_in seen)) layout left;
         reserve = inr rest.empty;
       }

@@ -36,7 +36,8 @@ one_end layout k m new =
     ∙ ap (λ (q : List ℕ). record { registers = replicate REGISTERS NIL_WORD; queue = q; serial = m.serial }) new.queue
     ∙ ap (λ (s : ℕ). record { registers = replicate REGISTERS NIL_WORD; queue = []; serial = s }) new.serial
 
-same_ends : (mutators : List Mutator) → ((k : ℕ) (m : Mutator) → slice_get mutators k ≡ Some m → end_of (seen_mutator m) ≡ new_end) → map end_of (map seen_mutator mutators) ≡ replicate (length mutators) new_end
+same_ends : (mutators : List Mutator) → ((k : ℕ) (m : Mutator) → slice_get mutators k ≡ Some m → end_of (seen_mutator m) ≡ new_end) →
+    map end_of (map seen_mutator mutators) ≡ replicate (length mutators) new_end
 same_ends [] same = refl
 same_ends (m ∷ mutators) same =
     let first = same zero m refl in
@@ -44,7 +45,8 @@ same_ends (m ∷ mutators) same =
     cc
 
 -- all of them have the same in hand
-pub ends_are : (layout : Layout) (mutators : List Mutator) → AreNew layout mutators → map end_of (map seen_mutator mutators) ≡ replicate (length mutators) new_end
+pub ends_are : (layout : Layout) (mutators : List Mutator) → AreNew layout mutators →
+    map end_of (map seen_mutator mutators) ≡ replicate (length mutators) new_end
 ends_are layout mutators new = same_ends mutators (λ k m e. one_end layout k m (new k m e))
 
 pub have_registers : (count : ℕ) → All HasAllRegisters (replicate count new_end)
@@ -53,7 +55,8 @@ have_registers count = All-replicate HasAllRegisters count new_end refl
 -- their registers, one after another, are nil
 all_nil : (count : ℕ) → All (λ (w : ℕ). w ≡ NIL_WORD) (registers_of (replicate count new_end))
 all_nil zero = All-nil (λ (w : ℕ). w ≡ NIL_WORD)
-all_nil (suc count) = All-append (λ (w : ℕ). w ≡ NIL_WORD) new_end.registers (registers_of (replicate count new_end)) (All-replicate (λ (w : ℕ). w ≡ NIL_WORD) REGISTERS NIL_WORD refl) (all_nil count)
+all_nil (suc count) = All-append (λ (w : ℕ). w ≡ NIL_WORD) new_end.registers (registers_of (replicate count new_end)) (All-replicate (λ (w : ℕ). w ≡
+    NIL_WORD) REGISTERS NIL_WORD refl) (all_nil count)
 
 so_many : (count : ℕ) → length (registers_of (replicate count new_end)) ≡ REGISTERS * count
 so_many zero = refl
@@ -77,7 +80,9 @@ nil_register i v e =
     (lt, same ∙ get_or-replicate REGISTERS i Nil Nil lt)
 
 -- the words of new mutators stand for the roots of a new world
-pub new_roots : (places : List Place) (count : ℕ) → RepresentsRoots places (new_world count) (registers_of (replicate count new_end)) (queues_of (replicate count new_end)) (serials_of (replicate count new_end))
+pub new_roots : (places : List Place) (count : ℕ) →
+    RepresentsRoots places (new_world count) (registers_of (replicate count new_end)) (queues_of (replicate count new_end))
+    (serials_of (replicate count new_end))
 new_roots places count =
     let many = length-replicate count new_mutator in
     let ends = length-replicate count new_end in
@@ -87,11 +92,17 @@ new_roots places count =
       count = so_many count ∙ ap (λ (n : ℕ). REGISTERS * n) (sym many);
       mutators = (queues ∙ ends ∙ sym many, serials ∙ ends ∙ sym many);
       held = λ m lt i v e.
-          let known = each_new (λ (s : MutatorState). (j : ℕ) (u : Value) → slice_get s.registers j ≡ Some u → (j < REGISTERS) × (u ≡ Nil)) nil_register (λ j u none. absurd cc) count m i v e in
+          let known = each_new (λ (s : MutatorState). (j : ℕ) (u : Value) → slice_get s.registers j ≡ Some u → (j < REGISTERS) ×
+          (u ≡ Nil)) nil_register (λ j u none. absurd cc) count m i v e in
           let long = so_many count in
           let at = known.0 in
           let within : REGISTERS * m + i < length (registers_of (replicate count new_end)) = omega arith in
-          subst (λ (u : Value). Means (Contains places) (slice_index (registers_of (replicate count new_end)) (REGISTERS * m + i)) u) (sym known.1) (All-get_or (λ (w : ℕ). w ≡ NIL_WORD) (registers_of (replicate count new_end)) (REGISTERS * m + i) 0 within (all_nil count));
-      queued = λ m own e. subst (λ (ws : List ℕ). ListMeans (Contains places) ws (state_of (new_world count) m).queue) (same_item (λ (n : MutatorEnd). n.queue) new_end count m own e) (each_new (λ (s : MutatorState). ListMeans (Contains places) [] s.queue) tt tt count m);
-      next = λ m serial e. sym (same_item (λ (n : MutatorEnd). n.serial) new_end count m serial e) ∙ each_new (λ (s : MutatorState). 0 ≡ length s.nodes) refl refl count m;
+          subst (λ (u : Value).
+          Means (Contains places) (slice_index (registers_of (replicate count new_end)) (REGISTERS * m + i)) u) (sym known.1)
+          (All-get_or (λ (w : ℕ). w ≡ NIL_WORD) (registers_of (replicate count new_end)) (REGISTERS * m + i) 0 within (all_nil count));
+      queued = λ m own e. subst (λ (ws : List ℕ).
+          ListMeans (Contains places) ws (state_of (new_world count) m).queue) (same_item (λ (n : MutatorEnd).
+          n.queue) new_end count m own e) (each_new (λ (s : MutatorState). ListMeans (Contains places) [] s.queue) tt tt count m);
+      next = λ m serial e. sym (same_item (λ (n : MutatorEnd). n.serial) new_end count m serial e) ∙
+          each_new (λ (s : MutatorState). 0 ≡ length s.nodes) refl refl count m;
     }

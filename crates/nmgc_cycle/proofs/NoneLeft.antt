@@ -89,7 +89,8 @@ or_false : (b : Bool) → (b || false) ≡ b
 or_false true = refl
 or_false false = refl
 
-pub nothing_done : (config : Config) (s t : State) (replies : List (List Reply)) (rows : List Row) → IsRound config s replies rows t → ((m : ℕ) → length (program_of s.left m) ≡ 0) → DoesNothing s t
+pub nothing_done : (config : Config) (s t : State) (replies : List (List Reply)) (rows : List Row) → IsRound config s replies rows t →
+    ((m : ℕ) → length (program_of s.left m) ≡ 0) → DoesNothing s t
 nothing_done config s t replies rows round none =
     let no : rows ≡ [] = no_rows (own_rows (slices config s.left) replies) rows round.history.order (own_none s.left none config replies) in
     record {

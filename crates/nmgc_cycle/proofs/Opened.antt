@@ -34,7 +34,8 @@ pub record CanOpenRounds : Type 0 where
   pub rests : HeapRests
   pub snapshot : CoreHasSnapshot
 
--- what all these openings have: layout, places, mutators and world are those of the stop, and the collector speaks of the snapshot while a cycle marks; and the round may begin
+-- what all these openings have: layout, places, mutators and world are those of the stop, and the collector speaks of
+-- the snapshot while a cycle marks; and the round may begin
 pub record IsOpened (script : Script) (c : Collector) (run : Run) (still : IsAfterStop script c run) (o : Opening) : Type 0 where
   pub layout_is : o.layout ≡ c.segments.layout
   pub marks : o.marking ≡ is_marking_in c.progress
@@ -46,7 +47,8 @@ pub record IsOpened (script : Script) (c : Collector) (run : Run) (still : IsAft
   pub past : AreEarlier (earlier o) o.core.world
 
 -- after a stop there is an opening
-some_opening : (Paced : Cycle → Type 0) (p : Progress) (s : State) (c : Collector) (places : List Place) → HoldsInCycle Paced p s (seen c) places → (o : Opening) × OpensIn p s c places o
+some_opening : (Paced : Cycle → Type 0) (p : Progress) (s : State) (c : Collector) (places : List Place) → HoldsInCycle Paced p s (seen c) places →
+    (o : Opening) × OpensIn p s c places o
 some_opening Paced idle s c places h = (turn.opening_at c.segments.layout s.world places c.mutators.items, refl)
 some_opening Paced (marking k) s c places h = (beside.opening_beside c.segments.layout h.0.core places c.mutators.items, (h.0, refl))
 some_opening Paced (sweeping k closed) s c places h = (turn.opening_at c.segments.layout s.world places c.mutators.items, refl)
@@ -65,7 +67,8 @@ module _ (laws : CanOpenRounds) (script : Script) (c : Collector) (run : Run) (l
   shown_are = record { are = refl; each = λ k m e. let own = still.kept.own k m e in (own.number, own.layout, own.whole) }
 
   -- where none marks
-  quiet : (p : Progress) → (last_state run).progress ≡ p → is_marking_phase (phase_of p) ≡ false → snapshots p ≡ [] → IsOpened script c run still (turn.opening_at c.segments.layout (last_state run).world still.at_stop.heap.places c.mutators.items)
+  quiet : (p : Progress) → (last_state run).progress ≡ p → is_marking_phase (phase_of p) ≡ false → snapshots p ≡ [] →
+      IsOpened script c run still (turn.opening_at c.segments.layout (last_state run).world still.at_stop.heap.places c.mutators.items)
   quiet p e none nothing =
       let none_spoken : snapshots (last_state run).progress ≡ [] = ap snapshots e ∙ nothing in
       record {
@@ -75,21 +78,26 @@ module _ (laws : CanOpenRounds) (script : Script) (c : Collector) (run : Run) (l
         places_are = refl;
         hands_are = refl;
         spoken = sym none_spoken;
-        can = λ words is. laws.quiet c.segments still.at_stop.heap.places (last_state run).world words c.mutators.items (still_rests script c run limits still none_spoken words is);
+        can = λ words is. laws.quiet c.segments still.at_stop.heap.places (last_state run).world words c.mutators.items
+            (still_rests script c run limits still none_spoken words is);
         past = λ x h. absurd (nothing_in x h);
       }
 
   -- and where one does
-  pub rests_beside : (k : Cycle) → (last_state run).progress ≡ marking k → (h : IsMarking k (last_state run) (seen c) still.at_stop.heap.places) → beside.IsAtRest k h.core c.segments still.at_stop.heap.places (last_state run).world (seen c).words c.mutators.items (seen c).marker.queue
-  rests_beside k e h = (laws.rests (plan_of script) (last_state run) (seen c) k c.mutators.items (sound_state script c run limits still) still.at_stop.heap still.at_stop.at_rest e h still.kept.sound shown_are).0
+  pub rests_beside : (k : Cycle) → (last_state run).progress ≡ marking k → (h : IsMarking k (last_state run) (seen c) still.at_stop.heap.places) →
+      beside.IsAtRest k h.core c.segments still.at_stop.heap.places (last_state run).world (seen c).words c.mutators.items (seen c).marker.queue
+  rests_beside k e h = (laws.rests (plan_of script) (last_state run) (seen c) k c.mutators.items (sound_state script c run limits still)
+      still.at_stop.heap still.at_stop.at_rest e h still.kept.sound shown_are).0
 
   pub in_cycle : (p : Progress) → (last_state run).progress ≡ p → IsInCycle p (last_state run).world (last_state run).allocation
   in_cycle p e = subst (λ (q : Progress). IsInCycle q (last_state run).world (last_state run).allocation) e (sound_state script c run limits still).cycle
 
-  beside_cycle : (k : Cycle) → (last_state run).progress ≡ marking k → (h : IsMarking k (last_state run) (seen c) still.at_stop.heap.places) → IsOpened script c run still (beside.opening_beside c.segments.layout h.core still.at_stop.heap.places c.mutators.items)
+  beside_cycle : (k : Cycle) → (last_state run).progress ≡ marking k → (h : IsMarking k (last_state run) (seen c) still.at_stop.heap.places) →
+      IsOpened script c run still (beside.opening_beside c.segments.layout h.core still.at_stop.heap.places c.mutators.items)
   beside_cycle k e h =
       let same = laws.snapshot k (last_state run).world h.core (in_cycle (marking k) e).0 h.machine in
-      let opens = laws.marks k h.core c.segments still.at_stop.heap.places (last_state run).world (seen c).words c.mutators.items (seen c).marker.queue (rests_beside k e h) in
+      let opens = laws.marks k h.core c.segments still.at_stop.heap.places (last_state run).world (seen c).words c.mutators.items
+      (seen c).marker.queue (rests_beside k e h) in
       record {
         layout_is = refl;
         marks = marks_with (marking k) e;
@@ -101,7 +109,8 @@ module _ (laws : CanOpenRounds) (script : Script) (c : Collector) (run : Run) (l
         past = opens.1;
       }
 
-  pub opened_in : (p : Progress) (o : Opening) → (last_state run).progress ≡ p → OpensIn p (last_state run) c still.at_stop.heap.places o → IsOpened script c run still o
+  pub opened_in : (p : Progress) (o : Opening) → (last_state run).progress ≡ p → OpensIn p (last_state run) c still.at_stop.heap.places o →
+      IsOpened script c run still o
   opened_in idle o e h = subst (IsOpened script c run still) (sym h) (quiet idle e refl refl)
   opened_in (marking k) o e h = subst (IsOpened script c run still) (sym h.1) (beside_cycle k e h.0)
   opened_in (sweeping k closed) o e h = subst (IsOpened script c run still) (sym h) (quiet (sweeping k closed) e refl refl)

@@ -118,7 +118,8 @@ module _ (script : Script) (c new : Collector) (o : Opening) (x : IsOver script 
   mutators_count = worked.mutators_are ∙ ap (λ (l : Layout). l.mutators) (x.op.layout_is ∙ x.still.kept.layout)
 
   -- what one mutator did
-  pub one : (k : ℕ) (d : List Done) → slice_get x.did.done k ≡ Some d → (m : Mutator) × (n : Mutator) × (slice_get c.mutators.items k ≡ Some m) × (slice_get new.mutators.items k ≡ Some n) × DidSlice script c new k m n d
+  pub one : (k : ℕ) (d : List Done) → slice_get x.did.done k ≡ Some d → (m : Mutator) × (n : Mutator) × (slice_get c.mutators.items k ≡ Some m) ×
+      (slice_get new.mutators.items k ≡ Some n) × DidSlice script c new k m n d
   one k d e =
       let within = slice_get_within x.did.done k d e in
       let m = item c.mutators.items k (let count = x.still.kept.count in omega (arith, within, done_count, count)) in
@@ -126,7 +127,8 @@ module _ (script : Script) (c new : Collector) (o : Opening) (x : IsOver script 
       (m.0, n.0, m.1, n.1, x.did.each k m.0 n.0 d m.1 n.1 e)
 
   -- no finaliser queue has less room than at the stop
-  pub queue_kept : (k : ℕ) (mutator : run.MutatorSeen) → slice_get shown.mutators k ≡ Some mutator → (m : Mutator) × (slice_get (seen c).mutators k ≡ Some (seen_mutator m)) × (m.queue.spare ≤ mutator.queue.spare)
+  pub queue_kept : (k : ℕ) (mutator : run.MutatorSeen) → slice_get shown.mutators k ≡ Some mutator → (m : Mutator) ×
+      (slice_get (seen c).mutators k ≡ Some (seen_mutator m)) × (m.queue.spare ≤ mutator.queue.spare)
   queue_kept k mutator e =
       let n = map_item seen_mutator new.mutators.items k mutator e in
       let d = item x.did.done k (let within = slice_get_within new.mutators.items k n.0 n.1 in omega (arith, within, done_count, mutators_count)) in
@@ -139,9 +141,11 @@ module _ (script : Script) (c new : Collector) (o : Opening) (x : IsOver script 
       (h.0, seen_at c.mutators.items k h.0 h.2, omega (arith, now, room))
 
   -- all its replies are of this round
-  pub replied : (k : ℕ) (n : Mutator) (d : List Done) → slice_get new.mutators.items k ≡ Some n → slice_get x.did.done k ≡ Some d → n.replies.items ≡ map (λ (y : Done). y.1) d
+  pub replied : (k : ℕ) (n : Mutator) (d : List Done) → slice_get new.mutators.items k ≡ Some n → slice_get x.did.done k ≡ Some d →
+      n.replies.items ≡ map (λ (y : Done). y.1) d
   replied k n d e f =
       let h = one k d f in
       let there = h.3 in
       let same : h.1 ≡ n = cc (there, e) in
-      ap (λ (m : Mutator). m.replies.items) (sym same) ∙ h.4.replies ∙ ap (λ (l : List Reply). l ++ map (λ (y : Done). y.1) d) (x.still.kept.own k h.0 h.2).no_replies
+      ap (λ (m : Mutator). m.replies.items) (sym same) ∙ h.4.replies ∙
+      ap (λ (l : List Reply). l ++ map (λ (y : Done). y.1) d) (x.still.kept.own k h.0 h.2).no_replies

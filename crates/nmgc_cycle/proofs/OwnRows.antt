@@ -20,7 +20,8 @@ pub own_again : (m : ℕ) (rows : List Row) → answered m (commands_of (done_in
 own_again m [] = refl
 own_again m (row ∷ rows) = elim (cases_eq row.mutator m) [
   | inl same ↦ rw (eq-eqb row.mutator m same) (
-      ap (λ (k : ℕ). record { mutator = k; command = row.command; reply = row.reply } ∷ answered m (commands_of (done_in (rows_of m rows))) (replies_in (done_in (rows_of m rows)))) (sym same)
+      ap (λ (k : ℕ). record { mutator = k; command = row.command; reply = row.reply } ∷
+      answered m (commands_of (done_in (rows_of m rows))) (replies_in (done_in (rows_of m rows)))) (sym same)
       ∙ ap (λ (rest : List Row). row ∷ rest) (own_again m rows))
   | inr other ↦ rw (ne_eqb row.mutator m other) (own_again m rows)
 ]

@@ -14,7 +14,10 @@ use Rattle.nmgc_run.specs.State.{State, Cycle}
 use Rattle.nmgc_cycle.specs.Steps.{IsPacedWithin}
 
 -- what the round left is in pace, and what was added since only waits behind it
-pub paced_within : ClosingIsSoon → ClosingIsPaced → PaceAtStop → (quota : ℕ) (c : Cycle) (t : State) (old new : Seen) (allocation : AllocState) (places : List Place) (core : Core) → IsSound (interval_of c) → IsCoreOf c t.world core → IsTied c allocation old.segments places old.marker core → c.from + 1 ≤ t.number → IsPacedAfterRound quota c t old → Scans old.marker new.marker 0 → old.marker.marked ≤ new.marker.marked → new.work ≡ old.work → IsPacedWithin quota c t new
+pub paced_within : ClosingIsSoon → ClosingIsPaced → PaceAtStop →
+    (quota : ℕ) (c : Cycle) (t : State) (old new : Seen) (allocation : AllocState) (places : List Place) (core : Core) → IsSound (interval_of c) →
+    IsCoreOf c t.world core → IsTied c allocation old.segments places old.marker core → c.from + 1 ≤ t.number → IsPacedAfterRound quota c t old →
+    Scans old.marker new.marker 0 → old.marker.marked ≤ new.marker.marked → new.work ≡ old.work → IsPacedWithin quota c t new
 paced_within soon paced at_stop quota c t old new allocation places core sound is_core tied after pace scans grows same = record {
   goes_on = λ left. at_stop quota c t old new pace (omega (arith, after)) (sym (ap (λ (w : WorkSeen). w.empty) same) ∙ left) scans grows;
   closes = λ none kept le counts. (

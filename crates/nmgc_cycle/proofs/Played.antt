@@ -42,7 +42,8 @@ pub record AreSeated (script : Script) (c : Collector) (o : Opening) (round : Ro
   pub begun : HasBegun script c o round seats
   pub seated : workers ≡ workers_of c.mutators.items seats
 
-pub are_seated : (script : Script) (c : Collector) (o : Opening) (round : Round) (seats : List RoundSeat) → HasBegun script c o round seats → (own : Vec Mutator Global) → own ≡ c.mutators → (workers : List Worker) → workers ≡ workers_of own.items seats → AreSeated script c o round workers
+pub are_seated : (script : Script) (c : Collector) (o : Opening) (round : Round) (seats : List RoundSeat) → HasBegun script c o round seats →
+    (own : Vec Mutator Global) → own ≡ c.mutators → (workers : List Worker) → workers ≡ workers_of own.items seats → AreSeated script c o round workers
 are_seated script c o round seats b own own_is workers seated = record {
   seats = seats;
   begun = b;
@@ -50,7 +51,8 @@ are_seated script c o round seats b own own_is workers seated = record {
 }
 
 -- once all have worked, their list has what the slices left
-pub left_in : (workers : Vec Worker Global) (was new : List Worker) → was ≡ workers.items → length new ≡ length was → take workers.len (new ++ drop (length new) workers.items) ≡ new
+pub left_in : (workers : Vec Worker Global) (was new : List Worker) → was ≡ workers.items → length new ≡ length was →
+    take workers.len (new ++ drop (length new) workers.items) ≡ new
 left_in workers was new was_is count = overwritten workers.len workers.items new (count ∙ ap (λ (l : List Worker). length l) was_is) workers.ok.0
 
 module _ (script : Script) (c : Collector) (o : Opening) (round : Round) (was : List Worker) (u : AreSeated script c o round was) where
@@ -59,10 +61,12 @@ module _ (script : Script) (c : Collector) (o : Opening) (round : Round) (was : 
   counted = ap (λ (l : List Worker). length l) u.seated ∙ workers_are script c o round u.seats u.begun
 
   pub can_play : BeginReady → HaveSliceRoom script c → CanAllWork round script c.positions.items was
-  can_play begin room = subst (λ (l : List Worker). CanAllWork round script c.positions.items l) (sym u.seated) (may_work begin script c o round u.seats u.begun room)
+  can_play begin room =
+      subst (λ (l : List Worker). CanAllWork round script c.positions.items l) (sym u.seated) (may_work begin script c o round u.seats u.begun room)
 
   pub played : SlicesAreGathered → (new : List Worker) → HaveAllWorked round script c.positions.items was new → HasRun script c o round new
-  played gather new worked = has_run gather script c o round u.seats new u.begun (subst (λ (l : List Worker). HaveAllWorked round script c.positions.items l new) u.seated worked)
+  played gather new worked = has_run gather script c o round u.seats new u.begun (subst (λ (l : List Worker).
+      HaveAllWorked round script c.positions.items l new) u.seated worked)
 
 -- what the collector's seat knows once it did its part: its scans
 pub record HasScanned (o : Opening) (round : Round) (seat : RoundSeat) : Type 0 where
@@ -70,8 +74,13 @@ pub record HasScanned (o : Opening) (round : Round) (seat : RoundSeat) : Type 0 
   pub scans : List Scan
   pub knows : seen seat ≡ record (collecting (whole o)) { scans = scans }
 
-pub scanned : (o : Opening) (round : Round) (quota : ℕ) (from seat : RoundSeat) (old new : Segments) (names : List Name) (q after : held.Progress) → IsAt round from → seen from ≡ collecting (whole o) → HasHelped round quota from seat old new names q after → HasScanned o round seat
-scanned o round quota from seat old new names doing.Idle after at knows h = record { at = subst (IsAt round) (sym h.0) at; scans = []; knows = ap seen h.0 ∙ knows }
+pub scanned : (o : Opening) (round : Round) (quota : ℕ) (from seat : RoundSeat) (old new : Segments) (names : List Name) (q after : held.Progress) →
+    IsAt round from → seen from ≡ collecting (whole o) → HasHelped round quota from seat old new names q after → HasScanned o round seat
+scanned o round quota from seat old new names doing.Idle after at knows h = record {
+  at = subst (IsAt round) (sym h.0) at;
+  scans = [];
+  knows = ap seen h.0 ∙ knows;
+}
 scanned o round quota from seat old new names (doing.Marking m) after at knows h =
     let worked = h.2.worked in
     record {
@@ -79,10 +88,15 @@ scanned o round quota from seat old new names (doing.Marking m) after at knows h
       scans = (seen from).scans ++ worked.later.scans;
       knows = worked.later.knows ∙ ap (λ (v : Seen). record v { scans = (seen from).scans ++ worked.later.scans }) knows;
     }
-scanned o round quota from seat old new names (doing.Sweeping w) after at knows h = record { at = subst (IsAt round) (sym h.2) at; scans = []; knows = ap seen h.2 ∙ knows }
+scanned o round quota from seat old new names (doing.Sweeping w) after at knows h = record {
+  at = subst (IsAt round) (sym h.2) at;
+  scans = [];
+  knows = ap seen h.2 ∙ knows;
+}
 
 -- what a round leaves, once the words are back
-module _ (script : Script) (c : Collector) (o : Opening) (may : MayBegin script c o) (round : Round) (new : List Worker) (ran : HasRun script c o round new) (seat : RoundSeat) (has : HasScanned o round seat) where
+module _ (script : Script) (c : Collector) (o : Opening) (may : MayBegin script c o) (round : Round) (new : List Worker)
+    (ran : HasRun script c o round new) (seat : RoundSeat) (has : HasScanned o round seat) where
   nothing : owed.RememberNothing c.mutators.items
   nothing k m e = (may.still.at_stop.at_rest.nothing k (seen_mutator m) (seen_at c.mutators.items k m e)).entries
 
@@ -91,13 +105,31 @@ module _ (script : Script) (c : Collector) (o : Opening) (may : MayBegin script 
 
   -- the seats have every part of the round between them
   pub has_all : owed.SlicesAreGathered → (seats : List RoundSeat) → seats ≡ map seat_of new → HasAll (all_together (seen seat) (map seen seats))
-  has_all law seats same = subst (λ (v : Seen). HasAll (all_together v (map seen seats))) (sym has.knows) (subst (λ (l : List RoundSeat). HasAll (owed.gathered o has.scans l)) (sym same) (gathers law).all)
+  has_all law seats same = subst (λ (v : Seen). HasAll (all_together v (map seen seats))) (sym has.knows) (subst (λ (l : List RoundSeat).
+      HasAll (owed.gathered o has.scans l)) (sym same) (gathers law).all)
 
   pub seats_at : (seats : List RoundSeat) → seats ≡ map seat_of new → All (IsAt round) seats
   seats_at seats same = subst (λ (l : List RoundSeat). All (IsAt round) l) (sym same) ran.at
 
-  module _ (own : owed.SlicesAreGathered) (owes : owed.SlicesAreOwed) (from : RoundSeat) (began : seen from ≡ collecting (whole o)) (opened : opening_of round ≡ o) (segments : Segments) (sound : IsSegments segments) (progress : held.Progress) (helped : HasHelped round script.config.quota from seat c.segments segments c.names c.progress progress) where
-    pub did_slices : (seats : List RoundSeat) → seats ≡ map seat_of new → (words : List ℕ) → Leaves (opening_of round) words (all_together (seen seat) (map seen seats)) → (collect asked : Bool) → collect ≡ (c.collect || list_any asks_of new) → asked ≡ (c.full || list_any asks_full_of new) → (inbox : List Receiver) → HavePolled c.inbox inbox → (mutators : Vec Mutator Global) (positions : Vec ℕ Global) → mutators.items ≡ map mutator_of new → length positions.items ≡ length c.positions.items → HaveMoved c.positions.items (map done_by new) positions.items → DidSlices script o c (record c { words = Some words; segments = segments; progress = progress; collect = collect; full = asked; inbox = inbox; mutators = mutators; positions = positions })
+  module _ (own : owed.SlicesAreGathered) (owes : owed.SlicesAreOwed) (from : RoundSeat) (began : seen from ≡
+      collecting (whole o)) (opened : opening_of round ≡
+      o) (segments : Segments) (sound : IsSegments segments) (progress : held.Progress)
+      (helped : HasHelped round script.config.quota from seat c.segments segments c.names c.progress progress) where
+    pub did_slices : (seats : List RoundSeat) → seats ≡ map seat_of new → (words : List ℕ) →
+        Leaves (opening_of round) words (all_together (seen seat) (map seen seats)) → (collect asked : Bool) →
+        collect ≡ (c.collect || list_any asks_of new) → asked ≡ (c.full || list_any asks_full_of new) → (inbox : List Receiver) →
+        HavePolled c.inbox inbox → (mutators : Vec Mutator Global) (positions : Vec ℕ Global) → mutators.items ≡ map mutator_of new →
+        length positions.items ≡ length c.positions.items → HaveMoved c.positions.items (map done_by new) positions.items →
+        DidSlices script o c (record c {
+          words = Some words;
+          segments = segments;
+          progress = progress;
+          collect = collect;
+          full = asked;
+          inbox = inbox;
+          mutators = mutators;
+          positions = positions;
+        })
     did_slices seats seats_are words leaves collect asked collects askeds inbox polled mutators positions same size moved = record {
       rest = refl;
       words = words;
@@ -110,12 +142,15 @@ module _ (script : Script) (c : Collector) (o : Opening) (may : MayBegin script 
           (subst (λ (l : List RoundSeat). Leaves (opening_of round) words (all_together (seen seat) (map seen l))) seats_are leaves));
       done = ran.did.done;
       gathers = subst (λ (l : List Mutator). owed.IsGathered o has.scans (map seat_of new) l ran.did.done) (sym same) (gathers own);
-      owed = subst (λ (l : List Mutator). owed.HaveOwed o (owed.gathered o has.scans (map seat_of new)).parts l) (sym same) (owes o may.words round c.mutators.items (map mutator_of new) (map seat_of new) ran.did.done has.scans (can_open script c o may) ran.slices nothing);
+      owed = subst (λ (l : List Mutator).
+          owed.HaveOwed o (owed.gathered o has.scans (map seat_of new)).parts l) (sym same)
+          (owes o may.words round c.mutators.items (map mutator_of new) (map seat_of new) ran.did.done has.scans (can_open script c o may) ran.slices nothing);
       helped = record { round = round; from = from; seat = seat; began = began; knows = has.knows; helped = helped };
       sound = sound;
       polled = polled;
       collect = collects ∙ ap (λ (b : Bool). c.collect || b) (asks_told script c may.run may.limits may.still o round new ran.count ran.did);
       full = askeds ∙ ap (λ (b : Bool). c.full || b) (asks_full_told script c may.run may.limits may.still o round new ran.count ran.did);
       positions_are = size;
-      each = each_did script c may.run may.limits may.still o round new ran.count ran.did (Some words) segments progress collect asked inbox mutators positions same moved;
+      each = each_did script c may.run may.limits may.still o round new ran.count ran.did (Some words) segments progress collect asked inbox
+          mutators positions same moved;
     }

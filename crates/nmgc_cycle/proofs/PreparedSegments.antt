@@ -25,7 +25,8 @@ restated s state h used = record {
   free = λ e. absurd (used e);
 }
 
-prepared_in : (layout : Layout) (s : Segment) (state : State) → IsMember layout (record s { state = state }) → IsMember layout (record s { state = prepared_state state; snap = prepared_snap state s })
+prepared_in : (layout : Layout) (s : Segment) (state : State) → IsMember layout (record s { state = state }) →
+    IsMember layout (record s { state = prepared_state state; snap = prepared_snap state s })
 prepared_in layout s Free h = h
 prepared_in layout s (Current m) h = record {
   sound = restated _ (Current m) h.sound (λ e. cc);
@@ -57,7 +58,10 @@ prepared_in layout s Sweeping h = record {
 }
 
 -- one that is current was it before
-prepared_current : (s : Segment) (state : State) (m c : ℕ) → IsCurrent m c (record s { state = prepared_state state; snap = prepared_snap state s }) → IsCurrent m c (record s { state = state })
+prepared_current : (s : Segment) (state : State) (m c : ℕ) → IsCurrent m c (record s {
+  state = prepared_state state;
+  snap = prepared_snap state s;
+}) → IsCurrent m c (record s { state = state })
 prepared_current s Free m c h = h
 prepared_current s (Current k) m c h = h
 prepared_current s Active m c h = h

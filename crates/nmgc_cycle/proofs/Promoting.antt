@@ -53,7 +53,10 @@ use Rattle.nmgc_cycle.specs.Lined.{IsLined}
 
 -- a young name lies nowhere, and isn't g
 young_fresh : (began : World) (a : AllocState) → LieKnown began a → (n : Name) → node_of began n ≡ None → LiesNowhere a n × (n ≢ shared_name)
-young_fresh began a known n none = (λ number block lies. absent (node_of began n) none (known number block n lies), λ e. there (sym (ap (λ (k : Name). node_of began k) e) ∙ none))
+young_fresh began a known n none = (
+  λ number block lies. absent (node_of began n) none (known number block n lies),
+  λ e. there (sym (ap (λ (k : Name). node_of began k) e) ∙ none),
+)
   where
     there : node_of began shared_name ≡ None → ⊥
     there e = cc
@@ -69,7 +72,8 @@ cycle_then idle w a b same h = tt
 cycle_then (marking c) w a b same h = (h.0, h.1, still_known c a b same h.2)
 cycle_then (sweeping c closed) w a b same h = (h.0, still_known c a b same h.1)
 
-module _ (laws : HasPromotionLaws) (script : Script) (old new : Collector) (kept : IsWellFormed script old) (b : Begins script old) (p : HasPromoted old new) where
+module _ (laws : HasPromotionLaws) (script : Script) (old new : Collector) (kept : IsWellFormed script old) (b : Begins script old)
+    (p : HasPromoted old new) where
   abbrev plan : Plan
   plan = plan_of script
 
@@ -136,7 +140,8 @@ module _ (laws : HasPromotionLaws) (script : Script) (old new : Collector) (kept
 
     has_block : (name : Name) → IsTracked s.world (snapshots s.progress) name → name ≢ shared_name → HasBlock t.allocation name
     has_block name tracked other =
-        let there : IsSome (node_of s.world name) = tracked_known s.world (snapshots s.progress) b.sound.world (known_then s.world s.allocation s.progress b.sound.cycle) name tracked in
+        let there : IsSome (node_of s.world name) =
+        tracked_known s.world (snapshots s.progress) b.sound.world (known_then s.world s.allocation s.progress b.sound.cycle) name tracked in
         let node = is_some_of (node_of s.world name) there in
         let at = heap.holds.represents.tracked name node.0 tracked node.1 in
         let place : Place = record { at = at.at; name = name } in
@@ -150,8 +155,14 @@ module _ (laws : HasPromotionLaws) (script : Script) (old new : Collector) (kept
         let promotes = after.promotes script old new kept b p in
         record {
           world = b.sound.world;
-          able = record { programs = b.sound.able.programs; mutators = b.sound.able.mutators; registers = b.sound.able.registers; serials = b.sound.able.serials };
-          sound_blocks = places_filed (layout_of plan) s.world s.allocation t.allocation promotes.names b.sound.world promotes.places promotes.lists.ordered (λ n c. young_fresh b.began s.allocation b.sound.known n (promotes.lists.sound n c).0.0) b.sound.sound_blocks;
+          able = record {
+            programs = b.sound.able.programs;
+            mutators = b.sound.able.mutators;
+            registers = b.sound.able.registers;
+            serials = b.sound.able.serials;
+          };
+          sound_blocks = places_filed (layout_of plan) s.world s.allocation t.allocation promotes.names b.sound.world promotes.places
+              promotes.lists.ordered (λ n c. young_fresh b.began s.allocation b.sound.known n (promotes.lists.sound n c).0.0) b.sound.sound_blocks;
           known = lies_known;
           cycle = cycle_then s.progress s.world s.allocation t.allocation same_waits b.sound.cycle;
           earlier = b.sound.earlier;
@@ -160,7 +171,9 @@ module _ (laws : HasPromotionLaws) (script : Script) (old new : Collector) (kept
 
     -- the cycle in progress
 
-    was_promoted : (c : Cycle) → snapshots s.progress ≡ c.snapshot ∷ [] → beside.HasPromoted c (after.at_stop script old new kept b p) old.segments new.segments (seen old).words (words_in new.words) p.registers (words_of p.queues) (moves_of new) s.allocation t.allocation
+    was_promoted : (c : Cycle) → snapshots s.progress ≡ c.snapshot ∷ [] →
+        beside.HasPromoted c (after.at_stop script old new kept b p) old.segments new.segments (seen old).words (words_in new.words) p.registers
+        (words_of p.queues) (moves_of new) s.allocation t.allocation
     was_promoted c later = record {
       later_is = later;
       round = b.stopped.round;
@@ -180,7 +193,8 @@ module _ (laws : HasPromotionLaws) (script : Script) (old new : Collector) (kept
     cycle_same = ap (λ (deaths : List Death). cycle_in old.progress (died deaths)) l.deaths
 
     -- a listed weak pointer of the snapshot was listed before
-    was_listed : (c : Cycle) → snapshots s.progress ≡ c.snapshot ∷ [] → (q : Place) → Contains (places_of new.weaks.list) q → IsSome (node_of c.snapshot q.name) → Contains (places_of old.weaks.list) q
+    was_listed : (c : Cycle) → snapshots s.progress ≡ c.snapshot ∷ [] → (q : Place) → Contains (places_of new.weaks.list) q →
+        IsSome (node_of c.snapshot q.name) → Contains (places_of old.weaks.list) q
     was_listed c spoken q there known =
         let x = of_places new.weaks.list q there in
         elim (l.from x.0 x.1) [
@@ -191,29 +205,39 @@ module _ (laws : HasPromotionLaws) (script : Script) (old new : Collector) (kept
         ]
 
     -- so the queues have room for what may die
-    left_of : (c : Cycle) → snapshots s.progress ≡ c.snapshot ∷ [] → EachMutator (seen old) (λ m mutator. weak_count c.snapshot m (seen old).weaks ≤ mutator.queue.spare) → HasLeft c (seen old) (seen mid)
+    left_of : (c : Cycle) → snapshots s.progress ≡ c.snapshot ∷ [] →
+        EachMutator (seen old) (λ m mutator. weak_count c.snapshot m (seen old).weaks ≤ mutator.queue.spare) → HasLeft c (seen old) (seen mid)
     left_of c spoken room = record {
       cycle = cycle_same;
       sweeper = refl;
       queue_room = λ m mutator e.
           let x = after.same_spare script old new kept b p m mutator e in
-          let fewer = laws.fewer c.snapshot m (seen old).weaks (seen new).weaks (after.listed script old new kept b p laws.back l).ordered (was_listed c spoken) in
+          let fewer = laws.fewer c.snapshot m (seen old).weaks (seen new).weaks (after.listed script old new kept b p laws.back l).ordered
+          (was_listed c spoken) in
           let before = room m x.0 x.1 in
           let spare = x.2 in
           omega (arith, fewer, before, spare);
     }
 
-    cycle : (q : Progress) → snapshots s.progress ≡ snapshots q → IsInCycle q s.world s.allocation → ((k : Cycle) → q ≡ marking k → k.from + 1 ≤ s.number) → HoldsInCycle (λ (k : Cycle). IsPacedAfterRound script.config.quota k s (seen old)) q s (seen old) b.places → HoldsInCycle (λ (k : Cycle). IsPacedPromoted script.config.quota k t (seen mid)) q t (seen mid) heap.places
+    cycle : (q : Progress) → snapshots s.progress ≡ snapshots q → IsInCycle q s.world s.allocation →
+        ((k : Cycle) → q ≡ marking k → k.from + 1 ≤ s.number) →
+        HoldsInCycle (λ (k : Cycle). IsPacedAfterRound script.config.quota k s (seen old)) q s (seen old) b.places →
+        HoldsInCycle (λ (k : Cycle). IsPacedPromoted script.config.quota k t (seen mid)) q t (seen mid) heap.places
     cycle idle spoken is later h = laws.settled s.begun old.segments new.segments (seen old).words (words_in new.words) s.allocation t.allocation placed h
     cycle (marking c) spoken is later h = (
-      laws.marking c s (seen old) (seen mid) (after.at_stop script old new kept b p) (seen old).words (words_in new.words) p.registers (words_of p.queues) (moves_of new) t.allocation is.0 refl h.0 (was_promoted c spoken) refl (left_of c spoken h.0.queue_room) (after.remembers script old new kept b p),
+      laws.marking c s (seen old) (seen mid) (after.at_stop script old new kept b p) (seen old).words (words_in new.words) p.registers
+          (words_of p.queues) (moves_of new) t.allocation is.0 refl h.0 (was_promoted c spoken) refl (left_of c spoken h.0.queue_room)
+          (after.remembers script old new kept b p),
       record {
         paced = record { scanned = h.1.scanned; most = h.1.most; some = h.1.some; quota_or_done = h.1.quota_or_done; empty = h.1.empty };
         later = later c refl;
       },
     )
     cycle (sweeping c closed) spoken is later h = (
-      subst (λ (x : CycleSeen). IsSweeping c closed t.allocation new.segments x (seen old).sweeper) (sym cycle_same) (laws.sweeping c closed old.segments new.segments (seen old).words (words_in new.words) s.allocation t.allocation (seen old).cycle (seen old).sweeper placed h.0),
+      subst (λ (x : CycleSeen).
+          IsSweeping c closed t.allocation new.segments x (seen old).sweeper) (sym cycle_same)
+          (laws.sweeping c closed old.segments new.segments (seen old).words (words_in new.words) s.allocation t.allocation (seen old).cycle
+          (seen old).sweeper placed h.0),
       laws.settled s.begun old.segments new.segments (seen old).words (words_in new.words) s.allocation t.allocation placed h.1,
     )
 
@@ -226,20 +250,28 @@ module _ (laws : HasPromotionLaws) (script : Script) (old new : Collector) (kept
       h.3,
     )
     sweeper (sweeping k closed) h =
-        let work = laws.work k closed (seen old).words (words_in new.words) s.allocation t.allocation old.segments new.segments (seen old).cycle (sweeper_in old.progress) h.1 h.0 (after.placed script old new kept b p).2 keeps in
-        (work.1, subst (λ (x : CycleSeen). IsAtWork k closed (words_in new.words) t.allocation new.segments x (sweeper_in old.progress)) (sym cycle_same) work.0)
+        let work = laws.work k closed (seen old).words (words_in new.words) s.allocation t.allocation old.segments new.segments (seen old).cycle
+        (sweeper_in old.progress) h.1 h.0 (after.placed script old new kept b p).2 keeps in (
+          work.1,
+          subst (λ (x : CycleSeen).
+              IsAtWork k closed (words_in new.words) t.allocation new.segments x (sweeper_in old.progress)) (sym cycle_same) work.0,
+        )
 
     -- what moved was noted, and the rest has its entries
 
     -- what moved isn't g
     moved_other : (m : Moved) → Contains (moves_of new) m → m.name ≢ shared_name
-    moved_other m there = (young_fresh b.began s.allocation b.sound.known m.name ((after.settled_heap script old new kept b p).promoted.sound m.name (contains_map (λ (x : Moved). x.name) (moves_of new) m there)).0.0).1
+    moved_other m there =
+        (young_fresh b.began s.allocation b.sound.known m.name
+        ((after.settled_heap script old new kept b p).promoted.sound m.name (contains_map (λ (x : Moved). x.name) (moves_of new) m there)).0.0).1
 
-    moved_lies : (m : Moved) → Contains (moves_of new) m → (number : ℕ) × (block : ℕ) × LiesIn t.allocation number block m.name × (m.to ≡ block_place new.segments.layout number (cells t.allocation number).class block)
-    moved_lies m there = elim (((after.told script old new kept b p laws.back l).1 (new_place m)).0 (settled_comes (young_base new.segments) (moves_of new) b.places m there)) [
-      | inl g ↦ absurd (moved_other m there (ap (λ (q : Place). q.name) g))
-      | inr x ↦ (x.number, x.block, x.lies, x.at)
-    ]
+    moved_lies : (m : Moved) → Contains (moves_of new) m → (number : ℕ) × (block : ℕ) × LiesIn t.allocation number block m.name ×
+        (m.to ≡ block_place new.segments.layout number (cells t.allocation number).class block)
+    moved_lies m there = elim (((after.told script old new kept b p laws.back l).1 (new_place m)).0
+        (settled_comes (young_base new.segments) (moves_of new) b.places m there)) [
+          | inl g ↦ absurd (moved_other m there (ap (λ (q : Place). q.name) g))
+          | inr x ↦ (x.number, x.block, x.lies, x.at)
+        ]
 
     same_base : young_base new.segments ≡ nursery_place (layout_of plan) 0
     same_base = ap (λ (y : Layout). nursery_place y 0) (after.layout_is script old new kept b p)
@@ -251,7 +283,9 @@ module _ (laws : HasPromotionLaws) (script : Script) (old new : Collector) (kept
       | inr x ↦ ap (λ (at : ℕ). slice_get old.names (entry_of at)) x.at ∙ b.named x.number x.block q.name x.lies
     ]
 
-    came : (number block : ℕ) (name : Name) → LiesIn t.allocation number block name → ((m : Moved) × Contains (moves_of new) m × (m.to ≡ block_place new.segments.layout number (cells t.allocation number).class block)) ⊎ (named_at new.segments.layout old.names number (cells t.allocation number).class block ≡ Some name)
+    came : (number block : ℕ) (name : Name) → LiesIn t.allocation number block name →
+        ((m : Moved) × Contains (moves_of new) m × (m.to ≡ block_place new.segments.layout number (cells t.allocation number).class block)) ⊎
+        (named_at new.segments.layout old.names number (cells t.allocation number).class block ≡ Some name)
     came number block name lies =
         let q : Place = record { at = block_place new.segments.layout number (cells t.allocation number).class block; name = name } in
         let there = ((after.told script old new kept b p laws.back l).1 q).1 (inr (record { number = number; block = block; lies = lies; at = refl })) in
@@ -261,7 +295,10 @@ module _ (laws : HasPromotionLaws) (script : Script) (old new : Collector) (kept
         ]
 
     named_then : AreNamed (layout_of plan) new.names t.allocation
-    named_then = subst (λ (y : Layout). AreNamed y new.names t.allocation) (after.layout_is script old new kept b p) (named_noted new.segments (words_in new.words) t.allocation (moves_of new) old.names new.names p.sound (after.placed script old new kept b p).2 p.noted moved_lies came)
+    named_then = subst (λ (y : Layout).
+        AreNamed y new.names t.allocation) (after.layout_is script old new kept b p)
+        (named_noted new.segments (words_in new.words) t.allocation (moves_of new) old.names new.names p.sound
+        (after.placed script old new kept b p).2 p.noted moved_lies came)
 
     -- what is kept
 
@@ -273,7 +310,14 @@ module _ (laws : HasPromotionLaws) (script : Script) (old new : Collector) (kept
       entries = subst (λ (y : Layout × ℕ). y.0.segments * y.0.words ≤ MIN_BLOCK_WORDS * y.1) (λ i. (sym p.layout i, sym p.noted.count i)) kept.entries;
       has_words = p.has_words;
       count = p.given.count ∙ kept.count;
-      own = λ k m e. let own = (after.own script old new kept b p k m e).0 in record { number = own.number; layout = own.layout; whole = own.whole; no_replies = own.no_replies; line = subst (λ (l : List Receiver). IsLined l k m.sender) (ap (λ (y : Collector). y.inbox) p.rest) own.line };
+      own = λ k m e. let own = (after.own script old new kept b p k m e).0 in
+          record {
+            number = own.number;
+            layout = own.layout;
+            whole = own.whole;
+            no_replies = own.no_replies;
+            line = subst (λ (l : List Receiver). IsLined l k m.sender) (ap (λ (y : Collector). y.inbox) p.rest) own.line;
+          };
       inbox = kept.inbox;
       positions_are = kept.positions_are;
       positions = kept.positions;

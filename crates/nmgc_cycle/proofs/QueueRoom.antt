@@ -16,7 +16,8 @@ use Rattle.nmgc_cycle.specs.Listed.{HasQueueRoom, HaveQueueRoom, count_made_by}
 use Rattle.nmgc_cycle.specs.Shown.{seen_mutator}
 
 -- the first mutator, and the others
-first_room : (list : List OldWeak) (m n : Mutator) (old new : List Mutator) → HaveQueueRoom list (m ∷ old) (n ∷ new) → HasQueueRoom (count_made_by m.number list) m n
+first_room : (list : List OldWeak) (m n : Mutator) (old new : List Mutator) → HaveQueueRoom list (m ∷ old) (n ∷ new) →
+    HasQueueRoom (count_made_by m.number list) m n
 first_room list m n old new h = h.each 0 m (omega arith)
 
 rest_room : (list : List OldWeak) (m n : Mutator) (old new : List Mutator) → HaveQueueRoom list (m ∷ old) (n ∷ new) → HaveQueueRoom list old new
@@ -31,7 +32,8 @@ one_end count m n h =
     ap (λ (x : Mutator). end_of (seen_mutator x)) h.rest
     ∙ ap (λ (ws : List ℕ). record (end_of (seen_mutator m)) { queue = ws }) h.words
 
-pub room_ends : (list : List OldWeak) (old new : List Mutator) → HaveQueueRoom list old new → map end_of (map seen_mutator new) ≡ map end_of (map seen_mutator old)
+pub room_ends : (list : List OldWeak) (old new : List Mutator) → HaveQueueRoom list old new →
+    map end_of (map seen_mutator new) ≡ map end_of (map seen_mutator old)
 room_ends list [] [] h = refl
 room_ends list [] (n ∷ new) h = absurd (let all : length (n ∷ new) ≡ 0 = h.count in omega (arith, all))
 room_ends list (m ∷ old) [] h = absurd (let all : 0 ≡ length (m ∷ old) = h.count in omega (arith, all))
@@ -40,7 +42,8 @@ room_ends list (m ∷ old) (n ∷ new) h =
     ∙ ap (λ (l : List MutatorEnd). end_of (seen_mutator m) ∷ l) (room_ends list old new (rest_room list m n old new h))
 
 -- and their nurseries are the same
-pub room_nurseries : (list : List OldWeak) (old new : List Mutator) → HaveQueueRoom list old new → map (λ (m : MutatorSeen). m.nursery) (map seen_mutator new) ≡ map (λ (m : MutatorSeen). m.nursery) (map seen_mutator old)
+pub room_nurseries : (list : List OldWeak) (old new : List Mutator) → HaveQueueRoom list old new →
+    map (λ (m : MutatorSeen). m.nursery) (map seen_mutator new) ≡ map (λ (m : MutatorSeen). m.nursery) (map seen_mutator old)
 room_nurseries list [] [] h = refl
 room_nurseries list [] (n ∷ new) h = absurd (let all : length (n ∷ new) ≡ 0 = h.count in omega (arith, all))
 room_nurseries list (m ∷ old) [] h = absurd (let all : 0 ≡ length (m ∷ old) = h.count in omega (arith, all))
@@ -49,7 +52,8 @@ room_nurseries list (m ∷ old) (n ∷ new) h =
     ∙ ap (λ (l : List Nursery). m.nursery ∷ l) (room_nurseries list old new (rest_room list m n old new h))
 
 -- each is one of before
-pub one_room : (list : List OldWeak) (old new : List Mutator) → HaveQueueRoom list old new → (k : ℕ) (n : Mutator) → slice_get new k ≡ Some n → (m : Mutator) × (slice_get old k ≡ Some m) × HasQueueRoom (count_made_by m.number list) m n
+pub one_room : (list : List OldWeak) (old new : List Mutator) → HaveQueueRoom list old new → (k : ℕ) (n : Mutator) → slice_get new k ≡ Some n →
+    (m : Mutator) × (slice_get old k ≡ Some m) × HasQueueRoom (count_made_by m.number list) m n
 one_room list old new h k n e =
     let within : k < length new = slice_get_within new k n e in
     let lt : k < length old = (let count = h.count in omega (arith, within, count)) in
@@ -67,8 +71,11 @@ fewer_if false b = omega arith
 pub counted : (snapshot : World) (m : ℕ) (list : List OldWeak) → weak_count snapshot m (places_of list) ≤ count_made_by m list
 counted snapshot m [] = omega arith
 counted snapshot m (w ∷ list) =
-    let first : weak_count snapshot m (places_of (w ∷ list)) ≡ cond ((w.weak.maker == m) && is_some (node_of snapshot w.weak)) 1 0 + weak_count snapshot m (places_of list) = sum_by-cons (λ (p : Place). cond ((p.name.maker == m) && is_some (node_of snapshot p.name)) 1 0) (place_of w) (places_of list) in
-    let second : count_made_by m (w ∷ list) ≡ cond (w.weak.maker == m) 1 0 + count_made_by m list = sum_by-cons (λ (o : OldWeak). cond (o.weak.maker == m) 1 0) w list in
+    let first : weak_count snapshot m (places_of (w ∷ list)) ≡
+    cond ((w.weak.maker == m) && is_some (node_of snapshot w.weak)) 1 0 + weak_count snapshot m (places_of list) =
+    sum_by-cons (λ (p : Place). cond ((p.name.maker == m) && is_some (node_of snapshot p.name)) 1 0) (place_of w) (places_of list) in
+    let second : count_made_by m (w ∷ list) ≡ cond (w.weak.maker == m) 1 0 + count_made_by m list =
+    sum_by-cons (λ (o : OldWeak). cond (o.weak.maker == m) 1 0) w list in
     let least = fewer_if (w.weak.maker == m) (is_some (node_of snapshot w.weak)) in
     let rest = counted snapshot m list in
     omega (arith, first, second, least, rest)

@@ -33,43 +33,52 @@ are_with (q ∷ qs) (m ∷ old) (n ∷ new) e h = (
 )
 
 -- what contracts see of them
-pub same_registers : (queues : List FinQueue) (old new : List Mutator) → AreWith queues old new → registers_of (map end_of (map seen_mutator new)) ≡ registers_of (map end_of (map seen_mutator old))
+pub same_registers : (queues : List FinQueue) (old new : List Mutator) → AreWith queues old new →
+    registers_of (map end_of (map seen_mutator new)) ≡ registers_of (map end_of (map seen_mutator old))
 same_registers [] [] [] h = refl
 same_registers [] [] (n ∷ new) h = absurd h
 same_registers [] (m ∷ old) new h = absurd h
 same_registers (q ∷ qs) [] new h = absurd h
 same_registers (q ∷ qs) (m ∷ old) [] h = absurd h
-same_registers (q ∷ qs) (m ∷ old) (n ∷ new) h = ap (λ (x : Mutator). x.registers ++ registers_of (map end_of (map seen_mutator new))) h.0 ∙ ap (λ (l : List ℕ). m.registers ++ l) (same_registers qs old new h.1)
+same_registers (q ∷ qs) (m ∷ old) (n ∷ new) h = ap (λ (x : Mutator). x.registers ++ registers_of (map end_of (map seen_mutator new))) h.0 ∙
+    ap (λ (l : List ℕ). m.registers ++ l) (same_registers qs old new h.1)
 
-pub same_serials : (queues : List FinQueue) (old new : List Mutator) → AreWith queues old new → serials_of (map end_of (map seen_mutator new)) ≡ serials_of (map end_of (map seen_mutator old))
+pub same_serials : (queues : List FinQueue) (old new : List Mutator) → AreWith queues old new →
+    serials_of (map end_of (map seen_mutator new)) ≡ serials_of (map end_of (map seen_mutator old))
 same_serials [] [] [] h = refl
 same_serials [] [] (n ∷ new) h = absurd h
 same_serials [] (m ∷ old) new h = absurd h
 same_serials (q ∷ qs) [] new h = absurd h
 same_serials (q ∷ qs) (m ∷ old) [] h = absurd h
-same_serials (q ∷ qs) (m ∷ old) (n ∷ new) h = ap (λ (x : Mutator). x.serial ∷ serials_of (map end_of (map seen_mutator new))) h.0 ∙ ap (λ (l : List ℕ). m.serial ∷ l) (same_serials qs old new h.1)
+same_serials (q ∷ qs) (m ∷ old) (n ∷ new) h = ap (λ (x : Mutator). x.serial ∷ serials_of (map end_of (map seen_mutator new))) h.0 ∙
+    ap (λ (l : List ℕ). m.serial ∷ l) (same_serials qs old new h.1)
 
-pub new_queues : (queues : List FinQueue) (old new : List Mutator) → AreWith queues old new → queues_of (map end_of (map seen_mutator new)) ≡ map (λ (q : FinQueue). q.words) queues
+pub new_queues : (queues : List FinQueue) (old new : List Mutator) → AreWith queues old new →
+    queues_of (map end_of (map seen_mutator new)) ≡ map (λ (q : FinQueue). q.words) queues
 new_queues [] [] [] h = refl
 new_queues [] [] (n ∷ new) h = absurd h
 new_queues [] (m ∷ old) new h = absurd h
 new_queues (q ∷ qs) [] new h = absurd h
 new_queues (q ∷ qs) (m ∷ old) [] h = absurd h
-new_queues (q ∷ qs) (m ∷ old) (n ∷ new) h = ap (λ (x : Mutator). x.queue.words ∷ queues_of (map end_of (map seen_mutator new))) h.0 ∙ ap (λ (l : List (List ℕ)). q.words ∷ l) (new_queues qs old new h.1)
+new_queues (q ∷ qs) (m ∷ old) (n ∷ new) h = ap (λ (x : Mutator). x.queue.words ∷ queues_of (map end_of (map seen_mutator new))) h.0 ∙
+    ap (λ (l : List (List ℕ)). q.words ∷ l) (new_queues qs old new h.1)
 
 pub old_queues : (old : List Mutator) → queues_of (map end_of (map seen_mutator old)) ≡ map (λ (q : FinQueue). q.words) (queues_in old)
 old_queues [] = refl
 old_queues (m ∷ old) = ap (λ (l : List (List ℕ)). m.queue.words ∷ l) (old_queues old)
 
-pub same_nurseries : (queues : List FinQueue) (old new : List Mutator) → AreWith queues old new → map (λ (m : MutatorSeen). m.nursery) (map seen_mutator new) ≡ map (λ (m : MutatorSeen). m.nursery) (map seen_mutator old)
+pub same_nurseries : (queues : List FinQueue) (old new : List Mutator) → AreWith queues old new →
+    map (λ (m : MutatorSeen). m.nursery) (map seen_mutator new) ≡ map (λ (m : MutatorSeen). m.nursery) (map seen_mutator old)
 same_nurseries [] [] [] h = refl
 same_nurseries [] [] (n ∷ new) h = absurd h
 same_nurseries [] (m ∷ old) new h = absurd h
 same_nurseries (q ∷ qs) [] new h = absurd h
 same_nurseries (q ∷ qs) (m ∷ old) [] h = absurd h
-same_nurseries (q ∷ qs) (m ∷ old) (n ∷ new) h = ap (λ (x : Mutator). x.nursery ∷ map (λ (m : MutatorSeen). m.nursery) (map seen_mutator new)) h.0 ∙ ap (λ (l : List Nursery). m.nursery ∷ l) (same_nurseries qs old new h.1)
+same_nurseries (q ∷ qs) (m ∷ old) (n ∷ new) h = ap (λ (x : Mutator). x.nursery ∷ map (λ (m : MutatorSeen). m.nursery) (map seen_mutator new)) h.0 ∙
+    ap (λ (l : List Nursery). m.nursery ∷ l) (same_nurseries qs old new h.1)
 
-pub same_whole : (queues : List FinQueue) (old new : List Mutator) → AreWith queues old new → All HasAllRegisters (map end_of (map seen_mutator old)) → All HasAllRegisters (map end_of (map seen_mutator new))
+pub same_whole : (queues : List FinQueue) (old new : List Mutator) → AreWith queues old new →
+    All HasAllRegisters (map end_of (map seen_mutator old)) → All HasAllRegisters (map end_of (map seen_mutator new))
 same_whole [] [] [] h all = all
 same_whole [] [] (n ∷ new) h all = absurd h
 same_whole [] (m ∷ old) new h all = absurd h
@@ -80,11 +89,13 @@ same_whole (q ∷ qs) (m ∷ old) (n ∷ new) h all = All-cons HasAllRegisters (
     (same_whole qs old new h.1 (All-tail HasAllRegisters (end_of (seen_mutator m)) (map end_of (map seen_mutator old)) all))
 
 -- each is one of before
-pub one_with : (queues : List FinQueue) (old new : List Mutator) → length queues ≡ length old → HaveQueues queues old new → (k : ℕ) (n : Mutator) → slice_get new k ≡ Some n → (m : Mutator) × (slice_get old k ≡ Some m) × (n ≡ record m { queue = n.queue })
+pub one_with : (queues : List FinQueue) (old new : List Mutator) → length queues ≡ length old → HaveQueues queues old new → (k : ℕ) (n : Mutator) →
+    slice_get new k ≡ Some n → (m : Mutator) × (slice_get old k ≡ Some m) × (n ≡ record m { queue = n.queue })
 one_with queues old new e h k n is =
     let within : k < length new = slice_get_within new k n is in
     let lt : k < length old = (let count = h.count in omega (arith, within, count)) in
     let m : Mutator = slice_index_or old k n in
     let there : slice_get old k ≡ Some m = slice_get-get_or old k n lt in
-    let made : n ≡ record m { queue = slice_index_or queues k no_queue } = (let both : Some n ≡ Some (record m { queue = slice_index_or queues k no_queue }) = sym is ∙ h.each k m there in cc) in
+    let made : n ≡ record m { queue = slice_index_or queues k no_queue } =
+    (let both : Some n ≡ Some (record m { queue = slice_index_or queues k no_queue }) = sym is ∙ h.each k m there in cc) in
     (m, there, made ∙ ap (λ (q : FinQueue). record m { queue = q }) (sym (ap (λ (x : Mutator). x.queue) made)))

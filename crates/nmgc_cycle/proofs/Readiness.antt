@@ -30,7 +30,8 @@ use Rattle.nmgc_cycle.proofs.Resting.{resting}
 
 -- the law of mutators that this rests on
 abbrev pub BeginReady : Type 0
-BeginReady = (o : Opening) (words : List ℕ) (round : Round) (seat : RoundSeat) (m : Mutator) → CanOpen o words → opening_of round ≡ o → IsAt round seat → seen seat ≡ alone o m.number → o.layout ≡ m.layout → IsWhole m → IsUnused m → HasHand (hand_of o.hands m.number) m → IsReady round seat m
+BeginReady = (o : Opening) (words : List ℕ) (round : Round) (seat : RoundSeat) (m : Mutator) → CanOpen o words → opening_of round ≡ o →
+    IsAt round seat → seen seat ≡ alone o m.number → o.layout ≡ m.layout → IsWhole m → IsUnused m → HasHand (hand_of o.hands m.number) m → IsReady round seat m
 
 -- the seats that a round begins with, by their numbers
 alones_at : (o : Opening) (m : ℕ) (hands : List Hand) (k : ℕ) → k < length hands → slice_get (alones o m hands) k ≡ Some (alone o (m + k))
@@ -43,10 +44,12 @@ alones_count o m [] = refl
 alones_count o m (h ∷ hands) = ap suc (alones_count o (suc m) hands)
 
 -- the worker of a number
-pub workers_at : (ms : List Mutator) (seats : List RoundSeat) (k : ℕ) (m : Mutator) (seat : RoundSeat) → slice_get ms k ≡ Some m → slice_get seats k ≡ Some seat → slice_get (workers_of ms seats) k ≡ Some (worker_of (m, seat))
+pub workers_at : (ms : List Mutator) (seats : List RoundSeat) (k : ℕ) (m : Mutator) (seat : RoundSeat) → slice_get ms k ≡ Some m →
+    slice_get seats k ≡ Some seat → slice_get (workers_of ms seats) k ≡ Some (worker_of (m, seat))
 workers_at [] seats k m seat e f = absurd cc
 workers_at (n ∷ ms) [] k m seat e f = absurd cc
-workers_at (n ∷ ms) (s ∷ seats) zero m seat e f = let same : n ≡ m = cc in let also : s ≡ seat = cc in ap (λ (x : Mutator). Some (worker_of (x, s))) same ∙ ap (λ (x : RoundSeat). Some (worker_of (m, x))) also
+workers_at (n ∷ ms) (s ∷ seats) zero m seat e f = let same : n ≡ m = cc in let also : s ≡ seat = cc in
+    ap (λ (x : Mutator). Some (worker_of (x, s))) same ∙ ap (λ (x : RoundSeat). Some (worker_of (m, x))) also
 workers_at (n ∷ ms) (s ∷ seats) (suc k) m seat e f = workers_at ms seats k m seat e f
 
 pub workers_count : (ms : List Mutator) (seats : List RoundSeat) → length seats ≡ length ms → length (workers_of ms seats) ≡ length ms
@@ -56,14 +59,16 @@ workers_count (m ∷ ms) (s ∷ seats) e = let rest = workers_count ms seats (om
 
 -- the commands that are left fit a segment
 left_fits : (script : Script) (limits : IsInLimits script) (positions : List ℕ) (k : ℕ) → All (Fits script.config.words) (left_at script positions k)
-left_fits script limits positions k = All-drop (Fits script.config.words) (slice_index positions k) (program_of script.threads k) ((good_plan script limits).fit k)
+left_fits script limits positions k =
+    All-drop (Fits script.config.words) (slice_index positions k) (program_of script.threads k) ((good_plan script limits).fit k)
 
 pub record HasSeats (o : Opening) (round : Round) (seats : List RoundSeat) : Type 0 where
   pub opened : opening_of round ≡ o
   pub seen_are : map seen seats ≡ alones o 0 o.hands
   pub at : All (IsAt round) seats
 
-module _ (ms : List Mutator) (o : Opening) (hands_are : o.hands ≡ map (rest.hand_of o.core.world o.places) ms) (round : Round) (seats : List RoundSeat) (has : HasSeats o round seats) where
+module _ (ms : List Mutator) (o : Opening) (hands_are : o.hands ≡
+    map (rest.hand_of o.core.world o.places) ms) (round : Round) (seats : List RoundSeat) (has : HasSeats o round seats) where
   hands_counted : length o.hands ≡ length ms
   hands_counted = ap length hands_are ∙ length-map ms (rest.hand_of o.core.world o.places)
 
@@ -74,12 +79,15 @@ module _ (ms : List Mutator) (o : Opening) (hands_are : o.hands ≡ map (rest.ha
   seat_alone k seat e =
       let within = slice_get_within seats k seat e in
       let here : slice_get (map seen seats) k ≡ Some (seen seat) = slice_get-map seen seats k ∙ ap (option_map seen) e in
-      let there : slice_get (map seen seats) k ≡ Some (alone o (0 + k)) = ap (λ (l : List Seen). slice_get l k) has.seen_are ∙ alones_at o 0 o.hands k (omega (arith, within, hands_counted, seats_counted)) in
+      let there : slice_get (map seen seats) k ≡ Some (alone o (0 + k)) = ap (λ (l : List Seen). slice_get l k) has.seen_are ∙
+      alones_at o 0 o.hands k (omega (arith, within, hands_counted, seats_counted)) in
       let zero_first : 0 + k ≡ k = omega arith in
       let same : seen seat ≡ alone o (0 + k) = cc (here, there) in
       same ∙ ap (alone o) zero_first
 
-module _ (begin : BeginReady) (script : Script) (c : Collector) (run : Run) (limits : IsInLimits script) (still : IsAfterStop script c run) (o : Opening) (op : IsOpened script c run still o) (words : List ℕ) (can : CanOpen o words) (round : Round) (seats : List RoundSeat) (has : HasSeats o round seats) where
+module _ (begin : BeginReady) (script : Script) (c : Collector) (run : Run) (limits : IsInLimits script) (still : IsAfterStop script c run)
+    (o : Opening) (op : IsOpened script c run still o) (words : List ℕ) (can : CanOpen o words) (round : Round) (seats : List RoundSeat)
+    (has : HasSeats o round seats) where
   -- what a mutator has as the round begins
   abbrev own_hand : Mutator → Hand
   own_hand = rest.hand_of o.core.world o.places
@@ -93,9 +101,14 @@ module _ (begin : BeginReady) (script : Script) (c : Collector) (run : Run) (lim
   pub is_ready : (k : ℕ) (m : Mutator) (seat : RoundSeat) → slice_get c.mutators.items k ≡ Some m → slice_get seats k ≡ Some seat → IsReady round seat m
   is_ready k m seat e f =
       let r = resting script c run limits still k m e in
-      let hand : hand_of o.hands m.number ≡ own_hand m = ap (λ (hs : List Hand). hand_of hs m.number) hands ∙ ap (hand_of (map own_hand c.mutators.items)) r.number_is ∙ get_or_from_slice_get (map own_hand c.mutators.items) k (own_hand m) no_hand (slice_get-map own_hand c.mutators.items k ∙ ap (option_map own_hand) e) in
+      let hand : hand_of o.hands m.number ≡ own_hand m = ap (λ (hs : List Hand). hand_of hs m.number) hands ∙
+      ap (hand_of (map own_hand c.mutators.items)) r.number_is ∙
+      get_or_from_slice_get (map own_hand c.mutators.items) k (own_hand m) no_hand (slice_get-map own_hand c.mutators.items k ∙
+      ap (option_map own_hand) e) in
       let place : IsAt round seat = of_item (IsAt round) seats k seat has.at f in
-      begin o words round seat m can has.opened place (seat_alone c.mutators.items o hands round seats has k seat f ∙ ap (alone o) (sym r.number_is)) (op.layout_is ∙ sym r.layout_is) r.whole r.unused (subst (λ (h : Hand). HasHand h m) (sym hand) (record { registers = refl; queue = refl; serial = refl }))
+      begin o words round seat m can has.opened place (seat_alone c.mutators.items o hands round seats has k seat f ∙
+      ap (alone o) (sym r.number_is)) (op.layout_is ∙ sym r.layout_is) r.whole r.unused (subst (λ (h : Hand).
+      HasHand h m) (sym hand) (record { registers = refl; queue = refl; serial = refl }))
 
   pub can_all_work : HaveSliceRoom script c → CanAllWork round script c.positions.items (workers_of c.mutators.items seats)
   can_all_work room = record {
@@ -108,13 +121,18 @@ module _ (begin : BeginReady) (script : Script) (c : Collector) (run : Run) (lim
       count : length (workers_of c.mutators.items seats) ≡ length c.mutators.items
       count = workers_count c.mutators.items seats count_is
 
-      each : (k : ℕ) (d : Worker) → k < length c.mutators.items → CanWork round script.config.slice (left_at script c.positions.items k) (slice_index_or (workers_of c.mutators.items seats) k d)
+      each : (k : ℕ) (d : Worker) → k < length c.mutators.items →
+          CanWork round script.config.slice (left_at script c.positions.items k) (slice_index_or (workers_of c.mutators.items seats) k d)
       each k d lt =
           let m = item c.mutators.items k lt in
           let seat = item seats k (omega (arith, lt, count_is)) in
           let r = resting script c run limits still k m.0 m.1 in
           let words_are : m.0.layout.words ≡ script.config.words = ap (λ (l : Layout). l.words) (r.layout_is ∙ still.kept.layout) in
-          subst (CanWork round script.config.slice (left_at script c.positions.items k)) (sym (get_or_from_slice_get (workers_of c.mutators.items seats) k (worker_of (m.0, seat.0)) d (workers_at c.mutators.items seats k m.0 seat.0 m.1 seat.1))) (record {
+          subst (CanWork round script.config.slice (left_at script c.positions.items k))
+          (sym (get_or_from_slice_get (workers_of c.mutators.items seats) k (worker_of (
+            m.0,
+            seat.0,
+          )) d (workers_at c.mutators.items seats k m.0 seat.0 m.1 seat.1))) (record {
             ready = is_ready k m.0 seat.0 m.1 seat.1;
             program_is = subst (λ (n : ℕ). All (Fits n) (left_at script c.positions.items k)) (sym words_are) (left_fits script limits c.positions.items k);
             room = room k m.0 m.1;

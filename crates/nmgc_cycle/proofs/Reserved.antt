@@ -41,14 +41,16 @@ noting m recorded weaks entries = record {
 same_seen : (m n : Mutator) → Reserves m n → seen_mutator n ≡ seen_mutator m
 unfolding noting
 same_seen m n r =
-    let first : seen_mutator n ≡ noting m n.recorded.items n.young_weaks.items n.updrem.items = ap (λ (x : Mutator). noting x n.recorded.items n.young_weaks.items n.updrem.items) r.rest in
+    let first : seen_mutator n ≡ noting m n.recorded.items n.young_weaks.items n.updrem.items =
+    ap (λ (x : Mutator). noting x n.recorded.items n.young_weaks.items n.updrem.items) r.rest in
     first
     ∙ ap (λ (l : List Address). noting m l n.young_weaks.items n.updrem.items) r.recorded.items
     ∙ ap (λ (l : List Address). noting m m.recorded.items l n.updrem.items) r.young_weaks.items
     ∙ ap (λ (l : List Address). noting m m.recorded.items m.young_weaks.items l) r.updrem.items
 
 -- an item of the new list, with what it was
-was_at : (old new : List Mutator) (k : ℕ) (n : Mutator) → AreReserved old new → slice_get new k ≡ Some n → (m : Mutator) × (slice_get old k ≡ Some m) × Reserves m n
+was_at : (old new : List Mutator) (k : ℕ) (n : Mutator) → AreReserved old new → slice_get new k ≡ Some n → (m : Mutator) ×
+    (slice_get old k ≡ Some m) × Reserves m n
 was_at old new k n r e =
     let within = slice_get_within new k n e in
     let count = r.count in
@@ -72,10 +74,12 @@ sweeps_on (marking k) s c mutators h = (record { notes = h.0.notes; left = h.0.l
 sweeps_on (sweeping k closed) s c mutators h = h
 
 -- nor of how many stops may follow
-follow_on : (Nothing : Type 0) (script : Script) (c : Collector) (mutators : Vec Mutator Global) (count : ℕ) → MayFollow Nothing script c count → MayFollow Nothing script (record c { mutators = mutators }) count
+follow_on : (Nothing : Type 0) (script : Script) (c : Collector) (mutators : Vec Mutator Global) (count : ℕ) → MayFollow Nothing script c count →
+    MayFollow Nothing script (record c { mutators = mutators }) count
 follow_on Nothing script c mutators count (commands h) = commands h
 follow_on Nothing script c mutators count (one_cycle none h) = one_cycle none h
-follow_on Nothing script c mutators count (no_cycle none same undue h) = no_cycle none same (record { not_asked = undue.not_asked; not_filled = undue.not_filled }) h
+follow_on Nothing script c mutators count (no_cycle none same undue h) =
+    no_cycle none same (record { not_asked = undue.not_asked; not_filled = undue.not_filled }) h
 
 few_on : (script : Script) (c : Collector) (mutators : Vec Mutator Global) → AreFewAtStop script c → AreFewAtStop script (record c { mutators = mutators })
 few_on script c mutators h = record {
@@ -84,7 +88,8 @@ few_on script c mutators h = record {
   more = h.more;
 }
 
-module _ (script : Script) (c : Collector) (run : Run) (still : IsAfterStop script c run) (mutators : Vec Mutator Global) (reserved : AreReserved c.mutators.items mutators.items) where
+module _ (script : Script) (c : Collector) (run : Run) (still : IsAfterStop script c run) (mutators : Vec Mutator Global)
+    (reserved : AreReserved c.mutators.items mutators.items) where
   abbrev roomy : Collector
   roomy = record c { mutators = mutators }
 
@@ -127,7 +132,10 @@ module _ (script : Script) (c : Collector) (run : Run) (still : IsAfterStop scri
   pub still_reserved : IsAfterStop script roomy run
   still_reserved = record {
     kept = kept;
-    at_stop = subst (λ (l : List MutatorSeen). IsAtStop (plan_of script) run (record (seen c) { mutators = l })) (sym (reserved_seen c.mutators.items mutators.items reserved)) still.at_stop;
+    at_stop = subst (λ (l : List MutatorSeen). IsAtStop (plan_of script) run (record (seen c) {
+      mutators =
+          l;
+    })) (sym (reserved_seen c.mutators.items mutators.items reserved)) still.at_stop;
     closing = subst (HasClosingRoom c.progress) (sym reserved.count) still.closing;
     sweeper = sweeps_on (last_state run).progress (last_state run) c mutators still.sweeper;
     named = still.named;
@@ -135,17 +143,27 @@ module _ (script : Script) (c : Collector) (run : Run) (still : IsAfterStop scri
   }
 
 -- and so is the other way round
-pub still_before : (script : Script) (old new : Collector) (run : Run) → IsWellFormed script old → new ≡ record old { mutators = new.mutators } → AreReserved old.mutators.items new.mutators.items → IsAfterStop script new run → IsAfterStop script old run
+pub still_before : (script : Script) (old new : Collector) (run : Run) → IsWellFormed script old → new ≡ record old { mutators = new.mutators } →
+    AreReserved old.mutators.items new.mutators.items → IsAfterStop script new run → IsAfterStop script old run
 still_before script old new run kept rest reserved still =
-    let same : seen new ≡ seen old = ap seen rest ∙ ap (λ (l : List MutatorSeen). record (seen old) { mutators = l }) (reserved_seen old.mutators.items new.mutators.items reserved) in
+    let same : seen new ≡ seen old = ap seen rest ∙ ap (λ (l : List MutatorSeen).
+    record (seen old) { mutators = l }) (reserved_seen old.mutators.items new.mutators.items reserved) in
     record {
       kept = kept;
       at_stop = subst (IsAtStop (plan_of script) run) same still.at_stop;
-      closing = subst (HasClosingRoom old.progress) reserved.count (subst (λ (x : Collector). HasClosingRoom x.progress (length new.mutators.items)) rest still.closing);
-      sweeper = sweeps_on (last_state run).progress (last_state run) (record old { mutators = new.mutators }) old.mutators (subst (Sweeps (last_state run).progress (last_state run)) rest still.sweeper);
+      closing = subst (HasClosingRoom old.progress) reserved.count (subst (λ (x : Collector).
+          HasClosingRoom x.progress (length new.mutators.items)) rest still.closing);
+      sweeper = sweeps_on (last_state run).progress (last_state run) (record old {
+        mutators =
+            new.mutators;
+      }) old.mutators (subst (Sweeps (last_state run).progress (last_state run)) rest still.sweeper);
       named = subst (λ (x : Collector). AreNamed (layout_of (plan_of script)) x.names (last_state run).allocation) rest still.named;
       few = few_on script (record old { mutators = new.mutators }) old.mutators (subst (AreFewAtStop script) rest still.few);
     }
 
-pub reserved_stopped : (script : Script) (old new : Collector) → HasStopped script old → new ≡ record old { mutators = new.mutators } → AreReserved old.mutators.items new.mutators.items → HasStopped script new
-reserved_stopped script old new (run, still) rest reserved = (run, subst (λ (x : Collector). IsAfterStop script x run) (sym rest) (still_reserved script old run still new.mutators reserved))
+pub reserved_stopped : (script : Script) (old new : Collector) → HasStopped script old → new ≡ record old { mutators = new.mutators } →
+    AreReserved old.mutators.items new.mutators.items → HasStopped script new
+reserved_stopped script old new (run, still) rest reserved = (
+  run,
+  subst (λ (x : Collector). IsAfterStop script x run) (sym rest) (still_reserved script old run still new.mutators reserved),
+)

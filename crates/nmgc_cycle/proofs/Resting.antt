@@ -42,16 +42,26 @@ none_noted [] e = refl
 none_noted (a ∷ l) e = absurd (let count : length (numbers (a ∷ l)) ≡ 0 = ap length e in omega arith)
 
 -- words represent a world in another wording
-restated : {layout other : Layout} {earlier none : List World} {words same : List ℕ} (places : List Place) (w : World) → layout ≡ other → earlier ≡ none → words ≡ same → Represents layout earlier NoNode places w words → Represents other none NoNode places w same
-restated {layout} {other} {earlier} {none} {words} {same} places w e f g r = subst (λ (l : Layout). Represents l none NoNode places w same) e (subst (λ (es : List World). Represents layout es NoNode places w same) f (subst (Represents layout earlier NoNode places w) g r))
+restated : {layout other : Layout} {earlier none : List World} {words same : List ℕ} (places : List Place) (w : World) → layout ≡ other →
+    earlier ≡ none → words ≡ same → Represents layout earlier NoNode places w words → Represents other none NoNode places w same
+restated {layout} {other} {earlier} {none} {words} {same} places w e f g r =
+    subst (λ (l : Layout). Represents l none NoNode places w same) e (subst (λ (es : List World).
+    Represents layout es NoNode places w same) f (subst (Represents layout earlier NoNode places w) g r))
 
 -- the roots of the mutators, as a run reads them and as a turn does
-pub same_roots : (places : List Place) (w : World) (ms : List Mutator) → RepresentsRoots places w (registers_of (map end_of (map seen_mutator ms))) (queues_of (map end_of (map seen_mutator ms))) (serials_of (map end_of (map seen_mutator ms))) → RepresentsRoots places w (turn.registers_of ms) (turn.queues_of ms) (turn.serials_of ms)
-same_roots places w ms r = subst (λ (l : List ℕ). RepresentsRoots places w l (turn.queues_of ms) (turn.serials_of ms)) (same_registers ms) (subst (λ (l : List (List ℕ)). RepresentsRoots places w (registers_of (map end_of (map seen_mutator ms))) l (turn.serials_of ms)) (same_queues ms) (subst (RepresentsRoots places w (registers_of (map end_of (map seen_mutator ms))) (queues_of (map end_of (map seen_mutator ms)))) (same_serials ms) r))
+pub same_roots : (places : List Place) (w : World) (ms : List Mutator) →
+    RepresentsRoots places w (registers_of (map end_of (map seen_mutator ms))) (queues_of (map end_of (map seen_mutator ms)))
+    (serials_of (map end_of (map seen_mutator ms))) → RepresentsRoots places w (turn.registers_of ms) (turn.queues_of ms) (turn.serials_of ms)
+same_roots places w ms r =
+    subst (λ (l : List ℕ). RepresentsRoots places w l (turn.queues_of ms) (turn.serials_of ms)) (same_registers ms) (subst (λ (l : List (List ℕ)).
+    RepresentsRoots places w (registers_of (map end_of (map seen_mutator ms))) l (turn.serials_of ms)) (same_queues ms)
+    (subst (RepresentsRoots places w (registers_of (map end_of (map seen_mutator ms))) (queues_of (map end_of (map seen_mutator ms)))) (same_serials ms) r))
 
 -- the nursery of a mutator is seen by its number
-pub nursery_seen : (ms : List Mutator) (k : ℕ) (m : Mutator) → slice_get ms k ≡ Some m → slice_get (map (λ (n : MutatorSeen). n.nursery) (map seen_mutator ms)) k ≡ Some m.nursery
-nursery_seen ms k m e = slice_get-map (λ (n : MutatorSeen). n.nursery) (map seen_mutator ms) k ∙ ap (option_map (λ (n : MutatorSeen). n.nursery)) (seen_at ms k m e)
+pub nursery_seen : (ms : List Mutator) (k : ℕ) (m : Mutator) → slice_get ms k ≡ Some m →
+    slice_get (map (λ (n : MutatorSeen). n.nursery) (map seen_mutator ms)) k ≡ Some m.nursery
+nursery_seen ms k m e = slice_get-map (λ (n : MutatorSeen). n.nursery) (map seen_mutator ms) k ∙
+    ap (option_map (λ (n : MutatorSeen). n.nursery)) (seen_at ms k m e)
 
 module _ (script : Script) (c : Collector) (run : Run) (limits : IsInLimits script) (still : IsAfterStop script c run) where
   -- a place lies below the nurseries
@@ -60,8 +70,11 @@ module _ (script : Script) (c : Collector) (run : Run) (limits : IsInLimits scri
     | inl g ↦ let at : p.at ≡ SHARED_PLACE = ap (λ (q : Place). q.at) g in omega (arith, at)
     | inr b ↦
         let heap = still.at_stop.heap in
-        let used = block_used (layout_of (plan_of script)) (last_state run).allocation (seen c).words c.segments heap.holds.layout_is heap.holds.stands b.number b.block p.name b.lies in
-        let lies = is_block c.segments (young_base c.segments) (block_place (layout_of (plan_of script)) b.number (cells (last_state run).allocation b.number).class b.block) (block_size (cells (last_state run).allocation b.number).class) still.kept.sound refl used in
+        let used = block_used (layout_of (plan_of script)) (last_state run).allocation (seen c).words c.segments heap.holds.layout_is
+        heap.holds.stands b.number b.block p.name b.lies in
+        let lies = is_block c.segments (young_base c.segments)
+        (block_place (layout_of (plan_of script)) b.number (cells (last_state run).allocation b.number).class b.block)
+        (block_size (cells (last_state run).allocation b.number).class) still.kept.sound refl used in
         let four = lies.four in
         let below = lies.below in
         let at = b.at in
@@ -69,16 +82,20 @@ module _ (script : Script) (c : Collector) (run : Run) (limits : IsInLimits scri
   ]
 
   -- the nursery of a mutator is unused
-  unused : (k : ℕ) (m : Mutator) → slice_get c.mutators.items k ≡ Some m → k < c.segments.layout.mutators → m.number ≡ k → m.layout ≡ c.segments.layout → IsUnused m
+  unused : (k : ℕ) (m : Mutator) → slice_get c.mutators.items k ≡ Some m → k < c.segments.layout.mutators → m.number ≡ k →
+      m.layout ≡ c.segments.layout → IsUnused m
   unused k m e exists number layout =
       let rest = still.at_stop.at_rest in
-      let at : nursery_at (nurseries_of (seen c)) k ≡ m.nursery = get_or_from_slice_get (nurseries_of (seen c)) k m.nursery _ (nursery_seen c.mutators.items k m e) in
+      let at : nursery_at (nurseries_of (seen c)) k ≡ m.nursery =
+      get_or_from_slice_get (nurseries_of (seen c)) k m.nursery _ (nursery_seen c.mutators.items k m e) in
       let same : m.layout ≡ layout_of (plan_of script) = layout ∙ still.kept.layout in
       let there : k < length script.threads = let mutators = ap (λ (l : Layout). l.mutators) still.kept.layout in omega (arith, mutators) in
       record {
-        base = sym (ap (λ (n : Nursery). n.base) at) ∙ rest.nurseries.used.places_are k there ∙ ap (λ (l : Layout). nursery_place l k) (sym same) ∙ ap (nursery_place m.layout) (sym number);
+        base = sym (ap (λ (n : Nursery). n.base) at) ∙ rest.nurseries.used.places_are k there ∙ ap (λ (l : Layout). nursery_place l k) (sym same) ∙
+            ap (nursery_place m.layout) (sym number);
         top = sym (ap (λ (n : Nursery). n.top) at) ∙ rest.empty k ∙ ap (λ (n : Nursery). n.base) at;
-        end = sym (ap (λ (n : Nursery). n.end) at) ∙ rest.nurseries.ends k there ∙ ap (λ (n : Nursery). n.base + script.config.nursery) at ∙ ap (λ (l : Layout). m.nursery.base + l.nursery) (sym same);
+        end = sym (ap (λ (n : Nursery). n.end) at) ∙ rest.nurseries.ends k there ∙ ap (λ (n : Nursery). n.base + script.config.nursery) at ∙
+            ap (λ (l : Layout). m.nursery.base + l.nursery) (sym same);
       }
 
   -- there are as many mutators as the layout has
@@ -99,9 +116,12 @@ module _ (script : Script) (c : Collector) (run : Run) (limits : IsInLimits scri
       }
 
   pub blocks_there : AreBlocks c.segments (young_base c.segments) still.at_stop.heap.places (last_state run).world
-  blocks_there = subst (λ (l : Layout). AreBlocks c.segments (nursery_place l 0) still.at_stop.heap.places (last_state run).world) (sym still.kept.layout) (blocks_at_stop (layout_of (plan_of script)) (last_state run) (seen c).words c.segments (ends_of (seen c)) (seen c).weaks still.at_stop.heap)
+  blocks_there = subst (λ (l : Layout).
+      AreBlocks c.segments (nursery_place l 0) still.at_stop.heap.places (last_state run).world) (sym still.kept.layout)
+      (blocks_at_stop (layout_of (plan_of script)) (last_state run) (seen c).words c.segments (ends_of (seen c)) (seen c).weaks still.at_stop.heap)
 
-  pub still_rests : snapshots (last_state run).progress ≡ [] → (words : List ℕ) → c.words ≡ Some words → IsAtRest c.segments still.at_stop.heap.places (last_state run).world words c.mutators.items
+  pub still_rests : snapshots (last_state run).progress ≡ [] → (words : List ℕ) → c.words ≡ Some words →
+      IsAtRest c.segments still.at_stop.heap.places (last_state run).world words c.mutators.items
   still_rests none words is =
       let heap = still.at_stop.heap in
       let holds = heap.holds in

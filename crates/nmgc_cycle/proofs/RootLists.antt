@@ -39,5 +39,7 @@ pub seen_at : (ms : List Mutator) (k : ℕ) (m : Mutator) → slice_get ms k ≡
 seen_at ms k m e = slice_get-map seen_mutator ms k ∙ ap (option_map seen_mutator) e
 
 -- and so is its next serial
-pub serial_seen : (ms : List Mutator) (k : ℕ) (m : Mutator) → slice_get ms k ≡ Some m → slice_get (serials_of (map end_of (map seen_mutator ms))) k ≡ Some m.serial
-serial_seen ms k m e = ap (λ (l : List ℕ). slice_get l k) (same_serials ms) ∙ slice_get-map (λ (n : Mutator). n.serial) ms k ∙ ap (option_map (λ (n : Mutator). n.serial)) e
+pub serial_seen : (ms : List Mutator) (k : ℕ) (m : Mutator) → slice_get ms k ≡ Some m →
+    slice_get (serials_of (map end_of (map seen_mutator ms))) k ≡ Some m.serial
+serial_seen ms k m e = ap (λ (l : List ℕ). slice_get l k) (same_serials ms) ∙ slice_get-map (λ (n : Mutator). n.serial) ms k ∙
+    ap (option_map (λ (n : Mutator). n.serial)) e

@@ -38,17 +38,22 @@ use Rattle.nmgc_cycle.proofs.NoneLeft.{DoesNothing, nothing_done, none_has}
 
 module _ (segments quota : ℕ) (round : Round) (from seat : RoundSeat) (old new : Segments) (names : List Name) (some : 1 ≤ quota) where
   -- scanning leaves less of a cycle that marks
-  scanned_falls : (m n : Marking) → m.last.empty ≡ false → HasScanned round quota from seat old new m n → phase_left segments (doing.Marking n) < phase_left segments (doing.Marking m)
+  scanned_falls : (m n : Marking) → m.last.empty ≡ false → HasScanned round quota from seat old new m n →
+      phase_left segments (doing.Marking n) < phase_left segments (doing.Marking m)
   scanned_falls m n goes h =
-      let was : phase_left segments (doing.Marking m) ≡ m.marker.spare + length m.marker.queue + segments + 2 = ap (λ (b : Bool). if b then segments + 1 else m.marker.spare + length m.marker.queue + segments + 2) goes in
+      let was : phase_left segments (doing.Marking m) ≡ m.marker.spare + length m.marker.queue + segments + 2 =
+      ap (λ (b : Bool). if b then segments + 1 else m.marker.spare + length m.marker.queue + segments + 2) goes in
       by n.last.empty refl was
     where
-      by : (b : Bool) → n.last.empty ≡ b → phase_left segments (doing.Marking m) ≡ m.marker.spare + length m.marker.queue + segments + 2 → phase_left segments (doing.Marking n) < phase_left segments (doing.Marking m)
+      by : (b : Bool) → n.last.empty ≡ b → phase_left segments (doing.Marking m) ≡ m.marker.spare + length m.marker.queue + segments + 2 →
+          phase_left segments (doing.Marking n) < phase_left segments (doing.Marking m)
       by true is was =
-          let now : phase_left segments (doing.Marking n) ≡ segments + 1 = ap (λ (b : Bool). if b then segments + 1 else n.marker.spare + length n.marker.queue + segments + 2) is in
+          let now : phase_left segments (doing.Marking n) ≡ segments + 1 =
+          ap (λ (b : Bool). if b then segments + 1 else n.marker.spare + length n.marker.queue + segments + 2) is in
           omega (arith, was, now)
       by false is was =
-          let now : phase_left segments (doing.Marking n) ≡ n.marker.spare + length n.marker.queue + segments + 2 = ap (λ (b : Bool). if b then segments + 1 else n.marker.spare + length n.marker.queue + segments + 2) is in
+          let now : phase_left segments (doing.Marking n) ≡ n.marker.spare + length n.marker.queue + segments + 2 =
+          ap (λ (b : Bool). if b then segments + 1 else n.marker.spare + length n.marker.queue + segments + 2) is in
           let pace = h.worked.marked.scanned.pace in
           let room = h.worked.marked.scanned.room in
           elim (cases_lt n.last.scanned quota) [
@@ -57,7 +62,8 @@ module _ (segments quota : ℕ) (round : Round) (from seat : RoundSeat) (old new
           ]
 
   -- and so does sweeping
-  swept_falls : (w v : Sweeping) → 1 ≤ length w.sweeper.left → HasSweptSome quota old new names w v → phase_left segments (doing.Sweeping v) < phase_left segments (doing.Sweeping w)
+  swept_falls : (w v : Sweeping) → 1 ≤ length w.sweeper.left → HasSweptSome quota old new names w v →
+      phase_left segments (doing.Sweeping v) < phase_left segments (doing.Sweeping w)
   swept_falls w v more h =
       let count = h.swept.fewer in
       elim (cases_lt h.count quota) [
@@ -66,16 +72,20 @@ module _ (segments quota : ℕ) (round : Round) (from seat : RoundSeat) (old new
       ]
 
   -- where the collector did its part there is less left to do, unless there was none
-  helped : (p q : Doing) → HasMore p → HasHelped round quota from seat old new names p q → ((p ≡ doing.Idle) × (q ≡ doing.Idle)) ⊎ (phase_left segments q < phase_left segments p)
+  helped : (p q : Doing) → HasMore p → HasHelped round quota from seat old new names p q → ((p ≡ doing.Idle) × (q ≡ doing.Idle)) ⊎
+      (phase_left segments q < phase_left segments p)
   helped doing.Idle q more h = inl (refl, h.2)
-  helped (doing.Marking m) q more h = inr (subst (λ (x : Doing). phase_left segments x < phase_left segments (doing.Marking m)) (sym h.1) (scanned_falls m h.0 more h.2))
-  helped (doing.Sweeping w) q more h = inr (subst (λ (x : Doing). phase_left segments x < phase_left segments (doing.Sweeping w)) (sym h.1) (swept_falls w h.0 more h.3))
+  helped (doing.Marking m) q more h = inr (subst (λ (x : Doing).
+      phase_left segments x < phase_left segments (doing.Marking m)) (sym h.1) (scanned_falls m h.0 more h.2))
+  helped (doing.Sweeping w) q more h = inr (subst (λ (x : Doing).
+      phase_left segments x < phase_left segments (doing.Sweeping w)) (sym h.1) (swept_falls w h.0 more h.3))
 
 -- a run goes on where commands are left, or a cycle is in progress
 busy : (plan : Plan) (s : State) → has_left s.left ≡ false → answer_of plan s ≡ None → is_idle s.progress ≡ false
 busy plan s none e = by (has_left s.left) (nat_lt (free_count s) (reserve_of plan)) (is_idle s.progress) (HeapFull (free_count s) (reserve_of plan)) none e
   where
-    by : (left few quiet : Bool) (full : End) → left ≡ false → (if left && few then Some full else (if not left && quiet then Some Done else None)) ≡ None → quiet ≡ false
+    by : (left few quiet : Bool) (full : End) → left ≡ false →
+        (if left && few then Some full else (if not left && quiet then Some Done else None)) ≡ None → quiet ≡ false
     by true few quiet full is e = absurd cc
     by false few false full is e = refl
     by false few true full is e = absurd cc
@@ -85,7 +95,10 @@ not_idle p idle e not is = let bad : true ≡ false = not in cc
 not_idle p (marking k) e not is = let bad : phase.Idle ≡ phase.Marking = ap phase_in (sym is) ∙ e in cc
 not_idle p (sweeping k closed) e not is = let bad : phase.Idle ≡ phase.Sweeping = ap phase_in (sym is) ∙ e in cc
 
-module _ (script : Script) (old new : Collector) (run : Run) (replies : List (List Reply)) (history : List Row) (worked : State) (limits : IsInLimits script) (still : IsAfterStop script old run) (after : IsAfterRound (plan_of script) run replies history worked (seen new)) (round : Round) (from seat : RoundSeat) (help : HasHelped round script.config.quota from seat old.segments new.segments old.names old.progress new.progress) where
+module _ (script : Script) (old new : Collector) (run : Run) (replies : List (List Reply)) (history : List Row) (worked : State)
+    (limits : IsInLimits script) (still : IsAfterStop script old run) (after : IsAfterRound (plan_of script) run replies history worked (seen new))
+    (round : Round) (from seat : RoundSeat) (help : HasHelped round script.config.quota from seat old.segments new.segments old.names old.progress
+    new.progress) where
   abbrev s : State
   s = last_state run
 
@@ -101,8 +114,10 @@ module _ (script : Script) (old new : Collector) (run : Run) (replies : List (Li
   left : AreLeft (plan_of script) s (answered_count old.rounds)
   left = left_is_told (plan_of script) run old.rounds old.stops (told_cycles old) still.at_stop.is_run still.at_stop.tells
 
-  part : ((old.progress ≡ doing.Idle) × (new.progress ≡ doing.Idle)) ⊎ (phase_left script.config.segments new.progress < phase_left script.config.segments old.progress)
-  part = helped script.config.segments script.config.quota round from seat old.segments new.segments old.names limits.fits.config.some_quota old.progress new.progress still.few.more help
+  part : ((old.progress ≡ doing.Idle) × (new.progress ≡ doing.Idle)) ⊎
+      (phase_left script.config.segments new.progress < phase_left script.config.segments old.progress)
+  part = helped script.config.segments script.config.quota round from seat old.segments new.segments old.names limits.fits.config.some_quota
+      old.progress new.progress still.few.more help
 
   no_longer : phase_left script.config.segments new.progress ≤ phase_left script.config.segments old.progress
   no_longer = elim part [
@@ -127,11 +142,13 @@ module _ (script : Script) (old new : Collector) (run : Run) (replies : List (Li
     leaves = nothing_done script.config s worked replies history after.round nothing
 
     none_now : commands_left script.threads new.rounds ≡ 0
-    none_now = let less = left_less script.threads old.rounds told in let now = ap (λ (r : List RoundRows). commands_left script.threads r) rounds_are in omega (arith, less, now, none)
+    none_now = let less = left_less script.threads old.rounds told in
+        let now = ap (λ (r : List RoundRows). commands_left script.threads r) rounds_are in omega (arith, less, now, none)
 
     less : phase_left script.config.segments new.progress < phase_left script.config.segments old.progress
     less = elim part [
-      | inl quiet ↦ absurd (not_idle old.progress s.progress still.at_stop.matches.phase (busy (plan_of script) s (none_has s.left nothing) after.goes_on) quiet.0)
+      | inl quiet ↦ absurd (not_idle old.progress s.progress still.at_stop.matches.phase
+          (busy (plan_of script) s (none_has s.left nothing) after.goes_on) quiet.0)
       | inr falls ↦ falls
     ]
 
@@ -146,7 +163,8 @@ module _ (script : Script) (old new : Collector) (run : Run) (replies : List (Li
           omega (arith, was, now, same, few);
     }
 
-    cycle_more : length old.stops + phase_left script.config.segments old.progress + cycle_most (heap_of script) ≤ most_stops script → MayFollow (worked.world ≡ s.world) script new (length old.stops + 1)
+    cycle_more : length old.stops + phase_left script.config.segments old.progress + cycle_most (heap_of script) ≤ most_stops script →
+        MayFollow (worked.world ≡ s.world) script new (length old.stops + 1)
     cycle_more h = one_cycle none_now (omega (arith, h, less))
 
   follows : MayFollow (Unit {0}) script old (length old.stops) → MayFollow (worked.world ≡ s.world) script new (length old.stops + 1)

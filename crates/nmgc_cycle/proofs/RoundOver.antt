@@ -49,14 +49,20 @@ use Rattle.nmgc_cycle.proofs.Rounded.{one_did}
 use Rattle.nmgc_cycle.proofs.Slicing.{commands_of}
 
 -- each has all its registers
-pub all_registers : (ms : List Mutator) → ((k : ℕ) (m : Mutator) → slice_get ms k ≡ Some m → HasRegisters m) → All HasAllRegisters (map end_of (map seen_mutator ms))
+pub all_registers : (ms : List Mutator) → ((k : ℕ) (m : Mutator) → slice_get ms k ≡ Some m → HasRegisters m) →
+    All HasAllRegisters (map end_of (map seen_mutator ms))
 all_registers [] h = All-nil HasAllRegisters
-all_registers (m ∷ ms) h = All-cons HasAllRegisters (end_of (seen_mutator m)) (map end_of (map seen_mutator ms)) (h 0 m refl) (all_registers ms (λ k n e. h (suc k) n e))
+all_registers (m ∷ ms) h =
+    All-cons HasAllRegisters (end_of (seen_mutator m)) (map end_of (map seen_mutator ms)) (h 0 m refl) (all_registers ms (λ k n e. h (suc k) n e))
 
 -- the roots, as a run reads them
-pub told_roots : (places : List Place) (w : World) (ms : List Mutator) → RepresentsRoots places w (turn.registers_of ms) (turn.queues_of ms) (turn.serials_of ms) → RepresentsRoots places w (registers_of (map end_of (map seen_mutator ms))) (queues_of (map end_of (map seen_mutator ms))) (serials_of (map end_of (map seen_mutator ms)))
+pub told_roots : (places : List Place) (w : World) (ms : List Mutator) →
+    RepresentsRoots places w (turn.registers_of ms) (turn.queues_of ms) (turn.serials_of ms) →
+    RepresentsRoots places w (registers_of (map end_of (map seen_mutator ms))) (queues_of (map end_of (map seen_mutator ms)))
+    (serials_of (map end_of (map seen_mutator ms)))
 told_roots places w ms r =
-    subst (λ (l : List ℕ). RepresentsRoots places w l (queues_of (map end_of (map seen_mutator ms))) (serials_of (map end_of (map seen_mutator ms)))) (sym (same_registers ms))
+    subst (λ (l : List ℕ).
+    RepresentsRoots places w l (queues_of (map end_of (map seen_mutator ms))) (serials_of (map end_of (map seen_mutator ms)))) (sym (same_registers ms))
     (subst (λ (l : List (List ℕ)). RepresentsRoots places w (turn.registers_of ms) l (serials_of (map end_of (map seen_mutator ms)))) (sym (same_queues ms))
     (subst (λ (l : List ℕ). RepresentsRoots places w (turn.registers_of ms) (turn.queues_of ms) l) (sym (same_serials ms)) r))
 
@@ -78,7 +84,8 @@ module _ (script : Script) (c new : Collector) (o : Opening) (x : IsOver script 
 
   -- the nursery of a mutator, by its number
   nursery_is : (k : ℕ) (m : Mutator) → slice_get new.mutators.items k ≡ Some m → nursery_at (turn.nurseries_of new.mutators.items) k ≡ m.nursery
-  nursery_is k m e = get_or_from_slice_get (turn.nurseries_of new.mutators.items) k m.nursery _ (slice_get-map (λ (n : Mutator). n.nursery) new.mutators.items k ∙ ap (option_map (λ (n : Mutator). n.nursery)) e)
+  nursery_is k m e = get_or_from_slice_get (turn.nurseries_of new.mutators.items) k m.nursery _ (slice_get-map (λ (n : Mutator).
+      n.nursery) new.mutators.items k ∙ ap (option_map (λ (n : Mutator). n.nursery)) e)
 
   -- where no commands were left, nothing was made
   empty : ((m : ℕ) → program_of (s script c new o x).left m ≡ []) → AreEmpty (turn.nurseries_of new.mutators.items)
@@ -87,13 +94,19 @@ module _ (script : Script) (c new : Collector) (o : Opening) (x : IsOver script 
         let m = item new.mutators.items maker lt in
         let d = one_did script c new o x maker m.0 m.1 in
         let exists : maker < length script.threads = let count = mutators_count script c new o x in omega (arith, lt, count) in
-        let nothing : d.1.0 ≡ [] = none_done d.1.0 ((one script c new o x maker d.1.0 d.1.1).4.commands ∙ ap (slice_of script.config) (sym (left_is script c x.run x.still maker exists) ∙ none maker)) in
+        let nothing : d.1.0 ≡ [] = none_done d.1.0 ((one script c new o x maker d.1.0 d.1.1).4.commands ∙
+        ap (slice_of script.config) (sym (left_is script c x.run x.still maker exists) ∙ none maker)) in
         let made : words_by d.0.rows ≡ 0 = none_made d.0.fixed d.0.rows (subst (AllReply d.0.fixed d.0.rows) nothing d.1.2.replied) in
         let top = d.1.2.nursery.top in
         let is = nursery_is maker m.0 m.1 in
         ap (λ (n : Nursery). n.top) is ∙ omega (arith, top, made) ∙ sym (ap (λ (n : Nursery). n.base) is)
     | inr past ↦
-        let none : nursery_at (turn.nurseries_of new.mutators.items) maker ≡ record { base = 0; top = 0; end = 0 } = get_or_past (turn.nurseries_of new.mutators.items) maker (record { base = 0; top = 0; end = 0 }) (let count = length-map new.mutators.items (λ (n : Mutator). n.nursery) in omega (arith, count, past)) in
+        let none : nursery_at (turn.nurseries_of new.mutators.items) maker ≡ record { base = 0; top = 0; end = 0 } =
+        get_or_past (turn.nurseries_of new.mutators.items) maker (record {
+          base = 0;
+          top = 0;
+          end = 0;
+        }) (let count = length-map new.mutators.items (λ (n : Mutator). n.nursery) in omega (arith, count, past)) in
         ap (λ (n : Nursery). n.top) none ∙ sym (ap (λ (n : Nursery). n.base) none)
   ]
 
@@ -109,11 +122,15 @@ module _ (script : Script) (c new : Collector) (o : Opening) (x : IsOver script 
         subst (λ (l : List Place). AreBlocks c.segments (young_base c.segments) l o.core.world) (sym x.op.places_are)
         (subst (AreBlocks c.segments (young_base c.segments) x.still.at_stop.heap.places) (sym x.op.world_is) (blocks_there script c x.run x.limits x.still))
 
-    pub stopped : IsStopped (stop_after o x.did.words (view script c new o x) x.did.leaves.0 new.mutators.items) c.segments x.did.words (turn.nurseries_of new.mutators.items) (turn.registers_of new.mutators.items) (turn.queues_of new.mutators.items) (turn.recorded_of new.mutators.items) (turn.weaks_of new.mutators.items)
-    stopped = law o x.before x.did.words (view script c new o x) new.mutators.items x.did.done c.segments (can script c new o x) x.op.past (sym x.op.layout_is) x.still.kept.sound blocks x.did.leaves (worked script c new o x) has_reserve
+    pub stopped : IsStopped (stop_after o x.did.words (view script c new o x) x.did.leaves.0 new.mutators.items) c.segments x.did.words
+        (turn.nurseries_of new.mutators.items) (turn.registers_of new.mutators.items) (turn.queues_of new.mutators.items)
+        (turn.recorded_of new.mutators.items) (turn.weaks_of new.mutators.items)
+    stopped = law o x.before x.did.words (view script c new o x) new.mutators.items x.did.done c.segments (can script c new o x) x.op.past
+        (sym x.op.layout_is) x.still.kept.sound blocks x.did.leaves (worked script c new o x) has_reserve
 
     -- the nurseries are whole
-    whole : (maker : ℕ) → maker < layout.mutators → (nursery_at (turn.nurseries_of new.mutators.items) maker).end ≡ (nursery_at (turn.nurseries_of new.mutators.items) maker).base + layout.nursery
+    whole : (maker : ℕ) → maker < layout.mutators → (nursery_at (turn.nurseries_of new.mutators.items) maker).end ≡
+        (nursery_at (turn.nurseries_of new.mutators.items) maker).base + layout.nursery
     whole maker lt =
         let m = item new.mutators.items maker (let count = mutators_count script c new o x in omega (arith, count, lt)) in
         let did = (one_did script c new o x maker m.0 m.1).1.2 in
@@ -124,10 +141,12 @@ module _ (script : Script) (c new : Collector) (o : Opening) (x : IsOver script 
         ∙ sym (ap (λ (n : Nursery). n.base + layout.nursery) at)
 
     pub nurseries_left : AreNurseries layout (places script c new o x) (w script c new o x) (nurseries_of (shown script c new o x))
-    nurseries_left = subst (λ (l : List Nursery). AreNurseries layout (places script c new o x) (w script c new o x) l) (sym (same_nurseries new.mutators.items)) (record {
-      used = subst (λ (l : Layout). AreUsed l (nursery_place l 0) (places script c new o x) (w script c new o x) (turn.nurseries_of new.mutators.items)) x.still.kept.layout stopped.used;
-      ends = whole;
-    })
+    nurseries_left = subst (λ (l : List Nursery).
+        AreNurseries layout (places script c new o x) (w script c new o x) l) (sym (same_nurseries new.mutators.items)) (record {
+          used = subst (λ (l : Layout).
+              AreUsed l (nursery_place l 0) (places script c new o x) (w script c new o x) (turn.nurseries_of new.mutators.items)) x.still.kept.layout stopped.used;
+          ends = whole;
+        })
 
     pub in_order : LieInOrder (nursery_place layout 0) (places script c new o x)
     in_order = subst (λ (l : Layout). LieInOrder (nursery_place l 0) (places script c new o x)) x.still.kept.layout stopped.order
@@ -136,16 +155,28 @@ module _ (script : Script) (c new : Collector) (o : Opening) (x : IsOver script 
     pub spoken : earlier o ≡ snapshots (t script c new o x (s script c new o x).allocation).progress
     spoken = x.op.spoken ∙ sym (noted_snapshots (s script c new o x).progress (rows script c new o x))
 
-    pub remembered : Remembers (nursery_place layout 0) ((s script c new o x).world ∷ snapshots (t script c new o x (s script c new o x).allocation).progress) (places script c new o x) (w script c new o x) (recorded_in (shown script c new o x)) (young_weaks_in (shown script c new o x))
+    pub remembered : Remembers (nursery_place layout 0) ((s script c new o x).world ∷
+        snapshots (t script c new o x (s script c new o x).allocation).progress) (places script c new o x) (w script c new o x)
+        (recorded_in (shown script c new o x)) (young_weaks_in (shown script c new o x))
     remembered =
-        subst (λ (weaks : List ℕ). Remembers (nursery_place layout 0) ((s script c new o x).world ∷ snapshots (t script c new o x (s script c new o x).allocation).progress) (places script c new o x) (w script c new o x) (recorded_in (shown script c new o x)) weaks) (sym (same_weaks new.mutators.items))
-        (subst (λ (recorded : List ℕ). Remembers (nursery_place layout 0) ((s script c new o x).world ∷ snapshots (t script c new o x (s script c new o x).allocation).progress) (places script c new o x) (w script c new o x) recorded (turn.weaks_of new.mutators.items)) (sym (same_recorded new.mutators.items))
-        (subst (λ (later : List World). Remembers (nursery_place layout 0) ((s script c new o x).world ∷ later) (places script c new o x) (w script c new o x) (turn.recorded_of new.mutators.items) (turn.weaks_of new.mutators.items)) spoken
-        (subst (λ (began : World). Remembers (nursery_place layout 0) (began ∷ earlier o) (places script c new o x) (w script c new o x) (turn.recorded_of new.mutators.items) (turn.weaks_of new.mutators.items)) x.op.world_is
-        (subst (λ (l : Layout). Remembers (nursery_place l 0) (o.core.world ∷ earlier o) (places script c new o x) (w script c new o x) (turn.recorded_of new.mutators.items) (turn.weaks_of new.mutators.items)) x.still.kept.layout stopped.left))))
+        subst (λ (weaks : List ℕ). Remembers (nursery_place layout 0) ((s script c new o x).world ∷
+        snapshots (t script c new o x (s script c new o x).allocation).progress) (places script c new o x) (w script c new o x)
+        (recorded_in (shown script c new o x)) weaks) (sym (same_weaks new.mutators.items))
+        (subst (λ (recorded : List ℕ). Remembers (nursery_place layout 0) ((s script c new o x).world ∷
+        snapshots (t script c new o x (s script c new o x).allocation).progress) (places script c new o x) (w script c new o x) recorded
+        (turn.weaks_of new.mutators.items)) (sym (same_recorded new.mutators.items))
+        (subst (λ (later : List World). Remembers (nursery_place layout 0) ((s script c new o x).world ∷
+        later) (places script c new o x) (w script c new o x) (turn.recorded_of new.mutators.items) (turn.weaks_of new.mutators.items)) spoken
+        (subst (λ (began : World). Remembers (nursery_place layout 0) (began ∷
+        earlier o) (places script c new o x) (w script c new o x) (turn.recorded_of new.mutators.items) (turn.weaks_of new.mutators.items)) x.op.world_is
+        (subst (λ (l : Layout). Remembers (nursery_place l 0) (o.core.world ∷
+        earlier o) (places script c new o x) (w script c new o x) (turn.recorded_of new.mutators.items) (turn.weaks_of new.mutators.items))
+        x.still.kept.layout stopped.left))))
 
     -- with segments that stand for the same blocks, the round began with the heap of the stop
-    abbrev pub round_from : (segments : Segments) → segments.layout ≡ layout → StandsFor segments (seen c).words (s script c new o x).allocation → IsRoundFrom layout (s script c new o x) (t script c new o x (s script c new o x).allocation) o (seen c).words x.did.words (view script c new o x) c.segments segments (ends_of (seen c)) (ends_of (shown script c new o x)) (seen c).weaks
+    abbrev pub round_from : (segments : Segments) → segments.layout ≡ layout → StandsFor segments (seen c).words (s script c new o x).allocation →
+        IsRoundFrom layout (s script c new o x) (t script c new o x (s script c new o x).allocation) o (seen c).words x.did.words
+        (view script c new o x) c.segments segments (ends_of (seen c)) (ends_of (shown script c new o x)) (seen c).weaks
     round_from segments same stands = record {
       heap = x.still.at_stop.heap;
       known = (sound_state script c x.run x.limits x.still).known;

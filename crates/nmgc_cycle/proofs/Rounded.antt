@@ -30,7 +30,8 @@ use Rattle.nmgc_cycle.proofs.Slicing.{commands_of}
 
 module _ (script : Script) (c new : Collector) (o : Opening) (x : IsOver script c new o) where
   -- what a mutator did, with its part of the view
-  pub one_did : (k : ℕ) (m : Mutator) → slice_get new.mutators.items k ≡ Some m → (p : Part) × ((d : List Done) × (slice_get x.did.done k ≡ Some d) × HasWorked o p m d)
+  pub one_did : (k : ℕ) (m : Mutator) → slice_get new.mutators.items k ≡ Some m → (p : Part) ×
+      ((d : List Done) × (slice_get x.did.done k ≡ Some d) × HasWorked o p m d)
   one_did k m e =
       let h = worked script c new o x in
       let within = slice_get_within new.mutators.items k m e in
@@ -41,12 +42,15 @@ module _ (script : Script) (c new : Collector) (o : Opening) (x : IsOver script 
 
   -- the replies, and the commands, which are the slices of the rule
   pub told_is : told script c new o x ≡ map replies_in x.did.done
-  told_is = let h = worked script c new o x in same_maps (λ (m : Mutator). m.replies.items) replies_in new.mutators.items x.did.done (h.mutators_are ∙ sym h.done_are) (λ k m d e f. replied script c new o x k m d e f)
+  told_is = let h = worked script c new o x in same_maps (λ (m : Mutator).
+      m.replies.items) replies_in new.mutators.items x.did.done (h.mutators_are ∙ sym h.done_are) (λ k m d e f. replied script c new o x k m d e f)
 
   pub slices_are : slices script.config (s script c new o x).left ≡ map commands_of x.did.done
-  slices_are = same_maps (slice_of script.config) commands_of (s script c new o x).left x.did.done ((sound_state script c x.run x.limits x.still).able.programs ∙ sym (done_count script c new o x)) each
+  slices_are = same_maps (slice_of script.config) commands_of (s script c new o x).left x.did.done
+      ((sound_state script c x.run x.limits x.still).able.programs ∙ sym (done_count script c new o x)) each
     where
-      each : (k : ℕ) (program : List Command) (d : List Done) → slice_get (s script c new o x).left k ≡ Some program → slice_get x.did.done k ≡ Some d → slice_of script.config program ≡ commands_of d
+      each : (k : ℕ) (program : List Command) (d : List Done) → slice_get (s script c new o x).left k ≡ Some program →
+          slice_get x.did.done k ≡ Some d → slice_of script.config program ≡ commands_of d
       each k program d e f =
           let within = slice_get_within x.did.done k d f in
           let count = done_count script c new o x in
@@ -57,19 +61,24 @@ module _ (script : Script) (c new : Collector) (o : Opening) (x : IsOver script 
   -- the law's facts
   module _ (history : RoundIsHistory) where
     legal : IsLegal (s script c new o x).world (rows script c new o x)
-    legal = subst (λ (world : World). IsLegal world (rows script c new o x)) x.op.world_is (history o x.did.words (view script c new o x) new.mutators.items x.did.done x.did.leaves.0 (worked script c new o x)).0
+    legal = subst (λ (world : World).
+        IsLegal world (rows script c new o x)) x.op.world_is (history o x.did.words (view script c new o x) new.mutators.items x.did.done
+        x.did.leaves.0 (worked script c new o x)).0
 
     each_done : (m : ℕ) → done_in (rows_of m (rows script c new o x)) ≡ slice_index_or x.did.done m []
     each_done = (history o x.did.words (view script c new o x) new.mutators.items x.did.done x.did.leaves.0 (worked script c new o x)).1
 
     pub world_is : w script c new o x ≡ replayed (s script c new o x).world (rows script c new o x)
-    world_is = (history o x.did.words (view script c new o x) new.mutators.items x.did.done x.did.leaves.0 (worked script c new o x)).2 ∙ ap (λ (world : World). replayed world (rows script c new o x)) x.op.world_is
+    world_is = (history o x.did.words (view script c new o x) new.mutators.items x.did.done x.did.leaves.0 (worked script c new o x)).2 ∙
+        ap (λ (world : World). replayed world (rows script c new o x)) x.op.world_is
 
     order : (m : ℕ) → rows_of m (rows script c new o x) ≡ own_rows (slices script.config (s script c new o x).left) (told script c new o x) m
     order m =
         let own : List Done = slice_index_or x.did.done m [] in
-        let commands : slice_index_or (slices script.config (s script c new o x).left) m [] ≡ commands_of own = ap (λ (l : List (List Command)). slice_index_or l m []) slices_are ∙ get_or-map commands_of x.did.done m [] in
-        let replies : slice_index_or (told script c new o x) m [] ≡ replies_in own = ap (λ (l : List (List Reply)). slice_index_or l m []) told_is ∙ get_or-map replies_in x.did.done m [] in
+        let commands : slice_index_or (slices script.config (s script c new o x).left) m [] ≡ commands_of own =
+        ap (λ (l : List (List Command)). slice_index_or l m []) slices_are ∙ get_or-map commands_of x.did.done m [] in
+        let replies : slice_index_or (told script c new o x) m [] ≡ replies_in own = ap (λ (l : List (List Reply)). slice_index_or l m []) told_is ∙
+        get_or-map replies_in x.did.done m [] in
         sym (
         ap (λ (l : List Command). answered m l (slice_index_or (told script c new o x) m [])) commands
         ∙ ap (λ (l : List Reply). answered m (commands_of own) l) replies
@@ -77,10 +86,13 @@ module _ (script : Script) (c new : Collector) (o : Opening) (x : IsOver script 
         ∙ own_again m (rows script c new o x)
         )
 
-    pub is_round : (allocation : AllocState) → SweepsBeside script.config.quota (s script c new o x).progress (s script c new o x).allocation allocation → IsRound script.config (s script c new o x) (told script c new o x) (rows script c new o x) (t script c new o x allocation)
+    pub is_round : (allocation : AllocState) →
+        SweepsBeside script.config.quota (s script c new o x).progress (s script c new o x).allocation allocation →
+        IsRound script.config (s script c new o x) (told script c new o x) (rows script c new o x) (t script c new o x allocation)
     is_round allocation swept = record {
       history = record {
-        lengths = ap (λ (l : List (List Reply)). map length l) told_is ∙ same_lengths x.did.done ∙ sym (ap (λ (l : List (List Command)). map length l) slices_are);
+        lengths = ap (λ (l : List (List Reply)). map length l) told_is ∙ same_lengths x.did.done ∙
+            sym (ap (λ (l : List (List Command)). map length l) slices_are);
         order = order;
         legal = legal;
       };

@@ -25,16 +25,21 @@ same_one m h =
     ∙ ap (λ (l : List ℕ). record (seen_mutator m) { recorded = l; young_weaks = [] }) (sym h.recorded)
     ∙ ap (λ (l : List ℕ). record (seen_mutator m) { young_weaks = l }) (sym h.young_weaks)
 
-pub same_seen : (old new : List Mutator) → ((k : ℕ) (m : Mutator) → slice_get old k ≡ Some m → IsQuiet m) → AreGivenBack (registers_of old) (queues_in old) old new → map seen_mutator new ≡ map seen_mutator old
+pub same_seen : (old new : List Mutator) → ((k : ℕ) (m : Mutator) → slice_get old k ≡ Some m → IsQuiet m) →
+    AreGivenBack (registers_of old) (queues_in old) old new → map seen_mutator new ≡ map seen_mutator old
 same_seen [] [] quiet h = refl
 same_seen [] (n ∷ new) quiet h = absurd (let all : length (n ∷ new) ≡ 0 = h.count in omega (arith, all))
 same_seen (m ∷ old) [] quiet h = absurd (let all : 0 ≡ length (m ∷ old) = h.count in omega (arith, all))
 same_seen (m ∷ old) (n ∷ new) quiet h =
     let q : IsQuiet m = quiet 0 m refl in
-    let first : n ≡ given_back (take REGISTERS (registers_of (m ∷ old))) m.queue m = first_given (registers_of (m ∷ old)) m.queue (queues_in old) m n old new h in
-    let is : n ≡ given_back m.registers m.queue m = first ∙ ap (λ (l : List ℕ). given_back l m.queue m) (take_at m.registers (registers_of old) REGISTERS q.size) in
-    let rest : AreGivenBack (drop REGISTERS (registers_of (m ∷ old))) (queues_in old) old new = rest_given (registers_of (m ∷ old)) m.queue (queues_in old) m n old new h in
-    let more : AreGivenBack (registers_of old) (queues_in old) old new = subst (λ (l : List ℕ). AreGivenBack l (queues_in old) old new) (drop_at m.registers (registers_of old) REGISTERS q.size) rest in
+    let first : n ≡ given_back (take REGISTERS (registers_of (m ∷ old))) m.queue m =
+    first_given (registers_of (m ∷ old)) m.queue (queues_in old) m n old new h in
+    let is : n ≡ given_back m.registers m.queue m = first ∙ ap (λ (l : List ℕ).
+    given_back l m.queue m) (take_at m.registers (registers_of old) REGISTERS q.size) in
+    let rest : AreGivenBack (drop REGISTERS (registers_of (m ∷ old))) (queues_in old) old new =
+    rest_given (registers_of (m ∷ old)) m.queue (queues_in old) m n old new h in
+    let more : AreGivenBack (registers_of old) (queues_in old) old new =
+    subst (λ (l : List ℕ). AreGivenBack l (queues_in old) old new) (drop_at m.registers (registers_of old) REGISTERS q.size) rest in
     ap (λ (x : Mutator). seen_mutator x ∷ map seen_mutator new) is
     ∙ ap (λ (x : MutatorSeen). x ∷ map seen_mutator new) (same_one m q)
     ∙ ap (λ (l : List MutatorSeen). seen_mutator m ∷ l) (same_seen old new (λ k x e. quiet (suc k) x e) more)

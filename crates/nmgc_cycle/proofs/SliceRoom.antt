@@ -23,7 +23,10 @@ on_both (Err e) f p q = p
 min_few : (slice left : ℕ) → min slice left ≤ left
 min_few slice left = omega arith
 
-pub reserved_room : (script : Script) (c d : Collector) (run : Run) → IsInLimits script → IsAfterStop script c run → d ≡ record c { mutators = d.mutators } → AreReserved c.mutators.items d.mutators.items → ((k : ℕ) (x : Mutator) → k < length c.mutators.items → HasLists (min script.config.slice (length (left_at script c.positions.items k))) (slice_index_or d.mutators.items k x)) → HaveSliceRoom script d
+pub reserved_room : (script : Script) (c d : Collector) (run : Run) → IsInLimits script → IsAfterStop script c run →
+    d ≡ record c { mutators = d.mutators } → AreReserved c.mutators.items d.mutators.items →
+    ((k : ℕ) (x : Mutator) → k < length c.mutators.items →
+    HasLists (min script.config.slice (length (left_at script c.positions.items k))) (slice_index_or d.mutators.items k x)) → HaveSliceRoom script d
 reserved_room script c d run limits still same reserved lists k m e =
     let within = slice_get_within d.mutators.items k m e in
     let count = reserved.count in
@@ -31,7 +34,8 @@ reserved_room script c d run limits still same reserved lists k m e =
     let old = item c.mutators.items k lt in
     let now : slice_index_or d.mutators.items k m ≡ m = get_or_from_slice_get d.mutators.items k m m e in
     let was : slice_index_or c.mutators.items k m ≡ old.0 = get_or_from_slice_get c.mutators.items k old.0 m old.1 in
-    let kept : Reserves old.0 m = subst (λ (x : Mutator). Reserves x m) was (subst (Reserves (slice_index_or c.mutators.items k m)) now (reserved.each k m lt)) in
+    let kept : Reserves old.0 m =
+    subst (λ (x : Mutator). Reserves x m) was (subst (Reserves (slice_index_or c.mutators.items k m)) now (reserved.each k m lt)) in
     let serial : m.serial ≡ old.0.serial = ap (λ (x : Mutator). x.serial) kept.rest in
     let size : ℕ = length (left_at script c.positions.items k) in
     let room : HasLists (min script.config.slice size) m = subst (HasLists (min script.config.slice size)) now (lists k m lt) in

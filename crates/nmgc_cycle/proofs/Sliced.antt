@@ -38,7 +38,8 @@ overwritten n (x ∷ xs) [] l e = absurd (omega arith)
 overwritten zero (x ∷ xs) (y ∷ ys) l e = absurd (omega arith)
 overwritten (suc n) (x ∷ xs) (y ∷ ys) l e = ap (λ rest. y ∷ rest) (overwritten n xs ys (omega arith) (omega arith))
 
-module _ (script : Script) (c : Collector) (run : Run) (limits : IsInLimits script) (still : IsAfterStop script c run) (o : Opening) (round : Round) (new : List Worker) (count : length new ≡ length c.mutators.items) (did : AllDid script c round o new) where
+module _ (script : Script) (c : Collector) (run : Run) (limits : IsInLimits script) (still : IsAfterStop script c run) (o : Opening) (round : Round)
+    (new : List Worker) (count : length new ≡ length c.mutators.items) (did : AllDid script c round o new) where
   positions_counted : length c.positions.items ≡ length new
   positions_counted = still.kept.positions_are ∙ sym (count ∙ still.kept.count)
 
@@ -60,7 +61,8 @@ module _ (script : Script) (c : Collector) (run : Run) (limits : IsInLimits scri
       let x = one_at k (omega (arith, lt, positions_counted)) in
       let is = done_at k x.0 x.1 in
       let most = x.2.1.slice.within in
-      let left : length (left_at script c.positions.items k) ≡ length (program_of script.threads k) - slice_index c.positions.items k = length-drop (slice_index c.positions.items k) (program_of script.threads k) in
+      let left : length (left_at script c.positions.items k) ≡ length (program_of script.threads k) - slice_index c.positions.items k =
+      length-drop (slice_index c.positions.items k) (program_of script.threads k) in
       let within = position_within script c run still k (let n = still.kept.positions_are in omega (arith, lt, n)) in
       let few = program_few script limits k in
       omega (arith, is, most, left, within, few)
@@ -74,11 +76,25 @@ module _ (script : Script) (c : Collector) (run : Run) (limits : IsInLimits scri
   -- and so is a full one
   pub asks_full_told : list_any asks_full_of new ≡ some_asks is_full (commands_in did.done)
   asks_full_told =
-      same_any asks_full_of (λ (d : List Done). list_any is_full (commands_of d)) new did.done (sym did.count) (λ k x d e f. (did.each k x d e f).slice.asks_full)
+      same_any asks_full_of (λ (d : List Done). list_any is_full (commands_of d)) new did.done (sym did.count) (λ k x d e f.
+      (did.each k x d e f).slice.asks_full)
       ∙ sym (any_mapped (list_any is_full) commands_of did.done)
 
   -- each did its slice
-  pub each_did : (words : Option (List ℕ)) (segments : Segments) (progress : held.Progress) (collect asked : Bool) (inbox : List Receiver) (mutators : Vec Mutator Global) (positions : Vec ℕ Global) → mutators.items ≡ map mutator_of new → ((k : ℕ) → k < length c.positions.items → slice_index positions.items k ≡ slice_index c.positions.items k + slice_index (map done_by new) k) → (k : ℕ) (m n : Mutator) (d : List Done) → slice_get c.mutators.items k ≡ Some m → slice_get mutators.items k ≡ Some n → slice_get did.done k ≡ Some d → DidSlice script c (record c { words = words; segments = segments; progress = progress; collect = collect; full = asked; inbox = inbox; mutators = mutators; positions = positions }) k m n d
+  pub each_did : (words : Option (List ℕ)) (segments : Segments) (progress : held.Progress) (collect asked : Bool) (inbox : List Receiver)
+      (mutators : Vec Mutator Global) (positions : Vec ℕ Global) → mutators.items ≡ map mutator_of new →
+      ((k : ℕ) → k < length c.positions.items → slice_index positions.items k ≡ slice_index c.positions.items k + slice_index (map done_by new) k) →
+      (k : ℕ) (m n : Mutator) (d : List Done) → slice_get c.mutators.items k ≡ Some m → slice_get mutators.items k ≡ Some n →
+      slice_get did.done k ≡ Some d → DidSlice script c (record c {
+        words = words;
+        segments = segments;
+        progress = progress;
+        collect = collect;
+        full = asked;
+        inbox = inbox;
+        mutators = mutators;
+        positions = positions;
+      }) k m n d
   each_did words segments progress collect asked inbox mutators positions same moved k m n d e f g =
       let x = map_item mutator_of new k n (ap (λ (l : List Mutator). slice_get l k) (sym same) ∙ f) in
       let h = did.each k x.0 d x.1 g in
@@ -100,6 +116,9 @@ module _ (script : Script) (c : Collector) (run : Run) (limits : IsInLimits scri
         sends =
             let line = h.slice.did.sends in
             let before = ap (λ (u : Mutator). u.sender) old in
-            let after = ap (λ (u : Mutator). u.sender) x.2 in
-            (ap (λ (s : Sender). s.ring) after ∙ line.0 ∙ ap (λ (s : Sender). s.ring) before, ap (λ (s : Sender). s.before) after ∙ line.1 ∙ ap (λ (s : Sender). s.before) before);
+            let after = ap (λ (u : Mutator). u.sender) x.2 in (
+              ap (λ (s : Sender). s.ring) after ∙ line.0 ∙ ap (λ (s : Sender). s.ring) before,
+              ap (λ (s : Sender). s.before) after ∙ line.1 ∙
+                  ap (λ (s : Sender). s.before) before,
+            );
       }

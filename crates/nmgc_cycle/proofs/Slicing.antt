@@ -58,20 +58,30 @@ pub record IsSlice (config : Config) (round : Round) (o : Opening) (k : ℕ) (le
   pub asks : new.asks ≡ list_any is_collect (commands_of done)
   pub asks_full : new.asks_full ≡ list_any is_full (commands_of done)
 
-pub slice_done : (config : Config) (round : Round) (o : Opening) (k : ℕ) (left : List Command) (m : Mutator) (seat : RoundSeat) (new : Worker) → seen seat ≡ alone o k → m.layout.nursery ≡ config.nursery → HasWorkedOn round config.slice left (worker_of (m, seat)) new → (done : List Done) × IsSlice config round o k left m new done
+pub slice_done : (config : Config) (round : Round) (o : Opening) (k : ℕ) (left : List Command) (m : Mutator) (seat : RoundSeat) (new : Worker) →
+    seen seat ≡ alone o k → m.layout.nursery ≡ config.nursery → HasWorkedOn round config.slice left (worker_of (m, seat)) new → (done : List Done) ×
+    IsSlice config round o k left m new done
 slice_done config round o k left m seat new is nursery h =
     let done : List Done = h.run.0 in
     let did : HasDone round (alone o k) new.seat m new.mutator done = subst (λ v. HasDone round v new.seat m new.mutator done) is h.run.2 in
     let within : new.done ≤ length left = ended_within left config.slice new.done new.mutator h.end h.ended in
     let first : commands_of done ≡ take new.done left = h.run.1 in
     let rows : rows_of (seen new.seat) ≡ did.rows = did.went.added in
-    let made : words_by (rows_of (seen new.seat)) ≡ all_made (take new.done left) = ap words_by rows ∙ made_by _ did.rows done did.replied ∙ ap all_made first in
+    let made : words_by (rows_of (seen new.seat)) ≡ all_made (take new.done left) = ap words_by rows ∙ made_by _ did.rows done did.replied ∙
+    ap all_made first in
     let place = did.ready.nursery in
     let top = place.top in
     let end = place.end in
     let fits = place.within in
     let size : new.mutator.layout.nursery ≡ config.nursery = ap (λ (l : Layout). l.nursery) did.layout ∙ nursery in
-    let room : all_made (take new.done left) + (new.mutator.nursery.end - new.mutator.nursery.top) ≡ config.nursery = omega (arith, made, top, end, fits, size) in (
+    let room : all_made (take new.done left) + (new.mutator.nursery.end - new.mutator.nursery.top) ≡ config.nursery = omega (
+      arith,
+      made,
+      top,
+      end,
+      fits,
+      size,
+    ) in (
       done,
       record {
         commands = first ∙ sym (slice_rule left config.slice config.nursery new.done new.mutator h.end h.ended h.most room);
@@ -79,7 +89,9 @@ slice_done config round o k left m seat new is nursery h =
         count = sym (length-map done (λ (d : Done). d.0)) ∙ ap length first ∙ length-take-le new.done left within;
         within = within;
         did = did;
-        asks = asks_by_end left config.slice new.done new.mutator h.end new.asks h.ended h.asks ∙ sym (ap (λ (cs : List Command). list_any is_collect cs) first);
-        asks_full = full_by_end left config.slice new.done new.mutator h.end new.asks_full h.ended h.asks_full ∙ sym (ap (λ (cs : List Command). list_any is_full cs) first);
+        asks = asks_by_end left config.slice new.done new.mutator h.end new.asks h.ended h.asks ∙
+            sym (ap (λ (cs : List Command). list_any is_collect cs) first);
+        asks_full = full_by_end left config.slice new.done new.mutator h.end new.asks_full h.ended h.asks_full ∙
+            sym (ap (λ (cs : List Command). list_any is_full cs) first);
       },
     )

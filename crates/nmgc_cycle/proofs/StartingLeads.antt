@@ -79,7 +79,8 @@ pub record BeginningLaws : Type 0 where
   pub course : CyclesBeginInCourse
 
 -- so many registers, where each mutator has all of its own
-registers_long : (ms : List Mutator) → ((n : ℕ) (m : Mutator) → slice_get ms n ≡ Some m → length m.registers ≡ REGISTERS) → length (registers_of ms) ≡ REGISTERS * length ms
+registers_long : (ms : List Mutator) → ((n : ℕ) (m : Mutator) → slice_get ms n ≡ Some m → length m.registers ≡ REGISTERS) →
+    length (registers_of ms) ≡ REGISTERS * length ms
 registers_long [] each = refl
 registers_long (m ∷ ms) each =
     let all : length (registers_of (m ∷ ms)) ≡ length m.registers + length (registers_of ms) = length-append m.registers (registers_of ms) in
@@ -117,7 +118,9 @@ module _ (laws : BeginningLaws) (script : Script) (c : Collector) (s : State) (h
       let there : slice_get (map seen_mutator c.mutators.items) n ≡ Some (seen_mutator m) = seen_at c.mutators.items n m e in
       let rest : IsAtRest (seen_mutator m) = h.rest n (seen_mutator m) there in
       let none_there : Nursery = record { base = 0; top = 0; end = 0 } in
-      let own : slice_index_or (nurseries_of (seen c)) n none_there ≡ m.nursery = get_or_from_slice_get (nurseries_of (seen c)) n m.nursery none_there (slice_get-map (λ (x : MutatorSeen). x.nursery) (map seen_mutator c.mutators.items) n ∙ ap (option_map (λ (x : MutatorSeen). x.nursery)) there) in
+      let own : slice_index_or (nurseries_of (seen c)) n none_there ≡ m.nursery =
+      get_or_from_slice_get (nurseries_of (seen c)) n m.nursery none_there (slice_get-map (λ (x : MutatorSeen).
+      x.nursery) (map seen_mutator c.mutators.items) n ∙ ap (option_map (λ (x : MutatorSeen). x.nursery)) there) in
       record {
         top = ap (λ (x : Nursery). x.top) (sym own) ∙ h.empty n ∙ ap (λ (x : Nursery). x.base) own;
         recorded = rest.recorded;
@@ -135,10 +138,12 @@ module _ (laws : BeginningLaws) (script : Script) (c : Collector) (s : State) (h
   ends_same = room_ends c.weaks.list st.between before.mutators.items st.queue_room ∙ ap (λ (l : List MutatorSeen). map end_of l) between_same
 
   nurseries_same : nurseries_of (seen next) ≡ nurseries_of (seen c)
-  nurseries_same = room_nurseries c.weaks.list st.between before.mutators.items st.queue_room ∙ ap (λ (l : List MutatorSeen). map (λ (m : MutatorSeen). m.nursery) l) between_same
+  nurseries_same = room_nurseries c.weaks.list st.between before.mutators.items st.queue_room ∙
+      ap (λ (l : List MutatorSeen). map (λ (m : MutatorSeen). m.nursery) l) between_same
 
   -- one of them, without the room
-  was : (n : ℕ) (m : Mutator) → slice_get before.mutators.items n ≡ Some m → (b : Mutator) × (slice_get st.between n ≡ Some b) × HasQueueRoom (count_made_by b.number c.weaks.list) b m
+  was : (n : ℕ) (m : Mutator) → slice_get before.mutators.items n ≡ Some m → (b : Mutator) × (slice_get st.between n ≡ Some b) ×
+      HasQueueRoom (count_made_by b.number c.weaks.list) b m
   was n m e = one_room c.weaks.list st.between before.mutators.items st.queue_room n m e
 
   layout_is : segments.layout ≡ c.segments.layout
@@ -150,11 +155,16 @@ module _ (laws : BeginningLaws) (script : Script) (c : Collector) (s : State) (h
       let one = one_given (registers_of c.mutators.items) (queues_in c.mutators.items) c.mutators.items st.between given n b.0 b.1 in
       let own = h.kept.own n one.0 one.2 in
       let long = registers_long c.mutators.items (λ i x there. (h.kept.own i x there).whole.size) in
-      let is : m ≡ record (given_back (own_registers (registers_of c.mutators.items) n) (slice_index_or (queues_in c.mutators.items) n no_queue) one.0) { queue = m.queue } = b.2.rest ∙ ap (λ (x : Mutator). record x { queue = m.queue }) one.3 in
+      let is : m ≡ record (given_back (own_registers (registers_of c.mutators.items) n) (slice_index_or (queues_in c.mutators.items) n no_queue)
+      one.0) { queue = m.queue } = b.2.rest ∙ ap (λ (x : Mutator). record x { queue = m.queue }) one.3 in
       subst (λ (x : Mutator). IsOwn next n x) (sym is) (record {
         number = own.number;
         layout = own.layout ∙ sym layout_is;
-        whole = record { layout = own.whole.layout; number = own.whole.number; size = own_count (registers_of c.mutators.items) (length c.mutators.items) n long one.1 };
+        whole = record {
+          layout = own.whole.layout;
+          number = own.whole.number;
+          size = own_count (registers_of c.mutators.items) (length c.mutators.items) n long one.1;
+        };
         no_replies = own.no_replies;
         line = own.line;
       })
@@ -163,7 +173,8 @@ module _ (laws : BeginningLaws) (script : Script) (c : Collector) (s : State) (h
   rest_then n mutator e =
       let x = map_item seen_mutator before.mutators.items n mutator e in
       let b = was n x.0 x.1 in
-      let there : slice_get (seen c).mutators n ≡ Some (seen_mutator b.0) = ap (λ (l : List MutatorSeen). slice_get l n) (sym between_same) ∙ seen_at st.between n b.0 b.1 in
+      let there : slice_get (seen c).mutators n ≡ Some (seen_mutator b.0) = ap (λ (l : List MutatorSeen). slice_get l n) (sym between_same) ∙
+      seen_at st.between n b.0 b.1 in
       let left : IsAtRest (seen_mutator b.0) = h.rest n (seen_mutator b.0) there in
       subst IsAtRest (sym (x.2 ∙ ap seen_mutator b.2.rest)) (record { recorded = left.recorded; young_weaks = left.young_weaks; entries = left.entries })
 
@@ -202,12 +213,17 @@ module _ (laws : BeginningLaws) (script : Script) (c : Collector) (s : State) (h
     able = record { programs = h.sound.able.programs; mutators = h.sound.able.mutators; registers = h.sound.able.registers; serials = h.sound.able.serials };
     sound_blocks = begun_filed plan s.allocation h.sound.sound_blocks;
     known = λ number block n lies. h.sound.known number block n ((begun_names s.allocation number block n).0 lies);
-    cycle = (record { world = h.sound.world; rows = tt }, refl, λ number block n is lies. h.sound.known number block n ((begun_names s.allocation number block n).0 lies));
+    cycle = (
+      record { world = h.sound.world; rows = tt },
+      refl,
+      λ number block n is lies. h.sound.known number block n ((begun_names s.allocation number block n).0 lies),
+    );
     earlier = λ e held. elim (contains_cases s.world [] e held) [
       | inl is ↦ subst (λ (x : World). IsEarlier x s.world) is (world_is_earlier s.world h.sound.world)
       | inr nowhere ↦ absurd (nothing_in e nowhere)
     ];
-    blocks = λ n tracked other. let has = has_block n (tracked_itself s.world n tracked) other in (has.0, has.1, (begun_names s.allocation has.0 has.1 n).1 has.2);
+    blocks = λ n tracked other. let has = has_block n (tracked_itself s.world n tracked) other in
+        (has.0, has.1, (begun_names s.allocation has.0 has.1 n).1 has.2);
   }
     where
       has_block : (n : Name) → IsTracked s.world [] n → n ≢ shared_name → HasBlock s.allocation n
@@ -221,7 +237,8 @@ module _ (laws : BeginningLaws) (script : Script) (c : Collector) (s : State) (h
   heap_as : (g : HoldsAtStop plan t words segments (ends_of (seen c)) (seen c).weaks) × (g.places ≡ h.heap.places)
   heap_as =
       let begun = laws.stop plan s words c.segments (ends_of (seen c)) (seen c).weaks h.heap in
-      let on = laws.marked plan (cycle_started s) words (all_prepared c.segments) segments (ends_of (seen c)) (seen c).weaks begun.0 (layout_is ∙ h.kept.layout) stands_then in
+      let on = laws.marked plan (cycle_started s) words (all_prepared c.segments) segments (ends_of (seen c)) (seen c).weaks begun.0 (layout_is ∙
+      h.kept.layout) stands_then in
       (record { places = on.0.places; all = on.0.all; holds = on.0.holds; listed = on.0.listed }, on.1 ∙ begun.1)
 
   heap : (g : HoldsAtStop plan t words segments (ends_of (seen next)) (seen next).weaks) × (g.places ≡ h.heap.places)
@@ -239,18 +256,33 @@ module _ (laws : BeginningLaws) (script : Script) (c : Collector) (s : State) (h
   begun_then = subst (λ (n : ℕ). HasBegun (all_prepared c.segments) n mk.sweeper) epoch_is st.sweeper
 
   notes : HasNotes k mk.sweeper
-  notes = laws.noted k words (all_prepared c.segments) (epoch_of (s.begun + 1)) mk.sweeper (prepared_shown laws.prepares laws.begins script c s h at) no_wait h.sound.sound_blocks.once refl begun_then
+  notes = laws.noted k words (all_prepared c.segments) (epoch_of (s.begun + 1)) mk.sweeper
+      (prepared_shown laws.prepares laws.begins script c s h at) no_wait h.sound.sound_blocks.once refl begun_then
 
   left_then : AreLeft segments mk.sweeper
-  left_then = laws.left (all_prepared c.segments) segments mk.sweeper (laws.waits (all_prepared c.segments) segments words words (cycle_begun s.allocation) (prepared_shown laws.prepares laws.begins script c s h at) stands_then) layout_is begun_then.left
+  left_then = laws.left (all_prepared c.segments) segments mk.sweeper
+      (laws.waits (all_prepared c.segments) segments words words (cycle_begun s.allocation)
+      (prepared_shown laws.prepares laws.begins script c s h at) stands_then) layout_is begun_then.left
 
   is_marking : (places : List Place) → places ≡ h.heap.places → IsMarking k t (seen next) places
   is_marking places same_places =
       let o : Opening = snapshot_opening laws.prepares laws.begins script c s h at in
       let tied = st.tied o (beginning laws.prepares laws.begins script c s h at) in
-      let m = laws.marks plan s words c.segments (seen next) (ends_of (seen c)) (seen c).weaks o (most_blocks c.segments.layout) h.heap h.sound.world st.sound refl refl refl marked_then tied
+      let m = laws.marks plan s words c.segments (seen next) (ends_of (seen c)) (seen c).weaks o (most_blocks c.segments.layout) h.heap
+      h.sound.world st.sound refl refl refl marked_then tied
       queue_room_then (λ n mutator e. (rest_then n mutator e).entries) st.from_is notes.noted (begun_then.had, begun_then.freed) in
-      subst (λ (l : List Place). IsMarking k t (seen next) l) (sym same_places) (record { core = m.core; machine = m.machine; tied = m.tied; remembered = m.remembered; low = m.low; room = m.room; queue_room = m.queue_room; from_is = m.from_is; noted = m.noted; nothing_listed = m.nothing_listed })
+      subst (λ (l : List Place). IsMarking k t (seen next) l) (sym same_places) (record {
+        core = m.core;
+        machine = m.machine;
+        tied = m.tied;
+        remembered = m.remembered;
+        low = m.low;
+        room = m.room;
+        queue_room = m.queue_room;
+        from_is = m.from_is;
+        noted = m.noted;
+        nothing_listed = m.nothing_listed;
+      })
 
   in_pace : IsPacedAtStop script.config.quota k t (seen next)
   in_pace = laws.pace script.config.quota k t (seen next) refl (let pace = st.marked.scanned.pace in omega (arith, pace))
@@ -277,6 +309,15 @@ starting_leads laws script old new s limits h idle started =
     let words : started.marked.words ≡ old.words = words_same started.marked.words old.words st.words.1 h.kept.has_words st.words.0 in
     let before : started.marked ≡ record old { segments = started.marked.segments; mutators = started.marked.mutators } =
     st.rest ∙ ap (λ (x : Option (List ℕ)). record old { words = x; segments = started.marked.segments; mutators = started.marked.mutators }) words in
-    let next : new ≡ record old { segments = started.marked.segments; mutators = started.marked.mutators; progress = doing.Marking started.marking; begun = old.begun + 1; collect = false } =
+    let next : new ≡ record old {
+      segments = started.marked.segments;
+      mutators = started.marked.mutators;
+      progress = doing.Marking started.marking;
+      begun = old.begun + 1;
+      collect = false;
+    } =
     started.is ∙ ap (λ (x : Collector). record x { progress = doing.Marking started.marking; begun = old.begun + 1; collect = false }) before in
-    subst (λ (x : Collector). StandsAt script x (record (cycle_started s) { collect = false })) (sym next) (leads laws script old s h idle started.marked started.marking st)
+    subst (λ (x : Collector). StandsAt script x (record (cycle_started s) {
+      collect =
+          false;
+    })) (sym next) (leads laws script old s h idle started.marked started.marking st)

@@ -59,32 +59,39 @@ abbrev pub StandsInPace : (Cycle → State → Seen → Type 0) → Script → C
 StandsInPace Paced script c s = StandsForState Paced IsAtRest script c s
 
 -- the mutators are shown as the collector has them
-pub are_shown : (Paced : Cycle → State → Seen → Type 0) (script : Script) (c : Collector) (s : State) → StandsInPace Paced script c s → AreShown c.segments.layout (seen c) c.mutators.items
+pub are_shown : (Paced : Cycle → State → Seen → Type 0) (script : Script) (c : Collector) (s : State) → StandsInPace Paced script c s →
+    AreShown c.segments.layout (seen c) c.mutators.items
 are_shown Paced script c s h = record {
   are = refl;
   each = λ k m e. let own = h.kept.own k m e in (own.number, own.layout, own.whole);
 }
 
 -- while a cycle marks, its marker may finish, with the heap at rest
-module _ (Paced : Cycle → State → Seen → Type 0) (rests : HeapRests) (script : Script) (c : Collector) (s : State) (h : StandsInPace Paced script c s) (k : Cycle) (is : s.progress ≡ marking k) where
+module _ (Paced : Cycle → State → Seen →
+    Type 0) (rests : HeapRests) (script : Script) (c : Collector) (s : State) (h : StandsInPace Paced script c s) (k : Cycle) (is : s.progress ≡
+    marking k) where
   abbrev pub marks : IsMarking k s (seen c) h.heap.places × Paced k s (seen c)
   marks = subst (λ (q : Progress). HoldsInCycle (λ (r : Cycle). Paced r s (seen c)) q s (seen c) h.heap.places) is h.cycle
 
   pub at_rest : AreAtRest (layout_of (plan_of script)) h.heap.places s.world (seen c)
   at_rest = record { nurseries = h.nurseries; empty = h.empty; nothing = h.rest }
 
-  pub rests_there : RestsBeside k marks.0.core c.segments h.heap.places s.world (seen c).words c.mutators.items (seen c).marker.queue × IsReady (opening_beside c.segments.layout marks.0.core h.heap.places c.mutators.items) (seen c).words c.segments (seen c).marker
+  pub rests_there : RestsBeside k marks.0.core c.segments h.heap.places s.world (seen c).words c.mutators.items (seen c).marker.queue ×
+      IsReady (opening_beside c.segments.layout marks.0.core h.heap.places c.mutators.items) (seen c).words c.segments (seen c).marker
   rests_there = rests (plan_of script) s (seen c) k c.mutators.items h.sound h.heap at_rest is marks.0 h.kept.sound (are_shown Paced script c s h)
 
   -- the heap of the stop, with the machine
   abbrev pub stop : IsStopOf (layout_of (plan_of script)) k s (seen c) c.mutators.items
   stop = record { heap = h.heap; kept = marks.0; rest = rests_there.0 }
 
-module _ (Paced : Cycle → State → Seen → Type 0) (rests : HeapRests) (core_snapshot : CoreHasSnapshot) (may : FinishMayResolve) (deaths_room : DeathsHaveRoom) (script : Script) (c : Collector) (s : State) (h : StandsInPace Paced script c s) (k : Cycle) (is : s.progress ≡ marking k) where
+module _ (Paced : Cycle → State → Seen →
+    Type 0) (rests : HeapRests) (core_snapshot : CoreHasSnapshot) (may : FinishMayResolve) (deaths_room : DeathsHaveRoom) (script : Script)
+    (c : Collector) (s : State) (h : StandsInPace Paced script c s) (k : Cycle) (is : s.progress ≡ marking k) where
   abbrev now : IsMarking k s (seen c) h.heap.places × Paced k s (seen c)
   now = marks Paced rests script c s h k is
 
-  abbrev there : RestsBeside k now.0.core c.segments h.heap.places s.world (seen c).words c.mutators.items (seen c).marker.queue × IsReady (opening_beside c.segments.layout now.0.core h.heap.places c.mutators.items) (seen c).words c.segments (seen c).marker
+  abbrev there : RestsBeside k now.0.core c.segments h.heap.places s.world (seen c).words c.mutators.items (seen c).marker.queue ×
+      IsReady (opening_beside c.segments.layout now.0.core h.heap.places c.mutators.items) (seen c).words c.segments (seen c).marker
   there = rests_there Paced rests script c s h k is
 
   abbrev here : IsStopOf (layout_of (plan_of script)) k s (seen c) c.mutators.items
@@ -95,18 +102,27 @@ module _ (Paced : Cycle → State → Seen → Type 0) (rests : HeapRests) (core
   own_room m queue is =
       let own = map_item (λ (x : Mutator). x.queue) c.mutators.items m queue is in
       let same = core_snapshot k s.world now.0.core there.0.machine.sound now.0.machine in
-      subst (λ (y : World × FinQueue). weak_count y.0 m (seen c).weaks ≤ y.1.spare) (λ i. (sym same i, sym own.2 i)) (now.0.queue_room m (seen_mutator own.0) (item_map seen_mutator c.mutators.items m own.0 own.1))
+      subst (λ (y : World × FinQueue). weak_count y.0 m (seen c).weaks ≤ y.1.spare) (λ i. (
+        sym same i,
+        sym own.2 i,
+      )) (now.0.queue_room m (seen_mutator own.0) (item_map seen_mutator c.mutators.items m own.0 own.1))
 
   many_queues : length (queues_in c.mutators.items) ≡ length now.0.core.world.mutators
-  many_queues = length-map c.mutators.items (λ (x : Mutator). x.queue) ∙ sym (length-map c.mutators.items seen_mutator) ∙ sym (length-map (map seen_mutator c.mutators.items) end_of) ∙ sym (length-map (ends_of (seen c)) (λ (m : MutatorEnd). m.queue)) ∙ h.heap.holds.roots.mutators.0 ∙ ap (λ (w : World). length w.mutators) (sym now.0.machine.world_is)
+  many_queues = length-map c.mutators.items (λ (x : Mutator). x.queue) ∙ sym (length-map c.mutators.items seen_mutator) ∙
+      sym (length-map (map seen_mutator c.mutators.items) end_of) ∙ sym (length-map (ends_of (seen c)) (λ (m : MutatorEnd). m.queue)) ∙
+      h.heap.holds.roots.mutators.0 ∙ ap (λ (w : World). length w.mutators) (sym now.0.machine.world_is)
 
-  pub ready : (m : Marking) → m.marker ≡ (seen c).marker → HasClosingRoom (doing.Marking m) (length c.mutators.items) → IsReadyToClose (words_in c.words) c.segments c.weaks.list (queues_in c.mutators.items) m
+  pub ready : (m : Marking) → m.marker ≡ (seen c).marker → HasClosingRoom (doing.Marking m) (length c.mutators.items) →
+      IsReadyToClose (words_in c.words) c.segments c.weaks.list (queues_in c.mutators.items) m
   ready m marker closing = record {
     room = subst (HasRoomToMark c.segments) (sym marker) now.0.room;
     opening = stop_opening (layout_of (plan_of script)) k s (seen c) c.mutators.items here;
-    ready = subst (λ (x : MarkerSeen). IsReady (stop_opening (layout_of (plan_of script)) k s (seen c) c.mutators.items here) (words_in c.words) c.segments x) (sym marker) there.1;
+    ready = subst (λ (x : MarkerSeen).
+        IsReady (stop_opening (layout_of (plan_of script)) k s (seen c) c.mutators.items here) (words_in c.words) c.segments x) (sym marker) there.1;
     resolves = λ between finisher f. may (layout_of (plan_of script)) k s (seen c) c.mutators.items between finisher here f;
-    queue_room = λ between marked finisher then after list deaths f r. deaths_room (finished_on (stop_opening (layout_of (plan_of script)) k s (seen c) c.mutators.items here) between finisher f) after (words_in c.words) between marked finisher then (seen c).weaks list deaths (queues_in c.mutators.items)
+    queue_room = λ between marked finisher then after list deaths f r.
+        deaths_room (finished_on (stop_opening (layout_of (plan_of script)) k s (seen c) c.mutators.items here) between finisher f) after
+        (words_in c.words) between marked finisher then (seen c).weaks list deaths (queues_in c.mutators.items)
         (may (layout_of (plan_of script)) k s (seen c) c.mutators.items between finisher here f) r
         (many_queues ∙ ap (λ (x : Core). length x.world.mutators) (sym f.rest))
         (λ m queue is. subst (λ (w : World). weak_count w m (seen c).weaks ≤ queue.spare) (ap (λ (x : Core). x.snapshot) (sym f.rest)) (own_room m queue is));
@@ -114,11 +130,16 @@ module _ (Paced : Cycle → State → Seen → Type 0) (rests : HeapRests) (core
     holds_all = subst (λ (n : ℕ). n ≤ vec_capacity m.queues) (sym (length-map c.mutators.items (λ (x : Mutator). x.queue))) closing.1;
   }
 
-module _ (Paced : Cycle → State → Seen → Type 0) (rests : HeapRests) (core_snapshot : CoreHasSnapshot) (may : FinishMayResolve) (deaths_room : DeathsHaveRoom) (script : Script) (c : Collector) (s : State) (h : StandsInPace Paced script c s) where
-  now_by : (p : Doing) (q : Progress) → c.progress ≡ p → s.progress ≡ q → phase_in p ≡ phase_of q → CanCloseNow (words_in c.words) c.segments c.weaks.list (queues_in c.mutators.items) p
+module _ (Paced : Cycle → State → Seen →
+    Type 0) (rests : HeapRests) (core_snapshot : CoreHasSnapshot) (may : FinishMayResolve) (deaths_room : DeathsHaveRoom) (script : Script)
+    (c : Collector) (s : State) (h : StandsInPace Paced script c s) where
+  now_by : (p : Doing) (q : Progress) → c.progress ≡ p → s.progress ≡ q → phase_in p ≡ phase_of q →
+      CanCloseNow (words_in c.words) c.segments c.weaks.list (queues_in c.mutators.items) p
   now_by doing.Idle q at is e = tt
   now_by (doing.Marking m) idle at is e = absurd (let bad : phase.Marking ≡ phase.Idle = e in cc)
-  now_by (doing.Marking m) (marking k) at is e = ready Paced rests core_snapshot may deaths_room script c s h k is m (sym (ap marker_in at)) (subst (λ (p : Doing). HasClosingRoom p (length c.mutators.items)) at h.closing)
+  now_by (doing.Marking m) (marking k) at is e =
+      ready Paced rests core_snapshot may deaths_room script c s h k is m (sym (ap marker_in at)) (subst (λ (p : Doing).
+      HasClosingRoom p (length c.mutators.items)) at h.closing)
   now_by (doing.Marking m) (sweeping k closed) at is e = absurd (let bad : phase.Marking ≡ phase.Sweeping = e in cc)
   now_by (doing.Sweeping w) q at is e = tt
 
@@ -127,23 +148,28 @@ module _ (Paced : Cycle → State → Seen → Type 0) (rests : HeapRests) (core
   can_close_now = now_by c.progress s.progress refl refl h.matches.phase
 
 -- so may one whose last work left nothing
-close_by : (words : List ℕ) (segments : Segments) (weaks : List OldWeak) (queues : List FinQueue) (p : Doing) → CanCloseNow words segments weaks queues p → CanClose words segments weaks queues p
+close_by : (words : List ℕ) (segments : Segments) (weaks : List OldWeak) (queues : List FinQueue) (p : Doing) →
+    CanCloseNow words segments weaks queues p → CanClose words segments weaks queues p
 close_by words segments weaks queues doing.Idle can = tt
 close_by words segments weaks queues (doing.Marking m) can = λ none. can
 close_by words segments weaks queues (doing.Sweeping w) can = tt
 
 pub close_ready : HeapRests → CoreHasSnapshot → FinishMayResolve → DeathsHaveRoom → CloseReady
-close_ready rests core_snapshot may deaths_room script c s limits h = close_by (words_in c.words) c.segments c.weaks.list (queues_in c.mutators.items) c.progress (can_close_now (IsPacedWithin script.config.quota) rests core_snapshot may deaths_room script c s h)
+close_ready rests core_snapshot may deaths_room script c s limits h =
+    close_by (words_in c.words) c.segments c.weaks.list (queues_in c.mutators.items) c.progress
+    (can_close_now (IsPacedWithin script.config.quota) rests core_snapshot may deaths_room script c s h)
 
 -- so may any where the pace is that of a stop
 pub close_now_ready : HeapRests → CoreHasSnapshot → FinishMayResolve → DeathsHaveRoom → CloseNowReady
-close_now_ready rests core_snapshot may deaths_room script c s h = can_close_now (IsPacedAtStop script.config.quota) rests core_snapshot may deaths_room script c s h
+close_now_ready rests core_snapshot may deaths_room script c s h =
+    can_close_now (IsPacedAtStop script.config.quota) rests core_snapshot may deaths_room script c s h
 
 -- Beginning
 
 -- a heap whose segments were just prepared is one with which marking begins
 abbrev pub PreparedBegins : Type 0
-PreparedBegins = (o : Opening) (s : Segments) (epoch : ℕ) (words registers : List ℕ) (queues : List FinQueue) → IsPrepared o s epoch words registers queues → IsBeginning o s epoch words registers queues
+PreparedBegins = (o : Opening) (s : Segments) (epoch : ℕ) (words registers : List ℕ) (queues : List FinQueue) →
+    IsPrepared o s epoch words registers queues → IsBeginning o s epoch words registers queues
 
 -- the state of an idle collector is idle
 pub idle_state : (q : Progress) → phase.Idle ≡ phase_of q → q ≡ idle
@@ -152,10 +178,12 @@ idle_state (marking k) e = absurd (let bad : phase.Idle ≡ phase.Marking = e in
 idle_state (sweeping k closed) e = absurd (let bad : phase.Idle ≡ phase.Sweeping = e in cc)
 
 -- where no segment waits by the allocation state, none does
-pub none_back : (segments : Segments) (words : List ℕ) (a : AllocState) → StandsFor segments words a → NoneIs (IsIn stands.Sweeping) a → HasNone sought.Sweeping segments
+pub none_back : (segments : Segments) (words : List ℕ) (a : AllocState) → StandsFor segments words a → NoneIs (IsIn stands.Sweeping) a →
+    HasNone sought.Sweeping segments
 none_back segments words a st none i lt waits = none i (let count = st.count in omega (arith, count, lt)) ((st.shows i lt).state ∙ waits)
 
-module _ (prepares : StopIsPrepared) (begins : PreparedBegins) (script : Script) (c : Collector) (s : State) (h : StandsAt script c s) (at : c.progress ≡ doing.Idle) where
+module _ (prepares : StopIsPrepared) (begins : PreparedBegins) (script : Script) (c : Collector) (s : State) (h : StandsAt script c s)
+    (at : c.progress ≡ doing.Idle) where
   pub quiet : s.progress ≡ idle
   quiet = idle_state s.progress (sym (ap phase_in at) ∙ h.matches.phase)
 
@@ -172,14 +200,21 @@ module _ (prepares : StopIsPrepared) (begins : PreparedBegins) (script : Script)
   queues : run.queues_of (ends_of (seen c)) ≡ map (λ (q : FinQueue). q.words) (queues_in c.mutators.items)
   queues = queues_seen c ∙ sym (words_of_queues c.mutators.items)
 
-  pub prepared_there : IsPrepared snapshot_opening (all_prepared c.segments) (epoch_of (s.begun + 1)) (words_in c.words) (run.registers_of (ends_of (seen c))) (queues_in c.mutators.items)
-  prepared_there = prepares (layout_of (plan_of script)) s (words_in c.words) c.segments (ends_of (seen c)) (seen c).weaks (queues_in c.mutators.items) snapshot_opening h.heap h.sound.world h.kept.sound (prepared_sound c.segments h.kept.sound) none settled queues refl refl refl
+  pub prepared_there : IsPrepared snapshot_opening (all_prepared c.segments) (epoch_of (s.begun + 1)) (words_in c.words)
+      (run.registers_of (ends_of (seen c))) (queues_in c.mutators.items)
+  prepared_there = prepares (layout_of (plan_of script)) s (words_in c.words) c.segments (ends_of (seen c)) (seen c).weaks
+      (queues_in c.mutators.items) snapshot_opening h.heap h.sound.world h.kept.sound (prepared_sound c.segments h.kept.sound) none settled queues
+      refl refl refl
 
-  pub beginning : IsBeginning snapshot_opening (all_prepared c.segments) (next_epoch c) (words_in c.words) (registers_of c.mutators.items) (queues_in c.mutators.items)
+  pub beginning : IsBeginning snapshot_opening (all_prepared c.segments) (next_epoch c) (words_in c.words) (registers_of c.mutators.items)
+      (queues_in c.mutators.items)
   beginning =
-      let there = begins snapshot_opening (all_prepared c.segments) (epoch_of (s.begun + 1)) (words_in c.words) (run.registers_of (ends_of (seen c))) (queues_in c.mutators.items) prepared_there in
-      subst (λ (l : List ℕ). IsBeginning snapshot_opening (all_prepared c.segments) (next_epoch c) (words_in c.words) l (queues_in c.mutators.items)) (registers_seen c)
-      (subst (λ (n : ℕ). IsBeginning snapshot_opening (all_prepared c.segments) (epoch_of (n + 1)) (words_in c.words) (run.registers_of (ends_of (seen c))) (queues_in c.mutators.items)) (sym h.matches.begun) there)
+      let there = begins snapshot_opening (all_prepared c.segments) (epoch_of (s.begun + 1)) (words_in c.words)
+      (run.registers_of (ends_of (seen c))) (queues_in c.mutators.items) prepared_there in
+      subst (λ (l : List ℕ).
+      IsBeginning snapshot_opening (all_prepared c.segments) (next_epoch c) (words_in c.words) l (queues_in c.mutators.items)) (registers_seen c)
+      (subst (λ (n : ℕ). IsBeginning snapshot_opening (all_prepared c.segments) (epoch_of (n + 1)) (words_in c.words)
+      (run.registers_of (ends_of (seen c))) (queues_in c.mutators.items)) (sym h.matches.begun) there)
 
   pub prepared_shown : StandsFor (all_prepared c.segments) (words_in c.words) (cycle_begun s.allocation)
   prepared_shown = prepared_stands c.segments (words_in c.words) s.allocation h.heap.holds.stands

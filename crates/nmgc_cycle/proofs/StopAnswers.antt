@@ -23,7 +23,9 @@ use Rattle.nmgc_cycle.proofs.Telling.{stands_told}
 use Rattle.nmgc_cycle.proofs.WholeStop.{whole_stop}
 
 -- with a run that came to a state for which it stands, a collector is still
-still : (script : Script) (c : Collector) (rounds : List RoundRows) (stops : List StopRow) (cycles : List CycleRow) (row : StopRow) (t : State) → c.rounds ≡ rounds → c.stops ≡ stops ++ row ∷ [] → told_cycles c ≡ cycles → (told : IsToldBut (plan_of script) rounds stops cycles row t) → StandsAt script c t → AreFewAtStop script c → c.answered ≡ answer_of (plan_of script) t → IsAfterStop script c told.run
+still : (script : Script) (c : Collector) (rounds : List RoundRows) (stops : List StopRow) (cycles : List CycleRow) (row : StopRow) (t : State) →
+    c.rounds ≡ rounds → c.stops ≡ stops ++ row ∷ [] → told_cycles c ≡ cycles → (told : IsToldBut (plan_of script) rounds stops cycles row t) →
+    StandsAt script c t → AreFewAtStop script c → c.answered ≡ answer_of (plan_of script) t → IsAfterStop script c told.run
 still script c rounds stops cycles row t rounds_are stops_are cycles_are told stands few answers =
     let at : StandsAt script c (last_state told.run) = subst (λ (s : State). StandsAt script c s) (sym told.last) stands in
     record {
@@ -66,7 +68,10 @@ module _ (script : Script) (old new : Collector) (b : Begins script old) (many :
   stands = stands_told script new last t t refl refl led.stands.matches.collect led.stands.matches.full led.stands
 
   few : AreFewAtStop script last
-  few = subst (λ (rows : List StopRow). AreFewAtStop script (record new { stops = rows; answered = answered })) (sym stops_are) (few_at_stop script new old.stops row answered led.few led.begun led.more)
+  few = subst (λ (rows : List StopRow). AreFewAtStop script (record new {
+    stops = rows;
+    answered = answered;
+  })) (sym stops_are) (few_at_stop script new old.stops row answered led.few led.begun led.more)
 
   -- the stop is one of the run, and for the run with it the collector stands
   abbrev pub Goes : Type 0
@@ -75,7 +80,9 @@ module _ (script : Script) (old new : Collector) (b : Begins script old) (many :
   goes : answered ≡ answer_of plan t → Goes
   goes answers =
       let rows : List CycleRow = led.first ++ led.own in
-      let stop : IsStop plan b.began b.state t row rows = whole_stop plan b.began b.state led.promoted led.closed led.ended t many led.first led.own row led.promotes led.closes led.ends led.proceeds row_is in
+      let stop : IsStop plan b.began b.state t row rows =
+      whole_stop plan b.began b.state led.promoted led.closed led.ended t many led.first led.own row led.promotes led.closes led.ends
+      led.proceeds row_is in
       let told = b.goes_on t row rows stop in
       (rows, stop, still script last old.rounds old.stops (told_cycles old ++ rows) row t rounds_are stops_are led.cycles told stands few answers)
 

@@ -69,9 +69,11 @@ pub record IsRead (script : Script) (c : Collector) : Type 0 where
   pub reserve_is : reserve ≡ reserve_count c.segments.layout
 
 -- commands are left where they were before the last step of the stop
-pub some_left_then : (script : Script) (old new : Collector) (trigger stop : ℕ) (some : Bool) → ProceedsThen trigger some stop old new → IsTrue some ↔ SomeIsLeft script.threads old.positions.items → IsTrue some ↔ SomeIsLeft script.threads new.positions.items
+pub some_left_then : (script : Script) (old new : Collector) (trigger stop : ℕ) (some : Bool) → ProceedsThen trigger some stop old new →
+    IsTrue some ↔ SomeIsLeft script.threads old.positions.items → IsTrue some ↔ SomeIsLeft script.threads new.positions.items
 some_left_then script old new trigger stop some proceeds is =
-    let same : new.positions.items ≡ old.positions.items = ap (λ (x : List RoundRows × List StopRow × List ℕ). x.2) (proceeds_told trigger some stop old new proceeds) in
+    let same : new.positions.items ≡ old.positions.items = ap (λ (x : List RoundRows × List StopRow × List ℕ).
+    x.2) (proceeds_told trigger some stop old new proceeds) in
     subst (λ (positions : List ℕ). IsTrue some ↔ SomeIsLeft script.threads positions) (sym same) is
 
 -- why it answers so
@@ -102,12 +104,18 @@ module _ (script : Script) (c : Collector) (r : IsRead script c) where
 
   pub done_where : (e : StopEnd) → Why script c r e → (e ≡ answer.Done) ↔ IsDone script c
   done_where answer.Done why = ((λ e. (none_left why.0, when_idle c.progress why.1)), λ d. refl)
-  done_where (answer.HeapFull free reserve) why = ((λ e. absurd (let bad : answer.HeapFull free reserve ≡ answer.Done = e in cc)), λ d. absurd (some_left why.2 d.0))
+  done_where (answer.HeapFull free reserve) why = (
+    (λ e. absurd (let bad : answer.HeapFull free reserve ≡ answer.Done = e in cc)),
+    λ d. absurd (some_left why.2 d.0),
+  )
   done_where answer.GoOn (inl why) = ((λ e. absurd (let bad : answer.GoOn ≡ answer.Done = e in cc)), λ d. absurd (some_left why.0 d.0))
   done_where answer.GoOn (inr why) = ((λ e. absurd (let bad : answer.GoOn ≡ answer.Done = e in cc)), λ d. absurd (why.1 (ap phase_in d.1)))
 
   pub full_where : (e : StopEnd) → Why script c r e → (free reserve : ℕ) → (e ≡ answer.HeapFull free reserve) ↔ IsHeapFullAt script c free reserve
-  full_where answer.Done why free reserve = ((λ e. absurd (let bad : answer.Done ≡ answer.HeapFull free reserve = e in cc)), λ h. absurd (none_left why.0 h.left))
+  full_where answer.Done why free reserve = (
+    (λ e. absurd (let bad : answer.Done ≡ answer.HeapFull free reserve = e in cc)),
+    λ h. absurd (none_left why.0 h.left),
+  )
   full_where (answer.HeapFull f g) why free reserve = (to, back)
     where
       to : answer.HeapFull f g ≡ answer.HeapFull free reserve → IsHeapFullAt script c free reserve
@@ -125,13 +133,21 @@ module _ (script : Script) (c : Collector) (r : IsRead script c) where
           }
 
       back : IsHeapFullAt script c free reserve → answer.HeapFull f g ≡ answer.HeapFull free reserve
-      back h = ap (λ (n : ℕ). answer.HeapFull n g) (why.0 ∙ r.free_is ∙ sym h.free_is) ∙ ap (λ (n : ℕ). answer.HeapFull free n) (why.1 ∙ r.reserve_is ∙ sym h.reserve_is)
-  full_where answer.GoOn (inl why) free reserve = ((λ e. absurd (let bad : answer.GoOn ≡ answer.HeapFull free reserve = e in cc)), λ h. absurd (not_full free reserve why.1 h))
-  full_where answer.GoOn (inr why) free reserve = ((λ e. absurd (let bad : answer.GoOn ≡ answer.HeapFull free reserve = e in cc)), λ h. absurd (none_left why.0 h.left))
+      back h = ap (λ (n : ℕ). answer.HeapFull n g) (why.0 ∙ r.free_is ∙ sym h.free_is) ∙
+          ap (λ (n : ℕ). answer.HeapFull free n) (why.1 ∙ r.reserve_is ∙ sym h.reserve_is)
+  full_where answer.GoOn (inl why) free reserve = (
+    (λ e. absurd (let bad : answer.GoOn ≡ answer.HeapFull free reserve = e in cc)),
+    λ h. absurd (not_full free reserve why.1 h),
+  )
+  full_where answer.GoOn (inr why) free reserve = (
+    (λ e. absurd (let bad : answer.GoOn ≡ answer.HeapFull free reserve = e in cc)),
+    λ h. absurd (none_left why.0 h.left),
+  )
 
 -- the run
 
-module _ (laws : HasStopLaws) (script : Script) (old new : Collector) (limits : IsInLimits script) (x : IsStepped script old new) (r : IsRead script new) (many : ℕ) (many_is : many ≡ length x.promoted.promotion.moves) where
+module _ (laws : HasStopLaws) (script : Script) (old new : Collector) (limits : IsInLimits script) (x : IsStepped script old new)
+    (r : IsRead script new) (many : ℕ) (many_is : many ≡ length x.promoted.promotion.moves) where
   abbrev pub row : StopRow
   row = record { number = x.number; phase = r.phase; free = r.free; filled = r.filled; sweep = r.sweep; promoted = many }
 
@@ -144,20 +160,28 @@ module _ (laws : HasStopLaws) (script : Script) (old new : Collector) (limits : 
       b = begins script old limits can
 
       led : IsLed script b.began b.state (length x.promoted.promotion.moves) old new
-      led = steps.led laws script old x.promoted limits can x.promotes x.lists x.added x.adds x.number x.number_is x.closed x.closes x.ended x.ends new x.some x.some_is x.proceeds
+      led = steps.led laws script old x.promoted limits can x.promotes x.lists x.added x.adds x.number x.number_is x.closed x.closes x.ended x.ends
+          new x.some x.some_is x.proceeds
 
       pub rounds_are : new.rounds ≡ old.rounds
-      rounds_are = steps.rounds_are laws script old x.promoted limits can x.promotes x.lists x.added x.adds x.number x.number_is x.closed x.closes x.ended x.ends new x.some x.some_is x.proceeds
+      rounds_are = steps.rounds_are laws script old x.promoted limits can x.promotes x.lists x.added x.adds x.number x.number_is x.closed x.closes
+          x.ended x.ends new x.some x.some_is x.proceeds
 
       pub stops_are : stops ≡ old.stops ++ row ∷ []
-      stops_are = pushed ∙ ap (λ (rows : List StopRow). rows ++ row ∷ []) (steps.stops_are laws script old x.promoted limits can x.promotes x.lists x.added x.adds x.number x.number_is x.closed x.closes x.ended x.ends new x.some x.some_is x.proceeds)
+      stops_are = pushed ∙ ap (λ (rows : List StopRow). rows ++ row ∷
+          []) (steps.stops_are laws script old x.promoted limits can x.promotes x.lists x.added x.adds x.number x.number_is x.closed x.closes
+          x.ended x.ends new x.some x.some_is x.proceeds)
 
       told : row ≡ stop_row led.state (length x.promoted.promotion.moves)
-      told = row_is led.state (length x.promoted.promotion.moves) x.number r.free r.filled r.sweep many r.phase new.segments (words_in new.words) led.stands.heap.holds.stands (r.phase_is ∙ led.stands.matches.phase) (led.number ∙ b.number ∙ sym x.number_is) r.free_is r.filled_is r.sweep_is many_is
+      told = row_is led.state (length x.promoted.promotion.moves) x.number r.free r.filled r.sweep many r.phase new.segments (words_in new.words)
+          led.stands.heap.holds.stands (r.phase_is ∙ led.stands.matches.phase) (led.number ∙ b.number ∙
+          sym x.number_is) r.free_is r.filled_is r.sweep_is many_is
 
       left : has_left led.state.left ≡ r.left
       left =
-          let positions : (k : ℕ) → k < length script.threads → slice_index new.positions.items k ≡ answered_count old.rounds k = λ k lt. led.stands.kept.positions k lt ∙ ap (λ (rounds : List RoundRows). answered_count rounds k) rounds_are in
+          let positions : (k : ℕ) → k < length script.threads →
+          slice_index new.positions.items k ≡ answered_count old.rounds k = λ k lt. led.stands.kept.positions k lt ∙
+          ap (λ (rounds : List RoundRows). answered_count rounds k) rounds_are in
           ap has_left led.left ∙ left_is script old.rounds b.state.left new.positions.items b.left positions r.left r.left_is
 
       free_is : r.free ≡ run_free led.state
@@ -167,13 +191,21 @@ module _ (laws : HasStopLaws) (script : Script) (old new : Collector) (limits : 
       reserve_is = r.reserve_is ∙ ap reserve_count led.stands.kept.layout
 
       -- what it answers is what the run does
-      result : (e : StopEnd) → Why script new r e → answered ≡ ended_by e → Goes script old new b (length x.promoted.promotion.moves) led rounds_are stops answered row stops_are told
-      result answer.Done why is = done script old new b (length x.promoted.promotion.moves) led rounds_are stops answered row stops_are told (left ∙ why.0) (quiet_then led.state.progress (sym led.stands.matches.phase ∙ why.1)) is
-      result answer.GoOn (inl why) is = goes_on script old new b (length x.promoted.promotion.moves) led rounds_are stops answered row stops_are told r.free r.reserve (left ∙ why.0) free_is reserve_is why.1 is
-      result answer.GoOn (inr why) is = on script old new b (length x.promoted.promotion.moves) led rounds_are stops answered row stops_are told (left ∙ why.0) (busy_then led.state.progress (λ e. why.1 (led.stands.matches.phase ∙ e))) is
+      result : (e : StopEnd) → Why script new r e → answered ≡ ended_by e →
+          Goes script old new b (length x.promoted.promotion.moves) led rounds_are stops answered row stops_are told
+      result answer.Done why is = done script old new b (length x.promoted.promotion.moves) led rounds_are stops answered row stops_are told (left ∙
+          why.0) (quiet_then led.state.progress (sym led.stands.matches.phase ∙ why.1)) is
+      result answer.GoOn (inl why) is =
+          goes_on script old new b (length x.promoted.promotion.moves) led rounds_are stops answered row stops_are told r.free r.reserve (left ∙
+          why.0) free_is reserve_is why.1 is
+      result answer.GoOn (inr why) is =
+          on script old new b (length x.promoted.promotion.moves) led rounds_are stops answered row stops_are told (left ∙
+          why.0) (busy_then led.state.progress (λ e. why.1 (led.stands.matches.phase ∙ e))) is
       result (answer.HeapFull free reserve) why is =
-          let same : answered ≡ ended_by (answer.HeapFull r.free r.reserve) = is ∙ ap (λ (n : ℕ). ended_by (answer.HeapFull n reserve)) why.0 ∙ ap (λ (n : ℕ). ended_by (answer.HeapFull r.free n)) why.1 in
-          full script old new b (length x.promoted.promotion.moves) led rounds_are stops answered row stops_are told r.free r.reserve (left ∙ why.2) free_is reserve_is why.3 same
+          let same : answered ≡ ended_by (answer.HeapFull r.free r.reserve) = is ∙ ap (λ (n : ℕ). ended_by (answer.HeapFull n reserve)) why.0 ∙
+          ap (λ (n : ℕ). ended_by (answer.HeapFull r.free n)) why.1 in
+          full script old new b (length x.promoted.promotion.moves) led rounds_are stops answered row stops_are told r.free r.reserve (left ∙
+          why.2) free_is reserve_is why.3 same
 
       has_stopped : (e : StopEnd) → Why script new r e → answered ≡ ended_by e → HasStopped script after
       has_stopped e why is = let h = result e why is in ((b.goes_on led.state row h.0 h.1).run, h.2)
@@ -185,7 +217,10 @@ module _ (laws : HasStopLaws) (script : Script) (old new : Collector) (limits : 
 
     -- after a round, the run is that of before with one turn more
 
-    one_more : (w : HasWorked script old) (rows : List CycleRow) (stop : _) → IsAfterStop script after ((begins script old limits (inr w)).goes_on (led (inr w)).state row rows stop).run → (turn : Turn) × (turn.replies ≡ record { replies = w.replies }) × (turn.worked ≡ w.worked) × (turn.history ≡ w.history) × IsAfterStop script after (with_turn w.run turn)
+    one_more : (w : HasWorked script old) (rows : List CycleRow) (stop : _) →
+        IsAfterStop script after ((begins script old limits (inr w)).goes_on (led (inr w)).state row rows stop).run → (turn : Turn) ×
+        (turn.replies ≡ record { replies = w.replies }) × (turn.worked ≡ w.worked) × (turn.history ≡ w.history) ×
+        IsAfterStop script after (with_turn w.run turn)
     one_more w rows stop still =
         let turn = one_turn script old limits w (led (inr w)).state row rows stop in
         (turn.0, turn.1, turn.2, turn.3, subst (λ (run : Run). IsAfterStop script after run) turn.4 still)

@@ -51,14 +51,18 @@ none_young w name h = no (node_of w name) h.0.0 h.0.1
     no None e some = cc
     no (Some x) e some = cc
 
-none_placed : (layout : Layout) (w : World) (a b : AllocState) (names : List Name) → ((name : Name) → Contains names name → ⊥) → PlacesEach layout w a names b → b ≡ a
+none_placed : (layout : Layout) (w : World) (a b : AllocState) (names : List Name) → ((name : Name) → Contains names name → ⊥) →
+    PlacesEach layout w a names b → b ≡ a
 none_placed layout w a b [] none e = e
 none_placed layout w a b (name ∷ names) none h = absurd (none name (0, omega arith, refl))
 
-module _ (script : Script) (old new : Collector) (stops : ℕ) (layout : Layout) (began : World) (s t : State) (count : ℕ) (words after : List ℕ) (promoted : HasPromoted old new) (promotes : Promotes layout began s t count) (was : StandsFor old.segments words s.allocation) (is : StandsFor new.segments after t.allocation) where
+module _ (script : Script) (old new : Collector) (stops : ℕ) (layout : Layout) (began : World) (s t : State) (count : ℕ) (words after : List ℕ)
+    (promoted : HasPromoted old new) (promotes : Promotes layout began s t count) (was : StandsFor old.segments words s.allocation)
+    (is : StandsFor new.segments after t.allocation) where
   as_fresh : s.world ≡ began → new.segments.fresh ≡ old.segments.fresh
   as_fresh e =
-      let none : (name : Name) → Contains promotes.names name → ⊥ = λ name there. none_young s.world name (subst (λ (w : World). IsPromoted w s.world name) (sym e) (promotes.lists.sound name there)) in
+      let none : (name : Name) → Contains promotes.names name →
+      ⊥ = λ name there. none_young s.world name (subst (λ (w : World). IsPromoted w s.world name) (sym e) (promotes.lists.sound name there)) in
       let same = ap (λ (a : AllocState). a.fresh) (none_placed layout s.world s.allocation t.allocation promotes.names none promotes.places) in
       sym is.fresh ∙ same ∙ was.fresh
 
@@ -76,8 +80,10 @@ module _ (script : Script) (old new : Collector) (stops : ℕ) (layout : Layout)
 
 -- Adding
 
-module _ (script : Script) (old new : Collector) (stops : ℕ) (words : List ℕ) (a : AllocState) (st : StandsFor old.segments words a) (taken : HasTaken old new) where
-  adds : (p q : Doing) (entries : List ℕ) → AddsTo entries old.segments new.segments p q → (phase_left script.config.segments q ≡ phase_left script.config.segments p) × (new.segments.fresh ≡ old.segments.fresh)
+module _ (script : Script) (old new : Collector) (stops : ℕ) (words : List ℕ) (a : AllocState) (st : StandsFor old.segments words a)
+    (taken : HasTaken old new) where
+  adds : (p q : Doing) (entries : List ℕ) → AddsTo entries old.segments new.segments p q →
+      (phase_left script.config.segments q ≡ phase_left script.config.segments p) × (new.segments.fresh ≡ old.segments.fresh)
   adds doing.Idle q entries h = (ap (phase_left script.config.segments) h.0, ap (λ (x : Segments). x.fresh) h.1)
   adds (doing.Sweeping w) q entries h = (ap (phase_left script.config.segments) h.0, ap (λ (x : Segments). x.fresh) h.1)
   adds (doing.Marking m) q entries h =
@@ -107,7 +113,8 @@ module _ (script : Script) (old new : Collector) (stops : ℕ) (words : List ℕ
 ascending : (m bound n : ℕ) (ns : List ℕ) → Ascends (n ∷ ns) → m ≤ n → ((k : ℕ) → Contains (n ∷ ns) k → k < bound) → m + length (n ∷ ns) ≤ bound
 ascending m bound n [] up from each = let here = each n (0, omega arith, refl) in omega (arith, here, from)
 ascending m bound n (next ∷ ns) up from each =
-    let rest = ascending (m + 1) bound next ns up.1 (let less = up.0 in omega (arith, less, from)) (λ k there. each k (suc there.0, (let lt = there.1 in omega (arith, lt)), there.2)) in
+    let rest = ascending (m + 1) bound next ns up.1 (let less = up.0 in
+    omega (arith, less, from)) (λ k there. each k (suc there.0, (let lt = there.1 in omega (arith, lt)), there.2)) in
     omega (arith, rest)
 
 few_numbers : (bound : ℕ) (ns : List ℕ) → Ascends ns → ((k : ℕ) → Contains ns k → k < bound) → length ns ≤ bound
@@ -118,7 +125,8 @@ few_numbers bound (n ∷ ns) up each = let all = ascending 0 bound n ns up (omeg
 waits_in : (segments : Segments) (number : ℕ) → IsWaiting segments number → number < length segments.segments
 waits_in segments number waits = elim (cases_lt number (length segments.segments)) [
   | inl lt ↦ lt
-  | inr past ↦ absurd (let e : stands.Free ≡ stands.Sweeping = sym (ap (λ (x : Segment). x.state) (get_or_past segments.segments number (free_segment 0) past)) ∙ waits in cc)
+  | inr past ↦ absurd (let e : stands.Free ≡ stands.Sweeping = sym (ap (λ (x : Segment). x.state) (get_or_past segments.segments number (free_segment 0) past)) ∙ waits in
+      cc)
 ]
 
 -- no more segments are left than there are
@@ -132,13 +140,18 @@ none_waits segments sweeper h none i lt waits =
     let in_it = there.1 in
     omega (arith, in_it, none)
 
-module _ (script : Script) (old new : Collector) (stops stop : ℕ) (words : List ℕ) (a : AllocState) (st : StandsFor old.segments words a) (count : length old.segments.segments ≡ script.config.segments) (waiting : (m : Marking) → old.progress ≡ doing.Marking m → AreLeft old.segments m.sweeper) (closed : HasClosed Closes stop old new) where
+module _ (script : Script) (old new : Collector) (stops stop : ℕ) (words : List ℕ) (a : AllocState) (st : StandsFor old.segments words a)
+    (count : length old.segments.segments ≡ script.config.segments) (waiting : (m : Marking) → old.progress ≡ doing.Marking m →
+    AreLeft old.segments m.sweeper) (closed : HasClosed Closes stop old new) where
   Closed : Type 0
   Closed = (phase_left script.config.segments new.progress ≤ phase_left script.config.segments old.progress) × (new.segments.fresh ≡ old.segments.fresh)
 
   same : new ≡ old → Closed
   unfolding Closed
-  same e = (let phase = ap (λ (c : Collector). phase_left script.config.segments c.progress) e in omega (arith, phase), ap (λ (c : Collector). c.segments.fresh) e)
+  same e = (
+    let phase = ap (λ (c : Collector). phase_left script.config.segments c.progress) e in omega (arith, phase),
+    ap (λ (c : Collector). c.segments.fresh) e,
+  )
 
   closes : (p : Doing) → old.progress ≡ p → Closes stop p old new → Closed
   unfolding Closed
@@ -146,10 +159,13 @@ module _ (script : Script) (old new : Collector) (stops stop : ℕ) (words : Lis
   closes (doing.Sweeping w) is h = same h
   closes (doing.Marking m) is (inr h) = same h.1
   closes (doing.Marking m) is (inl h) =
-      let before : phase_left script.config.segments old.progress ≡ phase_left script.config.segments (doing.Marking m) = ap (phase_left script.config.segments) is in
-      let was : phase_left script.config.segments (doing.Marking m) ≡ script.config.segments + 1 = ap (λ (b : Bool). if b then script.config.segments + 1 else m.marker.spare + length m.marker.queue + script.config.segments + 2) h.0 in
+      let before : phase_left script.config.segments old.progress ≡ phase_left script.config.segments (doing.Marking m) =
+      ap (phase_left script.config.segments) is in
+      let was : phase_left script.config.segments (doing.Marking m) ≡ script.config.segments + 1 =
+      ap (λ (b : Bool). if b then script.config.segments + 1 else m.marker.spare + length m.marker.queue + script.config.segments + 2) h.0 in
       let w : Sweeping = h.1.0 in
-      let now : phase_left script.config.segments new.progress ≡ phase_left script.config.segments (doing.Sweeping w) = ap (phase_left script.config.segments) h.1.1 in
+      let now : phase_left script.config.segments new.progress ≡ phase_left script.config.segments (doing.Sweeping w) =
+      ap (phase_left script.config.segments) h.1.1 in
       let own : phase_left script.config.segments (doing.Sweeping w) ≡ length m.sweeper.left = ap (λ (x : Sweeping). length x.sweeper.left) h.1.2.is in
       let few = left_few old.segments m.sweeper (waiting m is) in
       let stays : StandAsBefore old.segments h.1.2.marked = λ words b there. h.1.2.second.1.stands words b (h.1.2.first.1.stands words b there) in (
@@ -172,9 +188,11 @@ module _ (script : Script) (old new : Collector) (stops stop : ℕ) (words : Lis
 
 -- a cycle that still marks after the closing has something left to scan
 
-goes_by : (stop : ℕ) (p : Doing) (old new : Collector) → old.progress ≡ p → Closes stop p old new → (m : Marking) → new.progress ≡ doing.Marking m → m.last.empty ≡ false
+goes_by : (stop : ℕ) (p : Doing) (old new : Collector) → old.progress ≡ p → Closes stop p old new → (m : Marking) → new.progress ≡ doing.Marking m →
+    m.last.empty ≡ false
 goes_by stop doing.Idle old new was h m is = absurd (let bad : doing.Idle ≡ doing.Marking m = sym (ap (λ (c : Collector). c.progress) h ∙ was) ∙ is in cc)
-goes_by stop (doing.Sweeping w) old new was h m is = absurd (let bad : doing.Sweeping w ≡ doing.Marking m = sym (ap (λ (c : Collector). c.progress) h ∙ was) ∙ is in cc)
+goes_by stop (doing.Sweeping w) old new was h m is =
+    absurd (let bad : doing.Sweeping w ≡ doing.Marking m = sym (ap (λ (c : Collector). c.progress) h ∙ was) ∙ is in cc)
 goes_by stop (doing.Marking n) old new was (inl h) m is = absurd (let bad : doing.Sweeping h.1.0 ≡ doing.Marking m = sym h.1.1 ∙ is in cc)
 goes_by stop (doing.Marking n) old new was (inr h) m is = ap (λ (x : Doing). (work_in x).empty) (sym is ∙ ap (λ (c : Collector). c.progress) h.1 ∙ was) ∙ h.0
 
@@ -205,7 +223,8 @@ module _ (script : Script) (old new : Collector) (stops stop : ℕ) (ends : Ends
   pub ending_few : AreFew (Unit {0}) script old stops → AreFew (Unit {0}) script new stops
   ending_few few = ended old.progress ends few
 
-  more : (p : Doing) → old.progress ≡ p → Ends stop p old new → ((m : Marking) → p ≡ doing.Marking m → m.last.empty ≡ false) → ((w : Sweeping) → p ≡ doing.Sweeping w → AreLeft old.segments w.sweeper) → HasMore new.progress
+  more : (p : Doing) → old.progress ≡ p → Ends stop p old new → ((m : Marking) → p ≡ doing.Marking m → m.last.empty ≡ false) →
+      ((w : Sweeping) → p ≡ doing.Sweeping w → AreLeft old.segments w.sweeper) → HasMore new.progress
   more doing.Idle is h goes left = subst HasMore (sym (ap (λ (c : Collector). c.progress) h ∙ is)) tt
   more (doing.Marking m) is h goes left = subst HasMore (sym (ap (λ (c : Collector). c.progress) h ∙ is)) (goes m refl)
   more (doing.Sweeping w) is (inl h) goes left = subst HasMore (sym (ap (λ (c : Collector). c.progress) h.1)) tt
@@ -215,12 +234,15 @@ module _ (script : Script) (old new : Collector) (stops stop : ℕ) (ends : Ends
   ])
 
   -- a cycle that goes on has something left
-  pub ending_more : ((m : Marking) → old.progress ≡ doing.Marking m → m.last.empty ≡ false) → ((w : Sweeping) → old.progress ≡ doing.Sweeping w → AreLeft old.segments w.sweeper) → HasMore new.progress
+  pub ending_more : ((m : Marking) → old.progress ≡ doing.Marking m → m.last.empty ≡ false) →
+      ((w : Sweeping) → old.progress ≡ doing.Sweeping w → AreLeft old.segments w.sweeper) → HasMore new.progress
   ending_more goes left = more old.progress refl ends goes left
 
 -- The beginning of one
 
-module _ (script : Script) (old new : Collector) (stops stop : ℕ) (layout : old.segments.layout ≡ heap_of script) (due : IsDue script.config.trigger old) (stood : HasStood (all_prepared old.segments) (words_in old.words)) (started : HasStarted stop old new) where
+module _ (script : Script) (old new : Collector) (stops stop : ℕ) (layout : old.segments.layout ≡
+    heap_of script) (due : IsDue script.config.trigger old) (stood : HasStood (all_prepared old.segments) (words_in old.words))
+    (started : HasStarted stop old new) where
   abbrev m : Marking
   m = started.marking
 
@@ -234,11 +256,13 @@ module _ (script : Script) (old new : Collector) (stops stop : ℕ) (layout : ol
       let most = ap most_blocks layout in
       let all : m.marker.spare + length m.marker.queue ≡ most_blocks (heap_of script) = omega (arith, pace, room, most) in
       ap (λ (c : Collector). phase_left script.config.segments c.progress) started.is
-      ∙ ap (λ (b : Bool). if b then script.config.segments + 1 else m.marker.spare + length m.marker.queue + script.config.segments + 2) (ap (λ (w : Work). w.empty) started.starts.last)
+      ∙ ap (λ (b : Bool). if b then script.config.segments + 1 else m.marker.spare + length m.marker.queue + script.config.segments + 2)
+      (ap (λ (w : Work). w.empty) started.starts.last)
       ∙ ap (λ (n : ℕ). n + script.config.segments + 2) all
 
   began_fresh : new.segments.fresh ≡ 0
-  began_fresh = ap (λ (c : Collector). c.segments.fresh) started.is ∙ fresh_before (all_prepared old.segments) started.marked.segments (words_in old.words) stood.0 stood.1 started.starts.marked.stands
+  began_fresh = ap (λ (c : Collector). c.segments.fresh) started.is ∙
+      fresh_before (all_prepared old.segments) started.marked.segments (words_in old.words) stood.0 stood.1 started.starts.marked.stands
 
   none_due : NoneIsDue script.config.trigger new
   none_due = record { not_asked = ap (λ (c : Collector). c.collect) started.is; not_filled = λ some. omega (arith, began_fresh, some) }
@@ -251,14 +275,17 @@ module _ (script : Script) (old new : Collector) (stops stop : ℕ) (layout : ol
 
   began : MayFollow (Unit {0}) script old stops → MayFollow (Unit {0}) script new stops
   began (commands h) = commands (let same = ap (λ (r : List RoundRows). commands_left script.threads r) began_rounds in omega (arith, h, same))
-  began (one_cycle none h) = no_cycle (ap (λ (r : List RoundRows). commands_left script.threads r) began_rounds ∙ none) tt none_due (let phase = began_phase in omega (arith, h, phase))
+  began (one_cycle none h) = no_cycle (ap (λ (r : List RoundRows). commands_left script.threads r) began_rounds ∙
+      none) tt none_due (let phase = began_phase in omega (arith, h, phase))
   began (no_cycle none nothing not h) = absurd (contradiction not)
 
   pub started_few : AreFew (Unit {0}) script old stops → AreFew (Unit {0}) script new stops
   started_few few = record { follow = began few.follow; phase = (let phase = began_phase in omega (arith, phase)) }
 
 -- a cycle begins where one is due
-pub beginning_few : (script : Script) (old new : Collector) (stops stop : ℕ) → old.segments.layout ≡ heap_of script → (IsDue script.config.trigger old → HasStood (all_prepared old.segments) (words_in old.words)) → Begins script.config.trigger stop old new → AreFew (Unit {0}) script old stops → AreFew (Unit {0}) script new stops
+pub beginning_few : (script : Script) (old new : Collector) (stops stop : ℕ) → old.segments.layout ≡ heap_of script →
+    (IsDue script.config.trigger old → HasStood (all_prepared old.segments) (words_in old.words)) → Begins script.config.trigger stop old new →
+    AreFew (Unit {0}) script old stops → AreFew (Unit {0}) script new stops
 beginning_few script old new stops stop layout stood (inl h) few = started_few script old new stops stop layout h.0 (stood h.0) h.1 few
 beginning_few script old new stops stop layout stood (inr h) few = subst (λ (c : Collector). AreFew (Unit {0}) script c stops) (sym h.1) few
 
@@ -273,7 +300,9 @@ beginning_begun trigger stop old new (inr h) = let e = ap (λ (c : Collector). c
 
 -- The whole stop: its row was told, and its answer
 
-pub few_at_stop : (script : Script) (c : Collector) (before : List StopRow) (row : StopRow) (answered : Option End) → AreFew (Unit {0}) script c (length before + 1) → c.begun ≤ length before + 1 → HasMore c.progress → AreFewAtStop script (record c { stops = before ++ row ∷ []; answered = answered })
+pub few_at_stop : (script : Script) (c : Collector) (before : List StopRow) (row : StopRow) (answered : Option End) →
+    AreFew (Unit {0}) script c (length before + 1) → c.begun ≤ length before + 1 → HasMore c.progress →
+    AreFewAtStop script (record c { stops = before ++ row ∷ []; answered = answered })
 few_at_stop script c before row answered few begun more =
     let last : Collector = record c { stops = before ++ row ∷ []; answered = answered } in
     let many = length-append before (row ∷ []) in

@@ -32,10 +32,12 @@ ending_number (sweeping c closed) s t cycles (inl h) = ap (λ (x : State). x.num
 ending_number (sweeping c closed) s t cycles (inr h) = same_number s t h.1
 
 finished_number : (s t : State) (cycles : List CycleRow) → Finishes s t cycles → t.number ≡ s.number
-finished_number s t cycles h = ending_number h.swept.progress h.swept t cycles h.ends ∙ ap (λ (x : State). x.number) h.others ∙ closed_number s.progress s h.closed h.closes
+finished_number s t cycles h = ending_number h.swept.progress h.swept t cycles h.ends ∙ ap (λ (x : State). x.number) h.others ∙
+    closed_number s.progress s h.closed h.closes
 
 full_number : (s t : State) (cycles : List CycleRow) → DoesFullCycle s t cycles → t.number ≡ s.number
-full_number s t cycles h = ap (λ (x : State). x.number) h.rest ∙ finished_number (cycle_started (with_all_retired h.idled)) h.last h.own h.again ∙ finished_number s h.idled h.before h.finishes
+full_number s t cycles h = ap (λ (x : State). x.number) h.rest ∙ finished_number (cycle_started (with_all_retired h.idled)) h.last h.own h.again ∙
+    finished_number s h.idled h.before h.finishes
 
 beginning_number : (config : Config) (s t : State) → BeginsOrWaits config s t → t.number ≡ s.number
 beginning_number config s t (inl h) = ap (λ (x : State). x.number) h.1
@@ -62,11 +64,13 @@ turns_number plan s (turn ∷ turns) h =
     omega (arith, after, stopped, worked)
 
 -- so many rounds, and one stop more, come before the next
-pub run_number : (plan : Plan) (run : Run) (rounds : List RoundRows) (stops : List StopRow) (cycles : List CycleRow) → IsRun plan run → Tells run rounds stops cycles → ((last_state run).number ≡ length rounds) × (length stops ≡ length rounds + 1)
+pub run_number : (plan : Plan) (run : Run) (rounds : List RoundRows) (stops : List StopRow) (cycles : List CycleRow) → IsRun plan run →
+    Tells run rounds stops cycles → ((last_state run).number ≡ length rounds) × (length stops ≡ length rounds + 1)
 run_number plan run rounds stops cycles h tells =
     let after : (last_state run).number ≡ run.opening.state.number + length run.turns = turns_number plan run.opening.state run.turns h.turns in
     let opened : run.opening.state.number ≡ 0 = stop_number plan _ _ run.opening.state run.opening.row run.opening.cycles h.opening in
-    let rows : length rounds ≡ length run.turns = ap (λ (r : List RoundRows). length r) tells.rounds_are ∙ length-map run.turns (λ (turn : Turn). turn.replies) in
+    let rows : length rounds ≡ length run.turns = ap (λ (r : List RoundRows). length r) tells.rounds_are ∙
+    length-map run.turns (λ (turn : Turn). turn.replies) in
     let each : length (map (λ (turn : Turn). turn.stop.row) run.turns) ≡ length run.turns = length-map run.turns (λ (turn : Turn). turn.stop.row) in
     let all : length stops ≡ length (run.opening.row ∷ map (λ (turn : Turn). turn.stop.row) run.turns) = ap (λ (r : List StopRow). length r) tells.stops_are in
     (omega (arith, after, opened, rows), omega (arith, rows, each, all))

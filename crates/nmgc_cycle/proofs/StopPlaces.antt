@@ -11,7 +11,8 @@ use Rattle.nmgc_run.specs.Heap.{HoldsAtStop}
 use Rattle.nmgc_run.specs.State.{State}
 use Rattle.nmgc_run.specs.laws.Places.{block_used}
 
-pub places_low : (layout : Layout) (s : State) (words : List ℕ) (segments : Segments) (mutators : List MutatorEnd) (weaks : List Place) → IsSegments segments → (h : HoldsAtStop layout s words segments mutators weaks) → (p : Place) → Contains h.places p → p.at < nursery_place layout 0
+pub places_low : (layout : Layout) (s : State) (words : List ℕ) (segments : Segments) (mutators : List MutatorEnd) (weaks : List Place) →
+    IsSegments segments → (h : HoldsAtStop layout s words segments mutators weaks) → (p : Place) → Contains h.places p → p.at < nursery_place layout 0
 places_low layout s words segments mutators weaks sound h p c = elim ((h.all p).0 c) [
   | inl g ↦ let at = ap (λ (q : Place). q.at) g in omega (arith, at)
   | inr b ↦

@@ -86,17 +86,20 @@ pub record IsLed (script : Script) (began : World) (s : State) (many : ℕ) (old
   pub more : HasMore new.progress
 
 -- while a cycle is in progress, its sweeper has all segments left that wait
-left_marking : (s : State) (c : Collector) (q : Progress) → phase_in c.progress ≡ phase_of q → Sweeps q s c → (m : Marking) → c.progress ≡ doing.Marking m → AreLeft c.segments m.sweeper
+left_marking : (s : State) (c : Collector) (q : Progress) → phase_in c.progress ≡ phase_of q → Sweeps q s c → (m : Marking) →
+    c.progress ≡ doing.Marking m → AreLeft c.segments m.sweeper
 left_marking s c idle e h m is = absurd (let bad : phase.Marking ≡ phase.Idle = ap phase_in (sym is) ∙ e in cc)
 left_marking s c (marking k) e h m is = subst (λ (p : Doing). AreLeft c.segments (sweeper_in p)) is h.0.left
 left_marking s c (sweeping k closed) e h m is = subst (λ (p : Doing). AreLeft c.segments (sweeper_in p)) is h.0
 
-left_sweeping : (s : State) (c : Collector) (q : Progress) → phase_in c.progress ≡ phase_of q → Sweeps q s c → (w : Sweeping) → c.progress ≡ doing.Sweeping w → AreLeft c.segments w.sweeper
+left_sweeping : (s : State) (c : Collector) (q : Progress) → phase_in c.progress ≡ phase_of q → Sweeps q s c → (w : Sweeping) →
+    c.progress ≡ doing.Sweeping w → AreLeft c.segments w.sweeper
 left_sweeping s c idle e h w is = absurd (let bad : phase.Sweeping ≡ phase.Idle = ap phase_in (sym is) ∙ e in cc)
 left_sweeping s c (marking k) e h w is = subst (λ (p : Doing). AreLeft c.segments (sweeper_in p)) is h.0.left
 left_sweeping s c (sweeping k closed) e h w is = subst (λ (p : Doing). AreLeft c.segments (sweeper_in p)) is h.0
 
-module _ (laws : HasStopLaws) (script : Script) (old p : Collector) (limits : IsInLimits script) (can : CanStop script old) (h : HasPromoted old p) (listed : HasListed old p) where
+module _ (laws : HasStopLaws) (script : Script) (old p : Collector) (limits : IsInLimits script) (can : CanStop script old) (h : HasPromoted old p)
+    (listed : HasListed old p) where
   abbrev b : Begins script old
   b = begins script old limits can
 
@@ -112,7 +115,8 @@ module _ (laws : HasStopLaws) (script : Script) (old p : Collector) (limits : Is
 
   -- few rounds follow
   few_first : AreFew (Unit {0}) script p (length old.stops + 1)
-  few_first = promoting_few script old p (length old.stops + 1) (layout_of (plan_of script)) b.began b.state first (length p.promotion.moves) (seen old).words (words_in p.words) h (after.promotes script old p kept b h) b.stands stands_first.heap.holds.stands b.few
+  few_first = promoting_few script old p (length old.stops + 1) (layout_of (plan_of script)) b.began b.state first (length p.promotion.moves)
+      (seen old).words (words_in p.words) h (after.promotes script old p kept b h) b.stands stands_first.heap.holds.stands b.few
 
   module _ (a : Collector) (taken : HasTaken p a) where
     pub stands_within : StandsWithin script a first
@@ -130,12 +134,16 @@ module _ (laws : HasStopLaws) (script : Script) (old p : Collector) (limits : Is
 
       few_closed : AreFew (Unit {0}) script c (length old.stops + 1)
       few_closed =
-          let count : length a.segments.segments ≡ script.config.segments = stands_within.kept.sound.count ∙ ap (λ (l : Layout). l.segments) stands_within.kept.layout in
-          closing_few script a c (length old.stops + 1) number (words_in a.words) first.allocation stands_within.heap.holds.stands count (left_marking first a first.progress stands_within.matches.phase stands_within.sweeper) closed few_within
+          let count : length a.segments.segments ≡ script.config.segments = stands_within.kept.sound.count ∙
+          ap (λ (l : Layout). l.segments) stands_within.kept.layout in
+          closing_few script a c (length old.stops + 1) number (words_in a.words) first.allocation stands_within.heap.holds.stands count
+          (left_marking first a first.progress stands_within.matches.phase stands_within.sweeper) closed few_within
 
       module _ (e : Collector) (ends : Ends number c.progress c e) where
-        pub end_led : (t : State) × (rows : List CycleRow) × EndsOrWaits close_led.0.progress close_led.0 t rows × (told_cycles e ≡ told_cycles c ++ rows) × StandsAt script e t
-        end_led = laws.ending script c e close_led.0 limits close_led.2 (subst (λ (n : ℕ). Ends n c.progress c e) (number_is ∙ sym b.number ∙ sym closed_on.0.number) ends)
+        pub end_led : (t : State) × (rows : List CycleRow) × EndsOrWaits close_led.0.progress close_led.0 t rows ×
+            (told_cycles e ≡ told_cycles c ++ rows) × StandsAt script e t
+        end_led = laws.ending script c e close_led.0 limits close_led.2 (subst (λ (n : ℕ). Ends n c.progress c e) (number_is ∙ sym b.number ∙
+            sym closed_on.0.number) ends)
 
         ended_on : KeepsOn close_led.0 end_led.0 × (end_led.0.allocation ≡ close_led.0.allocation)
         ended_on = ending_keeps close_led.0.progress close_led.0 end_led.0 end_led.1 end_led.2
@@ -149,13 +157,15 @@ module _ (laws : HasStopLaws) (script : Script) (old p : Collector) (limits : Is
 
         -- no cycle began yet
         pub begun_is : e.begun ≡ old.begun
-        begun_is = (ends_told number c.progress c e ends).1 ∙ ap (λ (x : Collector). x.begun) closed.rest ∙ ap (λ (x : Collector). x.begun) taken.rest ∙ ap (λ (x : Collector). x.begun) h.rest
+        begun_is = (ends_told number c.progress c e ends).1 ∙ ap (λ (x : Collector). x.begun) closed.rest ∙
+            ap (λ (x : Collector). x.begun) taken.rest ∙ ap (λ (x : Collector). x.begun) h.rest
 
         few_ended : AreFew (Unit {0}) script e (length old.stops + 1)
         few_ended = ending_few script c e (length old.stops + 1) number ends few_closed
 
         more_ended : HasMore e.progress
-        more_ended = ending_more script c e (length old.stops + 1) number ends (closing_goes number a c closed) (left_sweeping close_led.0 c close_led.0.progress close_led.2.matches.phase close_led.2.sweeper)
+        more_ended = ending_more script c e (length old.stops + 1) number ends (closing_goes number a c closed)
+            (left_sweeping close_led.0 c close_led.0.progress close_led.2.matches.phase close_led.2.sweeper)
 
         -- nothing was told yet
         ended_told : told e ≡ told old
@@ -171,18 +181,23 @@ module _ (laws : HasStopLaws) (script : Script) (old p : Collector) (limits : Is
         pub at_this_stop : StandsAtStop number e
         at_this_stop = (script, last_ended, limits, number_on ∙ b.number ∙ sym number_is, stands_ended)
 
-        module _ (n : Collector) (some : Bool) (some_is : IsTrue some ↔ SomeIsLeft script.threads e.positions.items) (proceeds : ProceedsThen script.config.trigger some number e n) where
+        module _ (n : Collector) (some : Bool) (some_is : IsTrue some ↔
+            SomeIsLeft script.threads e.positions.items) (proceeds : ProceedsThen script.config.trigger some number e n) where
           -- commands are left, by what was answered of each program
           left_told : some ≡ has_left b.state.left
           left_told =
-              let positions : (k : ℕ) → k < length script.threads → slice_index e.positions.items k ≡ answered_count old.rounds k = λ k lt. stands_ended.kept.positions k lt ∙ ap (λ (x : List RoundRows × List StopRow × List ℕ). answered_count x.0 k) ended_told in
+              let positions : (k : ℕ) → k < length script.threads →
+              slice_index e.positions.items k ≡ answered_count old.rounds k = λ k lt. stands_ended.kept.positions k lt ∙
+              ap (λ (x : List RoundRows × List StopRow × List ℕ). answered_count x.0 k) ended_told in
               sym (left_is script old.rounds b.state.left e.positions.items b.left positions some some_is)
 
           left_ended : some ≡ has_left last_ended.left
           left_ended = left_told ∙ ap has_left (sym left_on)
 
-          proceed_led : (t : State) × (rows : List CycleRow) × Proceeds (plan_of script) last_ended t rows × (told_cycles n ≡ told_cycles e ++ rows) × StandsAt script n t
-          proceed_led = laws.proceeding script e n last_ended some limits stands_ended left_ended (subst (λ (k : ℕ). ProceedsThen script.config.trigger some k e n) (number_is ∙ sym b.number ∙ sym number_on) proceeds)
+          proceed_led : (t : State) × (rows : List CycleRow) × Proceeds (plan_of script) last_ended t rows ×
+              (told_cycles n ≡ told_cycles e ++ rows) × StandsAt script n t
+          proceed_led = laws.proceeding script e n last_ended some limits stands_ended left_ended (subst (λ (k : ℕ).
+              ProceedsThen script.config.trigger some k e n) (number_is ∙ sym b.number ∙ sym number_on) proceeds)
 
           proceeded_on : KeepsOn last_ended proceed_led.0
           proceeded_on = proceeding_keeps (plan_of script) last_ended proceed_led.0 proceed_led.1 proceed_led.2
@@ -215,7 +230,12 @@ module _ (laws : HasStopLaws) (script : Script) (old p : Collector) (limits : Is
             stands = proceed_led.4;
             number = proceeded_on.number ∙ number_on;
             left = proceeded_on.left ∙ left_on;
-            few = proceeding_few script e n (length old.stops + 1) number some proceed_led.0 stands_ended.kept.layout (λ none. (laws.begin_ready script e last_ended limits stands_ended none).stood) (words_in n.words) proceed_led.4.heap.holds.stands proceeds few_ended (ap (λ (x : List RoundRows × List StopRow × List ℕ). x.0) proceeded_told) (λ due. fresh_where_due (plan_of script) last_ended proceed_led.0 proceed_led.1 proceed_led.2 (full_due script e last_ended some stands_ended left_ended due));
-            begun = (let own_begun = proceeding_begun script.config.trigger some number e n proceeds in let before = begun_is in let few = b.begun in omega (arith, own_begun, before, few));
+            few = proceeding_few script e n (length old.stops + 1) number some proceed_led.0 stands_ended.kept.layout (λ none.
+                (laws.begin_ready script e last_ended limits stands_ended none).stood) (words_in n.words) proceed_led.4.heap.holds.stands proceeds
+                few_ended (ap (λ (x : List RoundRows × List StopRow × List ℕ). x.0) proceeded_told) (λ due.
+                fresh_where_due (plan_of script) last_ended proceed_led.0 proceed_led.1 proceed_led.2
+                (full_due script e last_ended some stands_ended left_ended due));
+            begun = (let own_begun = proceeding_begun script.config.trigger some number e n proceeds in let before = begun_is in
+                let few = b.begun in omega (arith, own_begun, before, few));
             more = proceeding_more script.config.trigger some number e n proceeds more_ended;
           }

@@ -53,7 +53,8 @@ module _ (plan : Plan) (t : State) where
       sym (answers_by short ∙ ap (λ (b : Bool). if b then Some Done else None) done)
 
   -- and where it is, that end
-  pub answers_full : (free reserve : ℕ) → free ≡ free_count t → reserve ≡ reserve_of plan → is_short plan t ≡ true → Some (HeapFull free reserve) ≡ answer_of plan t
+  pub answers_full : (free reserve : ℕ) → free ≡ free_count t → reserve ≡ reserve_of plan → is_short plan t ≡ true →
+      Some (HeapFull free reserve) ≡ answer_of plan t
   answers_full free reserve f r short =
       ap (λ (n : ℕ). Some (HeapFull n reserve)) f
       ∙ ap (λ (n : ℕ). Some (HeapFull (free_count t) n)) r
@@ -72,7 +73,8 @@ busy_then (marking c) e = refl
 busy_then (sweeping c closed) e = refl
 
 -- the row tells the state by its number and its phase, and the segments by their counts
-pub row_is : (t : State) (count stops free filled sweep many : ℕ) (phase : Phase) (segments : Segments) (words : List ℕ) → StandsFor segments words t.allocation → phase ≡ phase_of t.progress → t.number ≡ stops
+pub row_is : (t : State) (count stops free filled sweep many : ℕ) (phase : Phase) (segments : Segments) (words : List ℕ) →
+    StandsFor segments words t.allocation → phase ≡ phase_of t.progress → t.number ≡ stops
     → free ≡ count_by (λ (segment : Segment). is segment.state stands.Free) segments.segments
     → filled ≡ count_by (λ (segment : Segment). is segment.state stands.Filled) segments.segments
     → sweep ≡ count_by (λ (segment : Segment). is segment.state stands.Sweeping) segments.segments
@@ -84,7 +86,9 @@ row_is t count stops free filled sweep many phase segments words shown phase_is 
     let sweep_is = w ∙ counts_stand segments words t.allocation stands.Sweeping shown in
     ap (λ (n : ℕ). let r : StopRow = record { number = n; phase = phase; free = free; filled = filled; sweep = sweep; promoted = many } in r) (sym number)
     ∙ ap (λ (p : Phase). let r : StopRow = record { number = t.number; phase = p; free = free; filled = filled; sweep = sweep; promoted = many } in r) phase_is
-    ∙ ap (λ (n : ℕ). let r : StopRow = record { number = t.number; phase = phase_of t.progress; free = n; filled = filled; sweep = sweep; promoted = many } in r) free_is
-    ∙ ap (λ (n : ℕ). let r : StopRow = record { number = t.number; phase = phase_of t.progress; free = free_count t; filled = n; sweep = sweep; promoted = many } in r) filled_is
+    ∙ ap (λ (n : ℕ). let r : StopRow = record { number = t.number; phase = phase_of t.progress; free = n; filled = filled; sweep = sweep; promoted = many } in
+    r) free_is
+    ∙ ap (λ (n : ℕ). let r : StopRow = record { number = t.number; phase = phase_of t.progress; free = free_count t; filled = n; sweep = sweep; promoted = many } in
+    r) filled_is
     ∙ ap (λ (n : ℕ). let r : StopRow = record (stop_row t many) { sweep = n } in r) sweep_is
     ∙ ap (λ (n : ℕ). stop_row t n) m

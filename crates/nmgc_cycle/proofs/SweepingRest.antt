@@ -64,7 +64,9 @@ alive_other w world weak alive is =
     no_weak w.shared (Some alive.0) world.shared node
 
 -- of fewer places no more are in nurseries
-pub fewer_nurseries : (layout : Layout) (s : State) (earlier : List World) (places fewer : List Place) (seen : Seen) → DropsFreed layout earlier s.world places fewer → AreNurseries layout places s.world (nurseries_of seen) → AreNurseries layout fewer s.world (nurseries_of seen)
+pub fewer_nurseries : (layout : Layout) (s : State) (earlier : List World) (places fewer : List Place) (seen : Seen) →
+    DropsFreed layout earlier s.world places fewer → AreNurseries layout places s.world (nurseries_of seen) →
+    AreNurseries layout fewer s.world (nurseries_of seen)
 fewer_nurseries layout s earlier places fewer seen drops h = record {
   used = record {
     count = h.used.count;
@@ -92,8 +94,10 @@ module _ (laws : SweepingLaws) (script : Script) (c : Collector) (st : State) (k
 
   -- the sweeper went through all that is left
 
-  pub swept : (b : AllocState) × SweepsSome (IsKeptIn k) (length w.sweeper.left) st.allocation b × IsAtWork k since words b new (cycle_in (doing.Sweeping w) (died c.weaks.deaths)) v.sweeper
-  swept = sw.swept.sweeps k since words st.allocation (cycle_in (doing.Sweeping w) (died c.weaks.deaths)) (subst (λ (l : Layout). AreNamed l c.names st.allocation) (sym h.kept.layout) h.named) h.sweeper.1
+  pub swept : (b : AllocState) × SweepsSome (IsKeptIn k) (length w.sweeper.left) st.allocation b ×
+      IsAtWork k since words b new (cycle_in (doing.Sweeping w) (died c.weaks.deaths)) v.sweeper
+  swept = sw.swept.sweeps k since words st.allocation (cycle_in (doing.Sweeping w) (died c.weaks.deaths)) (subst (λ (l : Layout).
+      AreNamed l c.names st.allocation) (sym h.kept.layout) h.named) h.sweeper.1
 
   abbrev pub b : AllocState
   b = swept.0
@@ -105,10 +109,12 @@ module _ (laws : SweepingLaws) (script : Script) (c : Collector) (st : State) (k
   next = record c { segments = new; progress = doing.Sweeping (record w { sweeper = v.sweeper }) }
 
   rest : SweepsSome (IsKeptIn k) (waiting_count st.allocation) st.allocation b
-  rest = subst (λ (count : ℕ). SweepsSome (IsKeptIn k) count st.allocation b) (sym (laws.counted words st.allocation c.segments w.sweeper h.heap.holds.stands h.sweeper.0)) swept.1
+  rest = subst (λ (count : ℕ).
+      SweepsSome (IsKeptIn k) count st.allocation b) (sym (laws.counted words st.allocation c.segments w.sweeper h.heap.holds.stands h.sweeper.0)) swept.1
 
   frees : FreesUntracked [] st.world st.world st.allocation b
-  frees = laws.frees layout k st.world st.allocation b (waiting_count st.allocation) h.sound.sound_blocks h.sound.known h.sound.cycle.0 h.sound.cycle.1 h.sound.blocks rest
+  frees = laws.frees layout k st.world st.allocation b (waiting_count st.allocation) h.sound.sound_blocks h.sound.known h.sound.cycle.0
+      h.sound.cycle.1 h.sound.blocks rest
 
   layout_is : new.layout ≡ layout
   layout_is = sw.swept.layout ∙ h.kept.layout
@@ -130,7 +136,9 @@ module _ (laws : SweepingLaws) (script : Script) (c : Collector) (st : State) (k
     known = each_lie (IsKeptIn k) (λ n. IsSome (node_of st.world n)) st.allocation b rest.numbers rest.sweeps h.sound.known;
     cycle = (h.sound.cycle.0, each_waits (IsKeptIn k) (IsOfSnapshot k) st.allocation b rest.numbers rest.sweeps h.sound.cycle.1);
     earlier = h.sound.earlier;
-    blocks = λ n tracked other. sweeps_keep k st.world st.allocation b (waiting_count st.allocation) rest h.sound.cycle.0 h.sound.cycle.1 n (tracked_wide st.world n tracked) (h.sound.blocks n tracked other);
+    blocks = λ n tracked other.
+        sweeps_keep k st.world st.allocation b (waiting_count st.allocation) rest h.sound.cycle.0 h.sound.cycle.1 n
+        (tracked_wide st.world n tracked) (h.sound.blocks n tracked other);
   }
 
   still_kept : IsWellFormed script next
@@ -141,7 +149,13 @@ module _ (laws : SweepingLaws) (script : Script) (c : Collector) (st : State) (k
     entries = subst (λ (l : Layout). HaveEntries l c.names) (sym sw.swept.layout) h.kept.entries;
     has_words = h.kept.has_words;
     count = h.kept.count;
-    own = λ n x e. let own = h.kept.own n x e in record { number = own.number; layout = own.layout ∙ sym sw.swept.layout; whole = own.whole; no_replies = own.no_replies; line = own.line };
+    own = λ n x e. let own = h.kept.own n x e in record {
+      number = own.number;
+      layout = own.layout ∙ sym sw.swept.layout;
+      whole = own.whole;
+      no_replies = own.no_replies;
+      line = own.line;
+    };
     inbox = h.kept.inbox;
     positions_are = h.kept.positions_are;
     positions = h.kept.positions;
@@ -168,16 +182,23 @@ module _ (laws : SweepingLaws) (script : Script) (c : Collector) (st : State) (k
   pub sweeps_rest : SweepsRest (sweeping k since) st.allocation b
   sweeps_rest = rest
 
-module _ (laws : SweepingLaws) (script : Script) (old new : Collector) (s : State) (h : StandsAt script old s) (segments_are : new ≡ record old { segments = new.segments; progress = new.progress }) where
+module _ (laws : SweepingLaws) (script : Script) (old new : Collector) (s : State) (h : StandsAt script old s) (segments_are : new ≡
+    record old { segments = new.segments; progress = new.progress }) where
   abbrev Leads : Type 0
   Leads = (b : AllocState) × SweepsRest s.progress s.allocation b × StandsAt script new (record s { allocation = b })
 
-  stays : (p : Doing) (q : Progress) → old.progress ≡ p → s.progress ≡ q → SweepsRest q s.allocation s.allocation → new.progress ≡ p → new.segments ≡ old.segments → Leads
+  stays : (p : Doing) (q : Progress) → old.progress ≡ p → s.progress ≡ q → SweepsRest q s.allocation s.allocation → new.progress ≡ p →
+      new.segments ≡ old.segments → Leads
   stays p q at is swept_by after same_segments =
-      let same : new ≡ old = segments_are ∙ ap (λ (g : Segments). record old { segments = g; progress = new.progress }) same_segments ∙ ap (λ (x : Doing). record old { progress = x }) (after ∙ sym at) in
-      (s.allocation, subst (λ (x : Progress). SweepsRest x s.allocation s.allocation) (sym is) swept_by, subst (λ (x : Collector). StandsAt script x s) (sym same) h)
+      let same : new ≡ old = segments_are ∙ ap (λ (g : Segments). record old { segments = g; progress = new.progress }) same_segments ∙
+      ap (λ (x : Doing). record old { progress = x }) (after ∙ sym at) in (
+        s.allocation,
+        subst (λ (x : Progress). SweepsRest x s.allocation s.allocation) (sym is) swept_by,
+        subst (λ (x : Collector). StandsAt script x s) (sym same) h,
+      )
 
-  by_case : (p : Doing) (q : Progress) → old.progress ≡ p → s.progress ≡ q → phase_in p ≡ phase_of q → SweepsRestBy old.segments new.segments old.names p new.progress → Leads
+  by_case : (p : Doing) (q : Progress) → old.progress ≡ p → s.progress ≡ q → phase_in p ≡ phase_of q →
+      SweepsRestBy old.segments new.segments old.names p new.progress → Leads
   by_case doing.Idle idle at is e step = stays doing.Idle idle at is refl step.0 step.1
   by_case doing.Idle (marking k) at is e step = absurd (let bad : phase.Idle ≡ phase.Marking = e in cc)
   by_case doing.Idle (sweeping k since) at is e step = absurd (let bad : phase.Idle ≡ phase.Sweeping = e in cc)
@@ -190,20 +211,26 @@ module _ (laws : SweepingLaws) (script : Script) (old new : Collector) (s : Stat
       let v : Sweeping = step.0 in
       let was : old ≡ record old { progress = doing.Sweeping w } = ap (λ (p : Doing). record old { progress = p }) at in
       let state : s ≡ record s { progress = sweeping k since } = ap (λ (q : Progress). record s { progress = q }) is in
-      let stood : StandsAt script (record old { progress = doing.Sweeping w }) (record s { progress = sweeping k since }) = subst (λ (x : Collector). StandsAt script x (record s { progress = sweeping k since })) was (subst (λ (y : State). StandsAt script old y) state h) in
+      let stood : StandsAt script (record old { progress = doing.Sweeping w }) (record s { progress = sweeping k since }) =
+      subst (λ (x : Collector). StandsAt script x (record s { progress = sweeping k since })) was (subst (λ (y : State).
+      StandsAt script old y) state h) in
       let there = stands_then laws script old s k since w v stood new.segments step.2 in
       let a : AllocState = b laws script old s k since w v stood new.segments step.2 in
-      let next : new ≡ record old { segments = new.segments; progress = doing.Sweeping (record w { sweeper = v.sweeper }) } = segments_are ∙ ap (λ (p : Doing). record old { segments = new.segments; progress = p }) (step.1 ∙ ap doing.Sweeping step.2.rest) in (
+      let next : new ≡ record old { segments = new.segments; progress = doing.Sweeping (record w { sweeper = v.sweeper }) } = segments_are ∙
+      ap (λ (p : Doing). record old { segments = new.segments; progress = p }) (step.1 ∙ ap doing.Sweeping step.2.rest) in (
         a,
         subst (λ (q : Progress). SweepsRest q s.allocation a) (sym is) (sweeps_rest laws script old s k since w v stood new.segments step.2),
-        subst (λ (q : Progress). StandsAt script new (record s { progress = q; allocation = a })) (sym is) (subst (λ (x : Collector). StandsAt script x (record s { progress = sweeping k since; allocation = a })) (sym next) there),
+        subst (λ (q : Progress). StandsAt script new (record s { progress = q; allocation = a })) (sym is) (subst (λ (x : Collector).
+            StandsAt script x (record s { progress = sweeping k since; allocation = a })) (sym next) there),
       )
 
 pub sweeping_rest_leads : SweepingLaws → SweepingRestLeads
-sweeping_rest_leads laws script old new s limits h swept = by_case laws script old new s h swept.rest old.progress s.progress refl refl h.matches.phase swept.sweeps
+sweeping_rest_leads laws script old new s limits h swept =
+    by_case laws script old new s h swept.rest old.progress s.progress refl refl h.matches.phase swept.sweeps
 
 -- a sweeper at a stop has all left that waits
-ready_by : (script : Script) (c : Collector) (s : State) → StandsAt script c s → (p : Doing) (q : Progress) → c.progress ≡ p → s.progress ≡ q → phase_in p ≡ phase_of q → CanSweepRest c.segments c.names p
+ready_by : (script : Script) (c : Collector) (s : State) → StandsAt script c s → (p : Doing) (q : Progress) → c.progress ≡ p → s.progress ≡ q →
+    phase_in p ≡ phase_of q → CanSweepRest c.segments c.names p
 ready_by script c s h doing.Idle q at is e = tt
 ready_by script c s h (doing.Marking m) q at is e = tt
 ready_by script c s h (doing.Sweeping w) idle at is e = absurd (let bad : phase.Sweeping ≡ phase.Idle = e in cc)

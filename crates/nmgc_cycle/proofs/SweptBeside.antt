@@ -54,11 +54,13 @@ swept_min quota count before after e most least = elim (cases_lt count quota) [
   | inr more ↦ omega (arith, e, most, more)
 ]
 
-module _ (laws : HasLaws) (script : Script) (c new : Collector) (o : Opening) (x : IsOver script c new o) (k : Cycle) (closed : ℕ) (e : (s script c new o x).progress ≡ sweeping k closed) where
+module _ (laws : HasLaws) (script : Script) (c new : Collector) (o : Opening) (x : IsOver script c new o) (k : Cycle) (closed : ℕ)
+    (e : (s script c new o x).progress ≡ sweeping k closed) where
   before : (v : held_sweeping.Sweeping) × (c.progress ≡ doing.Sweeping v)
   before = when_sweeping c.progress (phase_with laws script c new o x (sweeping k closed) e)
 
-  did : (v : held_sweeping.Sweeping) × (new.progress ≡ doing.Sweeping v) × (x.did.helped.seat ≡ x.did.helped.from) × HasSweptSome script.config.quota c.segments new.segments c.names before.0 v
+  did : (v : held_sweeping.Sweeping) × (new.progress ≡ doing.Sweeping v) × (x.did.helped.seat ≡ x.did.helped.from) ×
+      HasSweptSome script.config.quota c.segments new.segments c.names before.0 v
   did = helped_as laws script c new o x (doing.Sweeping before.0) before.1
 
   sweeper_was : sweeper_in c.progress ≡ before.0.sweeper
@@ -70,14 +72,18 @@ module _ (laws : HasLaws) (script : Script) (c new : Collector) (o : Opening) (x
   same_cycle : (shown script c new o x).cycle ≡ (seen c).cycle
   same_cycle =
       let dead : List Name = died c.weaks.deaths in
-      ap (λ (q : held.Progress). cycle_in q dead) did.1 ∙ ap (λ (y : held_sweeping.Sweeping). cycle_in (doing.Sweeping y) dead) did.3.rest ∙ sym (ap (λ (q : held.Progress). cycle_in q dead) before.1)
+      ap (λ (q : held.Progress). cycle_in q dead) did.1 ∙ ap (λ (y : held_sweeping.Sweeping). cycle_in (doing.Sweeping y) dead) did.3.rest ∙
+      sym (ap (λ (q : held.Progress). cycle_in q dead) before.1)
 
   sweeps_before : Sweeps (sweeping k closed) (s script c new o x) c
   sweeps_before = subst (λ (p : Progress). Sweeps p (s script c new o x) c) e x.still.sweeper
 
   -- with the segments of before, all stands for what it stood for
-  whole : HoldsAfterRound (layout script c new o x) (s script c new o x) (t script c new o x (s script c new o x).allocation) (places script c new o x) x.did.words c.segments (ends_of (shown script c new o x)) (seen c).weaks
-  whole = laws.holds (layout script c new o x) (s script c new o x) (t script c new o x (s script c new o x).allocation) o (seen c).words x.did.words (view script c new o x) c.segments c.segments (ends_of (seen c)) (ends_of (shown script c new o x)) (seen c).weaks (round_from script c new o x laws.stopped c.segments x.still.kept.layout x.still.at_stop.heap.holds.stands)
+  whole : HoldsAfterRound (layout script c new o x) (s script c new o x) (t script c new o x (s script c new o x).allocation)
+      (places script c new o x) x.did.words c.segments (ends_of (shown script c new o x)) (seen c).weaks
+  whole = laws.holds (layout script c new o x) (s script c new o x) (t script c new o x (s script c new o x).allocation) o (seen c).words
+      x.did.words (view script c new o x) c.segments c.segments (ends_of (seen c)) (ends_of (shown script c new o x)) (seen c).weaks
+      (round_from script c new o x laws.stopped c.segments x.still.kept.layout x.still.at_stop.heap.holds.stands)
 
   stands_then : StandsFor c.segments x.did.words (s script c new o x).allocation
   stands_then = whole.holds.stands
@@ -88,8 +94,10 @@ module _ (laws : HasLaws) (script : Script) (c new : Collector) (o : Opening) (x
       let h = subst (IsAtWork k closed (seen c).words (s script c new o x).allocation c.segments (seen c).cycle) sweeper_was sweeps_before.1 in
       record { stands = stands_then; notes = h.notes; sweeping = h.sweeping; settled = h.settled; begun = h.begun }
 
-  swept : (b : AllocState) × SweepsSome (IsKeptIn k) did.3.count (s script c new o x).allocation b × IsAtWork k closed x.did.words b new.segments (seen c).cycle did.0.sweeper
-  swept = did.3.swept.sweeps k closed x.did.words (s script c new o x).allocation (seen c).cycle (subst (λ (l : Layout). AreNamed l c.names (s script c new o x).allocation) (sym x.still.kept.layout) x.still.named) at_work
+  swept : (b : AllocState) × SweepsSome (IsKeptIn k) did.3.count (s script c new o x).allocation b ×
+      IsAtWork k closed x.did.words b new.segments (seen c).cycle did.0.sweeper
+  swept = did.3.swept.sweeps k closed x.did.words (s script c new o x).allocation (seen c).cycle (subst (λ (l : Layout).
+      AreNamed l c.names (s script c new o x).allocation) (sym x.still.kept.layout) x.still.named) at_work
 
   left_before : AreLeft c.segments before.0.sweeper
   left_before = subst (λ (y : Sweeper). AreLeft c.segments y) sweeper_was sweeps_before.0
@@ -98,10 +106,15 @@ module _ (laws : HasLaws) (script : Script) (c new : Collector) (o : Opening) (x
   as_many =
       let waits = laws.counted x.did.words (s script c new o x).allocation c.segments before.0.sweeper stands_then left_before in
       let fewer = did.3.swept.fewer in
-      swept_min script.config.quota did.3.count (waiting_count (s script c new o x).allocation) (length did.0.sweeper.left) (omega (arith, fewer, waits)) did.3.most (λ less. ap (λ l. length l) (did.3.least less))
+      swept_min script.config.quota did.3.count (waiting_count (s script c new o x).allocation) (length did.0.sweeper.left) (omega (
+        arith,
+        fewer,
+        waits,
+      )) did.3.most (λ less. ap (λ l. length l) (did.3.least less))
 
   beside : SweepsBeside script.config.quota (s script c new o x).progress (s script c new o x).allocation swept.0
-  beside = subst (λ (p : Progress). SweepsBeside script.config.quota p (s script c new o x).allocation swept.0) (sym e) (subst (λ (count : ℕ). SweepsSome (IsKeptIn k) count (s script c new o x).allocation swept.0) as_many swept.1)
+  beside = subst (λ (p : Progress). SweepsBeside script.config.quota p (s script c new o x).allocation swept.0) (sym e) (subst (λ (count : ℕ).
+      SweepsSome (IsKeptIn k) count (s script c new o x).allocation swept.0) as_many swept.1)
 
   round : IsRound script.config (s script c new o x) (told script c new o x) (rows script c new o x) (t script c new o x swept.0)
   round = is_round script c new o x laws.history swept.0 beside
@@ -110,23 +123,43 @@ module _ (laws : HasLaws) (script : Script) (c new : Collector) (o : Opening) (x
   same_layout = did.3.swept.layout ∙ x.still.kept.layout
 
   -- nobody may speak of what was freed, and no weak pointer of the list was
-  frees : FreesUntracked ((s script c new o x).world ∷ snapshots (t script c new o x swept.0).progress) (s script c new o x).world (w script c new o x) (s script c new o x).allocation swept.0
+  frees : FreesUntracked ((s script c new o x).world ∷
+      snapshots (t script c new o x swept.0).progress) (s script c new o x).world (w script c new o x) (s script c new o x).allocation swept.0
   frees =
-      let none : snapshots (t script c new o x swept.0).progress ≡ [] = noted_snapshots (s script c new o x).progress (rows script c new o x) ∙ ap snapshots e in
-      subst (λ (l : List World). FreesUntracked ((s script c new o x).world ∷ l) (s script c new o x).world (w script c new o x) (s script c new o x).allocation swept.0) (sym none) (laws.frees (plan script c new o x) x.run k closed (told script c new o x) (rows script c new o x) (t script c new o x swept.0) (is_runnable script x.limits) x.still.at_stop.is_run round e)
+      let none : snapshots (t script c new o x swept.0).progress ≡ [] = noted_snapshots (s script c new o x).progress (rows script c new o x) ∙
+      ap snapshots e in
+      subst (λ (l : List World). FreesUntracked ((s script c new o x).world ∷
+      l) (s script c new o x).world (w script c new o x) (s script c new o x).allocation swept.0) (sym none)
+      (laws.frees (plan script c new o x) x.run k closed (told script c new o x) (rows script c new o x) (t script c new o x swept.0)
+      (is_runnable script x.limits) x.still.at_stop.is_run round e)
 
   listed : (p : Place) → Contains (seen c).weaks p → HasBlock swept.0 p.name
   listed =
       let earlier : List World = (s script c new o x).world ∷ snapshots (t script c new o x swept.0).progress in
-      let known : Contains (w script c new o x ∷ earlier) (s script c new o x).world = contains_tail (w script c new o x) earlier (s script c new o x).world (contains_head (s script c new o x).world (snapshots (t script c new o x swept.0).progress)) in
-      listed_left (layout script c new o x) earlier (s script c new o x).world (w script c new o x) (s script c new o x).allocation swept.0 (places script c new o x) (seen c).weaks (sound_state script c x.run x.limits x.still).world known frees whole.listed
+      let known : Contains (w script c new o x ∷ earlier) (s script c new o x).world =
+      contains_tail (w script c new o x) earlier (s script c new o x).world
+      (contains_head (s script c new o x).world (snapshots (t script c new o x swept.0).progress)) in
+      listed_left (layout script c new o x) earlier (s script c new o x).world (w script c new o x) (s script c new o x).allocation swept.0
+      (places script c new o x) (seen c).weaks (sound_state script c x.run x.limits x.still).world known frees whole.listed
 
   -- the freed places are gone
-  fewer : (fewer : List Place) × HoldsAfterRound (layout script c new o x) (s script c new o x) (t script c new o x swept.0) fewer x.did.words new.segments (ends_of (shown script c new o x)) (seen c).weaks × DropsFreed (layout script c new o x) ((s script c new o x).world ∷ snapshots (t script c new o x swept.0).progress) (w script c new o x) (places script c new o x) fewer
-  fewer = laws.swept_holds (layout script c new o x) (s script c new o x) (t script c new o x (s script c new o x).allocation) swept.0 (places script c new o x) x.did.words c.segments new.segments (ends_of (shown script c new o x)) (seen c).weaks whole x.still.kept.sound frees swept.2.stands same_layout listed
+  fewer : (fewer : List Place) ×
+      HoldsAfterRound (layout script c new o x) (s script c new o x) (t script c new o x swept.0) fewer x.did.words new.segments
+      (ends_of (shown script c new o x)) (seen c).weaks × DropsFreed (layout script c new o x) ((s script c new o x).world ∷
+      snapshots (t script c new o x swept.0).progress) (w script c new o x) (places script c new o x) fewer
+  fewer = laws.swept_holds (layout script c new o x) (s script c new o x) (t script c new o x (s script c new o x).allocation) swept.0
+      (places script c new o x) x.did.words c.segments new.segments (ends_of (shown script c new o x)) (seen c).weaks whole x.still.kept.sound frees
+      swept.2.stands same_layout listed
 
-  kept_on : AreNurseries (layout script c new o x) fewer.0 (w script c new o x) (nurseries_of (shown script c new o x)) × LieInOrder (nursery_place (layout script c new o x) 0) fewer.0 × Remembers (nursery_place (layout script c new o x) 0) ((s script c new o x).world ∷ snapshots (t script c new o x swept.0).progress) fewer.0 (w script c new o x) (recorded_in (shown script c new o x)) (young_weaks_in (shown script c new o x))
-  kept_on = laws.drops (layout script c new o x) ((s script c new o x).world ∷ snapshots (t script c new o x swept.0).progress) (w script c new o x) (places script c new o x) fewer.0 (nurseries_of (shown script c new o x)) (recorded_in (shown script c new o x)) (young_weaks_in (shown script c new o x)) fewer.2 (nurseries_left script c new o x laws.stopped) (in_order script c new o x laws.stopped) (remembered script c new o x laws.stopped)
+  kept_on : AreNurseries (layout script c new o x) fewer.0 (w script c new o x) (nurseries_of (shown script c new o x)) ×
+      LieInOrder (nursery_place (layout script c new o x) 0) fewer.0 ×
+      Remembers (nursery_place (layout script c new o x) 0) ((s script c new o x).world ∷
+      snapshots (t script c new o x swept.0).progress) fewer.0 (w script c new o x) (recorded_in (shown script c new o x))
+      (young_weaks_in (shown script c new o x))
+  kept_on = laws.drops (layout script c new o x) ((s script c new o x).world ∷
+      snapshots (t script c new o x swept.0).progress) (w script c new o x) (places script c new o x) fewer.0
+      (nurseries_of (shown script c new o x)) (recorded_in (shown script c new o x)) (young_weaks_in (shown script c new o x)) fewer.2
+      (nurseries_left script c new o x laws.stopped) (in_order script c new o x laws.stopped) (remembered script c new o x laws.stopped)
 
   more_free : reserve.free_count c.segments.segments ≤ reserve.free_count new.segments.segments
   more_free =
@@ -136,7 +169,9 @@ module _ (laws : HasLaws) (script : Script) (c new : Collector) (o : Opening) (x
       omega (arith, was, now, more)
 
   course : IsLastBegun k (s script c new o x).number (s script c new o x).begun
-  course = (subst (λ (p : Progress). IsInCourse p (s script c new o x).number (s script c new o x).begun (s script c new o x).allocation) e (runs_are (plan script c new o x) x.run x.still.at_stop.is_run)).0
+  course = (subst (λ (p : Progress).
+      IsInCourse p (s script c new o x).number (s script c new o x).begun (s script c new o x).allocation) e
+      (runs_are (plan script c new o x) x.run x.still.at_stop.is_run)).0
 
   -- the cycle sweeps on
   work_on : IsAtWork k closed x.did.words swept.0 new.segments (shown script c new o x).cycle (sweeper_in new.progress)
@@ -161,7 +196,9 @@ module _ (laws : HasLaws) (script : Script) (c new : Collector) (o : Opening) (x
     ordered = kept_on.1;
     remembers = kept_on.2;
     free = more_free;
-    cycle = subst (λ (p : Progress). HoldsInCycle (λ (j : Cycle). IsPacedAfterRound script.config.quota j (t script c new o x swept.0) (shown script c new o x)) (noted p (rows script c new o x)) (t script c new o x swept.0) (shown script c new o x) fewer.0) (sym e) (work_on.sweeping, settled);
+    cycle = subst (λ (p : Progress). HoldsInCycle (λ (j : Cycle).
+        IsPacedAfterRound script.config.quota j (t script c new o x swept.0) (shown script c new o x)) (noted p (rows script c new o x))
+        (t script c new o x swept.0) (shown script c new o x) fewer.0) (sym e) (work_on.sweeping, settled);
     sweeper = subst (λ (p : Progress). Sweeps (noted p (rows script c new o x)) (t script c new o x swept.0) (last script c new o x)) (sym e) sweeps_on;
     named = named_swept (layout script c new o x) c.names (IsKeptIn k) did.3.count (s script c new o x).allocation swept.0 swept.1 x.still.named;
   }

@@ -1,4 +1,5 @@
--- What a collector tells, what is asked of it and what it answered say nothing of heap and cycle: with others in their place it stands for the same state still.
+-- What a collector tells, what is asked of it and what it answered say nothing of heap and cycle: with others in
+-- their place it stands for the same state still.
 use Rattle.std.proofs.Common.{◌≡◌, List, refl, sym, subst}
 use Rattle.nmgc_heap.specs.Places.{Place}
 use Rattle.nmgc_script.specs.declared.script.Script.{Script}
@@ -11,7 +12,17 @@ use Rattle.nmgc_cycle.specs.Shown.{seen}
 use Rattle.nmgc_cycle.specs.Steps.{StandsAt}
 
 -- its parts are as they are to be, wherever its cycle stands
-pub kept_told : (script : Script) (old new : Collector) → new ≡ record old { stops = new.stops; cycles = new.cycles; progress = new.progress; collect = new.collect; full = new.full; turns = new.turns; upper_turns = new.upper_turns; answered = new.answered } → IsWellFormed script old → IsWellFormed script new
+pub kept_told : (script : Script) (old new : Collector) → new ≡ record old {
+  stops = new.stops;
+  cycles = new.cycles;
+  progress = new.progress;
+  collect = new.collect;
+  full = new.full;
+  turns = new.turns;
+  upper_turns = new.upper_turns;
+  answered = new.answered;
+} → IsWellFormed script old →
+    IsWellFormed script new
 kept_told script old new rest k = subst (λ (x : Collector). IsWellFormed script x) (sym rest) (record {
   layout = k.layout;
   sound = k.sound;
@@ -45,7 +56,9 @@ module _ (script : Script) (old new : Collector) (s t : State) where
     blocks = h.blocks;
   }
 
-  cycle_told : (q : Progress) (places : List Place) → HoldsInCycle (λ (k : Cycle). IsPacedAtStop script.config.quota k s (seen old)) q s (seen old) places → HoldsInCycle (λ (k : Cycle). IsPacedAtStop script.config.quota k then_state (seen told)) q then_state (seen told) places
+  cycle_told : (q : Progress) (places : List Place) → HoldsInCycle (λ (k : Cycle).
+      IsPacedAtStop script.config.quota k s (seen old)) q s (seen old) places →
+      HoldsInCycle (λ (k : Cycle). IsPacedAtStop script.config.quota k then_state (seen told)) q then_state (seen told) places
   cycle_told idle places h = h
   cycle_told (marking k) places h = (
     record {
@@ -87,4 +100,7 @@ module _ (script : Script) (old new : Collector) (s t : State) where
 
   -- a state of which the same is asked
   pub stands_told : new ≡ told → t ≡ then_state → new.collect ≡ t.collect → new.full ≡ t.full → StandsAt script old s → StandsAt script new t
-  stands_told new_is state_is collect full h = subst (λ (z : Collector × State). StandsAt script z.0 z.1) (λ i. (sym new_is i, sym state_is i)) (stands_there collect full h)
+  stands_told new_is state_is collect full h = subst (λ (z : Collector × State). StandsAt script z.0 z.1) (λ i. (
+    sym new_is i,
+    sym state_is i,
+  )) (stands_there collect full h)

@@ -43,7 +43,9 @@ told script c end h =
     }
 
 -- a report with these parts is the collector's
-pub same_parts : (c : Collector) (end : End) (cycles : List CycleRow) (words : List ℕ) (mutators : List MutatorEnd) (weaks : List Name) → cycles ≡ told_cycles c → words ≡ (seen c).words → mutators ≡ ends_of (seen c) → weaks ≡ names_of c.weaks.list → record (report_of c end) { cycles = cycles; words = words; mutators = mutators; weaks = weaks } ≡ report_of c end
+pub same_parts : (c : Collector) (end : End) (cycles : List CycleRow) (words : List ℕ) (mutators : List MutatorEnd) (weaks : List Name) →
+    cycles ≡ told_cycles c → words ≡ (seen c).words → mutators ≡ ends_of (seen c) → weaks ≡ names_of c.weaks.list →
+    record (report_of c end) { cycles = cycles; words = words; mutators = mutators; weaks = weaks } ≡ report_of c end
 same_parts c end cycles words mutators weaks cycles_are words_are mutators_are weaks_are = sym (
     ap (λ (rows : List CycleRow). record (report_of c end) { cycles = rows }) (sym cycles_are)
     ∙ ap (λ (ws : List ℕ). record (report_of c end) { cycles = cycles; words = ws }) (sym words_are)

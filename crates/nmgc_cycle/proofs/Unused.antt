@@ -24,13 +24,15 @@ abbrev pub nurseries : List Mutator → List Nursery
 nurseries mutators = map (λ (m : MutatorSeen). m.nursery) (map seen_mutator mutators)
 
 -- what holds of each mutator's nursery holds of each nursery
-each_nursery : (P : ℕ → Nursery → Type 0) (mutators : List Mutator) → ((k : ℕ) (m : Mutator) → slice_get mutators k ≡ Some m → P k m.nursery) → (k : ℕ) → k < length mutators → P k (nursery_at (nurseries mutators) k)
+each_nursery : (P : ℕ → Nursery → Type 0) (mutators : List Mutator) → ((k : ℕ) (m : Mutator) → slice_get mutators k ≡ Some m → P k m.nursery) →
+    (k : ℕ) → k < length mutators → P k (nursery_at (nurseries mutators) k)
 each_nursery P [] each k lt = absurd (omega arith)
 each_nursery P (m ∷ mutators) each zero lt = each zero m refl
 each_nursery P (m ∷ mutators) each (suc k) lt = each_nursery (λ (j : ℕ). P (suc j)) mutators (λ j n e. each (suc j) n e) k (omega arith)
 
 -- and of each as contracts see it
-each_seen : (P : MutatorSeen → Type 0) (mutators : List Mutator) → ((k : ℕ) (m : Mutator) → slice_get mutators k ≡ Some m → P (seen_mutator m)) → (k : ℕ) (s : MutatorSeen) → slice_get (map seen_mutator mutators) k ≡ Some s → P s
+each_seen : (P : MutatorSeen → Type 0) (mutators : List Mutator) → ((k : ℕ) (m : Mutator) → slice_get mutators k ≡ Some m → P (seen_mutator m)) →
+    (k : ℕ) (s : MutatorSeen) → slice_get (map seen_mutator mutators) k ≡ Some s → P s
 each_seen P [] each k s e = absurd cc
 each_seen P (m ∷ mutators) each zero s e = let same : seen_mutator m ≡ s = cc in subst P same (each zero m refl)
 each_seen P (m ∷ mutators) each (suc k) s e = each_seen P mutators (λ j n is. each (suc j) n is) k s e
@@ -53,17 +55,21 @@ module _ (layout : Layout) (mutators : List Mutator) (new : AreNew layout mutato
   are_nurseries w count = record {
     used = record {
       count = as_many mutators ∙ count;
-      places_are = λ maker lt. each_nursery (λ (j : ℕ) (n : Nursery). n.base ≡ nursery_place layout j) mutators (λ j m e. let is = new j m e in is.unused.base ∙ ap (λ (l : Layout). nursery_place l m.number) is.layout_is ∙ ap (λ (n : ℕ). nursery_place layout n) is.number_is) maker (omega arith);
+      places_are = λ maker lt. each_nursery (λ (j : ℕ) (n : Nursery). n.base ≡ nursery_place layout j) mutators (λ j m e. let is = new j m e in
+          is.unused.base ∙ ap (λ (l : Layout). nursery_place l m.number) is.layout_is ∙
+          ap (λ (n : ℕ). nursery_place layout n) is.number_is) maker (omega arith);
       tops = λ maker lt. let top = are_empty maker in (omega arith, omega arith);
       used = λ p node c low there. elim (contains_cases shared_place [] p c) [
         | inl e ↦ let at = ap (λ (q : Place). q.at) e in absurd (omega arith)
         | inr none ↦ absurd (omega (arith, none.1))
       ];
     };
-    ends = λ maker lt. each_nursery (λ (j : ℕ) (n : Nursery). n.end ≡ n.base + layout.nursery) mutators (λ j m e. let is = new j m e in is.unused.end ∙ ap (λ (l : Layout). m.nursery.base + l.nursery) is.layout_is) maker (omega arith);
+    ends = λ maker lt. each_nursery (λ (j : ℕ) (n : Nursery). n.end ≡ n.base + layout.nursery) mutators (λ j m e. let is = new j m e in
+        is.unused.end ∙ ap (λ (l : Layout). m.nursery.base + l.nursery) is.layout_is) maker (omega arith);
   }
 
-  pub nothing_left : ((k : ℕ) (m : Mutator) → slice_get mutators k ≡ Some m → m.sender.since ≡ []) → (k : ℕ) (s : MutatorSeen) → slice_get (map seen_mutator mutators) k ≡ Some s → IsAtRest s
+  pub nothing_left : ((k : ℕ) (m : Mutator) → slice_get mutators k ≡ Some m → m.sender.since ≡ []) → (k : ℕ) (s : MutatorSeen) →
+      slice_get (map seen_mutator mutators) k ≡ Some s → IsAtRest s
   nothing_left unsent = each_seen IsAtRest mutators (λ k m e. record {
     recorded = ap numbers (new k m e).recorded;
     young_weaks = ap numbers (new k m e).young_weaks;

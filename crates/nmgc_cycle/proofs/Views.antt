@@ -19,7 +19,8 @@ ends_in ms = map end_of (map seen_mutator ms)
 
 each_whole : (ms : List Mutator) → All HasRegisters ms → All HasAllRegisters (ends_in ms)
 each_whole [] h = All-nil HasAllRegisters
-each_whole (m ∷ ms) h = All-cons HasAllRegisters (end_of (seen_mutator m)) (ends_in ms) (All-head HasRegisters m ms h) (each_whole ms (All-tail HasRegisters m ms h))
+each_whole (m ∷ ms) h =
+    All-cons HasAllRegisters (end_of (seen_mutator m)) (ends_in ms) (All-head HasRegisters m ms h) (each_whole ms (All-tail HasRegisters m ms h))
 
 module _ (c : Collector) where
   pub registers_seen : told.registers_of (ends_of (seen c)) ≡ worked.registers_of c.mutators.items

@@ -25,7 +25,8 @@ module _ (script : Script) (rounds : List RoundRows) (left : List (List Command)
     (told : (k : ℕ) → k < length script.threads → slice_index positions k ≡ answered_count rounds k) where
   -- how many commands of a program are left
   count : (k : ℕ) → k < length script.threads → length (program_of left k) ≡ length (program_of script.threads k) - slice_index positions k
-  count k lt = ap (λ (program : List Command). length program) (h.each k) ∙ length-drop (answered_count rounds k) (program_of script.threads k) ∙ ap (λ (n : ℕ). length (program_of script.threads k) - n) (sym (told k lt))
+  count k lt = ap (λ (program : List Command). length program) (h.each k) ∙ length-drop (answered_count rounds k) (program_of script.threads k) ∙
+      ap (λ (n : ℕ). length (program_of script.threads k) - n) (sym (told k lt))
 
   to : SomeIsLeft script.threads positions → has_left left ≡ true
   to s =

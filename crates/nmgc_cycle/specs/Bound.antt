@@ -55,11 +55,14 @@ heap_of script = layout_of (plan_of script)
 abbrev pub most_stops : Script → ℕ
 most_stops script = commands_left script.threads [] + 2 * cycle_most (heap_of script) + 1
 
--- so many stops were counted, and few enough rounds may follow: commands are left; or none, and one cycle may begin; or nothing was born since the last stop, and none may
+-- so many stops were counted, and few enough rounds may follow: commands are left; or none, and one cycle may begin;
+-- or nothing was born since the last stop, and none may
 pub data MayFollow (Nothing : Type 0) (script : Script) (c : Collector) (stops : ℕ) : Type 0 where
   commands : stops + commands_left script.threads c.rounds + 2 * cycle_most (heap_of script) ≤ most_stops script → MayFollow Nothing script c stops
-  one_cycle : commands_left script.threads c.rounds ≡ 0 → stops + phase_left script.config.segments c.progress + cycle_most (heap_of script) ≤ most_stops script → MayFollow Nothing script c stops
-  no_cycle : commands_left script.threads c.rounds ≡ 0 → Nothing → NoneIsDue script.config.trigger c → stops + phase_left script.config.segments c.progress ≤ most_stops script → MayFollow Nothing script c stops
+  one_cycle : commands_left script.threads c.rounds ≡ 0 →
+      stops + phase_left script.config.segments c.progress + cycle_most (heap_of script) ≤ most_stops script → MayFollow Nothing script c stops
+  no_cycle : commands_left script.threads c.rounds ≡ 0 → Nothing → NoneIsDue script.config.trigger c →
+      stops + phase_left script.config.segments c.progress ≤ most_stops script → MayFollow Nothing script c stops
 
 -- few rounds may follow, and the cycle in progress takes no more than one cycle may
 pub record AreFew (Nothing : Type 0) (script : Script) (c : Collector) (stops : ℕ) : Type 0 where

@@ -46,10 +46,12 @@ use Rattle.nmgc_weak.specs.Weaks.{Weaks, places_of}
 
 -- In a round
 
--- the collector may do its part of a round: a marker has room for what it marks, and the marks and the queue of its seat's view; a sweeper has all segments left that wait, and there is an entry of the array of names for each block
+-- the collector may do its part of a round: a marker has room for what it marks, and the marks and the queue of its
+-- seat's view; a sweeper has all segments left that wait, and there is an entry of the array of names for each block
 abbrev pub CanHelp : Round → RoundSeat → Segments → List Name → Progress → Type 0
 CanHelp round seat segments names progress.Idle = IsCollector round seat
-CanHelp round seat segments names (progress.Marking m) = IsCollector round seat × HasRoomToMark segments m.marker × IsTied (seat_seen seat).opening (marks_seen (seat_seen seat)) segments m.marker
+CanHelp round seat segments names (progress.Marking m) = IsCollector round seat × HasRoomToMark segments m.marker ×
+    IsTied (seat_seen seat).opening (marks_seen (seat_seen seat)) segments m.marker
 CanHelp round seat segments names (progress.Sweeping w) = IsCollector round seat × AreLeft segments w.sweeper × HaveEntries segments.layout names
 
 -- it scanned as much as its last work tells, of at most so many objects, and passed the gate before each
@@ -74,8 +76,10 @@ pub record HasSweptSome (quota : ℕ) (old new : Segments) (names : List Name) (
 -- it did its part
 abbrev pub HasHelped : Round → ℕ → RoundSeat → RoundSeat → Segments → Segments → List Name → Progress → Progress → Type 0
 HasHelped round quota from seat old new names progress.Idle after = (seat ≡ from) × (new ≡ old) × (after ≡ progress.Idle)
-HasHelped round quota from seat old new names (progress.Marking m) after = (n : Marking) × (after ≡ progress.Marking n) × HasScanned round quota from seat old new m n
-HasHelped round quota from seat old new names (progress.Sweeping w) after = (v : Sweeping) × (after ≡ progress.Sweeping v) × (seat ≡ from) × HasSweptSome quota old new names w v
+HasHelped round quota from seat old new names (progress.Marking m) after = (n : Marking) × (after ≡ progress.Marking n) ×
+    HasScanned round quota from seat old new m n
+HasHelped round quota from seat old new names (progress.Sweeping w) after = (v : Sweeping) × (after ≡ progress.Sweeping v) × (seat ≡ from) ×
+    HasSweptSome quota old new names w v
 
 -- how many segments it swept beside a round, from one progress to the next
 abbrev pub swept_beside : Sweeping → Sweeping → ℕ
@@ -111,7 +115,8 @@ pub record HasAdded (entries : List ℕ) (old new : Segments) (before after : Ma
 
 -- where a marker marks they were, and the segments are sound still
 abbrev pub AddsTo : List ℕ → Segments → Segments → Progress → Progress → Type 0
-AddsTo entries old new (progress.Marking m) after = (marker : MarkerSeen) × (after ≡ progress.Marking (record m { marker = marker })) × HasAdded entries old new m.marker marker × IsSegments new
+AddsTo entries old new (progress.Marking m) after = (marker : MarkerSeen) × (after ≡ progress.Marking (record m { marker = marker })) ×
+    HasAdded entries old new m.marker marker × IsSegments new
 AddsTo entries old new p after = (after ≡ p) × (new ≡ old)
 
 -- what the mutators remember was added to the marker, and they remember nothing: the inbox and the rings are empty
@@ -122,13 +127,17 @@ pub record HasTaken (old new : Collector) : Type 0 where
   pub lines : (k : ℕ) (n : Mutator) → slice_get new.mutators.items k ≡ Some n → IsLined new.inbox k n.sender
   pub adds : AddsTo (remembered_by old.mutators.items) old.segments new.segments old.progress new.progress
 
--- a marker may finish: it has room, and its marks and its queue are those of a state that opens a round on these words. After that the weak pointers of the list may be resolved, and the finalisers of those that die have room in the queues; and there is room for the queues themselves
+-- a marker may finish: it has room, and its marks and its queue are those of a state that opens a round on these
+-- words. After that the weak pointers of the list may be resolved, and the finalisers of those that die have room in
+-- the queues; and there is room for the queues themselves
 pub record IsReadyToClose (words : List ℕ) (segments : Segments) (weaks : List OldWeak) (queues : List FinQueue) (m : Marking) : Type 0 where
   pub room : HasRoomToMark segments m.marker
   pub opening : Opening
   pub ready : IsReady opening words segments m.marker
-  pub resolves : (between : Segments) (finisher : MarkerSeen) (f : HasFinished opening between finisher) → CanResolve (finished_on opening between finisher f) words between finisher (places_of weaks)
-  pub queue_room : (between marked : Segments) (finisher marker : MarkerSeen) (after : List ℕ) (list : List OldWeak) (deaths : List Death) (f : HasFinished opening between finisher) → HasResolved (finished_on opening between finisher f) after marked marker list deaths → HaveRoom deaths queues
+  pub resolves : (between : Segments) (finisher : MarkerSeen) (f : HasFinished opening between finisher) →
+      CanResolve (finished_on opening between finisher f) words between finisher (places_of weaks)
+  pub queue_room : (between marked : Segments) (finisher marker : MarkerSeen) (after : List ℕ) (list : List OldWeak) (deaths : List Death)
+      (f : HasFinished opening between finisher) → HasResolved (finished_on opening between finisher f) after marked marker list deaths → HaveRoom deaths queues
   pub none_held : m.queues.items ≡ []
   pub holds_all : length queues ≤ vec_capacity m.queues
 
@@ -137,8 +146,11 @@ abbrev pub CanClose : List ℕ → Segments → List OldWeak → List FinQueue �
 CanClose words segments weaks queues (progress.Marking m) = m.last.empty ≡ true → IsReadyToClose words segments weaks queues m
 CanClose words segments weaks queues _ = Unit {0}
 
--- the marker finished, the weak pointers were resolved, the finalisers of the deaths joined the queues, the marks of segments that don't wait were carried, and the cycle sweeps from this stop on; the sweeper has the marker's count of the gate's passes
-pub record IsClosed (stop : ℕ) (words after : List ℕ) (old new : Segments) (weaks list : Weaks) (mutators then : List Mutator) (m : Marking) (sweeping : Sweeping) : Type 0 where
+-- the marker finished, the weak pointers were resolved, the finalisers of the deaths joined the queues, the marks of
+-- segments that don't wait were carried, and the cycle sweeps from this stop on; the sweeper has the marker's count
+-- of the gate's passes
+pub record IsClosed (stop : ℕ) (words after : List ℕ) (old new : Segments) (weaks list : Weaks) (mutators then : List Mutator) (m : Marking)
+    (sweeping : Sweeping) : Type 0 where
   pub between : Segments
   pub finisher : MarkerSeen
   pub marker : MarkerSeen
@@ -154,7 +166,10 @@ pub record IsClosed (stop : ℕ) (words after : List ℕ) (old new : Segments) (
 
 -- a cycle is closed where the marker's last work left nothing
 abbrev pub Closes : ℕ → Progress → Collector → Collector → Type 0
-Closes stop (progress.Marking m) old new = ((m.last.empty ≡ true) × ((w : Sweeping) × (new.progress ≡ progress.Sweeping w) × IsClosed stop (words_in old.words) (words_in new.words) old.segments new.segments old.weaks new.weaks old.mutators.items new.mutators.items m w)) ⊎ ((m.last.empty ≡ false) × (new ≡ old))
+Closes stop (progress.Marking m) old new = ((m.last.empty ≡ true) ×
+    ((w : Sweeping) × (new.progress ≡ progress.Sweeping w) ×
+    IsClosed stop (words_in old.words) (words_in new.words) old.segments new.segments old.weaks new.weaks old.mutators.items new.mutators.items m
+    w)) ⊎ ((m.last.empty ≡ false) × (new ≡ old))
 Closes stop p old new = new ≡ old
 
 -- by this rule a cycle was closed, or none: of the collector words, segments, list and queues are those that this left
@@ -183,7 +198,13 @@ IsSwept c = (w : Sweeping) × (c.progress ≡ progress.Sweeping w) × HasNone so
 
 -- a cycle that sweeps ends where no segment waits; the collector keeps the sweeper's counts of the gate's passes
 abbrev pub Ends : ℕ → Progress → Collector → Collector → Type 0
-Ends stop (progress.Sweeping w) old new = (HasNone sought.Sweeping old.segments × (new ≡ record old { progress = progress.Idle; turns = w.sweeper.turns; upper_turns = w.sweeper.upper_turns; cycles = old.cycles ++ row_of old.begun stop w (died old.weaks.deaths) ∷ [] })) ⊎ ((HasNone sought.Sweeping old.segments → ⊥) × (new ≡ old))
+Ends stop (progress.Sweeping w) old new = (HasNone sought.Sweeping old.segments ×
+    (new ≡ record old {
+      progress = progress.Idle;
+      turns = w.sweeper.turns;
+      upper_turns = w.sweeper.upper_turns;
+      cycles = old.cycles ++ row_of old.begun stop w (died old.weaks.deaths) ∷ [];
+    })) ⊎ ((HasNone sought.Sweeping old.segments → ⊥) × (new ≡ old))
 Ends stop _ old new = new ≡ old
 
 -- a cycle is due: none is in progress, and one was asked for, or enough segments were filled since the last one began
@@ -202,9 +223,12 @@ HasStood segments words = (a : AllocState) × StandsFor segments words a
 pub record CanBegin (c : Collector) : Type 0 where
   pub none_waits : HasNone sought.Sweeping c.segments
   pub stood : HasStood (all_prepared c.segments) (words_in c.words)
-  pub begins : (o : Opening) × IsBeginning o (all_prepared c.segments) (next_epoch c) (words_in c.words) (registers_of c.mutators.items) (queues_in c.mutators.items)
+  pub begins : (o : Opening) ×
+      IsBeginning o (all_prepared c.segments) (next_epoch c) (words_in c.words) (registers_of c.mutators.items) (queues_in c.mutators.items)
 
--- a marking cycle was started at this stop: the segments were prepared, the sweeper noted which segments wait, and the marker marked what the roots refer to, both with the collector's count of the gate's passes; the mutators have their roots again, and their queues have room for what the closing adds
+-- a marking cycle was started at this stop: the segments were prepared, the sweeper noted which segments wait, and
+-- the marker marked what the roots refer to, both with the collector's count of the gate's passes; the mutators have
+-- their roots again, and their queues have room for what the closing adds
 pub record StartsMarking (stop : ℕ) (old new : Collector) (marking : Marking) : Type 0 where
   pub rest : new ≡ record old { words = new.words; segments = new.segments; mutators = new.mutators }
   pub from_is : marking.from ≡ stop
@@ -218,7 +242,9 @@ pub record StartsMarking (stop : ℕ) (old new : Collector) (marking : Marking) 
   pub sweeper : HasBegun (all_prepared old.segments) (next_epoch old) marking.sweeper
   pub turns : (marking.marker.turns ≡ old.turns) × (marking.sweeper.turns ≡ old.turns) × (marking.sweeper.upper_turns ≡ old.upper_turns)
   pub marked : HasMarked (all_prepared old.segments) new.segments (blank (next_epoch old) (most_blocks old.segments.layout)) marking.marker 0
-  pub tied : (o : Opening) → IsBeginning o (all_prepared old.segments) (next_epoch old) (words_in old.words) (registers_of old.mutators.items) (queues_in old.mutators.items) → IsTied o (marks_of (opening o.core.snapshot)) new.segments marking.marker
+  pub tied : (o : Opening) →
+      IsBeginning o (all_prepared old.segments) (next_epoch old) (words_in old.words) (registers_of old.mutators.items)
+      (queues_in old.mutators.items) → IsTied o (marks_of (opening o.core.snapshot)) new.segments marking.marker
 
 -- so a cycle began: the roots were marked, and then the collector's progress set
 pub record HasStarted (stop : ℕ) (old new : Collector) : Type 0 where

@@ -32,7 +32,8 @@ CanCloseNow words segments weaks queues _ = Unit {0}
 
 -- a cycle that marks was closed
 abbrev pub ClosesNow : ℕ → Progress → Collector → Collector → Type 0
-ClosesNow stop (progress.Marking m) old new = (w : Sweeping) × (new.progress ≡ progress.Sweeping w) × IsClosed stop (words_in old.words) (words_in new.words) old.segments new.segments old.weaks new.weaks old.mutators.items new.mutators.items m w
+ClosesNow stop (progress.Marking m) old new = (w : Sweeping) × (new.progress ≡ progress.Sweeping w) ×
+    IsClosed stop (words_in old.words) (words_in new.words) old.segments new.segments old.weaks new.weaks old.mutators.items new.mutators.items m w
 ClosesNow stop p old new = new ≡ old
 
 -- a sweeper has all segments left that wait, and there is an entry of the array of names for each block

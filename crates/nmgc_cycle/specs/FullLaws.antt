@@ -24,33 +24,42 @@ StandsAtStop stop c = (script : Script) × (s : State) × IsInLimits script × (
 
 -- a closing that a full cycle forces has no bounds
 abbrev pub FinishingNowLeads : Type 0
-FinishingNowLeads = (script : Script) (old new : Collector) (s : State) → IsInLimits script → StandsAt script old s → HasClosed ClosesNow s.number old new → (t : State) × run_closing.ClosesNow s.progress s t × StandsAt script new t
+FinishingNowLeads = (script : Script) (old new : Collector) (s : State) → IsInLimits script → StandsAt script old s →
+    HasClosed ClosesNow s.number old new → (t : State) × run_closing.ClosesNow s.progress s t × StandsAt script new t
 
 -- what waits is swept
 abbrev pub SweepingRestLeads : Type 0
-SweepingRestLeads = (script : Script) (old new : Collector) (s : State) → IsInLimits script → StandsAt script old s → HasSweptRest old new → (b : AllocState) × run_sweep.SweepsRest s.progress s.allocation b × StandsAt script new (record s { allocation = b })
+SweepingRestLeads = (script : Script) (old new : Collector) (s : State) → IsInLimits script → StandsAt script old s → HasSweptRest old new →
+    (b : AllocState) × run_sweep.SweepsRest s.progress s.allocation b × StandsAt script new (record s { allocation = b })
 
 -- so a cycle in progress is finished, and then none is in progress
 abbrev pub FinishLeads : Type 0
-FinishLeads = (script : Script) (old new : Collector) (s : State) → IsInLimits script → StandsAt script old s → HasFinished s.number old new → (t : State) × (rows : List CycleRow) × run.Finishes s t rows × (told_cycles new ≡ told_cycles old ++ rows) × StandsAt script new t × (new.progress ≡ doing.Idle)
+FinishLeads = (script : Script) (old new : Collector) (s : State) → IsInLimits script → StandsAt script old s → HasFinished s.number old new →
+    (t : State) × (rows : List CycleRow) × run.Finishes s t rows × (told_cycles new ≡ told_cycles old ++ rows) × StandsAt script new t ×
+    (new.progress ≡ doing.Idle)
 
 -- segments that are filed stand for the state with them filed
 abbrev pub FilingLeads : Type 0
-FilingLeads = (script : Script) (c : Collector) (s : State) → IsInLimits script → StandsAt script c s → c.progress ≡ doing.Idle → IsSegments (with_all_retired c).segments → StandsAt script (with_all_retired c) (run.with_all_retired s)
+FilingLeads = (script : Script) (c : Collector) (s : State) → IsInLimits script → StandsAt script c s → c.progress ≡ doing.Idle →
+    IsSegments (with_all_retired c).segments → StandsAt script (with_all_retired c) (run.with_all_retired s)
 
 -- the whole full cycle
 abbrev pub FullLeads : Type 0
-FullLeads = (script : Script) (old new : Collector) (s : State) → IsInLimits script → StandsAt script old s → HasDoneFull s.number old new → (t : State) × (rows : List CycleRow) × run.DoesFullCycle s t rows × (told_cycles new ≡ told_cycles old ++ rows) × StandsAt script new t
+FullLeads = (script : Script) (old new : Collector) (s : State) → IsInLimits script → StandsAt script old s → HasDoneFull s.number old new →
+    (t : State) × (rows : List CycleRow) × run.DoesFullCycle s t rows × (told_cycles new ≡ told_cycles old ++ rows) × StandsAt script new t
 
 -- the stop goes on as the run does
 abbrev pub ProceedingLeads : Type 0
-ProceedingLeads = (script : Script) (old new : Collector) (s : State) (left : Bool) → IsInLimits script → StandsAt script old s → left ≡ has_left s.left → Proceeds script.config.trigger left s.number old new → (t : State) × (rows : List CycleRow) × run.Proceeds (plan_of script) s t rows × (told_cycles new ≡ told_cycles old ++ rows) × StandsAt script new t
+ProceedingLeads = (script : Script) (old new : Collector) (s : State) (left : Bool) → IsInLimits script → StandsAt script old s →
+    left ≡ has_left s.left → Proceeds script.config.trigger left s.number old new → (t : State) × (rows : List CycleRow) ×
+    run.Proceeds (plan_of script) s t rows × (told_cycles new ≡ told_cycles old ++ rows) × StandsAt script new t
 
 -- What the parts ask for
 
 -- a cycle that marks may be closed, whatever its last work left
 abbrev pub CloseNowReady : Type 0
-CloseNowReady = (script : Script) (c : Collector) (s : State) → StandsAt script c s → CanCloseNow (words_in c.words) c.segments c.weaks.list (queues_in c.mutators.items) c.progress
+CloseNowReady = (script : Script) (c : Collector) (s : State) → StandsAt script c s →
+    CanCloseNow (words_in c.words) c.segments c.weaks.list (queues_in c.mutators.items) c.progress
 
 -- what waits may be swept
 abbrev pub SweepRestReady : Type 0

@@ -38,8 +38,10 @@ pub record HasSweeper (k : Cycle) (c : Collector) : Type 0 where
 -- while a cycle marks, its sweeper has swept nothing; once it was closed, the sweeper is at work, and all that wait are left still
 abbrev pub Sweeps : Progress → State → Collector → Type 0
 Sweeps idle s c = Unit {0}
-Sweeps (marking k) s c = HasSweeper k c × ((sweeper_in c.progress).seen.swept ≡ (sweeper_in c.progress).left) × ((sweeper_in c.progress).seen.had ≡ []) × ((sweeper_in c.progress).seen.freed ≡ [])
-Sweeps (sweeping k closed) s c = AreLeft c.segments (sweeper_in c.progress) × IsAtWork k closed (seen c).words s.allocation c.segments (seen c).cycle (sweeper_in c.progress)
+Sweeps (marking k) s c = HasSweeper k c × ((sweeper_in c.progress).seen.swept ≡ (sweeper_in c.progress).left) ×
+    ((sweeper_in c.progress).seen.had ≡ []) × ((sweeper_in c.progress).seen.freed ≡ [])
+Sweeps (sweeping k closed) s c = AreLeft c.segments (sweeper_in c.progress) ×
+    IsAtWork k closed (seen c).words s.allocation c.segments (seen c).cycle (sweeper_in c.progress)
 
 -- a mutator between two calls: it has its number and the layout of the heap, its replies were told, and the inbox has the other end of its ring
 pub record IsOwn (c : Collector) (k : ℕ) (m : Mutator) : Type 0 where
@@ -49,7 +51,8 @@ pub record IsOwn (c : Collector) (k : ℕ) (m : Mutator) : Type 0 where
   pub no_replies : m.replies.items ≡ []
   pub line : IsLined c.inbox k m.sender
 
--- what is true of a collector whatever its run: its parts are for one layout, with an entry of the array of names for each block, and it knows how many commands of each program were answered
+-- what is true of a collector whatever its run: its parts are for one layout, with an entry of the array of names for
+-- each block, and it knows how many commands of each program were answered
 pub record IsWellFormed (script : Script) (c : Collector) : Type 0 where
   pub layout : c.segments.layout ≡ layout_of (plan_of script)
   pub sound : IsSegments c.segments
@@ -111,9 +114,11 @@ HasAnswered script c answer.GoOn = HasStopped script c × (c.answered ≡ None)
 HasAnswered script c answer.Done = HasStopped script c × (c.answered ≡ Some Done)
 HasAnswered script c (answer.HeapFull free reserve) = HasStopped script c × (c.answered ≡ Some (HeapFull free reserve))
 
--- a stop after a round: the run before the round, with the round and this stop as one turn more, is the run for which the collector stands. Of a new collector's first stop `answered` says all: the run has no turn yet
+-- a stop after a round: the run before the round, with the round and this stop as one turn more, is the run for which
+-- the collector stands. Of a new collector's first stop `answered` says all: the run has no turn yet
 abbrev pub StopsAfter : Script → Collector → Collector → Type 0
-StopsAfter script old new = (w : HasWorked script old) → (turn : Turn) × (turn.replies ≡ record { replies = w.replies }) × (turn.worked ≡ w.worked) × (turn.history ≡ w.history) × IsAfterStop script new (with_turn w.run turn)
+StopsAfter script old new = (w : HasWorked script old) → (turn : Turn) × (turn.replies ≡ record { replies = w.replies }) ×
+    (turn.worked ≡ w.worked) × (turn.history ≡ w.history) × IsAfterStop script new (with_turn w.run turn)
 
 -- the run has ended so
 abbrev pub HasEnded : Script → Collector → End → Type 0

@@ -19,7 +19,8 @@ pub record HasMetSender (old new : Mutator) : Type 0 where
   pub rest : new ≡ record old { sender = new.sender }
   pub looked : HasLooked old.sender new.sender
 
--- both ends of each ring met: nothing changed but what they know of one another, and of the first so many rings what was received and what they hold are all that was sent
+-- both ends of each ring met: nothing changed but what they know of one another, and of the first so many rings what
+-- was received and what they hold are all that was sent
 pub record HaveMet (many : ℕ) (old new : List Receiver) (was then : List Mutator) : Type 0 where
   pub receivers : HavePolled old new
   pub count : length then ≡ length was
@@ -29,7 +30,8 @@ pub record HaveMet (many : ℕ) (old new : List Receiver) (was then : List Mutat
 
 -- what each mutator remembers is what was taken out of its ring, then what is in the ring, then what it keeps
 abbrev pub RememberInOrder : List Receiver → List Mutator → Type 0
-RememberInOrder inbox mutators = (k : ℕ) (r : Receiver) (m : Mutator) → slice_get inbox k ≡ Some r → slice_get mutators k ≡ Some m → remembered m ≡ numbers ((r.taken.items ++ in_ring m.sender r) ++ m.updrem.items)
+RememberInOrder inbox mutators = (k : ℕ) (r : Receiver) (m : Mutator) → slice_get inbox k ≡ Some r → slice_get mutators k ≡ Some m →
+    remembered m ≡ numbers ((r.taken.items ++ in_ring m.sender r) ++ m.updrem.items)
 
 -- a mutator remembers nothing any more
 pub record HasForgotten (old new : Mutator) : Type 0 where

@@ -69,7 +69,8 @@ pub record HasQueueRoom (count : ℕ) (old new : Mutator) : Type 0 where
 -- each mutator's queue has room for a finaliser of each weak pointer of the list that it made
 pub record HaveQueueRoom (list : List OldWeak) (old new : List Mutator) : Type 0 where
   pub count : length new ≡ length old
-  pub each : (k : ℕ) (d : Mutator) → k < length old → HasQueueRoom (count_made_by (slice_index_or old k d).number list) (slice_index_or old k d) (slice_index_or new k d)
+  pub each : (k : ℕ) (d : Mutator) → k < length old →
+      HasQueueRoom (count_made_by (slice_index_or old k d).number list) (slice_index_or old k d) (slice_index_or new k d)
 
 -- the same mutators, with these queues
 pub record HaveQueues (queues : List FinQueue) (old new : List Mutator) : Type 0 where

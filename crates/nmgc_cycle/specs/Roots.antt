@@ -53,4 +53,5 @@ own_registers registers number = slice_range registers (number * REGISTERS) (num
 -- each mutator has its part of what a promotion had
 pub record AreGivenBack (registers : List ℕ) (queues : List FinQueue) (old new : List Mutator) : Type 0 where
   pub count : length new ≡ length old
-  pub each : (k : ℕ) (m : Mutator) → slice_get old k ≡ Some m → slice_get new k ≡ Some (given_back (own_registers registers k) (slice_index_or queues k no_queue) m)
+  pub each : (k : ℕ) (m : Mutator) → slice_get old k ≡ Some m →
+      slice_get new k ≡ Some (given_back (own_registers registers k) (slice_index_or queues k no_queue) m)

@@ -71,33 +71,43 @@ StandsAt script c s = StandsForState (IsPacedAtStop script.config.quota) IsAtRes
 
 -- adding changes nothing of the state
 abbrev pub AddingLeads : Type 0
-AddingLeads = (script : Script) (old new : Collector) (s : State) → IsInLimits script → StandsPromoted script old s → HasTaken old new → StandsWithin script new s
+AddingLeads = (script : Script) (old new : Collector) (s : State) → IsInLimits script → StandsPromoted script old s → HasTaken old new →
+    StandsWithin script new s
 
 -- a marker that finished closes its cycle, within the bounds
 abbrev pub FinishingLeads : Type 0
-FinishingLeads = (script : Script) (old new : Collector) (s : State) (k : Cycle) (m : Marking) (w : Sweeping) → IsInLimits script → StandsWithin script old s → s.progress ≡ marking k → old.progress ≡ doing.Marking m → m.last.empty ≡ true → new.progress ≡ doing.Sweeping w → HasClosed ClosesThen s.number old new → IsClosed s.number (words_in old.words) (words_in new.words) old.segments new.segments old.weaks new.weaks old.mutators.items new.mutators.items m w → (t : State) × Closes k s t × MayClose script.config.quota k s.number × StandsAt script new t
+FinishingLeads = (script : Script) (old new : Collector) (s : State) (k : Cycle) (m : Marking) (w : Sweeping) → IsInLimits script →
+    StandsWithin script old s → s.progress ≡ marking k → old.progress ≡ doing.Marking m → m.last.empty ≡ true → new.progress ≡ doing.Sweeping w →
+    HasClosed ClosesThen s.number old new →
+    IsClosed s.number (words_in old.words) (words_in new.words) old.segments new.segments old.weaks new.weaks old.mutators.items new.mutators.items
+    m w → (t : State) × Closes k s t × MayClose script.config.quota k s.number × StandsAt script new t
 
 -- a closing comes within its bounds
 abbrev pub ClosingLeads : Type 0
-ClosingLeads = (script : Script) (old new : Collector) (s : State) → IsInLimits script → StandsWithin script old s → HasClosed ClosesThen s.number old new → (t : State) × ClosesOrWaits script.config.quota s.progress s t × StandsAt script new t
+ClosingLeads = (script : Script) (old new : Collector) (s : State) → IsInLimits script → StandsWithin script old s →
+    HasClosed ClosesThen s.number old new → (t : State) × ClosesOrWaits script.config.quota s.progress s t × StandsAt script new t
 
 -- a cycle's row tells its census
 abbrev pub EndLeads : Type 0
-EndLeads = (script : Script) (old new : Collector) (s : State) → IsInLimits script → StandsAt script old s → Ends s.number old.progress old new → (t : State) × (rows : List CycleRow) × EndsOrWaits s.progress s t rows × (told_cycles new ≡ told_cycles old ++ rows) × StandsAt script new t
+EndLeads = (script : Script) (old new : Collector) (s : State) → IsInLimits script → StandsAt script old s → Ends s.number old.progress old new →
+    (t : State) × (rows : List CycleRow) × EndsOrWaits s.progress s t rows × (told_cycles new ≡ told_cycles old ++ rows) × StandsAt script new t
 
 -- where none is in progress, what was started is the next cycle
 abbrev pub StartingLeads : Type 0
-StartingLeads = (script : Script) (old new : Collector) (s : State) → IsInLimits script → StandsAt script old s → old.progress ≡ doing.Idle → HasStarted s.number old new → StandsAt script new (record (cycle_started s) { collect = false })
+StartingLeads = (script : Script) (old new : Collector) (s : State) → IsInLimits script → StandsAt script old s → old.progress ≡ doing.Idle →
+    HasStarted s.number old new → StandsAt script new (record (cycle_started s) { collect = false })
 
 -- a cycle begins where one is due
 abbrev pub BeginningLeads : Type 0
-BeginningLeads = (script : Script) (old new : Collector) (s : State) → IsInLimits script → StandsAt script old s → Begins script.config.trigger s.number old new → (t : State) × BeginsOrWaits script.config s t × StandsAt script new t
+BeginningLeads = (script : Script) (old new : Collector) (s : State) → IsInLimits script → StandsAt script old s →
+    Begins script.config.trigger s.number old new → (t : State) × BeginsOrWaits script.config s t × StandsAt script new t
 
 -- What the steps ask for
 
 -- a marker whose last work left nothing may finish
 abbrev pub CloseReady : Type 0
-CloseReady = (script : Script) (c : Collector) (s : State) → IsInLimits script → StandsWithin script c s → CanClose (words_in c.words) c.segments c.weaks.list (queues_in c.mutators.items) c.progress
+CloseReady = (script : Script) (c : Collector) (s : State) → IsInLimits script → StandsWithin script c s →
+    CanClose (words_in c.words) c.segments c.weaks.list (queues_in c.mutators.items) c.progress
 
 -- where none is in progress, one may begin
 abbrev pub BeginReady : Type 0

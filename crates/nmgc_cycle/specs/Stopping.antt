@@ -35,7 +35,8 @@ use Rattle.nmgc_cycle.specs.Shown.{words_in}
 
 -- words, segments and mutators of the collector stand for the heap at a stop
 abbrev pub StandsStopped : Stopped → Collector → Type 0
-StandsStopped t c = IsStopped t c.segments (words_in c.words) (nurseries_of c.mutators.items) (registers_of c.mutators.items) (queues_of c.mutators.items) (recorded_of c.mutators.items) (young_weaks_of c.mutators.items)
+StandsStopped t c = IsStopped t c.segments (words_in c.words) (nurseries_of c.mutators.items) (registers_of c.mutators.items)
+    (queues_of c.mutators.items) (recorded_of c.mutators.items) (young_weaks_of c.mutators.items)
 
 -- what the last promotion moved
 abbrev pub moves_of : Collector → List Moved
@@ -45,16 +46,26 @@ moves_of c = map moved_of c.promotion.moves
 abbrev pub moved_names : Collector → List Name
 moved_names c = map (λ (m : Moved). m.name) (moves_of c)
 
--- what the round made was promoted: of the collector only words, segments, names of objects in them, what mutators hold and the list of weak pointers changed, and what moved is told and noted
+-- what the round made was promoted: of the collector only words, segments, names of objects in them, what mutators
+-- hold and the list of weak pointers changed, and what moved is told and noted
 pub record HasPromoted (old new : Collector) : Type 0 where
-  pub rest : new ≡ record old { words = new.words; segments = new.segments; promotion = new.promotion; names = new.names; mutators = new.mutators; weaks = new.weaks }
+  pub rest : new ≡ record old {
+    words = new.words;
+    segments = new.segments;
+    promotion = new.promotion;
+    names = new.names;
+    mutators = new.mutators;
+    weaks = new.weaks;
+  }
   pub has_words : IsSome new.words
   pub noted : HaveNoted (moves_of new) old.names new.names
   pub registers : List ℕ
   pub queues : List FinQueue
   pub given : AreGivenBack registers queues old.mutators.items new.mutators.items
-  pub settled : (t : Stopped) → StandsStopped t old → IsSettled t new.segments (words_in new.words) registers (map (λ (queue : FinQueue). queue.words) queues) (moves_of new)
-  pub places : (t : Stopped) → StandsStopped t old → (a : AllocState) → StandsFor old.segments (words_in old.words) a → (b : AllocState) × PlacesEach old.segments.layout t.world a (moved_names new) b × StandsFor new.segments (words_in new.words) b
+  pub settled : (t : Stopped) → StandsStopped t old → IsSettled t new.segments (words_in new.words) registers (map (λ (queue : FinQueue).
+      queue.words) queues) (moves_of new)
+  pub places : (t : Stopped) → StandsStopped t old → (a : AllocState) → StandsFor old.segments (words_in old.words) a → (b : AllocState) ×
+      PlacesEach old.segments.layout t.world a (moved_names new) b × StandsFor new.segments (words_in new.words) b
   pub sound : IsSegments new.segments
   pub marks : KeepsMarks old.segments new.segments
   pub layout : new.segments.layout ≡ old.segments.layout
@@ -71,7 +82,8 @@ pub record CanList (t : Stopped) (c : Collector) : Type 0 where
 -- those that were finalised have left the list, and those that moved and are alive have joined it
 pub record HasListed (old new : Collector) : Type 0 where
   pub from : (weak : OldWeak) → Contains new.weaks.list weak → Contains old.weaks.list weak ⊎ ((m : Moved) × Contains (moves_of new) m × (weak.weak ≡ m.name))
-  pub lists : (t : Stopped) → StandsStopped t old → CanList t old → ListsWeaks new.segments.layout (settled (young_base new.segments) (moves_of new) t.places) t.world (places_of new.weaks.list)
+  pub lists : (t : Stopped) → StandsStopped t old → CanList t old →
+      ListsWeaks new.segments.layout (settled (young_base new.segments) (moves_of new) t.places) t.world (places_of new.weaks.list)
   pub deaths : new.weaks.deaths ≡ old.weaks.deaths
 
 -- some program is longer than what was done of it

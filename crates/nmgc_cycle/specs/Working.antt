@@ -66,7 +66,8 @@ pub record CanAllWork (round : Round) (script : Script) (positions : List ℕ) (
 -- each of them did it
 pub record HaveAllWorked (round : Round) (script : Script) (positions : List ℕ) (old new : List Worker) : Type 0 where
   pub count : length new ≡ length old
-  pub each : (k : ℕ) (d : Worker) → k < length old → HasWorkedOn round script.config.slice (left_at script positions k) (slice_index_or old k d) (slice_index_or new k d)
+  pub each : (k : ℕ) (d : Worker) → k < length old →
+      HasWorkedOn round script.config.slice (left_at script positions k) (slice_index_or old k d) (slice_index_or new k d)
 
 -- whether a worker's slice asks for a cycle, or for a full one
 abbrev pub asks_of : Worker → Bool
@@ -110,7 +111,8 @@ pub record HasLists (count : ℕ) (m : Mutator) : Type 0 where
 
 -- each mutator has room for its next slice
 abbrev pub HaveSliceRoom : Script → Collector → Type 0
-HaveSliceRoom script c = (k : ℕ) (m : Mutator) → slice_get c.mutators.items k ≡ Some m → HasRoom m (min script.config.slice (length (left_at script c.positions.items k)))
+HaveSliceRoom script c = (k : ℕ) (m : Mutator) → slice_get c.mutators.items k ≡ Some m →
+    HasRoom m (min script.config.slice (length (left_at script c.positions.items k)))
 
 -- so many entries, rounded up to whole blocks
 abbrev pub in_blocks : ℕ → ℕ
@@ -118,7 +120,8 @@ in_blocks entries = div_ceil entries BLOCK_ENTRIES * BLOCK_ENTRIES
 
 -- the inbox has room for what each mutator may send in its next slice: for the most that its commands push, in whole blocks
 abbrev pub HasInboxRoom : Script → List ℕ → List Receiver → Type 0
-HasInboxRoom script positions inbox = (k : ℕ) (r : Receiver) → slice_get inbox k ≡ Some r → in_blocks (PUSHED_MOST * min script.config.slice (length (left_at script positions k))) ≤ r.taken.spare
+HasInboxRoom script positions inbox = (k : ℕ) (r : Receiver) → slice_get inbox k ≡ Some r →
+    in_blocks (PUSHED_MOST * min script.config.slice (length (left_at script positions k))) ≤ r.taken.spare
 
 -- mutators that are the same but for the room of their lists
 pub record AreReserved (old new : List Mutator) : Type 0 where
@@ -155,9 +158,20 @@ pub record HasHelpedBeside (quota : ℕ) (o : Opening) (scans : List Scan) (old 
 abbrev pub commands_in : List (List Done) → List (List Command)
 commands_in done = map (λ (d : List Done). map (λ (x : Done). x.0) d) done
 
--- a round is over, and its replies aren't told yet: the words are those that it left, each mutator did its slice and remembers what it owes, and the collector did its part; a cycle, or a full one, is asked for where it was, or where a slice asked for one
+-- a round is over, and its replies aren't told yet: the words are those that it left, each mutator did its slice and
+-- remembers what it owes, and the collector did its part; a cycle, or a full one, is asked for where it was, or where
+-- a slice asked for one
 pub record DidSlices (script : Script) (o : Opening) (old new : Collector) : Type 0 where
-  pub rest : new ≡ record old { words = new.words; segments = new.segments; progress = new.progress; collect = new.collect; full = new.full; inbox = new.inbox; mutators = new.mutators; positions = new.positions }
+  pub rest : new ≡ record old {
+    words = new.words;
+    segments = new.segments;
+    progress = new.progress;
+    collect = new.collect;
+    full = new.full;
+    inbox = new.inbox;
+    mutators = new.mutators;
+    positions = new.positions;
+  }
   pub words : List ℕ
   pub words_are : new.words ≡ Some words
   pub scans : List Scan
@@ -172,7 +186,8 @@ pub record DidSlices (script : Script) (o : Opening) (old new : Collector) : Typ
   pub collect : new.collect ≡ (old.collect || some_asks is_collect (commands_in done))
   pub full : new.full ≡ (old.full || some_asks is_full (commands_in done))
   pub positions_are : length new.positions.items ≡ length old.positions.items
-  pub each : (k : ℕ) (m n : Mutator) (d : List Done) → slice_get old.mutators.items k ≡ Some m → slice_get new.mutators.items k ≡ Some n → slice_get done k ≡ Some d → DidSlice script old new k m n d
+  pub each : (k : ℕ) (m n : Mutator) (d : List Done) → slice_get old.mutators.items k ≡ Some m → slice_get new.mutators.items k ≡ Some n →
+      slice_get done k ≡ Some d → DidSlice script old new k m n d
 
 -- the same mutator without its replies
 abbrev pub cleared : Mutator → Mutator

@@ -165,9 +165,15 @@ impl Collector {
     pub(crate) fn closed(&mut self, marking: Marking, stop: u32) -> Sweeping
         requires words { IsSome self.old.words }
         requires ready { IsReadyToClose (words_in self.old.words) self.old.segments self.old.weaks.list (queues_in self.old.mutators.items) marking }
-        ensures rest { self.new ≡ record self.old { words = self.new.words; segments = self.new.segments; weaks = self.new.weaks; mutators = self.new.mutators } }
+        ensures rest { self.new ≡ record self.old {
+          words = self.new.words;
+          segments = self.new.segments;
+          weaks = self.new.weaks;
+          mutators = self.new.mutators;
+        } }
         ensures words { IsSome self.new.words }
-        ensures closed { IsClosed stop (words_in self.old.words) (words_in self.new.words) self.old.segments self.new.segments self.old.weaks self.new.weaks self.old.mutators.items self.new.mutators.items marking result }
+        ensures closed { IsClosed stop (words_in self.old.words) (words_in self.new.words) self.old.segments self.new.segments self.old.weaks
+            self.new.weaks self.old.mutators.items self.new.mutators.items marking result }
     {
         let Marking {
             from,

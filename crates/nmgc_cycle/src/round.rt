@@ -281,8 +281,15 @@ impl Collector {
         requires inbox { self.old.segments.layout.mutators ≤ length self.old.inbox }
         requires collector { CanHelp round.now seat.old self.old.segments self.old.names self.old.progress }
         requires mutators { CanAllWork round.now script.now self.old.positions.items workers.old }
-        ensures rest { self.new ≡ record self.old { segments = self.new.segments; progress = self.new.progress; collect = self.new.collect; full = self.new.full; inbox = self.new.inbox } }
-        ensures collector { HasHelped round.now script.now.config.quota seat.old seat.new self.old.segments self.new.segments self.old.names self.old.progress self.new.progress }
+        ensures rest { self.new ≡ record self.old {
+          segments = self.new.segments;
+          progress = self.new.progress;
+          collect = self.new.collect;
+          full = self.new.full;
+          inbox = self.new.inbox;
+        } }
+        ensures collector { HasHelped round.now script.now.config.quota seat.old seat.new self.old.segments self.new.segments self.old.names
+            self.old.progress self.new.progress }
         ensures mutators { HaveAllWorked round.now script.now self.old.positions.items workers.old workers.new }
         ensures polled { HavePolled self.old.inbox self.new.inbox }
         ensures sound { IsSegments self.new.segments }
@@ -367,7 +374,8 @@ fn reserve_all(mutators: &mut [Mutator], script: &Script, positions: &[u32]) -> 
     requires within { (k : ℕ) → k < length mutators.old → slice_index positions.now k ≤ length (program_of script.now.threads k) }
     requires few { (k : ℕ) → k < length mutators.old → length (program_of script.now.threads k) < 2 ^ 32 }
     ensures kept { OnOk result (AreReserved mutators.old mutators.new) }
-    ensures room { OnOk result ((k : ℕ) (d : MutatorSeen) → k < length mutators.old → HasLists (min script.now.config.slice (length (left_at script.now positions.now k))) (slice_index_or mutators.new k d)) }
+    ensures room { OnOk result ((k : ℕ) (d : MutatorSeen) → k < length mutators.old →
+        HasLists (min script.now.config.slice (length (left_at script.now positions.now k))) (slice_index_or mutators.new k d)) }
 {
     for (number, mutator) in mutators.iter_mut().enumerate() {
         let program = script.threads.items()[number].items();

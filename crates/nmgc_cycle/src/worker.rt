@@ -68,8 +68,11 @@ pub fn work_all<R: Threads + Sync, G: Gate>(
         workers,
         MAKERS as usize,
         &|number, worker: &mut Worker|
-            requires { (number < length script.now.threads) × (number < length positions.now) × (slice_index positions.now number ≤ length (program_of script.now.threads number)) × CanWork round.now script.now.config.slice (left_at script.now positions.now number) worker.now }
-            ensures { HasWorkedOn round.entry.now script.entry.now.config.slice (left_at script.entry.now positions.entry.now number) worker.entry.now worker.exit.now }
+            requires { (number < length script.now.threads) × (number < length positions.now) ×
+                (slice_index positions.now number ≤ length (program_of script.now.threads number)) ×
+                CanWork round.now script.now.config.slice (left_at script.now positions.now number) worker.now }
+            ensures { HasWorkedOn round.entry.now script.entry.now.config.slice (left_at script.entry.now positions.entry.now number)
+                worker.entry.now worker.exit.now }
         {
             let program = script.threads.items()[number].items();
             let left = &program[positions[number] as usize..];
@@ -108,7 +111,8 @@ pub fn work_beside<R: Threads + Sync, G: Gate>(
         rt,
         &mut ||
             requires { IsSync R.row × CanHelp round.now seat.now segments.now names.now progress.now × (segments.now.layout.mutators ≤ length inbox.now) }
-            ensures { HasHelped round.entry.now script.entry.now.config.quota seat.entry.now seat.exit.now segments.entry.now segments.exit.now names.entry.now progress.entry.now progress.exit.now × HavePolled inbox.entry.now inbox.exit.now }
+            ensures { HasHelped round.entry.now script.entry.now.config.quota seat.entry.now seat.exit.now segments.entry.now segments.exit.now
+                names.entry.now progress.entry.now progress.exit.now × HavePolled inbox.entry.now inbox.exit.now }
         {
             progress.work(
                 rt,

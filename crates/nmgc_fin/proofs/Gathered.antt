@@ -26,11 +26,13 @@ joined_more [] xs = append-nil xs
 joined_more (ys ∷ by) xs = ap (λ (l : List Job). ys ++ l) (joined_more by xs) ∙ sym (append_assoc ys (joined by) xs)
 
 -- one worker's pass is taken in
-pub client_more : (n : ℕ) (jobs : List Job) (ws : List Worker) (w : Worker) (v u x : Hand) → v ≡ hand (n + length ws) jobs (joined (lists_of ws)) → u ≡ hand 1 jobs w.done.items → x ≡ both_hands v u → x ≡ hand (n + length (ws ++ w ∷ [])) jobs (joined (lists_of (ws ++ w ∷ [])))
+pub client_more : (n : ℕ) (jobs : List Job) (ws : List Worker) (w : Worker) (v u x : Hand) → v ≡ hand (n + length ws) jobs (joined (lists_of ws)) →
+    u ≡ hand 1 jobs w.done.items → x ≡ both_hands v u → x ≡ hand (n + length (ws ++ w ∷ [])) jobs (joined (lists_of (ws ++ w ∷ [])))
 client_more n jobs ws w v u x e f g =
     let long = length-append ws (w ∷ []) in
     let count : (n + length ws) + 1 ≡ n + length (ws ++ w ∷ []) = omega (arith, long) in
-    let all : joined (lists_of ws) ++ w.done.items ≡ joined (lists_of (ws ++ w ∷ [])) = sym (joined_more (lists_of ws) w.done.items) ∙ ap joined (sym (lists_more ws w)) in
+    let all : joined (lists_of ws) ++ w.done.items ≡ joined (lists_of (ws ++ w ∷ [])) = sym (joined_more (lists_of ws) w.done.items) ∙
+    ap joined (sym (lists_more ws w)) in
     g
     ∙ ap (λ (y : Hand). both_hands y u) e
     ∙ ap (λ (y : Hand). both_hands (hand (n + length ws) jobs (joined (lists_of ws))) y) f
@@ -48,12 +50,14 @@ module _ (all before : List Worker) (last : Worker) (is : all ≡ before ++ last
   at_middle (x ∷ xs) ys w = at_middle xs ys w
 
   pub comes_at : (xs ys : List Worker) (w : Worker) → xs ++ w ∷ ys ≡ before → slice_get all (length xs) ≡ Some w
-  comes_at xs ys w e = ap (λ (l : List Worker). slice_get l (length xs)) is ∙ at_front before (last ∷ []) w (length xs) (ap (λ (l : List Worker). slice_get l (length xs)) (sym e) ∙ at_middle xs ys w)
+  comes_at xs ys w e = ap (λ (l : List Worker). slice_get l (length xs)) is ∙
+      at_front before (last ∷ []) w (length xs) (ap (λ (l : List Worker). slice_get l (length xs)) (sym e) ∙ at_middle xs ys w)
 
   pub last_at : slice_get all (length before) ≡ Some last
   last_at = ap (λ (l : List Worker). slice_get l (length before)) is ∙ at_middle before [] last
 
-pub worker_at : (queue : SegId Global) (jobs : List Job) (crew : List Worker) → AreWorkers queue jobs crew → (k : ℕ) (w : Worker) → slice_get crew k ≡ Some w → IsWorker queue jobs w
+pub worker_at : (queue : SegId Global) (jobs : List Job) (crew : List Worker) → AreWorkers queue jobs crew → (k : ℕ) (w : Worker) →
+    slice_get crew k ≡ Some w → IsWorker queue jobs w
 worker_at queue jobs crew are k w e = subst (λ (x : Worker). IsWorker queue jobs x) (get_or_from_slice_get crew k w w e) (are k w (slice_get_within crew k w e))
 
 pub none_left : (xs : List Worker) → length xs ≡ 0 → xs ≡ []
@@ -61,9 +65,12 @@ none_left [] e = refl
 none_left (x ∷ xs) e = absurd (omega (arith, e))
 
 -- the last worker took what was left, and its list is the last
-pub all_handled : (jobs : List Job) (ws : List Worker) (last : Worker) (more done : List Job) (v : Hand) (by by' : List (List Job)) → v ≡ hand 64 jobs (joined (lists_of (ws ++ last ∷ [])) ++ more) → (v.parts ≡ 64 → IsPermutation v.pushed (v.taken ++ [])) → done ≡ last.done.items ++ more → by ≡ lists_of ws → by' ≡ by ++ done ∷ [] → IsPermutation jobs (joined by')
+pub all_handled : (jobs : List Job) (ws : List Worker) (last : Worker) (more done : List Job) (v : Hand) (by by' : List (List Job)) →
+    v ≡ hand 64 jobs (joined (lists_of (ws ++ last ∷ [])) ++ more) → (v.parts ≡ 64 → IsPermutation v.pushed (v.taken ++ [])) →
+    done ≡ last.done.items ++ more → by ≡ lists_of ws → by' ≡ by ++ done ∷ [] → IsPermutation jobs (joined by')
 all_handled jobs ws last more done v by by' knows none is are new =
-    let every : IsPermutation jobs ((joined (lists_of (ws ++ last ∷ [])) ++ more) ++ []) = subst (λ (y : Hand). IsPermutation y.pushed (y.taken ++ [])) knows (none (ap (λ (y : Hand). y.parts) knows)) in
+    let every : IsPermutation jobs ((joined (lists_of (ws ++ last ∷ [])) ++ more) ++ []) =
+    subst (λ (y : Hand). IsPermutation y.pushed (y.taken ++ [])) knows (none (ap (λ (y : Hand). y.parts) knows)) in
     let same : (joined (lists_of (ws ++ last ∷ [])) ++ more) ++ [] ≡ joined by' =
     append-nil (joined (lists_of (ws ++ last ∷ [])) ++ more)
     ∙ ap (λ (l : List (List Job)). joined l ++ more) (lists_more ws last)
@@ -76,7 +83,8 @@ all_handled jobs ws last more done v by by' knows none is are new =
     in
     subst (λ (l : List Job). IsPermutation jobs l) same every
 
-pub so_many : (ws : List Worker) (last : Worker) (done : List Job) (by by' : List (List Job)) → by ≡ lists_of ws → by' ≡ by ++ done ∷ [] → length by' ≡ length (ws ++ last ∷ [])
+pub so_many : (ws : List Worker) (last : Worker) (done : List Job) (by by' : List (List Job)) → by ≡ lists_of ws → by' ≡ by ++ done ∷ [] →
+    length by' ≡ length (ws ++ last ∷ [])
 so_many ws last done by by' are new =
     let a : length by ≡ length ws = ap (λ (l : List (List Job)). length l) are ∙ long ws in
     let b : length by' ≡ length (by ++ done ∷ []) = ap (λ (l : List (List Job)). length l) new in
@@ -89,12 +97,15 @@ so_many ws last done by by' are new =
     long (x ∷ l) = ap suc (long l)
 
 -- the last worker may look once more
-pub last_listed : (ws : List Worker) (last : Worker) (v : Hand) (n : ℕ) (jobs : List Job) → v ≡ hand n jobs (joined (lists_of (ws ++ last ∷ []))) → length last.done.items ≤ length v.taken
+pub last_listed : (ws : List Worker) (last : Worker) (v : Hand) (n : ℕ) (jobs : List Job) → v ≡ hand n jobs (joined (lists_of (ws ++ last ∷ []))) →
+    length last.done.items ≤ length v.taken
 last_listed ws last v n jobs knows =
     let a : length v.taken ≡ length (joined (lists_of (ws ++ last ∷ []))) = ap (λ (y : Hand). length y.taken) knows in
-    let b : length (joined (lists_of (ws ++ last ∷ []))) ≡ length (joined (lists_of ws) ++ last.done.items) = ap (λ (l : List Job). length l) (ap joined (lists_more ws last) ∙ joined_more (lists_of ws) last.done.items) in
+    let b : length (joined (lists_of (ws ++ last ∷ []))) ≡ length (joined (lists_of ws) ++ last.done.items) =
+    ap (λ (l : List Job). length l) (ap joined (lists_more ws last) ∙ joined_more (lists_of ws) last.done.items) in
     let c = length-append (joined (lists_of ws)) last.done.items in
     omega (arith, a, b, c)
 
-pub knows_more : (n : ℕ) (jobs taken more : List Job) (u v : Hand) → u ≡ hand n jobs taken → n ≡ 64 → v ≡ hand u.parts u.pushed (u.taken ++ more) → v ≡ hand 64 jobs (taken ++ more)
+pub knows_more : (n : ℕ) (jobs taken more : List Job) (u v : Hand) → u ≡ hand n jobs taken → n ≡ 64 → v ≡ hand u.parts u.pushed (u.taken ++ more) →
+    v ≡ hand 64 jobs (taken ++ more)
 knows_more n jobs taken more u v e f g = g ∙ ap (λ (y : Hand). hand y.parts y.pushed (y.taken ++ more)) e ∙ ap (λ (k : ℕ). hand k jobs (taken ++ more)) f

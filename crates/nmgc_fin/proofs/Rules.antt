@@ -25,11 +25,14 @@ part_of (x ∷ xs) zero v e = let i : x.parts ≡ v.parts = ap (λ (y : Hand). y
 part_of (x ∷ xs) (suc pass) v e = let r = part_of xs pass v e in omega arith
 
 -- where one pass has every part, the others have none
-others_idle : (views : List Hand) (pass : ℕ) (v : Hand) → get_elem? views pass ≡ some v → total views ≡ v.parts → (j : ℕ) (u : Hand) → j ≢ pass → get_elem? views j ≡ some u → u.parts ≡ 0
+others_idle : (views : List Hand) (pass : ℕ) (v : Hand) → get_elem? views pass ≡ some v → total views ≡ v.parts → (j : ℕ) (u : Hand) → j ≢ pass →
+    get_elem? views j ≡ some u → u.parts ≡ 0
 others_idle [] pass v e t j u n f = absurd (some-ne-none v (sym e))
 others_idle (x ∷ xs) zero v e t zero u n f = absurd (n refl)
-others_idle (x ∷ xs) zero v e t (suc j) u n f = let i : x.parts ≡ v.parts = ap (λ (y : Hand). y.parts) (some-injective x v e) in let r = part_of xs j u f in omega arith
-others_idle (x ∷ xs) (suc pass) v e t zero u n f = let i : x.parts ≡ u.parts = ap (λ (y : Hand). y.parts) (some-injective x u f) in let r = part_of xs pass v e in omega arith
+others_idle (x ∷ xs) zero v e t (suc j) u n f = let i : x.parts ≡ v.parts = ap (λ (y : Hand). y.parts) (some-injective x v e) in
+    let r = part_of xs j u f in omega arith
+others_idle (x ∷ xs) (suc pass) v e t zero u n f = let i : x.parts ≡ u.parts = ap (λ (y : Hand). y.parts) (some-injective x u f) in
+    let r = part_of xs pass v e in omega arith
 others_idle (x ∷ xs) (suc pass) v e t (suc j) u n f =
     let r = part_of xs pass v e in
     others_idle xs pass v e (omega arith) j u (λ s. n (ap suc s)) f
@@ -53,11 +56,13 @@ module _ {A : Type 0} where
       (IsPermutation-append_left zs (xs ++ ys) (ys ++ xs) (IsPermutation-append_comm xs ys)))
 
 -- a pass took these as well
-taken_more : (views : List Hand) (pass : ℕ) (v w : Hand) (more : List Job) → get_elem? views pass ≡ some v → w.taken ≡ v.taken ++ more → IsPermutation (more ++ all_taken views) (all_taken (set views pass w))
+taken_more : (views : List Hand) (pass : ℕ) (v w : Hand) (more : List Job) → get_elem? views pass ≡ some v → w.taken ≡ v.taken ++ more →
+    IsPermutation (more ++ all_taken views) (all_taken (set views pass w))
 taken_more [] pass v w more e s = absurd (some-ne-none v (sym e))
 taken_more (x ∷ xs) zero v w more e s =
     let same : x.taken ≡ v.taken = ap (λ (y : Hand). y.taken) (some-injective x v e) in
-    let is : x.taken ++ (more ++ all_taken xs) ≡ w.taken ++ all_taken xs = sym (append_assoc x.taken more (all_taken xs)) ∙ ap (λ l. l ++ all_taken xs) (ap (λ l. l ++ more) same ∙ sym s) in
+    let is : x.taken ++ (more ++ all_taken xs) ≡ w.taken ++ all_taken xs = sym (append_assoc x.taken more (all_taken xs)) ∙
+    ap (λ l. l ++ all_taken xs) (ap (λ l. l ++ more) same ∙ sym s) in
     subst (λ l. IsPermutation (more ++ (x.taken ++ all_taken xs)) l) is (swap_pieces more x.taken (all_taken xs))
 taken_more (x ∷ xs) (suc pass) v w more e s =
     IsPermutation-trans (more ++ (x.taken ++ all_taken xs)) (x.taken ++ (more ++ all_taken xs)) (x.taken ++ all_taken (set xs pass w))
@@ -65,11 +70,13 @@ taken_more (x ∷ xs) (suc pass) v w more e s =
     (IsPermutation-append_right x.taken (more ++ all_taken xs) (all_taken (set xs pass w)) (taken_more xs pass v w more e s))
 
 -- a pass gives up what it took
-taken_out : (views : List Hand) (pass : ℕ) (v w : Hand) → get_elem? views pass ≡ some v → w.taken ≡ [] → IsPermutation (all_taken views) (v.taken ++ all_taken (set views pass w))
+taken_out : (views : List Hand) (pass : ℕ) (v w : Hand) → get_elem? views pass ≡ some v → w.taken ≡ [] →
+    IsPermutation (all_taken views) (v.taken ++ all_taken (set views pass w))
 taken_out [] pass v w e s = absurd (some-ne-none v (sym e))
 taken_out (x ∷ xs) zero v w e s =
     let same : x.taken ≡ v.taken = ap (λ (y : Hand). y.taken) (some-injective x v e) in
-    let is : x.taken ++ all_taken xs ≡ v.taken ++ (w.taken ++ all_taken xs) = ap (λ l. l ++ all_taken xs) same ∙ ap (λ l. v.taken ++ (l ++ all_taken xs)) (sym s) in
+    let is : x.taken ++ all_taken xs ≡ v.taken ++ (w.taken ++ all_taken xs) = ap (λ l. l ++ all_taken xs) same ∙
+    ap (λ l. v.taken ++ (l ++ all_taken xs)) (sym s) in
     subst (λ l. IsPermutation (x.taken ++ all_taken xs) l) is (IsPermutation-refl (x.taken ++ all_taken xs))
 taken_out (x ∷ xs) (suc pass) v w e s =
     IsPermutation-trans (x.taken ++ all_taken xs) (x.taken ++ (v.taken ++ all_taken (set xs pass w))) (v.taken ++ (x.taken ++ all_taken (set xs pass w)))
@@ -77,14 +84,17 @@ taken_out (x ∷ xs) (suc pass) v w e s =
     (swap_pieces x.taken v.taken (all_taken (set xs pass w)))
 
 -- where the others took nothing, all took what this one did
-taken_alone : (views : List Hand) (pass : ℕ) (v : Hand) → get_elem? views pass ≡ some v → ((j : ℕ) (u : Hand) → j ≢ pass → get_elem? views j ≡ some u → u.taken ≡ []) → all_taken views ≡ v.taken
+taken_alone : (views : List Hand) (pass : ℕ) (v : Hand) → get_elem? views pass ≡ some v →
+    ((j : ℕ) (u : Hand) → j ≢ pass → get_elem? views j ≡ some u → u.taken ≡ []) → all_taken views ≡ v.taken
 taken_alone [] pass v e f = absurd (some-ne-none v (sym e))
-taken_alone (x ∷ xs) zero v e f = ap (λ l. x.taken ++ l) (none xs (λ j u g. f (suc j) u (λ s. absurd (omega (arith, s))) g)) ∙ append-nil x.taken ∙ ap (λ (y : Hand). y.taken) (some-injective x v e)
+taken_alone (x ∷ xs) zero v e f = ap (λ l. x.taken ++ l) (none xs (λ j u g. f (suc j) u (λ s. absurd (omega (arith, s))) g)) ∙ append-nil x.taken ∙
+    ap (λ (y : Hand). y.taken) (some-injective x v e)
   where
     none : (l : List Hand) → ((j : ℕ) (u : Hand) → get_elem? l j ≡ some u → u.taken ≡ []) → all_taken l ≡ []
     none [] g = refl
     none (y ∷ ys) g = ap (λ k. k ++ all_taken ys) (g 0 y refl) ∙ none ys (λ j u at. g (suc j) u at)
-taken_alone (x ∷ xs) (suc pass) v e f = ap (λ l. l ++ all_taken xs) (f 0 x (λ s. absurd (omega (arith, s))) refl) ∙ taken_alone xs pass v e (λ j u n g. f (suc j) u (λ s. n (omega (arith, s))) g)
+taken_alone (x ∷ xs) (suc pass) v e f = ap (λ l. l ++ all_taken xs) (f 0 x (λ s. absurd (omega (arith, s))) refl) ∙
+    taken_alone xs pass v e (λ j u n g. f (suc j) u (λ s. n (omega (arith, s))) g)
 
 set_apart : (views : List Hand) (i j : ℕ) (v w : Hand) → i ≢ j → set (set views i v) j w ≡ set (set views j w) i v
 set_apart [] i j v w n = refl
@@ -132,7 +142,8 @@ pushes n pass v x every items views room h at =
             (λ (t : (j ≡ pass) × (w ≡ u)). sym (ap (λ (y : Hand). y.pushed) t.1) ∙ ap (λ l. l ++ x ∷ []) (h.known pass v at (omega (arith, every))))
             (λ (t : (j ≢ pass) × (get_elem? views j ≡ some u)). let z = idle j u t.0 t.1 in absurd (omega (arith, z, some_)))
             (at_set views pass j w u e);
-        kept = subst (λ (l : List Job). IsPermutation (h.all ++ x ∷ []) l) (append_assoc (all_taken views) items (x ∷ []) ∙ ap (λ l. l ++ (items ++ x ∷ [])) (sym same))
+        kept = subst (λ (l : List Job). IsPermutation (h.all ++ x ∷ []) l) (append_assoc (all_taken views) items (x ∷ []) ∙
+            ap (λ l. l ++ (items ++ x ∷ [])) (sym same))
             (IsPermutation-append_left (x ∷ []) h.all (all_taken views ++ items) h.kept);
         idle = λ j u e none. ⊎_elim
             (λ (t : (j ≡ pass) × (w ≡ u)). let p : w.parts ≡ u.parts = ap (λ (y : Hand). y.parts) t.1 in absurd (omega (arith, p, every, none)))
@@ -187,7 +198,8 @@ forks pass v two items views h at =
     let left : Hand = keeps_parts v in
     let right : Hand = gives_part v in
     let mine : v.pushed ≡ h.all = h.known pass v at (omega (arith, two)) in
-    let same : all_taken (set views pass left ++ right ∷ []) ≡ all_taken views = taken_snoc (set views pass left) right ∙ append-nil (all_taken (set views pass left)) ∙ taken_same views pass v left at refl in
+    let same : all_taken (set views pass left ++ right ∷ []) ≡ all_taken views = taken_snoc (set views pass left) right ∙
+    append-nil (all_taken (set views pass left)) ∙ taken_same views pass v left at refl in
     record {
       all = h.all;
       whole = let t = total_set views pass v left at in let s = total_snoc (set views pass left) right in let p = h.whole in omega arith;
@@ -212,7 +224,8 @@ forks pass v two items views h at =
 pub merges : (pass : ℕ) (v : Hand) (other : ℕ) (w : Hand) → 0 < v.parts → Merges Balanced pass v other w (both_hands v w) no_hand
 merges pass v other w some_part items views h at apart at' =
     let both : Hand = both_hands v w in
-    let there : get_elem? views other ≡ some w = ⊎_elim (λ (t : (other ≡ pass) × (both ≡ w)). absurd (apart t.0)) (λ (t : (other ≢ pass) × (get_elem? views other ≡ some w)). t.1) (at_set views pass other both w at') in
+    let there : get_elem? views other ≡ some w = ⊎_elim (λ (t : (other ≡ pass) × (both ≡ w)). absurd (apart t.0)) (λ (t : (other ≢ pass) ×
+    (get_elem? views other ≡ some w)). t.1) (at_set views pass other both w at') in
     let rest : List Hand = set views other no_hand in
     let here : get_elem? rest pass ≡ some v = at_other views other pass no_hand v (λ (s : pass ≡ other). apart (sym s)) at in
     let order : set (set views pass both) other no_hand ≡ set rest pass both = set_apart views pass other both no_hand (λ (s : pass ≡ other). apart (sym s)) in
@@ -232,7 +245,8 @@ merges pass v other w some_part items views h at apart at' =
           (at_set views pass j both u t.1))
           (at_set (set views pass both) other j no_hand u e);
       kept = subst (λ (l : List Hand). IsPermutation h.all (all_taken l ++ items)) (sym order)
-          (IsPermutation-trans h.all (all_taken views ++ items) (all_taken (set rest pass both) ++ items) h.kept (IsPermutation-append_left items (all_taken views) (all_taken (set rest pass both)) moved));
+          (IsPermutation-trans h.all (all_taken views ++ items) (all_taken (set rest pass both) ++
+          items) h.kept (IsPermutation-append_left items (all_taken views) (all_taken (set rest pass both)) moved));
       idle = λ j u e none. ⊎_elim
           (λ (t : (j ≡ other) × (no_hand ≡ u)). sym (ap (λ (y : Hand). y.taken) t.1))
           (λ (t : (j ≢ other) × (get_elem? (set views pass both) j ≡ some u)). ⊎_elim

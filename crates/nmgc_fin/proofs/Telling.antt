@@ -29,7 +29,8 @@ taken_within : (bytes : List ℕ) (new : Option (List ℕ)) (n : ℕ) → Takes 
 taken_within bytes None n h = absurd h.1
 taken_within bytes (Some left) n h = let a = ap (λ (l : List ℕ). length l) h.1 in let b = length-append h.0 left in let c = h.2 in omega (arith, a, b, c)
 
-module _ (words : List (List ℕ)) (bytes : List ℕ) (workers : ℕ) (jobs : List Job) (new : Option (List ℕ)) (rose : Type 0) (asks : Asks words workers) (within : length bytes ≤ MAX_REPORT_BYTES) (are : AreJobsOf (lines_of bytes) jobs) (none : rose → ⊥) where
+module _ (words : List (List ℕ)) (bytes : List ℕ) (workers : ℕ) (jobs : List Job) (new : Option (List ℕ)) (rose : Type 0)
+    (asks : Asks words workers) (within : length bytes ≤ MAX_REPORT_BYTES) (are : AreJobsOf (lines_of bytes) jobs) (none : rose → ⊥) where
   fine : (told : FinStatus) (text : List ℕ) → Says words (Some bytes) new rose told text → (told ≡ Done) ⊎ (told ≡ NoMemory)
   fine Done text h = inl refl
   fine NoMemory text h = inr refl
@@ -41,12 +42,16 @@ module _ (words : List (List ℕ)) (bytes : List ℕ) (workers : ℕ) (jobs : Li
       absurd (no_first_bad (lines_of bytes) _ h.4.0 are.0 (subst (λ (b : List ℕ). IsFirstBad (lines_of b) h.4.0) (sym same) h.4.1))
   fine WriteFault text h = absurd h
 
-written_so : (taken taken' : Option (List ℕ)) (rose : Type 0) (told : FinStatus) (text : List ℕ) (status : FinStatus) → (rose → ⊥) → (told ≡ Done) ⊎ (told ≡ NoMemory) → IsWritten taken taken' rose told text status → (status ≡ Done) ⊎ (status ≡ NoMemory)
+written_so : (taken taken' : Option (List ℕ)) (rose : Type 0) (told : FinStatus) (text : List ℕ) (status : FinStatus) → (rose → ⊥) → (told ≡ Done) ⊎
+    (told ≡ NoMemory) → IsWritten taken taken' rose told text status → (status ≡ Done) ⊎ (status ≡ NoMemory)
 written_so taken taken' rose told text status none (inl e) (inl w) = inl (w.0 ∙ e)
 written_so taken taken' rose told text status none (inr e) (inl w) = inr (w.0 ∙ e)
 written_so taken taken' rose told text status none t (inr w) = absurd (none w.1)
 
-pub completes : (words : List (List ℕ)) (left left' taken taken' : Option (List ℕ)) (read_fault write_fault : Type 0) (told : FinStatus) (text : List ℕ) (status : FinStatus) → Says words left left' read_fault told text → IsWritten taken taken' write_fault told text status → IsComplete words left read_fault write_fault status
+pub completes : (words : List (List ℕ)) (left left' taken taken' : Option (List ℕ)) (read_fault write_fault : Type 0) (told : FinStatus)
+    (text : List ℕ) (status : FinStatus) → Says words left left' read_fault told text → IsWritten taken taken' write_fault told text status →
+    IsComplete words left read_fault write_fault status
 completes words left left' taken taken' read_fault write_fault told text status says written bytes workers jobs asks is within are no_read no_write =
     written_so taken taken' write_fault told text status no_write
-    (fine words bytes workers jobs left' read_fault asks within are no_read told text (subst (λ (l : Option (List ℕ)). Says words l left' read_fault told text) is says)) written
+    (fine words bytes workers jobs left' read_fault asks within are no_read told text (subst (λ (l : Option (List ℕ)).
+    Says words l left' read_fault told text) is says)) written

@@ -107,13 +107,17 @@ Says words old new rose WriteFault text = ⊥
 abbrev pub IsWritten : Option (List ℕ) → Option (List ℕ) → Type 0 → FinStatus → List ℕ → FinStatus → Type 0
 IsWritten old new rose told text status = ((status ≡ told) × Appends old new text) ⊎ ((status ≡ WriteFault) × rose × AppendsFront old new text)
 
--- where the words are a number of workers, and known bytes within the limit give jobs, and neither count rises, each job is handled and told, or there was no memory
+-- where the words are a number of workers, and known bytes within the limit give jobs, and neither count rises, each
+-- job is handled and told, or there was no memory
 abbrev pub IsComplete : List (List ℕ) → Option (List ℕ) → Type 0 → Type 0 → FinStatus → Type 0
-IsComplete words left read_fault write_fault status = (bytes : List ℕ) (workers : ℕ) (jobs : List Job) → Asks words workers → left ≡ Some bytes → length bytes ≤ MAX_REPORT_BYTES → AreJobsOf (lines_of bytes) jobs
+IsComplete words left read_fault write_fault status = (bytes : List ℕ) (workers : ℕ) (jobs : List Job) → Asks words workers → left ≡ Some bytes →
+    length bytes ≤ MAX_REPORT_BYTES → AreJobsOf (lines_of bytes) jobs
     → (read_fault → ⊥) → (write_fault → ⊥) → (status ≡ Done) ⊎ (status ≡ NoMemory)
 
--- the command line's words were passed on, what is told of them and of what was read was written, for wrong words the source is as it was, and the number is that of the status
-pub record Ran (line : Option (List (List ℕ))) (left left' : Option (List ℕ)) (read_fault as_it_was : Type 0) (taken taken' : Option (List ℕ)) (write_fault : Type 0) (number : ℕ) : Type 0 where
+-- the command line's words were passed on, what is told of them and of what was read was written, for wrong words the
+-- source is as it was, and the number is that of the status
+pub record Ran (line : Option (List (List ℕ))) (left left' : Option (List ℕ)) (read_fault as_it_was : Type 0) (taken taken' : Option (List ℕ))
+    (write_fault : Type 0) (number : ℕ) : Type 0 where
   pub words : List (List ℕ)
   pub told : FinStatus
   pub text : List ℕ

@@ -34,7 +34,8 @@ fn place(names: &mut Vec<Name>, done: &[Job])
     requires alike { AreAlike done.now }
     ensures count { length names.new.items ≡ length names.old.items }
     ensures placed { (x : JobOf) → Contains done.now x → IsPlaced names.new.items x }
-    ensures kept { (x : JobOf) → IsPlaced names.old.items x → ((y : JobOf) → Contains done.now y → y.number ≡ x.number → y.weak ≡ x.weak) → IsPlaced names.new.items x }
+    ensures kept { (x : JobOf) → IsPlaced names.old.items x → ((y : JobOf) → Contains done.now y → y.number ≡ x.number → y.weak ≡ x.weak) →
+        IsPlaced names.new.items x }
 {
     for job in done {
         names[job.number as usize] = job.weak;

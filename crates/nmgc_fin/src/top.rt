@@ -100,7 +100,8 @@ pub fn nmgc_fin<R: Threads + Wait + Sync, S: Source, K: Sink>(
     // For wrong words nothing is read.
     ensures unread { IsWrong (map string_bytes words.now) → source.new ≡ source.old }
     // A report within the limit is worked off where there is no fault, or there was no memory.
-    ensures complete { IsComplete (map string_bytes words.now) (S.left source.old) (Rose (S.faults source.old) (S.faults source.new)) (Rose (K.faults sink.old) (K.faults sink.new)) result }
+    ensures complete { IsComplete (map string_bytes words.now) (S.left source.old) (Rose (S.faults source.old) (S.faults source.new))
+        (Rose (K.faults sink.old) (K.faults sink.new)) result }
 {
     let Told { status, text } = told_of(alloc, rt, words, source);
     written(sink, status, text.bytes())
@@ -123,7 +124,8 @@ fn told_of<R: Threads + Wait + Sync, S: Source>(
     words: &[String],
     source: &mut S,
 ) -> Told
-    ensures says { Says (map string_bytes words.now) (S.left source.old) (S.left source.new) (Rose (S.faults source.old) (S.faults source.new)) result.status (text_bytes result.text) }
+    ensures says { Says (map string_bytes words.now) (S.left source.old) (S.left source.new) (Rose (S.faults source.old) (S.faults source.new))
+        result.status (text_bytes result.text) }
     ensures unread { IsWrong (map string_bytes words.now) → source.new ≡ source.old }
 {
     let Some(workers) = workers_of(words) else {

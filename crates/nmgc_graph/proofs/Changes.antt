@@ -36,7 +36,9 @@ exchange_at : (o : Option Value) (expected : Value) (kept made : Node) → Halve
 exchange_at None expected kept made = refl
 exchange_at (Some old) expected kept made = by_test (is_same old expected) made kept Yes No refl refl
 
-exchange_array : (values : List Value) (index : ℕ) (expected v : Value) (o : Option Value) → slice_get values index ≡ o → Halves (exchanged_at o expected (Arr values) (Arr (set values index v))) (cond (ltb index (length values)) (Arr (set values index v)) (Arr values)) (Arr values)
+exchange_array : (values : List Value) (index : ℕ) (expected v : Value) (o : Option Value) → slice_get values index ≡ o →
+    Halves (exchanged_at o expected (Arr values) (Arr (set values index v)))
+    (cond (ltb index (length values)) (Arr (set values index v)) (Arr values)) (Arr values)
 exchange_array values index expected v None e = refl
 exchange_array values index expected v (Some old) e =
     let there : ltb index (length values) ≡ true = lt-ltb index (length values) (get_is_some values index (rw e refl)) in
@@ -76,7 +78,8 @@ none_left : (values : List Value) → last_of values ≡ None → without_last v
 none_left [] e = refl
 none_left (x ∷ xs) e = absurd (not_both (last_of (x ∷ xs)) e (is_some_get (x ∷ xs) (length (x ∷ xs) - 1) (omega arith)))
 
-pop_top : (size : ℕ) (values : List Value) (o : Option Value) → last_of values ≡ o → Stack size (without_last values) ≡ cond (is_done (given_or StackEmpty o)) (Stack size (without_last values)) (Stack size values)
+pop_top : (size : ℕ) (values : List Value) (o : Option Value) → last_of values ≡ o →
+    Stack size (without_last values) ≡ cond (is_done (given_or StackEmpty o)) (Stack size (without_last values)) (Stack size values)
 pop_top size values (Some top) e = refl
 pop_top size values None e = ap (λ (l : List Value). Stack size l) (none_left values e)
 
@@ -113,11 +116,15 @@ both r node reply left right =
     ap first left ∙ ap second (sym right)
 
 -- a change whose answer says that it is done, and which wrote what it writes
-pub done_is : (c : Change) (maker : ℕ) (node made : Node) (reply : Reply) (done : Bool) → done ≡ is_done reply → done ≡ true → reply ≡ (changed c maker node).1 → made ≡ written c node → ◌≡◌ {A = Node × Reply} (changed c maker node) (made, reply)
+pub done_is : (c : Change) (maker : ℕ) (node made : Node) (reply : Reply) (done : Bool) → done ≡ is_done reply → done ≡ true →
+    reply ≡ (changed c maker node).1 → made ≡ written c node → ◌≡◌ {A = Node × Reply} (changed c maker node) (made, reply)
 done_is c maker node made reply done tells is answer wrote =
-    both (changed c maker node) made reply (halves c maker node ∙ ap (λ (b : Bool). cond b (written c node) node) (ap is_done (sym answer) ∙ sym tells ∙ is) ∙ sym wrote) answer
+    both (changed c maker node) made reply (halves c maker node ∙
+    ap (λ (b : Bool). cond b (written c node) node) (ap is_done (sym answer) ∙ sym tells ∙ is) ∙ sym wrote) answer
 
 -- a change whose answer says that it isn't done, and which wrote nothing
-pub refused_is : (c : Change) (maker : ℕ) (node : Node) (reply : Reply) (done : Bool) → done ≡ is_done reply → done ≡ false → reply ≡ (changed c maker node).1 → ◌≡◌ {A = Node × Reply} (changed c maker node) (node, reply)
+pub refused_is : (c : Change) (maker : ℕ) (node : Node) (reply : Reply) (done : Bool) → done ≡ is_done reply → done ≡ false →
+    reply ≡ (changed c maker node).1 → ◌≡◌ {A = Node × Reply} (changed c maker node) (node, reply)
 refused_is c maker node reply done tells is answer =
-    both (changed c maker node) node reply (halves c maker node ∙ ap (λ (b : Bool). cond b (written c node) node) (ap is_done (sym answer) ∙ sym tells ∙ is)) answer
+    both (changed c maker node) node reply (halves c maker node ∙
+    ap (λ (b : Bool). cond b (written c node) node) (ap is_done (sym answer) ∙ sym tells ∙ is)) answer

@@ -109,7 +109,11 @@ module _ (w : World) (old s : Search) (rest : List Name) (name : Name) (off : s.
       fewer = omega (arith, marks.count, marks.longer, h.fewer);
     }
 
-    pub follow_count : unmarked_count (with_values (record { marks = s.marks; work = rest }) (strong_fields node)).marks + length (with_values (record { marks = s.marks; work = rest }) (strong_fields node)).work + 1 ≡ unmarked_count s.marks + length s.work
+    pub follow_count : unmarked_count (with_values (record {
+      marks = s.marks;
+      work = rest;
+    }) (strong_fields node)).marks + length (with_values (record { marks = s.marks; work = rest }) (strong_fields node)).work + 1 ≡
+        unmarked_count s.marks + length s.work
     follow_count =
         let more : length s.work ≡ length rest + 1 = rw off (length-append rest (name ∷ [])) in
         omega (arith, marks.count)

@@ -30,11 +30,13 @@ weak_none w weak None e t a = let there = parts_from_alive w weak a.0 a.1 in cc
 weak_none w weak (Some parts) e t a = cc
 
 -- all weak pointers of a maker were passed
-pub weaks_listed : (w : World) → IsWorld w → (maker serial : ℕ) (weaks : List Name) → serial_of w maker ≤ serial → ListsBefore (IsAliveWeak w) maker serial weaks → ListsBefore (IsAliveWeak w) (maker + 1) 0 weaks
+pub weaks_listed : (w : World) → IsWorld w → (maker serial : ℕ) (weaks : List Name) → serial_of w maker ≤ serial →
+    ListsBefore (IsAliveWeak w) maker serial weaks → ListsBefore (IsAliveWeak w) (maker + 1) 0 weaks
 weaks_listed w h maker serial weaks le l =
     lists_maker (IsAliveWeak w) maker serial weaks (λ n a e. let p : n.serial < serial_of w n.maker = weak_within w h n a in let q = rw e at p in omega arith) l
 
-pub all_weaks_listed : (w : World) → IsWorld w → (maker : ℕ) (weaks : List Name) → length w.mutators ≤ maker → ListsBefore (IsAliveWeak w) maker 0 weaks → Lists (IsAliveWeak w) weaks
+pub all_weaks_listed : (w : World) → IsWorld w → (maker : ℕ) (weaks : List Name) → length w.mutators ≤ maker →
+    ListsBefore (IsAliveWeak w) maker 0 weaks → Lists (IsAliveWeak w) weaks
 all_weaks_listed w h maker weaks le l = lists_all (IsAliveWeak w) maker weaks (λ n a. let p = weak_maker w h n a in omega arith) l
 
 -- the finalisers of weak pointers are known
@@ -47,7 +49,8 @@ module _ (w : World) (h : IsWorld w) where
 
   pub finalisers_known : (weaks : List Name) → AreKnown w (finalisers_of w weaks)
   finalisers_known [] = All-nil (IsKnown w)
-  finalisers_known (weak ∷ weaks) = All-append (IsKnown w) (finaliser_in (parts_of w weak)) (finalisers_of w weaks) (finaliser_known weak (parts_of w weak) refl) (finalisers_known weaks)
+  finalisers_known (weak ∷ weaks) =
+      All-append (IsKnown w) (finaliser_in (parts_of w weak)) (finalisers_of w weaks) (finaliser_known weak (parts_of w weak) refl) (finalisers_known weaks)
 
   -- marking finalisers
   module _ (s : Search) (places : HasPlaces w s.marks) (weaks : List Name) where
@@ -57,7 +60,8 @@ module _ (w : World) (h : IsWorld w) where
     pub finaliser_placed : (parts : Parts) → AreKnown w (parts_held (Some parts)) → IsPlaced (with_values s (finalisers_of w weaks)).marks parts.finaliser
     finaliser_placed parts known =
         let t : Search = with_values s (finalisers_of w weaks) in
-        known_placed w t.marks (places_stay w s t (finalisers_of w weaks) finalisers_mark places) parts.finaliser (All-get_or (IsKnown w) (parts_held (Some parts)) 2 Nil (omega arith) known)
+        known_placed w t.marks (places_stay w s t (finalisers_of w weaks) finalisers_mark places) parts.finaliser
+        (All-get_or (IsKnown w) (parts_held (Some parts)) 2 Nil (omega arith) known)
 
 -- a reference is there exactly where what it points to is
 pub copied_is_some : {A : Type 0} (r : Option (Bor A)) (o : Option A) → option_copied r ≡ o → is_some r ≡ is_some o
@@ -65,7 +69,8 @@ copied_is_some None o e = ap is_some e
 copied_is_some (Some x) o e = ap is_some e
 
 -- a set of the names that are in the map
-pub set_more : (w : World) (done : List Name) (marks : List (List Bool)) (name : Name) → IsSetOf w done marks → IsSome (node_of w name) → IsSetOf w (done ++ name ∷ []) (with_mark marks name)
+pub set_more : (w : World) (done : List Name) (marks : List (List Bool)) (name : Name) → IsSetOf w done marks → IsSome (node_of w name) →
+    IsSetOf w (done ++ name ∷ []) (with_mark marks name)
 set_more w done marks name s there =
     let place = name_placed w marks s.places name there in
     record {
@@ -83,7 +88,8 @@ set_more w done marks name s there =
       ];
     }
 
-pub set_same : (w : World) (done : List Name) (marks : List (List Bool)) (name : Name) → IsSetOf w done marks → (IsSome (node_of w name) → ⊥) → IsSetOf w (done ++ name ∷ []) marks
+pub set_same : (w : World) (done : List Name) (marks : List (List Bool)) (name : Name) → IsSetOf w done marks → (IsSome (node_of w name) → ⊥) →
+    IsSetOf w (done ++ name ∷ []) marks
 set_same w done marks name s lacks = record {
   places = s.places;
   sound = λ n m. Contains-append_left done (name ∷ []) n (s.sound n m);
@@ -120,13 +126,18 @@ module _ (w : World) (marks set : List (List Bool)) (finalised : List Name) (s :
   parts_lost : (weak : Name) (l : IsLost w marks finalised weak) → is_lost marks set weak (Some l.parts) ≡ true
   parts_lost weak l =
       let absent : mark_of set weak ≡ false = false_from_ne_true (mark_of set weak) (λ m. l.not_finalised (s.sound weak m)) in
-      and_from (not (is_key_marked marks l.parts.key)) (not (mark_of set weak)) (not_from_false (is_key_marked marks l.parts.key) l.hidden) (not_from_false (mark_of set weak) absent)
+      and_from (not (is_key_marked marks l.parts.key)) (not (mark_of set weak)) (not_from_false (is_key_marked marks l.parts.key) l.hidden)
+      (not_from_false (mark_of set weak) absent)
 
-  pub lost_listed : (weaks : List Name) → Lists (IsAliveWeak w) weaks → Lists (IsLost w marks finalised) (filter (λ weak. is_lost marks set weak (parts_of w weak)) weaks)
+  pub lost_listed : (weaks : List Name) → Lists (IsAliveWeak w) weaks →
+      Lists (IsLost w marks finalised) (filter (λ weak. is_lost marks set weak (parts_of w weak)) weaks)
   lost_listed weaks l = record {
     ordered = in_order_filter (λ weak. is_lost marks set weak (parts_of w weak)) weaks l.ordered;
     sound = λ weak c. lost_parts weak (parts_of w weak) refl (filter_contains (λ weak. is_lost marks set weak (parts_of w weak)) weaks weak c).1;
-    complete = λ weak k. contains_filter (λ weak. is_lost marks set weak (parts_of w weak)) weaks weak (l.complete weak (k.parts, k.alive)) (rw (parts_from_alive w weak k.parts k.alive) (parts_lost weak k));
+    complete = λ weak k. contains_filter (λ weak. is_lost marks set weak (parts_of w weak)) weaks weak (l.complete weak (
+      k.parts,
+      k.alive,
+    )) (rw (parts_from_alive w weak k.parts k.alive) (parts_lost weak k));
   }
 
 -- the lost weak pointers are the dead ones, where the marked names are the live ones
@@ -164,14 +175,16 @@ module _ (w : World) (extra finalised : List Name) (s : Search) (f : IsLiveFound
   }
 
 -- a finaliser among those of weak pointers
-finalisers_contain : (w : World) (weaks : List Name) (v : Value) → Contains (finalisers_of w weaks) v → (weak : Name) × Contains weaks weak × Contains (finaliser_in (parts_of w weak)) v
+finalisers_contain : (w : World) (weaks : List Name) (v : Value) → Contains (finalisers_of w weaks) v → (weak : Name) × Contains weaks weak ×
+    Contains (finaliser_in (parts_of w weak)) v
 finalisers_contain w [] v c = absurd (omega (arith, c.1))
 finalisers_contain w (weak ∷ weaks) v c = elim (Contains-append_cases (finaliser_in (parts_of w weak)) (finalisers_of w weaks) v c) [
   | inl d ↦ (weak, contains_head weak weaks, d)
   | inr d ↦ let t = finalisers_contain w weaks v d in (t.0, contains_tail weak weaks t.0 t.1, t.2)
 ]
 
-contains_finaliser : (w : World) (weaks : List Name) (weak : Name) (parts : Parts) → Contains weaks weak → parts_of w weak ≡ Some parts → Contains (finalisers_of w weaks) parts.finaliser
+contains_finaliser : (w : World) (weaks : List Name) (weak : Name) (parts : Parts) → Contains weaks weak → parts_of w weak ≡ Some parts →
+    Contains (finalisers_of w weaks) parts.finaliser
 contains_finaliser w [] weak parts c e = absurd (omega (arith, c.1))
 contains_finaliser w (x ∷ xs) weak parts c e = elim (contains_cases x xs weak c) [
   | inl same ↦
@@ -181,7 +194,8 @@ contains_finaliser w (x ∷ xs) weak parts c e = elim (contains_cases x xs weak 
 ]
 
 -- following what the finalisers of the dead reach finds the kept names
-module _ (w : World) (h : IsWorld w) (extra finalised : List Name) (s : Search) (f : IsLiveFound w extra s) (dead : List Name) (l : Lists (IsLost w s.marks finalised) dead) where
+module _ (w : World) (h : IsWorld w) (extra finalised : List Name) (s : Search) (f : IsLiveFound w extra s) (dead : List Name)
+    (l : Lists (IsLost w s.marks finalised) dead) where
   begun : Search
   begun = with_values s (finalisers_of w dead)
 
@@ -216,7 +230,8 @@ module _ (w : World) (h : IsWorld w) (extra finalised : List Name) (s : Search) 
     kept_marked n (IsKept.live _ is) = d.kept n (marks.kept n (f.complete n is))
     kept_marked n (IsKept.finaliser weak _ is e) =
         let P : Value → Type 0 = Contains (finalisers_of w dead) in
-        d.kept n (marks.hit n (subst P e (contains_finaliser w dead weak is.parts (l.complete weak (dead_lost w extra finalised s f weak is)) (parts_from_alive w weak is.parts is.alive))))
+        d.kept n (marks.hit n (subst P e (contains_finaliser w dead weak is.parts (l.complete weak (dead_lost w extra finalised s f weak is))
+        (parts_from_alive w weak is.parts is.alive))))
     kept_marked n (IsKept.field name _ from refers) = elim (d.search.traced name n (kept_marked name from) refers) [
       | inl c ↦ absurd (let bad = rw empty at c in omega (arith, bad.1))
       | inr m ↦ m

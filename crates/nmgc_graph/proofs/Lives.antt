@@ -19,7 +19,8 @@ use Rattle.nmgc_graph.proofs.Follows.{places_stay, search_stays}
 use Rattle.nmgc_graph.proofs.Weaks.{weaks_mark, weaks_sound, revived}
 
 -- an element of one of the lists that are joined
-contains_flat_map : {A B : Type 0} (f : A → List B) (xs : List A) (i : ℕ) (d : A) (y : B) → f d ≡ [] → Contains (f (get_or xs i d)) y → Contains (flat_map f xs) y
+contains_flat_map : {A B : Type 0} (f : A → List B) (xs : List A) (i : ℕ) (d : A) (y : B) → f d ≡ [] → Contains (f (get_or xs i d)) y →
+    Contains (flat_map f xs) y
 contains_flat_map f [] i d y none c = absurd (let bad = rw none at c in omega (arith, bad.1))
 contains_flat_map f (x ∷ xs) zero d y none c = Contains-append_left (f x) (flat_map f xs) y c
 contains_flat_map f (x ∷ xs) (suc i) d y none c = Contains-append_right (f x) (flat_map f xs) y (contains_flat_map f xs i d y none c)
@@ -58,14 +59,17 @@ root_starts : (w : World) (extra : List Name) (n : Name) → IsRoot w n → Cont
 root_starts w extra n (inl e) = rw e (contains_head (Ref shared_name) (flat_map values_held w.mutators ++ map Ref extra))
 root_starts w extra n (inr r) =
     let held : Contains (flat_map values_held w.mutators) (Ref n) = contains_flat_map values_held w.mutators r.0 no_mutator (Ref n) refl r.1 in
-    contains_tail (Ref shared_name) (flat_map values_held w.mutators ++ map Ref extra) (Ref n) (Contains-append_left (flat_map values_held w.mutators) (map Ref extra) (Ref n) held)
+    contains_tail (Ref shared_name) (flat_map values_held w.mutators ++
+    map Ref extra) (Ref n) (Contains-append_left (flat_map values_held w.mutators) (map Ref extra) (Ref n) held)
 
 extra_starts : (w : World) (extra : List Name) (n : Name) → Contains extra n → Contains (starts_of w extra) (Ref n)
 extra_starts w extra n c =
-    contains_tail (Ref shared_name) (flat_map values_held w.mutators ++ map Ref extra) (Ref n) (Contains-append_right (flat_map values_held w.mutators) (map Ref extra) (Ref n) (contains_refs extra n c))
+    contains_tail (Ref shared_name) (flat_map values_held w.mutators ++
+    map Ref extra) (Ref n) (Contains-append_right (flat_map values_held w.mutators) (map Ref extra) (Ref n) (contains_refs extra n c))
 
 -- the search begins with live names only
-starts_live : (w : World) (extra : List Name) → All (λ name. IsSome (node_of w name)) extra → (n : Name) → Contains (starts_of w extra) (Ref n) → IsLive w extra n
+starts_live : (w : World) (extra : List Name) → All (λ name. IsSome (node_of w name)) extra → (n : Name) → Contains (starts_of w extra) (Ref n) →
+    IsLive w extra n
 starts_live w extra there n c = elim (contains_cases (Ref shared_name) (flat_map values_held w.mutators ++ map Ref extra) (Ref n) c) [
   | inl e ↦ IsLive.root n (inl (sym (same_ref shared_name n e)))
   | inr d ↦ elim (Contains-append_cases (flat_map values_held w.mutators) (map Ref extra) (Ref n) d) [
@@ -77,34 +81,42 @@ starts_live w extra there n c = elim (contains_cases (Ref shared_name) (flat_map
 -- what holds of each element of each list holds of the lists joined
 pub All-flat_map : {A B : Type 0} (P : B → Type 0) (f : A → List B) (xs : List A) → All (λ x. All P (f x)) xs → All P (flat_map f xs)
 All-flat_map P f [] all = All-nil P
-All-flat_map P f (x ∷ xs) all = All-append P (f x) (flat_map f xs) (All-head (λ y. All P (f y)) x xs all) (All-flat_map P f xs (All-tail (λ y. All P (f y)) x xs all))
+All-flat_map P f (x ∷ xs) all = All-append P (f x) (flat_map f xs) (All-head (λ y.
+    All P (f y)) x xs all) (All-flat_map P f xs (All-tail (λ y. All P (f y)) x xs all))
 
 refs_known : (w : World) (names : List Name) → All (λ name. IsSome (node_of w name)) names → AreKnown w (map Ref names)
 refs_known w [] there = All-nil (IsKnown w)
-refs_known w (n ∷ ns) there = All-cons (IsKnown w) (Ref n) (map Ref ns) (All-head (λ name. IsSome (node_of w name)) n ns there) (refs_known w ns (All-tail (λ name. IsSome (node_of w name)) n ns there))
+refs_known w (n ∷ ns) there = All-cons (IsKnown w) (Ref n) (map Ref ns) (All-head (λ name.
+    IsSome (node_of w name)) n ns there) (refs_known w ns (All-tail (λ name. IsSome (node_of w name)) n ns there))
 
 module _ (w : World) (h : IsWorld w) (extra : List Name) where
   pub each_known : All (λ state. AreKnown w (values_held state)) w.mutators
-  each_known = All-from_get_or (λ state. AreKnown w (values_held state)) w.mutators no_mutator (λ m lt. All-append (IsKnown w) (state_of w m).registers (state_of w m).queue (h.known_registers m) (h.known_queue m))
+  each_known = All-from_get_or (λ state. AreKnown w (values_held state)) w.mutators no_mutator (λ m lt.
+      All-append (IsKnown w) (state_of w m).registers (state_of w m).queue (h.known_registers m) (h.known_queue m))
 
   mutators_known : AreKnown w (flat_map values_held w.mutators)
   mutators_known = All-flat_map (IsKnown w) values_held w.mutators each_known
 
   module _ (there : All (λ name. IsSome (node_of w name)) extra) where
     pub starts_known : AreKnown w (starts_of w extra)
-    starts_known = All-cons (IsKnown w) (Ref shared_name) (flat_map values_held w.mutators ++ map Ref extra) refl (All-append (IsKnown w) (flat_map values_held w.mutators) (map Ref extra) mutators_known (refs_known w extra there))
+    starts_known = All-cons (IsKnown w) (Ref shared_name) (flat_map values_held w.mutators ++
+        map Ref extra) refl (All-append (IsKnown w) (flat_map values_held w.mutators) (map Ref extra) mutators_known (refs_known w extra there))
 
     -- the further names have a place in the search that has marked all others that it begins with
     pub extra_placed : (s : Search) → HasPlaces w s.marks → All (HasPlace (with_values (with_name s shared_name) (flat_map values_held w.mutators)).marks) extra
     extra_placed s places =
         let t : Search = with_name s shared_name in
-        let placed : HasPlaces w t.marks = places_stay w s t (Ref shared_name ∷ []) (name_marks s shared_name (name_placed w s.marks places shared_name refl)) places in
+        let placed : HasPlaces w t.marks = places_stay w s t (Ref shared_name ∷
+        []) (name_marks s shared_name (name_placed w s.marks places shared_name refl)) places in
         let u : Search = with_values t (flat_map values_held w.mutators) in
-        let last : HasPlaces w u.marks = places_stay w t u (flat_map values_held w.mutators) (values_mark (flat_map values_held w.mutators) t (are_placed w t.marks placed (flat_map values_held w.mutators) mutators_known)) placed in
+        let last : HasPlaces w u.marks =
+        places_stay w t u (flat_map values_held w.mutators)
+        (values_mark (flat_map values_held w.mutators) t (are_placed w t.marks placed (flat_map values_held w.mutators) mutators_known)) placed in
         All-weaker (λ name. IsSome (node_of w name)) (HasPlace u.marks) (name_placed w u.marks last) extra there
 
     -- the search that has marked what it begins with
-    pub live_begun : (marks : List (List Bool)) → HasPlaces w marks → ((n : Name) → mark_of marks n ≡ false) → IsLiveSearch w extra (with_values (record { marks = marks; work = [] }) (starts_of w extra))
+    pub live_begun : (marks : List (List Bool)) → HasPlaces w marks → ((n : Name) → mark_of marks n ≡ false) →
+        IsLiveSearch w extra (with_values (record { marks = marks; work = [] }) (starts_of w extra))
     live_begun marks places none =
         let s : Search = record { marks = marks; work = [] } in
         let t : Search = with_values s (starts_of w extra) in

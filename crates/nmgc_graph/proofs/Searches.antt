@@ -80,7 +80,8 @@ plain_marks s v shown = record {
 pub same_ref : (a b : Name) → Ref a ≡ Ref b → a ≡ b
 same_ref a b e = cc
 
-fresh_marks : (s : Search) (name : Name) → HasPlace s.marks name → mark_of s.marks name ≡ false → Marks s (record { marks = with_mark s.marks name; work = s.work ++ name ∷ [] }) (Ref name ∷ [])
+fresh_marks : (s : Search) (name : Name) → HasPlace s.marks name → mark_of s.marks name ≡ false →
+    Marks s (record { marks = with_mark s.marks name; work = s.work ++ name ∷ [] }) (Ref name ∷ [])
 fresh_marks s name place new =
     let t : Search = record { marks = with_mark s.marks name; work = s.work ++ name ∷ [] } in
     let more : length t.work ≡ length s.work + 1 = length-append s.work (name ∷ []) in
@@ -130,7 +131,8 @@ pub values_mark : (values : List Value) (s : Search) → All (IsPlaced s.marks) 
 values_mark [] s placed = no_marks s
 values_mark (v ∷ values) s placed =
     let one = value_marks s v (All-head (IsPlaced s.marks) v values placed) in
-    let rest = All-weaker (IsPlaced s.marks) (IsPlaced (with_value s v).marks) (still_placed s.marks (with_value s v).marks one.places) values (All-tail (IsPlaced s.marks) v values placed) in
+    let rest = All-weaker (IsPlaced s.marks) (IsPlaced (with_value s v).marks) (still_placed s.marks (with_value s v).marks one.places) values
+    (All-tail (IsPlaced s.marks) v values placed) in
     then_marks s (with_value s v) (with_values s (v ∷ values)) (v ∷ []) values one (values_mark values (with_value s v) rest)
 
 pub all_front : {A : Type 0} (P : A → Type 0) (xs ys : List A) → All P (xs ++ ys) → All P xs
@@ -142,7 +144,8 @@ all_back P [] ys all = all
 all_back P (x ∷ xs) ys all = all_back P xs ys (All-tail P x (xs ++ ys) all)
 
 -- values that have a place have one after marking others
-pub placed_after : (s : Search) (others values : List Value) → All (IsPlaced s.marks) others → All (IsPlaced s.marks) values → All (IsPlaced (with_values s others).marks) values
+pub placed_after : (s : Search) (others values : List Value) → All (IsPlaced s.marks) others → All (IsPlaced s.marks) values →
+    All (IsPlaced (with_values s others).marks) values
 placed_after s others values first placed =
     let m = values_mark others s first in
     All-weaker (IsPlaced s.marks) (IsPlaced (with_values s others).marks) (still_placed s.marks (with_values s others).marks m.places) values placed

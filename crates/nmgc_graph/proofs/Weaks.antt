@@ -36,7 +36,8 @@ pub parts_from_alive : (w : World) (weak : Name) (parts : Parts) → IsAlive w w
 parts_from_alive w weak parts e = ap (λ (o : Option Node). option_and_then parts_in o) e
 
 -- what an alive weak pointer holds is known
-pub parts_known : (w : World) (o : Option Node) → IfSome o (IsNodeOf w) → (parts : Parts) → option_and_then parts_in o ≡ Some parts → AreKnown w (parts_held (Some parts))
+pub parts_known : (w : World) (o : Option Node) → IfSome o (IsNodeOf w) → (parts : Parts) → option_and_then parts_in o ≡ Some parts →
+    AreKnown w (parts_held (Some parts))
 parts_known w None is parts e = absurd cc
 parts_known w (Some node) is parts e =
     let there : Some node ≡ Some (Weak (Some parts)) = parts_alive (Some node) parts e in
@@ -54,7 +55,8 @@ weak_hits weak target parts (inr (inl e)) =
     subst P e (contains_tail (Ref weak) (parts.value ∷ parts.finaliser ∷ []) parts.value (contains_head parts.value (parts.finaliser ∷ [])))
 weak_hits weak target parts (inr (inr e)) =
     let P : Value → Type 0 = Contains (weak_values weak parts) in
-    subst P e (contains_tail (Ref weak) (parts.value ∷ parts.finaliser ∷ []) parts.finaliser (contains_tail parts.value (parts.finaliser ∷ []) parts.finaliser (contains_head parts.finaliser [])))
+    subst P e (contains_tail (Ref weak) (parts.value ∷ parts.finaliser ∷
+    []) parts.finaliser (contains_tail parts.value (parts.finaliser ∷ []) parts.finaliser (contains_head parts.finaliser [])))
 
 hits_weak : (weak target : Name) (parts : Parts) → Contains (weak_values weak parts) (Ref target) → IsKeptBy weak parts target
 hits_weak weak target parts c = elim (contains_cases (Ref weak) (parts.value ∷ parts.finaliser ∷ []) (Ref target) c) [
@@ -69,7 +71,9 @@ hits_weak weak target parts c = elim (contains_cases (Ref weak) (parts.value ∷
 ]
 
 -- the key of a weak pointer lets it live
-pub shown_live : (w : World) (extra : List Name) (marks : List (List Bool)) (weak target : Name) (parts : Parts) (key : Value) → parts.key ≡ key → ((n : Name) → IsMarked marks n → IsLive w extra n) → IsAlive w weak parts → is_key_marked marks key ≡ true → IsKeptBy weak parts target → IsLive w extra target
+pub shown_live : (w : World) (extra : List Name) (marks : List (List Bool)) (weak target : Name) (parts : Parts) (key : Value) → parts.key ≡ key →
+    ((n : Name) → IsMarked marks n → IsLive w extra n) → IsAlive w weak parts → is_key_marked marks key ≡ true → IsKeptBy weak parts target →
+    IsLive w extra target
 shown_live w extra marks weak target parts Nil is sound alive shown kept = IsLive.plain_key weak target parts alive (rw is tt) kept
 shown_live w extra marks weak target parts (Number n) is sound alive shown kept = IsLive.plain_key weak target parts alive (rw is tt) kept
 shown_live w extra marks weak target parts (Ref key) is sound alive shown kept = IsLive.live_key weak target key parts alive is (sound key shown) kept
@@ -81,20 +85,27 @@ module _ (w : World) (h : IsWorld w) where
         let alive = alive_from_parts w weak parts e in
         let there : IsSome (node_of w weak) = rw alive refl in
         All-cons (IsPlaced s.marks) (Ref weak) (parts.value ∷ parts.finaliser ∷ []) (name_placed w s.marks places weak there)
-        (All-tail (IsPlaced s.marks) parts.key (parts.value ∷ parts.finaliser ∷ []) (are_placed w s.marks places (parts_held (Some parts)) (parts_known w (node_of w weak) (h.nodes weak) parts e)))
+        (All-tail (IsPlaced s.marks) parts.key (parts.value ∷ parts.finaliser ∷
+        []) (are_placed w s.marks places (parts_held (Some parts)) (parts_known w (node_of w weak) (h.nodes weak) parts e)))
 
     -- what a weak pointer marks: what it keeps, where its key is marked
-    step : (o : Option Parts) → parts_of w weak ≡ o → (values : List Value) × Marks s (with_weak s weak o) values × ((n : Name) → Contains values (Ref n) → (parts : Parts) × IsAlive w weak parts × (is_key_marked s.marks parts.key ≡ true) × IsKeptBy weak parts n)
+    step : (o : Option Parts) → parts_of w weak ≡ o → (values : List Value) × Marks s (with_weak s weak o) values ×
+        ((n : Name) → Contains values (Ref n) → (parts : Parts) × IsAlive w weak parts × (is_key_marked s.marks parts.key ≡ true) × IsKeptBy weak parts n)
     step None e = ([], no_marks s, λ n c. absurd (omega (arith, c.1)))
     step (Some parts) e = elim (cases_Bool (is_key_marked s.marks parts.key)) [
-      | inl shown ↦ rw shown (weak_values weak parts, values_mark (weak_values weak parts) s (weak_placed parts e), λ n c. (parts, alive_from_parts w weak parts e, shown, hits_weak weak n parts c))
+      | inl shown ↦ rw shown (
+        weak_values weak parts,
+        values_mark (weak_values weak parts) s (weak_placed parts e),
+        λ n c. (parts, alive_from_parts w weak parts e, shown, hits_weak weak n parts c),
+      )
       | inr fails ↦ rw fails ([], no_marks s, λ n c. absurd (omega (arith, c.1)))
     ]
 
     pub weak_marks : (values : List Value) × Marks s (with_weak s weak (parts_of w weak)) values
     weak_marks = let t = step (parts_of w weak) refl in (t.0, t.1)
 
-    pub weak_sound : (extra : List Name) → ((n : Name) → IsMarked s.marks n → IsLive w extra n) → (n : Name) → IsMarked (with_weak s weak (parts_of w weak)).marks n → IsLive w extra n
+    pub weak_sound : (extra : List Name) → ((n : Name) → IsMarked s.marks n → IsLive w extra n) → (n : Name) →
+        IsMarked (with_weak s weak (parts_of w weak)).marks n → IsLive w extra n
     weak_sound extra sound n m =
         let t = step (parts_of w weak) refl in
         elim (t.1.fresh n m) [
@@ -102,7 +113,8 @@ module _ (w : World) (h : IsWorld w) where
           | inr new ↦ let p = t.2 n new.0 in shown_live w extra s.marks weak n p.0 p.0.key refl sound p.1 p.2 p.3
         ]
 
-    pub weak_done : (parts : Parts) (target : Name) → IsAlive w weak parts → is_key_marked s.marks parts.key ≡ true → IsKeptBy weak parts target → IsMarked (with_weak s weak (parts_of w weak)).marks target
+    pub weak_done : (parts : Parts) (target : Name) → IsAlive w weak parts → is_key_marked s.marks parts.key ≡ true → IsKeptBy weak parts target →
+        IsMarked (with_weak s weak (parts_of w weak)).marks target
     weak_done parts target alive shown kept =
         let e = parts_from_alive w weak parts alive in
         rw (e, shown) ((values_mark (weak_values weak parts) s (weak_placed parts e)).hit target (weak_hits weak target parts kept))
@@ -115,7 +127,8 @@ module _ (w : World) (h : IsWorld w) where
       let rest = weaks_mark weaks t (places_stay w s t one.0 one.1 places) in
       (one.0 ++ rest.0, then_marks s t (with_weaks w t weaks) one.0 rest.0 one.1 rest.1)
 
-  pub weaks_sound : (extra : List Name) (weaks : List Name) (s : Search) → HasPlaces w s.marks → ((n : Name) → IsMarked s.marks n → IsLive w extra n) → (n : Name) → IsMarked (with_weaks w s weaks).marks n → IsLive w extra n
+  pub weaks_sound : (extra : List Name) (weaks : List Name) (s : Search) → HasPlaces w s.marks →
+      ((n : Name) → IsMarked s.marks n → IsLive w extra n) → (n : Name) → IsMarked (with_weaks w s weaks).marks n → IsLive w extra n
   weaks_sound extra [] s places sound = sound
   weaks_sound extra (weak ∷ weaks) s places sound =
       let one = weak_marks s places weak in
@@ -123,7 +136,8 @@ module _ (w : World) (h : IsWorld w) where
       weaks_sound extra weaks t (places_stay w s t one.0 one.1 places) (weak_sound s places weak extra sound)
 
   -- a key that is marked in the end was marked at the start, or waits
-  key_cases : (s t : Search) (values : List Value) → Marks s t values → (key : Value) → is_key_marked t.marks key ≡ true → (is_key_marked s.marks key ≡ true) ⊎ ((name : Name) × (key ≡ Ref name) × Contains t.work name)
+  key_cases : (s t : Search) (values : List Value) → Marks s t values → (key : Value) → is_key_marked t.marks key ≡ true →
+      (is_key_marked s.marks key ≡ true) ⊎ ((name : Name) × (key ≡ Ref name) × Contains t.work name)
   key_cases s t values m Nil shown = inl refl
   key_cases s t values m (Number n) shown = inl refl
   key_cases s t values m (Ref name) shown = elim (m.fresh name shown) [
@@ -131,7 +145,9 @@ module _ (w : World) (h : IsWorld w) where
     | inr new ↦ inr (name, refl, new.1)
   ]
 
-  pub weaks_done : (weaks : List Name) (s : Search) → HasPlaces w s.marks → (weak target : Name) (parts : Parts) → Contains weaks weak → IsAlive w weak parts → is_key_marked (with_weaks w s weaks).marks parts.key ≡ true → IsKeptBy weak parts target → ((key : Name) × (parts.key ≡ Ref key) × Contains (with_weaks w s weaks).work key) ⊎ IsMarked (with_weaks w s weaks).marks target
+  pub weaks_done : (weaks : List Name) (s : Search) → HasPlaces w s.marks → (weak target : Name) (parts : Parts) → Contains weaks weak →
+      IsAlive w weak parts → is_key_marked (with_weaks w s weaks).marks parts.key ≡ true → IsKeptBy weak parts target →
+      ((key : Name) × (parts.key ≡ Ref key) × Contains (with_weaks w s weaks).work key) ⊎ IsMarked (with_weaks w s weaks).marks target
   weaks_done [] s places weak target parts c alive shown kept = absurd (omega (arith, c.1))
   weaks_done (x ∷ xs) s places weak target parts c alive shown kept =
       let one = weak_marks s places x in
@@ -149,7 +165,8 @@ module _ (w : World) (h : IsWorld w) where
       ]
 
   -- after a pass over all that are alive, each has done its part
-  pub revived : (weaks : List Name) (s : Search) → HasPlaces w s.marks → ((weak : Name) → IsAliveWeak w weak → Contains weaks weak) → AreRevived w (with_weaks w s weaks)
+  pub revived : (weaks : List Name) (s : Search) → HasPlaces w s.marks → ((weak : Name) → IsAliveWeak w weak → Contains weaks weak) →
+      AreRevived w (with_weaks w s weaks)
   revived weaks s places all weak target parts alive shown kept = weaks_done weaks s places weak target parts (all weak (parts, alive)) alive shown kept
 
 pub in_node_known : (w : World) (node : Node) → IsNodeOf w node → IfSome (parts_in node) (λ parts. AreKnown w (parts_held (Some parts)))

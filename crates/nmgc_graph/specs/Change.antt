@@ -95,7 +95,9 @@ thunk_updated node v = (node, WrongKind)
 
 -- `push` by the stack's maker or another mutator
 abbrev pub stack_pushed : Bool → Node → Value → Node × Reply
-stack_pushed own (Stack size values) v = if own then (if nat_lt (length values) size then (Stack size (values ++ v ∷ []), Fine) else (Stack size values, StackFull)) else (Stack size values, NotOwner)
+stack_pushed own (Stack size values) v =
+    if own then (if nat_lt (length values) size then (Stack size (values ++ v ∷ []), Fine) else (Stack size values, StackFull)) else
+    (Stack size values, NotOwner)
 stack_pushed own node v = (node, WrongKind)
 
 -- all but the last, and the last

@@ -55,7 +55,8 @@ pub data IsLive (w : World) (extra : List Name) : Name → Type 0 where
   further : (name : Name) → Contains extra name → IsSome (node_of w name) → IsLive w extra name
   field : (name target : Name) → IsLive w extra name → RefersTo w name target → IsLive w extra target
   plain_key : (weak target : Name) (parts : Parts) → IsAlive w weak parts → IsPlain parts.key → IsKeptBy weak parts target → IsLive w extra target
-  live_key : (weak target key : Name) (parts : Parts) → IsAlive w weak parts → parts.key ≡ value.Ref key → IsLive w extra key → IsKeptBy weak parts target → IsLive w extra target
+  live_key : (weak target key : Name) (parts : Parts) → IsAlive w weak parts → parts.key ≡ value.Ref key → IsLive w extra key →
+      IsKeptBy weak parts target → IsLive w extra target
 
 -- dead weak pointers: alive so far, not finalised, and the key is a reference to a name that isn't live
 pub record IsDead (w : World) (extra finalised : List Name) (weak : Name) : Type 0 where

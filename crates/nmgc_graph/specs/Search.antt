@@ -112,7 +112,8 @@ pub record IsLiveSearch (w : World) (extra : List Name) (s : Search) : Type 0 wh
 
 -- each weak pointer whose key is marked has marked itself, its value and its finaliser, unless the key still waits
 abbrev pub AreRevived : World → Search → Type 0
-AreRevived w s = (weak target : Name) (parts : Parts) → IsAlive w weak parts → is_key_marked s.marks parts.key ≡ true → IsKeptBy weak parts target → ((key : Name) × (parts.key ≡ value.Ref key) × Contains s.work key) ⊎ IsMarked s.marks target
+AreRevived w s = (weak target : Name) (parts : Parts) → IsAlive w weak parts → is_key_marked s.marks parts.key ≡ true → IsKeptBy weak parts target →
+    ((key : Name) × (parts.key ≡ value.Ref key) × Contains s.work key) ⊎ IsMarked s.marks target
 
 -- the marked names are the live ones, and nothing waits
 pub record IsLiveFound (w : World) (extra : List Name) (s : Search) : Type 0 where

@@ -86,7 +86,10 @@ with_nth state serial made = record state { nodes = slice_set state.nodes serial
 
 -- the world in which a name has another node
 abbrev pub with_node : World → Name → Node → World
-with_node w name made = if name.maker == SHARED_MAKER then record w { shared = made } else with_state w name.maker (with_nth (state_of w name.maker) name.serial made)
+with_node w name made = if name.maker == SHARED_MAKER then record w {
+  shared =
+      made;
+} else with_state w name.maker (with_nth (state_of w name.maker) name.serial made)
 
 -- the object that a value refers to
 abbrev pub object_of : World → Value → Option Node
@@ -158,7 +161,11 @@ step w m (Con dest tag fields) = born w m dest (node.Con tag (values_for w m fie
 step w m (Var dest v) = born w m dest (node.Var (value_for w m v))
 step w m (Arr dest count v) = born w m dest (node.Arr (replicate count (value_for w m v)))
 step w m (Thunk dest free) = born w m dest (node.Thunk (values_for w m free) None)
-step w m (Weak dest key v finaliser) = born w m dest (node.Weak (Some (record { key = value_for w m key; value = value_for w m v; finaliser = value_for w m finaliser })))
+step w m (Weak dest key v finaliser) = born w m dest (node.Weak (Some (record {
+  key = value_for w m key;
+  value = value_for w m v;
+  finaliser = value_for w m finaliser;
+})))
 step w m (Stack dest size) = born w m dest (node.Stack size [])
 step w m (Get dest object index) = read_into w m dest (read_object (object_of w (value_for w m object)) (λ found. field_read found index))
 step w m (Set object index v) = change_object w (value_for w m object) (change.Set index (value_for w m v))

@@ -236,7 +236,11 @@ impl World {
         requires serial { serial_of self.old mutator < 2 ^ 32 - 1 }
         requires dest { IsRegister dest }
         requires operands { IsOperand key × IsOperand value × IsOperand finaliser }
-        ensures born { IfOk result (λ reply. born self.old mutator dest (Node.Weak (Some (record { key = value_for self.old mutator key; value = value_for self.old mutator value; finaliser = value_for self.old mutator finaliser }))) ≡ (self.new, reply)) }
+        ensures born { IfOk result (λ reply. born self.old mutator dest (Node.Weak (Some (record {
+          key = value_for self.old mutator key;
+          value = value_for self.old mutator value;
+          finaliser = value_for self.old mutator finaliser;
+        }))) ≡ (self.new, reply)) }
         ensures err { OnErr result (self.new ≡ self.old) }
     {
         let parts = Parts {
@@ -645,7 +649,8 @@ fn add_node(
 // Changes an object that this mutator made.
 fn change_nth(state: &mut MutatorState, name: Name, change: Change) -> Result<Reply, NoMemory>
     requires { name.serial < length state.old.nodes }
-    ensures state { (old : NodeAt) → slice_get state.old.nodes name.serial ≡ Some old → OnOk result (state.new ≡ with_nth state.old name.serial (changed change name.maker old).0) }
+    ensures state { (old : NodeAt) → slice_get state.old.nodes name.serial ≡ Some old →
+        OnOk result (state.new ≡ with_nth state.old name.serial (changed change name.maker old).0) }
     ensures reply { (old : NodeAt) → slice_get state.old.nodes name.serial ≡ Some old → IfOk result (λ reply. reply ≡ (changed change name.maker old).1) }
     ensures err { OnErr result (state.new ≡ state.old) }
 {

@@ -32,7 +32,9 @@ rows_mean : (P : Place → Type 0) (words : List ℕ) (values : List Value) → 
 rows_mean P words values h = slots_mean P words 0 values (fills_from P words 0 (map holds values) h)
 
 -- the roots of a world of one mutator, whose queue is empty
-roots_of : (places : List Place) (w : World) (registers : List ℕ) (serial : ℕ) → length w.mutators ≡ 1 → length registers ≡ REGISTERS → (state_of w 0).queue ≡ [] → serial_of w 0 ≡ serial → AllMean (Contains places) registers 0 (state_of w 0).registers → RepresentsRoots places w registers ([] ∷ []) (serial ∷ [])
+roots_of : (places : List Place) (w : World) (registers : List ℕ) (serial : ℕ) → length w.mutators ≡ 1 → length registers ≡ REGISTERS →
+    (state_of w 0).queue ≡ [] → serial_of w 0 ≡ serial → AllMean (Contains places) registers 0 (state_of w 0).registers →
+    RepresentsRoots places w registers ([] ∷ []) (serial ∷ [])
 roots_of places w registers serial one count queue made mean = record {
   count = let z : length registers ≡ REGISTERS * 1 = count in z ∙ ap (λ (n : ℕ). REGISTERS * n) (sym one);
   mutators = (sym one, sym one);
@@ -46,7 +48,8 @@ roots_of places w registers serial one count queue made mean = record {
     held (suc m) lt = absurd (omega (arith, lt, one))
 
     queued : (m : ℕ) (words : List ℕ) → slice_get ([] ∷ []) m ≡ Some words → ListMeans (Contains places) words (state_of w m).queue
-    queued zero words e = let is : [] ≡ words = cc in subst (λ (l : List ℕ). ListMeans (Contains places) l (state_of w 0).queue) is (subst (λ (l : List Value). ListMeans (Contains places) [] l) (sym queue) tt)
+    queued zero words e = let is : [] ≡ words = cc in subst (λ (l : List ℕ).
+        ListMeans (Contains places) l (state_of w 0).queue) is (subst (λ (l : List Value). ListMeans (Contains places) [] l) (sym queue) tt)
     queued (suc m) words e = absurd cc
 
     next : (m n : ℕ) → slice_get (serial ∷ []) m ≡ Some n → n ≡ serial_of w m
@@ -60,7 +63,9 @@ none_earlier : (e : World) (name : Name) (before : Node) → Contains [] e → n
 none_earlier e name before c was = absurd (no_world e c)
 
 -- no object of a world of one mutator is a weak pointer
-no_weak : (shared : Node) (state : MutatorState) → ((parts : Option Parts) → shared ≡ Weak parts → ⊥) → Each (λ i node. (parts : Option Parts) → node ≡ Weak parts → ⊥) 0 state.nodes → (name : Name) (parts : Parts) → IsAlive (record { shared = shared; mutators = state ∷ [] }) name parts → ⊥
+no_weak : (shared : Node) (state : MutatorState) → ((parts : Option Parts) → shared ≡ Weak parts → ⊥) →
+    Each (λ i node. (parts : Option Parts) → node ≡ Weak parts → ⊥) 0 state.nodes → (name : Name) (parts : Parts) →
+    IsAlive (record { shared = shared; mutators = state ∷ [] }) name parts → ⊥
 no_weak shared state g each name parts alive = elim (only_known shared state name.maker name.serial (Weak (Some parts)) alive) [
   | inl e ↦ g (Some parts) e.1
   | inr k ↦ each_at (λ i node. (p : Option Parts) → node ≡ Weak p → ⊥) 0 state.nodes each k.serial (Weak (Some parts)) k.there (Some parts) refl
@@ -81,7 +86,9 @@ one_object rest count = (represents, roots, listed)
         none_earlier
 
     roots : RepresentsRoots (places_of object_serials) object_world (64 ∷ 13 ∷ 13 ∷ replicate 61 1) ([] ∷ []) (1 ∷ [])
-    roots = roots_of (places_of object_serials) object_world (64 ∷ 13 ∷ 13 ∷ replicate 61 1) 1 refl refl refl refl (rows_mean (Contains (places_of object_serials)) (64 ∷ 13 ∷ 13 ∷ replicate 61 1) object_state.registers ((32, refl, (1, lit< tt, refl)), (refl, (refl, fills_nil (Contains (places_of object_serials)) 61))))
+    roots = roots_of (places_of object_serials) object_world (64 ∷ 13 ∷ 13 ∷
+        replicate 61 1) 1 refl refl refl refl (rows_mean (Contains (places_of object_serials)) (64 ∷ 13 ∷ 13 ∷
+        replicate 61 1) object_state.registers ((32, refl, (1, lit< tt, refl)), (refl, (refl, fills_nil (Contains (places_of object_serials)) 61))))
 
     listed : ListsWeaks small_layout (places_of object_serials) object_world []
     listed = record {
@@ -102,13 +109,92 @@ pub snapshot_stands : SnapshotStands
 snapshot_stands rest count = (represents, roots)
   where
     represents : Represents small_layout [] NoNode (places_of chain_serials) snapshot (chain_words 64 rest)
-    represents = stands chain_serials (lit≤ tt) (refl, (refl, (refl, (refl, (refl, (refl, (refl, (refl, (refl, (refl, (refl, (refl, (refl, (refl, (refl, (refl, tt)))))))))))))))) snapshot_state [] (chain_words 64 rest) refl (omega (arith, count)) refl refl
-        (refl, (refl, (refl, (refl, (refl, (refl, (refl, (refl, (refl, (refl, (refl, (refl, (refl, (refl, (refl, (refl, tt))))))))))))))))
-        ((refl, (lit< tt, lit≤ tt), lit≤ tt, refl, (refl, tt), refl), ((refl, (refl, refl), lit≤ tt, refl, ((32, refl, (1, lit< tt, refl)), tt), refl), ((refl, (lit< tt, lit≤ tt), lit≤ tt, refl, (refl, (refl, tt)), refl), ((refl, (lit< tt, lit≤ tt), lit≤ tt, refl, ((40, refl, (3, lit< tt, refl)), (refl, tt)), refl), ((refl, (lit< tt, lit≤ tt), lit≤ tt, refl, ((44, refl, (4, lit< tt, refl)), (refl, tt)), refl), ((refl, (lit< tt, lit≤ tt), lit≤ tt, refl, ((48, refl, (5, lit< tt, refl)), (refl, tt)), refl), ((refl, (lit< tt, lit≤ tt), lit≤ tt, refl, ((52, refl, (6, lit< tt, refl)), (refl, tt)), refl), ((refl, (lit< tt, lit≤ tt), lit≤ tt, refl, ((56, refl, (7, lit< tt, refl)), (refl, tt)), refl), ((refl, (lit< tt, lit≤ tt), lit≤ tt, refl, ((60, refl, (8, lit< tt, refl)), (refl, tt)), refl), ((refl, (lit< tt, lit≤ tt), lit≤ tt, refl, ((64, refl, (9, lit< tt, refl)), (refl, tt)), refl), ((refl, (lit< tt, lit≤ tt), lit≤ tt, refl, ((68, refl, (10, lit< tt, refl)), (refl, tt)), refl), ((refl, (lit< tt, lit≤ tt), lit≤ tt, refl, ((72, refl, (11, lit< tt, refl)), (refl, tt)), refl), ((refl, (lit< tt, lit≤ tt), lit≤ tt, refl, ((76, refl, (12, lit< tt, refl)), (refl, tt)), refl), ((refl, (lit< tt, lit≤ tt), lit≤ tt, refl, ((80, refl, (13, lit< tt, refl)), (refl, tt)), refl), ((refl, (lit< tt, lit≤ tt), lit≤ tt, refl, ((84, refl, (14, lit< tt, refl)), (refl, tt)), refl), ((refl, (lit< tt, lit≤ tt), lit≤ tt, refl, ((88, refl, (15, lit< tt, refl)), (refl, tt)), refl), tt))))))))))))))))
+    represents = stands chain_serials (lit≤ tt) (
+      refl,
+      (
+        refl,
+        (
+          refl,
+          (
+            refl,
+            (
+              refl,
+              (
+                refl,
+                (
+                  refl,
+                  (
+                    refl,
+                    (
+                      refl,
+                      (
+                        refl,
+                        (refl, (refl, (refl, (refl, (refl, (refl, tt)))))),
+                      ),
+                    ),
+                  ),
+                ),
+              ),
+            ),
+          ),
+        ),
+      ),
+    ) snapshot_state [] (chain_words 64 rest) refl (omega (arith, count)) refl refl
+        (refl, (refl, (refl, (refl, (refl, (refl, (refl, (refl, (refl, (refl, (refl, (refl, (refl, (refl, (refl, (refl, tt)))))))))))))))) (
+          (refl, (lit< tt, lit≤ tt), lit≤ tt, refl, (refl, tt), refl),
+          (
+            (refl, (refl, refl), lit≤ tt, refl, ((32, refl, (1, lit< tt, refl)), tt), refl),
+            (
+              (refl, (lit< tt, lit≤ tt), lit≤ tt, refl, (refl, (refl, tt)), refl),
+              (
+                (refl, (lit< tt, lit≤ tt), lit≤ tt, refl, ((40, refl, (3, lit< tt, refl)), (refl, tt)), refl),
+                (
+                  (refl, (lit< tt, lit≤ tt), lit≤ tt, refl, ((44, refl, (4, lit< tt, refl)), (refl, tt)), refl),
+                  (
+                    (refl, (lit< tt, lit≤ tt), lit≤ tt, refl, ((48, refl, (5, lit< tt, refl)), (refl, tt)), refl),
+                    (
+                      (refl, (lit< tt, lit≤ tt), lit≤ tt, refl, ((52, refl, (6, lit< tt, refl)), (refl, tt)), refl),
+                      (
+                        (refl, (lit< tt, lit≤ tt), lit≤ tt, refl, ((56, refl, (7, lit< tt, refl)), (refl, tt)), refl),
+                        (
+                          (refl, (lit< tt, lit≤ tt), lit≤ tt, refl, ((60, refl, (8, lit< tt, refl)), (refl, tt)), refl),
+                          (
+                            (refl, (lit< tt, lit≤ tt), lit≤ tt, refl, ((64, refl, (9, lit< tt, refl)), (refl, tt)), refl),
+                            (
+                              (refl, (lit< tt, lit≤ tt), lit≤ tt, refl, ((68, refl, (10, lit< tt, refl)), (refl, tt)), refl),
+                              (
+                                (refl, (lit< tt, lit≤ tt), lit≤ tt, refl, ((72, refl, (11, lit< tt, refl)), (refl, tt)), refl),
+                                (
+                                  (refl, (lit< tt, lit≤ tt), lit≤ tt, refl, ((76, refl, (12, lit< tt, refl)), (refl, tt)), refl),
+                                  (
+                                    (refl, (lit< tt, lit≤ tt), lit≤ tt, refl, ((80, refl, (13, lit< tt, refl)), (refl, tt)), refl),
+                                    (
+                                      (refl, (lit< tt, lit≤ tt), lit≤ tt, refl, ((84, refl, (14, lit< tt, refl)), (refl, tt)), refl),
+                                      ((refl, (lit< tt, lit≤ tt), lit≤ tt, refl, ((88, refl, (15, lit< tt, refl)), (refl, tt)), refl), tt),
+                                    ),
+                                  ),
+                                ),
+                              ),
+                            ),
+                          ),
+                        ),
+                      ),
+                    ),
+                  ),
+                ),
+              ),
+            ),
+          ),
+        )
         none_earlier
 
     roots : RepresentsRoots (places_of chain_serials) snapshot (72 ∷ 13 ∷ 1 ∷ 184 ∷ replicate 60 1) ([] ∷ []) (16 ∷ [])
-    roots = roots_of (places_of chain_serials) snapshot (72 ∷ 13 ∷ 1 ∷ 184 ∷ replicate 60 1) 16 refl refl refl refl (rows_mean (Contains (places_of chain_serials)) (72 ∷ 13 ∷ 1 ∷ 184 ∷ replicate 60 1) snapshot_state.registers ((36, refl, (2, lit< tt, refl)), (refl, (refl, ((92, refl, (16, lit< tt, refl)), fills_nil (Contains (places_of chain_serials)) 60)))))
+    roots = roots_of (places_of chain_serials) snapshot (72 ∷ 13 ∷ 1 ∷ 184 ∷
+        replicate 60 1) 16 refl refl refl refl (rows_mean (Contains (places_of chain_serials)) (72 ∷ 13 ∷ 1 ∷ 184 ∷
+        replicate 60 1) snapshot_state.registers (
+          (36, refl, (2, lit< tt, refl)),
+          (refl, (refl, ((92, refl, (16, lit< tt, refl)), fills_nil (Contains (places_of chain_serials)) 60))),
+        ))
 
 -- no thunk waits in the snapshot
 no_thunk : (e : World) (name : Name) (before : Node) → Contains (snapshot ∷ []) e → node_of e name ≡ Some before → free_slots before ≡ []
@@ -117,15 +203,92 @@ no_thunk e name before c was = elim (contains_cases snapshot [] e c) [
       let was' : node_of snapshot name ≡ Some before = ap (λ (x : World). node_of x name) is ∙ was in
       elim (only_known sixteen snapshot_state name.maker name.serial before was') [
         | inl g ↦ ap free_slots (sym g.1)
-        | inr k ↦ each_at (λ i node. free_slots node ≡ []) 0 snapshot_state.nodes (refl, (refl, (refl, (refl, (refl, (refl, (refl, (refl, (refl, (refl, (refl, (refl, (refl, (refl, (refl, (refl, tt)))))))))))))))) k.serial before k.there
+        | inr k ↦ each_at (λ i node. free_slots node ≡ []) 0 snapshot_state.nodes (
+          refl,
+          (refl, (refl, (refl, (refl, (refl, (refl, (refl, (refl, (refl, (refl, (refl, (refl, (refl, (refl, (refl, tt))))))))))))))),
+        ) k.serial before k.there
       ]
   | inr d ↦ absurd (no_world e d)
 ]
 
 later_stands : (rest : List ℕ) → length rest ≡ 2048 → Represents small_layout (snapshot ∷ []) NoNode (places_of chain_serials) overwritten (chain_words 13 rest)
-later_stands rest count = stands chain_serials (lit≤ tt) (refl, (refl, (refl, (refl, (refl, (refl, (refl, (refl, (refl, (refl, (refl, (refl, (refl, (refl, (refl, (refl, tt)))))))))))))))) later_state (snapshot ∷ []) (chain_words 13 rest) refl (omega (arith, count)) refl refl
-    (refl, (refl, (refl, (refl, (refl, (refl, (refl, (refl, (refl, (refl, (refl, (refl, (refl, (refl, (refl, (refl, tt))))))))))))))))
-    ((refl, (lit< tt, lit≤ tt), lit≤ tt, refl, (refl, tt), refl), ((refl, (refl, refl), lit≤ tt, refl, (refl, tt), refl), ((refl, (lit< tt, lit≤ tt), lit≤ tt, refl, (refl, (refl, tt)), refl), ((refl, (lit< tt, lit≤ tt), lit≤ tt, refl, ((40, refl, (3, lit< tt, refl)), (refl, tt)), refl), ((refl, (lit< tt, lit≤ tt), lit≤ tt, refl, ((44, refl, (4, lit< tt, refl)), (refl, tt)), refl), ((refl, (lit< tt, lit≤ tt), lit≤ tt, refl, ((48, refl, (5, lit< tt, refl)), (refl, tt)), refl), ((refl, (lit< tt, lit≤ tt), lit≤ tt, refl, ((52, refl, (6, lit< tt, refl)), (refl, tt)), refl), ((refl, (lit< tt, lit≤ tt), lit≤ tt, refl, ((56, refl, (7, lit< tt, refl)), (refl, tt)), refl), ((refl, (lit< tt, lit≤ tt), lit≤ tt, refl, ((60, refl, (8, lit< tt, refl)), (refl, tt)), refl), ((refl, (lit< tt, lit≤ tt), lit≤ tt, refl, ((64, refl, (9, lit< tt, refl)), (refl, tt)), refl), ((refl, (lit< tt, lit≤ tt), lit≤ tt, refl, ((68, refl, (10, lit< tt, refl)), (refl, tt)), refl), ((refl, (lit< tt, lit≤ tt), lit≤ tt, refl, ((72, refl, (11, lit< tt, refl)), (refl, tt)), refl), ((refl, (lit< tt, lit≤ tt), lit≤ tt, refl, ((76, refl, (12, lit< tt, refl)), (refl, tt)), refl), ((refl, (lit< tt, lit≤ tt), lit≤ tt, refl, ((80, refl, (13, lit< tt, refl)), (refl, tt)), refl), ((refl, (lit< tt, lit≤ tt), lit≤ tt, refl, ((84, refl, (14, lit< tt, refl)), (refl, tt)), refl), ((refl, (lit< tt, lit≤ tt), lit≤ tt, refl, ((88, refl, (15, lit< tt, refl)), (refl, tt)), refl), tt))))))))))))))))
+later_stands rest count = stands chain_serials (lit≤ tt) (
+  refl,
+  (
+    refl,
+    (
+      refl,
+      (
+        refl,
+        (
+          refl,
+          (
+            refl,
+            (
+              refl,
+              (
+                refl,
+                (
+                  refl,
+                  (
+                    refl,
+                    (refl, (refl, (refl, (refl, (refl, (refl, tt)))))),
+                  ),
+                ),
+              ),
+            ),
+          ),
+        ),
+      ),
+    ),
+  ),
+) later_state (snapshot ∷ []) (chain_words 13 rest) refl (omega (arith, count)) refl refl
+    (refl, (refl, (refl, (refl, (refl, (refl, (refl, (refl, (refl, (refl, (refl, (refl, (refl, (refl, (refl, (refl, tt)))))))))))))))) (
+      (refl, (lit< tt, lit≤ tt), lit≤ tt, refl, (refl, tt), refl),
+      (
+        (refl, (refl, refl), lit≤ tt, refl, (refl, tt), refl),
+        (
+          (refl, (lit< tt, lit≤ tt), lit≤ tt, refl, (refl, (refl, tt)), refl),
+          (
+            (refl, (lit< tt, lit≤ tt), lit≤ tt, refl, ((40, refl, (3, lit< tt, refl)), (refl, tt)), refl),
+            (
+              (refl, (lit< tt, lit≤ tt), lit≤ tt, refl, ((44, refl, (4, lit< tt, refl)), (refl, tt)), refl),
+              (
+                (refl, (lit< tt, lit≤ tt), lit≤ tt, refl, ((48, refl, (5, lit< tt, refl)), (refl, tt)), refl),
+                (
+                  (refl, (lit< tt, lit≤ tt), lit≤ tt, refl, ((52, refl, (6, lit< tt, refl)), (refl, tt)), refl),
+                  (
+                    (refl, (lit< tt, lit≤ tt), lit≤ tt, refl, ((56, refl, (7, lit< tt, refl)), (refl, tt)), refl),
+                    (
+                      (refl, (lit< tt, lit≤ tt), lit≤ tt, refl, ((60, refl, (8, lit< tt, refl)), (refl, tt)), refl),
+                      (
+                        (refl, (lit< tt, lit≤ tt), lit≤ tt, refl, ((64, refl, (9, lit< tt, refl)), (refl, tt)), refl),
+                        (
+                          (refl, (lit< tt, lit≤ tt), lit≤ tt, refl, ((68, refl, (10, lit< tt, refl)), (refl, tt)), refl),
+                          (
+                            (refl, (lit< tt, lit≤ tt), lit≤ tt, refl, ((72, refl, (11, lit< tt, refl)), (refl, tt)), refl),
+                            (
+                              (refl, (lit< tt, lit≤ tt), lit≤ tt, refl, ((76, refl, (12, lit< tt, refl)), (refl, tt)), refl),
+                              (
+                                (refl, (lit< tt, lit≤ tt), lit≤ tt, refl, ((80, refl, (13, lit< tt, refl)), (refl, tt)), refl),
+                                (
+                                  (refl, (lit< tt, lit≤ tt), lit≤ tt, refl, ((84, refl, (14, lit< tt, refl)), (refl, tt)), refl),
+                                  ((refl, (lit< tt, lit≤ tt), lit≤ tt, refl, ((88, refl, (15, lit< tt, refl)), (refl, tt)), refl), tt),
+                                ),
+                              ),
+                            ),
+                          ),
+                        ),
+                      ),
+                    ),
+                  ),
+                ),
+              ),
+            ),
+          ),
+        ),
+      ),
+    )
     no_thunk
 
 root_variable : IsWide snapshot (own 1)
@@ -149,10 +312,82 @@ abbrev IsAway : ℕ → Node → Type 0
 IsAway i node = Each Differs 0 (strong_fields node)
 
 all_away : Each IsAway 0 later_state.nodes
-all_away = (((λ e. cc), tt), (((λ e. cc), tt), (((λ e. cc), ((λ e. cc), tt)), ((another 2 (λ z. omega arith), ((λ e. cc), tt)), ((another 3 (λ z. omega arith), ((λ e. cc), tt)), ((another 4 (λ z. omega arith), ((λ e. cc), tt)), ((another 5 (λ z. omega arith), ((λ e. cc), tt)), ((another 6 (λ z. omega arith), ((λ e. cc), tt)), ((another 7 (λ z. omega arith), ((λ e. cc), tt)), ((another 8 (λ z. omega arith), ((λ e. cc), tt)), ((another 9 (λ z. omega arith), ((λ e. cc), tt)), ((another 10 (λ z. omega arith), ((λ e. cc), tt)), ((another 11 (λ z. omega arith), ((λ e. cc), tt)), ((another 12 (λ z. omega arith), ((λ e. cc), tt)), ((another 13 (λ z. omega arith), ((λ e. cc), tt)), ((another 14 (λ z. omega arith), ((λ e. cc), tt)), tt))))))))))))))))
+all_away = (
+  ((λ e. cc), tt),
+  (
+    ((λ e. cc), tt),
+    (
+      ((λ e. cc), ((λ e. cc), tt)),
+      (
+        (another 2 (λ z. omega arith), ((λ e. cc), tt)),
+        (
+          (another 3 (λ z. omega arith), ((λ e. cc), tt)),
+          (
+            (another 4 (λ z. omega arith), ((λ e. cc), tt)),
+            (
+              (another 5 (λ z. omega arith), ((λ e. cc), tt)),
+              (
+                (another 6 (λ z. omega arith), ((λ e. cc), tt)),
+                (
+                  (another 7 (λ z. omega arith), ((λ e. cc), tt)),
+                  (
+                    (another 8 (λ z. omega arith), ((λ e. cc), tt)),
+                    (
+                      (another 9 (λ z. omega arith), ((λ e. cc), tt)),
+                      (
+                        (another 10 (λ z. omega arith), ((λ e. cc), tt)),
+                        (
+                          (another 11 (λ z. omega arith), ((λ e. cc), tt)),
+                          (
+                            (another 12 (λ z. omega arith), ((λ e. cc), tt)),
+                            (
+                              (another 13 (λ z. omega arith), ((λ e. cc), tt)),
+                              ((another 14 (λ z. omega arith), ((λ e. cc), tt)), tt),
+                            ),
+                          ),
+                        ),
+                      ),
+                    ),
+                  ),
+                ),
+              ),
+            ),
+          ),
+        ),
+      ),
+    ),
+  ),
+)
 
 shared_away : IsAway 0 sixteen
-shared_away = ((λ e. cc), ((λ e. cc), ((λ e. cc), ((λ e. cc), ((λ e. cc), ((λ e. cc), ((λ e. cc), ((λ e. cc), ((λ e. cc), ((λ e. cc), ((λ e. cc), ((λ e. cc), ((λ e. cc), ((λ e. cc), ((λ e. cc), ((λ e. cc), tt))))))))))))))))
+shared_away = (
+  (λ e. cc),
+  (
+    (λ e. cc),
+    (
+      (λ e. cc),
+      (
+        (λ e. cc),
+        (
+          (λ e. cc),
+          (
+            (λ e. cc),
+            (
+              (λ e. cc),
+              (
+                (λ e. cc),
+                (
+                  (λ e. cc),
+                  ((λ e. cc), ((λ e. cc), ((λ e. cc), ((λ e. cc), ((λ e. cc), ((λ e. cc), ((λ e. cc), tt))))))),
+                ),
+              ),
+            ),
+          ),
+        ),
+      ),
+    ),
+  ),
+)
 
 -- nor does nil
 nils_away : (k count : ℕ) → Each Differs k (replicate count Nil)
@@ -169,7 +404,40 @@ root_away : (n : Name) → IsWideRoot overwritten n → n ≡ own 0 → ⊥
 root_away n (inl (inl g)) e = makers_differ (sym g ∙ e)
 root_away n (inl (inr (zero, c))) e = differs_in (later_state.registers ++ later_state.queue) registers_away n c e
 root_away n (inl (inr (suc m, c))) e = omega (arith, c.1)
-root_away n (inr (weak, parts, alive, of)) e = no_weak sixteen later_state (λ p f. cc) ((λ p f. cc), ((λ p f. cc), ((λ p f. cc), ((λ p f. cc), ((λ p f. cc), ((λ p f. cc), ((λ p f. cc), ((λ p f. cc), ((λ p f. cc), ((λ p f. cc), ((λ p f. cc), ((λ p f. cc), ((λ p f. cc), ((λ p f. cc), ((λ p f. cc), ((λ p f. cc), tt)))))))))))))))) weak parts alive
+root_away n (inr (weak, parts, alive, of)) e = no_weak sixteen later_state (λ p f. cc) (
+  (λ p f. cc),
+  (
+    (λ p f. cc),
+    (
+      (λ p f. cc),
+      (
+        (λ p f. cc),
+        (
+          (λ p f. cc),
+          (
+            (λ p f. cc),
+            (
+              (λ p f. cc),
+              (
+                (λ p f. cc),
+                (
+                  (λ p f. cc),
+                  (
+                    (λ p f. cc),
+                    (
+                      (λ p f. cc),
+                      ((λ p f. cc), ((λ p f. cc), ((λ p f. cc), ((λ p f. cc), ((λ p f. cc), tt))))),
+                    ),
+                  ),
+                ),
+              ),
+            ),
+          ),
+        ),
+      ),
+    ),
+  ),
+) weak parts alive
 
 field_away : (n target : Name) → (n ≡ own 0 → ⊥) → RefersTo overwritten n target → target ≡ own 0 → ⊥
 field_away n target h (node, is, c) e = differs_in (strong_fields node) away target c e
@@ -201,4 +469,5 @@ words_are_told K earlier words r =
     (header, (r.named (block 1) there).name, omega (arith, means.1, same))
 
 pub no_second_place : (K : Name → Node → Type 0) → NoSecondPlace K
-no_second_place K earlier places w words at first other second r = other (sym (ap (λ (x : Place). x.at) (r.one (block 0) (record { at = at; name = own 0 }) first second (inl refl))))
+no_second_place K earlier places w words at first other second r =
+    other (sym (ap (λ (x : Place). x.at) (r.one (block 0) (record { at = at; name = own 0 }) first second (inl refl))))

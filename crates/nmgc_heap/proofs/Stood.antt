@@ -42,7 +42,8 @@ EachFills P words [] = Unit {0}
 EachFills P [] (slot ∷ slots) = ⊥
 EachFills P (w ∷ words) (slot ∷ slots) = Fills P w slot × EachFills P words slots
 
-each_fills : (P : Place → Type 0) (words : List ℕ) (slots : List Slot) → EachFills P words slots → (i : ℕ) (slot : Slot) → slice_get slots i ≡ Some slot → Fills P (get_or words i 0) slot
+each_fills : (P : Place → Type 0) (words : List ℕ) (slots : List Slot) → EachFills P words slots → (i : ℕ) (slot : Slot) →
+    slice_get slots i ≡ Some slot → Fills P (get_or words i 0) slot
 each_fills P words [] h i slot e = absurd cc
 each_fills P [] (s ∷ slots) h i slot e = absurd h
 each_fills P (w ∷ words) (s ∷ slots) h zero slot e = let same : s ≡ slot = cc in subst (λ (u : Slot). Fills P w u) same h.0
@@ -65,20 +66,28 @@ pub record IsKnown (nodes : List Node) (name : Name) (node : Node) : Type 0 wher
 not_known : (serial : ℕ) (node : Node) → slice_get {X = Node} [] serial ≡ Some node → ⊥
 not_known serial node e = cc
 
-shared_or : (b d : Bool) (shared node : Node) (serial : ℕ) (A : Type 0) → (b ≡ true → d ≡ true → Some shared ≡ Some node → A) → (if b then (if d then Some shared else None) else slice_get {X = Node} [] serial) ≡ Some node → A
+shared_or : (b d : Bool) (shared node : Node) (serial : ℕ) (A : Type 0) → (b ≡ true → d ≡ true → Some shared ≡ Some node → A) →
+    (if b then (if d then Some shared else None) else slice_get {X = Node} [] serial) ≡ Some node → A
 shared_or true true shared node serial A is e = is refl refl e
 shared_or true false shared node serial A is e = absurd cc
 shared_or false d shared node serial A is e = absurd (not_known serial node e)
 
-pub only_known : (shared : Node) (state : MutatorState) (maker serial : ℕ) (node : Node) → node_of (record { shared = shared; mutators = state ∷ [] }) (record { maker = maker; serial = serial }) ≡ Some node → ((shared_name ≡ record { maker = maker; serial = serial }) × (shared ≡ node)) ⊎ IsKnown state.nodes (record { maker = maker; serial = serial }) node
+pub only_known : (shared : Node) (state : MutatorState) (maker serial : ℕ) (node : Node) →
+    node_of (record { shared = shared; mutators = state ∷ [] }) (record { maker = maker; serial = serial }) ≡ Some node →
+    ((shared_name ≡ record { maker = maker; serial = serial }) × (shared ≡ node)) ⊎ IsKnown state.nodes (record { maker = maker; serial = serial }) node
 only_known shared state zero serial node e = inr (record { serial = serial; is = refl; there = e })
 only_known shared state (suc maker) serial node e = shared_or (suc maker == SHARED_MAKER) (serial == 0) shared node serial _
-    (λ b d s. inl (ap (λ (m : ℕ). record { maker = m; serial = 0 }) (sym (eqb-true (suc maker) SHARED_MAKER b)) ∙ ap (λ (n : ℕ). record { maker = suc maker; serial = n }) (sym (eqb-true serial 0 d)), cc))
+    (λ b d s. inl (
+      ap (λ (m : ℕ). record { maker = m; serial = 0 }) (sym (eqb-true (suc maker) SHARED_MAKER b)) ∙
+          ap (λ (n : ℕ). record { maker = suc maker; serial = n }) (sym (eqb-true serial 0 d)),
+      cc,
+    ))
     e
 
 -- an object with its words, where it isn't a thunk that waits
 abbrev pub Stood : (Place → Type 0) → List ℕ → ℕ → Node → Type 0
-Stood P words k node = (slice_index words (32 + 4 * k) ≡ header_word (header_of node)) × IsHeader (header_of node) × (size_of node ≤ 4) × (slice_index words (32 + 4 * k + 1) ≡ SERIAL_UNIT * k) × EachFills P (drop (34 + 4 * k) words) (slots_of node) × (free_slots node ≡ [])
+Stood P words k node = (slice_index words (32 + 4 * k) ≡ header_word (header_of node)) × IsHeader (header_of node) × (size_of node ≤ 4) ×
+    (slice_index words (32 + 4 * k + 1) ≡ SERIAL_UNIT * k) × EachFills P (drop (34 + 4 * k) words) (slots_of node) × (free_slots node ≡ [])
 
 abbrev pub sixteen : Node
 sixteen = Arr (replicate 16 Nil)
@@ -86,7 +95,8 @@ sixteen = Arr (replicate 16 Nil)
 module _ (serials : List ℕ) (few : length serials ≤ 16) (each : Each (λ i x. x ≡ i) 0 serials) (state : MutatorState) (earlier : List World) (words : List ℕ)
     (count : length state.nodes ≡ length serials)
     (total : length words ≡ word_total small_layout)
-    (g_header : slice_index words 1 ≡ 32771) (g_name : slice_index words 2 ≡ SHARED_MAKER) (g_fields : EachFills (Contains (places_of serials)) (drop 3 words) (slots_of sixteen))
+    (g_header : slice_index words 1 ≡ 32771) (g_name : slice_index words 2 ≡
+    SHARED_MAKER) (g_fields : EachFills (Contains (places_of serials)) (drop 3 words) (slots_of sixteen))
     (stood : Each (Stood (Contains (places_of serials)) words) 0 state.nodes)
     (free : (e : World) (name : Name) (before : Node) → Contains earlier e → node_of e name ≡ Some before → free_slots before ≡ []) where
   abbrev w : World
@@ -99,7 +109,8 @@ module _ (serials : List ℕ) (few : length serials ≤ 16) (each : Each (λ i x
   block_there k lt =
       let x = is_some_of (slice_get serials k) (is_some_get serials k lt) in
       let is : x.0 ≡ k = let z : x.0 ≡ 0 + k = each_at (λ i y. y ≡ i) 0 serials each k x.0 x.1 in omega arith in
-      subst (λ (y : ℕ). Contains places (block y)) is (contains_tail shared_place (map block serials) (block x.0) (contains_map block serials x.0 (k, lt, get_or_of serials k x.0 x.1)))
+      subst (λ (y : ℕ). Contains places (block y)) is (contains_tail shared_place (map block serials) (block x.0)
+      (contains_map block serials x.0 (k, lt, get_or_of serials k x.0 x.1)))
     where
       get_or_of : (xs : List ℕ) (i x : ℕ) → slice_get xs i ≡ Some x → get_or xs i x ≡ x
       get_or_of [] i x e = absurd cc
@@ -111,7 +122,9 @@ module _ (serials : List ℕ) (few : length serials ≤ 16) (each : Each (λ i x
     | inl e ↦ inl e
     | inr d ↦
         let x = map_contains block serials q d in
-        let is : x.0 ≡ x.1.0 = let z : x.0 ≡ 0 + x.1.0 = each_at (λ i y. y ≡ i) 0 serials each x.1.0 x.0 (slice_get-get_or serials x.1.0 x.0 x.1.1 ∙ ap Some x.1.2) in omega arith in
+        let is : x.0 ≡ x.1.0 =
+        let z : x.0 ≡ 0 + x.1.0 = each_at (λ i y. y ≡ i) 0 serials each x.1.0 x.0 (slice_get-get_or serials x.1.0 x.0 x.1.1 ∙
+        ap Some x.1.2) in omega arith in
         inr (x.1.0, x.1.1, ap block (sym is) ∙ sym x.2)
   ]
 
@@ -128,16 +141,20 @@ module _ (serials : List ℕ) (few : length serials ≤ 16) (each : Each (λ i x
   node_at k lt = is_some_of (slice_get state.nodes k) (is_some_get state.nodes k (omega (arith, count)))
 
   stood_at : (k : ℕ) (node : Node) → slice_get state.nodes k ≡ Some node → Stood (Contains places) words k node
-  stood_at k node e = let z : 0 + k ≡ k = omega arith in subst (λ (j : ℕ). Stood (Contains places) words j node) z (each_at (Stood (Contains places) words) 0 state.nodes stood k node e)
+  stood_at k node e = let z : 0 + k ≡ k = omega arith in subst (λ (j : ℕ).
+      Stood (Contains places) words j node) z (each_at (Stood (Contains places) words) 0 state.nodes stood k node e)
 
   alone : (k size : ℕ) → size ≤ 4 → (q : Place) → Contains places q → (q.at ≤ 32 + 4 * k) ⊎ (32 + 4 * k + size ≤ q.at)
-  alone k size most = at_place (λ (q : Place). (q.at ≤ 32 + 4 * k) ⊎ (32 + 4 * k + size ≤ q.at)) (inl (omega arith)) (λ j lt. elim (cases_lt k j) [ inl l ↦ inr (omega (arith, l, most)) | inr l ↦ inl (omega (arith, l)) ])
+  alone k size most = at_place (λ (q : Place). (q.at ≤ 32 + 4 * k) ⊎
+      (32 + 4 * k + size ≤ q.at)) (inl (omega arith)) (λ j lt. elim (cases_lt k j) [ inl l ↦ inr (omega (arith, l, most)) | inr l ↦ inl (omega (arith, l)) ])
 
   abbrev Placed : Name → Node → Type 0
   Placed n node = IsPlaced small_layout earlier NoNode places words n node
 
-  none_free : (e : World) (name : Name) (before : Node) (from : ℕ) → Contains earlier e → node_of e name ≡ Some before → HasSlots (Contains places) words from (free_slots before)
-  none_free e name before from c was = subst (λ (l : List Slot). HasSlots (Contains places) words from l) (sym (free e name before c was)) (λ i slot f. absurd cc)
+  none_free : (e : World) (name : Name) (before : Node) (from : ℕ) → Contains earlier e → node_of e name ≡ Some before →
+      HasSlots (Contains places) words from (free_slots before)
+  none_free e name before from c was = subst (λ (l : List Slot).
+      HasSlots (Contains places) words from l) (sym (free e name before c was)) (λ i slot f. absurd cc)
 
   shared_placed : Placed shared_name sixteen
   shared_placed = record {
@@ -163,7 +180,8 @@ module _ (serials : List ℕ) (few : length serials ≤ 16) (each : Each (λ i x
         at = 32 + 4 * k;
         there = block_there k lt;
         object = record { header = h.0; valid = h.1; lies = lies k (size_of node) lt h.2; alone = alone k (size_of node) h.2 };
-        fields = subst (λ (j : ℕ). HasSlots (Contains places) words j (slots_of node)) from (fills_from (Contains places) words (34 + 4 * k) (slots_of node) h.4);
+        fields = subst (λ (j : ℕ).
+            HasSlots (Contains places) words j (slots_of node)) from (fills_from (Contains places) words (34 + 4 * k) (slots_of node) h.4);
         free = λ e before c was. none_free e (own k) before (32 + 4 * k + 2) c was;
         kept = λ before no. absurd no;
       }
@@ -190,7 +208,8 @@ module _ (serials : List ℕ) (few : length serials ≤ 16) (each : Each (λ i x
   not_shared k (inl e) = let m = ap (λ (n : Name). n.maker) e in omega arith
   not_shared k (inr e) = omega (arith, e)
 
-  tracked : (maker serial : ℕ) (node : Node) → node_of w (record { maker = maker; serial = serial }) ≡ Some node → Placed (record { maker = maker; serial = serial }) node
+  tracked : (maker serial : ℕ) (node : Node) → node_of w (record { maker = maker; serial = serial }) ≡ Some node →
+      Placed (record { maker = maker; serial = serial }) node
   tracked maker serial node is = elim (only_known sixteen state maker serial node is) [
     | inl g ↦ subst (λ (n : Name). Placed n node) g.0 (subst (λ (x : Node). Placed shared_name x) g.1 shared_placed)
     | inr k ↦ subst (λ (n : Name). Placed n node) (sym k.is) (block_placed k.serial node k.there)
@@ -201,9 +220,16 @@ module _ (serials : List ℕ) (few : length serials ≤ 16) (each : Each (λ i x
     total = total;
     one = λ p q c d. at_place (λ (x : Place). Apart x q)
         (at_place (λ (y : Place). Apart shared_place y) (λ h. refl) (λ k lt h. absurd (not_shared k h)) q d)
-        (λ j lt. at_place (λ (y : Place). Apart (block j) y) (λ h. absurd (not_shared j (elim h [ inl e ↦ inl (sym e) | inr e ↦ inr (sym e) ]))) (λ k lt' h. same_block j k h) q d)
+        (λ j lt. at_place (λ (y : Place). Apart (block j) y) (λ h.
+        absurd (not_shared j (elim h [ inl e ↦ inl (sym e) | inr e ↦ inr (sym e) ]))) (λ k lt' h. same_block j k h) q d)
         p c;
-    named = at_place (λ (p : Place). IsNamed small_layout w words p) (record { known = refl; valid = (lit≤ tt, lit< tt, λ e. refl); name = g_name; lies = inl (refl, refl, lit≤ tt) }) block_named;
+    named = at_place (λ (p : Place). IsNamed small_layout w words p) (record {
+      known = refl;
+      valid = (lit≤ tt, lit< tt, λ e. refl);
+      name = g_name;
+      lies = inl (refl, refl, lit≤ tt);
+    }) block_named;
     tracked = λ n node t is. tracked n.maker n.serial node is;
-    born = λ p node c young is. absurd (at_place (λ (q : Place). InNursery small_layout q.name.maker q.at → ⊥) (λ n. omega (arith, n.exists)) (λ k lt n. omega (arith, n.from, few)) p c young);
+    born = λ p node c young is. absurd (at_place (λ (q : Place). InNursery small_layout q.name.maker q.at →
+        ⊥) (λ n. omega (arith, n.exists)) (λ k lt n. omega (arith, n.from, few)) p c young);
   }

@@ -43,12 +43,14 @@ pub record Remembers (w : World) (earlier later : List World) (K L : Name → No
 pub record AgreeWhereTold (layout : Layout) (earlier : List World) (places : List Place) (w : World) (old new : List ℕ) : Type 0 where
   pub total : length new ≡ length old
   pub names : (p : Place) → Contains places p → slice_index new (p.at + 1) ≡ slice_index old (p.at + 1)
-  pub objects : (p : Place) (node : Node) (i : ℕ) → Contains places p → IsTold layout earlier w p → node_of w p.name ≡ Some node → p.at ≤ i → i < p.at + size_of node → slice_index new i ≡ slice_index old i
+  pub objects : (p : Place) (node : Node) (i : ℕ) → Contains places p → IsTold layout earlier w p → node_of w p.name ≡ Some node → p.at ≤ i →
+      i < p.at + size_of node → slice_index new i ≡ slice_index old i
 
 -- a word that is no name, and in no object that is told
 pub record IsUnborn (layout : Layout) (earlier : List World) (places : List Place) (w : World) (i : ℕ) : Type 0 where
   pub names : (p : Place) → Contains places p → i ≢ p.at + 1
-  pub objects : (p : Place) (node : Node) → Contains places p → IsTold layout earlier w p → node_of w p.name ≡ Some node → (i < p.at) ⊎ (p.at + size_of node ≤ i)
+  pub objects : (p : Place) (node : Node) → Contains places p → IsTold layout earlier w p → node_of w p.name ≡ Some node → (i < p.at) ⊎
+      (p.at + size_of node ≤ i)
 
 -- at most this field of a node's object changes, and it may: the others are as before, or nothing is said of them any more
 pub record ChangesAt (i : ℕ) (node made : Node) : Type 0 where
@@ -77,10 +79,12 @@ pub record AddsPlace (places more : List Place) (x : Place) : Type 0 where
 -- so many words from a place on are apart from every name and header, and from every object that is told
 pub record IsApart (layout : Layout) (earlier : List World) (places : List Place) (w : World) (at size : ℕ) : Type 0 where
   pub names : (p : Place) → Contains places p → (p.at + HEADER_WORDS ≤ at) ⊎ (at + size ≤ p.at)
-  pub objects : (p : Place) (node : Node) → Contains places p → IsTold layout earlier w p → node_of w p.name ≡ Some node → (p.at + size_of node ≤ at) ⊎ (at + size ≤ p.at)
+  pub objects : (p : Place) (node : Node) → Contains places p → IsTold layout earlier w p → node_of w p.name ≡ Some node →
+      (p.at + size_of node ≤ at) ⊎ (at + size ≤ p.at)
 
 -- an object is born: its name and its fields stand there already, nobody knew the name, and nothing else changes but what refers to it
-pub record IsBorn (layout : Layout) (earlier : List World) (K L : Name → Node → Type 0) (places more : List Place) (w v : World) (words : List ℕ) (x : Place) (made : Node) : Type 0 where
+pub record IsBorn (layout : Layout) (earlier : List World) (K L : Name → Node →
+    Type 0) (places more : List Place) (w v : World) (words : List ℕ) (x : Place) (made : Node) : Type 0 where
   pub place : AddsPlace places more x
   pub unknown : node_of w x.name ≡ None
   pub first : (node : Node) → L x.name node → node ≡ made
@@ -99,7 +103,8 @@ pub record IsBorn (layout : Layout) (earlier : List World) (K L : Name → Node 
 pub record DropsPlaces (earlier : List World) (K : Name → Node → Type 0) (places fewer : List Place) (w : World) : Type 0 where
   pub old : (p : Place) → Contains fewer p → Contains places p
   pub tracked : (p : Place) → Contains places p → IsTracked w earlier p.name → Contains fewer p
-  pub free : (e : World) (name n : Name) (before : Node) → Contains earlier e → IsTracked w earlier name → node_of e name ≡ Some before → Contains (free_slots before) (holds (Ref n)) → IsTracked w earlier n
+  pub free : (e : World) (name n : Name) (before : Node) → Contains earlier e → IsTracked w earlier name → node_of e name ≡ Some before →
+      Contains (free_slots before) (holds (Ref n)) → IsTracked w earlier n
   pub kept : (name n : Name) (before : Node) → IsTracked w earlier name → K name before → Contains (fixed_slots before) (holds (Ref n)) → IsTracked w earlier n
 
 -- further places, where nothing else changes: they are named like the others, and among no words of an object that is told
@@ -107,5 +112,7 @@ pub record AddsPlaces (layout : Layout) (earlier : List World) (places more : Li
   pub old : (p : Place) → Contains places p → Contains more p
   pub one : (p q : Place) → Contains more p → Contains more q → (p.name ≡ q.name) ⊎ (p.at ≡ q.at) → p ≡ q
   pub named : (p : Place) → Contains more p → IsNamed layout w words p
-  pub alone : (p q : Place) (node : Node) → Contains places p → IsTold layout earlier w p → node_of w p.name ≡ Some node → Contains more q → (q.at ≤ p.at) ⊎ (p.at + size_of node ≤ q.at)
-  pub born : (p : Place) (node : Node) → Contains more p → InNursery layout p.name.maker p.at → node_of w p.name ≡ Some node → IsObject layout more words p node × (node ≡ Weak None → slice_index words (p.at + HEADER_WORDS + 1) ≡ 0)
+  pub alone : (p q : Place) (node : Node) → Contains places p → IsTold layout earlier w p → node_of w p.name ≡ Some node → Contains more q →
+      (q.at ≤ p.at) ⊎ (p.at + size_of node ≤ q.at)
+  pub born : (p : Place) (node : Node) → Contains more p → InNursery layout p.name.maker p.at → node_of w p.name ≡ Some node →
+      IsObject layout more words p node × (node ≡ Weak None → slice_index words (p.at + HEADER_WORDS + 1) ≡ 0)

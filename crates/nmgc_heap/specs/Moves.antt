@@ -50,10 +50,13 @@ pub record Copies (forward : ℕ → ℕ) (old new : List ℕ) (from to count : 
 -- an object that stays has its header, and of its fields each is forwarded or unchanged; one that refers to an object of the emptied part is forwarded
 pub record Keeps (base : ℕ) (places : List Place) (forward : ℕ → ℕ) (old new : List ℕ) (at : ℕ) (node : Node) : Type 0 where
   pub header : slice_index new at ≡ slice_index old at
-  pub fields : (i : ℕ) → i < (header_of node).fields → (slice_index new (at + HEADER_WORDS + i) ≡ forward (slice_index old (at + HEADER_WORDS + i))) ⊎ ((slice_index new (at + HEADER_WORDS + i) ≡ slice_index old (at + HEADER_WORDS + i)) × ((q : Place) → slice_get (slots_of node) i ≡ Some (holds (Ref q.name)) → Contains places q → q.at < base))
+  pub fields : (i : ℕ) → i < (header_of node).fields → (slice_index new (at + HEADER_WORDS + i) ≡
+      forward (slice_index old (at + HEADER_WORDS + i))) ⊎ ((slice_index new (at + HEADER_WORDS + i) ≡ slice_index old (at + HEADER_WORDS + i)) ×
+      ((q : Place) → slice_get (slots_of node) i ≡ Some (holds (Ref q.name)) → Contains places q → q.at < base))
 
 -- objects move out of the part of the words that begins at the base: all that are tracked, each once, to places in segments which no object had
-pub record Moves (layout : Layout) (base : ℕ) (later : List World) (places : List Place) (w : World) (moves : List Moved) (forward : ℕ → ℕ) (old new : List ℕ) : Type 0 where
+pub record Moves (layout : Layout) (base : ℕ) (later : List World) (places : List Place) (w : World) (moves : List Moved) (forward : ℕ →
+    ℕ) (old new : List ℕ) : Type 0 where
   pub total : length new ≡ length old
   pub forwards : Forwards base moves forward
   pub taken : (m : Moved) → Contains moves m → Contains places (old_place m) × (base ≤ m.from) × (m.to < base)
@@ -61,12 +64,16 @@ pub record Moves (layout : Layout) (base : ℕ) (later : List World) (places : L
   pub once : (a b : Moved) → Contains moves a → Contains moves b → (a.from ≡ b.from) ⊎ (a.to ≡ b.to) → a ≡ b
   pub apart : (m : Moved) (p : Place) → Contains moves m → Contains places p → m.to ≡ p.at → ⊥
   pub lies : (m : Moved) (node : Node) → Contains moves m → node_of w m.name ≡ Some node → LiesInSegment layout m.to (size_of node)
-  pub alone : (m : Moved) (node : Node) (q : Place) → Contains moves m → node_of w m.name ≡ Some node → Contains (settled base moves places) q → (q.at ≤ m.to) ⊎ (m.to + size_of node ≤ q.at)
-  pub spared : (p : Place) (node : Node) (m : Moved) → Contains places p → p.at < base → IsTracked w later p.name → node_of w p.name ≡ Some node → Contains moves m → (m.to ≤ p.at) ⊎ (p.at + size_of node ≤ m.to)
+  pub alone : (m : Moved) (node : Node) (q : Place) → Contains moves m → node_of w m.name ≡ Some node → Contains (settled base moves places) q →
+      (q.at ≤ m.to) ⊎ (m.to + size_of node ≤ q.at)
+  pub spared : (p : Place) (node : Node) (m : Moved) → Contains places p → p.at < base → IsTracked w later p.name → node_of w p.name ≡ Some node →
+      Contains moves m → (m.to ≤ p.at) ⊎ (p.at + size_of node ≤ m.to)
   pub named : (m : Moved) → Contains moves m → slice_index new (m.to + 1) ≡ slice_index old (m.from + 1)
   pub still_named : (p : Place) → Contains places p → p.at < base → slice_index new (p.at + 1) ≡ slice_index old (p.at + 1)
-  pub copied : (m : Moved) (node : Node) → Contains moves m → IsTracked w later m.name → node_of w m.name ≡ Some node → Copies forward old new m.from m.to (header_of node).fields
-  pub changed : (p : Place) (node : Node) → Contains places p → p.at < base → IsTracked w later p.name → node_of w p.name ≡ Some node → Keeps base places forward old new p.at node
+  pub copied : (m : Moved) (node : Node) → Contains moves m → IsTracked w later m.name → node_of w m.name ≡ Some node →
+      Copies forward old new m.from m.to (header_of node).fields
+  pub changed : (p : Place) (node : Node) → Contains places p → p.at < base → IsTracked w later p.name → node_of w p.name ≡ Some node →
+      Keeps base places forward old new p.at node
 
 -- the earlier worlds of which the collector still speaks afterwards: none had anything of what stood in the emptied part
 pub record StillSpoken (base : ℕ) (later earlier : List World) (places : List Place) (w : World) : Type 0 where

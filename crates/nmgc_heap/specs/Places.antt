@@ -24,7 +24,9 @@ pub record Place : Type 0 where
 abbrev pub shared_place : Place
 shared_place = record { at = SHARED_PLACE; name = shared_name }
 
--- a field word stands for a value: nil, a number, or a reference to the object at the place that the word points to, which is one of P. That numbers are small enough for a word is a fact of the world, and that places are is one of the layout
+-- a field word stands for a value: nil, a number, or a reference to the object at the place that the word points to,
+-- which is one of P. That numbers are small enough for a word is a fact of the world, and that places are is one of
+-- the layout
 abbrev pub Means : (Place → Type 0) → ℕ → Value → Type 0
 Means P word value.Nil = word ≡ NIL_WORD
 Means P word (value.Number n) = word ≡ 2 * n + ZERO_WORD

@@ -31,21 +31,25 @@ pub record IsObject (layout : Layout) (places : List Place) (words : List ℕ) (
   pub alone : (q : Place) → Contains places q → (q.at ≤ p.at) ⊎ (p.at + size_of node ≤ q.at)
 
 -- a tracked name has its object, with the node's fields, the free variables that earlier worlds know, and all that its nodes told by K say for good
-pub record IsPlaced (layout : Layout) (earlier : List World) (K : Name → Node → Type 0) (places : List Place) (words : List ℕ) (name : Name) (node : Node) : Type 0 where
+pub record IsPlaced (layout : Layout) (earlier : List World) (K : Name → Node →
+    Type 0) (places : List Place) (words : List ℕ) (name : Name) (node : Node) : Type 0 where
   pub at : ℕ
   pub there : Contains places (record { at = at; name = name })
   pub object : IsObject layout places words (record { at = at; name = name }) node
   pub fields : HasSlots (Contains places) words (at + HEADER_WORDS) (slots_of node)
-  pub free : (e : World) (before : Node) → Contains earlier e → node_of e name ≡ Some before → HasSlots (Contains places) words (at + HEADER_WORDS) (free_slots before)
+  pub free : (e : World) (before : Node) → Contains earlier e → node_of e name ≡ Some before →
+      HasSlots (Contains places) words (at + HEADER_WORDS) (free_slots before)
   pub kept : (before : Node) → K name before → HasSlots (Contains places) words (at + HEADER_WORDS) (fixed_slots before)
 
--- words represent a world, where of earlier worlds the collector still speaks, and K tells the nodes by which a round knows its objects; an object born in a nursery has its header and extent even where nobody speaks of it
+-- words represent a world, where of earlier worlds the collector still speaks, and K tells the nodes by which a round
+-- knows its objects; an object born in a nursery has its header and extent even where nobody speaks of it
 pub record Represents (layout : Layout) (earlier : List World) (K : Name → Node → Type 0) (places : List Place) (w : World) (words : List ℕ) : Type 0 where
   pub total : length words ≡ word_total layout
   pub one : (p q : Place) → Contains places p → Contains places q → (p.name ≡ q.name) ⊎ (p.at ≡ q.at) → p ≡ q
   pub named : (p : Place) → Contains places p → IsNamed layout w words p
   pub tracked : (name : Name) (node : Node) → IsTracked w earlier name → node_of w name ≡ Some node → IsPlaced layout earlier K places words name node
-  pub born : (p : Place) (node : Node) → Contains places p → InNursery layout p.name.maker p.at → node_of w p.name ≡ Some node → IsObject layout places words p node × (node ≡ Weak None → slice_index words (p.at + HEADER_WORDS + 1) ≡ 0)
+  pub born : (p : Place) (node : Node) → Contains places p → InNursery layout p.name.maker p.at → node_of w p.name ≡ Some node →
+      IsObject layout places words p node × (node ≡ Weak None → slice_index words (p.at + HEADER_WORDS + 1) ≡ 0)
 
 -- between rounds no node is known for good; in a round K tells the first node of each object, the one at its opening or the one that it was born with
 abbrev pub NoNode : Name → Node → Type 0

@@ -46,7 +46,8 @@ first_words = 0 ∷ 32771 ∷ SHARED_MAKER ∷ (replicate SHARED_SLOTS 1 ++ repl
 -- one object: a constructor of tag 7 with the number 5
 
 abbrev pub object_world : World
-object_world = after (new_world 1) (Num 1 5 ∷ Con 0 7 (Register 1 ∷ []) ∷ Get 2 (Register 0) 0 ∷ Show (Register 2) ∷ Get 2 (Register 0) 1 ∷ Get 2 (Register 1) 0 ∷ Show (Register 0) ∷ [])
+object_world = after (new_world 1) (Num 1 5 ∷ Con 0 7 (Register 1 ∷ []) ∷ Get 2 (Register 0) 0 ∷ Show (Register 2) ∷ Get 2 (Register 0) 1 ∷
+    Get 2 (Register 1) 0 ∷ Show (Register 0) ∷ [])
 
 abbrev pub object_words : List ℕ → List ℕ
 object_words rest = first_words ++ (2105 ∷ 0 ∷ 13 ∷ rest)
@@ -56,9 +57,12 @@ object_serials = 0 ∷ []
 
 -- words, registers and the empty list of weak pointers stand for it, whatever the other words are
 abbrev pub OneObject : Type 0
-OneObject = (rest : List ℕ) → length rest ≡ 2109 → Represents small_layout [] NoNode (places_of object_serials) object_world (object_words rest) × RepresentsRoots (places_of object_serials) object_world (64 ∷ 13 ∷ 13 ∷ replicate (REGISTERS - 3) 1) ([] ∷ []) (1 ∷ []) × ListsWeaks small_layout (places_of object_serials) object_world []
+OneObject = (rest : List ℕ) → length rest ≡ 2109 → Represents small_layout [] NoNode (places_of object_serials) object_world (object_words rest) ×
+    RepresentsRoots (places_of object_serials) object_world (64 ∷ 13 ∷ 13 ∷ replicate (REGISTERS - 3) 1) ([] ∷ []) (1 ∷ []) ×
+    ListsWeaks small_layout (places_of object_serials) object_world []
 
--- overwritten during marking: a variable that holds the only reference to a constructor, and a chain of fourteen more; a cycle begins, and then the variable is overwritten
+-- overwritten during marking: a variable that holds the only reference to a constructor, and a chain of fourteen
+-- more; a cycle begins, and then the variable is overwritten
 
 abbrev pub chain : ℕ → List Command → List Command
 chain zero rest = rest
@@ -86,16 +90,20 @@ chain_words word rest = first_words ++ (2049 ∷ 0 ∷ 13 ∷ 0 ∷ 2050 ∷ 64 
 
 -- at the snapshot the variable has a pointer to word 32
 abbrev pub SnapshotStands : Type 0
-SnapshotStands = (rest : List ℕ) → length rest ≡ 2048 → Represents small_layout [] NoNode (places_of chain_serials) snapshot (chain_words 64 rest) × RepresentsRoots (places_of chain_serials) snapshot (72 ∷ 13 ∷ 1 ∷ 184 ∷ replicate (REGISTERS - 4) 1) ([] ∷ []) (16 ∷ [])
+SnapshotStands = (rest : List ℕ) → length rest ≡ 2048 → Represents small_layout [] NoNode (places_of chain_serials) snapshot (chain_words 64 rest) ×
+    RepresentsRoots (places_of chain_serials) snapshot (72 ∷ 13 ∷ 1 ∷ 184 ∷ replicate (REGISTERS - 4) 1) ([] ∷ []) (16 ∷ [])
 
 -- once it was overwritten, it has the number; what it referred to is outside the wide reach, and tracked for the snapshot alone: its words stand there still
 abbrev pub OverwrittenStands : Type 0
-OverwrittenStands = (rest : List ℕ) → length rest ≡ 2048 → Represents small_layout (snapshot ∷ []) NoNode (places_of chain_serials) overwritten (chain_words 13 rest) × IsTracked overwritten (snapshot ∷ []) (own 0) × (IsWide overwritten (own 0) → ⊥)
+OverwrittenStands = (rest : List ℕ) → length rest ≡ 2048 → Represents small_layout (snapshot ∷
+    []) NoNode (places_of chain_serials) overwritten (chain_words 13 rest) × IsTracked overwritten (snapshot ∷ []) (own 0) × (IsWide overwritten (own 0) → ⊥)
 
 -- whatever words stand for the snapshot with these places have this pointer, header and name for the variable: with a wrong one they don't
 abbrev pub WordsAreTold : (Name → Node → Type 0) → Type 0
-WordsAreTold K = (earlier : List World) (words : List ℕ) → Represents small_layout earlier K (places_of chain_serials) snapshot words → (slice_index words 36 ≡ 2050) × (slice_index words 37 ≡ 64) × (slice_index words 38 ≡ 64)
+WordsAreTold K = (earlier : List World) (words : List ℕ) → Represents small_layout earlier K (places_of chain_serials) snapshot words →
+    (slice_index words 36 ≡ 2050) × (slice_index words 37 ≡ 64) × (slice_index words 38 ≡ 64)
 
 -- with a second place for a name no words do
 abbrev pub NoSecondPlace : (Name → Node → Type 0) → Type 0
-NoSecondPlace K = (earlier : List World) (places : List Place) (w : World) (words : List ℕ) (at : ℕ) → Contains places (block 0) → at ≢ FIRST_PLACE → Contains places (record { at = at; name = own 0 }) → Represents small_layout earlier K places w words → ⊥
+NoSecondPlace K = (earlier : List World) (places : List Place) (w : World) (words : List ℕ) (at : ℕ) → Contains places (block 0) →
+    at ≢ FIRST_PLACE → Contains places (record { at = at; name = own 0 }) → Represents small_layout earlier K places w words → ⊥

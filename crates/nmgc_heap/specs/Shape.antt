@@ -31,7 +31,8 @@ pub data Slot : Type 0 where
   unset : Slot
   untold : Slot
 
--- the fields of a node's object in order: nothing is said of the free variables of a thunk that has a result, nor of a dead weak pointer but that its value is unset
+-- the fields of a node's object in order: nothing is said of the free variables of a thunk that has a result, nor of
+-- a dead weak pointer but that its value is unset
 abbrev pub slots_of : Node → List Slot
 slots_of (Con tag values) = map holds values
 slots_of (Var v) = holds v ∷ []

@@ -35,7 +35,8 @@ strong_within Thunk fields false h = h.0
 strong_within Weak fields b h = omega arith
 strong_within Stack fields b h = omega arith
 
-module _ (layout : Layout) (base : ℕ) (words sizes : List ℕ) (nurseries : List Nursery) (inputs : Inputs) (h : IsChecked layout base words sizes nurseries inputs) where
+module _ (layout : Layout) (base : ℕ) (words sizes : List ℕ) (nurseries : List Nursery) (inputs : Inputs)
+    (h : IsChecked layout base words sizes nurseries inputs) where
   -- an entry that isn't 0 is one of the sizes
   inside : (k : ℕ) → slice_index sizes k ≢ 0 → k < length sizes
   inside k ne = elim (cases_lt k (length sizes)) [ inl lt ↦ lt | inr past ↦ absurd (ne (get_or-eq_default sizes 0 past)) ]
@@ -46,13 +47,17 @@ module _ (layout : Layout) (base : ℕ) (words sizes : List ℕ) (nurseries : Li
   start_points : (word : ℕ) → 32 ≤ base → IsStart inputs words word → PointsWell base sizes word
   start_points word low (IsStart.register c) = h.registers word c
   start_points word low (IsStart.queued queue c d) = h.queues queue word c d
-  start_points word low (IsStart.shared i lt e) = let n = h.long in subst (λ (x : ℕ). PointsWell base sizes x) e (h.words_point (3 + i) (omega (arith, lt, low, n)))
-  start_points word low (IsStart.recorded at c e) = let n = h.long in let l = h.recorded at c in subst (λ (x : ℕ). PointsWell base sizes x) e (h.words_point at (omega (arith, l, n)))
+  start_points word low (IsStart.shared i lt e) = let n = h.long in
+      subst (λ (x : ℕ). PointsWell base sizes x) e (h.words_point (3 + i) (omega (arith, lt, low, n)))
+  start_points word low (IsStart.recorded at c e) = let n = h.long in let l = h.recorded at c in
+      subst (λ (x : ℕ). PointsWell base sizes x) e (h.words_point at (omega (arith, l, n)))
   start_points word low (IsStart.weak at c alive e) = subst (λ (x : ℕ). PointsWell base sizes x) e (h.weaks at c).0
-  start_points word low (IsStart.part at i c alive lt e) = let n = (h.weaks at c).1 in subst (λ (x : ℕ). PointsWell base sizes x) e (h.words_point (at + HEADER_WORDS + i) (omega (arith, n, lt)))
+  start_points word low (IsStart.part at i c alive lt e) = let n = (h.weaks at c).1 in
+      subst (λ (x : ℕ). PointsWell base sizes x) e (h.words_point (at + HEADER_WORDS + i) (omega (arith, n, lt)))
 
   -- the nursery of a word
-  one_part : (a b at : ℕ) → nursery_place layout a ≤ at → at < nursery_place layout a + layout.nursery → nursery_place layout b ≤ at → at < nursery_place layout b + layout.nursery → a ≡ b
+  one_part : (a b at : ℕ) → nursery_place layout a ≤ at → at < nursery_place layout a + layout.nursery → nursery_place layout b ≤ at →
+      at < nursery_place layout b + layout.nursery → a ≡ b
   one_part a b at al ah bl bh = elim (cases_order a b) [
     | inl e ↦ e
     | inr (inl lt) ↦ let s = step a b layout.nursery lt in absurd (omega (arith, s, ah, bl))
@@ -60,17 +65,20 @@ module _ (layout : Layout) (base : ℕ) (words sizes : List ℕ) (nurseries : Li
   ]
     where
       step : (a b n : ℕ) → a < b → a * n + n ≤ b * n
-      step a b n lt = let up : (a + 1) * n ≤ b * n = mul-le-mul_right n (let e : a + 1 ≤ b = omega arith in e) in let flat : (a + 1) * n ≡ a * n + n = omega arith in omega (arith, up, flat)
+      step a b n lt = let up : (a + 1) * n ≤ b * n = mul-le-mul_right n (let e : a + 1 ≤ b = omega arith in e) in
+          let flat : (a + 1) * n ≡ a * n + n = omega arith in omega (arith, up, flat)
 
   ends : (maker : ℕ) → maker < layout.mutators → nursery_place layout maker + layout.nursery ≤ base + layout.mutators * layout.nursery
   ends maker lt =
-      let up : (maker + 1) * layout.nursery ≤ layout.mutators * layout.nursery = mul-le-mul_right layout.nursery (let e : maker + 1 ≤ layout.mutators = omega arith in e) in
+      let up : (maker + 1) * layout.nursery ≤ layout.mutators * layout.nursery =
+      mul-le-mul_right layout.nursery (let e : maker + 1 ≤ layout.mutators = omega arith in e) in
       let flat : (maker + 1) * layout.nursery ≡ maker * layout.nursery + layout.nursery = omega arith in
       let b = h.begins in
       omega (arith, up, flat, b)
 
   -- an object lies in its maker's part
-  own : (k : ℕ) (m : IsMade layout base words sizes nurseries k) → (nursery_place layout m.name.maker ≤ base + k) × (base + k + slice_index sizes k ≤ nursery_place layout m.name.maker + layout.nursery)
+  own : (k : ℕ) (m : IsMade layout base words sizes nurseries k) → (nursery_place layout m.name.maker ≤ base + k) ×
+      (base + k + slice_index sizes k ≤ nursery_place layout m.name.maker + layout.nursery)
   own k m =
       let p = h.parts.places m.name.maker m.maker in
       let t = h.parts.tops m.name.maker m.maker in
@@ -105,7 +113,8 @@ module _ (layout : Layout) (base : ℕ) (words sizes : List ℕ) (nurseries : Li
       let e : base + (from - base) ≡ from = omega (arith, m.0) in
       (l, strong_points (from - base) (2 * at) m.1 (subst (λ (k : ℕ). HasStrong words k (2 * at)) (sym e) s) at refl l)
 
-  nurseries_are : (table : List ℕ) → length table ≡ layout.mutators * layout.nursery → ((at : ℕ) → base ≤ at → IsMarked base table at → slice_index sizes (at - base) ≢ 0) → AreNurseries layout base table nurseries
+  nurseries_are : (table : List ℕ) → length table ≡ layout.mutators * layout.nursery →
+      ((at : ℕ) → base ≤ at → IsMarked base table at → slice_index sizes (at - base) ≢ 0) → AreNurseries layout base table nurseries
   nurseries_are table size marked = record {
     begins = h.begins;
     count = h.parts.count;
@@ -141,7 +150,8 @@ module _ (layout : Layout) (base : ℕ) (words sizes : List ℕ) (nurseries : Li
     below : at + HEADER_WORDS + m.header.fields ≤ (nursery_at nurseries maker).top
     small : HEADER_WORDS + m.header.fields ≤ layout.words
 
-  object_at : (maker at : ℕ) → maker < layout.mutators → (nursery_at nurseries maker).base ≤ at → at < (nursery_at nurseries maker).top → (m : IsMade layout base words sizes nurseries (at - base)) → IsAt maker at m
+  object_at : (maker at : ℕ) → maker < layout.mutators → (nursery_at nurseries maker).base ≤ at → at < (nursery_at nurseries maker).top →
+      (m : IsMade layout base words sizes nurseries (at - base)) → IsAt maker at m
   object_at maker at lt low high m =
       let p = h.parts.places maker lt in
       let t = h.parts.tops maker lt in
@@ -149,7 +159,12 @@ module _ (layout : Layout) (base : ℕ) (words sizes : List ℕ) (nurseries : Li
       let o = own (at - base) m in
       let there : base + (at - base) ≡ at = omega (arith, p, low, b) in
       let size = m.size in
-      let same = one_part m.name.maker maker at (omega (arith, o.0, there)) (omega (arith, o.1, there, size)) (omega (arith, p, low)) (omega (arith, p, high, t.1)) in
+      let same = one_part m.name.maker maker at (omega (arith, o.0, there)) (omega (arith, o.1, there, size)) (omega (arith, p, low)) (omega (
+        arith,
+        p,
+        high,
+        t.1,
+      )) in
       let top : (nursery_at nurseries m.name.maker).top ≡ (nursery_at nurseries maker).top = ap (λ (n : ℕ). (nursery_at nurseries n).top) same in
       let below = m.below in
       let small = m.small in
@@ -165,7 +180,8 @@ module _ (layout : Layout) (base : ℕ) (words sizes : List ℕ) (nurseries : Li
         small = omega (arith, small, size);
       }
 
-  all_can : (table : List ℕ) → ((at : ℕ) → base ≤ at → IsMarked base table at → slice_index sizes (at - base) ≢ 0) → CanPlaceEach layout words table base nurseries
+  all_can : (table : List ℕ) → ((at : ℕ) → base ≤ at → IsMarked base table at → slice_index sizes (at - base) ≢ 0) →
+      CanPlaceEach layout words table base nurseries
   all_can table marked maker lt =
       let p = h.parts.places maker lt in
       let b = h.begins in
@@ -203,14 +219,16 @@ module _ (layout : Layout) (base : ℕ) (words sizes : List ℕ) (nurseries : Li
       }
 
   -- a word that points well points into the table
-  within_table : (y : Young) → y.base ≡ base → length y.table.items ≡ layout.mutators * layout.nursery → (word : ℕ) → PointsWell base sizes word → IsWithin y word
+  within_table : (y : Young) → y.base ≡ base → length y.table.items ≡ layout.mutators * layout.nursery → (word : ℕ) → PointsWell base sizes word →
+      IsWithin y word
   within_table y same size word points at e l =
       let low : base ≤ at = omega (arith, same, l) in
       let k = inside (at - base) (points at e low) in
       let total = h.size in
       omega (arith, same, size, k, total, low)
 
-  pub checked_can : (s : Segments) → IsSegments s → s.layout ≡ layout → KeepsReserve s.layout s.segments 0 ⊎ AreEmpty nurseries → CanPromoteWith s words nurseries inputs
+  pub checked_can : (s : Segments) → IsSegments s → s.layout ≡ layout → KeepsReserve s.layout s.segments 0 ⊎ AreEmpty nurseries →
+      CanPromoteWith s words nurseries inputs
   checked_can s sound same_layout reserve y young none begins size =
       let b = h.begins in
       let e : y.base ≡ base = begins ∙ ap (λ (l : Layout). nursery_place l 0) same_layout ∙ sym h.begins in
@@ -231,18 +249,29 @@ module _ (layout : Layout) (base : ℕ) (words sizes : List ℕ) (nurseries : Li
             let there : base + (at - base) ≡ at = omega (arith, m.0) in
             record {
               header = subst (λ (k : ℕ). HasHeader words k) there (header_at (at - base) m.1);
-              within = λ word strong. within_table y e count word (strong_points (at - base) word m.1 (subst (λ (k : ℕ). HasStrong words k word) (sym there) strong));
+              within = λ word strong. within_table y e count word (strong_points (at - base) word m.1 (subst (λ (k : ℕ).
+                  HasStrong words k word) (sym there) strong));
             };
         parts = λ table length_is marked.
-            let found : (at : ℕ) → base ≤ at → IsMarked base table at → slice_index sizes (at - base) ≢ 0 = λ at l k. (found_made at low (subst (λ (n : ℕ). IsFound n words (IsStart inputs words) at) e (marked at (omega (arith, e, l)) (subst (λ (n : ℕ). IsMarked n table at) (sym e) k)))).1 in (
-              subst (λ (l : Layout). AreNurseries l y.base table nurseries) (sym same_layout) (subst (λ (n : ℕ). AreNurseries layout n table nurseries) (sym e) (nurseries_are table (length_is ∙ count) found)),
-              subst (λ (l : Layout). CanPlaceEach l words table y.base nurseries) (sym same_layout) (subst (λ (n : ℕ). CanPlaceEach layout words table n nurseries) (sym e) (all_can table found)),
+            let found : (at : ℕ) → base ≤ at → IsMarked base table at →
+            slice_index sizes (at - base) ≢ 0 = λ at l k.
+            (found_made at low (subst (λ (n : ℕ). IsFound n words (IsStart inputs words) at) e (marked at (omega (
+              arith,
+              e,
+              l,
+            )) (subst (λ (n : ℕ). IsMarked n table at) (sym e) k)))).1 in (
+              subst (λ (l : Layout). AreNurseries l y.base table nurseries) (sym same_layout) (subst (λ (n : ℕ).
+                  AreNurseries layout n table nurseries) (sym e) (nurseries_are table (length_is ∙ count) found)),
+              subst (λ (l : Layout). CanPlaceEach l words table y.base nurseries) (sym same_layout) (subst (λ (n : ℕ).
+                  CanPlaceEach layout words table n nurseries) (sym e) (all_can table found)),
             );
         reserve = reserve;
       }
 
 -- one more word was walked, where an object begins
-pub made_more : (layout : Layout) (base : ℕ) (words sizes : List ℕ) (nurseries : List Nursery) (k free : ℕ) → AreMade layout base words sizes nurseries k → ((j : ℕ) → j < k → slice_index sizes j ≢ 0 → j + slice_index sizes j ≤ free) → free ≤ k → IsMade layout base words sizes nurseries k → AreMade layout base words sizes nurseries (k + 1)
+pub made_more : (layout : Layout) (base : ℕ) (words sizes : List ℕ) (nurseries : List Nursery) (k free : ℕ) →
+    AreMade layout base words sizes nurseries k → ((j : ℕ) → j < k → slice_index sizes j ≢ 0 → j + slice_index sizes j ≤ free) → free ≤ k →
+    IsMade layout base words sizes nurseries k → AreMade layout base words sizes nurseries (k + 1)
 made_more layout base words sizes nurseries k free made next after this = record {
   each = λ j lt ne. elim (cases_lt j k) [
     | inl l ↦ made.each j l ne
@@ -255,7 +284,8 @@ made_more layout base words sizes nurseries k free made next after this = record
 }
 
 -- and then the next object begins behind it
-pub next_more : (sizes : List ℕ) (k free : ℕ) → ((j : ℕ) → j < k → slice_index sizes j ≢ 0 → j + slice_index sizes j ≤ free) → free ≤ k → (j : ℕ) → j < k + 1 → slice_index sizes j ≢ 0 → j + slice_index sizes j ≤ k + slice_index sizes k
+pub next_more : (sizes : List ℕ) (k free : ℕ) → ((j : ℕ) → j < k → slice_index sizes j ≢ 0 → j + slice_index sizes j ≤ free) → free ≤ k → (j : ℕ) →
+    j < k + 1 → slice_index sizes j ≢ 0 → j + slice_index sizes j ≤ k + slice_index sizes k
 next_more sizes k free next after j lt ne = elim (cases_lt j k) [
   | inl l ↦ let b = next j l ne in omega (arith, b, after)
   | inr ge ↦
@@ -272,11 +302,14 @@ before sizes k j none lt ne = elim (cases_lt j k) [
 ]
 
 -- one more word was walked, where none begins
-pub made_skip : (layout : Layout) (base : ℕ) (words sizes : List ℕ) (nurseries : List Nursery) (k : ℕ) → slice_index sizes k ≡ 0 → AreMade layout base words sizes nurseries k → AreMade layout base words sizes nurseries (k + 1)
+pub made_skip : (layout : Layout) (base : ℕ) (words sizes : List ℕ) (nurseries : List Nursery) (k : ℕ) → slice_index sizes k ≡ 0 →
+    AreMade layout base words sizes nurseries k → AreMade layout base words sizes nurseries (k + 1)
 made_skip layout base words sizes nurseries k none made = record {
   each = λ j lt ne. made.each j (before sizes k j none lt ne) ne;
   apart = λ i j lt ltj ne ne'. made.apart i j lt (before sizes k j none ltj ne') ne ne';
 }
 
-pub next_skip : (sizes : List ℕ) (k free : ℕ) → slice_index sizes k ≡ 0 → ((j : ℕ) → j < k → slice_index sizes j ≢ 0 → j + slice_index sizes j ≤ free) → (j : ℕ) → j < k + 1 → slice_index sizes j ≢ 0 → j + slice_index sizes j ≤ free
+pub next_skip : (sizes : List ℕ) (k free : ℕ) → slice_index sizes k ≡ 0 →
+    ((j : ℕ) → j < k → slice_index sizes j ≢ 0 → j + slice_index sizes j ≤ free) → (j : ℕ) → j < k + 1 → slice_index sizes j ≢ 0 →
+    j + slice_index sizes j ≤ free
 next_skip sizes k free none next j lt ne = next j (before sizes k j none lt ne) ne

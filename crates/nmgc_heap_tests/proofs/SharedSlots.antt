@@ -55,7 +55,10 @@ module _ (layout : Layout) (m base : ℕ) where
   after_field h n = storing (after_name h n) (base + 2) 1
 
   abbrev pub after_birth : ℕ → ℕ → Part
-  after_birth h n = doing (bearing_object (after_field h n) base 3 2050 (name_word (record { maker = m; serial = (hand_of (first_opening layout).hands m).serial }))) makes (word (2 * base)) []
+  after_birth h n = doing (bearing_object (after_field h n) base 3 2050 (name_word (record {
+    maker = m;
+    serial = (hand_of (first_opening layout).hands m).serial;
+  }))) makes (word (2 * base)) []
 
   abbrev pub after_swap : ℕ → ℕ → ℕ → Part
   after_swap h n old = doing (finding (after_birth h n) old) (shares m) (plain Fine) []
@@ -79,7 +82,8 @@ module _ (layout : Layout) (m base : ℕ) where
   pub seen_swap : (h n old : ℕ) (v w : Seen) → v ≡ with_part layout (after_birth h n) → w ≡ swapped v (shares m) old → w ≡ with_part layout (after_swap h n old)
   seen_swap h n old v w e f = f ∙ ap (λ (u : Seen). swapped u (shares m) old) e
 
-  pub seen_load : (h n old x : ℕ) (v w : Seen) → v ≡ with_part layout (after_swap h n old) → w ≡ answered v (reads m) (word x) → w ≡ with_part layout (after_load h n old x)
+  pub seen_load : (h n old x : ℕ) (v w : Seen) → v ≡ with_part layout (after_swap h n old) → w ≡ answered v (reads m) (word x) →
+      w ≡ with_part layout (after_load h n old x)
   seen_load h n old x v w e f = f ∙ ap (λ (u : Seen). answered u (reads m) (word x)) e
 
   pub has_part : (p : Part) → p.number ≡ m → (v : Seen) → v ≡ with_part layout p → HasPart v m
@@ -125,13 +129,23 @@ module _ (layout : Layout) (is : IsLayout layout) (m : ℕ) (mine : m < layout.m
       let a = is.nursery in
       let b = is.words.least in
       record {
-        gives = gives p makes (record { registers = (omega arith, omega arith); numbers = tt; size = omega arith }) (subst (λ (k : Hand). k.serial < 4294967295) hand_is (omega arith));
+        gives = gives p makes (record {
+          registers = (omega arith, omega arith);
+          numbers = tt;
+          size = omega arith;
+        }) (subst (λ (k : Hand). k.serial < 4294967295) hand_is (omega arith));
         makes = tt;
         header_is = refl;
         from = omega arith;
         to = omega arith;
         name = subst (λ (k : Hand). Contains p.unborn (record { at = base + 1; word = name_word (record { maker = m; serial = k.serial }) })) hand_is
-            (subst (λ w. Contains p.unborn (record { at = base + 1; word = w })) is_name (contains_tail (record { at = base + 2; word = 1 }) (record { at = base + 1; word = n } ∷ []) (record { at = base + 1; word = n }) (contains_head (record { at = base + 1; word = n }) [])));
+            (subst (λ w. Contains p.unborn (record { at = base + 1; word = w })) is_name (contains_tail (record {
+              at = base + 2;
+              word = 1;
+            }) (record { at = base + 1; word = n } ∷ []) (record {
+              at = base + 1;
+              word = n;
+            }) (contains_head (record { at = base + 1; word = n }) [])));
         fields = λ i w e. field i w (subst (λ (k : Hand). slice_get (get_or k.registers 1 1 ∷ []) i ≡ Some w) (sym hand_is) e);
       }
     where
@@ -139,7 +153,10 @@ module _ (layout : Layout) (is : IsLayout layout) (m : ℕ) (mine : m < layout.m
       field zero w e =
           let one : 1 ≡ w = cc in
           let at : base + 2 ≡ base + 2 + 0 = omega arith in
-          subst (λ (u : UnbornWord). Contains (after_field layout m base h n).unborn u) (λ j. record { at = at j; word = one j }) (contains_head (record { at = base + 2; word = 1 }) (after_name layout m base h n).unborn)
+          subst (λ (u : UnbornWord). Contains (after_field layout m base h n).unborn u) (λ j. record {
+            at = at j;
+            word = one j;
+          }) (contains_head (record { at = base + 2; word = 1 }) (after_name layout m base h n).unborn)
       field (suc i) w e = absurd cc
 
   module _ (h n : ℕ) (is_array : h ≡ 32771) (most : layout.mutators ≤ 16) where
@@ -148,17 +165,29 @@ module _ (layout : Layout) (is : IsLayout layout) (m : ℕ) (mine : m < layout.m
 
     -- the header of g is named after the birth
     named : (fixed : List FixedWord) → Contains fixed (record { at = 1; offset = 0; word = h }) → (p : Part) → p.fixed ≡ fixed → Names p 1 array
-    named fixed c p e = record { valid = (refl, omega arith); there = subst (λ l. Contains l (record { at = 1; offset = 0; word = 32771 })) (sym e) (subst (λ w. Contains fixed (record { at = 1; offset = 0; word = w })) is_array c) }
+    named fixed c p e = record {
+      valid = (refl, omega arith);
+      there = subst (λ l. Contains l (record { at = 1; offset = 0; word = 32771 })) (sym e) (subst (λ w.
+          Contains fixed (record { at = 1; offset = 0; word = w })) is_array c);
+    }
 
     there : Contains (after_birth layout m base h n).fixed (record { at = 1; offset = 0; word = h })
     there =
         let g : FixedWord = record { at = 1; offset = 0; word = h } in
-        let name : FixedWord = record { at = base; offset = 1; word = name_word (record { maker = m; serial = (hand_of (first_opening layout).hands m).serial }) } in
+        let name : FixedWord = record {
+          at = base;
+          offset = 1;
+          word = name_word (record { maker = m; serial = (hand_of (first_opening layout).hands m).serial });
+        } in
         contains_tail (record { at = base; offset = 0; word = 2050 }) (name ∷ g ∷ []) g (contains_tail name (g ∷ []) g (contains_head g []))
 
     pub can_swap : CanSwap o (after_birth layout m base h n) 1 m (2 * base) (shares m)
     can_swap = record {
-      gives = gives (after_birth layout m base h n) (shares m) (record { registers = (tt, omega arith); numbers = omega (arith, few); size = omega arith }) (subst (λ (k : Hand). k.serial + 1 < 4294967295) hand_is (omega arith));
+      gives = gives (after_birth layout m base h n) (shares m) (record {
+        registers = (tt, omega arith);
+        numbers = omega (arith, few);
+        size = omega arith;
+      }) (subst (λ (k : Hand). k.serial + 1 < 4294967295) hand_is (omega arith));
       object = Shared;
       value = Register 0;
       command = refl;
@@ -172,7 +201,11 @@ module _ (layout : Layout) (is : IsLayout layout) (m : ℕ) (mine : m < layout.m
 
     pub can_load : (old : ℕ) → CanLoad o (after_swap layout m base h n old) 1 m (reads m)
     can_load old = record {
-      gives = gives (after_swap layout m base h n old) (reads m) (record { registers = (omega arith, tt); numbers = omega (arith, few); size = omega arith }) (subst (λ (k : Hand). k.serial + 1 < 4294967295) hand_is (omega arith));
+      gives = gives (after_swap layout m base h n old) (reads m) (record {
+        registers = (omega arith, tt);
+        numbers = omega (arith, few);
+        size = omega arith;
+      }) (subst (λ (k : Hand). k.serial + 1 < 4294967295) hand_is (omega arith));
       dest = 1;
       object = Shared;
       command = refl;
@@ -184,17 +217,34 @@ module _ (layout : Layout) (is : IsLayout layout) (m : ℕ) (mine : m < layout.m
     }
 
     pub can_yield : (old x : ℕ) → CanTake o (after_load layout m base h n old x) 1 0 Yield
-    can_yield old x = inl (refl, refl, record { gives = gives (after_load layout m base h n old x) Yield (record { registers = tt; numbers = tt; size = omega arith }) (subst (λ (k : Hand). k.serial + 1 < 4294967295) hand_is (omega arith)); told = tt })
+    can_yield old x = inl (
+      refl,
+      refl,
+      record {
+        gives = gives (after_load layout m base h n old x) Yield (record {
+          registers = tt;
+          numbers = tt;
+          size = omega arith;
+        }) (subst (λ (k : Hand). k.serial + 1 < 4294967295) hand_is (omega arith));
+        told = tt;
+      },
+    )
 
 -- the k-th seat of all is that of mutator k
-seat_at : (layout : Layout) (r : Round) (n k : ℕ) (hands : List Hand) (seats : List RoundSeat) (d : RoundSeat) → map seen seats ≡ alones (first_opening layout) n hands → k < length seats → seen (slice_index_or seats k d) ≡ alone (first_opening layout) (n + k)
+seat_at : (layout : Layout) (r : Round) (n k : ℕ) (hands : List Hand) (seats : List RoundSeat) (d : RoundSeat) →
+    map seen seats ≡ alones (first_opening layout) n hands → k < length seats → seen (slice_index_or seats k d) ≡ alone (first_opening layout) (n + k)
 seat_at layout r n k hands [] d e lt = absurd (omega arith)
 seat_at layout r n k [] (s ∷ seats) d e lt = absurd (some-ne-none (seen s) (ap (λ (l : List Seen). get_elem? l 0) e))
-seat_at layout r n zero (h ∷ hands) (s ∷ seats) d e lt = some-injective (seen s) (alone (first_opening layout) n) (ap (λ (l : List Seen). get_elem? l 0) e) ∙ ap (λ j. alone (first_opening layout) j) (let z : n ≡ n + 0 = omega arith in z)
-seat_at layout r n (suc k) (h ∷ hands) (s ∷ seats) d e lt = seat_at layout r (suc n) k hands seats d (ap (λ (l : List Seen). drop 1 l) e) (omega arith) ∙ ap (λ j. alone (first_opening layout) j) (let z : suc n + k ≡ n + suc k = omega arith in z)
+seat_at layout r n zero (h ∷ hands) (s ∷ seats) d e lt = some-injective (seen s) (alone (first_opening layout) n) (ap (λ (l : List Seen).
+    get_elem? l 0) e) ∙ ap (λ j. alone (first_opening layout) j) (let z : n ≡ n + 0 = omega arith in z)
+seat_at layout r n (suc k) (h ∷ hands) (s ∷ seats) d e lt = seat_at layout r (suc n) k hands seats d (ap (λ (l : List Seen).
+    drop 1 l) e) (omega arith) ∙ ap (λ j. alone (first_opening layout) j) (let z : suc n + k ≡ n + suc k = omega arith in z)
 
-pub seat_is : (layout : Layout) (r : Round) (k : ℕ) (seats : List RoundSeat) (d : RoundSeat) → map seen seats ≡ alones (first_opening layout) 0 (first_opening layout).hands → k < length seats → seen (slice_index_or seats k d) ≡ alone (first_opening layout) k
-seat_is layout r k seats d e lt = seat_at layout r 0 k (first_opening layout).hands seats d e lt ∙ ap (λ j. alone (first_opening layout) j) (let z : 0 + k ≡ k = omega arith in z)
+pub seat_is : (layout : Layout) (r : Round) (k : ℕ) (seats : List RoundSeat) (d : RoundSeat) →
+    map seen seats ≡ alones (first_opening layout) 0 (first_opening layout).hands → k < length seats →
+    seen (slice_index_or seats k d) ≡ alone (first_opening layout) k
+seat_is layout r k seats d e lt = seat_at layout r 0 k (first_opening layout).hands seats d e lt ∙
+    ap (λ j. alone (first_opening layout) j) (let z : 0 + k ≡ k = omega arith in z)
 
 alones_count : (o : Opening) (n : ℕ) (hands : List Hand) → length (alones o n hands) ≡ length hands
 alones_count o n [] = refl
@@ -204,8 +254,10 @@ map_count : (seats : List RoundSeat) → length (map seen seats) ≡ length seat
 map_count [] = refl
 map_count (s ∷ seats) = ap suc (map_count seats)
 
-pub seat_count : (layout : Layout) (seats : List RoundSeat) → map seen seats ≡ alones (first_opening layout) 0 (first_opening layout).hands → length seats ≡ layout.mutators
-seat_count layout seats e = sym (map_count seats) ∙ ap (λ (l : List Seen). length l) e ∙ alones_count (first_opening layout) 0 (first_opening layout).hands ∙ length-replicate layout.mutators new_hand
+pub seat_count : (layout : Layout) (seats : List RoundSeat) → map seen seats ≡ alones (first_opening layout) 0 (first_opening layout).hands →
+    length seats ≡ layout.mutators
+seat_count layout seats e = sym (map_count seats) ∙ ap (λ (l : List Seen). length l) e ∙
+    alones_count (first_opening layout) 0 (first_opening layout).hands ∙ length-replicate layout.mutators new_hand
 
 -- what holds of each of so many holds of all
 pub all_of : (R : RoundSeat → Type 0) (seats : List RoundSeat) → ((k : ℕ) (d : RoundSeat) → k < length seats → R (slice_index_or seats k d)) → All R seats
@@ -217,7 +269,9 @@ elem_at (s ∷ seats) zero d lt = refl
 elem_at (s ∷ seats) (suc k) d lt = elem_at seats k d (omega arith)
 
 -- seats that have every mutator's part, with the collector's
-pub has_all : (layout : Layout) (collector : Seen) (seats : List RoundSeat) (d : RoundSeat) → collector.collects ≡ true → collector.opening ≡ first_opening layout → length seats ≡ layout.mutators → ((k : ℕ) → k < length seats → HasPart (seen (slice_index_or seats k d)) k) → HasAll (all_together collector (map seen seats))
+pub has_all : (layout : Layout) (collector : Seen) (seats : List RoundSeat) (d : RoundSeat) → collector.collects ≡ true →
+    collector.opening ≡ first_opening layout → length seats ≡ layout.mutators →
+    ((k : ℕ) → k < length seats → HasPart (seen (slice_index_or seats k d)) k) → HasAll (all_together collector (map seen seats))
 has_all layout collector seats d on is count each = gathered collector (map seen seats) on (λ m lt.
     let many : length (first_opening layout).core.world.mutators ≡ layout.mutators = length-replicate layout.mutators _ in
     let lt' : m < length (first_opening layout).core.world.mutators = subst (λ (y : Opening). m < length y.core.world.mutators) is lt in
@@ -235,9 +289,12 @@ written zero (x ∷ xs) (y ∷ ys) l e = absurd (omega arith)
 written (suc n) (x ∷ xs) (y ∷ ys) l e = ap (λ l. y ∷ l) (written n xs ys (omega arith) (omega arith))
 
 -- the seats of a round that begins are ready
-pub are_ready : (layout : Layout) (r : Round) (value : Opening) (seats now : List RoundSeat) → value ≡ first_opening layout → map seen seats ≡ alones value 0 value.hands → All (IsAt r) seats → now ≡ seats
-    → (length now ≡ layout.mutators) × ((k : ℕ) (d : RoundSeat) → k < length now → IsAt r (slice_index_or now k d) × (seen (slice_index_or now k d) ≡ alone (first_opening layout) k))
+pub are_ready : (layout : Layout) (r : Round) (value : Opening) (seats now : List RoundSeat) → value ≡ first_opening layout →
+    map seen seats ≡ alones value 0 value.hands → All (IsAt r) seats → now ≡ seats
+    → (length now ≡ layout.mutators) × ((k : ℕ) (d : RoundSeat) → k < length now → IsAt r (slice_index_or now k d) ×
+    (seen (slice_index_or now k d) ≡ alone (first_opening layout) k))
 are_ready layout r value seats now first cut all same =
     let cut' : map seen seats ≡ alones (first_opening layout) 0 (first_opening layout).hands = cut ∙ ap (λ (y : Opening). alones y 0 y.hands) first in
-    subst (λ (l : List RoundSeat). (length l ≡ layout.mutators) × ((k : ℕ) (d : RoundSeat) → k < length l → IsAt r (slice_index_or l k d) × (seen (slice_index_or l k d) ≡ alone (first_opening layout) k))) (sym same)
+    subst (λ (l : List RoundSeat). (length l ≡ layout.mutators) ×
+    ((k : ℕ) (d : RoundSeat) → k < length l → IsAt r (slice_index_or l k d) × (seen (slice_index_or l k d) ≡ alone (first_opening layout) k))) (sym same)
     (seat_count layout seats cut', λ k d lt. (all k d lt, seat_is layout r k seats d cut' lt))

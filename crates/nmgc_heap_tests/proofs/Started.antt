@@ -17,7 +17,9 @@ any_rest : (rest : List ℕ) × (length rest ≡ 2048)
 any_rest = (replicate 2048 1, length-replicate {A = ℕ} 2048 1)
 
 -- it is ready, by what the two laws of mutators say
-pub ready : ((o : Opening) (words : List ℕ) (round : Round) (seat : RoundSeat) (m : Mutator) → CanOpen o words → opening_of round ≡ o → IsAt round seat → seen seat ≡ alone o m.number → o.layout ≡ m.layout → IsWhole m → IsUnused m → HasHand (hand_of o.hands m.number) m → IsReady round seat m) →
+pub ready : ((o : Opening) (words : List ℕ) (round : Round) (seat : RoundSeat) (m : Mutator) → CanOpen o words → opening_of round ≡ o →
+    IsAt round seat → seen seat ≡ alone o m.number → o.layout ≡ m.layout → IsWhole m → IsUnused m → HasHand (hand_of o.hands m.number) m →
+    IsReady round seat m) →
     ((words : List ℕ) → IsSnapshotHeap words → CanOpen snapshot_opening words) →
     (round : Round) (seat : RoundSeat) (m : Mutator) → IsAt round seat → seen seat ≡ alone snapshot_opening 0 → IsSnapshotMutator m → IsReady round seat m
 ready finds opens round seat m at is s =

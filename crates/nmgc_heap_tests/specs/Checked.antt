@@ -34,7 +34,8 @@ pub record IsMade (layout : Layout) (base : ℕ) (words sizes : List ℕ) (nurse
 pub record AreParts (layout : Layout) (nurseries : List Nursery) : Type 0 where
   pub count : length nurseries ≡ layout.mutators
   pub places : (maker : ℕ) → maker < layout.mutators → (nursery_at nurseries maker).base ≡ nursery_place layout maker
-  pub tops : (maker : ℕ) → maker < layout.mutators → ((nursery_at nurseries maker).base ≤ (nursery_at nurseries maker).top) × ((nursery_at nurseries maker).top ≤ (nursery_at nurseries maker).base + layout.nursery)
+  pub tops : (maker : ℕ) → maker < layout.mutators → ((nursery_at nurseries maker).base ≤ (nursery_at nurseries maker).top) ×
+      ((nursery_at nurseries maker).top ≤ (nursery_at nurseries maker).base + layout.nursery)
 
 -- objects are made, one after another
 pub record AreMade (layout : Layout) (base : ℕ) (words sizes : List ℕ) (nurseries : List Nursery) (count : ℕ) : Type 0 where

@@ -87,16 +87,19 @@ fn work(round: &Round, seat: &mut MutatorSeat, layout: Layout, number: u8) -> (u
 fn work_all<R: Threads + Sync>(rt: &R, round: &Round, seats: &mut [MutatorSeat], layout: Layout)
     requires round { word_count round.now ≡ word_total layout }
     requires layout { IsLayout layout × (layout.mutators ≤ 16) }
-    requires seats { (length seats.old ≡ layout.mutators) × ((k : ℕ) (d : RoundSeat) → k < length seats.old → IsAt round.now (slice_index_or seats.old k d) × (seen (slice_index_or seats.old k d) ≡ alone (first_opening layout) k)) }
+    requires seats { (length seats.old ≡ layout.mutators) × ((k : ℕ) (d : RoundSeat) → k < length seats.old →
+        IsAt round.now (slice_index_or seats.old k d) × (seen (slice_index_or seats.old k d) ≡ alone (first_opening layout) k)) }
     ensures count { length seats.new ≡ length seats.old }
-    ensures seats { (k : ℕ) (d : RoundSeat) → k < length seats.old → IsAt round.now (slice_index_or seats.new k d) × HasPart (seen (slice_index_or seats.new k d)) k }
+    ensures seats { (k : ℕ) (d : RoundSeat) → k < length seats.old → IsAt round.now (slice_index_or seats.new k d) ×
+        HasPart (seen (slice_index_or seats.new k d)) k }
 {
     thread::for_each_mut(
         rt,
         seats,
         16,
         &|number, seat: &mut MutatorSeat|
-            requires { IsAt round.now seat.now × (seen seat.now ≡ alone (first_opening layout) number) × (word_count round.now ≡ word_total layout) × IsLayout layout × (number < layout.mutators) × (layout.mutators ≤ 16) }
+            requires { IsAt round.now seat.now × (seen seat.now ≡ alone (first_opening layout) number) ×
+                (word_count round.now ≡ word_total layout) × IsLayout layout × (number < layout.mutators) × (layout.mutators ≤ 16) }
             ensures { IsAt round.entry.now seat.exit.now × HasPart (seen seat.exit.now) number }
         {
             work(round, seat, layout, number as u8);

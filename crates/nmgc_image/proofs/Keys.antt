@@ -35,7 +35,8 @@ has_any keys k c =
 
 -- what a search in sorted keys says
 abbrev Finds : List ℕ → ℕ → Result ℕ ℕ → Type 0
-Finds keys k r = MatchResult r (λ i. (i < length keys) × (get_or keys i 0 ≡ k)) (λ i. (i ≤ length keys) × ((j : ℕ) → j < i → get_or keys j 0 < k) × ((j : ℕ) → i ≤ j → j < length keys → k < get_or keys j 0))
+Finds keys k r = MatchResult r (λ i. (i < length keys) × (get_or keys i 0 ≡ k)) (λ i. (i ≤ length keys) × ((j : ℕ) → j < i → get_or keys j 0 < k) ×
+    ((j : ℕ) → i ≤ j → j < length keys → k < get_or keys j 0))
 
 pub found_key : (keys : List ℕ) (k : ℕ) (r : Result ℕ ℕ) → Finds keys k r → is_ok r ≡ list_any (λ key. eqb key k) keys
 found_key keys k (Ok i) h = sym (list_any_at (λ key. eqb key k) keys i 0 h.0 (eq-eqb (get_or keys i 0) k h.1))
@@ -88,7 +89,9 @@ module _ (lines : List (List ℕ)) where
       let is : IsSpellable entry = (h.1.name, h.1.node, recursion_from_All IsValue (held_by entry.node) h.1.values) in
       let line : List ℕ = spaced (entry_words entry) in
       let reads : node_line_at (words_of line) ≡ Some entry = ap node_line_at (words_of-line (entry_words entry) (entry_line entry is)) ∙ line_again entry is in
-      let one : Contains (keys_in (words_of line)) (key_of entry.name) = subst (λ (o : Option Entry). Contains (key_in o) (key_of entry.name)) (sym reads) (contains_at (key_of entry.name ∷ []) 0 (key_of entry.name) refl) in
+      let one : Contains (keys_in (words_of line)) (key_of entry.name) =
+      subst (λ (o : Option Entry). Contains (key_in o) (key_of entry.name)) (sym reads) (contains_at (key_of entry.name ∷
+      []) 0 (key_of entry.name) refl) in
       let all : Contains (keys_of lines) (key_of entry.name) = contains_flat (λ l. keys_in (words_of l)) lines line (key_of entry.name) h.3 one in
       has_any (keys_of lines) (key_of name) (subst (λ (n : Name). Contains (keys_of lines) (key_of n)) h.2 all)
 

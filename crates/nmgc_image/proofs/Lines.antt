@@ -87,19 +87,25 @@ unfolding first_part last_part
 start_lines = refl
 
 -- the lines of one more mutator
-lines_push : (m : ℕ) (owns : List ImageMutator) (own : ImageMutator) → mutator_lines m (owns ++ own ∷ []) ≡ mutator_lines m owns ++ (mutator_words (m + length owns) own.serial ∷ own_lines own)
-lines_push m [] own = ap (λ (k : ℕ). mutator_words k own.serial ∷ own_lines own ++ []) (let e : m ≡ m + 0 = omega arith in e) ∙ append-nil (mutator_words (m + 0) own.serial ∷ own_lines own)
+lines_push : (m : ℕ) (owns : List ImageMutator) (own : ImageMutator) →
+    mutator_lines m (owns ++ own ∷ []) ≡ mutator_lines m owns ++ (mutator_words (m + length owns) own.serial ∷ own_lines own)
+lines_push m [] own = ap (λ (k : ℕ). mutator_words k own.serial ∷ own_lines own ++ []) (let e : m ≡ m + 0 = omega arith in e) ∙
+    append-nil (mutator_words (m + 0) own.serial ∷ own_lines own)
 lines_push m (x ∷ owns) own =
     let k : (m + 1) + length owns ≡ m + length (x ∷ owns) = omega arith in
     let line : List (List (List ℕ)) = mutator_words m x.serial ∷ own_lines x in
-    ap (λ (l : List (List (List ℕ))). line ++ l) (lines_push (m + 1) owns own) ∙ sym (append_assoc line (mutator_lines (m + 1) owns) (mutator_words ((m + 1) + length owns) own.serial ∷ own_lines own)) ∙ ap (λ (j : ℕ). (line ++ mutator_lines (m + 1) owns) ++ (mutator_words j own.serial ∷ own_lines own)) k
+    ap (λ (l : List (List (List ℕ))). line ++ l) (lines_push (m + 1) owns own) ∙
+    sym (append_assoc line (mutator_lines (m + 1) owns) (mutator_words ((m + 1) + length owns) own.serial ∷ own_lines own)) ∙
+    ap (λ (j : ℕ). (line ++ mutator_lines (m + 1) owns) ++ (mutator_words j own.serial ∷ own_lines own)) k
 
 lines_more : (m : ℕ) (owns more : List ImageMutator) → mutator_lines m (owns ++ more) ≡ mutator_lines m owns ++ mutator_lines (m + length owns) more
 lines_more m [] more = ap (λ (k : ℕ). mutator_lines k more) (let e : m ≡ m + 0 = omega arith in e)
 lines_more m (x ∷ owns) more =
     let k : (m + 1) + length owns ≡ m + length (x ∷ owns) = omega arith in
     let line : List (List (List ℕ)) = mutator_words m x.serial ∷ own_lines x in
-    ap (λ (l : List (List (List ℕ))). line ++ l) (lines_more (m + 1) owns more) ∙ sym (append_assoc line (mutator_lines (m + 1) owns) (mutator_lines ((m + 1) + length owns) more)) ∙ ap (λ (j : ℕ). (line ++ mutator_lines (m + 1) owns) ++ mutator_lines j more) k
+    ap (λ (l : List (List (List ℕ))). line ++ l) (lines_more (m + 1) owns more) ∙
+    sym (append_assoc line (mutator_lines (m + 1) owns) (mutator_lines ((m + 1) + length owns) more)) ∙
+    ap (λ (j : ℕ). (line ++ mutator_lines (m + 1) owns) ++ mutator_lines j more) k
 
 -- where neither objects nor the end came yet
 open_lines : (m : ℕ) (owns : List ImageMutator) → lines_at m owns [] false ≡ first_part m ++ mutator_lines 0 owns
@@ -132,7 +138,8 @@ is_full_means r e =
 
 -- the lines of an open reader with these mutators
 open_is : (r : Reader) → IsOpen r → lines_so_far r ≡ first_part r.expected ++ mutator_lines 0 (begun r)
-open_is r o = ap (λ (l : List Entry). lines_at r.expected (begun r) l r.ended) o.no_node ∙ ap (λ (b : Bool). lines_at r.expected (begun r) [] b) o.no_end ∙ open_lines r.expected (begun r)
+open_is r o = ap (λ (l : List Entry). lines_at r.expected (begun r) l r.ended) o.no_node ∙
+    ap (λ (b : Bool). lines_at r.expected (begun r) [] b) o.no_end ∙ open_lines r.expected (begun r)
 
 module _ (d : Name → Bool) (r : Reader) (g : IsGood d r) where
   -- before the first line nothing came
@@ -158,10 +165,14 @@ module _ (d : Name → Bool) (r : Reader) (g : IsGood d r) where
       let before = nothing_before none in
       let some : 0 < m.0 = ltb-true 0 m.0 g2.0 in
       let next : Reader = record r { expected = m.0 } in
-      let was : lines_so_far r ≡ [] = ap (λ (k : ℕ). lines_at k (begun r) r.nodes r.ended) none ∙ ap (λ (l : List ImageMutator). lines_at 0 l r.nodes r.ended) before.0 ∙ ap (λ (l : List Entry). lines_at 0 [] l r.ended) before.1 ∙ ap (λ (b : Bool). lines_at 0 [] [] b) before.2 in
+      let was : lines_so_far r ≡ [] = ap (λ (k : ℕ). lines_at k (begun r) r.nodes r.ended) none ∙
+      ap (λ (l : List ImageMutator). lines_at 0 l r.nodes r.ended) before.0 ∙ ap (λ (l : List Entry). lines_at 0 [] l r.ended) before.1 ∙
+      ap (λ (b : Bool). lines_at 0 [] [] b) before.2 in
       let one : lines_at m.0 [] [] false ≡ first_words m.0 ∷ [] = rw (ne_eqb m.0 0 (λ z. omega arith)) refl in
-      let now : lines_so_far next ≡ first_words m.0 ∷ [] = ap (λ (l : List ImageMutator). lines_at m.0 l r.nodes r.ended) before.0 ∙ ap (λ (l : List Entry). lines_at m.0 [] l r.ended) before.1 ∙ ap (λ (b : Bool). lines_at m.0 [] [] b) before.2 ∙ one in
-      let text : first_words m.0 ≡ codes "image" ∷ version ∷ count ∷ [] = let v : version ≡ codes "1" = (bytes_eq-Decides version (codes "1")).0 p.0 in cc (v, n.0) in
+      let now : lines_so_far next ≡ first_words m.0 ∷ [] = ap (λ (l : List ImageMutator). lines_at m.0 l r.nodes r.ended) before.0 ∙
+      ap (λ (l : List Entry). lines_at m.0 [] l r.ended) before.1 ∙ ap (λ (b : Bool). lines_at m.0 [] [] b) before.2 ∙ one in
+      let text : first_words m.0 ≡ codes "image" ∷ version ∷ count ∷ [] =
+      let v : version ≡ codes "1" = (bytes_eq-Decides version (codes "1")).0 p.0 in cc (v, n.0) in
       let good : IsGood d next = record {
         few = n.1;
         within = let le = g.within in omega arith;
@@ -173,11 +184,17 @@ module _ (d : Name → Bool) (r : Reader) (g : IsGood d r) where
         full = inl before.1;
         last = λ is_yes. absurd (false≢true (sym before.2 ∙ is_yes));
       } in
-      let goes : Goes d r (codes "image" ∷ version ∷ count ∷ []) next = record { good = good; lines_are = now ∙ ap (λ (l : List (List ℕ)). l ∷ []) text ∙ ap (λ (l : List (List (List ℕ))). l ++ (codes "image" ∷ version ∷ count ∷ []) ∷ []) (sym was) } in
+      let goes : Goes d r (codes "image" ∷ version ∷ count ∷ []) next = record {
+        good = good;
+        lines_are = now ∙
+            ap (λ (l : List (List ℕ)). l ∷ []) text ∙ ap (λ (l : List (List (List ℕ))). l ++ (codes "image" ∷ version ∷ count ∷ []) ∷ []) (sym was);
+      } in
       subst (Goes d r (codes "image" ∷ version ∷ count ∷ [])) (same_Some next t g2.1) goes
 
   -- an open reader with other mutators is good
-  open_good : (o : IsOpen r) (done : List ImageMutator) (current : Option ImageMutator) → length (done ++ option_to_list current) ≤ r.expected → All IsMutator (done ++ option_to_list current) → All (λ (own : ImageMutator). All (IsIn d) (values_of own)) (done ++ option_to_list current) → IsGood d (record r { done = done; current = current })
+  open_good : (o : IsOpen r) (done : List ImageMutator) (current : Option ImageMutator) → length (done ++ option_to_list current) ≤ r.expected →
+      All IsMutator (done ++ option_to_list current) → All (λ (own : ImageMutator). All (IsIn d) (values_of own)) (done ++ option_to_list current) →
+      IsGood d (record r { done = done; current = current })
   open_good o done current within owns owns_in = record {
     few = g.few;
     within = within;
@@ -211,12 +228,24 @@ module _ (d : Name → Bool) (r : Reader) (g : IsGood d r) where
       let own : ImageMutator = new_own s.0 in
       let is_own : IsMutator own = record { serial = let le = st.1 in omega arith; ordered = tt; registers = All-nil IsHeld; queue = All-nil IsValue } in
       let next : Reader = record r { done = begun r; current = Some own } in
-      let good : IsGood d next = open_good o (begun r) (Some own) (omega (arith, length_push (begun r) own)) (All-push IsMutator (begun r) own g.owns is_own) (All-push (λ (x : ImageMutator). All (IsIn d) (values_of x)) (begun r) own g.owns_in (All-nil (IsIn d))) in
+      let good : IsGood d next = open_good o (begun r) (Some own) (omega (
+        arith,
+        length_push (begun r) own,
+      )) (All-push IsMutator (begun r) own g.owns is_own) (All-push (λ (x : ImageMutator).
+      All (IsIn d) (values_of x)) (begun r) own g.owns_in (All-nil (IsIn d))) in
       let opened : IsOpen next = record { no_node = o.no_node; no_end = o.no_end } in
-      let text : mutator_words (length (begun r)) s.0 ≡ codes "mutator" ∷ m ∷ word ∷ serial ∷ [] = let w : word ≡ codes "serial" = (bytes_eq-Decides word (codes "serial")).0 q.0 in cc (w, kt.0, st.0, same) in
+      let text : mutator_words (length (begun r)) s.0 ≡ codes "mutator" ∷ m ∷ word ∷ serial ∷ [] =
+      let w : word ≡ codes "serial" = (bytes_eq-Decides word (codes "serial")).0 q.0 in cc (w, kt.0, st.0, same) in
       let more : lines_so_far next ≡ lines_so_far r ++ mutator_words (length (begun r)) s.0 ∷ [] =
-      open_is next opened ∙ ap (λ (l : List (List (List ℕ))). first_part r.expected ++ l) (lines_push 0 (begun r) own) ∙ sym (append_assoc (first_part r.expected) (mutator_lines 0 (begun r)) (mutator_words (0 + length (begun r)) s.0 ∷ [])) ∙ ap (λ (l : List (List (List ℕ))). l ++ mutator_words (0 + length (begun r)) s.0 ∷ []) (sym (open_is r o)) ∙ ap (λ (j : ℕ). lines_so_far r ++ mutator_words j s.0 ∷ []) (let z : 0 + length (begun r) ≡ length (begun r) = omega arith in z) in
-      subst (Goes d r (codes "mutator" ∷ m ∷ word ∷ serial ∷ [])) (same_Some next t g2.1) (record { good = good; lines_are = more ∙ ap (λ (l : List (List ℕ)). lines_so_far r ++ l ∷ []) text })
+      open_is next opened ∙ ap (λ (l : List (List (List ℕ))). first_part r.expected ++ l) (lines_push 0 (begun r) own) ∙
+      sym (append_assoc (first_part r.expected) (mutator_lines 0 (begun r)) (mutator_words (0 + length (begun r)) s.0 ∷ [])) ∙
+      ap (λ (l : List (List (List ℕ))). l ++ mutator_words (0 + length (begun r)) s.0 ∷ []) (sym (open_is r o)) ∙
+      ap (λ (j : ℕ). lines_so_far r ++ mutator_words j s.0 ∷ []) (let z : 0 + length (begun r) ≡ length (begun r) = omega arith in z) in
+      subst (Goes d r (codes "mutator" ∷ m ∷ word ∷ serial ∷ [])) (same_Some next t g2.1) (record {
+        good = good;
+        lines_are = more ∙
+            ap (λ (l : List (List ℕ)). lines_so_far r ++ l ∷ []) text;
+      })
 
 -- registers in order, and one more above them
 above_more : (rs : List Held) (h : Held) → AreInOrder rs → is_above rs h.register ≡ true → AreInOrder (rs ++ h ∷ [])
@@ -249,7 +278,8 @@ values_register : (P : Value → Type 0) (own : ImageMutator) (h : Held) → All
 values_register P own h all one =
     let f : Held → Value = λ held. held.value in
     let values : List Value = map f own.registers in
-    subst (λ (l : List Value). All P (l ++ own.queue)) (sym (map_push f own.registers h)) (All-append P (values ++ h.value ∷ []) own.queue (All-push P values h.value (all_front P values own.queue all) one) (all_back P values own.queue all))
+    subst (λ (l : List Value). All P (l ++ own.queue)) (sym (map_push f own.registers h)) (All-append P (values ++ h.value ∷
+    []) own.queue (All-push P values h.value (all_front P values own.queue all) one) (all_back P values own.queue all))
 
 values_entry : (P : Value → Type 0) (own : ImageMutator) (v : Value) → All P (values_of own) → P v → All P (values_of (with_entry own v))
 values_entry P own v all one =
@@ -257,7 +287,8 @@ values_entry P own v all one =
     subst (All P) (append_assoc values own.queue (v ∷ [])) (All-push P (values ++ own.queue) v all one)
 
 -- the last mutator has one line more
-last_longer : (done : List ImageMutator) (own more : ImageMutator) (words : List (List ℕ)) → more.serial ≡ own.serial → own_lines more ≡ own_lines own ++ words ∷ [] → mutator_lines 0 (done ++ more ∷ []) ≡ mutator_lines 0 (done ++ own ∷ []) ++ words ∷ []
+last_longer : (done : List ImageMutator) (own more : ImageMutator) (words : List (List ℕ)) → more.serial ≡ own.serial →
+    own_lines more ≡ own_lines own ++ words ∷ [] → mutator_lines 0 (done ++ more ∷ []) ≡ mutator_lines 0 (done ++ own ∷ []) ++ words ∷ []
 last_longer done own more words serial lines =
     let line : List (List (List ℕ)) = mutator_words (0 + length done) own.serial ∷ own_lines own in
     lines_push 0 done more
@@ -285,7 +316,8 @@ is_name_before a b e = elim (or_cases (ltb a.maker b.maker) (eqb a.maker b.maker
   | inr p ↦ let q = and_parts (eqb a.maker b.maker) (ltb a.serial b.serial) p in inr (eqb-true a.maker b.maker q.0, ltb-true a.serial b.serial q.1)
 ]
 
-pub after_more : (nodes : List Entry) (entry : Entry) → IsInOrder (names_of nodes) → is_after nodes entry.name ≡ true → IsInOrder (names_of (nodes ++ entry ∷ []))
+pub after_more : (nodes : List Entry) (entry : Entry) → IsInOrder (names_of nodes) → is_after nodes entry.name ≡ true →
+    IsInOrder (names_of (nodes ++ entry ∷ []))
 after_more [] entry o e = tt
 after_more (x ∷ []) entry o e = (is_name_before x.name entry.name e, tt)
 after_more (x ∷ y ∷ nodes) entry o e = (o.0, after_more (y ∷ nodes) entry o.1 e)
@@ -303,14 +335,15 @@ below_means None serial e = absurd (false≢true e)
 below_means (Some own) serial e = (own, refl, ltb-true serial own.serial e)
 
 owned_means : (mutators : List ImageMutator) (entry : Entry) → is_owned mutators entry ≡ true → IsOwned mutators entry
-owned_means mutators entry e = elim (chosen (is_same_name entry.name shared_name) (is_shared entry.node) (is_below (slice_get mutators entry.name.maker) entry.name.serial) true e) [
-  | inl p ↦
-      let q = and_parts (eqb entry.name.maker SHARED_MAKER) (eqb entry.name.serial 0) p.0 in
-      inl (same_name entry.name shared_name (eqb-true entry.name.maker SHARED_MAKER q.0) (eqb-true entry.name.serial 0 q.1), shared_means entry.node p.1)
-  | inr p ↦
-      let below = below_means (slice_get mutators entry.name.maker) entry.name.serial p.1 in
-      inr ((λ is. both_ways (is_same_name entry.name shared_name) p.0 (is_same is)), (below.0, below.1, below.2))
-]
+owned_means mutators entry e =
+    elim (chosen (is_same_name entry.name shared_name) (is_shared entry.node) (is_below (slice_get mutators entry.name.maker) entry.name.serial) true e) [
+      | inl p ↦
+          let q = and_parts (eqb entry.name.maker SHARED_MAKER) (eqb entry.name.serial 0) p.0 in
+          inl (same_name entry.name shared_name (eqb-true entry.name.maker SHARED_MAKER q.0) (eqb-true entry.name.serial 0 q.1), shared_means entry.node p.1)
+      | inr p ↦
+          let below = below_means (slice_get mutators entry.name.maker) entry.name.serial p.1 in
+          inr ((λ is. both_ways (is_same_name entry.name shared_name) p.0 (is_same is)), (below.0, below.1, below.2))
+    ]
   where
     is_same : entry.name ≡ shared_name → is_same_name entry.name shared_name ≡ true
     is_same is = rw (eq-eqb entry.name.maker SHARED_MAKER (ap (λ (n : Name). n.maker) is), eq-eqb entry.name.serial 0 (ap (λ (n : Name). n.serial) is)) refl
@@ -321,19 +354,28 @@ all_in_means d (v ∷ vs) e = let p = and_parts (is_declared d v) (list_all (is_
 
 module _ (d : Name → Bool) (r : Reader) (g : IsGood d r) where
   -- the last mutator of an open reader has one line more
-  last_goes : (o : IsOpen r) (own more : ImageMutator) (words : List (List ℕ)) → r.current ≡ Some own → IsMutator more → All (IsIn d) (values_of more) → more.serial ≡ own.serial → own_lines more ≡ own_lines own ++ words ∷ [] → Goes d r words (record r { current = Some more })
+  last_goes : (o : IsOpen r) (own more : ImageMutator) (words : List (List ℕ)) → r.current ≡ Some own → IsMutator more →
+      All (IsIn d) (values_of more) → more.serial ≡ own.serial → own_lines more ≡ own_lines own ++ words ∷ [] →
+      Goes d r words (record r { current = Some more })
   last_goes o own more words is valid is_in serial lines =
       let next : Reader = record r { current = Some more } in
       let was : begun r ≡ r.done ++ own ∷ [] = ap (λ (c : Option ImageMutator). r.done ++ option_to_list c) is in
       let owns : All IsMutator (r.done ++ own ∷ []) = subst (All IsMutator) was g.owns in
-      let owns_in : All (λ (x : ImageMutator). All (IsIn d) (values_of x)) (r.done ++ own ∷ []) = subst (All (λ (x : ImageMutator). All (IsIn d) (values_of x))) was g.owns_in in
+      let owns_in : All (λ (x : ImageMutator). All (IsIn d) (values_of x)) (r.done ++ own ∷ []) =
+      subst (All (λ (x : ImageMutator). All (IsIn d) (values_of x))) was g.owns_in in
       let long : length (begun r) ≡ length r.done + 1 = ap length was ∙ length_push r.done own in
-      let good : IsGood d next = open_good d r g o r.done (Some more) (let le = g.within in omega (arith, length_push r.done more)) (All-push IsMutator r.done more (all_front IsMutator r.done (own ∷ []) owns) valid) (All-push (λ (x : ImageMutator). All (IsIn d) (values_of x)) r.done more (all_front (λ (x : ImageMutator). All (IsIn d) (values_of x)) r.done (own ∷ []) owns_in) is_in) in
+      let good : IsGood d next = open_good d r g o r.done (Some more) (let le = g.within in
+      omega (arith, length_push r.done more)) (All-push IsMutator r.done more (all_front IsMutator r.done (own ∷
+      []) owns) valid) (All-push (λ (x : ImageMutator).
+      All (IsIn d) (values_of x)) r.done more (all_front (λ (x : ImageMutator). All (IsIn d) (values_of x)) r.done (own ∷ []) owns_in) is_in) in
       let opened : IsOpen next = record { no_node = o.no_node; no_end = o.no_end } in
       record {
         good = good;
         lines_are =
-            open_is next opened ∙ ap (λ (l : List (List (List ℕ))). first_part r.expected ++ l) (last_longer r.done own more words serial lines) ∙ sym (append_assoc (first_part r.expected) (mutator_lines 0 (r.done ++ own ∷ [])) (words ∷ [])) ∙ ap (λ (l : List ImageMutator). (first_part r.expected ++ mutator_lines 0 l) ++ words ∷ []) (sym was) ∙ ap (λ (l : List (List (List ℕ))). l ++ words ∷ []) (sym (open_is r o));
+            open_is next opened ∙ ap (λ (l : List (List (List ℕ))). first_part r.expected ++ l) (last_longer r.done own more words serial lines) ∙
+            sym (append_assoc (first_part r.expected) (mutator_lines 0 (r.done ++ own ∷ [])) (words ∷ [])) ∙
+            ap (λ (l : List ImageMutator). (first_part r.expected ++ mutator_lines 0 l) ++ words ∷ []) (sym was) ∙
+            ap (λ (l : List (List (List ℕ))). l ++ words ∷ []) (sym (open_is r o));
       }
 
   -- the mutator that is being read
@@ -341,7 +383,8 @@ module _ (d : Name → Bool) (r : Reader) (g : IsGood d r) where
   current_is own is =
       let was : begun r ≡ r.done ++ own ∷ [] = ap (λ (c : Option ImageMutator). r.done ++ option_to_list c) is in (
         All-head IsMutator own [] (all_back IsMutator r.done (own ∷ []) (subst (All IsMutator) was g.owns)),
-        All-head (λ (x : ImageMutator). All (IsIn d) (values_of x)) own [] (all_back (λ (x : ImageMutator). All (IsIn d) (values_of x)) r.done (own ∷ []) (subst (All (λ (x : ImageMutator). All (IsIn d) (values_of x))) was g.owns_in)),
+        All-head (λ (x : ImageMutator). All (IsIn d) (values_of x)) own [] (all_back (λ (x : ImageMutator).
+            All (IsIn d) (values_of x)) r.done (own ∷ []) (subst (All (λ (x : ImageMutator). All (IsIn d) (values_of x))) was g.owns_in)),
       )
 
   register_goes : (words : List (List ℕ)) (t : Reader) → register_at d r words ≡ Some t → Goes d r (codes "register" ∷ words) t
@@ -364,10 +407,20 @@ module _ (d : Name → Bool) (r : Reader) (g : IsGood d r) where
       let was = current_is own.0 own.1 in
       let none : own.0.queue ≡ [] = nil_from_length own.0.queue (eqb-true (length own.0.queue) 0 s.0) in
       let is_held : IsHeld held = record { register = let le = nt.1 in omega arith; some = some_value v.0 q.1; valid = vt.1 } in
-      let valid : IsMutator (with_register own.0 held) = record { serial = was.0.serial; ordered = above_more own.0.registers held was.0.ordered s.1; registers = All-push IsHeld own.0.registers held was.0.registers is_held; queue = was.0.queue } in
+      let valid : IsMutator (with_register own.0 held) = record {
+        serial = was.0.serial;
+        ordered = above_more own.0.registers held was.0.ordered s.1;
+        registers = All-push IsHeld own.0.registers held was.0.registers is_held;
+        queue = was.0.queue;
+      } in
       let text : register_words held ≡ codes "register" ∷ register ∷ word ∷ [] = cc (nt.0, vt.0) in
-      let goes = last_goes (is_open_means r g1.0) own.0 (with_register own.0 held) (register_words held) own.1 valid (values_register (IsIn d) own.0 held was.1 p.1) refl (register_lines own.0 held none) in
-      subst (Goes d r (codes "register" ∷ register ∷ word ∷ [])) (same_Some (record r { current = Some (with_register own.0 held) }) t g2.1) (subst (λ (l : List (List ℕ)). Goes d r l (record r { current = Some (with_register own.0 held) })) text goes)
+      let goes = last_goes (is_open_means r g1.0) own.0 (with_register own.0 held) (register_words held) own.1 valid
+      (values_register (IsIn d) own.0 held was.1 p.1) refl (register_lines own.0 held none) in
+      subst (Goes d r (codes "register" ∷ register ∷ word ∷ [])) (same_Some (record r {
+        current =
+            Some (with_register own.0 held);
+      }) t g2.1) (subst (λ (l : List (List ℕ)).
+      Goes d r l (record r { current = Some (with_register own.0 held) })) text goes)
 
   queue_goes : (words : List (List ℕ)) (t : Reader) → queue_at d r words ≡ Some t → Goes d r (codes "queue" ∷ words) t
   unfolding queue_at
@@ -380,10 +433,19 @@ module _ (d : Name → Bool) (r : Reader) (g : IsGood d r) where
       let g2 = guard_some (is_declared d v.0) _ t v.2 in
       let vt = value_reads.takes word v.0 v.1 in
       let was = current_is own.0 own.1 in
-      let valid : IsMutator (with_entry own.0 v.0) = record { serial = was.0.serial; ordered = was.0.ordered; registers = was.0.registers; queue = All-push IsValue own.0.queue v.0 was.0.queue vt.1 } in
+      let valid : IsMutator (with_entry own.0 v.0) = record {
+        serial = was.0.serial;
+        ordered = was.0.ordered;
+        registers = was.0.registers;
+        queue = All-push IsValue own.0.queue v.0 was.0.queue vt.1;
+      } in
       let text : queue_words v.0 ≡ codes "queue" ∷ word ∷ [] = let w : word ≡ _ = vt.0 in cc w in
-      let goes = last_goes (is_open_means r g1.0) own.0 (with_entry own.0 v.0) (queue_words v.0) own.1 valid (values_entry (IsIn d) own.0 v.0 was.1 g2.0) refl (entry_lines own.0 v.0) in
-      subst (Goes d r (codes "queue" ∷ word ∷ [])) (same_Some (record r { current = Some (with_entry own.0 v.0) }) t g2.1) (subst (λ (l : List (List ℕ)). Goes d r l (record r { current = Some (with_entry own.0 v.0) })) text goes)
+      let goes = last_goes (is_open_means r g1.0) own.0 (with_entry own.0 v.0) (queue_words v.0) own.1 valid
+      (values_entry (IsIn d) own.0 v.0 was.1 g2.0) refl (entry_lines own.0 v.0) in
+      subst (Goes d r (codes "queue" ∷ word ∷ [])) (same_Some (record r {
+        current =
+            Some (with_entry own.0 v.0);
+      }) t g2.1) (subst (λ (l : List (List ℕ)). Goes d r l (record r { current = Some (with_entry own.0 v.0) })) text goes)
 
   node_goes : (words : List (List ℕ)) (t : Reader) → next_at d r words ≡ Some t → Goes d r (codes "node" ∷ words) t
   unfolding next_at last_part
@@ -396,7 +458,11 @@ module _ (d : Name → Bool) (r : Reader) (g : IsGood d r) where
       let s = and_parts (is_full r) (is_after r.nodes entry.name) q.0 in
       let full = is_full_means r s.0 in
       let et = entry_takes words b.0 b.1 in
-      let is_entry : IsEntry (begun r) entry = record { owned = owned_means (begun r) entry q.1; node = et.1.1; values = All-from_recursion IsValue (held_by entry.node) et.1.2 } in
+      let is_entry : IsEntry (begun r) entry = record {
+        owned = owned_means (begun r) entry q.1;
+        node = et.1.1;
+        values = All-from_recursion IsValue (held_by entry.node) et.1.2;
+      } in
       let next : Reader = record r { nodes = r.nodes ++ entry ∷ [] } in
       let good : IsGood d next = record {
         few = g.few;
@@ -405,7 +471,9 @@ module _ (d : Name → Bool) (r : Reader) (g : IsGood d r) where
         owns_in = g.owns_in;
         ordered = after_more r.nodes entry g.ordered s.1;
         nodes = All-push (IsEntry (begun r)) r.nodes entry g.nodes is_entry;
-        nodes_in = All-push (λ (x : Entry). All (IsIn d) (held_by x.node)) r.nodes entry g.nodes_in (All-from_recursion (IsIn d) (held_by entry.node) (all_in_means d (held_by entry.node) p.1));
+        nodes_in = All-push (λ (x : Entry).
+            All (IsIn d) (held_by x.node)) r.nodes entry g.nodes_in
+            (All-from_recursion (IsIn d) (held_by entry.node) (all_in_means d (held_by entry.node) p.1));
         full = inr (record { some = full.0.some; all = full.0.all });
         last = λ is_yes. absurd (false≢true (sym full.1 ∙ is_yes));
       } in
@@ -415,8 +483,13 @@ module _ (d : Name → Bool) (r : Reader) (g : IsGood d r) where
       ∙ append-nil (front ++ map entry_words (r.nodes ++ entry ∷ []))
       ∙ ap (λ (l : List (List (List ℕ))). front ++ l) (map_push entry_words r.nodes entry)
       ∙ sym (append_assoc front (map entry_words r.nodes) (entry_words entry ∷ []))
-      ∙ ap (λ (l : List (List (List ℕ))). l ++ entry_words entry ∷ []) (sym (append-nil (front ++ map entry_words r.nodes)) ∙ ap (λ (e : Bool). lines_at r.expected (begun r) r.nodes e) (sym full.1)) in
-      subst (Goes d r (codes "node" ∷ words)) (same_Some next t g1.1) (record { good = good; lines_are = more ∙ ap (λ (l : List (List ℕ)). lines_so_far r ++ l ∷ []) (sym et.0) })
+      ∙ ap (λ (l : List (List (List ℕ))). l ++ entry_words entry ∷ []) (sym (append-nil (front ++ map entry_words r.nodes)) ∙
+      ap (λ (e : Bool). lines_at r.expected (begun r) r.nodes e) (sym full.1)) in
+      subst (Goes d r (codes "node" ∷ words)) (same_Some next t g1.1) (record {
+        good = good;
+        lines_are = more ∙
+            ap (λ (l : List (List ℕ)). lines_so_far r ++ l ∷ []) (sym et.0);
+      })
 
   end_goes : (words : List (List ℕ)) (t : Reader) → end_at d r words ≡ Some t → Goes d r (codes "end" ∷ words) t
   unfolding end_at last_part
@@ -438,7 +511,9 @@ module _ (d : Name → Bool) (r : Reader) (g : IsGood d r) where
         last = λ is_yes. (record { some = full.0.some; all = full.0.all }, p.1);
       } in
       let front : List (List (List ℕ)) = (first_part r.expected ++ mutator_lines 0 (begun r)) ++ map entry_words r.nodes in
-      let more : lines_so_far next ≡ lines_so_far r ++ last_words ∷ [] = ap (λ (l : List (List (List ℕ))). l ++ last_words ∷ []) (sym (append-nil front) ∙ ap (λ (b : Bool). lines_at r.expected (begun r) r.nodes b) (sym full.1)) in
+      let more : lines_so_far next ≡ lines_so_far r ++ last_words ∷ [] =
+      ap (λ (l : List (List (List ℕ))). l ++ last_words ∷ []) (sym (append-nil front) ∙
+      ap (λ (b : Bool). lines_at r.expected (begun r) r.nodes b) (sym full.1)) in
       subst (Goes d r (codes "end" ∷ [])) (same_Some next t g1.1) (record { good = good; lines_are = more })
 
   at_word : (word text : List ℕ) (words : List (List ℕ)) (t : Reader) → bytes_eq word text ≡ true → Goes d r (text ∷ words) t → Goes d r (word ∷ words) t
@@ -465,7 +540,8 @@ module _ (d : Name → Bool) (r : Reader) (g : IsGood d r) where
   ]
 
 -- lines that were taken are the lines so far
-pub run_goes : (d : Name → Bool) (lines : List (List (List ℕ))) (r t : Reader) → IsGood d r → run d r lines ≡ Some t → IsGood d t × (lines_so_far t ≡ lines_so_far r ++ lines)
+pub run_goes : (d : Name → Bool) (lines : List (List (List ℕ))) (r t : Reader) → IsGood d r → run d r lines ≡ Some t → IsGood d t ×
+    (lines_so_far t ≡ lines_so_far r ++ lines)
 run_goes d [] r t g e = (subst (IsGood d) (same_Some r t e) g, ap lines_so_far (sym (same_Some r t e)) ∙ sym (append-nil (lines_so_far r)))
 run_goes d (words ∷ lines) r t g e =
     let b = bind_some (line_at d r words) _ t e in
@@ -521,7 +597,8 @@ module _ (d : Name → Bool) (r : Reader) (g : IsGood d r) where
   }
 
   full_lines : IsFull r → image_lines (image_of r) ≡ ((first_part r.expected ++ mutator_lines 0 (begun r)) ++ map entry_words r.nodes) ++ last_words ∷ []
-  full_lines f = ap (λ (l : List (List (List ℕ))). ((l ++ mutator_lines 0 (begun r)) ++ map entry_words r.nodes) ++ last_words ∷ []) (ap (λ (k : ℕ). first_words k ∷ []) f.all ∙ sym (first_some r.expected f.some))
+  full_lines f = ap (λ (l : List (List (List ℕ))). ((l ++ mutator_lines 0 (begun r)) ++ map entry_words r.nodes) ++ last_words ∷
+      []) (ap (λ (k : ℕ). first_words k ∷ []) f.all ∙ sym (first_some r.expected f.some))
 
   -- the end came
   ended_part : r.ended ≡ true → IsPart d (lines_so_far r)
@@ -549,7 +626,8 @@ module _ (d : Name → Bool) (r : Reader) (g : IsGood d r) where
         mutators_in = g.owns_in;
         nodes_in = g.nodes_in;
         rest = last_words ∷ [];
-        lines_are = full_lines f ∙ ap (λ (l : List (List (List ℕ))). l ++ last_words ∷ []) (sym (append-nil front) ∙ ap (λ (b : Bool). lines_at r.expected (begun r) r.nodes b) (sym is_no));
+        lines_are = full_lines f ∙ ap (λ (l : List (List (List ℕ))). l ++ last_words ∷ []) (sym (append-nil front) ∙
+            ap (λ (b : Bool). lines_at r.expected (begun r) r.nodes b) (sym is_no));
         shared = λ none. absurd (never_nil last_words [] none);
       }
 
@@ -562,7 +640,8 @@ module _ (d : Name → Bool) (r : Reader) (g : IsGood d r) where
   open_part o some =
       let more : List ImageMutator = replicate (r.expected - length (begun r)) idle in
       let all : List ImageMutator = begun r ++ more in
-      let long : length all ≡ r.expected = let le = g.within in omega (arith, length-append (begun r) more, length-replicate (r.expected - length (begun r)) idle) in
+      let long : length all ≡ r.expected = let le = g.within in
+      omega (arith, length-append (begun r) more, length-replicate (r.expected - length (begun r)) idle) in
       let front : List (List (List ℕ)) = first_part r.expected ++ mutator_lines 0 (begun r) in
       let back : List (List (List ℕ)) = mutator_lines (0 + length (begun r)) more in
       let orderly : IsOrderly (image_with all []) = record {
@@ -575,7 +654,9 @@ module _ (d : Name → Bool) (r : Reader) (g : IsGood d r) where
       record {
         image = image_with all [];
         orderly = orderly;
-        mutators_in = All-append (λ (own : ImageMutator). All (IsIn d) (values_of own)) (begun r) more g.owns_in (All-replicate (λ (own : ImageMutator). All (IsIn d) (values_of own)) (r.expected - length (begun r)) idle (idle_in d));
+        mutators_in = All-append (λ (own : ImageMutator).
+            All (IsIn d) (values_of own)) (begun r) more g.owns_in (All-replicate (λ (own : ImageMutator).
+            All (IsIn d) (values_of own)) (r.expected - length (begun r)) idle (idle_in d));
         nodes_in = All-nil (λ (entry : Entry). All (IsIn d) (held_by entry.node));
         rest = back ++ last_words ∷ [];
         lines_are =
@@ -594,12 +675,21 @@ module _ (d : Name → Bool) (r : Reader) (g : IsGood d r) where
   unfolding first_part last_part
   nothing_part zero_ =
       let before = nothing_before d r g zero_ in
-      let was : lines_so_far r ≡ [] = ap (λ (k : ℕ). lines_at k (begun r) r.nodes r.ended) zero_ ∙ ap (λ (l : List ImageMutator). lines_at 0 l r.nodes r.ended) before.0 ∙ ap (λ (l : List Entry). lines_at 0 [] l r.ended) before.1 ∙ ap (λ (b : Bool). lines_at 0 [] [] b) before.2 in
+      let was : lines_so_far r ≡ [] = ap (λ (k : ℕ). lines_at k (begun r) r.nodes r.ended) zero_ ∙
+      ap (λ (l : List ImageMutator). lines_at 0 l r.nodes r.ended) before.0 ∙ ap (λ (l : List Entry). lines_at 0 [] l r.ended) before.1 ∙
+      ap (λ (b : Bool). lines_at 0 [] [] b) before.2 in
       let image : Image = image_with (idle ∷ []) [] in
       record {
         image = image;
-        orderly = record { some = omega arith; few = omega arith; mutators = All-push IsMutator [] idle (All-nil IsMutator) idle_is; ordered = tt; nodes = All-nil (IsEntry (idle ∷ [])) };
-        mutators_in = All-push (λ (own : ImageMutator). All (IsIn d) (values_of own)) [] idle (All-nil (λ (own : ImageMutator). All (IsIn d) (values_of own))) (idle_in d);
+        orderly = record {
+          some = omega arith;
+          few = omega arith;
+          mutators = All-push IsMutator [] idle (All-nil IsMutator) idle_is;
+          ordered = tt;
+          nodes = All-nil (IsEntry (idle ∷ []));
+        };
+        mutators_in = All-push (λ (own : ImageMutator). All (IsIn d) (values_of own)) [] idle (All-nil (λ (own : ImageMutator).
+            All (IsIn d) (values_of own))) (idle_in d);
         nodes_in = All-nil (λ (entry : Entry). All (IsIn d) (held_by entry.node));
         rest = image_lines image;
         lines_are = ap (λ (l : List (List (List ℕ))). l ++ image_lines image) (sym was);

@@ -70,7 +70,9 @@ module _ (words : List ℕ) (keyed : List Keyed) where
     more_places at c = subst (λ (l : List ℕ). Contains l at) (sym one_more) (Contains-append_left (places_of (take i keyed)) ((get_or keyed i d).at ∷ []) at c)
 
     -- an object after all others
-    pub lists_taken : (name : Name) (node : Node) → name ≡ name_in words (get_or keyed i d).at → is_after nodes name ≡ true → ((object : IsObjectAt words (get_or keyed i d).at) → node ≡ node_read words (get_or keyed i d).at object.header) → ListsObjects words (places_of (take (i + 1) keyed)) (nodes ++ record { name = name; node = node } ∷ [])
+    pub lists_taken : (name : Name) (node : Node) → name ≡ name_in words (get_or keyed i d).at → is_after nodes name ≡ true →
+        ((object : IsObjectAt words (get_or keyed i d).at) → node ≡ node_read words (get_or keyed i d).at object.header) →
+        ListsObjects words (places_of (take (i + 1) keyed)) (nodes ++ record { name = name; node = node } ∷ [])
     lists_taken name node is after read =
         let entry : Entry = record { name = name; node = node } in
         let at : ℕ = (get_or keyed i d).at in
@@ -85,14 +87,17 @@ module _ (words : List ℕ) (keyed : List Keyed) where
               subst (λ (x : Entry). IsShownAt words at x) same (record { name = is; node = read }),
             )
           ];
-          complete = λ p c. subst (λ (l : List Name). Contains l (name_in words p)) (sym names) (elim (Contains-push_cases (places_of (take i keyed)) at p (subst (λ (l : List ℕ). Contains l p) one_more c)) [
-            | inl old ↦ Contains-append_left (names_of nodes) (name ∷ []) (name_in words p) (so_far.complete p old)
-            | inr same ↦ subst (λ (n : Name). Contains (names_of nodes ++ name ∷ []) n) (is ∙ ap (name_in words) same) (Contains-push (names_of nodes) name)
-          ]);
+          complete = λ p c. subst (λ (l : List Name).
+              Contains l (name_in words p)) (sym names) (elim (Contains-push_cases (places_of (take i keyed)) at p (subst (λ (l : List ℕ).
+              Contains l p) one_more c)) [
+                | inl old ↦ Contains-append_left (names_of nodes) (name ∷ []) (name_in words p) (so_far.complete p old)
+                | inr same ↦ subst (λ (n : Name). Contains (names_of nodes ++ name ∷ []) n) (is ∙ ap (name_in words) same) (Contains-push (names_of nodes) name)
+              ]);
         }
 
     -- an object that is there already
-    pub lists_skipped : (name : Name) → IsNonDecreasingBy (λ (o : Keyed). o.key) keyed → All (IsKeyed words) keyed → name ≡ name_in words (get_or keyed i d).at → is_after nodes name ≡ false → ListsObjects words (places_of (take (i + 1) keyed)) nodes
+    pub lists_skipped : (name : Name) → IsNonDecreasingBy (λ (o : Keyed). o.key) keyed → All (IsKeyed words) keyed →
+        name ≡ name_in words (get_or keyed i d).at → is_after nodes name ≡ false → ListsObjects words (places_of (take (i + 1) keyed)) nodes
     lists_skipped name sorted all is after =
         let here : IsKeyed words (get_or keyed i d) = All-get_or (IsKeyed words) keyed i d lt all in
         let e = not_after nodes name after in

@@ -47,12 +47,14 @@ same_bind None f g h = refl
 
 pub run_append : (d : Name → Bool) (r : Reader) (xs ys : List (List (List ℕ))) → run d r (xs ++ ys) ≡ (run d r xs >>= λ s. run d s ys)
 run_append d r [] ys = refl
-run_append d r (x ∷ xs) ys = same_bind (line_at d r x) (λ s. run d s (xs ++ ys)) (λ s. run d s xs >>= λ t. run d t ys) (λ s. run_append d s xs ys) ∙ sym (bind_on (line_at d r x) (λ s. run d s xs) (λ t. run d t ys))
+run_append d r (x ∷ xs) ys = same_bind (line_at d r x) (λ s. run d s (xs ++ ys)) (λ s. run d s xs >>= λ t. run d t ys) (λ s. run_append d s xs ys) ∙
+    sym (bind_on (line_at d r x) (λ s. run d s xs) (λ t. run d t ys))
 
 pub run_on : (d : Name → Bool) (r s : Reader) (xs ys : List (List (List ℕ))) (o : Option Reader) → run d r xs ≡ Some s → run d s ys ≡ o → run d r (xs ++ ys) ≡ o
 run_on d r s xs ys o p q = run_append d r xs ys ∙ ap (λ (u : Option Reader). u >>= λ t. run d t ys) p ∙ q
 
-pub run_step : (d : Name → Bool) (r s : Reader) (words : List (List ℕ)) (lines : List (List (List ℕ))) (o : Option Reader) → line_at d r words ≡ Some s → run d s lines ≡ o → run d r (words ∷ lines) ≡ o
+pub run_step : (d : Name → Bool) (r s : Reader) (words : List (List ℕ)) (lines : List (List (List ℕ))) (o : Option Reader) →
+    line_at d r words ≡ Some s → run d s lines ≡ o → run d r (words ∷ lines) ≡ o
 run_step d r s words lines o p q = ap (λ (u : Option Reader). u >>= λ t. run d t lines) p ∙ q
 
 abbrev pub state : ℕ → List ImageMutator → Option ImageMutator → List Entry → Bool → Reader
@@ -82,37 +84,58 @@ above_from (x ∷ []) h hs o = lt-ltb x.register h.register o.0
 above_from (x ∷ y ∷ rs) h hs o = above_from (y ∷ rs) h hs o.1
 
 module _ (d : Name → Bool) (expected : ℕ) (few : expected ≤ MAKERS) where
-  mutator_runs : (done : List ImageMutator) (current : Option ImageMutator) (serial : ℕ) → length (done ++ option_to_list current) < expected → serial < 2 ^ 32 → line_at d (state expected done current [] false) (mutator_words (length (done ++ option_to_list current)) serial) ≡ Some (state expected (done ++ option_to_list current) (Some (new_own serial)) [] false)
+  mutator_runs : (done : List ImageMutator) (current : Option ImageMutator) (serial : ℕ) → length (done ++ option_to_list current) < expected →
+      serial < 2 ^ 32 → line_at d (state expected done current [] false) (mutator_words (length (done ++ option_to_list current)) serial) ≡
+      Some (state expected (done ++ option_to_list current) (Some (new_own serial)) [] false)
   unfolding line_at mutator_at
   mutator_runs done current serial lt small =
       let m : ℕ = length (done ++ option_to_list current) in
       let fits : m ≤ MAKERS = omega arith in
       rw (lt-ltb m expected lt, number_again MAKERS m fits (omega arith), number_again (2 ^ 32 - 1) serial (omega arith) (omega arith), eq-eqb m m refl) refl
 
-  register_runs : (done : List ImageMutator) (serial : ℕ) (rs : List Held) (h : Held) → is_above rs h.register ≡ true → IsHeld h → IsIn d h.value → line_at d (state expected done (Some (own_of serial rs [])) [] false) (register_words h) ≡ Some (state expected done (Some (own_of serial (rs ++ h ∷ []) [])) [] false)
+  register_runs : (done : List ImageMutator) (serial : ℕ) (rs : List Held) (h : Held) → is_above rs h.register ≡ true → IsHeld h → IsIn d h.value →
+      line_at d (state expected done (Some (own_of serial rs [])) [] false) (register_words h) ≡
+      Some (state expected done (Some (own_of serial (rs ++ h ∷ []) [])) [] false)
   unfolding line_at register_at
   register_runs done serial rs h above held is_in =
       let lt = held.register in
-      rw (number_again (REGISTERS - 1) h.register (omega arith) (omega arith), value_reads.again h.value held.valid, above, not_nil h.value held.some, is_in) refl
+      rw (
+        number_again (REGISTERS - 1) h.register (omega arith) (omega arith),
+        value_reads.again h.value held.valid,
+        above,
+        not_nil h.value held.some,
+        is_in,
+      ) refl
 
-  registers_run : (done : List ImageMutator) (serial : ℕ) (hs rs : List Held) → AreInOrder (rs ++ hs) → AllByRecursion (λ h. IsHeld h × IsIn d h.value) hs → run d (state expected done (Some (own_of serial rs [])) [] false) (map register_words hs) ≡ Some (state expected done (Some (own_of serial (rs ++ hs) [])) [] false)
+  registers_run : (done : List ImageMutator) (serial : ℕ) (hs rs : List Held) → AreInOrder (rs ++ hs) →
+      AllByRecursion (λ h. IsHeld h × IsIn d h.value) hs →
+      run d (state expected done (Some (own_of serial rs [])) [] false) (map register_words hs) ≡
+      Some (state expected done (Some (own_of serial (rs ++ hs) [])) [] false)
   registers_run done serial [] rs o all = ap (λ (l : List Held). Some (state expected done (Some (own_of serial l [])) [] false)) (sym (append-nil rs))
   registers_run done serial (h ∷ hs) rs o all =
       let more : (rs ++ h ∷ []) ++ hs ≡ rs ++ h ∷ hs = append_assoc rs (h ∷ []) hs in
       let step = register_runs done serial rs h (above_from rs h hs o) all.0.0 all.0.1 in
       let rest = registers_run done serial hs (rs ++ h ∷ []) (subst AreInOrder (sym more) o) all.1 in
-      run_step d (state expected done (Some (own_of serial rs [])) [] false) (state expected done (Some (own_of serial (rs ++ h ∷ []) [])) [] false) (register_words h) (map register_words hs) _ step (rest ∙ ap (λ (l : List Held). Some (state expected done (Some (own_of serial l [])) [] false)) more)
+      run_step d (state expected done (Some (own_of serial rs [])) [] false) (state expected done (Some (own_of serial (rs ++ h ∷
+      []) [])) [] false) (register_words h) (map register_words hs) _ step (rest ∙
+      ap (λ (l : List Held). Some (state expected done (Some (own_of serial l [])) [] false)) more)
 
-  queue_runs : (done : List ImageMutator) (serial : ℕ) (rs : List Held) (vs : List Value) (v : Value) → IsValue v → IsIn d v → line_at d (state expected done (Some (own_of serial rs vs)) [] false) (queue_words v) ≡ Some (state expected done (Some (own_of serial rs (vs ++ v ∷ []))) [] false)
+  queue_runs : (done : List ImageMutator) (serial : ℕ) (rs : List Held) (vs : List Value) (v : Value) → IsValue v → IsIn d v →
+      line_at d (state expected done (Some (own_of serial rs vs)) [] false) (queue_words v) ≡
+      Some (state expected done (Some (own_of serial rs (vs ++ v ∷ []))) [] false)
   unfolding line_at queue_at
   queue_runs done serial rs vs v valid is_in = rw (value_reads.again v valid, is_in) refl
 
-  queues_run : (done : List ImageMutator) (serial : ℕ) (rs : List Held) (ws vs : List Value) → AllByRecursion (λ v. IsValue v × IsIn d v) ws → run d (state expected done (Some (own_of serial rs vs)) [] false) (map queue_words ws) ≡ Some (state expected done (Some (own_of serial rs (vs ++ ws))) [] false)
+  queues_run : (done : List ImageMutator) (serial : ℕ) (rs : List Held) (ws vs : List Value) → AllByRecursion (λ v. IsValue v × IsIn d v) ws →
+      run d (state expected done (Some (own_of serial rs vs)) [] false) (map queue_words ws) ≡
+      Some (state expected done (Some (own_of serial rs (vs ++ ws))) [] false)
   queues_run done serial rs [] vs all = ap (λ (l : List Value). Some (state expected done (Some (own_of serial rs l)) [] false)) (sym (append-nil vs))
   queues_run done serial rs (v ∷ ws) vs all =
       let more : (vs ++ v ∷ []) ++ ws ≡ vs ++ v ∷ ws = append_assoc vs (v ∷ []) ws in
       let rest = queues_run done serial rs ws (vs ++ v ∷ []) all.1 in
-      run_step d (state expected done (Some (own_of serial rs vs)) [] false) (state expected done (Some (own_of serial rs (vs ++ v ∷ []))) [] false) (queue_words v) (map queue_words ws) _ (queue_runs done serial rs vs v all.0.0 all.0.1) (rest ∙ ap (λ (l : List Value). Some (state expected done (Some (own_of serial rs l)) [] false)) more)
+      run_step d (state expected done (Some (own_of serial rs vs)) [] false) (state expected done (Some (own_of serial rs (vs ++ v ∷
+      []))) [] false) (queue_words v) (map queue_words ws) _ (queue_runs done serial rs vs v all.0.0 all.0.1) (rest ∙
+      ap (λ (l : List Value). Some (state expected done (Some (own_of serial rs l)) [] false)) more)
 
   -- a mutator that may be taken
   pub record IsOwnIn (own : ImageMutator) : Type 0 where
@@ -121,11 +144,16 @@ module _ (d : Name → Bool) (expected : ℕ) (few : expected ≤ MAKERS) where
     pub registers : AllByRecursion (λ h. IsHeld h × IsIn d h.value) own.registers
     pub queue : AllByRecursion (λ v. IsValue v × IsIn d v) own.queue
 
-  own_runs : (done : List ImageMutator) (current : Option ImageMutator) (own : ImageMutator) → IsOwnIn own → length (done ++ option_to_list current) < expected → run d (state expected done current [] false) (mutator_words (length (done ++ option_to_list current)) own.serial ∷ own_lines own) ≡ Some (state expected (done ++ option_to_list current) (Some own) [] false)
+  own_runs : (done : List ImageMutator) (current : Option ImageMutator) (own : ImageMutator) → IsOwnIn own →
+      length (done ++ option_to_list current) < expected → run d (state expected done current [] false) (mutator_words (length (done ++
+      option_to_list current)) own.serial ∷ own_lines own) ≡ Some (state expected (done ++ option_to_list current) (Some own) [] false)
   own_runs done current own h lt =
       let all : List ImageMutator = done ++ option_to_list current in
-      run_step d (state expected done current [] false) (state expected all (Some (new_own own.serial)) [] false) (mutator_words (length all) own.serial) (own_lines own) _ (mutator_runs done current own.serial lt h.serial)
-      (run_on d (state expected all (Some (new_own own.serial)) [] false) (state expected all (Some (own_of own.serial own.registers [])) [] false) (map register_words own.registers) (map queue_words own.queue) _ (registers_run all own.serial own.registers [] h.ordered h.registers) (queues_run all own.serial own.registers own.queue [] h.queue))
+      run_step d (state expected done current [] false) (state expected all (Some (new_own own.serial)) [] false)
+      (mutator_words (length all) own.serial) (own_lines own) _ (mutator_runs done current own.serial lt h.serial)
+      (run_on d (state expected all (Some (new_own own.serial)) [] false) (state expected all (Some (own_of own.serial own.registers [])) [] false)
+      (map register_words own.registers) (map queue_words own.queue) _ (registers_run all own.serial own.registers [] h.ordered h.registers)
+      (queues_run all own.serial own.registers own.queue [] h.queue))
 
   -- after mutators all of them were begun
   pub record HasTaken (r : Reader) (lines : List (List (List ℕ))) (all : List ImageMutator) : Type 0 where
@@ -134,18 +162,24 @@ module _ (d : Name → Bool) (expected : ℕ) (few : expected ≤ MAKERS) where
     pub runs : run d r lines ≡ Some (state expected done current [] false)
     pub are : done ++ option_to_list current ≡ all
 
-  pub mutators_run : (owns : List ImageMutator) (m : ℕ) (done : List ImageMutator) (current : Option ImageMutator) → m ≡ length (done ++ option_to_list current) → m + length owns ≤ expected → AllByRecursion IsOwnIn owns → HasTaken (state expected done current [] false) (mutator_lines m owns) ((done ++ option_to_list current) ++ owns)
+  pub mutators_run : (owns : List ImageMutator) (m : ℕ) (done : List ImageMutator) (current : Option ImageMutator) →
+      m ≡ length (done ++ option_to_list current) → m + length owns ≤ expected → AllByRecursion IsOwnIn owns →
+      HasTaken (state expected done current [] false) (mutator_lines m owns) ((done ++ option_to_list current) ++ owns)
   mutators_run [] m done current is within all = record { done = done; current = current; runs = refl; are = sym (append-nil (done ++ option_to_list current)) }
   mutators_run (own ∷ owns) m done current is within all =
       let before : List ImageMutator = done ++ option_to_list current in
       let count : m + 1 ≡ length (before ++ own ∷ []) = ap (λ (k : ℕ). k + 1) is ∙ sym (length_push before own) in
       let lt : length before < expected = omega (arith, sym is) in
       let next = mutators_run owns (m + 1) before (Some own) count (omega arith) all.1 in
-      let one : run d (state expected done current [] false) (mutator_words m own.serial ∷ own_lines own) ≡ Some (state expected before (Some own) [] false) = subst (λ (k : ℕ). run d (state expected done current [] false) (mutator_words k own.serial ∷ own_lines own) ≡ Some (state expected before (Some own) [] false)) (sym is) (own_runs done current own all.0 lt) in
+      let one : run d (state expected done current [] false) (mutator_words m own.serial ∷ own_lines own) ≡
+      Some (state expected before (Some own) [] false) =
+      subst (λ (k : ℕ). run d (state expected done current [] false) (mutator_words k own.serial ∷ own_lines own) ≡
+      Some (state expected before (Some own) [] false)) (sym is) (own_runs done current own all.0 lt) in
       record {
         done = next.done;
         current = next.current;
-        runs = run_on d (state expected done current [] false) (state expected before (Some own) [] false) (mutator_words m own.serial ∷ own_lines own) (mutator_lines (m + 1) owns) _ one next.runs;
+        runs = run_on d (state expected done current [] false) (state expected before (Some own) [] false) (mutator_words m own.serial ∷
+            own_lines own) (mutator_lines (m + 1) owns) _ one next.runs;
         are = next.are ∙ append_assoc before (own ∷ []) owns;
       }
 
@@ -153,11 +187,14 @@ module _ (d : Name → Bool) (expected : ℕ) (few : expected ≤ MAKERS) where
     full_is : (nodes : List Entry) → is_full (state expected done current nodes false) ≡ true
     full_is nodes = rw (lt-ltb 0 expected (omega arith), eq-eqb (length (done ++ option_to_list current)) expected full) refl
 
-    node_runs : (nodes : List Entry) (entry : Entry) → IsSpellable entry → is_after nodes entry.name ≡ true → is_owned (done ++ option_to_list current) entry ≡ true → list_all (is_declared d) (held_by entry.node) ≡ true → line_at d (state expected done current nodes false) (entry_words entry) ≡ Some (state expected done current (nodes ++ entry ∷ []) false)
+    node_runs : (nodes : List Entry) (entry : Entry) → IsSpellable entry → is_after nodes entry.name ≡ true →
+        is_owned (done ++ option_to_list current) entry ≡ true → list_all (is_declared d) (held_by entry.node) ≡ true →
+        line_at d (state expected done current nodes false) (entry_words entry) ≡ Some (state expected done current (nodes ++ entry ∷ []) false)
     unfolding line_at next_at
     node_runs nodes entry spelt after owned declared = rw (entry_again entry spelt, full_is nodes, after, owned, declared) refl
 
-    pub end_runs : (nodes : List Entry) → d shared_name ≡ true → line_at d (state expected done current nodes false) last_words ≡ Some (state expected done current nodes true)
+    pub end_runs : (nodes : List Entry) → d shared_name ≡ true →
+        line_at d (state expected done current nodes false) last_words ≡ Some (state expected done current nodes true)
     unfolding line_at end_at
     end_runs nodes shared = rw (full_is nodes, shared) refl
 
@@ -186,7 +223,8 @@ same_name_is a b e = rw (eq-eqb a.maker b.maker (ap (λ (n : Name). n.maker) e),
 
 not_same_is : (a b : Name) → a ≢ b → is_same_name a b ≡ false
 not_same_is a b ne = elim (cases_Bool (is_same_name a b)) [
-  | inl is_yes ↦ absurd (let p = and_parts (eqb a.maker b.maker) (eqb a.serial b.serial) is_yes in ne (same_name a b (eqb-true a.maker b.maker p.0) (eqb-true a.serial b.serial p.1)))
+  | inl is_yes ↦ absurd (let p = and_parts (eqb a.maker b.maker) (eqb a.serial b.serial) is_yes in
+      ne (same_name a b (eqb-true a.maker b.maker p.0) (eqb-true a.serial b.serial p.1)))
   | inr is_no ↦ is_no
 ]
 
@@ -198,20 +236,24 @@ all_in : (d : Name → Bool) (vs : List Value) → AllByRecursion (IsIn d) vs �
 all_in d [] h = refl
 all_in d (v ∷ vs) h = and_from (is_declared d v) (list_all (is_declared d) vs) h.0 (all_in d vs h.1)
 
-module _ (d : Name → Bool) (expected : ℕ) (few : expected ≤ MAKERS) (done : List ImageMutator) (current : Option ImageMutator) (some : 1 ≤ expected) (full : length (done ++ option_to_list current) ≡ expected) where
+module _ (d : Name → Bool) (expected : ℕ) (few : expected ≤ MAKERS) (done : List ImageMutator) (current : Option ImageMutator) (some : 1 ≤ expected)
+    (full : length (done ++ option_to_list current) ≡ expected) where
   -- an object that may be taken
   pub record IsEntryIn (entry : Entry) : Type 0 where
     pub spelt : IsSpellable entry
     pub owned : IsOwned (done ++ option_to_list current) entry
     pub values : AllByRecursion (IsIn d) (held_by entry.node)
 
-  pub nodes_run : (entries nodes : List Entry) → IsInOrder (names_of (nodes ++ entries)) → AllByRecursion IsEntryIn entries → run d (state expected done current nodes false) (map entry_words entries) ≡ Some (state expected done current (nodes ++ entries) false)
+  pub nodes_run : (entries nodes : List Entry) → IsInOrder (names_of (nodes ++ entries)) → AllByRecursion IsEntryIn entries →
+      run d (state expected done current nodes false) (map entry_words entries) ≡ Some (state expected done current (nodes ++ entries) false)
   nodes_run [] nodes o all = ap (λ (l : List Entry). Some (state expected done current l false)) (sym (append-nil nodes))
   nodes_run (entry ∷ entries) nodes o all =
       let more : (nodes ++ entry ∷ []) ++ entries ≡ nodes ++ entry ∷ entries = append_assoc nodes (entry ∷ []) entries in
-      let step = node_runs d expected few done current some full nodes entry all.0.spelt (after_from nodes entry entries o) (owned_is (done ++ option_to_list current) entry all.0.owned) (all_in d (held_by entry.node) all.0.values) in
+      let step = node_runs d expected few done current some full nodes entry all.0.spelt (after_from nodes entry entries o) (owned_is (done ++
+      option_to_list current) entry all.0.owned) (all_in d (held_by entry.node) all.0.values) in
       let rest = nodes_run entries (nodes ++ entry ∷ []) (subst (λ (l : List Entry). IsInOrder (names_of l)) (sym more) o) all.1 in
-      run_step d (state expected done current nodes false) (state expected done current (nodes ++ entry ∷ []) false) (entry_words entry) (map entry_words entries) _ step (rest ∙ ap (λ (l : List Entry). Some (state expected done current l false)) more)
+      run_step d (state expected done current nodes false) (state expected done current (nodes ++ entry ∷
+      []) false) (entry_words entry) (map entry_words entries) _ step (rest ∙ ap (λ (l : List Entry). Some (state expected done current l false)) more)
 
 -- the end of an image whose lines were taken
 pub record IsTaken (d : Name → Bool) (lines : List (List (List ℕ))) (image : Image) : Type 0 where

@@ -57,7 +57,8 @@ visits_none P s i all = record {
 }
 
 -- one thing after another is added
-pub visits_then : (P Q R : ℕ → Type 0) (a b c : Search) → Visits P a b → Visits Q b c → ((at : ℕ) → R at → P at ⊎ Q at) → ((at : ℕ) → P at ⊎ Q at → R at) → Visits R a c
+pub visits_then : (P Q R : ℕ → Type 0) (a b c : Search) → Visits P a b → Visits Q b c → ((at : ℕ) → R at → P at ⊎ Q at) →
+    ((at : ℕ) → P at ⊎ Q at → R at) → Visits R a c
 visits_then P Q R a b c v w to from = record {
   sound = w.sound;
   room = w.room ∙ v.room;
@@ -86,18 +87,22 @@ visits_same P Q a b v to from = record {
 
 -- a place that was seen before
 pub found_before : (s : Search) (at : ℕ) → IsSearch s → at < length s.seen.items → get_or s.seen.items at false ≡ true → Visits (λ p. p ≡ at) s s
-found_before s at i lt e = visits_none (λ p. p ≡ at) s i (λ p same. subst (λ (k : ℕ). Contains s.order.items k) (sym same) (i.listed at (slice_get-get_or s.seen.items at false lt ∙ ap Some e)))
+found_before s at i lt e = visits_none (λ p. p ≡ at) s i (λ p same.
+    subst (λ (k : ℕ). Contains s.order.items k) (sym same) (i.listed at (slice_get-get_or s.seen.items at false lt ∙ ap Some e)))
 
 -- a place that is seen now
-pub found_now : (s t : Search) (at : ℕ) → IsSearch s → at < length s.seen.items → get_or s.seen.items at false ≡ false → t.seen.items ≡ set s.seen.items at true → t.order.items ≡ s.order.items ++ at ∷ [] → Visits (λ p. p ≡ at) s t
+pub found_now : (s t : Search) (at : ℕ) → IsSearch s → at < length s.seen.items → get_or s.seen.items at false ≡ false →
+    t.seen.items ≡ set s.seen.items at true → t.order.items ≡ s.order.items ++ at ∷ [] → Visits (λ p. p ≡ at) s t
 found_now s t at i lt e seen order =
     let room : length t.seen.items ≡ length s.seen.items = ap length seen ∙ length-set s.seen.items at true in
     record {
       sound = record {
         listed = λ p h. elim (cases_eq p at) [
-          | inl same ↦ subst (λ (l : List ℕ). Contains l p) (sym order) (subst (λ (k : ℕ). Contains (s.order.items ++ at ∷ []) k) (sym same) (Contains-push s.order.items at))
+          | inl same ↦ subst (λ (l : List ℕ). Contains l p) (sym order) (subst (λ (k : ℕ).
+              Contains (s.order.items ++ at ∷ []) k) (sym same) (Contains-push s.order.items at))
           | inr other ↦
-              let there : slice_get s.seen.items p ≡ Some true = sym (slice_get-set_other s.seen.items at p true other) ∙ ap (λ (l : List Bool). slice_get l p) (sym seen) ∙ h in
+              let there : slice_get s.seen.items p ≡ Some true = sym (slice_get-set_other s.seen.items at p true other) ∙
+              ap (λ (l : List Bool). slice_get l p) (sym seen) ∙ h in
               subst (λ (l : List ℕ). Contains l p) (sym order) (Contains-append_left s.order.items (at ∷ []) p (i.listed p there))
         ];
         within = λ p c. elim (Contains-push_cases s.order.items at p (subst (λ (l : List ℕ). Contains l p) order c)) [
@@ -114,7 +119,8 @@ found_now s t at i lt e seen order =
       room = room;
       more = at ∷ [];
       order = order;
-      all = λ p same. subst (λ (l : List ℕ). Contains l p) (sym order) (subst (λ (k : ℕ). Contains (s.order.items ++ at ∷ []) k) (sym same) (Contains-push s.order.items at));
+      all = λ p same. subst (λ (l : List ℕ). Contains l p) (sym order) (subst (λ (k : ℕ).
+          Contains (s.order.items ++ at ∷ []) k) (sym same) (Contains-push s.order.items at));
       only = λ p c. elim (Contains-push_cases s.order.items at p (subst (λ (l : List ℕ). Contains l p) order c)) [
         | inl old ↦ inl old
         | inr same ↦ inr (sym same)
@@ -126,31 +132,43 @@ pub pointers_append : (xs ys : List ℕ) → pointers (xs ++ ys) ≡ pointers xs
 pointers_append [] ys = refl
 pointers_append (x ∷ xs) ys = by (is_pointer x) (pointers_append xs ys)
   where
-    by : (b : Bool) → pointers (xs ++ ys) ≡ pointers xs ++ pointers ys → cond b (x / 2 ∷ pointers (xs ++ ys)) (pointers (xs ++ ys)) ≡ cond b (x / 2 ∷ pointers xs) (pointers xs) ++ pointers ys
+    by : (b : Bool) → pointers (xs ++ ys) ≡ pointers xs ++ pointers ys →
+        cond b (x / 2 ∷ pointers (xs ++ ys)) (pointers (xs ++ ys)) ≡ cond b (x / 2 ∷ pointers xs) (pointers xs) ++ pointers ys
     by true e = ap (λ (l : List ℕ). x / 2 ∷ l) e
     by false e = e
 
 -- a word that is no pointer
-pub pointer_no : (s t : Search) (ws : List ℕ) (i d : ℕ) → i < length ws → is_pointer (get_or ws i d) ≡ false → Visits (ArePointers (take i ws)) s t → Visits (ArePointers (take (i + 1) ws)) s t
+pub pointer_no : (s t : Search) (ws : List ℕ) (i d : ℕ) → i < length ws → is_pointer (get_or ws i d) ≡ false →
+    Visits (ArePointers (take i ws)) s t → Visits (ArePointers (take (i + 1) ws)) s t
 pointer_no s t ws i d lt other v =
     let none : pointers (get_or ws i d ∷ []) ≡ [] = rw other refl in
-    let e : pointers (take (i + 1) ws) ≡ pointers (take i ws) = ap pointers (take_more ws i d lt) ∙ pointers_append (take i ws) (get_or ws i d ∷ []) ∙ ap (λ (l : List ℕ). pointers (take i ws) ++ l) none ∙ append-nil (pointers (take i ws)) in
-    visits_same (ArePointers (take i ws)) (ArePointers (take (i + 1) ws)) s t v (λ at c. subst (λ (l : List ℕ). Contains l at) (sym e) c) (λ at c. subst (λ (l : List ℕ). Contains l at) e c)
+    let e : pointers (take (i + 1) ws) ≡ pointers (take i ws) = ap pointers (take_more ws i d lt) ∙
+    pointers_append (take i ws) (get_or ws i d ∷ []) ∙ ap (λ (l : List ℕ). pointers (take i ws) ++ l) none ∙ append-nil (pointers (take i ws)) in
+    visits_same (ArePointers (take i ws)) (ArePointers (take (i + 1) ws)) s t v (λ at c. subst (λ (l : List ℕ). Contains l at) (sym e) c) (λ at c.
+    subst (λ (l : List ℕ). Contains l at) e c)
 
 -- a pointer
-pub pointer_yes : (s t u : Search) (ws : List ℕ) (i d : ℕ) → i < length ws → is_pointer (get_or ws i d) ≡ true → Visits (ArePointers (take i ws)) s t → Visits (λ p. p ≡ get_or ws i d / 2) t u → Visits (ArePointers (take (i + 1) ws)) s u
+pub pointer_yes : (s t u : Search) (ws : List ℕ) (i d : ℕ) → i < length ws → is_pointer (get_or ws i d) ≡ true →
+    Visits (ArePointers (take i ws)) s t → Visits (λ p. p ≡ get_or ws i d / 2) t u → Visits (ArePointers (take (i + 1) ws)) s u
 pointer_yes s t u ws i d lt one_is v w =
     let one : pointers (get_or ws i d ∷ []) ≡ get_or ws i d / 2 ∷ [] = rw one_is refl in
-    let e : pointers (take (i + 1) ws) ≡ pointers (take i ws) ++ get_or ws i d / 2 ∷ [] = ap pointers (take_more ws i d lt) ∙ pointers_append (take i ws) (get_or ws i d ∷ []) ∙ ap (λ (l : List ℕ). pointers (take i ws) ++ l) one in
+    let e : pointers (take (i + 1) ws) ≡ pointers (take i ws) ++ get_or ws i d / 2 ∷ [] = ap pointers (take_more ws i d lt) ∙
+    pointers_append (take i ws) (get_or ws i d ∷ []) ∙ ap (λ (l : List ℕ). pointers (take i ws) ++ l) one in
     visits_then (ArePointers (take i ws)) (λ p. p ≡ get_or ws i d / 2) (ArePointers (take (i + 1) ws)) s t u v w
-    (λ at c. elim (Contains-push_cases (pointers (take i ws)) (get_or ws i d / 2) at (subst (λ (l : List ℕ). Contains l at) e c)) [ inl old ↦ inl old | inr same ↦ inr (sym same) ])
+    (λ at c. elim (Contains-push_cases (pointers (take i ws)) (get_or ws i d / 2) at (subst (λ (l : List ℕ). Contains l at) e c)) [
+      | inl old ↦
+          inl old
+      | inr same ↦ inr (sym same)
+    ])
     (λ at pq. subst (λ (l : List ℕ). Contains l at) (sym e) (elim pq [
       | inl old ↦ Contains-append_left (pointers (take i ws)) (get_or ws i d / 2 ∷ []) at old
-      | inr same ↦ subst (λ (k : ℕ). Contains (pointers (take i ws) ++ get_or ws i d / 2 ∷ []) k) (sym same) (Contains-push (pointers (take i ws)) (get_or ws i d / 2))
+      | inr same ↦ subst (λ (k : ℕ). Contains (pointers (take i ws) ++ get_or ws i d / 2 ∷
+          []) k) (sym same) (Contains-push (pointers (take i ws)) (get_or ws i d / 2))
     ]))
 
 -- a pointer of words lies within
-pub pointer_within : (room : ℕ) (ws : List ℕ) (i d : ℕ) → i < length ws → is_pointer (get_or ws i d) ≡ true → PointWithin room ws → (get_or ws i d / 2 < room) × (get_or ws i d / 2 < 2 ^ 32)
+pub pointer_within : (room : ℕ) (ws : List ℕ) (i d : ℕ) → i < length ws → is_pointer (get_or ws i d) ≡ true → PointWithin room ws →
+    (get_or ws i d / 2 < room) × (get_or ws i d / 2 < 2 ^ 32)
 pointer_within room [] i d lt one_is h = absurd (omega arith)
 pointer_within room (w ∷ ws) zero d lt one_is h = h (w / 2) (rw one_is (contains_head (w / 2) (pointers ws)))
 pointer_within room (w ∷ ws) (suc i) d lt one_is h = pointer_within room ws i d (omega arith) one_is (λ at c. h at (more (is_pointer w) at c))
@@ -167,7 +185,8 @@ pub record IsGoing (words : List ℕ) (old s : Search) (next : ℕ) : Type 0 whe
   pub room : length s.seen.items ≡ length words
   pub roots : (at : ℕ) → Contains old.order.items at → Contains s.order.items at
   pub reached : (at : ℕ) → Contains s.order.items at → Reaches words (Contains old.order.items) at
-  pub closed : (i at to : ℕ) (object : IsObjectAt words at) → i < next → slice_get s.order.items i ≡ Some at → Contains (pointers (told_at words at object.header)) to → Contains s.order.items to
+  pub closed : (i at to : ℕ) (object : IsObjectAt words at) → i < next → slice_get s.order.items i ≡ Some at →
+      Contains (pointers (told_at words at object.header)) to → Contains s.order.items to
 
 pub going_starts : (words : List ℕ) (s : Search) → IsSearch s → length s.seen.items ≡ length words → IsGoing words s s 0
 going_starts words s sound room = record {
@@ -188,7 +207,8 @@ module _ (words : List ℕ) (old s : Search) (next : ℕ) (going : IsGoing words
   pub going_object : ReachesObjects words (Contains old.order.items) → (at : ℕ) → Contains s.order.items at → IsObjectAt words at
   going_object objects at c = objects at (going.reached at c)
 
-  pub going_within : ReachesObjects words (Contains old.order.items) → (at : ℕ) → Contains s.order.items at → (object : IsObjectAt words at) → PointWithin (length s.seen.items) (told_at words at object.header)
+  pub going_within : ReachesObjects words (Contains old.order.items) → (at : ℕ) → Contains s.order.items at → (object : IsObjectAt words at) →
+      PointWithin (length s.seen.items) (told_at words at object.header)
   going_within objects at c object to p =
       let there = objects to (Reaches.field at to object (going.reached at c) p) in
       let fits = there.within in
@@ -202,31 +222,36 @@ module _ (words : List ℕ) (old s : Search) (next : ℕ) (going : IsGoing words
       let room = going.room in
       omega (arith, lt, counted, room)
 
-  pub going_on : (t : Search) (d : ℕ) → next < length s.order.items → (at : ℕ) → at ≡ get_or s.order.items next d → ((object : IsObjectAt words at) → Visits (ArePointers (told_at words at object.header)) s t) → IsObjectAt words at → IsGoing words old t (next + 1)
+  pub going_on : (t : Search) (d : ℕ) → next < length s.order.items → (at : ℕ) → at ≡ get_or s.order.items next d →
+      ((object : IsObjectAt words at) → Visits (ArePointers (told_at words at object.header)) s t) → IsObjectAt words at → IsGoing words old t (next + 1)
   going_on t d lt at at_is visits object =
       let v = visits object in
-      let keeps : (to : ℕ) → Contains s.order.items to → Contains t.order.items to = λ to c. subst (λ (l : List ℕ). Contains l to) (sym v.order) (Contains-append_left s.order.items v.more to c) in
+      let keeps : (to : ℕ) → Contains s.order.items to → Contains t.order.items to = λ to c.
+      subst (λ (l : List ℕ). Contains l to) (sym v.order) (Contains-append_left s.order.items v.more to c) in
       record {
         sound = v.sound;
         room = v.room ∙ going.room;
         roots = λ to c. keeps to (going.roots to c);
         reached = λ to c. elim (v.only to c) [
           | inl before ↦ going.reached to before
-          | inr points ↦ Reaches.field at to object (going.reached at (subst (λ (k : ℕ). Contains s.order.items k) (sym at_is) (Contains-get_or s.order.items next d lt))) points
+          | inr points ↦ Reaches.field at to object (going.reached at (subst (λ (k : ℕ).
+              Contains s.order.items k) (sym at_is) (Contains-get_or s.order.items next d lt))) points
         ];
         closed = λ i from to it below e c.
             let here : slice_get (s.order.items ++ v.more) i ≡ Some from = subst (λ (l : List ℕ). slice_get l i ≡ Some from) v.order e in
             let mine : slice_get s.order.items i ≡ Some from = sym (left_item s.order.items v.more i (omega arith)) ∙ here in
             elim (cases_eq i next) [
               | inl same ↦
-                  let is : at ≡ from = at_is ∙ get_or_from_slice_get s.order.items next from d (subst (λ (k : ℕ). slice_get s.order.items k ≡ Some from) same mine) in
+                  let is : at ≡ from = at_is ∙ get_or_from_slice_get s.order.items next from d (subst (λ (k : ℕ). slice_get s.order.items k ≡
+                  Some from) same mine) in
                   last from to it is c
               | inr other ↦ keeps to (going.closed i from to it (omega (arith, below, other)) mine c)
             ];
       }
     where
       last : (from to : ℕ) (it : IsObjectAt words from) → at ≡ from → Contains (pointers (told_at words from it.header)) to → Contains t.order.items to
-      last from to it is c = subst (λ (k : ℕ). (o : IsObjectAt words k) → Contains (pointers (told_at words k o.header)) to → Contains t.order.items to) is (λ o p. (visits o).all to p) it c
+      last from to it is c = subst (λ (k : ℕ). (o : IsObjectAt words k) → Contains (pointers (told_at words k o.header)) to →
+          Contains t.order.items to) is (λ o p. (visits o).all to p) it c
 
   -- at the end it has found exactly what is reached
   pub going_done : length s.order.items ≤ next → (at : ℕ) → Contains s.order.items at ↔ Reaches words (Contains old.order.items) at

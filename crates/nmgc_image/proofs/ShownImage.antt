@@ -41,14 +41,16 @@ pub all_items : {A : Type 0} (P : A → Type 0) (xs : List A) → ((x : A) → C
 all_items P xs f k d lt = f (get_or xs k d) (Contains-get_or xs k d lt)
 
 -- where a name of a world lies: with its maker, or it is that of g
-pub name_place : (w : World) (n : Name) (node : Node) → node_of w n ≡ Some node → ((n ≡ shared_name) × (node ≡ w.shared)) ⊎ ((n.maker ≢ SHARED_MAKER) × (n.maker < length w.mutators) × (slice_get (state_of w n.maker).nodes n.serial ≡ Some node))
+pub name_place : (w : World) (n : Name) (node : Node) → node_of w n ≡ Some node → ((n ≡ shared_name) × (node ≡ w.shared)) ⊎
+    ((n.maker ≢ SHARED_MAKER) × (n.maker < length w.mutators) × (slice_get (state_of w n.maker).nodes n.serial ≡ Some node))
 name_place w n node e = elim (cases_eq n.maker SHARED_MAKER) [
   | inl is ↦ elim (cases_eq n.serial 0) [
     | inl z ↦ elim (name_cases n shared_name) [
       | inl same ↦
           let f : Some w.shared ≡ Some node = sym (rw (is, z) refl) ∙ e in
           inl (same, sym (same_Some w.shared node f))
-      | inr ne ↦ absurd (ne (ap (λ (k : ℕ). let x : Name = record { maker = k; serial = n.serial } in x) is ∙ ap (λ (k : ℕ). let x : Name = record { maker = SHARED_MAKER; serial = k } in x) z))
+      | inr ne ↦ absurd (ne (ap (λ (k : ℕ). let x : Name = record { maker = k; serial = n.serial } in x) is ∙
+          ap (λ (k : ℕ). let x : Name = record { maker = SHARED_MAKER; serial = k } in x) z))
     ]
     | inr z ↦ let f : node_of w n ≡ None = rw (is, ne_eqb n.serial 0 z) refl in absurd (none-some node (sym f ∙ e))
   ]
@@ -96,7 +98,8 @@ shown_held (Weak parts) v c = c
 shown_held (Stack size values) v c = c
 
 -- it is a strong field, or a part of an alive weak pointer
-pub shown_strong : (node : Node) (v : Value) → Contains (held_by (shown node)) v → Contains (strong_fields node) v ⊎ ((parts : Parts) × (node ≡ Weak (Some parts)) × Contains (parts.key ∷ parts.value ∷ parts.finaliser ∷ []) v)
+pub shown_strong : (node : Node) (v : Value) → Contains (held_by (shown node)) v → Contains (strong_fields node) v ⊎
+    ((parts : Parts) × (node ≡ Weak (Some parts)) × Contains (parts.key ∷ parts.value ∷ parts.finaliser ∷ []) v)
 shown_strong (Con tag values) v c = inl c
 shown_strong (Var x) v c = inl c
 shown_strong (Arr values) v c = inl c
@@ -117,7 +120,8 @@ strong_shown (Weak parts) v c = absurd (nothing_in v c)
 strong_shown (Stack size values) v c = c
 
 -- what a shown node of the wide reach refers to is in the wide reach
-pub wide_field : (w : World) (n target : Name) (node : Node) → IsWide w n → node_of w n ≡ Some node → Contains (held_by (shown node)) (value.Ref target) → IsWide w target
+pub wide_field : (w : World) (n target : Name) (node : Node) → IsWide w n → node_of w n ≡ Some node →
+    Contains (held_by (shown node)) (value.Ref target) → IsWide w target
 wide_field w n target node wide is c = elim (shown_strong node (value.Ref target) c) [
   | inl strong ↦ field n target wide (node, is, strong)
   | inr (parts, e, held) ↦
@@ -126,14 +130,19 @@ wide_field w n target node wide is c = elim (shown_strong node (value.Ref target
         | inl a ↦ inr (inl a)
         | inr d ↦ elim (contains_cases parts.value (parts.finaliser ∷ []) (value.Ref target) d) [
           | inl a ↦ inr (inr (inl a))
-          | inr f ↦ elim (contains_cases parts.finaliser [] (value.Ref target) f) [ inl a ↦ inr (inr (inr a)) | inr g ↦ absurd (nothing_in (value.Ref target) g) ]
+          | inr f ↦ elim (contains_cases parts.finaliser [] (value.Ref target) f) [
+            | inl a ↦ inr (inr (inr a))
+            | inr g ↦
+                absurd (nothing_in (value.Ref target) g)
+          ]
         ]
       ] in
       start target (inr (n, parts, alive, of))
 ]
 
 -- a node within the limits is one that an image may have, as it is shown
-shown_node : (words : ℕ) (name : Name) (node : Node) → words ≤ most_object_words → name ≢ shared_name → IsNodeWithin words name node → IsSized node → IsNode (shown node)
+shown_node : (words : ℕ) (name : Name) (node : Node) → words ≤ most_object_words → name ≢ shared_name → IsNodeWithin words name node →
+    IsSized node → IsNode (shown node)
 shown_node words name (Con tag values) few other h sized = let s = h.size other in (h.shape, omega (arith, s, few))
 shown_node words name (Var x) few other h sized = tt
 shown_node words name (Arr values) few other h sized = let s = h.size other in omega (arith, s, few)
@@ -162,7 +171,8 @@ module _ (words : ℕ) (w : World) (image : Image) (few : words ≤ most_object_
       record {
         register = omega (arith, in', n);
         some = there.1;
-        valid = small_known (state_of w m).registers (within.registers m) (world.known_registers m) h.value (contains_at (state_of w m).registers h.register h.value there.0);
+        valid = small_known (state_of w m).registers (within.registers m) (world.known_registers m) h.value
+            (contains_at (state_of w m).registers h.register h.value there.0);
       }
 
   is_mutator : (own : ImageMutator) → Contains image.mutators own → IsMutator own
@@ -175,7 +185,8 @@ module _ (words : ℕ) (w : World) (image : Image) (few : words ≤ most_object_
         serial = omega (arith, serial, total);
         ordered = s.registers.ordered;
         registers = all_items IsHeld own.registers (held_valid own at.0 at.1 s);
-        queue = subst (All IsValue) (sym s.queue) (all_items IsValue (state_of w at.0).queue (small_known (state_of w at.0).queue (within.queues at.0) (world.known_queue at.0)));
+        queue = subst (All IsValue) (sym s.queue) (all_items IsValue (state_of w at.0).queue
+            (small_known (state_of w at.0).queue (within.queues at.0) (world.known_queue at.0)));
       }
 
   -- an object of the image, with its node in the world
@@ -183,7 +194,8 @@ module _ (words : ℕ) (w : World) (image : Image) (few : words ≤ most_object_
   entry_at entry c = shows.nodes entry.name entry.node c
 
   entry_name : (entry : Entry) → Contains image.nodes entry → Contains (names_of image.nodes) entry.name
-  entry_name entry c = let p = place_of image.nodes entry c in contains_at (names_of image.nodes) p.0 entry.name (item_map (λ (e : Entry). e.name) image.nodes p.0 entry p.1)
+  entry_name entry c = let p = place_of image.nodes entry c in
+      contains_at (names_of image.nodes) p.0 entry.name (item_map (λ (e : Entry). e.name) image.nodes p.0 entry p.1)
 
   entry_wide : (entry : Entry) → Contains image.nodes entry → IsWide w entry.name
   entry_wide entry c = shows.names.sound entry.name (entry_name entry c)
@@ -220,7 +232,8 @@ module _ (words : ℕ) (w : World) (image : Image) (few : words ≤ most_object_
       let at = entry_at entry c in
       let known = at_some (node_of w entry.name) at.0 (IsNodeOf w) at.1 (world.nodes entry.name) in
       let fits = at_some (node_of w entry.name) at.0 (IsNodeWithin words entry.name) at.1 (within.nodes entry.name) in
-      let values : All IsValue (held_by (shown at.0)) = all_items IsValue (held_by (shown at.0)) (λ v k. small_known (held_by at.0) fits.held known.known v (shown_held at.0 v k)) in
+      let values : All IsValue (held_by (shown at.0)) = all_items IsValue (held_by (shown at.0)) (λ v k.
+      small_known (held_by at.0) fits.held known.known v (shown_held at.0 v k)) in
       let two : IsOwned image.mutators entry × IsNode entry.node = elim (name_place w entry.name at.0 at.1) [
         | inl (same, e) ↦
             let is : IsShared at.0 = subst IsShared (sym e) world.shared in
@@ -240,13 +253,16 @@ module _ (words : ℕ) (w : World) (image : Image) (few : words ≤ most_object_
   own_wide own name c held =
       let at = mutator_at own c in
       let s = at.2 in
-      let root : Contains ((state_of w at.0).registers ++ (state_of w at.0).queue) (value.Ref name) = elim (Contains-append_cases (map (λ (h : Held). h.value) own.registers) own.queue (value.Ref name) held) [
+      let root : Contains ((state_of w at.0).registers ++ (state_of w at.0).queue) (value.Ref name) =
+      elim (Contains-append_cases (map (λ (h : Held). h.value) own.registers) own.queue (value.Ref name) held) [
         | inl r ↦
             let p = place_of (map (λ (h : Held). h.value) own.registers) (value.Ref name) r in
             let h = map_item (λ (h : Held). h.value) own.registers p.0 (value.Ref name) p.1 in
             let there = (s.registers.sound h.0 (contains_at own.registers p.0 h.0 h.1)).0 in
-            Contains-append_left (state_of w at.0).registers (state_of w at.0).queue (value.Ref name) (subst (λ (v : Value). Contains (state_of w at.0).registers v) (sym h.2) (contains_at (state_of w at.0).registers h.0.register h.0.value there))
-        | inr q ↦ Contains-append_right (state_of w at.0).registers (state_of w at.0).queue (value.Ref name) (subst (λ (l : List Value). Contains l (value.Ref name)) s.queue q)
+            Contains-append_left (state_of w at.0).registers (state_of w at.0).queue (value.Ref name) (subst (λ (v : Value).
+            Contains (state_of w at.0).registers v) (sym h.2) (contains_at (state_of w at.0).registers h.0.register h.0.value there))
+        | inr q ↦ Contains-append_right (state_of w at.0).registers (state_of w at.0).queue (value.Ref name) (subst (λ (l : List Value).
+            Contains l (value.Ref name)) s.queue q)
       ] in
       start name (inl (inr (at.0, root)))
 
@@ -256,10 +272,11 @@ module _ (words : ℕ) (w : World) (image : Image) (few : words ≤ most_object_
       wide_field w entry.name name at.0 (entry_wide entry c) at.1 (subst (λ (n : Node). Contains (held_by n) (value.Ref name)) at.2 held)
 
   value_wide : (name : Name) → Contains (values_in image) (value.Ref name) → IsWide w name
-  value_wide name c = elim (Contains-append_cases (flat_map values_of image.mutators) (flat_map (λ (entry : Entry). held_by entry.node) image.nodes) (value.Ref name) c) [
-    | inl m ↦ let own = flat_contains values_of image.mutators (value.Ref name) m in own_wide own.0 name own.1 own.2
-    | inr n ↦ let entry = flat_contains (λ (entry : Entry). held_by entry.node) image.nodes (value.Ref name) n in node_wide entry.0 name entry.1 entry.2
-  ]
+  value_wide name c = elim (Contains-append_cases (flat_map values_of image.mutators) (flat_map (λ (entry : Entry).
+      held_by entry.node) image.nodes) (value.Ref name) c) [
+        | inl m ↦ let own = flat_contains values_of image.mutators (value.Ref name) m in own_wide own.0 name own.1 own.2
+        | inr n ↦ let entry = flat_contains (λ (entry : Entry). held_by entry.node) image.nodes (value.Ref name) n in node_wide entry.0 name entry.1 entry.2
+      ]
 
   is_image : IsImage image
   is_image =

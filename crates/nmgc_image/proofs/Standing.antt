@@ -55,27 +55,35 @@ use Rattle.nmgc_image.proofs.ShownImage.{all_items, wide_field, strong_shown, na
 use Rattle.nmgc_image.proofs.Words.{name_reads, list_read, list_readable, list_pointers, pointers_list, told_means, node_reads}
 
 -- the registers of a mutator among those of all
-own_registers : (mutators : List MutatorEnd) (m i : ℕ) (own : MutatorEnd) → All (λ (e : MutatorEnd). length e.registers ≡ REGISTERS) mutators → slice_get mutators m ≡ Some own → i < REGISTERS → slice_index (flat_map (λ (e : MutatorEnd). e.registers) mutators) (REGISTERS * m + i) ≡ slice_index own.registers i
+own_registers : (mutators : List MutatorEnd) (m i : ℕ) (own : MutatorEnd) → All (λ (e : MutatorEnd). length e.registers ≡ REGISTERS) mutators →
+    slice_get mutators m ≡ Some own → i < REGISTERS → slice_index (flat_map (λ (e : MutatorEnd). e.registers) mutators) (REGISTERS * m + i) ≡
+    slice_index own.registers i
 own_registers [] m i own all e lt = absurd cc
 own_registers (first ∷ others) zero i own all e lt =
     let same : first ≡ own = cc in
     let n : length first.registers ≡ REGISTERS = all 0 first (omega arith) in
     let z : REGISTERS * 0 + i ≡ i = omega arith in
-    ap (λ (k : ℕ). slice_index (first.registers ++ flat_map (λ (e : MutatorEnd). e.registers) others) k) z ∙ get_or_append_left first.registers (flat_map (λ (e : MutatorEnd). e.registers) others) 0 i (omega arith) ∙ ap (λ (x : MutatorEnd). slice_index x.registers i) same
+    ap (λ (k : ℕ). slice_index (first.registers ++ flat_map (λ (e : MutatorEnd). e.registers) others) k) z ∙
+    get_or_append_left first.registers (flat_map (λ (e : MutatorEnd). e.registers) others) 0 i (omega arith) ∙
+    ap (λ (x : MutatorEnd). slice_index x.registers i) same
 own_registers (first ∷ others) (suc m) i own all e lt =
     let n : length first.registers ≡ REGISTERS = all 0 first (omega arith) in
     let z : REGISTERS * suc m + i ≡ length first.registers + (REGISTERS * m + i) = omega arith in
-    ap (λ (k : ℕ). slice_index (first.registers ++ flat_map (λ (e : MutatorEnd). e.registers) others) k) z ∙ get_or-append-add first.registers (flat_map (λ (e : MutatorEnd). e.registers) others) (REGISTERS * m + i) 0 ∙ own_registers others m i own (All-tail (λ (e : MutatorEnd). length e.registers ≡ REGISTERS) first others all) e lt
+    ap (λ (k : ℕ). slice_index (first.registers ++ flat_map (λ (e : MutatorEnd). e.registers) others) k) z ∙
+    get_or-append-add first.registers (flat_map (λ (e : MutatorEnd). e.registers) others) (REGISTERS * m + i) 0 ∙
+    own_registers others m i own (All-tail (λ (e : MutatorEnd). length e.registers ≡ REGISTERS) first others all) e lt
 
 -- a list of words that stands for values item by item
-items_mean : (P : Place → Type 0) (ws : List ℕ) (vs : List Value) → length ws ≡ length vs → ((i : ℕ) (v : Value) → slice_get vs i ≡ Some v → Means P (slice_index ws i) v) → ListMeans P ws vs
+items_mean : (P : Place → Type 0) (ws : List ℕ) (vs : List Value) → length ws ≡ length vs →
+    ((i : ℕ) (v : Value) → slice_get vs i ≡ Some v → Means P (slice_index ws i) v) → ListMeans P ws vs
 items_mean P [] [] n h = tt
 items_mean P [] (v ∷ vs) n h = absurd (omega arith)
 items_mean P (w ∷ ws) [] n h = absurd (omega arith)
 items_mean P (w ∷ ws) (v ∷ vs) n h = (h 0 v refl, items_mean P ws vs (omega arith) (λ i u e. h (suc i) u e))
 
 -- what is reached from some places has what these have and pointers keep
-pub reached_places : (words : List ℕ) (P Q : ℕ → Type 0) → ((at : ℕ) → P at → Q at) → ((at to : ℕ) (object : IsObjectAt words at) → Q at → Contains (pointers (told_at words at object.header)) to → Q to) → (at : ℕ) → Reaches words P at → Q at
+pub reached_places : (words : List ℕ) (P Q : ℕ → Type 0) → ((at : ℕ) → P at → Q at) →
+    ((at to : ℕ) (object : IsObjectAt words at) → Q at → Contains (pointers (told_at words at object.header)) to → Q to) → (at : ℕ) → Reaches words P at → Q at
 reached_places words P Q first next at (Reaches.root _ p) = first at p
 reached_places words P Q first next at (Reaches.field from _ object r c) = next from at object (reached_places words P Q first next from r) c
 
@@ -118,7 +126,8 @@ module _ (report : Report) (w : World) (left : IsLeftAs report w) where
         header = subst (λ (k : ℕ). slice_index report.words k ≡ header_word (header_of node)) same p.0.object.header;
         valid = p.0.object.valid;
         within = omega (arith, fits, total, same);
-        fields = subst (λ (k : ℕ). HasFields P report.words (k + HEADER_WORDS) node) same (fields_of_slots P report.words (p.0.at + HEADER_WORDS) node p.0.fields);
+        fields = subst (λ (k : ℕ).
+            HasFields P report.words (k + HEADER_WORDS) node) same (fields_of_slots P report.words (p.0.at + HEADER_WORDS) node p.0.fields);
       }
 
   sized : (name : Name) (node : Node) → node_of w name ≡ Some node → IsSized node
@@ -138,8 +147,12 @@ module _ (report : Report) (w : World) (left : IsLeftAs report w) where
   header_is : (at : ℕ) (node : Node) → StandsAt at node → (object : IsObjectAt report.words at) → object.header ≡ header_of node
   header_is at node s object = same_header object.header (header_of node) object.valid s.valid (object.word ∙ s.header)
 
-  means_at : (at : ℕ) (name : Name) (node : Node) → node_of w name ≡ Some node → StandsAt at node → (object : IsObjectAt report.words at) → ListMeans P (told_at report.words at object.header) (held_by (shown node))
-  means_at at name node is s object = subst (λ (h : Header). ListMeans P (told_at report.words at h) (held_by (shown node))) (sym (header_is at node s object)) (told_means P report.words name_at name_is above at node (sized name node is) s.fields s.within)
+  means_at : (at : ℕ) (name : Name) (node : Node) → node_of w name ≡ Some node → StandsAt at node → (object : IsObjectAt report.words at) →
+      ListMeans P (told_at report.words at object.header) (held_by (shown node))
+  means_at at name node is s object =
+      subst (λ (h : Header).
+      ListMeans P (told_at report.words at h) (held_by (shown node))) (sym (header_is at node s object))
+      (told_means P report.words name_at name_is above at node (sized name node is) s.fields s.within)
 
   pub wide_readable : (at : ℕ) → LiesWideAt left.places w at → IsReadableObject report.words at
   wide_readable at lies =
@@ -148,31 +161,38 @@ module _ (report : Report) (w : World) (left : IsLeftAs report w) where
       let s = stands at name node.0 lies.2 lies.1 node.1 in
       record {
         object = wide_object at lies;
-        fields = λ it. list_readable P report.words name_at name_is above (told_at report.words at it.header) (held_by (shown node.0)) (means_at at name node.0 node.1 s it);
+        fields = λ it. list_readable P report.words name_at name_is above (told_at report.words at it.header) (held_by (shown node.0))
+            (means_at at name node.0 node.1 s it);
       }
 
   -- its node is read as it is shown
-  pub wide_reads : (at : ℕ) (name : Name) (node : Node) → P (record { at = at; name = name }) → IsWide w name → node_of w name ≡ Some node → (object : IsObjectAt report.words at) → node_read report.words at object.header ≡ shown node
+  pub wide_reads : (at : ℕ) (name : Name) (node : Node) → P (record { at = at; name = name }) → IsWide w name → node_of w name ≡ Some node →
+      (object : IsObjectAt report.words at) → node_read report.words at object.header ≡ shown node
   wide_reads at name node c wide is object =
       let s = stands at name node c wide is in
-      ap (node_read report.words at) (header_is at node s object) ∙ node_reads P report.words name_at name_is above at node (sized name node is) s.fields s.within
+      ap (node_read report.words at) (header_is at node s object) ∙
+      node_reads P report.words name_at name_is above at node (sized name node is) s.fields s.within
 
   -- what it points to is in the wide reach
-  pub wide_next : (at to : ℕ) (object : IsObjectAt report.words at) → LiesWideAt left.places w at → Contains (pointers (told_at report.words at object.header)) to → LiesWideAt left.places w to
+  pub wide_next : (at to : ℕ) (object : IsObjectAt report.words at) → LiesWideAt left.places w at →
+      Contains (pointers (told_at report.words at object.header)) to → LiesWideAt left.places w to
   wide_next at to object (name, wide, c) p =
       let node = wide_node name wide in
       let s = stands at name node.0 c wide node.1 in
-      let n = list_pointers P report.words name_at name_is above (told_at report.words at object.header) (held_by (shown node.0)) to (means_at at name node.0 node.1 s object) p in
+      let n = list_pointers P report.words name_at name_is above (told_at report.words at object.header) (held_by (shown node.0)) to
+      (means_at at name node.0 node.1 s object) p in
       (n.0, wide_field w name n.0 node.0 wide node.1 n.1, n.2)
 
   -- MUTATORS
-  held_means : (m : ℕ) (own : MutatorEnd) → slice_get report.mutators m ≡ Some own → ListMeans P own.registers (state_of w m).registers × ListMeans P own.queue (state_of w m).queue
+  held_means : (m : ℕ) (own : MutatorEnd) → slice_get report.mutators m ≡ Some own → ListMeans P own.registers (state_of w m).registers ×
+      ListMeans P own.queue (state_of w m).queue
   held_means m own e =
       let count = left.roots.mutators.0 in
       let many = length-map report.mutators (λ (x : MutatorEnd). x.queue) in
       let within = slice_get_within report.mutators m own e in
       let lt : m < length w.mutators = omega (arith, count, many, within) in
-      let mine : length own.registers ≡ REGISTERS = All-contains (λ (x : MutatorEnd). length x.registers ≡ REGISTERS) report.mutators own left.registers (contains_at report.mutators m own e) in
+      let mine : length own.registers ≡ REGISTERS = All-contains (λ (x : MutatorEnd). length x.registers ≡
+      REGISTERS) report.mutators own left.registers (contains_at report.mutators m own e) in
       let theirs = left.world.registers m lt in
       let held = left.roots.held m lt in (
         items_mean P own.registers (state_of w m).registers (mine ∙ sym theirs) (λ i v at.
@@ -228,10 +248,17 @@ module _ (report : Report) (w : World) (left : IsLeftAs report w) where
   -- WEAK POINTERS
   weak_root : (at : ℕ) → IsWeakRoot report at → LiesWideAt left.places w at
   weak_root at (number, (block, h)) =
-      let filled = left.blocks.filled at (block_size (nth report.segments.segments number).class) (record { number = number; block = block; begins = h.begins; used = h.used; words = refl }) in
+      let filled = left.blocks.filled at (block_size (nth report.segments.segments number).class) (record {
+        number = number;
+        block = block;
+        begins = h.begins;
+        used = h.used;
+        words = refl;
+      }) in
       let name = filled.0 in
       let is : name_in report.words at ≡ name = name_is (record { at = at; name = name }) filled.1 in
-      let listed : Contains (map (λ (p : Place). p.name) left.weaks) name = subst (λ (l : List Name). Contains l name) left.weaks_are (subst (λ (n : Name). Contains report.weaks n) is h.listed) in
+      let listed : Contains (map (λ (p : Place). p.name) left.weaks) name =
+      subst (λ (l : List Name). Contains l name) left.weaks_are (subst (λ (n : Name). Contains report.weaks n) is h.listed) in
       let i = place_of (map (λ (p : Place). p.name) left.weaks) name listed in
       let p = map_item (λ (p : Place). p.name) left.weaks i.0 name i.1 in
       let alive : IsAliveWeak w p.0.name = (left.listed.sound p.0 (contains_at left.weaks i.0 p.0 p.1)).1 in
@@ -253,11 +280,13 @@ module _ (report : Report) (w : World) (left : IsLeftAs report w) where
   ReachesName name = (at : ℕ) × P (record { at = at; name = name }) × Reaches report.words (IsRootPlace report) at
 
   -- a field of an object that is reached
-  reached_field : (name target : Name) (node : Node) → node_of w name ≡ Some node → IsWide w name → ReachesName name → Contains (held_by (shown node)) (value.Ref target) → ReachesName target
+  reached_field : (name target : Name) (node : Node) → node_of w name ≡ Some node → IsWide w name → ReachesName name →
+      Contains (held_by (shown node)) (value.Ref target) → ReachesName target
   reached_field name target node is wide (at, c, r) held =
       let s = stands at name node c wide is in
       let object = wide_object at (name, wide, c) in
-      let p = pointers_list P report.words name_at name_is above (told_at report.words at object.header) (held_by (shown node)) target (means_at at name node is s object) held in
+      let p = pointers_list P report.words name_at name_is above (told_at report.words at object.header) (held_by (shown node)) target
+      (means_at at name node is s object) held in
       (p.0, p.2, Reaches.field at p.0 object r p.1)
 
   -- an alive weak pointer is reached
@@ -283,8 +312,19 @@ module _ (report : Report) (w : World) (left : IsLeftAs report w) where
       ] in
       let listed = left.listed.complete at (p.there, (parts, alive), segment) in
       let i = place_of left.weaks at listed in
-      let named : Contains report.weaks name = subst (λ (l : List Name). Contains l name) (sym left.weaks_are) (contains_at (map (λ (p : Place). p.name) left.weaks) i.0 name (item_map (λ (p : Place). p.name) left.weaks i.0 at i.1)) in
-      (p.at, p.there, Reaches.root p.at (inr (inr (o.number, (o.block, record { begins = o.begins; used = o.used; listed = subst (λ (n : Name). Contains report.weaks n) (sym (name_is at p.there)) named })))))
+      let named : Contains report.weaks name = subst (λ (l : List Name).
+      Contains l name) (sym left.weaks_are) (contains_at (map (λ (p : Place). p.name) left.weaks) i.0 name (item_map (λ (p : Place).
+      p.name) left.weaks i.0 at i.1)) in (
+        p.at,
+        p.there,
+        Reaches.root p.at (inr (inr (
+          o.number,
+          (
+            o.block,
+            record { begins = o.begins; used = o.used; listed = subst (λ (n : Name). Contains report.weaks n) (sym (name_is at p.there)) named },
+          ),
+        ))),
+      )
 
   reached_root : (name : Name) → IsRoot w name → ReachesName name
   reached_root name (inl e) = subst ReachesName (sym e) (SHARED_PLACE, shared_at, Reaches.root SHARED_PLACE (inl refl))
@@ -314,7 +354,8 @@ module _ (report : Report) (w : World) (left : IsLeftAs report w) where
       let wide : IsWide w weak = start weak (inr (weak, parts, alive, inl refl)) in
       reached_field weak name (Weak (Some parts)) alive wide (reached_weak weak parts alive) (part of)
     where
-      part : (parts.key ≡ value.Ref name) ⊎ ((parts.value ≡ value.Ref name) ⊎ (parts.finaliser ≡ value.Ref name)) → Contains (parts.key ∷ parts.value ∷ parts.finaliser ∷ []) (value.Ref name)
+      part : (parts.key ≡ value.Ref name) ⊎ ((parts.value ≡ value.Ref name) ⊎ (parts.finaliser ≡ value.Ref name)) →
+          Contains (parts.key ∷ parts.value ∷ parts.finaliser ∷ []) (value.Ref name)
       part (inl e) = (0, omega arith, e)
       part (inr (inl e)) = (1, omega arith, e)
       part (inr (inr e)) = (2, omega arith, e)
@@ -329,7 +370,13 @@ module _ (report : Report) (w : World) (left : IsLeftAs report w) where
   ready = record {
     objects = λ at r. wide_object at (reached_wide at r);
     blocks = λ number block at begins used.
-        let filled = left.blocks.filled at (block_size (nth report.segments.segments number).class) (record { number = number; block = block; begins = begins; used = used; words = refl }) in
+        let filled = left.blocks.filled at (block_size (nth report.segments.segments number).class) (record {
+          number = number;
+          block = block;
+          begins = begins;
+          used = used;
+          words = refl;
+        }) in
         name_at (record { at = at; name = filled.0 }) filled.1;
     weaks = subst (All IsName) (sym left.weaks_are) (all_items IsName (map (λ (p : Place). p.name) left.weaks) (λ n c.
         let i = place_of (map (λ (p : Place). p.name) left.weaks) n c in
@@ -341,7 +388,9 @@ module _ (report : Report) (w : World) (left : IsLeftAs report w) where
   -- THE IMAGE
 
   -- what is made of the places that are reached shows the world
-  pub shows : (places : List ℕ) (image : Image) → ((at : ℕ) → Contains places at ↔ Reaches report.words (IsRootPlace report) at) → length image.mutators ≡ length report.mutators → ((m : ℕ) (own : MutatorEnd) (shown : ImageMutator) → slice_get report.mutators m ≡ Some own → slice_get image.mutators m ≡ Some shown → ShowsOwn report.words own shown) → ListsObjects report.words places image.nodes → Shows w image
+  pub shows : (places : List ℕ) (image : Image) → ((at : ℕ) → Contains places at ↔ Reaches report.words (IsRootPlace report) at) →
+      length image.mutators ≡ length report.mutators → ((m : ℕ) (own : MutatorEnd) (shown : ImageMutator) → slice_get report.mutators m ≡ Some own →
+      slice_get image.mutators m ≡ Some shown → ShowsOwn report.words own shown) → ListsObjects report.words places image.nodes → Shows w image
   shows places image reached count own lists = record {
     count = count ∙ sym (length-map report.mutators (λ (x : MutatorEnd). x.queue)) ∙ left.roots.mutators.0;
     mutators = λ m shown e. mutator_shows m shown e;
@@ -368,11 +417,13 @@ module _ (report : Report) (w : World) (left : IsLeftAs report w) where
           let h = held_means m mine.0 mine.1 in
           record {
             serial = s.serial ∙ left.roots.next m mine.0.serial (item_map (λ (x : MutatorEnd). x.serial) report.mutators m mine.0 mine.1);
-            registers = subst (λ (l : List Value). ListsHeld l shown.registers) (list_read P report.words name_at name_is above mine.0.registers (state_of w m).registers h.0) s.registers;
+            registers = subst (λ (l : List Value).
+                ListsHeld l shown.registers) (list_read P report.words name_at name_is above mine.0.registers (state_of w m).registers h.0) s.registers;
             queue = s.queue ∙ list_read P report.words name_at name_is above mine.0.queue (state_of w m).queue h.1;
           }
 
-      entry_at : (entry : Entry) → Contains image.nodes entry → (at : ℕ) × (IsWide w entry.name × P (record { at = at; name = entry.name })) × IsShownAt report.words at entry
+      entry_at : (entry : Entry) → Contains image.nodes entry → (at : ℕ) × (IsWide w entry.name × P (record { at = at; name = entry.name })) ×
+          IsShownAt report.words at entry
       entry_at entry c =
           let s = lists.sound entry c in
           let lies = reached_wide s.0 ((reached s.0).0 s.1) in

@@ -64,12 +64,15 @@ module _ (d : Name → Bool) (image : Image) (orderly : IsOrderly image) (are_in
       record {
         serial = h.serial;
         ordered = h.ordered;
-        registers = both IsHeld (λ (held : Held). IsIn d held.value) own.registers (recursion_from_All IsHeld own.registers h.registers) (of_map (IsIn d) (λ (held : Held). held.value) own.registers (front_of (IsIn d) values own.queue all));
+        registers = both IsHeld (λ (held : Held).
+            IsIn d held.value) own.registers (recursion_from_All IsHeld own.registers h.registers) (of_map (IsIn d) (λ (held : Held).
+            held.value) own.registers (front_of (IsIn d) values own.queue all));
         queue = both IsValue (IsIn d) own.queue (recursion_from_All IsValue own.queue h.queue) (back_of (IsIn d) values own.queue all);
       }
 
   owns_in : AllByRecursion (IsOwnIn d (length image.mutators) orderly.few) image.mutators
-  owns_in = all_both IsMutator (λ (own : ImageMutator). All (IsIn d) (values_of own)) (IsOwnIn d (length image.mutators) orderly.few) image.mutators own_in orderly.mutators are_in.mutators
+  owns_in = all_both IsMutator (λ (own : ImageMutator).
+      All (IsIn d) (values_of own)) (IsOwnIn d (length image.mutators) orderly.few) image.mutators own_in orderly.mutators are_in.mutators
 
   pub taken : HasTaken d (length image.mutators) orderly.few (state (length image.mutators) [] None [] false) (mutator_lines 0 image.mutators) image.mutators
   taken = mutators_run d (length image.mutators) orderly.few image.mutators 0 [] None refl (omega arith) owns_in
@@ -77,7 +80,8 @@ module _ (d : Name → Bool) (image : Image) (orderly : IsOrderly image) (are_in
   full : length (taken.done ++ option_to_list taken.current) ≡ length image.mutators
   full = ap length taken.are
 
-  entry_in : (entry : Entry) → IsEntry image.mutators entry → All (IsIn d) (held_by entry.node) → IsEntryIn d (length image.mutators) orderly.few taken.done taken.current orderly.some full entry
+  entry_in : (entry : Entry) → IsEntry image.mutators entry → All (IsIn d) (held_by entry.node) →
+      IsEntryIn d (length image.mutators) orderly.few taken.done taken.current orderly.some full entry
   entry_in entry h vs = record {
     spelt = spellable image.mutators entry orderly.few orderly.mutators h;
     owned = subst (λ (l : List ImageMutator). IsOwned l entry) (sym taken.are) h.owned;
@@ -85,22 +89,31 @@ module _ (d : Name → Bool) (image : Image) (orderly : IsOrderly image) (are_in
   }
 
   entries_in : AllByRecursion (IsEntryIn d (length image.mutators) orderly.few taken.done taken.current orderly.some full) image.nodes
-  entries_in = all_both (IsEntry image.mutators) (λ (entry : Entry). All (IsIn d) (held_by entry.node)) (IsEntryIn d (length image.mutators) orderly.few taken.done taken.current orderly.some full) image.nodes entry_in orderly.nodes are_in.nodes
+  entries_in = all_both (IsEntry image.mutators) (λ (entry : Entry).
+      All (IsIn d) (held_by entry.node)) (IsEntryIn d (length image.mutators) orderly.few taken.done taken.current orderly.some full) image.nodes
+      entry_in orderly.nodes are_in.nodes
 
   -- all its lines but the last
-  pub front_taken : run d start ((first_words (length image.mutators) ∷ mutator_lines 0 image.mutators) ++ map entry_words image.nodes) ≡ Some (state (length image.mutators) taken.done taken.current image.nodes false)
+  pub front_taken : run d start ((first_words (length image.mutators) ∷ mutator_lines 0 image.mutators) ++ map entry_words image.nodes) ≡
+      Some (state (length image.mutators) taken.done taken.current image.nodes false)
   front_taken =
       let m : ℕ = length image.mutators in
-      let front = run_step d start (state m [] None [] false) (first_words m) (mutator_lines 0 image.mutators) (Some (state m taken.done taken.current [] false)) (first_runs d m orderly.some orderly.few) taken.runs in
-      run_on d start (state m taken.done taken.current [] false) (first_words m ∷ mutator_lines 0 image.mutators) (map entry_words image.nodes) (Some (state m taken.done taken.current image.nodes false)) front (nodes_run d m orderly.few taken.done taken.current orderly.some full image.nodes [] orderly.ordered entries_in)
+      let front = run_step d start (state m [] None [] false) (first_words m) (mutator_lines 0 image.mutators)
+      (Some (state m taken.done taken.current [] false)) (first_runs d m orderly.some orderly.few) taken.runs in
+      run_on d start (state m taken.done taken.current [] false) (first_words m ∷
+      mutator_lines 0 image.mutators) (map entry_words image.nodes) (Some (state m taken.done taken.current image.nodes false)) front
+      (nodes_run d m orderly.few taken.done taken.current orderly.some full image.nodes [] orderly.ordered entries_in)
 
   pub image_taken : d shared_name ≡ true → IsTaken d (image_lines image) image
   image_taken shared =
       let m : ℕ = length image.mutators in
-      let last = run_step d (state m taken.done taken.current image.nodes false) (state m taken.done taken.current image.nodes true) last_words [] (Some (state m taken.done taken.current image.nodes true)) (end_runs d m orderly.few taken.done taken.current orderly.some full image.nodes shared) refl in
+      let last = run_step d (state m taken.done taken.current image.nodes false) (state m taken.done taken.current image.nodes true) last_words []
+      (Some (state m taken.done taken.current image.nodes true))
+      (end_runs d m orderly.few taken.done taken.current orderly.some full image.nodes shared) refl in
       record {
         reader = state m taken.done taken.current image.nodes true;
-        runs = run_on d start (state m taken.done taken.current image.nodes false) ((first_words m ∷ mutator_lines 0 image.mutators) ++ map entry_words image.nodes) (last_words ∷ []) (Some (state m taken.done taken.current image.nodes true)) front_taken last;
+        runs = run_on d start (state m taken.done taken.current image.nodes false) ((first_words m ∷ mutator_lines 0 image.mutators) ++
+            map entry_words image.nodes) (last_words ∷ []) (Some (state m taken.done taken.current image.nodes true)) front_taken last;
         ended = refl;
         image_is = ap (λ (l : List ImageMutator). let i : Image = record { mutators = l; nodes = image.nodes } in i) taken.are;
       }

@@ -42,16 +42,23 @@ rec_append : {A : Type 0} (P : A → Type 0) (xs ys : List A) → AllByRecursion
 rec_append P [] ys h k = k
 rec_append P (x ∷ xs) ys h k = (h.0, rec_append P xs ys h.1 k)
 
-rec_map : {A B : Type 0} (P : A → Type 0) (Q : B → Type 0) (f : A → B) (xs : List A) → ((x : A) → P x → Q (f x)) → AllByRecursion P xs → AllByRecursion Q (map f xs)
+rec_map : {A B : Type 0} (P : A → Type 0) (Q : B → Type 0) (f : A → B) (xs : List A) → ((x : A) → P x → Q (f x)) → AllByRecursion P xs →
+    AllByRecursion Q (map f xs)
 rec_map P Q f [] h k = tt
 rec_map P Q f (x ∷ xs) h k = (h x k.0, rec_map P Q f xs h k.1)
 
 own_made : (own : ImageMutator) → IsMutator own → AllByRecursion MakeLine (own_lines own)
-own_made own h = rec_append MakeLine (map register_words own.registers) (map queue_words own.queue) (rec_map IsHeld MakeLine register_words own.registers register_line (recursion_from_All IsHeld own.registers h.registers)) (rec_map IsValue MakeLine queue_words own.queue queue_line (recursion_from_All IsValue own.queue h.queue))
+own_made own h = rec_append MakeLine (map register_words own.registers) (map queue_words own.queue)
+    (rec_map IsHeld MakeLine register_words own.registers register_line (recursion_from_All IsHeld own.registers h.registers))
+    (rec_map IsValue MakeLine queue_words own.queue queue_line (recursion_from_All IsValue own.queue h.queue))
 
 mutators_made : (m : ℕ) (owns : List ImageMutator) → m + length owns ≤ MAKERS → AllByRecursion IsMutator owns → AllByRecursion MakeLine (mutator_lines m owns)
 mutators_made m [] few h = tt
-mutators_made m (own ∷ owns) few h = rec_append MakeLine (mutator_words m own.serial ∷ own_lines own) (mutator_lines (m + 1) owns) (mutator_line m own.serial (omega arith) h.0.serial, own_made own h.0) (mutators_made (m + 1) owns (omega arith) h.1)
+mutators_made m (own ∷ owns) few h = rec_append MakeLine (mutator_words m own.serial ∷
+    own_lines own) (mutator_lines (m + 1) owns) (
+      mutator_line m own.serial (omega arith) h.0.serial,
+      own_made own h.0,
+    ) (mutators_made (m + 1) owns (omega arith) h.1)
 
 module _ (image : Image) (o : IsOrderly image) where
   entries_spellable : AllByRecursion IsSpellable image.nodes
@@ -61,7 +68,12 @@ module _ (image : Image) (o : IsOrderly image) where
   image_made =
       let front = first_words (length image.mutators) ∷ mutator_lines 0 image.mutators in
       let nodes = map entry_words image.nodes in
-      rec_append MakeLine (front ++ nodes) (last_words ∷ []) (rec_append MakeLine front nodes (first_line (length image.mutators) o.few, mutators_made 0 image.mutators (let few = o.few in omega arith) (recursion_from_All IsMutator image.mutators o.mutators)) (rec_map IsSpellable MakeLine entry_words image.nodes entry_line entries_spellable)) (end_line, tt)
+      rec_append MakeLine (front ++ nodes) (last_words ∷ []) (rec_append MakeLine front nodes (
+        first_line (length image.mutators) o.few,
+        mutators_made 0 image.mutators (let few = o.few in
+            omega arith) (recursion_from_All IsMutator image.mutators o.mutators),
+      )
+      (rec_map IsSpellable MakeLine entry_words image.nodes entry_line entries_spellable)) (end_line, tt)
 
 -- NODE LINES ARE THOSE OF OBJECTS ALONE
 
@@ -94,7 +106,12 @@ each_map Q f (x ∷ xs) h = (h x, each_map Q f xs h)
 
 mutators_other : (m : ℕ) (owns : List ImageMutator) → AllByRecursion IsOther (mutator_lines m owns)
 mutators_other m [] = tt
-mutators_other m (own ∷ owns) = rec_append IsOther (mutator_words m own.serial ∷ own_lines own) (mutator_lines (m + 1) owns) (other_mutator m own.serial, rec_append IsOther (map register_words own.registers) (map queue_words own.queue) (each_map IsOther register_words own.registers other_register) (each_map IsOther queue_words own.queue other_queue)) (mutators_other (m + 1) owns)
+mutators_other m (own ∷ owns) = rec_append IsOther (mutator_words m own.serial ∷
+    own_lines own) (mutator_lines (m + 1) owns) (
+      other_mutator m own.serial,
+      rec_append IsOther (map register_words own.registers) (map queue_words own.queue) (each_map IsOther register_words own.registers other_register)
+          (each_map IsOther queue_words own.queue other_queue),
+    ) (mutators_other (m + 1) owns)
 
 rec_at : {A : Type 0} (P : A → Type 0) (xs : List A) (x : A) → AllByRecursion P xs → Contains xs x → P x
 rec_at P xs x h c = All-contains P xs x (All-from_recursion P xs h) c
@@ -153,8 +170,14 @@ module _ (image : Image) (o : IsOrderly image) where
       let spelt : IsSpellable entry = rec_at IsSpellable image.nodes m.0 (entries_spellable image o) m.1 in
       let front = first_words (length image.mutators) ∷ mutator_lines 0 image.mutators in
       let nodes = map entry_words image.nodes in
-      let line : Contains (image_lines image) (entry_words m.0) = Contains-append_left (front ++ nodes) (last_words ∷ []) (entry_words m.0) (Contains-append_right front nodes (entry_words m.0) (contains_map entry_words image.nodes m.0 m.1)) in
-      (m.0, record { name = spelt.0; node = spelt.1; values = All-from_recursion IsValue (held_by m.0.node) spelt.2 }, m.2, contains_map spaced (image_lines image) (entry_words m.0) line)
+      let line : Contains (image_lines image) (entry_words m.0) =
+      Contains-append_left (front ++ nodes) (last_words ∷
+      []) (entry_words m.0) (Contains-append_right front nodes (entry_words m.0) (contains_map entry_words image.nodes m.0 m.1)) in (
+        m.0,
+        record { name = spelt.0; node = spelt.1; values = All-from_recursion IsValue (held_by m.0.node) spelt.2 },
+        m.2,
+        contains_map spaced (image_lines image) (entry_words m.0) line,
+      )
 
 -- WHAT IS DECLARED
 
@@ -174,28 +197,36 @@ are_in d image h =
           let there : Contains image.mutators own = contains_at image.mutators i own (slice_get-get_or image.mutators i x lt) in
           λ j y less.
           let v : Value = get_or (values_of own) j y in
-          value_is_in d v (λ name is. h name (subst (Contains (values_in image)) is (Contains-append_left mutators nodes v (contains_flat values_of image.mutators own v there (contains_at (values_of own) j v (slice_get-get_or (values_of own) j y less))))));
+          value_is_in d v (λ name is.
+          h name (subst (Contains (values_in image)) is (Contains-append_left mutators nodes v
+          (contains_flat values_of image.mutators own v there (contains_at (values_of own) j v (slice_get-get_or (values_of own) j y less))))));
       nodes = λ i x lt.
           let entry : Entry = get_or image.nodes i x in
           let there : Contains image.nodes entry = contains_at image.nodes i entry (slice_get-get_or image.nodes i x lt) in
           λ j y less.
           let v : Value = get_or (held_by entry.node) j y in
-          value_is_in d v (λ name is. h name (subst (Contains (values_in image)) is (Contains-append_right mutators nodes v (contains_flat (λ (e : Entry). held_by e.node) image.nodes entry v there (contains_at (held_by entry.node) j v (slice_get-get_or (held_by entry.node) j y less))))));
+          value_is_in d v (λ name is.
+          h name (subst (Contains (values_in image)) is (Contains-append_right mutators nodes v (contains_flat (λ (e : Entry).
+          held_by e.node) image.nodes entry v there (contains_at (held_by entry.node) j v (slice_get-get_or (held_by entry.node) j y less))))));
     }
 
 -- what holds of all values of the parts holds of each that the image mentions
-in_values : (P : Value → Type 0) (image : Image) → All (λ (own : ImageMutator). All P (values_of own)) image.mutators → All (λ (entry : Entry). All P (held_by entry.node)) image.nodes → (v : Value) → Contains (values_in image) v → P v
-in_values P image owns nodes v c = elim (Contains-append_cases (flat_map values_of image.mutators) (flat_map (λ (entry : Entry). held_by entry.node) image.nodes) v c) [
-  | inl m ↦
-      let own = flat_contains values_of image.mutators v m in
-      All-contains P (values_of own.0) v (All-contains (λ (x : ImageMutator). All P (values_of x)) image.mutators own.0 owns own.1) own.2
-  | inr n ↦
-      let entry = flat_contains (λ (x : Entry). held_by x.node) image.nodes v n in
-      All-contains P (held_by entry.0.node) v (All-contains (λ (x : Entry). All P (held_by x.node)) image.nodes entry.0 nodes entry.1) entry.2
-]
+in_values : (P : Value → Type 0) (image : Image) → All (λ (own : ImageMutator). All P (values_of own)) image.mutators →
+    All (λ (entry : Entry). All P (held_by entry.node)) image.nodes → (v : Value) → Contains (values_in image) v → P v
+in_values P image owns nodes v c = elim (Contains-append_cases (flat_map values_of image.mutators) (flat_map (λ (entry : Entry).
+    held_by entry.node) image.nodes) v c) [
+      | inl m ↦
+          let own = flat_contains values_of image.mutators v m in
+          All-contains P (values_of own.0) v (All-contains (λ (x : ImageMutator). All P (values_of x)) image.mutators own.0 owns own.1) own.2
+      | inr n ↦
+          let entry = flat_contains (λ (x : Entry). held_by x.node) image.nodes v n in
+          All-contains P (held_by entry.0.node) v (All-contains (λ (x : Entry). All P (held_by x.node)) image.nodes entry.0 nodes entry.1) entry.2
+    ]
 
 own_values : (own : ImageMutator) → IsMutator own → All IsValue (values_of own)
-own_values own h = All-from_recursion IsValue (values_of own) (rec_append IsValue (map (λ (held : Held). held.value) own.registers) own.queue (rec_map IsHeld IsValue (λ (held : Held). held.value) own.registers (λ held k. k.valid) (recursion_from_All IsHeld own.registers h.registers)) (recursion_from_All IsValue own.queue h.queue))
+own_values own h = All-from_recursion IsValue (values_of own) (rec_append IsValue (map (λ (held : Held).
+    held.value) own.registers) own.queue (rec_map IsHeld IsValue (λ (held : Held). held.value) own.registers (λ held k.
+    k.valid) (recursion_from_All IsHeld own.registers h.registers)) (recursion_from_All IsValue own.queue h.queue))
 
 -- each value of an orderly image has a text
 image_values : (image : Image) → IsOrderly image → (v : Value) → Contains (values_in image) v → IsValue v
@@ -204,7 +235,8 @@ image_values image o v c = in_values IsValue image (λ i x lt. own_values _ (o.m
 -- the last of a list that isn't empty
 split_last : {A : Type 0} (x : A) (xs : List A) → (front : List A) × (last : A) × (x ∷ xs ≡ front ++ last ∷ [])
 split_last x [] = ([], x, refl)
-split_last x (y ∷ xs) = let more : (front : List _) × (last : _) × (y ∷ xs ≡ front ++ last ∷ []) = split_last y xs in (x ∷ more.0, more.1, ap (λ l. x ∷ l) more.2)
+split_last x (y ∷ xs) = let more : (front : List _) × (last : _) × (y ∷ xs ≡ front ++ last ∷ []) = split_last y xs in
+    (x ∷ more.0, more.1, ap (λ l. x ∷ l) more.2)
 
 no_rest : (rest : List (List (List ℕ))) → map spaced rest ≡ [] → rest ≡ []
 no_rest [] e = refl
@@ -217,10 +249,12 @@ shared_valid = (omega arith, omega arith, λ same. refl)
 
 module _ (bytes : List ℕ) (d : Name → Bool) (tells : Tells d (cut bytes).lines) where
   -- the text of an image is cut into its lines
-  spelled_lines : (image : Image) → Spells bytes image → ((cut bytes).lines ≡ map spaced (image_lines image)) × ((cut bytes).rest ≡ []) × (map words_of (cut bytes).lines ≡ image_lines image)
+  spelled_lines : (image : Image) → Spells bytes image → ((cut bytes).lines ≡ map spaced (image_lines image)) × ((cut bytes).rest ≡ []) ×
+      (map words_of (cut bytes).lines ≡ image_lines image)
   spelled_lines image s =
       let made = image_made image s.valid.orderly in
-      let c : cut bytes ≡ record { lines = map spaced (image_lines image); rest = [] } = ap cut s.text ∙ cut_ended (map spaced (image_lines image)) (made_lines (image_lines image) made) in
+      let c : cut bytes ≡ record { lines = map spaced (image_lines image); rest = [] } = ap cut s.text ∙
+      cut_ended (map spaced (image_lines image)) (made_lines (image_lines image) made) in
       let lines : (cut bytes).lines ≡ map spaced (image_lines image) = ap (λ (x : Cut). x.lines) c in (
         lines,
         ap (λ (x : Cut). x.rest) c,
@@ -231,8 +265,11 @@ module _ (bytes : List ℕ) (d : Name → Bool) (tells : Tells d (cut bytes).lin
   pub only : (image : Image) → Spells bytes image → IsTaken d (map words_of (cut bytes).lines) image × ((cut bytes).rest ≡ [])
   only image s =
       let c = spelled_lines image s in
-      let declared : (name : Name) → Contains (names_of image.nodes) name → d name ≡ true = λ name h. tells.complete name (subst (λ (l : List (List ℕ)). IsDeclared l name) (sym c.0) (here_declared image s.valid.orderly name h)) in
-      let taken = image_taken d image s.valid.orderly (are_in d image (λ name h. declared name (s.valid.closed name h))) (declared shared_name s.valid.shared) in
+      let declared : (name : Name) → Contains (names_of image.nodes) name →
+      d name ≡ true = λ name h. tells.complete name (subst (λ (l : List (List ℕ)).
+      IsDeclared l name) (sym c.0) (here_declared image s.valid.orderly name h)) in
+      let taken = image_taken d image s.valid.orderly (are_in d image (λ name h.
+      declared name (s.valid.closed name h))) (declared shared_name s.valid.shared) in
       (subst (λ (l : List (List (List ℕ))). IsTaken d l image) (sym c.2) taken, c.1)
 
   -- what is read is spelled so
@@ -241,16 +278,22 @@ module _ (bytes : List ℕ) (d : Name → Bool) (tells : Tells d (cut bytes).lin
       let went = run_goes d (map words_of (cut bytes).lines) start r (start_good d) runs in
       let good : IsGood d r = went.0 in
       let image : Image = image_of r in
-      let lines : image_lines (image_of r) ≡ map words_of (cut bytes).lines = sym (ended_lines d r good is_yes) ∙ went.1 ∙ ap (λ (l : List (List (List ℕ))). l ++ map words_of (cut bytes).lines) start_lines in
-      let whole : map spaced (image_lines (image_of r)) ≡ (cut bytes).lines = ap (λ (l : List (List (List ℕ))). map spaced l) lines ∙ spaced-lines (cut bytes).lines in
+      let lines : image_lines (image_of r) ≡ map words_of (cut bytes).lines = sym (ended_lines d r good is_yes) ∙ went.1 ∙
+      ap (λ (l : List (List (List ℕ))). l ++ map words_of (cut bytes).lines) start_lines in
+      let whole : map spaced (image_lines (image_of r)) ≡ (cut bytes).lines = ap (λ (l : List (List (List ℕ))). map spaced l) lines ∙
+      spaced-lines (cut bytes).lines in
       let orderly : IsOrderly (image_of r) = ended_orderly d r good is_yes in
-      let named : (name : Name) → IsName name → d name ≡ true → Contains (names_of r.nodes) name = λ name valid is. declared_here (image_of r) orderly name (subst (λ (l : List (List ℕ)). IsDeclared l name) (sym whole) (tells.sound name valid is)) in
+      let named : (name : Name) → IsName name → d name ≡ true →
+      Contains (names_of r.nodes) name = λ name valid is.
+      declared_here (image_of r) orderly name (subst (λ (l : List (List ℕ)). IsDeclared l name) (sym whole) (tells.sound name valid is)) in
       record {
-        text = sym (cut_is_text bytes) ∙ ap (λ (l : List ℕ). ended (cut bytes).lines ++ l) none ∙ append-nil (ended (cut bytes).lines) ∙ ap (λ (l : List (List ℕ)). ended l) (sym whole);
+        text = sym (cut_is_text bytes) ∙ ap (λ (l : List ℕ). ended (cut bytes).lines ++ l) none ∙ append-nil (ended (cut bytes).lines) ∙
+            ap (λ (l : List (List ℕ)). ended l) (sym whole);
         valid = record {
           orderly = orderly;
           shared = named shared_name shared_valid (good.last is_yes).1;
-          closed = λ name c. named name (image_values (image_of r) orderly (Ref name) c) (in_values (IsIn d) (image_of r) good.owns_in good.nodes_in (Ref name) c);
+          closed = λ name c. named name (image_values (image_of r) orderly (Ref name) c)
+              (in_values (IsIn d) (image_of r) good.owns_in good.nodes_in (Ref name) c);
         };
       }
 
@@ -258,7 +301,8 @@ module _ (bytes : List ℕ) (d : Name → Bool) (tells : Tells d (cut bytes).lin
     inside : AreIn d b.image
     inside = are_in d b.image (λ name h. tells.complete name (b.mentioned name h))
 
-    goes : (rest : List (List ℕ)) → image_lines b.image ≡ map words_of lines ++ map words_of rest → (rest ≡ [] → IsDeclared (cut bytes).lines shared_name) → (s : Reader) × (run d start (map words_of lines) ≡ Some s)
+    goes : (rest : List (List ℕ)) → image_lines b.image ≡ map words_of lines ++ map words_of rest →
+        (rest ≡ [] → IsDeclared (cut bytes).lines shared_name) → (s : Reader) × (run d start (map words_of lines) ≡ Some s)
     goes [] whole shared =
         let t = image_taken d b.image b.orderly inside (tells.complete shared_name (shared refl)) in
         (t.reader, subst (λ (l : List (List (List ℕ))). run d start l ≡ Some t.reader) (whole ∙ append-nil (map words_of lines)) t.runs)
@@ -266,19 +310,25 @@ module _ (bytes : List ℕ) (d : Name → Bool) (tells : Tells d (cut bytes).lin
         let front = map words_of lines in
         let last = split_last line rest in
         let middle = (first_words (length b.image.mutators) ∷ mutator_lines 0 b.image.mutators) ++ map entry_words b.image.nodes in
-        let same = same_from_push middle (front ++ map words_of last.0) last_words (words_of last.1) (whole ∙ ap (λ (l : List (List ℕ)). front ++ map words_of l) last.2 ∙ ap (λ (l : List (List (List ℕ))). front ++ l) (map-append words_of last.0 (last.1 ∷ [])) ∙ sym (append_assoc front (map words_of last.0) (words_of last.1 ∷ []))) in
+        let same = same_from_push middle (front ++ map words_of last.0) last_words (words_of last.1) (whole ∙
+        ap (λ (l : List (List ℕ)). front ++ map words_of l) last.2 ∙
+        ap (λ (l : List (List (List ℕ))). front ++ l) (map-append words_of last.0 (last.1 ∷ [])) ∙
+        sym (append_assoc front (map words_of last.0) (words_of last.1 ∷ []))) in
         let ran = front_taken d b.image b.orderly inside in
-        let split = bind_some (run d start front) (λ s. run d s (map words_of last.0)) _ (sym (run_append d start front (map words_of last.0)) ∙ ap (λ (l : List (List (List ℕ))). run d start l) (sym same.0) ∙ ran) in
+        let split = bind_some (run d start front) (λ s. run d s (map words_of last.0)) _ (sym (run_append d start front (map words_of last.0)) ∙
+        ap (λ (l : List (List (List ℕ))). run d start l) (sym same.0) ∙ ran) in
         (split.0, split.1)
 
     -- lines with which an image begins are taken
     begins_runs : (s : Reader) × (run d start (map words_of lines) ≡ Some s)
     begins_runs =
         let made = image_made b.image b.orderly in
-        let whole : image_lines b.image ≡ map words_of lines ++ map words_of b.rest = sym (words_of-lines (image_lines b.image) made) ∙ ap (λ (l : List (List ℕ)). map words_of l) b.lines_are ∙ map-append words_of lines b.rest in
+        let whole : image_lines b.image ≡ map words_of lines ++ map words_of b.rest = sym (words_of-lines (image_lines b.image) made) ∙
+        ap (λ (l : List (List ℕ)). map words_of l) b.lines_are ∙ map-append words_of lines b.rest in
         goes b.rest whole b.shared
 
-  some_line : (i : ℕ) → i < length (cut bytes).lines → (line : List ℕ) × (slice_get (cut bytes).lines i ≡ Some line) × (take (i + 1) (cut bytes).lines ≡ take i (cut bytes).lines ++ line ∷ [])
+  some_line : (i : ℕ) → i < length (cut bytes).lines → (line : List ℕ) × (slice_get (cut bytes).lines i ≡ Some line) ×
+      (take (i + 1) (cut bytes).lines ≡ take i (cut bytes).lines ++ line ∷ [])
   some_line i lt = (get_or (cut bytes).lines i [], slice_get-get_or (cut bytes).lines i [] lt, take_more (cut bytes).lines i [] lt)
 
   part_begins : (lines : List (List ℕ)) (so_far : List (List (List ℕ))) → IsPart d so_far → so_far ≡ map words_of lines → Begins (cut bytes).lines lines
@@ -286,12 +336,15 @@ module _ (bytes : List ℕ) (d : Name → Bool) (tells : Tells d (cut bytes).lin
     image = part.image;
     orderly = part.orderly;
     rest = map spaced part.rest;
-    lines_are = ap (λ (l : List (List (List ℕ))). map spaced l) (part.lines_are ∙ ap (λ (l : List (List (List ℕ))). l ++ part.rest) e) ∙ map-append spaced (map words_of lines) part.rest ∙ ap (λ (l : List (List ℕ)). l ++ map spaced part.rest) (spaced-lines lines);
-    mentioned = λ name c. tells.sound name (image_values part.image part.orderly (Ref name) c) (in_values (IsIn d) part.image part.mutators_in part.nodes_in (Ref name) c);
+    lines_are = ap (λ (l : List (List (List ℕ))). map spaced l) (part.lines_are ∙ ap (λ (l : List (List (List ℕ))). l ++ part.rest) e) ∙
+        map-append spaced (map words_of lines) part.rest ∙ ap (λ (l : List (List ℕ)). l ++ map spaced part.rest) (spaced-lines lines);
+    mentioned = λ name c.
+        tells.sound name (image_values part.image part.orderly (Ref name) c) (in_values (IsIn d) part.image part.mutators_in part.nodes_in (Ref name) c);
     shared = λ none. tells.sound shared_name shared_valid (part.shared (no_rest part.rest none));
   }
 
-  module _ (i : ℕ) (r : Reader) (within : i ≤ length (cut bytes).lines) (runs : run d start (map words_of (take i (cut bytes).lines)) ≡ Some r) (bad : (line : List ℕ) → slice_get (cut bytes).lines i ≡ Some line → line_at d r (words_of line) ≡ None) where
+  module _ (i : ℕ) (r : Reader) (within : i ≤ length (cut bytes).lines) (runs : run d start (map words_of (take i (cut bytes).lines)) ≡
+      Some r) (bad : (line : List ℕ) → slice_get (cut bytes).lines i ≡ Some line → line_at d r (words_of line) ≡ None) where
     stops : (line : List ℕ) → slice_get (cut bytes).lines i ≡ Some line → run d start (map words_of (take i (cut bytes).lines ++ line ∷ [])) ≡ None
     stops line at =
         ap (λ (l : List (List (List ℕ))). run d start l) (map-append words_of (take i (cut bytes).lines) (line ∷ []))
@@ -313,12 +366,18 @@ module _ (bytes : List ℕ) (d : Name → Bool) (tells : Tells d (cut bytes).lin
           | inl lt ↦
               let line = some_line i lt in
               let front : List (List ℕ) = take i lines ++ line.0 ∷ [] in
-              let split : front ++ drop (i + 1) lines ≡ lines = ap (λ (l : List (List ℕ)). l ++ drop (i + 1) lines) (sym line.2) ∙ take-append-drop (i + 1) lines in
-              let whole : run d start (map words_of front ++ map words_of (drop (i + 1) lines)) ≡ Some o.0.reader = ap (λ (l : List (List (List ℕ))). run d start l) (sym (map-append words_of front (drop (i + 1) lines))) ∙ ap (λ (l : List (List ℕ)). run d start (map words_of l)) split ∙ o.0.runs in
-              let b = bind_some (run d start (map words_of front)) (λ t. run d t (map words_of (drop (i + 1) lines))) o.0.reader (sym (run_append d start (map words_of front) (map words_of (drop (i + 1) lines))) ∙ whole) in
+              let split : front ++ drop (i + 1) lines ≡ lines = ap (λ (l : List (List ℕ)). l ++ drop (i + 1) lines) (sym line.2) ∙
+              take-append-drop (i + 1) lines in
+              let whole : run d start (map words_of front ++ map words_of (drop (i + 1) lines)) ≡ Some o.0.reader =
+              ap (λ (l : List (List (List ℕ))). run d start l) (sym (map-append words_of front (drop (i + 1) lines))) ∙
+              ap (λ (l : List (List ℕ)). run d start (map words_of l)) split ∙ o.0.runs in
+              let b = bind_some (run d start (map words_of front)) (λ t.
+              run d t (map words_of (drop (i + 1) lines))) o.0.reader
+              (sym (run_append d start (map words_of front) (map words_of (drop (i + 1) lines))) ∙ whole) in
               none-some b.0 (sym (stops line.0 line.1) ∙ b.1)
           | inr le ↦
-              let same : r ≡ o.0.reader = same_Some r o.0.reader (sym runs ∙ ap (λ (l : List (List ℕ)). run d start (map words_of l)) (take_all i lines le) ∙ o.0.runs) in
+              let same : r ≡ o.0.reader = same_Some r o.0.reader (sym runs ∙
+              ap (λ (l : List (List ℕ)). run d start (map words_of l)) (take_all i lines le) ∙ o.0.runs) in
               not_done le (subst (λ (x : Reader). x.ended ≡ true) (sym same) o.0.ended) o.1
         ]
 

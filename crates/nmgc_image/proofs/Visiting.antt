@@ -49,7 +49,8 @@ below_all P n s t limit v = visits_same (Below P n) (λ at. (k : ℕ) × P k at)
 pub mutators_start : (mutators : List MutatorEnd) (s : Search) → IsSearch s → Visits (IsMutatorRoot (take 0 mutators)) s s
 mutators_start mutators s i = visits_none (IsMutatorRoot (take 0 mutators)) s i (λ at b. absurd (nothing_in b.0 b.1))
 
-pub mutators_next : (mutators : List MutatorEnd) (i : ℕ) (d : MutatorEnd) (s t u : Search) → i < length mutators → Visits (IsMutatorRoot (take i mutators)) s t → Visits (IsOwnRoot (get_or mutators i d)) t u → Visits (IsMutatorRoot (take (i + 1) mutators)) s u
+pub mutators_next : (mutators : List MutatorEnd) (i : ℕ) (d : MutatorEnd) (s t u : Search) → i < length mutators →
+    Visits (IsMutatorRoot (take i mutators)) s t → Visits (IsOwnRoot (get_or mutators i d)) t u → Visits (IsMutatorRoot (take (i + 1) mutators)) s u
 mutators_next mutators i d s t u lt v w =
     let own : MutatorEnd = get_or mutators i d in
     let e : take (i + 1) mutators ≡ take i mutators ++ own ∷ [] = take_more mutators i d lt in
@@ -63,10 +64,12 @@ mutators_next mutators i d s t u lt v w =
       | inr p ↦ (own, subst (λ (l : List MutatorEnd). Contains l own) (sym e) (Contains-push (take i mutators) own), p)
     ])
 
-pub mutators_end : (mutators : List MutatorEnd) (i : ℕ) (s t : Search) → length mutators ≤ i → Visits (IsMutatorRoot (take i mutators)) s t → Visits (IsMutatorRoot mutators) s t
+pub mutators_end : (mutators : List MutatorEnd) (i : ℕ) (s t : Search) → length mutators ≤ i → Visits (IsMutatorRoot (take i mutators)) s t →
+    Visits (IsMutatorRoot mutators) s t
 mutators_end mutators i s t all v = let P : List MutatorEnd → Type 0 = λ l. Visits (IsMutatorRoot l) s t in subst P (take_all i mutators all) v
 
-pub own_within : (mutators : List MutatorEnd) (i room : ℕ) (d : MutatorEnd) → i < length mutators → ((at : ℕ) → IsMutatorRoot mutators at → (at < room) × (at < 2 ^ 32)) → (at : ℕ) → IsOwnRoot (get_or mutators i d) at → (at < room) × (at < 2 ^ 32)
+pub own_within : (mutators : List MutatorEnd) (i room : ℕ) (d : MutatorEnd) → i < length mutators →
+    ((at : ℕ) → IsMutatorRoot mutators at → (at < room) × (at < 2 ^ 32)) → (at : ℕ) → IsOwnRoot (get_or mutators i d) at → (at < room) × (at < 2 ^ 32)
 own_within mutators i room d lt h at r = h at (get_or mutators i d, Contains-get_or mutators i d lt, r)
 
 -- whatever the search begins with lies in the heap, and is a number of 32 bits

@@ -45,7 +45,8 @@ pub fields_more : (words : List ℕ) (from n : ℕ) → from < length words → 
 fields_more words from n lt = ap (take (n + 1)) (drop_more words from 0 lt) ∙ rw add-one refl
 
 -- where places have names that can be read, and none is word 0
-module _ (P : Place → Type 0) (words : List ℕ) (named : (p : Place) → P p → IsNamedAt words p.at) (is : (p : Place) → P p → name_in words p.at ≡ p.name) (above : (p : Place) → P p → 1 ≤ p.at) where
+module _ (P : Place → Type 0) (words : List ℕ) (named : (p : Place) → P p → IsNamedAt words p.at) (is : (p : Place) → P p →
+    name_in words p.at ≡ p.name) (above : (p : Place) → P p → 1 ≤ p.at) where
   -- a word that stands for a value isn't 0
   pub mean_set : (word : ℕ) (v : Value) → Means P word v → 1 ≤ word
   mean_set word value.Nil m = omega arith
@@ -107,7 +108,8 @@ module _ (P : Place → Type 0) (words : List ℕ) (named : (p : Place) → P p 
   list_readable (w ∷ ws) [] h = absurd h
   list_readable (w ∷ ws) (v ∷ vs) h = All-cons (IsReadable words) w ws (mean_readable w v h.0) (list_readable ws vs h.1)
 
-  pub list_pointers : (ws : List ℕ) (vs : List Value) (at : ℕ) → ListMeans P ws vs → Contains (pointers ws) at → (n : Name) × Contains vs (value.Ref n) × P (record { at = at; name = n })
+  pub list_pointers : (ws : List ℕ) (vs : List Value) (at : ℕ) → ListMeans P ws vs → Contains (pointers ws) at → (n : Name) ×
+      Contains vs (value.Ref n) × P (record { at = at; name = n })
   list_pointers [] vs at h c = absurd (nothing_in at c)
   list_pointers (w ∷ ws) [] at h c = absurd h
   list_pointers (w ∷ ws) (v ∷ vs) at h c = elim (cases_Bool (is_pointer w)) [
@@ -120,7 +122,8 @@ module _ (P : Place → Type 0) (words : List ℕ) (named : (p : Place) → P p 
     | inr is_none ↦ let r = list_pointers ws vs at h.1 (rw is_none at c) in (r.0, contains_tail v vs (value.Ref r.0) r.1, r.2)
   ]
 
-  pub pointers_list : (ws : List ℕ) (vs : List Value) (n : Name) → ListMeans P ws vs → Contains vs (value.Ref n) → (at : ℕ) × Contains (pointers ws) at × P (record { at = at; name = n })
+  pub pointers_list : (ws : List ℕ) (vs : List Value) (n : Name) → ListMeans P ws vs → Contains vs (value.Ref n) → (at : ℕ) ×
+      Contains (pointers ws) at × P (record { at = at; name = n })
   pointers_list [] [] n h c = absurd (nothing_in (value.Ref n) c)
   pointers_list [] (v ∷ vs) n h c = absurd h
   pointers_list (w ∷ ws) [] n h c = absurd h
@@ -147,18 +150,21 @@ module _ (P : Place → Type 0) (words : List ℕ) (named : (p : Place) → P p 
   pub row_means : (from : ℕ) (vs : List Value) → AllMean P words from vs → from + length vs ≤ length words → ListMeans P (take (length vs) (drop from words)) vs
   row_means from [] h fits = tt
   row_means from (v ∷ vs) h fits =
-      let e : take (length vs + 1) (drop from words) ≡ slice_index words from ∷ take (length vs) (drop (from + 1) words) = fields_more words from (length vs) (omega arith) in
+      let e : take (length vs + 1) (drop from words) ≡ slice_index words from ∷ take (length vs) (drop (from + 1) words) =
+      fields_more words from (length vs) (omega arith) in
       let r = row_means (from + 1) vs (rest_mean from v vs h) (omega arith) in
       let z : length vs + 1 ≡ suc (length vs) = omega arith in
       subst (λ (l : List ℕ). ListMeans P l (v ∷ vs)) (sym (ap (λ (k : ℕ). take k (drop from words)) (sym z) ∙ e)) (first_mean from v vs h, r)
 
   -- of the slots of a stack those below its depth
-  pub depth_means : (from n : ℕ) (vs : List Value) → AllMean P words from vs → AreUnset words from (length vs) n → length vs ≤ n → from + n ≤ length words → ListMeans P (leading (take n (drop from words))) vs
+  pub depth_means : (from n : ℕ) (vs : List Value) → AllMean P words from vs → AreUnset words from (length vs) n → length vs ≤ n →
+      from + n ≤ length words → ListMeans P (leading (take n (drop from words))) vs
   depth_means from zero [] h u le fits = tt
   depth_means from (suc n) [] h u le fits =
       let e : take (n + 1) (drop from words) ≡ slice_index words from ∷ take n (drop (from + 1) words) = fields_more words from n (omega arith) in
       let z : n + 1 ≡ suc n = omega arith in
-      let unset : slice_index words from ≡ 0 = let y : from + 0 ≡ from = omega arith in subst (λ (k : ℕ). slice_index words k ≡ 0) y (u 0 (omega arith) (omega arith)) in
+      let unset : slice_index words from ≡ 0 = let y : from + 0 ≡ from = omega arith in
+      subst (λ (k : ℕ). slice_index words k ≡ 0) y (u 0 (omega arith) (omega arith)) in
       let none : leading (slice_index words from ∷ take n (drop (from + 1) words)) ≡ [] = rw unset refl in
       subst (λ (l : List ℕ). ListMeans P l []) (sym (ap leading (ap (λ (k : ℕ). take k (drop from words)) (sym z) ∙ e) ∙ none)) tt
   depth_means from zero (v ∷ vs) h u le fits = absurd (omega arith)
@@ -168,31 +174,40 @@ module _ (P : Place → Type 0) (words : List ℕ) (named : (p : Place) → P p 
       let first = first_mean from v vs h in
       let set = mean_set (slice_index words from) v first in
       let b : eqb (slice_index words from) 0 ≡ false = ne_eqb (slice_index words from) 0 (omega (arith, set)) in
-      let r = depth_means (from + 1) n vs (rest_mean from v vs h) (λ i low high. let y : from + suc i ≡ from + 1 + i = omega arith in subst (λ (k : ℕ). slice_index words k ≡ 0) y (u (suc i) (omega arith) (omega arith))) (omega arith) (omega arith) in
-      let some : leading (slice_index words from ∷ take n (drop (from + 1) words)) ≡ slice_index words from ∷ leading (take n (drop (from + 1) words)) = rw b refl in
+      let r = depth_means (from + 1) n vs (rest_mean from v vs h) (λ i low high. let y : from + suc i ≡ from + 1 + i = omega arith in
+      subst (λ (k : ℕ). slice_index words k ≡ 0) y (u (suc i) (omega arith) (omega arith))) (omega arith) (omega arith) in
+      let some : leading (slice_index words from ∷ take n (drop (from + 1) words)) ≡ slice_index words from ∷
+      leading (take n (drop (from + 1) words)) = rw b refl in
       subst (λ (l : List ℕ). ListMeans P l (v ∷ vs)) (sym (ap leading (ap (λ (k : ℕ). take k (drop from words)) (sym z) ∙ e) ∙ some)) (first, r)
 
-  three : (from : ℕ) → from + 3 ≤ length words → take 3 (drop from words) ≡ slice_index words from ∷ slice_index words (from + 1) ∷ slice_index words (from + 2) ∷ []
+  three : (from : ℕ) → from + 3 ≤ length words → take 3 (drop from words) ≡ slice_index words from ∷ slice_index words (from + 1) ∷
+      slice_index words (from + 2) ∷ []
   three from fits =
       let a : take 3 (drop from words) ≡ slice_index words from ∷ take 2 (drop (from + 1) words) = fields_more words from 2 (omega arith) in
-      let b : take 2 (drop (from + 1) words) ≡ slice_index words (from + 1) ∷ take 1 (drop (from + 1 + 1) words) = fields_more words (from + 1) 1 (omega arith) in
-      let c : take 1 (drop (from + 1 + 1) words) ≡ slice_index words (from + 1 + 1) ∷ take 0 (drop (from + 1 + 1 + 1) words) = fields_more words (from + 1 + 1) 0 (omega arith) in
+      let b : take 2 (drop (from + 1) words) ≡ slice_index words (from + 1) ∷ take 1 (drop (from + 1 + 1) words) =
+      fields_more words (from + 1) 1 (omega arith) in
+      let c : take 1 (drop (from + 1 + 1) words) ≡ slice_index words (from + 1 + 1) ∷ take 0 (drop (from + 1 + 1 + 1) words) =
+      fields_more words (from + 1 + 1) 0 (omega arith) in
       let z : from + 1 + 1 ≡ from + 2 = omega arith in
-      a ∙ ap (λ (l : List ℕ). slice_index words from ∷ l) (b ∙ ap (λ (l : List ℕ). slice_index words (from + 1) ∷ l) (c ∙ ap (λ (k : ℕ). slice_index words k ∷ []) z))
+      a ∙ ap (λ (l : List ℕ). slice_index words from ∷ l) (b ∙
+      ap (λ (l : List ℕ). slice_index words (from + 1) ∷ l) (c ∙ ap (λ (k : ℕ). slice_index words k ∷ []) z))
 
   -- the words that are told of an object stand for what its node holds, as it is shown
-  pub told_means : (at : ℕ) (node : Node) → IsSized node → HasFields P words (at + HEADER_WORDS) node → at + HEADER_WORDS + (header_of node).fields ≤ length words → ListMeans P (told_at words at (header_of node)) (held_by (shown node))
+  pub told_means : (at : ℕ) (node : Node) → IsSized node → HasFields P words (at + HEADER_WORDS) node →
+      at + HEADER_WORDS + (header_of node).fields ≤ length words → ListMeans P (told_at words at (header_of node)) (held_by (shown node))
   told_means at (Con tag values) sized h fits = row_means (at + HEADER_WORDS) values h fits
   told_means at (Var v) sized h fits = row_means (at + HEADER_WORDS) (v ∷ []) (one (at + HEADER_WORDS) v h) fits
     where
       one : (from : ℕ) (v : Value) → Means P (slice_index words from) v → AllMean P words from (v ∷ [])
-      one from v m zero u e = let same : v ≡ u = cc in let z : from ≡ from + 0 = omega arith in subst (λ (k : ℕ). Means P (slice_index words k) u) z (subst (λ (x : Value). Means P (slice_index words from) x) same m)
+      one from v m zero u e = let same : v ≡ u = cc in let z : from ≡ from + 0 = omega arith in
+          subst (λ (k : ℕ). Means P (slice_index words k) u) z (subst (λ (x : Value). Means P (slice_index words from) x) same m)
       one from v m (suc i) u e = absurd cc
   told_means at (Arr values) sized h fits = row_means (at + HEADER_WORDS) values h fits
   told_means at (Thunk free None) sized h fits =
       let from : ℕ = at + HEADER_WORDS in
       let e = fields_more words from (length free) (omega arith) in
-      let told_free : told_thunk (slice_index words from ∷ take (length free) (drop (from + 1) words)) ≡ take (length free) (drop (from + 1) words) = rw h.0 refl in
+      let told_free : told_thunk (slice_index words from ∷ take (length free) (drop (from + 1) words)) ≡
+      take (length free) (drop (from + 1) words) = rw h.0 refl in
       subst (λ (l : List ℕ). ListMeans P l free) (sym (ap told_thunk e ∙ told_free)) (row_means (from + 1) free h.1 (omega arith))
   told_means at (Thunk free (Some result)) sized h fits =
       let from : ℕ = at + HEADER_WORDS in
@@ -212,7 +227,8 @@ module _ (P : Place → Type 0) (words : List ℕ) (named : (p : Place) → P p 
       let e = three from fits in
       let set = mean_set (slice_index words (from + 1)) parts.value h.1 in
       let b : eqb (slice_index words (from + 1)) 0 ≡ false = ne_eqb (slice_index words (from + 1)) 0 (omega (arith, set)) in
-      let alive : told_weak (slice_index words from ∷ slice_index words (from + 1) ∷ slice_index words (from + 2) ∷ []) ≡ slice_index words from ∷ slice_index words (from + 1) ∷ slice_index words (from + 2) ∷ [] = rw b refl in
+      let alive : told_weak (slice_index words from ∷ slice_index words (from + 1) ∷ slice_index words (from + 2) ∷ []) ≡ slice_index words from ∷
+      slice_index words (from + 1) ∷ slice_index words (from + 2) ∷ [] = rw b refl in
       subst (λ (l : List ℕ). ListMeans P l (parts.key ∷ parts.value ∷ parts.finaliser ∷ [])) (sym (ap told_weak e ∙ alive)) (h.0, (h.1, (h.2, tt)))
   told_means at (Stack size values) sized h fits = depth_means (at + HEADER_WORDS) size values h.0 h.1 sized fits
 
@@ -222,14 +238,16 @@ module _ (P : Place → Type 0) (words : List ℕ) (named : (p : Place) → P p 
   IsFlag (Thunk free (Some result)) b = b ≡ false
   IsFlag _ b = Unit {0}
 
-  flag_reads : (at : ℕ) (node : Node) → HasFields P words (at + HEADER_WORDS) node → at + HEADER_WORDS + (header_of node).fields ≤ length words → IsFlag node (begins_unset (fields_at words at (header_of node)))
+  flag_reads : (at : ℕ) (node : Node) → HasFields P words (at + HEADER_WORDS) node → at + HEADER_WORDS + (header_of node).fields ≤ length words →
+      IsFlag node (begins_unset (fields_at words at (header_of node)))
   flag_reads at (Con tag values) h fits = tt
   flag_reads at (Var v) h fits = tt
   flag_reads at (Arr values) h fits = tt
   flag_reads at (Thunk free None) h fits = ap begins_unset (fields_more words (at + HEADER_WORDS) (length free) (omega arith)) ∙ rw h.0 refl
   flag_reads at (Thunk free (Some result)) h fits =
       let set = mean_set (slice_index words (at + HEADER_WORDS)) result h in
-      ap begins_unset (fields_more words (at + HEADER_WORDS) (length free) (omega arith)) ∙ ne_eqb (slice_index words (at + HEADER_WORDS)) 0 (omega (arith, set))
+      ap begins_unset (fields_more words (at + HEADER_WORDS) (length free) (omega arith)) ∙
+      ne_eqb (slice_index words (at + HEADER_WORDS)) 0 (omega (arith, set))
   flag_reads at (Weak parts) h fits = tt
   flag_reads at (Stack size values) h fits = tt
 
@@ -244,8 +262,10 @@ module _ (P : Place → Type 0) (words : List ℕ) (named : (p : Place) → P p 
   made_shown (Stack size values) b f = refl
 
   -- the node that is read is the object's, as it is shown
-  pub node_reads : (at : ℕ) (node : Node) → IsSized node → HasFields P words (at + HEADER_WORDS) node → at + HEADER_WORDS + (header_of node).fields ≤ length words → node_read words at (header_of node) ≡ shown node
+  pub node_reads : (at : ℕ) (node : Node) → IsSized node → HasFields P words (at + HEADER_WORDS) node →
+      at + HEADER_WORDS + (header_of node).fields ≤ length words → node_read words at (header_of node) ≡ shown node
   node_reads at node sized h fits =
-      let values : map (value_in words) (told_at words at (header_of node)) ≡ held_by (shown node) = list_read (told_at words at (header_of node)) (held_by (shown node)) (told_means at node sized h fits) in
+      let values : map (value_in words) (told_at words at (header_of node)) ≡ held_by (shown node) =
+      list_read (told_at words at (header_of node)) (held_by (shown node)) (told_means at node sized h fits) in
       let b : Bool = begins_unset (fields_at words at (header_of node)) in
       ap (made_of (header_of node).kind (header_of node) b) values ∙ made_shown node b (flag_reads at node h fits)

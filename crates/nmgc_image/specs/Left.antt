@@ -20,7 +20,8 @@ use Rattle.nmgc_journal.specs.declared.report.Report.{Report}
 abbrev pub most_object_words : ℕ
 most_object_words = HEADER_WORDS + MAX_FIELDS
 
--- the report's words, segments, mutators and weak pointers stand for a world within the limits, as a stop leaves them: objects lie in blocks, and none in a nursery
+-- the report's words, segments, mutators and weak pointers stand for a world within the limits, as a stop leaves
+-- them: objects lie in blocks, and none in a nursery
 pub record IsLeftAs (report : Report) (w : World) : Type 0 where
   pub world : IsWorld w
   pub limit : ℕ
@@ -32,7 +33,8 @@ pub record IsLeftAs (report : Report) (w : World) : Type 0 where
   pub places : List Place
   pub represents : Represents layout earlier NoNode places w report.words
   pub registers : All (λ (m : MutatorEnd). length m.registers ≡ REGISTERS) report.mutators
-  pub roots : RepresentsRoots places w (flat_map (λ (m : MutatorEnd). m.registers) report.mutators) (map (λ (m : MutatorEnd). m.queue) report.mutators) (map (λ (m : MutatorEnd). m.serial) report.mutators)
+  pub roots : RepresentsRoots places w (flat_map (λ (m : MutatorEnd). m.registers) report.mutators) (map (λ (m : MutatorEnd).
+      m.queue) report.mutators) (map (λ (m : MutatorEnd). m.serial) report.mutators)
   pub layout_is : report.segments.layout ≡ layout
   pub blocks : AreBlocks report.segments (nursery_place layout 0) places w
   pub settled : (p : Place) → Contains places p → p.at < nursery_place layout 0

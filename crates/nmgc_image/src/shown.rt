@@ -48,7 +48,8 @@ fn mutators_of(
 ) -> Result<List<ImageMutator>, NoMemory>
     requires { All (CanShowOwn words.now) mutators.now }
     ensures count { IfOk result (λ shown. length shown ≡ length mutators.now) }
-    ensures shown { IfOk result (λ shown. (m : ℕ) (own : EndOf) (image : ShownOf) → slice_get mutators.now m ≡ Some own → slice_get shown m ≡ Some image → ShowsOwn words.now own image) }
+    ensures shown { IfOk result (λ shown. (m : ℕ) (own : EndOf) (image : ShownOf) → slice_get mutators.now m ≡ Some own →
+        slice_get shown m ≡ Some image → ShowsOwn words.now own image) }
 {
     let mut shown = List::new(alloc);
     for own in mutators {

@@ -32,13 +32,16 @@ begins (suc n) word small e =
     (some, λ is_zero. absurd (omega (arith, first_decimal (suc n) (omega arith) small, ap (λ (ds : List ℕ). get_or ds 0 0) e)))
 
 -- a digit that makes the value too large, or a byte that is none
-exceeds : (number limit c : ℕ) (cs : List ℕ) → all_ascii_digits (c ∷ cs) ≡ true → (IsInRange 48 57 c → limit < 10 * number + (c - 48)) → limit < value_after number (c ∷ cs)
+exceeds : (number limit c : ℕ) (cs : List ℕ) → all_ascii_digits (c ∷ cs) ≡ true → (IsInRange 48 57 c → limit < 10 * number + (c - 48)) →
+    limit < value_after number (c ∷ cs)
 exceeds number limit c cs digits none =
     let large = none (digits_test.parts c cs digits).0 in
     omega (arith, large, value_after-le (10 * number + (c - 48)) cs)
 
 -- a word is no number's text, where it can't be read on at a place
-pub stops : (number limit n i : ℕ) (word : List ℕ) → n < 2 ^ 64 → i < length word → value_after 0 word ≡ value_after number (drop i word) → all_ascii_digits word ≡ all_ascii_digits (drop i word) → (IsInRange 48 57 (get_or word i 0) → limit < 10 * number + (get_or word i 0 - 48)) → n ≤ limit → word ≡ decimal n → ⊥
+pub stops : (number limit n i : ℕ) (word : List ℕ) → n < 2 ^ 64 → i < length word → value_after 0 word ≡ value_after number (drop i word) →
+    all_ascii_digits word ≡ all_ascii_digits (drop i word) → (IsInRange 48 57 (get_or word i 0) → limit < 10 * number + (get_or word i 0 - 48)) →
+    n ≤ limit → word ≡ decimal n → ⊥
 stops number limit n i word small within value digits none le e =
     let here : drop i word ≡ get_or word i 0 ∷ drop (suc i) word = drop-cons word i 0 within in
     let all : all_ascii_digits word ≡ true = ap all_ascii_digits e ∙ digits_decimal numerals n small in
@@ -48,7 +51,8 @@ stops number limit n i word small within value digits none le e =
     omega (arith, ap (value_after number) here)
 
 -- a word that was read to its end is the text of its value
-pub reads_whole : (number i : ℕ) (word : List ℕ) → number < 2 ^ 64 → length word ≤ i → value_after 0 word ≡ value_after number (drop i word) → all_ascii_digits word ≡ all_ascii_digits (drop i word) → (0 < length word) × (get_or word 0 0 ≡ 48 → length word ≡ 1) → word ≡ decimal number
+pub reads_whole : (number i : ℕ) (word : List ℕ) → number < 2 ^ 64 → length word ≤ i → value_after 0 word ≡ value_after number (drop i word) →
+    all_ascii_digits word ≡ all_ascii_digits (drop i word) → (0 < length word) × (get_or word 0 0 ≡ 48 → length word ≡ 1) → word ≡ decimal number
 reads_whole number i word small end value digits begin =
     let none : drop i word ≡ [] = drop_all i word end in
     let is_number : value_after 0 word ≡ number = value ∙ ap (value_after number) none in

@@ -31,7 +31,9 @@ none_ended n m (cycle ∷ cycles) later order =
     rw (differ n cycle.ended (omega (arith, order.0, later))) (none_ended n cycle.ended cycles (omega (arith, order.0, later)) order.1)
 
 -- one more cycle in front, which ended at this stop or later
-splits_more : (n : ℕ) (cycle : CycleRow) (cycles : List CycleRow) → AreEndedFrom n (cycle ∷ cycles) → (AreEndedFrom n cycles → Splits n cycles (prefix_len (is_ended_at n) cycles)) → (b : Bool) → (cycle.ended == n) ≡ b → Splits n (cycle ∷ cycles) (prefix_len (is_ended_at n) (cycle ∷ cycles))
+splits_more : (n : ℕ) (cycle : CycleRow) (cycles : List CycleRow) → AreEndedFrom n (cycle ∷ cycles) →
+    (AreEndedFrom n cycles → Splits n cycles (prefix_len (is_ended_at n) cycles)) → (b : Bool) → (cycle.ended == n) ≡ b →
+    Splits n (cycle ∷ cycles) (prefix_len (is_ended_at n) (cycle ∷ cycles))
 splits_more n cycle cycles order others true e =
     let same : cycle.ended ≡ n = (Decides-eqb cycle.ended n).0 e in
     let more : Splits n cycles (prefix_len (is_ended_at n) cycles) = others (subst (λ (k : ℕ). AreEndedFrom k cycles) same order.1) in
@@ -56,5 +58,6 @@ splits n [] order = record { front = refl; rest = record { within = omega arith;
 splits n (cycle ∷ cycles) order = splits_more n cycle cycles order (splits n cycles) (cycle.ended == n) refl
 
 -- the same of the number of cycles in front that ended at this stop
-pub splits_at : (n : ℕ) (cycles : List CycleRow) (count : ℕ) → AreEndedFrom n cycles → count ≡ length (take_while (is_ended_at n) cycles) → Splits n cycles count
+pub splits_at : (n : ℕ) (cycles : List CycleRow) (count : ℕ) → AreEndedFrom n cycles → count ≡ length (take_while (is_ended_at n) cycles) →
+    Splits n cycles count
 splits_at n cycles count order e = subst (Splits n cycles) (sym (e ∙ length-prefix_len (is_ended_at n) cycles)) (splits n cycles order)

@@ -9,7 +9,8 @@ use Rattle.nmgc_journal.specs.declared.replies.Form.TheVariants.{Packed, Whole}
 
 -- the replies that give neither a number nor an object, each at its place
 abbrev pub plain_replies : List Reply
-plain_replies = Fine ∷ Yes ∷ No ∷ Updated ∷ Already ∷ NoPointer ∷ NoField ∷ WrongKind ∷ NotOwner ∷ Fixed ∷ Dead ∷ Nothing ∷ StackFull ∷ StackEmpty ∷ Given Nil ∷ []
+plain_replies = Fine ∷ Yes ∷ No ∷ Updated ∷ Already ∷ NoPointer ∷ NoField ∷ WrongKind ∷ NotOwner ∷ Fixed ∷ Dead ∷ Nothing ∷ StackFull ∷ StackEmpty ∷
+    Given Nil ∷ []
 
 -- the name in a code: the maker is its lowest byte, and the serial the four bytes above
 abbrev pub name_in : ℕ → Name
@@ -20,7 +21,8 @@ name_in code = record {
 
 -- the reply in a word: 2n + 1 is the number n, 4c + 2 the object whose name has the code c, and 4p the plain reply at place p, or Fine where there is none
 abbrev pub reply_in : ℕ → Reply
-reply_in word = if word % 2 == 1 then Given (Number (word / 2)) else if word % 4 == 2 then Given (Ref (name_in (word / 4))) else slice_index_or plain_replies (word / 4) Fine
+reply_in word = if word % 2 == 1 then Given (Number (word / 2)) else if word % 4 == 2 then Given (Ref (name_in (word / 4))) else slice_index_or
+    plain_replies (word / 4) Fine
 
 -- the replies in order, packed or as they are
 abbrev pub replies_of : Form → List Reply

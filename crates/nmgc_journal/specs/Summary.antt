@@ -38,11 +38,13 @@ count_line word n = word ++ decimal n ++ 10 ∷ []
 
 -- what the run did: the commands answered, the rounds, and the cycles that ended
 abbrev pub run_lines : Report → List ℕ
-run_lines r = count_line (codes "commands ") (command_count r.rounds) ++ count_line (codes "rounds ") (length r.rounds) ++ count_line (codes "cycles ") (length r.cycles)
+run_lines r = count_line (codes "commands ") (command_count r.rounds) ++ count_line (codes "rounds ") (length r.rounds) ++
+    count_line (codes "cycles ") (length r.cycles)
 
 -- what became of the objects: made, promoted, freed, and kept by the last cycle
 abbrev pub object_lines : Report → List ℕ
-object_lines r = count_line (codes "made ") (made_count r.mutators) ++ count_line (codes "promoted ") (promoted_count r.stops) ++ count_line (codes "freed ") (freed_count r.cycles) ++ count_line (codes "kept ") (kept_count r.cycles)
+object_lines r = count_line (codes "made ") (made_count r.mutators) ++ count_line (codes "promoted ") (promoted_count r.stops) ++
+    count_line (codes "freed ") (freed_count r.cycles) ++ count_line (codes "kept ") (kept_count r.cycles)
 
 -- the whole summary of a bench of so many batches
 abbrev pub summary_text : ℕ → Report → List ℕ

@@ -71,7 +71,8 @@ phase_text Sweeping = codes " sweeping"
 
 -- the four counts that end a stop's line
 abbrev pub stop_counts : StopRow → List ℕ
-stop_counts s = codes " free " ++ decimal s.free ++ codes " filled " ++ decimal s.filled ++ codes " sweep " ++ decimal s.sweep ++ codes " promoted " ++ decimal s.promoted ++ 10 ∷ []
+stop_counts s = codes " free " ++ decimal s.free ++ codes " filled " ++ decimal s.filled ++ codes " sweep " ++ decimal s.sweep ++
+    codes " promoted " ++ decimal s.promoted ++ 10 ∷ []
 
 -- the line of a stop
 abbrev pub stop_line : StopRow → List ℕ

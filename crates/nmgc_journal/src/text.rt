@@ -33,7 +33,8 @@ pub fn text(alloc: Global, report: &Report) -> Result<Vec<u8>, NoMemory>
 
 // Appends the first stop, and each round with its stop.
 fn push_rounds(out: &mut Vec<u8>, report: &Report) -> Result<(), NoMemory>
-    ensures { OnOk result (out.new.items ≡ out.old.items ++ (stop_at report.now.stops report.now.cycles 0 ++ rounds_text report.now.stops report.now.cycles 1 report.now.rounds)) }
+    ensures { OnOk result (out.new.items ≡ out.old.items ++ (stop_at report.now.stops report.now.cycles 0 ++
+        rounds_text report.now.stops report.now.cycles 1 report.now.rounds)) }
 {
     if are_in_order(report.cycles.items()) {
         return push_rounds_in_order(out, report);
@@ -43,7 +44,8 @@ fn push_rounds(out: &mut Vec<u8>, report: &Report) -> Result<(), NoMemory>
 
 // The same where the cycles stand in any order: each stop looks through all of them.
 fn push_rounds_in_any_order(out: &mut Vec<u8>, report: &Report) -> Result<(), NoMemory>
-    ensures { OnOk result (out.new.items ≡ out.old.items ++ (stop_at report.now.stops report.now.cycles 0 ++ rounds_text report.now.stops report.now.cycles 1 report.now.rounds)) }
+    ensures { OnOk result (out.new.items ≡ out.old.items ++ (stop_at report.now.stops report.now.cycles 0 ++
+        rounds_text report.now.stops report.now.cycles 1 report.now.rounds)) }
 {
     let cycles = report.cycles.items();
     push_stop_at(out, report.stops.items(), 0, cycles)?;
@@ -57,7 +59,8 @@ fn push_rounds_in_any_order(out: &mut Vec<u8>, report: &Report) -> Result<(), No
 // The same where the cycles stand in the order of the stops at which they ended.
 fn push_rounds_in_order(out: &mut Vec<u8>, report: &Report) -> Result<(), NoMemory>
     requires { AreEndedFrom 0 report.now.cycles }
-    ensures { OnOk result (out.new.items ≡ out.old.items ++ (stop_at report.now.stops report.now.cycles 0 ++ rounds_text report.now.stops report.now.cycles 1 report.now.rounds)) }
+    ensures { OnOk result (out.new.items ≡ out.old.items ++ (stop_at report.now.stops report.now.cycles 0 ++
+        rounds_text report.now.stops report.now.cycles 1 report.now.rounds)) }
 {
     let cycles = report.cycles.items();
     let mut done = push_next_stop(out, report.stops.items(), 0, cycles)?;

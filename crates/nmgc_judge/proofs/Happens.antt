@@ -23,11 +23,13 @@ next_is p q l (Ok true) h = h
 next_is p q l (Ok false) h = h
 next_is p q l (Err e) h = tt
 
-told : (D : Bool → Type 0) (p q : Progress) (l : Line) (happened : Result Bool NoMemory) → ((done : Bool) → D done → CanIf p l done q) → IfOk happened D → IfOk happened (λ done. CanIf p l done q)
+told : (D : Bool → Type 0) (p q : Progress) (l : Line) (happened : Result Bool NoMemory) → ((done : Bool) → D done → CanIf p l done q) →
+    IfOk happened D → IfOk happened (λ done. CanIf p l done q)
 told D p q l (Ok done) f h = f done h
 told D p q l (Err e) f h = tt
 
-comes_of : (D : Bool → Type 0) (p from q : Progress) (l : Line) (happened : Result Bool NoMemory) (result : Result (Option Progress) NoMemory) → p ≡ from → ((done : Bool) → D done → CanIf from l done q) → IfOk happened D → result ≡ next_if q happened → IfOk result (IsNext p l)
+comes_of : (D : Bool → Type 0) (p from q : Progress) (l : Line) (happened : Result Bool NoMemory) (result : Result (Option Progress) NoMemory) →
+    p ≡ from → ((done : Bool) → D done → CanIf from l done q) → IfOk happened D → result ≡ next_if q happened → IfOk result (IsNext p l)
 comes_of D p from q l happened result is f h e =
     let F : Progress → Type 0 = λ x. IfOk (next_if q happened) (IsNext x l) in
     let R : Result (Option Progress) NoMemory → Type 0 = λ r. IfOk r (IsNext p l) in
@@ -38,21 +40,30 @@ answered_if w v e true h = (v, h, refl)
 answered_if w v e false h = λ other can. h can.0 can.1
 
 -- an event, while the world is built
-pub answered : (p : Progress) (w v : World) (e : Event) (happened : Result Bool NoMemory) (result : Result (Option Progress) NoMemory) → p ≡ progress.Building w → IfOk happened (λ done. IsAnsweredIf w e done v) → result ≡ next_if (progress.Building v) happened → IfOk result (IsNext p (line.Event e))
-answered p w v e happened result is h same = comes_of (λ done. IsAnsweredIf w e done v) p (progress.Building w) (progress.Building v) (line.Event e) happened result is (answered_if w v e) h same
+pub answered : (p : Progress) (w v : World) (e : Event) (happened : Result Bool NoMemory) (result : Result (Option Progress) NoMemory) →
+    p ≡ progress.Building w → IfOk happened (λ done. IsAnsweredIf w e done v) → result ≡ next_if (progress.Building v) happened →
+    IfOk result (IsNext p (line.Event e))
+answered p w v e happened result is h same = comes_of (λ done.
+    IsAnsweredIf w e done v) p (progress.Building w) (progress.Building v) (line.Event e) happened result is (answered_if w v e) h same
 
 passed_if : (s t : State) (e : Event) (done : Bool) → Passes s e done t → CanIf (progress.Marking s) (line.Event e) done (progress.Marking t)
 passed_if s t e true h = (t, h, refl)
 passed_if s t e false h = λ other can. h.0 can.1.0
 
 -- an event, while marking
-pub passed : (p : Progress) (s t : State) (e : Event) (happened : Result Bool NoMemory) (result : Result (Option Progress) NoMemory) → p ≡ progress.Marking s → IfOk happened (λ done. Passes s e done t) → result ≡ next_if (progress.Marking t) happened → IfOk result (IsNext p (line.Event e))
-passed p s t e happened result is h same = comes_of (λ done. Passes s e done t) p (progress.Marking s) (progress.Marking t) (line.Event e) happened result is (passed_if s t e) h same
+pub passed : (p : Progress) (s t : State) (e : Event) (happened : Result Bool NoMemory) (result : Result (Option Progress) NoMemory) →
+    p ≡ progress.Marking s → IfOk happened (λ done. Passes s e done t) → result ≡ next_if (progress.Marking t) happened → IfOk result (IsNext p (line.Event e))
+passed p s t e happened result is h same =
+    comes_of (λ done. Passes s e done t) p (progress.Marking s) (progress.Marking t) (line.Event e) happened result is (passed_if s t e) h same
 
-taken_if : (s t : State) (m : ℕ) (name : Name) (done : Bool) → IsTakeIf s m name done t → CanIf (progress.Marking s) (line.Take m name) done (progress.Marking t)
+taken_if : (s t : State) (m : ℕ) (name : Name) (done : Bool) → IsTakeIf s m name done t →
+    CanIf (progress.Marking s) (line.Take m name) done (progress.Marking t)
 taken_if s t m name true h = (t, h, refl)
 taken_if s t m name false h = λ other can. h can.0 can.1
 
 -- a take, while marking
-pub taken : (p : Progress) (s t : State) (m : ℕ) (name : Name) (happened : Result Bool NoMemory) (result : Result (Option Progress) NoMemory) → p ≡ progress.Marking s → IfOk happened (λ done. IsTakeIf s m name done t) → result ≡ next_if (progress.Marking t) happened → IfOk result (IsNext p (line.Take m name))
-taken p s t m name happened result is h same = comes_of (λ done. IsTakeIf s m name done t) p (progress.Marking s) (progress.Marking t) (line.Take m name) happened result is (taken_if s t m name) h same
+pub taken : (p : Progress) (s t : State) (m : ℕ) (name : Name) (happened : Result Bool NoMemory) (result : Result (Option Progress) NoMemory) →
+    p ≡ progress.Marking s → IfOk happened (λ done. IsTakeIf s m name done t) → result ≡ next_if (progress.Marking t) happened →
+    IfOk result (IsNext p (line.Take m name))
+taken p s t m name happened result is h same = comes_of (λ done.
+    IsTakeIf s m name done t) p (progress.Marking s) (progress.Marking t) (line.Take m name) happened result is (taken_if s t m name) h same

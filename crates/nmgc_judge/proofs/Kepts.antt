@@ -132,7 +132,8 @@ begun_world w h (line.Mark ∷ ls) last c =
 begun_world w h (line.Event e ∷ ls) last c =
     let C : Progress → Type 0 = λ p. Comes p ls last in
     let M : Progress → Type 0 = λ p. MayBegin p ls last in
-    later_on (progress.Building w) c.0 (line.Event e) ls last c.1 (subst M (sym c.1.2) (begun_world c.1.0 (answered_world w e c.1.0 h c.1.1) ls last (subst C c.1.2 c.2)))
+    later_on (progress.Building w) c.0 (line.Event e) ls last c.1
+    (subst M (sym c.1.2) (begun_world c.1.0 (answered_world w e c.1.0 h c.1.1) ls last (subst C c.1.2 c.2)))
 begun_world w h (line.Take m name ∷ ls) last c = absurd c.1
 begun_world w h (line.Drain ∷ ls) last c = absurd c.1
 begun_world w h (line.Unknown ∷ ls) last c = absurd c.1
@@ -146,7 +147,8 @@ begun (line.Blank ∷ ls) last c =
 begun (line.Mutators count ∷ ls) last c =
     let C : Progress → Type 0 = λ p. Comes p ls last in
     let M : Progress → Type 0 = λ p. MayBegin p ls last in
-    later_on progress.Nothing c.0 (line.Mutators count) ls last c.1 (subst M (sym c.1.2) (begun_world (new_world count) (new_is_world count c.1.0 c.1.1) ls last (subst C c.1.2 c.2)))
+    later_on progress.Nothing c.0 (line.Mutators count) ls last c.1
+    (subst M (sym c.1.2) (begun_world (new_world count) (new_is_world count c.1.0 c.1.1) ls last (subst C c.1.2 c.2)))
 begun (line.Mark ∷ ls) last c = absurd c.1
 begun (line.Event e ∷ ls) last c = absurd c.1
 begun (line.Take m name ∷ ls) last c = absurd c.1
@@ -160,7 +162,8 @@ machine_in d progress.Nothing = d
 machine_in d (progress.Building w) = d
 machine_in d (progress.Marking s) = s
 
-kept_marking : (lines : List Line) (s : State) (names : List Name) → Comes progress.Nothing lines (progress.Marking s) → s.is_closed ≡ true → Lists (Contains s.marked) names → IsKeptTold lines names
+kept_marking : (lines : List Line) (s : State) (names : List Name) → Comes progress.Nothing lines (progress.Marking s) → s.is_closed ≡ true →
+    Lists (Contains s.marked) names → IsKeptTold lines names
 kept_marking lines s names c over listed = elim (begun lines (progress.Marking s) c) [
   | inl none ↦ absurd none
   | inr b ↦
@@ -168,10 +171,13 @@ kept_marking lines s names c over listed = elim (begun lines (progress.Marking s
       let rows : List Row = rows_in b.later in
       let e : f.machine ≡ s = sym (ap (machine_in s) f.last_is) in
       let R : State → Type 0 = λ t. Runs (opening b.snapshot) f.events (rows_in b.later) t in
-      let exact : IsExact b.snapshot f.events (rows_in b.later) s = (snapshot_theorem b.snapshot b.world f.events (rows_in b.later) s (subst R e f.runs)).after over in
+      let exact : IsExact b.snapshot f.events (rows_in b.later) s =
+      (snapshot_theorem b.snapshot b.world f.events (rows_in b.later) s (subst R e f.runs)).after over in
       let K : List Name → Type 0 = λ o. (name : Name) → Contains s.marked name ↔ IsKept b.snapshot o exact.before.finalised name in
       let L : List Name → Type 0 = λ d. (name : Name) → Contains s.marked name ↔ IsKept b.snapshot (opened b.snapshot (rows_in b.later)) d name in
-      let kept : (name : Name) → Contains s.marked name ↔ IsKept b.snapshot (opened b.snapshot (rows_in b.later)) (finalised b.snapshot (rows_in b.later)) name = subst L exact.marking.finalised (subst K exact.marking.opened exact.kept) in
+      let kept : (name : Name) → Contains s.marked name ↔
+      IsKept b.snapshot (opened b.snapshot (rows_in b.later)) (finalised b.snapshot (rows_in b.later)) name =
+      subst L exact.marking.finalised (subst K exact.marking.opened exact.kept) in
       record {
         earlier = b.earlier;
         later = b.later;

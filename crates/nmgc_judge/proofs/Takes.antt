@@ -25,13 +25,15 @@ same_first x y xs ys o p c d = elim (contains_cases y ys x c) [
   ]
 ]
 
-same_rest : (x : Name) (xs ys : List Name) → IsInOrder (x ∷ xs) → ((n : Name) → Contains (x ∷ xs) n → Contains (x ∷ ys) n) → (n : Name) → Contains xs n → Contains ys n
+same_rest : (x : Name) (xs ys : List Name) → IsInOrder (x ∷ xs) → ((n : Name) → Contains (x ∷ xs) n → Contains (x ∷ ys) n) → (n : Name) →
+    Contains xs n → Contains ys n
 same_rest x xs ys o f n c = elim (contains_cases x ys n (f n (contains_tail x xs n c))) [
   | inl e ↦ let P : Name → Type 0 = IsBefore x in absurd (not_before_itself x (subst P (sym e) (in_order_first x xs o n c)))
   | inr d ↦ d
 ]
 
-same_names : (xs ys : List Name) → IsInOrder xs → IsInOrder ys → ((n : Name) → Contains xs n → Contains ys n) → ((n : Name) → Contains ys n → Contains xs n) → xs ≡ ys
+same_names : (xs ys : List Name) → IsInOrder xs → IsInOrder ys → ((n : Name) → Contains xs n → Contains ys n) →
+    ((n : Name) → Contains ys n → Contains xs n) → xs ≡ ys
 same_names [] [] o p f g = refl
 same_names [] (y ∷ ys) o p f g = absurd (nothing y (g y (contains_head y ys)))
 same_names (x ∷ xs) [] o p f g = absurd (nothing x (f x (contains_head x xs)))
@@ -40,10 +42,13 @@ same_names (x ∷ xs) (y ∷ ys) o p f g =
     let O : Name → Type 0 = λ z. IsInOrder (z ∷ ys) in
     let F : Name → Type 0 = λ z. (n : Name) → Contains (x ∷ xs) n → Contains (z ∷ ys) n in
     let G : Name → Type 0 = λ z. (n : Name) → Contains (z ∷ ys) n → Contains (x ∷ xs) n in
-    ap (λ (l : List Name). x ∷ l) (same_names xs ys (in_order_rest x xs o) (in_order_rest y ys p) (same_rest x xs ys o (subst F e f)) (same_rest x ys xs (subst O e p) (subst G e g))) ∙ ap (λ (z : Name). z ∷ ys) (sym e)
+    ap (λ (l : List Name). x ∷
+    l) (same_names xs ys (in_order_rest x xs o) (in_order_rest y ys p) (same_rest x xs ys o (subst F e f))
+    (same_rest x ys xs (subst O e p) (subst G e g))) ∙ ap (λ (z : Name). z ∷ ys) (sym e)
 
 -- where the first of some names comes after the first of others, they come after it all
-after_first : (x y : Name) (xs ys : List Name) → IsInOrder (x ∷ xs) → IsInOrder (y ∷ ys) → Contains ys x → ((n : Name) → Contains (x ∷ xs) n → Contains (y ∷ ys) n) → (n : Name) → Contains (x ∷ xs) n → Contains ys n
+after_first : (x y : Name) (xs ys : List Name) → IsInOrder (x ∷ xs) → IsInOrder (y ∷ ys) → Contains ys x →
+    ((n : Name) → Contains (x ∷ xs) n → Contains (y ∷ ys) n) → (n : Name) → Contains (x ∷ xs) n → Contains ys n
 after_first x y xs ys o p later f n c = elim (contains_cases y ys n (f n c)) [
   | inl e ↦
       let first : IsBefore y x = in_order_first y ys p x later in
@@ -70,7 +75,8 @@ no_more (x ∷ xs) (y ∷ ys) o p f = elim (contains_cases y ys x (f x (contains
 ]
 
 -- as many of them are all of them
-same_count : (xs ys : List Name) → IsInOrder xs → IsInOrder ys → ((n : Name) → Contains xs n → Contains ys n) → length ys ≡ length xs → (n : Name) → Contains ys n → Contains xs n
+same_count : (xs ys : List Name) → IsInOrder xs → IsInOrder ys → ((n : Name) → Contains xs n → Contains ys n) → length ys ≡ length xs → (n : Name) →
+    Contains ys n → Contains xs n
 same_count [] [] o p f e n c = c
 same_count [] (y ∷ ys) o p f e n c = absurd (omega (arith, e))
 same_count (x ∷ xs) [] o p f e n c = absurd (nothing n c)
@@ -123,7 +129,8 @@ module _ (s next : State) (name : Name) (before after : List Name) (old : Lists 
     λ c. elim (g.some other c) [
       | inl d ↦ inl d
       | inr e ↦ elim (g.some name (new.sound name test.0)) [
-        | inl d ↦ inl (old.sound other (same_count before after old.ordered new.ordered (λ n h. new.complete n (g.all n (old.sound n h))) (test.1 (old.complete name d)) other (new.complete other c)))
+        | inl d ↦ inl (old.sound other (same_count before after old.ordered new.ordered (λ n h.
+            new.complete n (g.all n (old.sound n h))) (test.1 (old.complete name d)) other (new.complete other c)))
         | inr f ↦ inr (e ∙ sym f)
       ]
     ],
@@ -144,7 +151,9 @@ module _ (s next : State) (name : Name) (before after : List Name) (old : Lists 
         (λ n c. new.complete n ((just n).1 (inl (old.sound n c))))),
   )
 
-pub take_told : (s next : State) (m : ℕ) (name : Name) (before after : List Name) → Lists (Contains s.marked) before → Lists (Contains next.marked) after → Passes s (event.Take m) true next → (b : Bool) → IsTrue b ↔ (Contains after name × (Contains before name → length after ≡ length before)) → IsTakeIf s m name b next
+pub take_told : (s next : State) (m : ℕ) (name : Name) (before after : List Name) → Lists (Contains s.marked) before →
+    Lists (Contains next.marked) after → Passes s (event.Take m) true next → (b : Bool) → IsTrue b ↔
+    (Contains after name × (Contains before name → length after ≡ length before)) → IsTakeIf s m name b next
 take_told s next m name before after old new passes true test =
     let P : State → Type 0 = λ t. Grew s.marked t.marked in
     let g : Grew s.marked next.marked = subst P (sym passes.1) (grew_take s m (names_of s.pushed m)) in

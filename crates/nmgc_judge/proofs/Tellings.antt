@@ -12,11 +12,13 @@ use Rattle.nmgc_judge.specs.Reports.{Happens, IsRefusal, Comes, EndsAtLine, Ends
 
 -- one more line at the end
 comes_push : (n : ℕ) (p q r : Begun) (ts : List Told) (t : Told) (k : ℕ) → k ≡ n + length ts → Comes n p ts q → Happens k q t r → Comes n p (ts ++ t ∷ []) r
-comes_push n p q r [] t k e c can = let P : Begun → Type 0 = λ b. Happens n b t r in let is : k ≡ n = omega arith in (r, subst P c (subst (λ (j : ℕ). Happens j q t r) is can), refl)
+comes_push n p q r [] t k e c can = let P : Begun → Type 0 = λ b. Happens n b t r in let is : k ≡ n = omega arith in
+    (r, subst P c (subst (λ (j : ℕ). Happens j q t r) is can), refl)
 comes_push n p q r (x ∷ ts) t k e c can = (c.0, c.1, comes_push (n + 1) c.0 q r ts t k (omega arith) c.2 can)
 
 -- the next line of a trace
-pub comes_next : (lines : List Told) (i : ℕ) (t : Told) (q r : Begun) → i < length lines → t ≡ get_or lines i t → Comes 1 begun.Nothing (take i lines) q → Happens (i + 1) q t r → Comes 1 begun.Nothing (take (i + 1) lines) r
+pub comes_next : (lines : List Told) (i : ℕ) (t : Told) (q r : Begun) → i < length lines → t ≡ get_or lines i t →
+    Comes 1 begun.Nothing (take i lines) q → Happens (i + 1) q t r → Comes 1 begun.Nothing (take (i + 1) lines) r
 comes_next lines i t q r lt is c can =
     let count : length (take i lines) ≡ i = length-take-le i lines (omega arith) in
     rw (take_more lines i t lt, ← is) (comes_push 1 begun.Nothing q r (take i lines) t (i + 1) (omega arith) c can)
@@ -28,7 +30,8 @@ parted lines i t lt is =
     sym (take-append-drop (i + 1) lines) ∙ ap (λ (f : List Told). f ++ drop (i + 1) lines) front ∙ append_assoc (take i lines) (t ∷ []) (drop (i + 1) lines)
 
 -- a trace that ends at a line
-pub ends_at_line : (lines : List Told) (i : ℕ) (t : Told) (q : Begun) (r : Refusal) → i < length lines → t ≡ get_or lines i t → Comes 1 begun.Nothing (take i lines) q → IsRefusal q t r → EndsAtLine lines (i + 1) r
+pub ends_at_line : (lines : List Told) (i : ℕ) (t : Told) (q : Begun) (r : Refusal) → i < length lines → t ≡ get_or lines i t →
+    Comes 1 begun.Nothing (take i lines) q → IsRefusal q t r → EndsAtLine lines (i + 1) r
 ends_at_line lines i t q r lt is c refused =
     let count : length (take i lines) ≡ i = length-take-le i lines (omega arith) in
     record {

@@ -16,7 +16,8 @@ comes_push p q r [] l c can = let P : Progress → Type 0 = λ t. Can t l r in (
 comes_push p q r (x ∷ ls) l c can = (c.0, c.1, comes_push c.0 q r ls l c.2 can)
 
 -- the next line of a trace
-pub comes_next : (lines : List Line) (i : ℕ) (l : Line) (q r : Progress) → i < length lines → l ≡ get_or lines i l → Comes progress.Nothing (take i lines) q → Can q l r → Comes progress.Nothing (take (i + 1) lines) r
+pub comes_next : (lines : List Line) (i : ℕ) (l : Line) (q r : Progress) → i < length lines → l ≡ get_or lines i l →
+    Comes progress.Nothing (take i lines) q → Can q l r → Comes progress.Nothing (take (i + 1) lines) r
 comes_next lines i l q r lt is c can =
     rw (take_more lines i l lt, ← is) (comes_push progress.Nothing q r (take i lines) l c can)
 
@@ -36,7 +37,8 @@ refusal_verdict lines line.Drain n e = e
 refusal_verdict lines line.Unknown n e = e
 
 -- a trace that ends at a line
-pub ends_at_line : (lines : List Line) (i : ℕ) (l : Line) (q : Progress) (told : Verdict) → i < length lines → l ≡ get_or lines i l → Comes progress.Nothing (take i lines) q → IsNext q l None → told ≡ refusal_of l (i + 1) → IsVerdict lines told
+pub ends_at_line : (lines : List Line) (i : ℕ) (l : Line) (q : Progress) (told : Verdict) → i < length lines → l ≡ get_or lines i l →
+    Comes progress.Nothing (take i lines) q → IsNext q l None → told ≡ refusal_of l (i + 1) → IsVerdict lines told
 ends_at_line lines i l q told lt is c cannot e =
     let count : length (take i lines) ≡ i = length-take-le i lines (omega arith) in
     let ends : EndsAtLine lines (refusal_of l (i + 1)) = record {

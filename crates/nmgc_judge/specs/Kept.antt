@@ -27,7 +27,9 @@ abbrev pub rows_in : List Line → List Row
 rows_in [] = []
 rows_in (l ∷ ls) = row_in l ++ rows_in ls
 
--- the names are exactly those that a cycle has to keep by the rule of weak pointers, whose snapshot is the heap that the lines before `mark` built: with what the commands after it opened and finalised, each of which got the answer that the heap gives
+-- the names are exactly those that a cycle has to keep by the rule of weak pointers, whose snapshot is the heap that
+-- the lines before `mark` built: with what the commands after it opened and finalised, each of which got the answer
+-- that the heap gives
 pub record IsKeptTold (lines : List Line) (names : List Name) : Type 0 where
   pub earlier : List Line
   pub later : List Line

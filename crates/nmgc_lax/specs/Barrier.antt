@@ -40,8 +40,10 @@ pub record IsSorted (s next : State) : Type 0 where
 -- a cycle that began with this world, and where a marker beside it may be
 pub data Beside (w : World) : Cycle → State → Type 0 where
   start : Beside w (watching w) (opening w)
-  command : (h next : Cycle) (s : State) (line m : ℕ) (c : Command) (answer : Reply) → Beside w h s → IsWatched h line m c answer next → Beside w next (after_owing s m c (names_in next.debts))
-  push : (h next : Cycle) (s : State) (m : ℕ) (name : Name) → Beside w h s → IsPushed h name next → m < length s.pushed → Beside w next (after_pushing s m name next.debts)
+  command : (h next : Cycle) (s : State) (line m : ℕ) (c : Command) (answer : Reply) → Beside w h s → IsWatched h line m c answer next →
+      Beside w next (after_owing s m c (names_in next.debts))
+  push : (h next : Cycle) (s : State) (m : ℕ) (name : Name) → Beside w h s → IsPushed h name next → m < length s.pushed →
+      Beside w next (after_pushing s m name next.debts)
   mark : (h : Cycle) (s : State) (name : Name) → Beside w h s → MayHold s name → Beside w h (mark_name s name)
   scan : (h : Cycle) (s : State) → Beside w h s → Beside w h (after_scan s s.queue)
   sort : (h : Cycle) (s next : State) → Beside w h s → IsSorted s next → Beside w h next

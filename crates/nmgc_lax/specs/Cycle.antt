@@ -32,9 +32,15 @@ Owes h name = (debt : Debt) × Contains h.debts debt × (debt.name ≡ name)
 pub record IsWatched (h : Cycle) (line m : ℕ) (c : Command) (answer : Reply) (next : Cycle) : Type 0 where
   pub can : CanApply h.world m c
   pub says : (step h.world m c).1 ≡ answer
-  pub rest : next ≡ record h { world = (step h.world m c).0; debts = next.debts; opened = h.opened ++ opened_by h.world m c; finalised = h.finalised ++ finalised_by h.world m c }
+  pub rest : next ≡ record h {
+    world = (step h.world m c).0;
+    debts = next.debts;
+    opened = h.opened ++ opened_by h.world m c;
+    finalised = h.finalised ++ finalised_by h.world m c;
+  }
   pub old : (debt : Debt) → Contains h.debts debt → Contains next.debts debt
-  pub new : (debt : Debt) → Contains next.debts debt → Contains h.debts debt ⊎ ((debt.line ≡ line) × (debt.mutator ≡ m) × IsDue h.snapshot h.world m c debt.name × (Contains h.remembered debt.name → ⊥))
+  pub new : (debt : Debt) → Contains next.debts debt → Contains h.debts debt ⊎
+      ((debt.line ≡ line) × (debt.mutator ≡ m) × IsDue h.snapshot h.world m c debt.name × (Contains h.remembered debt.name → ⊥))
   pub due : (name : Name) → IsDue h.snapshot h.world m c name → Contains h.remembered name ⊎ Owes next name
 
 -- a push of a name of the map: it is remembered, and no longer due

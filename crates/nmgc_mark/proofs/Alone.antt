@@ -38,7 +38,9 @@ use Rattle.nmgc_mark.proofs.OneMark.{mark_is}
 
 -- what the laws of rounds say of a scan and of an opening
 abbrev pub ScanLaw : Type 0
-ScanLaw = (o : Opening) (words : List ℕ) (views : List Seen) (id : ℕ) (v : Seen) (at offset : ℕ) (k : Keeps o words views) → get_elem? views id ≡ some v → (can : CanScan v at offset) → AddsScan o words views k can.entry words (set views id (scanned_by v (slice_index words (at + offset))))
+ScanLaw = (o : Opening) (words : List ℕ) (views : List Seen) (id : ℕ) (v : Seen) (at offset : ℕ) (k : Keeps o words views) →
+    get_elem? views id ≡ some v → (can : CanScan v at offset) →
+    AddsScan o words views k can.entry words (set views id (scanned_by v (slice_index words (at + offset))))
 
 abbrev pub OpenLaw : Type 0
 OpenLaw = (o : Opening) (words : List ℕ) → CanOpen o words → (k : Keeps o words (whole o ∷ [])) × (k.events ≡ [])
@@ -58,7 +60,8 @@ lies_within layout p size pos (inr (ne, inr nursery)) =
     omega arith
 
 -- what the last of the scans read
-last_read : (P : Place → Type 0) (ss : List Scan) (s : Scan) (xs : List (Entry × Option Value)) → AllRead P (ss ++ s ∷ []) xs → (x : Option Value) × IsRead P s.word x × (x ≡ None → 1 ≤ s.entry.position → s.word ≡ 0)
+last_read : (P : Place → Type 0) (ss : List Scan) (s : Scan) (xs : List (Entry × Option Value)) → AllRead P (ss ++ s ∷ []) xs → (x : Option Value) ×
+    IsRead P s.word x × (x ≡ None → 1 ≤ s.entry.position → s.word ≡ 0)
 last_read P [] s [] a = absurd a
 last_read P [] s (x ∷ xs) a = (x.1, a.0.1, a.0.2)
 last_read P (r ∷ ss) s [] a = absurd a
@@ -70,7 +73,8 @@ more_scans (did m c r ∷ es) entry v h = absurd h
 more_scans (scanned e x ∷ es) entry v h = more_scans es entry v h
 
 -- the first entry can be scanned
-abbrev pub can_scan : (v : Seen) (s : Segments) (m : MarkerSeen) (at position offset : ℕ) → v.collects ≡ true → IsScanning v s m at position → offset ≡ offset_of position → CanScan v at offset
+abbrev pub can_scan : (v : Seen) (s : Segments) (m : MarkerSeen) (at position offset : ℕ) → v.collects ≡ true → IsScanning v s m at position →
+    offset ≡ offset_of position → CanScan v at offset
 can_scan v s m at position offset collects h e = record {
   collects = collects;
   entry = entry_now v;
@@ -80,7 +84,8 @@ can_scan v s m at position offset collects h e = record {
   position = e ∙ ap offset_of (sym h.stands);
 }
 
-module _ (o : Opening) (words : List ℕ) (v : Seen) (a : IsAlone o words v) (s : Segments) (m : MarkerSeen) (at position offset : ℕ) (h : IsScanning v s m at position) (e : offset ≡ offset_of position) (law : ScanLaw) where
+module _ (o : Opening) (words : List ℕ) (v : Seen) (a : IsAlone o words v) (s : Segments) (m : MarkerSeen) (at position offset : ℕ)
+    (h : IsScanning v s m at position) (e : offset ≡ offset_of position) (law : ScanLaw) where
   added : AddsScan o words (v ∷ []) a.keeps (entry_now v) words (scanned_by v (slice_index words (at + offset)) ∷ [])
   added = law o words (v ∷ []) 0 v at offset a.keeps refl (can_scan v s m at position offset a.collects h e)
 
@@ -103,7 +108,8 @@ module _ (o : Opening) (words : List ℕ) (v : Seen) (a : IsAlone o words v) (s 
 
   node_told : position ≡ 0 → TellsNode o (entry_now v).name (slice_index words (at + offset))
   node_told first =
-      let q = a.keeps.queued (entry_now v) (subst (λ (l : List Entry). Contains l (entry_now v)) (sym queue_is) (contains_head (entry_now v) (rest_of (marks_seen v)).queue)) in
+      let q = a.keeps.queued (entry_now v) (subst (λ (l : List Entry).
+      Contains l (entry_now v)) (sym queue_is) (contains_head (entry_now v) (rest_of (marks_seen v)).queue)) in
       let x : Object = q.object in
       let same = a.keeps.stands.one (place_of q.object) (record { at = at; name = (entry_now v).name }) (inl q.here.there) (inl there_is) (inl q.name) in
       let x_at : q.object.at ≡ at = ap (λ (p : Place). p.at) same in
@@ -126,7 +132,8 @@ module _ (o : Opening) (words : List ℕ) (v : Seen) (a : IsAlone o words v) (s 
             omega arith;
       }
 
-  pointer_safe : (P : Place → Type 0) → ((p : Place) → P p → p.at + 2 ≤ word_total o.layout) → (x : Option Value) → IsRead P (slice_index words (at + offset)) x → (x ≡ None → slice_index words (at + offset) ≡ 0) → IsSafe o (slice_index words (at + offset))
+  pointer_safe : (P : Place → Type 0) → ((p : Place) → P p → p.at + 2 ≤ word_total o.layout) → (x : Option Value) →
+      IsRead P (slice_index words (at + offset)) x → (x ≡ None → slice_index words (at + offset) ≡ 0) → IsSafe o (slice_index words (at + offset))
   pointer_safe P low None r unset b is = let z = unset refl in omega arith
   pointer_safe P low (Some value.Nil) r unset b is = absurd (omega arith)
   pointer_safe P low (Some (value.Number n)) r unset b is = absurd (omega arith)
@@ -141,22 +148,27 @@ module _ (o : Opening) (words : List ℕ) (v : Seen) (a : IsAlone o words v) (s 
       let reads = ((added.1.agrees 0 (scanned_by v (slice_index words (at + offset))) refl).scans a.collects).1 in
       let last = last_read (IsIn o added.1.born) v.scans (record { entry = entry_now v; word = slice_index words (at + offset) }) _ reads in
       pointer_safe (IsIn o added.1.born)
-      (λ p q. let x : Object = record { at = p.at; name = p.name; node = q.0 } in let l = lies_within o.layout (place_of x) (size_of q.0) (omega arith) (added.1.stands.apart x q.1).lies in omega arith)
+      (λ p q. let x : Object = record { at = p.at; name = p.name; node = q.0 } in
+      let l = lies_within o.layout (place_of x) (size_of q.0) (omega arith) (added.1.stands.apart x q.1).lies in omega arith)
       last.0 last.1 (λ none. last.2 none (let f = h.stands in omega arith))
 
   pub alone_tells : TellsEntry o (entry_now v) (slice_index words (at + offset))
   alone_tells = record { header = λ first. node_told (sym h.stands ∙ first); safe = λ some_. field_safe (let f = h.stands in omega arith) }
 
 -- the same at a word that is known to be there
-pub scan_alone : ScanLaw → (o : Opening) (words : List ℕ) (v : Seen) (s : Segments) (m : MarkerSeen) (at position offset i w : ℕ) → IsAlone o words v → IsScanning v s m at position → offset ≡ offset_of position → i ≡ at + offset → w ≡ slice_index words i → IsAlone o words (scanned_by v w) × TellsEntry v.opening (entry_now v) w
+pub scan_alone : ScanLaw → (o : Opening) (words : List ℕ) (v : Seen) (s : Segments) (m : MarkerSeen) (at position offset i w : ℕ) →
+    IsAlone o words v → IsScanning v s m at position → offset ≡ offset_of position → i ≡ at + offset → w ≡ slice_index words i →
+    IsAlone o words (scanned_by v w) × TellsEntry v.opening (entry_now v) w
 scan_alone law o words v s m at position offset i w a h e place is =
     let word : slice_index words (at + offset) ≡ w = ap (λ j. slice_index words j) (sym place) ∙ sym is in (
       subst (λ x. IsAlone o words (scanned_by v x)) word (alone_then o words v a s m at position offset h e law),
-      subst (λ (y : Opening). TellsEntry y (entry_now v) w) (sym a.opening) (subst (λ x. TellsEntry o (entry_now v) x) word (alone_tells o words v a s m at position offset h e law)),
+      subst (λ (y : Opening). TellsEntry y (entry_now v) w) (sym a.opening) (subst (λ x.
+          TellsEntry o (entry_now v) x) word (alone_tells o words v a s m at position offset h e law)),
     )
 
 -- every word is among those that the layout has
-pub alone_total : (o : Opening) (words : List ℕ) (v : Seen) → IsAlone o words v → (length words ≡ word_total v.opening.layout) × (word_total v.opening.layout < 2 ^ 32)
+pub alone_total : (o : Opening) (words : List ℕ) (v : Seen) → IsAlone o words v → (length words ≡ word_total v.opening.layout) ×
+    (word_total v.opening.layout < 2 ^ 32)
 alone_total o words v a =
     let l = a.keeps.is.layout in
     let heap = l.heap in
@@ -179,7 +191,8 @@ read_rest : (s : State) (x : Option Value) → mark_read s x ≡ record s { mark
 read_rest s None = refl
 read_rest s (Some v) = value_rest s v
 
-advanced_rest : (s t : State) (queue : List Entry) → t ≡ record s { marked = t.marked; queue = t.queue } → advanced t queue ≡ record s { marked = (advanced t queue).marked; queue = (advanced t queue).queue }
+advanced_rest : (s t : State) (queue : List Entry) → t ≡ record s { marked = t.marked; queue = t.queue } →
+    advanced t queue ≡ record s { marked = (advanced t queue).marked; queue = (advanced t queue).queue }
 advanced_rest s t [] e = e
 advanced_rest s t (entry ∷ rest) e = ap (λ (x : State). let u : State = record x { queue = moved_on (node_of t.world entry.name) entry ++ rest } in u) e
 
@@ -195,7 +208,8 @@ scans_rest s [] h = refl
 scans_rest s (did m c r ∷ es) h = absurd h
 scans_rest s (scanned entry v ∷ es) h =
     let one = scan_rest s s.queue in
-    scans_rest (after_scan s s.queue) es h ∙ ap (λ (x : State). let u : State = record x { marked = (replay (after_scan s s.queue) es).marked; queue = (replay (after_scan s s.queue) es).queue } in u) one
+    scans_rest (after_scan s s.queue) es h ∙ ap (λ (x : State).
+    let u : State = record x { marked = (replay (after_scan s s.queue) es).marked; queue = (replay (after_scan s s.queue) es).queue } in u) one
 
 none_queued : (places : List Place) (ats : List ℕ) (entries : List Entry) → ats ≡ [] → AreQueued places ats entries → entries ≡ []
 none_queued places [] [] e q = refl
@@ -203,7 +217,8 @@ none_queued places (x ∷ ats) entries e q = absurd cc
 none_queued places [] (x ∷ entries) e q = absurd q
 
 -- the queue is empty, and all that the machine would scan was scanned
-pub alone_ends : (o : Opening) (words : List ℕ) (v : Seen) (s : Segments) (m : MarkerSeen) → IsAlone o words v → IsTied o (marks_seen v) s m → m.queue ≡ [] → HasFinished o s m
+pub alone_ends : (o : Opening) (words : List ℕ) (v : Seen) (s : Segments) (m : MarkerSeen) → IsAlone o words v → IsTied o (marks_seen v) s m →
+    m.queue ≡ [] → HasFinished o s m
 alone_ends o words v s m a h empty =
     let told = ((a.keeps.agrees 0 v refl).scans a.collects).2 in
     let same : marks_of (now o a.keeps.events) ≡ marks_seen v = told ∙ ap (λ (y : Opening). marks_after y v.scans) (sym a.opening) in
@@ -213,7 +228,8 @@ alone_ends o words v s m a h empty =
       events = a.keeps.events;
       scans = a.scans;
       legal = a.keeps.legal;
-      rest = scans_rest o.core a.keeps.events a.scans ∙ ap (λ (l : List Entry). let u : State = record o.core { marked = (now o a.keeps.events).marked; queue = l } in u) queue;
+      rest = scans_rest o.core a.keeps.events a.scans ∙ ap (λ (l : List Entry).
+          let u : State = record o.core { marked = (now o a.keeps.events).marked; queue = l } in u) queue;
       tied = subst (λ (k : Marks). IsTied o k s m) (sym same) h;
     }
 
@@ -221,12 +237,15 @@ field_offset : (field : ℕ) → 2 + field ≡ offset_of (field + 1)
 field_offset field = let z : field + 1 ≡ suc field = omega arith in sym (ap offset_of z)
 
 -- the next field of an object, by a load
-pub field_alone : ScanLaw → (o : Opening) (words : List ℕ) (from v : Seen) (s : Segments) (m : MarkerSeen) (at fields field i w : ℕ) → IsAlone o words v → IsAtField from v s m at fields field → field < fields → i ≡ at + 2 + field → w ≡ slice_index words i → IsAlone o words (scanned_by v w) × TellsEntry v.opening (entry_now v) w
+pub field_alone : ScanLaw → (o : Opening) (words : List ℕ) (from v : Seen) (s : Segments) (m : MarkerSeen) (at fields field i w : ℕ) →
+    IsAlone o words v → IsAtField from v s m at fields field → field < fields → i ≡ at + 2 + field → w ≡ slice_index words i →
+    IsAlone o words (scanned_by v w) × TellsEntry v.opening (entry_now v) w
 field_alone law o words from v s m at fields field i w a h lt place is =
     scan_alone law o words v s m at (field + 1) (2 + field) i w a (h.more lt).0 (field_offset field) (let e = place in omega arith) is
 
 -- its word is no pointer past the heap's words
-pub field_small : (o : Opening) (words : List ℕ) (from v : Seen) (s : Segments) (m : MarkerSeen) (at fields field w : ℕ) → IsAlone o words v → IsAtField from v s m at fields field → field < fields → TellsEntry v.opening (entry_now v) w → (a : ℕ) → w ≡ 2 * a → a < 2 ^ 32
+pub field_small : (o : Opening) (words : List ℕ) (from v : Seen) (s : Segments) (m : MarkerSeen) (at fields field w : ℕ) → IsAlone o words v →
+    IsAtField from v s m at fields field → field < fields → TellsEntry v.opening (entry_now v) w → (a : ℕ) → w ≡ 2 * a → a < 2 ^ 32
 field_small o words from v s m at fields field w a h lt tells b e =
     let stands = (h.more lt).0.stands in
     let l = tells.safe (omega arith) b e in
@@ -234,5 +253,6 @@ field_small o words from v s m at fields field w a h lt tells b e =
     omega arith
 
 -- the header of an object, by a load
-pub header_alone : ScanLaw → (o : Opening) (words : List ℕ) (v : Seen) (s : Segments) (m : MarkerSeen) (at w : ℕ) → IsAlone o words v → IsScanning v s m at 0 → w ≡ slice_index words at → IsAlone o words (scanned_by v w) × TellsEntry v.opening (entry_now v) w
+pub header_alone : ScanLaw → (o : Opening) (words : List ℕ) (v : Seen) (s : Segments) (m : MarkerSeen) (at w : ℕ) → IsAlone o words v →
+    IsScanning v s m at 0 → w ≡ slice_index words at → IsAlone o words (scanned_by v w) × TellsEntry v.opening (entry_now v) w
 header_alone law o words v s m at w a h is = scan_alone law o words v s m at 0 0 at w a h refl (omega arith) is

@@ -40,7 +40,8 @@ above_zero layout p size pos (inr (ne, inl segment)) = let first = segment.1 p.a
 above_zero layout p size pos (inr (ne, inr nursery)) = let first = nursery.1 p.at (omega arith) (omega arith) in let from = first.from in omega arith
 
 -- places that words represent are apart
-pub apart_of : (layout : Layout) (earlier : List World) (places : List Place) (w : World) (words : List ℕ) → Represents layout earlier NoNode places w words → AreApart layout places
+pub apart_of : (layout : Layout) (earlier : List World) (places : List Place) (w : World) (words : List ℕ) →
+    Represents layout earlier NoNode places w words → AreApart layout places
 apart_of layout earlier places w words h = record {
   one = h.one;
   above = λ p c. above_zero layout p HEADER_WORDS (omega arith) (h.named p c).lies;
@@ -52,14 +53,17 @@ got_below [] i x e = absurd cc
 got_below (y ∷ xs) zero x e = omega arith
 got_below (y ∷ xs) (suc i) x e = let r = got_below xs i x e in omega arith
 
-list_means : (P : Place → Type 0) (ws : List ℕ) (values : List Value) → length ws ≡ length values → ((i : ℕ) (v : Value) → slice_get values i ≡ Some v → Means P (get_or ws i 0) v) → ListMeans P ws values
+list_means : (P : Place → Type 0) (ws : List ℕ) (values : List Value) → length ws ≡ length values →
+    ((i : ℕ) (v : Value) → slice_get values i ≡ Some v → Means P (get_or ws i 0) v) → ListMeans P ws values
 list_means P [] [] e h = tt
 list_means P [] (v ∷ vs) e h = absurd (omega arith)
 list_means P (w ∷ ws) [] e h = absurd (omega arith)
 list_means P (w ∷ ws) (v ∷ vs) e h = (h 0 v refl, list_means P ws vs (omega arith) (λ i u g. h (suc i) u g))
 
 -- the registers of all mutators as one list
-flat_registers : (P : Place → Type 0) (xs : List MutatorState) (ws : List ℕ) → length ws ≡ REGISTERS * length xs → ((m : ℕ) → m < length xs → (length (get_or xs m no_mutator).registers ≡ REGISTERS) × AllMean P ws (REGISTERS * m) (get_or xs m no_mutator).registers) → ListMeans P ws (flat_map (λ (state : MutatorState). state.registers) xs)
+flat_registers : (P : Place → Type 0) (xs : List MutatorState) (ws : List ℕ) → length ws ≡ REGISTERS * length xs →
+    ((m : ℕ) → m < length xs → (length (get_or xs m no_mutator).registers ≡ REGISTERS) ×
+    AllMean P ws (REGISTERS * m) (get_or xs m no_mutator).registers) → ListMeans P ws (flat_map (λ (state : MutatorState). state.registers) xs)
 flat_registers P [] [] size h = tt
 flat_registers P [] (w ∷ ws) size h = absurd (omega arith)
 flat_registers P (x ∷ xs) ws size h =
@@ -69,7 +73,8 @@ flat_registers P (x ∷ xs) ws size h =
     let a : ListMeans P (take REGISTERS ws) x.registers = list_means P (take REGISTERS ws) x.registers (n ∙ sym first.0)
     (λ i v e.
     let lt = got_below x.registers i v e in
-    let same : get_or ws (REGISTERS * 0 + i) 0 ≡ get_or (take REGISTERS ws) i 0 = (let z : REGISTERS * 0 + i ≡ i = omega arith in ap (λ j. get_or ws j 0) z) ∙ sym (get_or-take REGISTERS ws i 0 (let f = first.0 in omega arith)) in
+    let same : get_or ws (REGISTERS * 0 + i) 0 ≡ get_or (take REGISTERS ws) i 0 = (let z : REGISTERS * 0 + i ≡ i = omega arith in
+    ap (λ j. get_or ws j 0) z) ∙ sym (get_or-take REGISTERS ws i 0 (let f = first.0 in omega arith)) in
     subst (λ y. Means P y v) same (first.1 i v e)) in
     let b = flat_registers P xs (drop REGISTERS ws) (omega arith)
     (λ m lt.
@@ -79,22 +84,28 @@ flat_registers P (x ∷ xs) ws size h =
           let z : REGISTERS * suc m + i ≡ REGISTERS + (REGISTERS * m + i) = omega arith in
           subst (λ y. Means P y v) (ap (λ j. get_or ws j 0) z ∙ sym (get_or-drop REGISTERS ws (REGISTERS * m + i) 0)) (r.1 i v e),
     )) in
-    subst (λ l. ListMeans P l (flat_map (λ (state : MutatorState). state.registers) (x ∷ xs))) (take-append-drop REGISTERS ws) (means_append P (take REGISTERS ws) (drop REGISTERS ws) x.registers (flat_map (λ (state : MutatorState). state.registers) xs) a b)
+    subst (λ l. ListMeans P l (flat_map (λ (state : MutatorState). state.registers) (x ∷
+    xs))) (take-append-drop REGISTERS ws) (means_append P (take REGISTERS ws) (drop REGISTERS ws) x.registers
+    (flat_map (λ (state : MutatorState). state.registers) xs) a b)
 
 -- the finaliser queues of all mutators
-flat_queues : (P : Place → Type 0) (qs : List FinQueue) (xs : List MutatorState) → length qs ≡ length xs → ((m : ℕ) (own : List ℕ) → slice_get (map (λ (q : FinQueue). q.words) qs) m ≡ Some own → ListMeans P own (get_or xs m no_mutator).queue) → ListMeans P (flat_map (λ (q : FinQueue). q.words) qs) (flat_map (λ (state : MutatorState). state.queue) xs)
+flat_queues : (P : Place → Type 0) (qs : List FinQueue) (xs : List MutatorState) → length qs ≡ length xs →
+    ((m : ℕ) (own : List ℕ) → slice_get (map (λ (q : FinQueue). q.words) qs) m ≡ Some own → ListMeans P own (get_or xs m no_mutator).queue) →
+    ListMeans P (flat_map (λ (q : FinQueue). q.words) qs) (flat_map (λ (state : MutatorState). state.queue) xs)
 flat_queues P [] [] e h = tt
 flat_queues P [] (x ∷ xs) e h = absurd (omega arith)
 flat_queues P (q ∷ qs) [] e h = absurd (omega arith)
 flat_queues P (q ∷ qs) (x ∷ xs) e h =
-    means_append P q.words (flat_map (λ (k : FinQueue). k.words) qs) x.queue (flat_map (λ (state : MutatorState). state.queue) xs) (h 0 q.words refl) (flat_queues P qs xs (omega arith) (λ m own g. h (suc m) own g))
+    means_append P q.words (flat_map (λ (k : FinQueue). k.words) qs) x.queue (flat_map (λ (state : MutatorState).
+    state.queue) xs) (h 0 q.words refl) (flat_queues P qs xs (omega arith) (λ m own g. h (suc m) own g))
 
 held_slot : (values : List Value) (i : ℕ) (v : Value) → slice_get values i ≡ Some v → slice_get (map holds values) i ≡ Some (holds v)
 held_slot [] i v e = absurd cc
 held_slot (x ∷ xs) zero v e = let same : x ≡ v = cc in ap (λ y. Some (holds y)) same
 held_slot (x ∷ xs) (suc i) v e = held_slot xs i v e
 
-shared_fields : (node : Node) → IsShared node → (length (strong_fields node) ≡ SHARED_SLOTS) × ((i : ℕ) (v : Value) → slice_get (strong_fields node) i ≡ Some v → slice_get (slots_in node) i ≡ Some (holds v))
+shared_fields : (node : Node) → IsShared node → (length (strong_fields node) ≡ SHARED_SLOTS) ×
+    ((i : ℕ) (v : Value) → slice_get (strong_fields node) i ≡ Some v → slice_get (slots_in node) i ≡ Some (holds v))
 shared_fields (Con tag values) h = absurd h
 shared_fields (Var v) h = absurd h
 shared_fields (Arr values) h = (h, λ i v e. held_slot values i v e)
@@ -114,7 +125,8 @@ module _ (o : Opening) (s : Segments) (epoch : ℕ) (words registers : List ℕ)
   shared_there = (h.places shared_place).1 (inl refl)
 
   -- the block of a name begins at its place, and is in use
-  name_used : (n b : ℕ) (name : Name) → LiesIn h.allocation n b name → IsBlockAt s n b (block_place o.layout n (cells h.allocation n).class b) × InUse (nth s.segments n) b
+  name_used : (n b : ℕ) (name : Name) → LiesIn h.allocation n b name → IsBlockAt s n b (block_place o.layout n (cells h.allocation n).class b) ×
+      InUse (nth s.segments n) b
   name_used n b name lies =
       let used : (cells h.allocation n).state ≡ Free → ⊥ = λ free.
       let none : name_in (cells h.allocation n) b ≡ None = ap (λ (x : Cells). name_in x b) ((stands_sound s words h.allocation h.sound h.stands).free n free) in
@@ -171,7 +183,8 @@ module _ (o : Opening) (s : Segments) (epoch : ℕ) (words registers : List ℕ)
       (λ i v e.
       let lt = got_below (strong_fields o.core.snapshot.shared) i v e in
       let z : g.at + HEADER_WORDS + i ≡ 3 + i = omega arith in
-      subst (λ y. Means (Contains o.places) y v) (ap (λ j. get_or words j 0) z ∙ sym (slot_word words i (let l = f.0 in omega arith))) (g.fields i (holds v) (f.1 i v e)))
+      subst (λ y. Means (Contains o.places) y v) (ap (λ j. get_or words j 0) z ∙
+      sym (slot_word words i (let l = f.0 in omega arith))) (g.fields i (holds v) (f.1 i v e)))
 
   pub begins_then : IsBeginning o s epoch words registers queues
   begins_then = record {
@@ -179,6 +192,7 @@ module _ (o : Opening) (s : Segments) (epoch : ℕ) (words registers : List ℕ)
     shared = shared_there;
     unmarked = h.unmarked;
     registers_are = flat_registers (Contains o.places) o.core.snapshot.mutators registers h.roots.count (λ m lt. (h.world.registers m lt, h.roots.held m lt));
-    queues_are = flat_queues (Contains o.places) queues o.core.snapshot.mutators (sym (map_length (λ (q : FinQueue). q.words) queues) ∙ h.roots.mutators.0) h.roots.queued;
+    queues_are = flat_queues (Contains o.places) queues o.core.snapshot.mutators (sym (map_length (λ (q : FinQueue). q.words) queues) ∙
+        h.roots.mutators.0) h.roots.queued;
     slots_are = slots;
   }

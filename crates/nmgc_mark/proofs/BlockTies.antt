@@ -30,13 +30,15 @@ use Rattle.nmgc_run.specs.Seen.{MarkerSeen}
 use Rattle.nmgc_mark.specs.Blocks.{AreOfBlocks, TiesAgree}
 use Rattle.nmgc_mark.specs.Tie.{AreQueued, IsTied}
 
-to_queued : (places : List Place) (ats : List ℕ) (entries : List Entry) → AreAt places ats (map (λ (e : Entry). e.name) entries) → All IsFresh entries → AreQueued places ats entries
+to_queued : (places : List Place) (ats : List ℕ) (entries : List Entry) → AreAt places ats (map (λ (e : Entry). e.name) entries) →
+    All IsFresh entries → AreQueued places ats entries
 to_queued places [] [] h f = tt
 to_queued places [] (e ∷ es) h f = absurd h
 to_queued places (at ∷ ats) [] h f = absurd h
 to_queued places (at ∷ ats) (e ∷ es) h f = ((h.0, All-head IsFresh e es f), to_queued places ats es h.1 (All-tail IsFresh e es f))
 
-from_queued : (places : List Place) (ats : List ℕ) (entries : List Entry) → AreQueued places ats entries → AreAt places ats (map (λ (e : Entry). e.name) entries) × All IsFresh entries
+from_queued : (places : List Place) (ats : List ℕ) (entries : List Entry) → AreQueued places ats entries →
+    AreAt places ats (map (λ (e : Entry). e.name) entries) × All IsFresh entries
 from_queued places [] [] h = (tt, All-nil IsFresh)
 from_queued places [] (e ∷ es) h = absurd h
 from_queued places (at ∷ ats) [] h = absurd h
@@ -72,7 +74,8 @@ module _ (o : Opening) (c : Cycle) (s : Segments) (words : List ℕ) (a : AllocS
   -- a block of the snapshot begins somewhere
   snapshot_at : (n b : ℕ) → InSnapshot (nth s.segments n) b → IsBlockAt s n b (block_place s.layout n (nth s.segments n).class b)
   snapshot_at n b snap = elim (cases_lt n (length s.segments)) [
-    | inl there ↦ let w = snapshot_within (nth s.segments n) b (k.sound.members n there).sound snap in record { exists = there; used = w.0; within = w.1; place = refl }
+    | inl there ↦ let w = snapshot_within (nth s.segments n) b (k.sound.members n there).sound snap in
+        record { exists = there; used = w.0; within = w.1; place = refl }
     | inr past ↦
         let none : nth s.segments n ≡ free_segment 0 = get_or-eq_default s.segments (free_segment 0) past in
         absurd (elim (subst (λ (x : Segment). InSnapshot x b) none snap) [ inl lt ↦ omega arith | inr ne ↦ ne refl ])
@@ -81,7 +84,8 @@ module _ (o : Opening) (c : Cycle) (s : Segments) (words : List ℕ) (a : AllocS
   -- no block begins where g is
   above : (n b at : ℕ) → IsBlockAt s n b at → 32 ≤ at
   above n b at g =
-      let lies = lies_in s n b at at k.sound g (omega arith) (let pos : 0 < block_size (nth s.segments n).class = omega (arith, least_block (nth s.segments n).class) in omega arith) in
+      let lies = lies_in s n b at at k.sound g (omega arith)
+      (let pos : 0 < block_size (nth s.segments n).class = omega (arith, least_block (nth s.segments n).class) in omega arith) in
       let from = lies.from in
       omega arith
 
@@ -113,19 +117,26 @@ module _ (o : Opening) (c : Cycle) (s : Segments) (words : List ℕ) (a : AllocS
               (r.0, subst (λ x. Contains o.places (record { at = x; name = r.0 })) is (k.blocks g.0 g.1 r.0 r.1), in_cycle r.0 r.2);
           complete = λ p d some_. elim (k.named p d some_) [
             | inl e ↦ inl (ap (λ (q : Place). q.name) e)
-            | inr x ↦ inr (x.number, x.block, subst (λ y. IsBlockAt s x.number x.block y) (sym x.at) (lies_at x.number x.block p.name x.lies), (h.snapshot x.number x.block).1 (p.name, x.lies, of_cycle p.name some_))
+            | inr x ↦ inr (
+              x.number,
+              x.block,
+              subst (λ y. IsBlockAt s x.number x.block y) (sym x.at) (lies_at x.number x.block p.name x.lies),
+              (h.snapshot x.number x.block).1 (p.name, x.lies, of_cycle p.name some_),
+            )
           ];
         };
         shared = k.shared_marked;
         marks = λ p d g.
             let r = (h.snapshot g.0 g.1).0 g.3 in
             let is : block_place o.layout g.0 (cells a g.0).class g.1 ≡ p.at = (lies_at g.0 g.1 r.0 r.1).place ∙ sym g.2.place in
-            let same = k.apart.one (record { at = p.at; name = r.0 }) p (subst (λ x. Contains o.places (record { at = x; name = r.0 })) is (k.blocks g.0 g.1 r.0 r.1)) d (inr refl) in
+            let same = k.apart.one (record { at = p.at; name = r.0 }) p (subst (λ x.
+            Contains o.places (record { at = x; name = r.0 })) is (k.blocks g.0 g.1 r.0 r.1)) d (inr refl) in
             let name : r.0 ≡ p.name = ap (λ (q : Place). q.name) same in
             let m = h.marks g.0 g.1 r.0 r.1 in (
               λ t.
                   let one = same_block s g.0 g.1 t.0 t.1 p.at k.sound g.2 t.2 in
-                  subst (λ x. Contains core.marked x) name (m.0 (subst (λ x. IsMarked (nth s.segments x) marker.epoch g.1) (sym one.0) (subst (λ x. IsMarked (nth s.segments t.0) marker.epoch x) (sym one.1) t.3))),
+                  subst (λ x. Contains core.marked x) name (m.0 (subst (λ x.
+                  IsMarked (nth s.segments x) marker.epoch g.1) (sym one.0) (subst (λ x. IsMarked (nth s.segments t.0) marker.epoch x) (sym one.1) t.3))),
               λ t. (g.0, g.1, g.2, m.1 (subst (λ x. Contains core.marked x) (sym name) t)),
             );
         queue = to_queued o.places marker.queue core.queue h.queue h.fresh;
@@ -142,7 +153,8 @@ module _ (o : Opening) (c : Cycle) (s : Segments) (words : List ℕ) (a : AllocS
           elim (k.named (record { at = at; name = r.0 }) r.1 r.2) [
             | inl e ↦ absurd (let is : at ≡ 1 = ap (λ (p : Place). p.at) e in let up = above n b at g in omega arith)
             | inr x ↦
-                let one = same_block s x.number x.block n b at k.sound (subst (λ y. IsBlockAt s x.number x.block y) (sym x.at) (lies_at x.number x.block r.0 x.lies)) g in
+                let one = same_block s x.number x.block n b at k.sound (subst (λ y.
+                IsBlockAt s x.number x.block y) (sym x.at) (lies_at x.number x.block r.0 x.lies)) g in
                 (r.0, subst (λ y. LiesIn a y b r.0) one.0 (subst (λ y. LiesIn a x.number y r.0) one.1 x.lies), of_cycle r.0 r.2)
           ],
       λ q.
@@ -164,7 +176,8 @@ module _ (o : Opening) (c : Cycle) (s : Segments) (words : List ℕ) (a : AllocS
           let p : Place = record { at = at; name = name } in
           let g = lies_at n b name lies in (
             λ marked.
-                let some_ : mark_of (nth s.segments n) b ≢ 0 = λ z. let up = some_epoch c.number in let m : mark_of (nth s.segments n) b ≡ marker.epoch = marked in omega arith in
+                let some_ : mark_of (nth s.segments n) b ≢ 0 = λ z. let up = some_epoch c.number in
+                let m : mark_of (nth s.segments n) b ≡ marker.epoch = marked in omega arith in
                 (t.marks p (k.blocks n b name lies) (n, b, g, inr some_)).0 (n, b, g, marked),
             λ listed.
                 let snap = (right_by_blocks t n b).1 (name, lies, of_cycle name (k.marked name listed)) in

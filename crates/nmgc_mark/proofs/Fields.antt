@@ -35,7 +35,12 @@ pub scanned_none : (m : MarkerSeen) → HasScanned m m 0
 scanned_none m = record { epoch = refl; grows = omega arith; pace = omega arith; room = refl }
 
 scanned_then : (a b c : MarkerSeen) (i j : ℕ) → HasScanned a b i → HasScanned b c j → HasScanned a c (i + j)
-scanned_then a b c i j x y = record { epoch = y.epoch ∙ x.epoch; grows = (let p = x.grows in let q = y.grows in omega arith); pace = (let p = x.pace in let q = y.pace in omega arith); room = y.room ∙ x.room }
+scanned_then a b c i j x y = record {
+  epoch = y.epoch ∙ x.epoch;
+  grows = (let p = x.grows in let q = y.grows in omega arith);
+  pace = (let p = x.pace in let q = y.pace in omega arith);
+  room = y.room ∙ x.room;
+}
 
 -- nothing was marked
 pub marked_none : (s : Segments) (m : MarkerSeen) → HasRoomToMark s m → HasMarked s s m m 0
@@ -53,11 +58,13 @@ marked_then s t u a b c i j x y = record {
 pub marked_more : (s t u : Segments) (a b c : MarkerSeen) → HasMarked s t a b 0 → HasMarked t u b c 0 → HasMarked s u a c 0
 marked_more s t u a b c x y = marked_then s t u a b c 0 0 x y
 
-read_field : (o : Opening) (m : Marks) (field w : ℕ) → with_name o.core.snapshot m (name_read o.places (field + 1) w) ≡ with_name o.core.snapshot m (name_meant o.places w)
+read_field : (o : Opening) (m : Marks) (field w : ℕ) → with_name o.core.snapshot m (name_read o.places (field + 1) w) ≡
+    with_name o.core.snapshot m (name_meant o.places w)
 read_field o m field w = let z : field + 1 ≡ suc field = omega arith in ap (λ n. with_name o.core.snapshot m (name_read o.places n w)) z
 
 -- after the header
-pub first_field : (v : Seen) (s : Segments) (m : MarkerSeen) (at w fields : ℕ) (header : Header) → IsScanning v s m at 0 → IsNode v.opening (entry_now v).name header → fields ≡ fields_scanned header.kind header.fields → IsAtField v (scanned_by v w) s m at fields 0
+pub first_field : (v : Seen) (s : Segments) (m : MarkerSeen) (at w fields : ℕ) (header : Header) → IsScanning v s m at 0 →
+    IsNode v.opening (entry_now v).name header → fields ≡ fields_scanned header.kind header.fields → IsAtField v (scanned_by v w) s m at fields 0
 first_field v s m at w fields header h n f =
     let are = fields_are n.node header fields n.is f in
     record {
@@ -67,12 +74,15 @@ first_field v s m at w fields header h n f =
     }
 
 -- the node of the object that is scanned, later
-pub node_later : (from v : Seen) (s : Segments) (m : MarkerSeen) (at fields field : ℕ) (header : Header) → IsNode from.opening (entry_now from).name header → IsAtField from v s m at fields field → field < fields → IsNode v.opening (entry_now v).name header
+pub node_later : (from v : Seen) (s : Segments) (m : MarkerSeen) (at fields field : ℕ) (header : Header) →
+    IsNode from.opening (entry_now from).name header → IsAtField from v s m at fields field → field < fields → IsNode v.opening (entry_now v).name header
 node_later from v s m at fields field header n h lt =
     subst (λ (y : Opening). IsNode y (entry_now v).name header) (sym h.opening) (subst (λ (k : Name). IsNode from.opening k header) (sym (h.more lt).1) n)
 
 -- the field is within the words
-pub field_within : (from v : Seen) (s : Segments) (m : MarkerSeen) (at fields field : ℕ) (header : Header) → IsNode from.opening (entry_now from).name header → IsAtField from v s m at fields field → field < fields → fields ≡ fields_scanned header.kind header.fields → at + HEADER_WORDS + field < word_total v.opening.layout
+pub field_within : (from v : Seen) (s : Segments) (m : MarkerSeen) (at fields field : ℕ) (header : Header) →
+    IsNode from.opening (entry_now from).name header → IsAtField from v s m at fields field → field < fields →
+    fields ≡ fields_scanned header.kind header.fields → at + HEADER_WORDS + field < word_total v.opening.layout
 field_within from v s m at fields field header n h lt f =
     let node = node_later from v s m at fields field header n h lt in
     let r = node.room at (h.more lt).0.there in
@@ -80,7 +90,9 @@ field_within from v s m at fields field header n h lt f =
     let is = ap (λ (x : Header). x.fields) node.is in
     omega arith
 
-module _ (from v : Seen) (s t : Segments) (m n : MarkerSeen) (at w fields field : ℕ) (header : Header) (first : IsNode from.opening (entry_now from).name header) (inv : IsAtField from v s m at fields field) (lt : field < fields) (f : fields ≡ fields_scanned header.kind header.fields)
+module _ (from v : Seen) (s t : Segments) (m n : MarkerSeen) (at w fields field : ℕ) (header : Header)
+    (first : IsNode from.opening (entry_now from).name header) (inv : IsAtField from v s m at fields field) (lt : field < fields) (f : fields ≡
+    fields_scanned header.kind header.fields)
     (tied : IsTied v.opening (with_name v.opening.core.snapshot (rest_of (marks_seen v)) (name_meant v.opening.places w)) t n) where
   scanning : IsScanning v s m at (field + 1)
   scanning = (inv.more lt).0
@@ -102,7 +114,8 @@ module _ (from v : Seen) (s t : Segments) (m n : MarkerSeen) (at w fields field 
   next_field none = record {
     opening = inv.opening;
     more = λ l.
-        let g = goes_on v w at s t m n (field + 1) scanning node.node node.there (not_last node.node fields field w are l (ap (λ (h : Header). is_result h.kind field w) node.is ∙ none)) tied' in
+        let g = goes_on v w at s t m n (field + 1) scanning node.node node.there (not_last node.node fields field w are l (ap (λ (h : Header).
+        is_result h.kind field w) node.is ∙ none)) tied' in
         (g.0, g.1 ∙ (inv.more lt).1);
     last = λ le. done (field_last node.node fields (field + 1) w are le);
   }
@@ -116,7 +129,8 @@ pub room_taken : (s : Segments) (old new : MarkerSeen) → HasRoomToMark s old �
 room_taken s old new h e = subst (λ (m : MarkerSeen). HasRoomToMark s m) (sym e) (record { places = h.places; all = h.all; room = h.room })
 
 -- an object was taken off the queue, and scanned
-pub object_marked : (s t u : Segments) (before m taken n : MarkerSeen) (at count : ℕ) → HasMarked s t before m count → m.queue ≡ at ∷ taken.queue → IsTaken m taken → HasMarked t u taken n 0 → HasMarked s u before n (count + 1)
+pub object_marked : (s t u : Segments) (before m taken n : MarkerSeen) (at count : ℕ) → HasMarked s t before m count → m.queue ≡ at ∷ taken.queue →
+    IsTaken m taken → HasMarked t u taken n 0 → HasMarked s u before n (count + 1)
 object_marked s t u before m taken n at count inv q e done = record {
   room = done.room;
   scanned = record {
@@ -129,7 +143,8 @@ object_marked s t u before m taken n at count inv q e done = record {
     pace =
         (let a = inv.scanned.pace in
         let b = done.scanned.pace in
-        let l : length m.queue ≡ length taken.queue + 1 = ap (λ (k : List ℕ). length k) q ∙ (let z : length (at ∷ taken.queue) ≡ length taken.queue + 1 = omega arith in z) in
+        let l : length m.queue ≡ length taken.queue + 1 = ap (λ (k : List ℕ). length k) q ∙
+        (let z : length (at ∷ taken.queue) ≡ length taken.queue + 1 = omega arith in z) in
         let k : taken.marked ≡ m.marked = ap (λ (k : MarkerSeen). k.marked) e in
         omega arith);
     room =
@@ -145,7 +160,12 @@ object_marked s t u before m taken n at count inv q e done = record {
 
 -- a seat that made one scan more, or none
 pub same_seat : (seat : RoundSeat) → IsLaterSeat seat seat
-same_seat seat = record { id = refl; scans = []; knows = ap (λ (l : List Scan). let v : Seen = record (seen seat) { scans = l } in v) (sym (append-nil (seen seat).scans)) }
+same_seat seat = record {
+  id = refl;
+  scans = [];
+  knows = ap (λ (l : List Scan). let v : Seen = record (seen seat) { scans = l } in
+      v) (sym (append-nil (seen seat).scans));
+}
 
 pub one_scan : (round : Round) (from old new : RoundSeat) (w : ℕ) → IsLaterSeat from old → Knows round old new (scanned_by (seen old) w) → IsLaterSeat from new
 one_scan round from old new w l k =
@@ -154,17 +174,20 @@ one_scan round from old new w l k =
     record {
       id = k.1 ∙ l.id;
       scans = l.scans ++ s ∷ [];
-      knows = k.2 ∙ ap (λ (v : Seen). let u : Seen = record v { scans = v.scans ++ s ∷ [] } in u) is ∙ ap (λ (xs : List Scan). let u : Seen = record (seen from) { scans = xs } in u) (append_assoc (seen from).scans l.scans (s ∷ []));
+      knows = k.2 ∙ ap (λ (v : Seen). let u : Seen = record v { scans = v.scans ++ s ∷ [] } in u) is ∙
+          ap (λ (xs : List Scan). let u : Seen = record (seen from) { scans = xs } in u) (append_assoc (seen from).scans l.scans (s ∷ []));
     }
 
 pub later_seat : (a b c : RoundSeat) → IsLaterSeat a b → IsLaterSeat b c → IsLaterSeat a c
 later_seat a b c x y = record {
   id = y.id ∙ x.id;
   scans = x.scans ++ y.scans;
-  knows = y.knows ∙ ap (λ (v : Seen). let u : Seen = record v { scans = v.scans ++ y.scans } in u) x.knows ∙ ap (λ (xs : List Scan). let u : Seen = record (seen a) { scans = xs } in u) (append_assoc (seen a).scans x.scans y.scans);
+  knows = y.knows ∙ ap (λ (v : Seen). let u : Seen = record v { scans = v.scans ++ y.scans } in u) x.knows ∙
+      ap (λ (xs : List Scan). let u : Seen = record (seen a) { scans = xs } in u) (append_assoc (seen a).scans x.scans y.scans);
 }
 
-pub still_collector : (round : Round) (old new : RoundSeat) (w : ℕ) → IsCollector round old → Knows round old new (scanned_by (seen old) w) → IsCollector round new
+pub still_collector : (round : Round) (old new : RoundSeat) (w : ℕ) → IsCollector round old → Knows round old new (scanned_by (seen old) w) →
+    IsCollector round new
 still_collector round old new w h k = (k.0, ap (λ (v : Seen). v.collects) k.2 ∙ h.1)
 
 -- the view of a round has as many words as the round
@@ -181,7 +204,8 @@ queue_taken old new e = e ∙ ap (λ (n : ℕ). let k : MarkerSeen = record old 
 
 -- so it is after a pass of the gate
 pub passed_taken : (old taken new : MarkerSeen) (turns : ℕ) → taken ≡ record old { queue = taken.queue } → new ≡ turned taken turns → IsTaken old new
-passed_taken old taken new turns e same = same ∙ ap (λ (m : MarkerSeen). turned m turns) e ∙ ap (λ (m : MarkerSeen). let k : MarkerSeen = record old { queue = m.queue; turns = m.turns } in k) (sym same)
+passed_taken old taken new turns e same = same ∙ ap (λ (m : MarkerSeen). turned m turns) e ∙
+    ap (λ (m : MarkerSeen). let k : MarkerSeen = record old { queue = m.queue; turns = m.turns } in k) (sym same)
 
 -- one pass more
 pub passed_more : (turns count : ℕ) → next_turn (passed turns count) ≡ passed turns (count + 1)

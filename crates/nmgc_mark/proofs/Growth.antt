@@ -10,13 +10,16 @@ use Rattle.nmgc_alloc.specs.Blocks.{IsMarkedAt}
 use Rattle.nmgc_run.specs.Seen.{MarkerSeen}
 use Rattle.nmgc_mark.specs.Tie.{IsRightSnapshot, AreQueued, IsTied}
 
-more_queued : (few more : List Place) → ((p : Place) → Contains few p → Contains more p) → (ats : List ℕ) (entries : List Entry) → AreQueued few ats entries → AreQueued more ats entries
+more_queued : (few more : List Place) → ((p : Place) → Contains few p → Contains more p) → (ats : List ℕ) (entries : List Entry) →
+    AreQueued few ats entries → AreQueued more ats entries
 more_queued few more sub [] [] h = tt
 more_queued few more sub (at ∷ ats) (e ∷ es) h = ((sub (record { at = at; name = e.name }) h.0.0, h.0.1), more_queued few more sub ats es h.1)
 more_queued few more sub [] (e ∷ es) h = absurd h
 more_queued few more sub (at ∷ ats) [] h = absurd h
 
-pub more_places : (o : Opening) (places : List Place) (m : Marks) (s : Segments) (marker : MarkerSeen) → ((p : Place) → Contains o.places p → Contains places p) → IsRightSnapshot (record o { places = places }) s → IsTied o m s marker → IsTied (record o { places = places }) m s marker
+pub more_places : (o : Opening) (places : List Place) (m : Marks) (s : Segments) (marker : MarkerSeen) →
+    ((p : Place) → Contains o.places p → Contains places p) → IsRightSnapshot (record o { places = places }) s → IsTied o m s marker →
+    IsTied (record o { places = places }) m s marker
 more_places o places m s marker sub right h = record {
   snapshot = right;
   shared = h.shared;

@@ -10,7 +10,8 @@ use Rattle.nmgc_object.specs.declared.layout.Layout.{Layout}
 use Rattle.nmgc_mark.specs.Tie.{AreApart}
 
 -- a place has a name
-pub some_at : (places : List Place) (at : ℕ) (name : Name) → Contains places (record { at = at; name = name }) → (n : Name) × (name_at places at ≡ Some n) × Contains places (record { at = at; name = n })
+pub some_at : (places : List Place) (at : ℕ) (name : Name) → Contains places (record { at = at; name = name }) → (n : Name) ×
+    (name_at places at ≡ Some n) × Contains places (record { at = at; name = n })
 some_at [] at name c = absurd (let lt = c.1 in omega arith)
 some_at (p ∷ ps) at name c = elim (eqb_tells p.at at) [
   | inl e ↦ (p.name, rw e.0 refl, subst (λ (a : ℕ). Contains (p ∷ ps) (record { at = a; name = p.name })) e.1 (contains_head p ps))
@@ -31,7 +32,8 @@ found_at (p ∷ ps) at name e = elim (eqb_tells p.at at) [
 ]
 
 -- where places are apart it is the only one
-pub named_at : (layout : Layout) (places : List Place) (at : ℕ) (name : Name) → AreApart layout places → Contains places (record { at = at; name = name }) → name_at places at ≡ Some name
+pub named_at : (layout : Layout) (places : List Place) (at : ℕ) (name : Name) → AreApart layout places →
+    Contains places (record { at = at; name = name }) → name_at places at ≡ Some name
 named_at layout places at name h c =
     let r = some_at places at name c in
     let same = h.one (record { at = at; name = r.0 }) (record { at = at; name = name }) r.2 c (inr refl) in

@@ -14,8 +14,22 @@ pub record IsMarkOf (s t : State) (name : Name) : Type 0 where
   pub shared : Contains s.marked shared_name → Contains t.marked shared_name
 
 mark_if : (b : Bool) (s : State) (name : Name) → is_new s name ≡ b → IsMarkOf s (cond b (with_mark s name) s) name
-mark_if true s name e = record { marks = ap (λ (b : Bool). cond b (record { marked = s.marked ++ name ∷ []; queue = s.queue ++ entry_of name ∷ [] }) (marks_of s)) (sym e); rest = refl; shared = λ c. Contains-append_left s.marked (name ∷ []) shared_name c }
-mark_if false s name e = record { marks = ap (λ (b : Bool). cond b (record { marked = s.marked ++ name ∷ []; queue = s.queue ++ entry_of name ∷ [] }) (marks_of s)) (sym e); rest = refl; shared = λ c. c }
+mark_if true s name e = record {
+  marks = ap (λ (b : Bool). cond b (record {
+    marked = s.marked ++ name ∷ [];
+    queue = s.queue ++ entry_of name ∷ [];
+  }) (marks_of s)) (sym e);
+  rest = refl;
+  shared = λ c. Contains-append_left s.marked (name ∷ []) shared_name c;
+}
+mark_if false s name e = record {
+  marks = ap (λ (b : Bool). cond b (record {
+    marked = s.marked ++ name ∷ [];
+    queue = s.queue ++ entry_of name ∷ [];
+  }) (marks_of s)) (sym e);
+  rest = refl;
+  shared = λ c. c;
+}
 
 pub mark_is : (s : State) (name : Name) → IsMarkOf s (mark_name s name) name
 mark_is s name = mark_if (is_new s name) s name refl

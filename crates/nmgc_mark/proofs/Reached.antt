@@ -13,7 +13,8 @@ none_in : {A : Type 0} (xs : List A) (x : A) → xs ≡ [] → Contains xs x →
 none_in [] x e c = let lt = c.1 in omega arith
 none_in (y ∷ xs) x e c = cc
 
-module _ (s : State) (f : Facts s) (queue : s.queue ≡ []) (none_owed : (m : ℕ) → names_of s.owed m ≡ []) (none_pushed : (m : ℕ) → names_of s.pushed m ≡ []) where
+module _ (s : State) (f : Facts s) (queue : s.queue ≡ []) (none_owed : (m : ℕ) → names_of s.owed m ≡ []) (none_pushed : (m : ℕ) →
+    names_of s.pushed m ≡ []) where
   safe_is : (name : Name) → IsSafe s name → Contains s.marked name
   safe_is name (marked c) = c
   safe_is name (owed m c) = absurd (none_in (names_of s.owed m) name (none_owed m) c)

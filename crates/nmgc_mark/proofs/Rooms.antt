@@ -27,10 +27,13 @@ steps_count (suc n) at size = let e = steps_count n (at + size) size in omega ar
 steps_have : (n at size k : ℕ) → k < n → Contains (steps_from at size n) (at + k * size)
 unfolding steps_from
 steps_have zero at size k lt = absurd (omega arith)
-steps_have (suc n) at size zero lt = let e : at ≡ at + 0 * size = omega arith in subst (λ x. Contains (at ∷ steps_from (at + size) size n) x) e (contains_head at (steps_from (at + size) size n))
+steps_have (suc n) at size zero lt = let e : at ≡ at + 0 * size = omega arith in
+    subst (λ x. Contains (at ∷ steps_from (at + size) size n) x) e (contains_head at (steps_from (at + size) size n))
 steps_have (suc n) at size (suc k) lt =
     let e : at + size + k * size ≡ at + suc k * size = omega arith in
-    subst (λ x. Contains (at ∷ steps_from (at + size) size n) x) e (contains_tail at (steps_from (at + size) size n) (at + size + k * size) (steps_have n (at + size) size k (omega arith)))
+    subst (λ x. Contains (at ∷
+    steps_from (at + size) size n) x) e (contains_tail at (steps_from (at + size) size n) (at + size + k * size)
+    (steps_have n (at + size) size k (omega arith)))
 
 module _ (s : Segments) where
   -- the words of a segment's blocks, how many it has, and where they begin

@@ -35,7 +35,8 @@ ref_in value.Nil = None
 ref_in (value.Number n) = None
 ref_in (value.Ref name) = Some name
 
-value_word : (o : Opening) (m : Marks) (w : ℕ) (v : Value) → AreApart o.layout o.places → Means (Contains o.places) w v → with_name o.core.snapshot m (name_meant o.places w) ≡ with_name o.core.snapshot m (ref_in v)
+value_word : (o : Opening) (m : Marks) (w : ℕ) (v : Value) → AreApart o.layout o.places → Means (Contains o.places) w v →
+    with_name o.core.snapshot m (name_meant o.places w) ≡ with_name o.core.snapshot m (ref_in v)
 value_word o m w value.Nil h e = ap (λ k. with_name o.core.snapshot m (name_meant o.places k)) e
 value_word o m w (value.Number n) h e =
     let a : eqb w 0 ≡ false = ne_eqb w 0 (λ z. omega arith) in
@@ -57,14 +58,16 @@ value_marks s value.Nil = (refl, refl)
 value_marks s (value.Number n) = (refl, refl)
 value_marks s (value.Ref name) = let k = mark_is s name in (k.marks, ap (λ (t : State). t.snapshot) k.rest)
 
-pub words_mark : (o : Opening) (s : State) (ws : List ℕ) (values : List Value) → o.core.snapshot ≡ s.snapshot → AreApart o.layout o.places → ListMeans (Contains o.places) ws values → marks_of (mark_values s values) ≡ with_words o (marks_of s) ws
+pub words_mark : (o : Opening) (s : State) (ws : List ℕ) (values : List Value) → o.core.snapshot ≡ s.snapshot → AreApart o.layout o.places →
+    ListMeans (Contains o.places) ws values → marks_of (mark_values s values) ≡ with_words o (marks_of s) ws
 words_mark o s [] [] same h means = refl
 words_mark o s [] (v ∷ vs) same h means = absurd means
 words_mark o s (w ∷ ws) [] same h means = absurd means
 words_mark o s (w ∷ ws) (v ∷ vs) same h means =
     let k = value_marks s v in
     words_mark o (mark_value s v) ws vs (same ∙ sym k.1) h means.1
-    ∙ ap (λ (m : Marks). with_words o m ws) (k.0 ∙ ap (λ (x : World). with_name x (marks_of s) (ref_in v)) (sym same) ∙ sym (value_word o (marks_of s) w v h means.0))
+    ∙ ap (λ (m : Marks). with_words o m ws) (k.0 ∙ ap (λ (x : World). with_name x (marks_of s) (ref_in v)) (sym same) ∙
+    sym (value_word o (marks_of s) w v h means.0))
 
 values_append : (s : State) (xs ys : List Value) → mark_values s (xs ++ ys) ≡ mark_values (mark_values s xs) ys
 values_append s [] ys = refl
@@ -77,7 +80,8 @@ means_append P (w ∷ ws) us [] ys a b = absurd a
 means_append P (w ∷ ws) us (x ∷ xs) ys a b = (a.0, means_append P ws us xs ys a.1 b)
 
 -- a word that stands for a value is no pointer past the heap's words
-pub word_small : (o : Opening) (w : ℕ) (v : Value) → AreApart o.layout o.places → Means (Contains o.places) w v → (at : ℕ) → w ≡ 2 * at → at + 2 ≤ word_total o.layout
+pub word_small : (o : Opening) (w : ℕ) (v : Value) → AreApart o.layout o.places → Means (Contains o.places) w v → (at : ℕ) → w ≡ 2 * at →
+    at + 2 ≤ word_total o.layout
 word_small o w value.Nil h e at is = absurd (omega arith)
 word_small o w (value.Number n) h e at is = absurd (omega arith)
 word_small o w (value.Ref name) h means at is =
@@ -85,7 +89,8 @@ word_small o w (value.Ref name) h means at is =
     let e = means.1 in
     omega arith
 
-pub words_small : (o : Opening) (ws : List ℕ) (values : List Value) → AreApart o.layout o.places → ListMeans (Contains o.places) ws values → (w at : ℕ) → Contains ws w → w ≡ 2 * at → at + 2 ≤ word_total o.layout
+pub words_small : (o : Opening) (ws : List ℕ) (values : List Value) → AreApart o.layout o.places → ListMeans (Contains o.places) ws values →
+    (w at : ℕ) → Contains ws w → w ≡ 2 * at → at + 2 ≤ word_total o.layout
 words_small o [] values h means w at c e = absurd (let lt = c.1 in omega arith)
 words_small o (x ∷ xs) [] h means w at c e = absurd means
 words_small o (x ∷ xs) (v ∷ vs) h means w at c e = elim (contains_cases x xs w c) [
@@ -94,7 +99,9 @@ words_small o (x ∷ xs) (v ∷ vs) h means w at c e = elim (contains_cases x xs
 ]
 
 -- the roots of the snapshot, marked in their order
-pub roots_mark : (o : Opening) (s : Segments) (epoch : ℕ) (words registers : List ℕ) (queues : List FinQueue) → IsBeginning o s epoch words registers queues → with_words o (with_queues o (with_words o (marks_of (unmarked o.core.snapshot)) registers) queues) (slots_of words) ≡ marks_of (opening o.core.snapshot)
+pub roots_mark : (o : Opening) (s : Segments) (epoch : ℕ) (words registers : List ℕ) (queues : List FinQueue) →
+    IsBeginning o s epoch words registers queues →
+    with_words o (with_queues o (with_words o (marks_of (unmarked o.core.snapshot)) registers) queues) (slots_of words) ≡ marks_of (opening o.core.snapshot)
 roots_mark o s epoch words registers queues h =
     let S : World = o.core.snapshot in
     let m : Marks = marks_of (unmarked o.core.snapshot) in
@@ -102,14 +109,17 @@ roots_mark o s epoch words registers queues h =
     let regs : List Value = flat_map (λ (state : MutatorState). state.registers) S.mutators in
     let fins : List Value = flat_map (λ (state : MutatorState). state.queue) S.mutators in
     let all = words_mark o (unmarked S) (registers ++ (flat ++ slots_of words)) (regs ++ (fins ++ strong_fields S.shared)) refl h.right.apart
-    (means_append (Contains o.places) registers (flat ++ slots_of words) regs (fins ++ strong_fields S.shared) h.registers_are (means_append (Contains o.places) flat (slots_of words) fins (strong_fields S.shared) h.queues_are h.slots_are)) in
+    (means_append (Contains o.places) registers (flat ++ slots_of words) regs (fins ++
+    strong_fields S.shared) h.registers_are (means_append (Contains o.places) flat (slots_of words) fins (strong_fields S.shared) h.queues_are
+    h.slots_are)) in
     ap (λ (k : Marks). with_words o k (slots_of words)) (queues_flat o (with_words o m registers) queues)
     ∙ sym (words_append o (with_words o m registers) flat (slots_of words))
     ∙ sym (words_append o m registers (flat ++ slots_of words))
     ∙ sym all
 
 -- a blank marker is the machine's of which nothing but g is marked
-pub blank_tied : (o : Opening) (s : Segments) (epoch spare : ℕ) (words registers : List ℕ) (queues : List FinQueue) → IsSegments s → IsBeginning o s epoch words registers queues → IsTied o (marks_of (unmarked o.core.snapshot)) s (blank epoch spare)
+pub blank_tied : (o : Opening) (s : Segments) (epoch spare : ℕ) (words registers : List ℕ) (queues : List FinQueue) → IsSegments s →
+    IsBeginning o s epoch words registers queues → IsTied o (marks_of (unmarked o.core.snapshot)) s (blank epoch spare)
 blank_tied o s epoch spare words registers queues sound h = record {
   snapshot = h.right;
   shared = contains_head shared_name [];
@@ -120,7 +130,8 @@ blank_tied o s epoch spare words registers queues sound h = record {
           let same = h.right.apart.one shared_place p h.shared c (inl e) in
           let at : 1 ≡ p.at = ap (λ (q : Place). q.at) same in
           let begins = g.2 in
-          let lies = lies_in s g.0 g.1 p.at p.at sound g.2 (omega arith) (let pos : 0 < block_size (nth s.segments g.0).class = omega (arith, least_block (nth s.segments g.0).class) in omega arith) in
+          let lies = lies_in s g.0 g.1 p.at p.at sound g.2 (omega arith)
+          (let pos : 0 < block_size (nth s.segments g.0).class = omega (arith, least_block (nth s.segments g.0).class) in omega arith) in
           absurd (let from = lies.from in omega arith)
       | inr d ↦ absurd (let lt = d.1 in omega arith)
     ],
@@ -132,5 +143,7 @@ blank_tied o s epoch spare words registers queues sound h = record {
 flat_has : (queues : List FinQueue) (q : FinQueue) (w : ℕ) → Contains queues q → Contains q.words w → Contains (flat_map (λ (x : FinQueue). x.words) queues) w
 flat_has queues q w a b = contains_flat (λ (x : FinQueue). x.words) queues q w a b
 
-pub flat_small : (o : Opening) (queues : List FinQueue) (values : List Value) → AreApart o.layout o.places → ListMeans (Contains o.places) (flat_map (λ (q : FinQueue). q.words) queues) values → (q : FinQueue) (w at : ℕ) → Contains queues q → Contains q.words w → w ≡ 2 * at → at + 2 ≤ word_total o.layout
+pub flat_small : (o : Opening) (queues : List FinQueue) (values : List Value) → AreApart o.layout o.places →
+    ListMeans (Contains o.places) (flat_map (λ (q : FinQueue). q.words) queues) values → (q : FinQueue) (w at : ℕ) → Contains queues q →
+    Contains q.words w → w ≡ 2 * at → at + 2 ≤ word_total o.layout
 flat_small o queues values h means q w at a b e = words_small o (flat_map (λ (x : FinQueue). x.words) queues) values h means w at (flat_has queues q w a b) e

@@ -31,10 +31,13 @@ pub record IsNode (o : Opening) (name : Name) (header : Header) : Type 0 where
   pub room : (at : ℕ) → Contains o.places (record { at = at; name = name }) → at + size_of node ≤ word_total o.layout
 
 -- the header of the entry's object has the word that was read
-pub header_there : (v : Seen) (s : Segments) (marker : MarkerSeen) (at w : ℕ) → IsScanning v s marker at 0 → TellsEntry v.opening (entry_now v) w → (header : Header) × IsHeader header × (header_word header ≡ w)
+pub header_there : (v : Seen) (s : Segments) (marker : MarkerSeen) (at w : ℕ) → IsScanning v s marker at 0 → TellsEntry v.opening (entry_now v) w →
+    (header : Header) × IsHeader header × (header_word header ≡ w)
 header_there v s marker at w h t = let n = t.header h.stands in (header_of n.node, n.valid, sym n.word_is)
 
-pub node_told : (v : Seen) (s : Segments) (marker : MarkerSeen) (at w : ℕ) (header : Header) → IsScanning v s marker at 0 → TellsEntry v.opening (entry_now v) w → ((other : Header) → IsHeader other → header_word other ≡ w → header ≡ other) → IsNode v.opening (entry_now v).name header
+pub node_told : (v : Seen) (s : Segments) (marker : MarkerSeen) (at w : ℕ) (header : Header) → IsScanning v s marker at 0 →
+    TellsEntry v.opening (entry_now v) w → ((other : Header) → IsHeader other → header_word other ≡ w → header ≡ other) →
+    IsNode v.opening (entry_now v).name header
 node_told v s marker at w header h t is =
     let n = t.header h.stands in
     record { node = n.node; there = n.there; is = sym (is (header_of n.node) n.valid (sym n.word_is)); room = n.room }
@@ -63,7 +66,11 @@ name_first : (S : World) (entry : Entry) (rest : Marks) (y : Option Name) → wi
 name_first S entry rest None = refl
 name_first S entry rest (Some name) = by_test (is_some (node_of S name) && not (is_listed name rest.marked))
   where
-    by_test : (b : Bool) → cond b (record { marked = rest.marked ++ name ∷ []; queue = (entry ∷ rest.queue) ++ entry_of name ∷ [] }) (with_first entry rest) ≡ with_first entry (cond b (record { marked = rest.marked ++ name ∷ []; queue = rest.queue ++ entry_of name ∷ [] }) rest)
+    by_test : (b : Bool) → cond b (record {
+      marked = rest.marked ++ name ∷ [];
+      queue = (entry ∷ rest.queue) ++ entry_of name ∷ [];
+    }) (with_first entry rest) ≡
+        with_first entry (cond b (record { marked = rest.marked ++ name ∷ []; queue = rest.queue ++ entry_of name ∷ [] }) rest)
     by_test true = refl
     by_test false = refl
 
@@ -81,51 +88,67 @@ module _ (v : Seen) (w : ℕ) (first : marks_seen v ≡ with_first (entry_now v)
   after =
       folded_more o (marks_of o.core) v.scans (record { entry = e; word = w })
       ∙ ap (λ (k : Marks). after_word o k (record { entry = e; word = w })) first
-      ∙ ap (λ (k : Marks). let n : Marks = record { marked = k.marked; queue = first_past o.core.snapshot k.queue w } in n) (name_first o.core.snapshot e (rest_of (marks_seen v)) (name_read o.places e.position w))
+      ∙ ap (λ (k : Marks). let n : Marks = record { marked = k.marked; queue = first_past o.core.snapshot k.queue w } in
+      n) (name_first o.core.snapshot e (rest_of (marks_seen v)) (name_read o.places e.position w))
 
-  after_node : (node : Node) → node_of o.core.snapshot e.name ≡ Some node → marks_seen (scanned_by v w) ≡ record { marked = t.marked; queue = cond (is_last_word node e.position w) [] ((record { name = e.name; position = e.position + 1 }) ∷ []) ++ t.queue }
+  after_node : (node : Node) → node_of o.core.snapshot e.name ≡ Some node →
+      marks_seen (scanned_by v w) ≡ record {
+        marked = t.marked;
+        queue = cond (is_last_word node e.position w) [] ((record { name = e.name; position = e.position + 1 }) ∷ []) ++ t.queue;
+      }
   after_node node there = after ∙ ap (λ (y : Option Node). let n : Marks = record { marked = t.marked; queue = entry_past y e w ++ t.queue } in n) there
 
-  pub after_more : (node : Node) → node_of o.core.snapshot e.name ≡ Some node → is_last_word node e.position w ≡ false → marks_seen (scanned_by v w) ≡ with_first (record { name = e.name; position = e.position + 1 }) t
-  after_more node there more = after_node node there ∙ ap (λ (b : Bool). let n : Marks = record { marked = t.marked; queue = cond b [] ((record { name = e.name; position = e.position + 1 }) ∷ []) ++ t.queue } in n) more
+  pub after_more : (node : Node) → node_of o.core.snapshot e.name ≡ Some node → is_last_word node e.position w ≡ false →
+      marks_seen (scanned_by v w) ≡ with_first (record { name = e.name; position = e.position + 1 }) t
+  after_more node there more = after_node node there ∙ ap (λ (b : Bool).
+      let n : Marks = record { marked = t.marked; queue = cond b [] ((record { name = e.name; position = e.position + 1 }) ∷ []) ++ t.queue } in n) more
 
   pub after_last : (node : Node) → node_of o.core.snapshot e.name ≡ Some node → is_last_word node e.position w ≡ true → marks_seen (scanned_by v w) ≡ t
-  after_last node there last = after_node node there ∙ ap (λ (b : Bool). let n : Marks = record { marked = t.marked; queue = cond b [] ((record { name = e.name; position = e.position + 1 }) ∷ []) ++ t.queue } in n) last
+  after_last node there last = after_node node there ∙ ap (λ (b : Bool).
+      let n : Marks = record { marked = t.marked; queue = cond b [] ((record { name = e.name; position = e.position + 1 }) ∷ []) ++ t.queue } in n) last
 
 -- the next position of the same object
-pub goes_on : (v : Seen) (w at : ℕ) (s new : Segments) (before later : MarkerSeen) (position : ℕ) (h : IsScanning v s before at position) (node : Node) → node_of v.opening.core.snapshot (entry_now v).name ≡ Some node → is_last_word node position w ≡ false
+pub goes_on : (v : Seen) (w at : ℕ) (s new : Segments) (before later : MarkerSeen) (position : ℕ) (h : IsScanning v s before at position)
+    (node : Node) → node_of v.opening.core.snapshot (entry_now v).name ≡ Some node → is_last_word node position w ≡ false
     → IsTied v.opening (with_name v.opening.core.snapshot (rest_of (marks_seen v)) (name_read v.opening.places position w)) new later
     → IsScanning (scanned_by v w) new later at (position + 1) × ((entry_now (scanned_by v w)).name ≡ (entry_now v).name)
 goes_on v w at s new before later position h node there more tied =
     let is = after_more v w h.first node there (subst (λ p. is_last_word node p w ≡ false) (sym h.stands) more) in
-    let entry : entry_now (scanned_by v w) ≡ record { name = (entry_now v).name; position = (entry_now v).position + 1 } = ap (λ (m : Marks). first_of m.queue) is in
-    let rest : rest_of (marks_seen (scanned_by v w)) ≡ with_name v.opening.core.snapshot (rest_of (marks_seen v)) (name_read v.opening.places (entry_now v).position w) = ap rest_of is in (
+    let entry : entry_now (scanned_by v w) ≡ record { name = (entry_now v).name; position = (entry_now v).position + 1 } =
+    ap (λ (m : Marks). first_of m.queue) is in
+    let rest : rest_of (marks_seen (scanned_by v w)) ≡
+    with_name v.opening.core.snapshot (rest_of (marks_seen v)) (name_read v.opening.places (entry_now v).position w) = ap rest_of is in (
       record {
         first = is ∙ sym (λ i. with_first (entry i) (rest i));
         there = subst (λ n. Contains v.opening.places (record { at = at; name = n })) (sym (ap (λ (k : Entry). k.name) entry)) h.there;
         stands = ap (λ (k : Entry). k.position) entry ∙ ap (λ n. n + 1) h.stands;
-        tied = subst (λ (m : Marks). IsTied v.opening m new later) (sym (rest ∙ ap (λ p. with_name v.opening.core.snapshot (rest_of (marks_seen v)) (name_read v.opening.places p w)) h.stands)) tied;
+        tied = subst (λ (m : Marks). IsTied v.opening m new later) (sym (rest ∙
+            ap (λ p. with_name v.opening.core.snapshot (rest_of (marks_seen v)) (name_read v.opening.places p w)) h.stands)) tied;
       },
       ap (λ (k : Entry). k.name) entry,
     )
 
 -- the object is done
-pub ends : (v : Seen) (w at : ℕ) (s new : Segments) (before later : MarkerSeen) (position : ℕ) (h : IsScanning v s before at position) (node : Node) → node_of v.opening.core.snapshot (entry_now v).name ≡ Some node → is_last_word node position w ≡ true
+pub ends : (v : Seen) (w at : ℕ) (s new : Segments) (before later : MarkerSeen) (position : ℕ) (h : IsScanning v s before at position)
+    (node : Node) → node_of v.opening.core.snapshot (entry_now v).name ≡ Some node → is_last_word node position w ≡ true
     → IsTied v.opening (with_name v.opening.core.snapshot (rest_of (marks_seen v)) (name_read v.opening.places position w)) new later
     → IsTied v.opening (marks_seen (scanned_by v w)) new later
 ends v w at s new before later position h node there last tied =
     let is = after_last v w h.first node there (subst (λ p. is_last_word node p w ≡ true) (sym h.stands) last) in
-    subst (λ (m : Marks). IsTied v.opening m new later) (sym (is ∙ ap (λ p. with_name v.opening.core.snapshot (rest_of (marks_seen v)) (name_read v.opening.places p w)) h.stands)) tied
+    subst (λ (m : Marks). IsTied v.opening m new later) (sym (is ∙
+    ap (λ p. with_name v.opening.core.snapshot (rest_of (marks_seen v)) (name_read v.opening.places p w)) h.stands)) tied
 
 -- the same marker, but for its queue and how often the gate was passed
 abbrev pub IsTaken : MarkerSeen → MarkerSeen → Type 0
 IsTaken old new = new ≡ record old { queue = new.queue; turns = new.turns }
 
 -- the first of the queue is scanned next
-pub begins : (v : Seen) (s : Segments) (before later : MarkerSeen) (at : ℕ) → IsTied v.opening (marks_seen v) s before → before.queue ≡ at ∷ later.queue → IsTaken before later → IsScanning v s later at 0
+pub begins : (v : Seen) (s : Segments) (before later : MarkerSeen) (at : ℕ) → IsTied v.opening (marks_seen v) s before →
+    before.queue ≡ at ∷ later.queue → IsTaken before later → IsScanning v s later at 0
 begins v s before later at h e same = by_queue before.queue (marks_seen v).queue e refl h.queue
   where
-    by_queue : (ats : List ℕ) (entries : List Entry) → ats ≡ at ∷ later.queue → (marks_seen v).queue ≡ entries → AreQueued v.opening.places ats entries → IsScanning v s later at 0
+    by_queue : (ats : List ℕ) (entries : List Entry) → ats ≡ at ∷ later.queue → (marks_seen v).queue ≡ entries →
+        AreQueued v.opening.places ats entries → IsScanning v s later at 0
     by_queue [] [] e q a = absurd cc
     by_queue [] (x ∷ xs) e q a = absurd a
     by_queue (b ∷ ats) [] e q a = absurd a
@@ -137,25 +160,32 @@ begins v s before later at h e same = by_queue before.queue (marks_seen v).queue
         let marked_is : later.marked ≡ before.marked = ap (λ (k : MarkerSeen). k.marked) same in
         record {
           first = (λ i. record { marked = (marks_seen v).marked; queue = (q ∙ sym (λ j. entry j ∷ drop 1 (q j))) i });
-          there = subst (λ n. Contains v.opening.places (record { at = at; name = n })) (sym (ap (λ (k : Entry). k.name) entry)) (subst (λ n. Contains v.opening.places (record { at = n; name = x.name })) b_is a.0.0);
+          there = subst (λ n. Contains v.opening.places (record { at = at; name = n })) (sym (ap (λ (k : Entry). k.name) entry)) (subst (λ n.
+              Contains v.opening.places (record { at = n; name = x.name })) b_is a.0.0);
           stands = ap (λ (k : Entry). k.position) entry ∙ a.0.1;
           tied = record {
             snapshot = h.snapshot;
             shared = h.shared;
             marks = λ p c g. subst (λ n. IsMarkedAt s n p.at ↔ Contains (marks_seen v).marked p.name) (sym epoch_is) (h.marks p c g);
-            queue = subst (λ (l : List Entry). AreQueued v.opening.places later.queue l) (sym (ap (drop 1) q)) (subst (λ (l : List ℕ). AreQueued v.opening.places l xs) ats_are a.1);
+            queue = subst (λ (l : List Entry). AreQueued v.opening.places later.queue l) (sym (ap (drop 1) q)) (subst (λ (l : List ℕ).
+                AreQueued v.opening.places l xs) ats_are a.1);
             count = ap (λ n. n + 1) marked_is ∙ h.count;
           };
         }
 
 -- whether a field was the last
 same_one : (field : ℕ) → eqb (field + 1) 1 ≡ eqb field 0
-same_one field = elim (eqb_tells field 0) [ inl z ↦ eq-eqb (field + 1) 1 (let k = z.1 in omega arith) ∙ sym z.0 | inr n ↦ ne_eqb (field + 1) 1 (λ k. n.1 (omega arith)) ∙ sym n.0 ]
+same_one field = elim (eqb_tells field 0) [
+  | inl z ↦ eq-eqb (field + 1) 1 (let k = z.1 in omega arith) ∙
+      sym z.0
+  | inr n ↦ ne_eqb (field + 1) 1 (λ k. n.1 (omega arith)) ∙ sym n.0
+]
 
 same_test : (node : Node) (field w : ℕ) → (eqb (field + 1) 1 && (is_thunk node && not (eqb w 0))) ≡ is_result (header_of node).kind field w
 same_test node field w = (λ i. same_one field i && (thunk_by node i && not (eqb w 0)))
 
-pub not_last : (node : Node) (fields field w : ℕ) → fields_of node ≡ fields → field + 1 < fields → is_result (header_of node).kind field w ≡ false → is_last_word node (field + 1) w ≡ false
+pub not_last : (node : Node) (fields field w : ℕ) → fields_of node ≡ fields → field + 1 < fields → is_result (header_of node).kind field w ≡ false →
+    is_last_word node (field + 1) w ≡ false
 not_last node fields field w e lt no_result = by (leb (fields_of node) (field + 1)) refl
   where
     by : (x : Bool) → leb (fields_of node) (field + 1) ≡ x → (x || (eqb (field + 1) 1 && (is_thunk node && not (eqb w 0)))) ≡ false
@@ -171,7 +201,8 @@ header_more node fields w e lt = by (leb (fields_of node) 0) refl
     by true k = absurd (let l = leb-true (fields_of node) 0 k in omega arith)
 
 pub field_last : (node : Node) (fields position w : ℕ) → fields_of node ≡ fields → fields ≤ position → is_last_word node position w ≡ true
-field_last node fields position w e le = ap (λ (b : Bool). b || (eqb position 1 && (is_thunk node && not (eqb w 0)))) (le-leb (fields_of node) position (omega arith))
+field_last node fields position w e le =
+    ap (λ (b : Bool). b || (eqb position 1 && (is_thunk node && not (eqb w 0)))) (le-leb (fields_of node) position (omega arith))
 
 or_true : (a b : Bool) → b ≡ true → (a || b) ≡ true
 or_true true b e = refl
@@ -180,5 +211,6 @@ or_true false b e = e
 pub result_last : (node : Node) (field w : ℕ) → is_result (header_of node).kind field w ≡ true → is_last_word node (field + 1) w ≡ true
 result_last node field w e = or_true (leb (fields_of node) (field + 1)) (eqb (field + 1) 1 && (is_thunk node && not (eqb w 0))) (same_test node field w ∙ e)
 
-pub fields_are : (node : Node) (header : Header) (fields : ℕ) → header_of node ≡ header → fields ≡ fields_scanned header.kind header.fields → fields_of node ≡ fields
+pub fields_are : (node : Node) (header : Header) (fields : ℕ) → header_of node ≡ header → fields ≡ fields_scanned header.kind header.fields →
+    fields_of node ≡ fields
 fields_are node header fields e f = fields_by node ∙ ap (λ (h : Header). fields_scanned h.kind h.fields) e ∙ sym f

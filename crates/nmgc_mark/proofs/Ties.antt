@@ -39,25 +39,44 @@ nothing_there s marker at none = record { answer = false; place = no_place s mar
 room_one : (s : Segments) (marker : MarkerSeen) (at : ℕ) → HasRoomToMark s marker → IsSnapshotAt s at → (IsMarkedAt s marker.epoch at → ⊥) → 0 < marker.spare
 room_one s marker at h g fresh = let c = h.all at g fresh in let lt = c.1 in let le = h.room in omega arith
 
-pub place_done : (old new : Segments) (before : MarkerSeen) (at epoch : ℕ) (answer : Bool) → epoch ≡ before.epoch → IsEpoch before.epoch → IsSegments old → MarksBlock old new at epoch answer → MarksPlace old new before.epoch at answer
+pub place_done : (old new : Segments) (before : MarkerSeen) (at epoch : ℕ) (answer : Bool) → epoch ≡ before.epoch → IsEpoch before.epoch →
+    IsSegments old → MarksBlock old new at epoch answer → MarksPlace old new before.epoch at answer
 place_done old new before at epoch answer e he h m = marks_place old new at before.epoch answer he h (subst (λ n. MarksBlock old new at n answer) e m)
 
-pub stand_done : (old new : Segments) (before : MarkerSeen) (at epoch : ℕ) (answer : Bool) → epoch ≡ before.epoch → IsEpoch before.epoch → IsSegments old → MarksBlock old new at epoch answer → StandAsBefore old new
-stand_done old new before at epoch answer e he h m words a s = marked_stands old new words a at before.epoch answer he h s (subst (λ n. MarksBlock old new at n answer) e m)
+pub stand_done : (old new : Segments) (before : MarkerSeen) (at epoch : ℕ) (answer : Bool) → epoch ≡ before.epoch → IsEpoch before.epoch →
+    IsSegments old → MarksBlock old new at epoch answer → StandAsBefore old new
+stand_done old new before at epoch answer e he h m words a s =
+    marked_stands old new words a at before.epoch answer he h s (subst (λ n. MarksBlock old new at n answer) e m)
 
-room_of : (old new : Segments) (before : MarkerSeen) (at : ℕ) (answer : Bool) → HasRoomToMark old before → MarksPlace old new before.epoch at answer → IsTrue answer → 0 < before.spare
+room_of : (old new : Segments) (before : MarkerSeen) (at : ℕ) (answer : Bool) → HasRoomToMark old before →
+    MarksPlace old new before.epoch at answer → IsTrue answer → 0 < before.spare
 room_of old new before at answer room p t = let g = p.to_mark.0 t in room_one old before at room g.0 g.1
 
-pub room_done : (old new : Segments) (before : MarkerSeen) (at epoch : ℕ) (answer : Bool) → HasRoomToMark old before → epoch ≡ before.epoch → IsEpoch before.epoch → IsSegments old → MarksBlock old new at epoch answer → IsTrue answer → 0 < before.spare
+pub room_done : (old new : Segments) (before : MarkerSeen) (at epoch : ℕ) (answer : Bool) → HasRoomToMark old before → epoch ≡ before.epoch →
+    IsEpoch before.epoch → IsSegments old → MarksBlock old new at epoch answer → IsTrue answer → 0 < before.spare
 room_done old new before at epoch answer room e he h m t = room_of old new before at answer room (place_done old new before at epoch answer e he h m) t
 
-pub done_then : (old new : Segments) (before later : MarkerSeen) (at epoch : ℕ) (answer : Bool) → epoch ≡ before.epoch → IsEpoch before.epoch → IsSegments old → MarksBlock old new at epoch answer → IsTrue answer → later ≡ noted true at before → MarksAt old new before later at
-done_then old new before later at epoch true e he h m t is = record { answer = true; place = place_done old new before at epoch true e he h m; marker = is; layout = ap (λ (x : Segments). x.layout) m.value; stands = stand_done old new before at epoch true e he h m }
+pub done_then : (old new : Segments) (before later : MarkerSeen) (at epoch : ℕ) (answer : Bool) → epoch ≡ before.epoch → IsEpoch before.epoch →
+    IsSegments old → MarksBlock old new at epoch answer → IsTrue answer → later ≡ noted true at before → MarksAt old new before later at
+done_then old new before later at epoch true e he h m t is = record {
+  answer = true;
+  place = place_done old new before at epoch true e he h m;
+  marker = is;
+  layout = ap (λ (x : Segments). x.layout) m.value;
+  stands = stand_done old new before at epoch true e he h m;
+}
 done_then old new before later at epoch false e he h m t is = never t
 
-pub done_else : (old new : Segments) (before : MarkerSeen) (at epoch : ℕ) (answer : Bool) → epoch ≡ before.epoch → IsEpoch before.epoch → IsSegments old → MarksBlock old new at epoch answer → (IsTrue answer → ⊥) → MarksAt old new before before at
+pub done_else : (old new : Segments) (before : MarkerSeen) (at epoch : ℕ) (answer : Bool) → epoch ≡ before.epoch → IsEpoch before.epoch →
+    IsSegments old → MarksBlock old new at epoch answer → (IsTrue answer → ⊥) → MarksAt old new before before at
 done_else old new before at epoch true e he h m t = absurd (t refl)
-done_else old new before at epoch false e he h m t = record { answer = false; place = place_done old new before at epoch false e he h m; marker = refl; layout = ap (λ (x : Segments). x.layout) m.value; stands = stand_done old new before at epoch false e he h m }
+done_else old new before at epoch false e he h m t = record {
+  answer = false;
+  place = place_done old new before at epoch false e he h m;
+  marker = refl;
+  layout = ap (λ (x : Segments). x.layout) m.value;
+  stands = stand_done old new before at epoch false e he h m;
+}
 
 -- a list without one of its numbers
 remove : (xs : List ℕ) (x : ℕ) → Contains xs x → (ys : List ℕ) × (length ys + 1 ≡ length xs) × ((y : ℕ) → Contains xs y → y ≢ x → Contains ys y)
@@ -65,11 +84,19 @@ remove [] x c = absurd (let lt = c.1 in omega arith)
 remove (z ∷ zs) x c = elim (contains_cases z zs x c) [
   | inl e ↦ (zs, omega arith, λ y d ne. elim (contains_cases z zs y d) [ inl same ↦ absurd (ne (sym same ∙ e)) | inr t ↦ t ])
   | inr t ↦
-      let r = remove zs x t in
-      (z ∷ r.0, let l = r.1 in omega arith, λ y d ne. elim (contains_cases z zs y d) [ inl same ↦ subst (λ k. Contains (z ∷ r.0) k) same (contains_head z r.0) | inr u ↦ contains_tail z r.0 y (r.2 y u ne) ])
+      let r = remove zs x t in (
+        z ∷ r.0,
+        let l = r.1 in omega arith,
+        λ y d ne. elim (contains_cases z zs y d) [
+          | inl same ↦
+              subst (λ k. Contains (z ∷ r.0) k) same (contains_head z r.0)
+          | inr u ↦ contains_tail z r.0 y (r.2 y u ne)
+        ],
+      )
 ]
 
-room_case : (old new : Segments) (before : MarkerSeen) (at : ℕ) (answer : Bool) → HasRoomToMark old before → MarksPlace old new before.epoch at answer → HasRoomToMark new (noted answer at before)
+room_case : (old new : Segments) (before : MarkerSeen) (at : ℕ) (answer : Bool) → HasRoomToMark old before →
+    MarksPlace old new before.epoch at answer → HasRoomToMark new (noted answer at before)
 room_case old new before at true h p =
     let g = p.to_mark.0 refl in
     let r = remove h.places at (h.all at g.0 g.1) in
@@ -78,14 +105,24 @@ room_case old new before at true h p =
       all = λ a s fresh. r.2 a (h.all a ((p.snapshot a).0 s) (λ k. fresh ((p.marked a).1 (inl k)))) (λ e. fresh ((p.marked a).1 (inr (refl, e))));
       room = let le = h.room in let l = r.1 in omega arith;
     }
-room_case old new before at false h p = record { places = h.places; all = λ a s fresh. h.all a ((p.snapshot a).0 s) (λ k. fresh ((p.marked a).1 (inl k))); room = h.room }
+room_case old new before at false h p = record {
+  places = h.places;
+  all = λ a s fresh. h.all a ((p.snapshot a).0 s) (λ k. fresh ((p.marked a).1 (inl k)));
+  room = h.room;
+}
 
 count_case : (before : MarkerSeen) (at : ℕ) (answer : Bool) → (IsTrue answer → 0 < before.spare) → HasScanned before (noted answer at before) 0
-count_case before at true room = record { epoch = refl; grows = omega arith; pace = (let l = length-append before.queue (at ∷ []) in omega arith); room = (let r = room refl in omega arith) }
+count_case before at true room = record {
+  epoch = refl;
+  grows = omega arith;
+  pace = (let l = length-append before.queue (at ∷ []) in omega arith);
+  room = (let r = room refl in omega arith);
+}
 count_case before at false room = record { epoch = refl; grows = omega arith; pace = omega arith; room = refl }
 
 -- one mark leaves room for the rest, and scans nothing
-pub place_marked : (old new : Segments) (before later : MarkerSeen) (at : ℕ) → HasRoomToMark old before → MarksAt old new before later at → HasMarked old new before later 0
+pub place_marked : (old new : Segments) (before later : MarkerSeen) (at : ℕ) → HasRoomToMark old before → MarksAt old new before later at →
+    HasMarked old new before later 0
 place_marked old new before later at h r = record {
   room = subst (λ (m : MarkerSeen). HasRoomToMark new m) (sym r.marker) (room_case old new before at r.answer h r.place);
   scanned = subst (λ (m : MarkerSeen). HasScanned before m 0) (sym r.marker) (count_case before at r.answer (room_of old new before at r.answer h r.place));
@@ -101,7 +138,8 @@ noted_turns false at m = refl
 pub place_turns : (old new : Segments) (before later : MarkerSeen) (at : ℕ) → MarksAt old new before later at → later.turns ≡ before.turns
 place_turns old new before later at r = ap (λ (m : MarkerSeen). m.turns) r.marker ∙ noted_turns r.answer at before
 
-queued_more : (places : List Place) (ats : List ℕ) (entries : List Entry) (at : ℕ) (name : Name) → AreQueued places ats entries → Contains places (record { at = at; name = name }) → AreQueued places (ats ++ at ∷ []) (entries ++ entry_of name ∷ [])
+queued_more : (places : List Place) (ats : List ℕ) (entries : List Entry) (at : ℕ) (name : Name) → AreQueued places ats entries →
+    Contains places (record { at = at; name = name }) → AreQueued places (ats ++ at ∷ []) (entries ++ entry_of name ∷ [])
 queued_more places [] [] at name q c = ((c, refl), tt)
 queued_more places (a ∷ ats) (e ∷ es) at name q c = (q.0, queued_more places ats es at name q.1 c)
 queued_more places [] (e ∷ es) at name q c = absurd q
@@ -119,7 +157,8 @@ module _ (o : Opening) (m : Marks) (old new : Segments) (before : MarkerSeen) (a
     complete = λ q c some_. elim (h.snapshot.complete q c some_) [ inl e ↦ inl e | inr s ↦ inr ((p.snapshot q.at).1 s) ];
   }
 
-  tied_none : (answer : Bool) → new.layout ≡ old.layout → IsTied o m old before → MarksPlace old new before.epoch at answer → (IsTrue answer → ⊥) → IsTied o m new (noted answer at before)
+  tied_none : (answer : Bool) → new.layout ≡ old.layout → IsTied o m old before → MarksPlace old new before.epoch at answer → (IsTrue answer → ⊥) →
+      IsTied o m new (noted answer at before)
   tied_none true layout h p n = absurd (n refl)
   tied_none false layout h p n = record {
     snapshot = right false layout h p;
@@ -132,7 +171,9 @@ module _ (o : Opening) (m : Marks) (old new : Segments) (before : MarkerSeen) (a
     count = h.count;
   }
 
-  tied_one : (name : Name) (answer : Bool) → new.layout ≡ old.layout → IsTied o m old before → MarksPlace old new before.epoch at answer → Contains o.places (record { at = at; name = name }) → IsTrue answer → IsTied o (record { marked = m.marked ++ name ∷ []; queue = m.queue ++ entry_of name ∷ [] }) new (noted answer at before)
+  tied_one : (name : Name) (answer : Bool) → new.layout ≡ old.layout → IsTied o m old before → MarksPlace old new before.epoch at answer →
+      Contains o.places (record { at = at; name = name }) → IsTrue answer →
+      IsTied o (record { marked = m.marked ++ name ∷ []; queue = m.queue ++ entry_of name ∷ [] }) new (noted answer at before)
   tied_one name false layout h p c t = never t
   tied_one name true layout h p c t = record {
     snapshot = right true layout h p;
@@ -140,7 +181,8 @@ module _ (o : Opening) (m : Marks) (old new : Segments) (before : MarkerSeen) (a
     marks = λ q d s. (
       λ k. elim ((p.marked q.at).0 k) [
         | inl g ↦ Contains-append_left m.marked (name ∷ []) q.name ((h.marks q d ((p.snapshot q.at).0 s)).0 g)
-        | inr u ↦ let same = h.snapshot.apart.one q (record { at = at; name = name }) d c (inr u.1) in subst (λ n. Contains (m.marked ++ name ∷ []) n) (sym (ap (λ (y : Place). y.name) same)) (Contains-push m.marked name)
+        | inr u ↦ let same = h.snapshot.apart.one q (record { at = at; name = name }) d c (inr u.1) in
+            subst (λ n. Contains (m.marked ++ name ∷ []) n) (sym (ap (λ (y : Place). y.name) same)) (Contains-push m.marked name)
       ],
       λ k. elim (Contains-push_cases m.marked name q.name k) [
         | inl g ↦ (p.marked q.at).1 (inl ((h.marks q d ((p.snapshot q.at).0 s)).1 g))
@@ -151,11 +193,13 @@ module _ (o : Opening) (m : Marks) (old new : Segments) (before : MarkerSeen) (a
     count = let l = length-append m.marked (name ∷ []) in let e = h.count in omega arith;
   }
 
-  tied_case : (answer : Bool) → new.layout ≡ old.layout → IsTied o m old before → MarksPlace old new before.epoch at answer → IsTied o (with_name S m (name_at o.places at)) new (noted answer at before)
+  tied_case : (answer : Bool) → new.layout ≡ old.layout → IsTied o m old before → MarksPlace old new before.epoch at answer →
+      IsTied o (with_name S m (name_at o.places at)) new (noted answer at before)
   tied_case answer layout h p = by_name (name_at o.places at) refl
     where
       by_name : (y : Option Name) → name_at o.places at ≡ y → IsTied o (with_name S m y) new (noted answer at before)
-      by_name None e = tied_none answer layout h p (λ t. let g = h.snapshot.sound at (p.to_mark.0 t).0 in let r = some_at o.places at g.0 g.1 in let bad : Some r.0 ≡ None = sym r.1 ∙ e in absurd cc)
+      by_name None e = tied_none answer layout h p (λ t. let g = h.snapshot.sound at (p.to_mark.0 t).0 in let r = some_at o.places at g.0 g.1 in
+          let bad : Some r.0 ≡ None = sym r.1 ∙ e in absurd cc)
       by_name (Some name) e = by_test (is_some (node_of S name)) (is_listed name m.marked) refl refl
         where
           here : Contains o.places (record { at = at; name = name })
@@ -167,12 +211,14 @@ module _ (o : Opening) (m : Marks) (old new : Segments) (before : MarkerSeen) (a
               let same = h.snapshot.apart.one (record { at = at; name = g.0 }) (record { at = at; name = name }) g.1 here (inr refl) in
               subst (λ (y : Place). IsSome (node_of S y.name)) same g.2
 
-          by_test : (a b : Bool) → is_some (node_of S name) ≡ a → is_listed name m.marked ≡ b → IsTied o (cond (a && not b) (record { marked = m.marked ++ name ∷ []; queue = m.queue ++ entry_of name ∷ [] }) m) new (noted answer at before)
+          by_test : (a b : Bool) → is_some (node_of S name) ≡ a → is_listed name m.marked ≡ b →
+              IsTied o (cond (a && not b) (record { marked = m.marked ++ name ∷ []; queue = m.queue ++ entry_of name ∷ [] }) m) new (noted answer at before)
           by_test true false e1 e2 = tied_one name answer layout h p here (elim (h.snapshot.complete (record { at = at; name = name }) here e1) [
             | inl g ↦ absurd (not_listed name m.marked e2 (subst (λ n. Contains m.marked n) (sym g) h.shared))
             | inr s ↦ p.to_mark.1 (s, λ k. not_listed name m.marked e2 ((h.marks (record { at = at; name = name }) here s).0 k))
           ])
-          by_test true true e1 e2 = tied_none answer layout h p (λ t. let g = p.to_mark.0 t in g.1 ((h.marks (record { at = at; name = name }) here g.0).1 (contains_listed name m.marked e2)))
+          by_test true true e1 e2 = tied_none answer layout h p (λ t. let g = p.to_mark.0 t in
+              g.1 ((h.marks (record { at = at; name = name }) here g.0).1 (contains_listed name m.marked e2)))
           by_test false b e1 e2 = tied_none answer layout h p (λ t. let k = named t in let bad : true ≡ false = sym k ∙ e1 in absurd cc)
 
   -- the marks for the name at a place
@@ -180,16 +226,19 @@ module _ (o : Opening) (m : Marks) (old new : Segments) (before : MarkerSeen) (a
   tied_at later h r = subst (λ (k : MarkerSeen). IsTied o (with_name S m (name_at o.places at)) new k) (sym r.marker) (tied_case r.answer r.layout h r.place)
 
 -- the marks for the name that a word means
-pub tied_word : (o : Opening) (m : Marks) (old new : Segments) (before later : MarkerSeen) (w at : ℕ) → w ≢ 0 → w % 2 ≡ 0 → w / 2 ≡ at → IsTied o m old before → MarksAt old new before later at → IsTied o (with_name o.core.snapshot m (name_meant o.places w)) new later
+pub tied_word : (o : Opening) (m : Marks) (old new : Segments) (before later : MarkerSeen) (w at : ℕ) → w ≢ 0 → w % 2 ≡ 0 → w / 2 ≡ at →
+    IsTied o m old before → MarksAt old new before later at → IsTied o (with_name o.core.snapshot m (name_meant o.places w)) new later
 tied_word o m old new before later w at some_ even is h r =
     let a : eqb w 0 ≡ false = ne_eqb w 0 some_ in
     let b : eqb (w % 2) 0 ≡ true = eq-eqb (w % 2) 0 even in
     rw (a, b, is) (tied_at o m old new before at later h r)
 
-pub tied_unset : (o : Opening) (m : Marks) (s : Segments) (marker : MarkerSeen) (w : ℕ) → w ≡ 0 → IsTied o m s marker → IsTied o (with_name o.core.snapshot m (name_meant o.places w)) s marker
+pub tied_unset : (o : Opening) (m : Marks) (s : Segments) (marker : MarkerSeen) (w : ℕ) → w ≡ 0 → IsTied o m s marker →
+    IsTied o (with_name o.core.snapshot m (name_meant o.places w)) s marker
 tied_unset o m s marker w e h = let a : eqb w 0 ≡ true = eq-eqb w 0 e in rw a h
 
-pub tied_odd : (o : Opening) (m : Marks) (s : Segments) (marker : MarkerSeen) (w : ℕ) → (w % 2 ≡ 0 → ⊥) → IsTied o m s marker → IsTied o (with_name o.core.snapshot m (name_meant o.places w)) s marker
+pub tied_odd : (o : Opening) (m : Marks) (s : Segments) (marker : MarkerSeen) (w : ℕ) → (w % 2 ≡ 0 → ⊥) → IsTied o m s marker →
+    IsTied o (with_name o.core.snapshot m (name_meant o.places w)) s marker
 tied_odd o m s marker w ne h =
     let z : w ≢ 0 = λ e. ne (omega arith) in
     let a : eqb w 0 ≡ false = ne_eqb w 0 z in

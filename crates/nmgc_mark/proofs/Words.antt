@@ -10,21 +10,24 @@ use Rattle.nmgc_mark.specs.Beginning.{slots_of}
 use Rattle.nmgc_mark.specs.Marker.{places}
 use Rattle.nmgc_mark.specs.Tie.{with_places, with_words, with_queues}
 
-pub places_more : (o : Opening) (m : Marks) (xs : List Address) (i : ℕ) (a : Address) → i < length xs → with_places o m (places (take (i + 1) xs)) ≡ with_name o.core.snapshot (with_places o m (places (take i xs))) (name_at o.places (get_or xs i a).0)
+pub places_more : (o : Opening) (m : Marks) (xs : List Address) (i : ℕ) (a : Address) → i < length xs →
+    with_places o m (places (take (i + 1) xs)) ≡ with_name o.core.snapshot (with_places o m (places (take i xs))) (name_at o.places (get_or xs i a).0)
 places_more o m [] i a lt = absurd (omega arith)
 places_more o m (x ∷ xs) zero a lt = refl
 places_more o m (x ∷ xs) (suc i) a lt =
     let z : suc i + 1 ≡ suc (i + 1) = omega arith in
     ap (λ n. with_places o m (places (take n (x ∷ xs)))) z ∙ places_more o (with_name o.core.snapshot m (name_at o.places x.0)) xs i a (omega arith)
 
-pub words_more : (o : Opening) (m : Marks) (xs : List ℕ) (i : ℕ) → i < length xs → with_words o m (take (i + 1) xs) ≡ with_name o.core.snapshot (with_words o m (take i xs)) (name_meant o.places (get_or xs i 0))
+pub words_more : (o : Opening) (m : Marks) (xs : List ℕ) (i : ℕ) → i < length xs →
+    with_words o m (take (i + 1) xs) ≡ with_name o.core.snapshot (with_words o m (take i xs)) (name_meant o.places (get_or xs i 0))
 words_more o m [] i lt = absurd (omega arith)
 words_more o m (x ∷ xs) zero lt = refl
 words_more o m (x ∷ xs) (suc i) lt =
     let z : suc i + 1 ≡ suc (i + 1) = omega arith in
     ap (λ n. with_words o m (take n (x ∷ xs))) z ∙ words_more o (with_name o.core.snapshot m (name_meant o.places x)) xs i (omega arith)
 
-pub queues_more : (o : Opening) (m : Marks) (xs : List FinQueue) (i : ℕ) (d : FinQueue) → i < length xs → with_queues o m (take (i + 1) xs) ≡ with_words o (with_queues o m (take i xs)) (get_or xs i d).words
+pub queues_more : (o : Opening) (m : Marks) (xs : List FinQueue) (i : ℕ) (d : FinQueue) → i < length xs →
+    with_queues o m (take (i + 1) xs) ≡ with_words o (with_queues o m (take i xs)) (get_or xs i d).words
 queues_more o m [] i d lt = absurd (omega arith)
 queues_more o m (x ∷ xs) zero d lt = refl
 queues_more o m (x ∷ xs) (suc i) d lt =

@@ -33,10 +33,12 @@ pub record IsBeginning (o : Opening) (s : Segments) (epoch : ℕ) (words registe
   pub shared : Contains o.places shared_place
   pub unmarked : (at : ℕ) → IsMarkedAt s epoch at → ⊥
   pub registers_are : ListMeans (Contains o.places) registers (flat_map (λ (state : MutatorState). state.registers) o.core.snapshot.mutators)
-  pub queues_are : ListMeans (Contains o.places) (flat_map (λ (q : FinQueue). q.words) queues) (flat_map (λ (state : MutatorState). state.queue) o.core.snapshot.mutators)
+  pub queues_are : ListMeans (Contains o.places) (flat_map (λ (q : FinQueue). q.words) queues) (flat_map (λ (state : MutatorState).
+      state.queue) o.core.snapshot.mutators)
   pub slots_are : ListMeans (Contains o.places) (slots_of words) (strong_fields o.core.snapshot.shared)
 
--- a heap at a stop whose segments were just prepared for a cycle: words and roots stand for the snapshot, the places are those of g and of the blocks, the blocks in use are those in the snapshot, and no mark byte is the epoch
+-- a heap at a stop whose segments were just prepared for a cycle: words and roots stand for the snapshot, the places
+-- are those of g and of the blocks, the blocks in use are those in the snapshot, and no mark byte is the epoch
 pub record IsPrepared (o : Opening) (s : Segments) (epoch : ℕ) (words registers : List ℕ) (queues : List FinQueue) : Type 0 where
   pub world : IsWorld o.core.snapshot
   pub earlier : List World

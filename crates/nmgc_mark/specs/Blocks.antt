@@ -16,7 +16,9 @@ use Rattle.nmgc_run.specs.Marker.{IsTied as IsTiedByBlocks}
 use Rattle.nmgc_run.specs.Seen.{MarkerSeen}
 use Rattle.nmgc_mark.specs.Tie.{AreApart, IsTied}
 
--- each block with a name has its place, and so has g; a place whose name is one of the snapshot is one of these. So it is at a stop, and after a round, whose own objects are in no snapshot. And the machine marks names of the snapshot alone, g among them
+-- each block with a name has its place, and so has g; a place whose name is one of the snapshot is one of these. So
+-- it is at a stop, and after a round, whose own objects are in no snapshot. And the machine marks names of the
+-- snapshot alone, g among them
 pub record AreOfBlocks (o : Opening) (c : Cycle) (s : Segments) (words : List ℕ) (allocation : AllocState) (core : State) : Type 0 where
   pub sound : IsSegments s
   pub stands : StandsFor s words allocation
@@ -24,11 +26,14 @@ pub record AreOfBlocks (o : Opening) (c : Cycle) (s : Segments) (words : List �
   pub cycle : c.snapshot ≡ o.core.snapshot
   pub apart : AreApart o.layout o.places
   pub shared : Contains o.places shared_place
-  pub blocks : (number block : ℕ) (name : Name) → LiesIn allocation number block name → Contains o.places (record { at = block_place o.layout number (cells allocation number).class block; name = name })
+  pub blocks : (number block : ℕ) (name : Name) → LiesIn allocation number block name →
+      Contains o.places (record { at = block_place o.layout number (cells allocation number).class block; name = name })
   pub named : (p : Place) → Contains o.places p → IsSome (node_of o.core.snapshot p.name) → (p ≡ shared_place) ⊎ IsBlockPlace o.layout allocation p
   pub marked : (name : Name) → Contains core.marked name → IsSome (node_of o.core.snapshot name)
   pub shared_marked : Contains core.marked shared_name
 
 -- the two ties are one
 abbrev pub TiesAgree : Type 0
-TiesAgree = (o : Opening) (c : Cycle) (s : Segments) (words : List ℕ) (allocation : AllocState) (core : State) (marker : MarkerSeen) → AreOfBlocks o c s words allocation core → IsTiedByBlocks c allocation s o.places marker core ↔ ((marker.epoch ≡ epoch_of c.number) × IsTied o (marks_of core) s marker)
+TiesAgree = (o : Opening) (c : Cycle) (s : Segments) (words : List ℕ) (allocation : AllocState) (core : State) (marker : MarkerSeen) →
+    AreOfBlocks o c s words allocation core → IsTiedByBlocks c allocation s o.places marker core ↔
+    ((marker.epoch ≡ epoch_of c.number) × IsTied o (marks_of core) s marker)

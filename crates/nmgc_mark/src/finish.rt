@@ -29,7 +29,8 @@ impl Marker {
         ensures words { W.words words.new ≡ W.words words.old }
         ensures marked { HasMarked segments.old segments.new self.old self.new 0 }
         ensures turns { self.new.turns ≡ self.old.turns }
-        ensures tied { (o : Opening) (v : Seen) → IsAlone o (W.words words.old) v → IsScanning v segments.old self.old at.0 0 → (w : Seen) × IsAlone o (W.words words.old) w × IsTied o (marks_seen w) segments.new self.new }
+        ensures tied { (o : Opening) (v : Seen) → IsAlone o (W.words words.old) v → IsScanning v segments.old self.old at.0 0 → (w : Seen) ×
+            IsAlone o (W.words words.old) w × IsTied o (marks_seen w) segments.new self.new }
     {
         laws::scan();
         let _ = segments.layout();

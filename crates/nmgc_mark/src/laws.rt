@@ -24,7 +24,8 @@ ghost use Rattle.nmgc_mark.specs.Work.{marks_seen};
 
 /// A heap at a stop whose segments were just prepared is one with which marking begins.
 pub fn prepared_heaps_begin()
-    ensures { (o : Opening) (s : Segments) (epoch : ℕ) (words registers : List ℕ) (queues : List FinQueue) → IsPrepared o s epoch words registers queues → IsBeginning o s epoch words registers queues }
+    ensures { (o : Opening) (s : Segments) (epoch : ℕ) (words registers : List ℕ) (queues : List FinQueue) →
+        IsPrepared o s epoch words registers queues → IsBeginning o s epoch words registers queues }
 {}
 
 /// A marker that marked nothing, with room for as many blocks as can be in use, has room for every block.
@@ -40,13 +41,16 @@ pub fn round_begins()
 /// Once a round is over, a marker that is the collector's view's is that of the machine after the round's
 /// events.
 pub fn round_ends()
-    ensures { (o : Opening) (words : List ℕ) (v : Seen) (s : Segments) (marker : MarkerSeen) (h : IsFinished o words v) → v.collects ≡ true → v.opening ≡ o → IsTied v.opening (marks_seen v) s marker → IsTied o (marks_of (now o h.events)) s marker }
+    ensures { (o : Opening) (words : List ℕ) (v : Seen) (s : Segments) (marker : MarkerSeen) (h : IsFinished o words v) → v.collects ≡ true →
+        v.opening ≡ o → IsTied v.opening (marks_seen v) s marker → IsTied o (marks_of (now o h.events)) s marker }
 {}
 
 /// A marker stays the machine's where there are more places: objects born in a round and those that were
 /// promoted since aren't in the snapshot.
 pub fn places_may_grow()
-    ensures { (o : Opening) (places : List Place) (m : Marks) (s : Segments) (marker : MarkerSeen) → ((p : Place) → Contains o.places p → Contains places p) → IsRightSnapshot (record o { places = places }) s → IsTied o m s marker → IsTied (record o { places = places }) m s marker }
+    ensures { (o : Opening) (places : List Place) (m : Marks) (s : Segments) (marker : MarkerSeen) →
+        ((p : Place) → Contains o.places p → Contains places p) → IsRightSnapshot (record o { places = places }) s → IsTied o m s marker →
+        IsTied (record o { places = places }) m s marker }
 {}
 
 /// The tie by places is the tie by blocks that a run keeps, where the places are those of the blocks.
@@ -56,12 +60,14 @@ pub fn ties_agree()
 
 /// Where the facts of the core machine hold, marked names are of the snapshot, g among them.
 pub fn marks_are_of_the_snapshot()
-    ensures { (core : Core) → Facts core → ((name : Name) → Contains core.marked name → IsSome (node_of core.snapshot name)) × Contains core.marked shared_name }
+    ensures { (core : Core) → Facts core → ((name : Name) → Contains core.marked name → IsSome (node_of core.snapshot name)) ×
+        Contains core.marked shared_name }
 {}
 
 /// Where the facts of the core machine hold and nothing is queued, owed or pushed, all is marked that strong
 /// fields reach in the snapshot from its roots. So where no command owed a reference, a marker whose queue is
 /// empty has scanned at least as many objects as these.
 pub fn all_reached_is_marked()
-    ensures { (core : Core) → Facts core → core.queue ≡ [] → ((m : ℕ) → names_of core.owed m ≡ []) → ((m : ℕ) → names_of core.pushed m ≡ []) → (name : Name) → IsReached core.snapshot (IsRoot core.snapshot) name → Contains core.marked name }
+    ensures { (core : Core) → Facts core → core.queue ≡ [] → ((m : ℕ) → names_of core.owed m ≡ []) → ((m : ℕ) → names_of core.pushed m ≡ []) →
+        (name : Name) → IsReached core.snapshot (IsRoot core.snapshot) name → Contains core.marked name }
 {}

@@ -107,7 +107,8 @@ impl Marker {
         ensures words { W.words words.new ≡ W.words words.old }
         ensures marked { IfOk result (λ marker. HasMarked segments.old segments.new (blank epoch (most_blocks segments.old.layout)) marker 0) }
         ensures turns { IfOk result (λ marker. marker.turns ≡ 0) }
-        ensures tied { IfOk result (λ marker. (o : Opening) → IsBeginning o segments.old epoch (W.words words.old) registers.now queues.now → IsTied o (marks_of (opening o.core.snapshot)) segments.new marker) }
+        ensures tied { IfOk result (λ marker. (o : Opening) → IsBeginning o segments.old epoch (W.words words.old) registers.now queues.now →
+            IsTied o (marks_of (opening o.core.snapshot)) segments.new marker) }
     {
         let blocks = most_blocks(segments.layout());
         let mut marker = Marker::blank(alloc, epoch, blocks)?;
@@ -151,7 +152,8 @@ impl Marker {
         ensures words { W.words words.new ≡ W.words words.old }
         ensures marked { HasMarked segments.old segments.new self.old self.new 0 }
         ensures turns { self.new.turns ≡ self.old.turns }
-        ensures tied { (o : Opening) (m : Marks) → IsTied o m segments.old self.old → IsTied o (with_words o m (slots_of (W.words words.old))) segments.new self.new }
+        ensures tied { (o : Opening) (m : Marks) → IsTied o m segments.old self.old →
+            IsTied o (with_words o m (slots_of (W.words words.old))) segments.new self.new }
     {
         let first = (SHARED_PLACE + HEADER_WORDS) as usize;
         for slot in 0..usize::from(SHARED_SLOTS) {
@@ -240,7 +242,8 @@ impl Marker {
         requires small { (at : ℕ) → word ≡ 2 * at → at < 2 ^ 32 }
         ensures marked { HasMarked segments.old segments.new self.old self.new 0 }
         ensures turns { self.new.turns ≡ self.old.turns }
-        ensures tied { (o : Opening) (m : Marks) → IsTied o m segments.old self.old → IsTied o (with_name o.core.snapshot m (name_meant o.places word)) segments.new self.new }
+        ensures tied { (o : Opening) (m : Marks) → IsTied o m segments.old self.old →
+            IsTied o (with_name o.core.snapshot m (name_meant o.places word)) segments.new self.new }
     {
         if word == 0 || word % 2 != 0 {
             return;

@@ -73,7 +73,8 @@ impl Marker {
         ensures view { Knows round.now seat.old seat.new (scanned_by (seen seat.old) result) }
         ensures marked { HasMarked segments.old segments.new self.old self.new 0 }
         ensures turns { self.new.turns ≡ self.old.turns }
-        ensures tied { IsTied (seen seat.old).opening (with_name (seen seat.old).opening.core.snapshot (rest_of (marks_seen (seen seat.old))) (name_meant (seen seat.old).opening.places result)) segments.new self.new }
+        ensures tied { IsTied (seen seat.old).opening (with_name (seen seat.old).opening.core.snapshot (rest_of (marks_seen (seen seat.old)))
+            (name_meant (seen seat.old).opening.places result)) segments.new self.new }
     {
         let _ = segments.layout();
         let word = round.scan_load(seat, at, HEADER_WORDS + field);

@@ -35,12 +35,16 @@ use Rattle.nmgc_minor.proofs.WriteLaws.{map_in, map_from}
 use Rattle.nmgc_minor.proofs.Final.{names_are, found_young, promotes_moves}
 
 -- words in which the new blocks have their names: what other words hold, and what these hold
-with_names_other : (moves : List Move) (words : List ℕ) (i : ℕ) → ((m : Move) → Contains moves m → i ≢ m.to.0 + 1) → slice_index (with_names words moves) i ≡ slice_index words i
+with_names_other : (moves : List Move) (words : List ℕ) (i : ℕ) → ((m : Move) → Contains moves m → i ≢ m.to.0 + 1) →
+    slice_index (with_names words moves) i ≡ slice_index words i
 with_names_other [] words i other = refl
 with_names_other (m ∷ moves) words i other =
-    with_names_other moves (set words (m.to.0 + 1) (name_word m.name)) i (λ x c. other x (contains_tail m moves x c)) ∙ get_or-set_other words (m.to.0 + 1) i (name_word m.name) 0 (other m (contains_head m moves))
+    with_names_other moves (set words (m.to.0 + 1) (name_word m.name)) i (λ x c. other x (contains_tail m moves x c)) ∙
+    get_or-set_other words (m.to.0 + 1) i (name_word m.name) 0 (other m (contains_head m moves))
 
-with_names_at : (moves : List Move) (words : List ℕ) (i v : ℕ) → i < length words → ((m : Move) → Contains moves m → i ≡ m.to.0 + 1 → name_word m.name ≡ v) → (slice_index words i ≡ v) ⊎ ((m : Move) × Contains moves m × (i ≡ m.to.0 + 1)) → slice_index (with_names words moves) i ≡ v
+with_names_at : (moves : List Move) (words : List ℕ) (i v : ℕ) → i < length words →
+    ((m : Move) → Contains moves m → i ≡ m.to.0 + 1 → name_word m.name ≡ v) → (slice_index words i ≡ v) ⊎
+    ((m : Move) × Contains moves m × (i ≡ m.to.0 + 1)) → slice_index (with_names words moves) i ≡ v
 with_names_at [] words i v lt all (inl e) = e
 with_names_at [] words i v lt all (inr h) = absurd (omega (arith, h.1.1))
 with_names_at (m ∷ moves) words i v lt all some =
@@ -63,7 +67,8 @@ with_names_at (m ∷ moves) words i v lt all some =
     with_names_at moves next i v (omega (arith, size, lt)) (λ x c e. all x (contains_tail m moves x c) e) rest
 
 -- a block that has a name is in use
-block_named : (s : Segments) (words : List ℕ) (number : ℕ) (c : Cells) (block : ℕ) (name : Name) → HasNumber s number → Shows s words number c → name_in c block ≡ Some name → IsOccupied s (block_place s.layout number (nth s.segments number).class block) (block_size (nth s.segments number).class)
+block_named : (s : Segments) (words : List ℕ) (number : ℕ) (c : Cells) (block : ℕ) (name : Name) → HasNumber s number → Shows s words number c →
+    name_in c block ≡ Some name → IsOccupied s (block_place s.layout number (nth s.segments number).class block) (block_size (nth s.segments number).class)
 block_named s words number c block name has sh e =
     let not_free : c.state ≢ stands.Free = λ f. let g : name_in c block ≡ None = ap (λ (x : Cells). name_in x block) (sh.free f) in absurd cc in
     let within : block < length c.names = elim (cases_lt block (length c.names)) [
@@ -79,7 +84,8 @@ block_named s words number c block name has sh e =
       words = refl;
     }
 
-module _ (layout : Layout) (base : ℕ) (later earlier : List World) (places : List Place) (w : World) (old new : List ℕ) (inputs : Inputs) (s s' : Segments) (moves : List Move) (table : List ℕ)
+module _ (layout : Layout) (base : ℕ) (later earlier : List World) (places : List Place) (w : World) (old new : List ℕ) (inputs : Inputs)
+    (s s' : Segments) (moves : List Move) (table : List ℕ)
     (differ : (a b : Header) → IsHeader a → IsHeader b → header_word a ≡ header_word b → a ≡ b)
     (names : (a b : Name) → IsName a → IsName b → name_word a ≡ name_word b → a ≡ b)
     (world : IsWorld w)
@@ -114,9 +120,11 @@ module _ (layout : Layout) (base : ℕ) (later earlier : List World) (places : L
             let x = map_from moved_of moves d.0 d.1 in
             let to : at ≡ x.0.to.0 = sym d.2 ∙ ap (λ (k : Moved). k.to) x.2 in
             let named = p.named x.0 x.1 in
-            let word : slice_index new (at + 1) ≡ name_word x.0.name = ap (λ (k : ℕ). slice_index new (k + 1)) to ∙ moved.named (moved_of x.0) (map_in moved_of moves x.0 x.1) ∙ named.1 in
+            let word : slice_index new (at + 1) ≡ name_word x.0.name = ap (λ (k : ℕ). slice_index new (k + 1)) to ∙
+            moved.named (moved_of x.0) (map_in moved_of moves x.0 x.1) ∙ named.1 in
             let all : (y : Move) → Contains moves y → at + 1 ≡ y.to.0 + 1 → name_word y.name ≡ name_word x.0.name = λ y c e.
-            let one : moved_of y ≡ moved_of x.0 = p.placing.once (moved_of y) (moved_of x.0) (map_in moved_of moves y c) (map_in moved_of moves x.0 x.1) (omega (arith, e, to)) in
+            let one : moved_of y ≡ moved_of x.0 =
+            p.placing.once (moved_of y) (moved_of x.0) (map_in moved_of moves y c) (map_in moved_of moves x.0 x.1) (omega (arith, e, to)) in
             ap (λ (k : Moved). name_word k.name) one in
             word ∙ sym (with_names_at moves old (at + 1) (name_word x.0.name) within all (inr (x.0, x.1, omega (arith, to))))
       ]
@@ -136,18 +144,24 @@ module _ (layout : Layout) (base : ℕ) (later earlier : List World) (places : L
           class = sh.class;
           blocks = sh.blocks;
           used = sh.used;
-          named = λ block name e. name_same (block_place s'.layout number (nth s'.segments number).class block) (block_size (nth s'.segments number).class) (block_named s' (with_names old moves) number (cells allocation number) block name has sh e) ∙ sh.named block name e;
+          named = λ block name e.
+              name_same (block_place s'.layout number (nth s'.segments number).class block) (block_size (nth s'.segments number).class)
+              (block_named s' (with_names old moves) number (cells allocation number) block name has sh e) ∙ sh.named block name e;
         };
   }
 
   -- each move places its name, for its maker and the class of its node's object
-  pub places_each : (ms : List Move) → ((x : Move) → Contains ms x → Contains moves x) → (a b : AllocState) → PlacesMoves layout old a ms b → PlacesEach layout w a (map (λ (x : Move). x.name) ms) b
+  pub places_each : (ms : List Move) → ((x : Move) → Contains ms x → Contains moves x) → (a b : AllocState) → PlacesMoves layout old a ms b →
+      PlacesEach layout w a (map (λ (x : Move). x.name) ms) b
   places_each [] some a b e = sym e
   places_each (x ∷ ms) some a b h =
       let here = some x (contains_head x ms) in
       let f = found_tracked layout base later earlier places w old inputs differ world spoken emptied r m x.from.0 (p.found x here) in
       let node = node_at layout base later earlier places w old inputs differ world spoken emptied r m f.0 x.from.0 f.1 in
-      let named : x.name ≡ f.0 = names_are layout base later earlier places w old new inputs s s' moves table differ names world spoken emptied r m sound same blocks p x here f.0 f.2 f.1 (found_young layout base later earlier places w old new inputs s s' moves table differ names world spoken emptied r m sound same blocks p x.from.0 (p.found x here)) in
+      let named : x.name ≡ f.0 =
+      names_are layout base later earlier places w old new inputs s s' moves table differ names world spoken emptied r m sound same blocks p x
+      here f.0 f.2 f.1 (found_young layout base later earlier places w old new inputs s s' moves table differ names world spoken emptied r m
+      sound same blocks p x.from.0 (p.found x here)) in
       let o = stands layout earlier NoNode places w old differ world r f.0 node.0 x.from.0 f.2 node.1 f.1 in (
         h.0,
         record {

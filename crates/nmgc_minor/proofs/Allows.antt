@@ -32,7 +32,8 @@ use Rattle.nmgc_minor.specs.Promotes.{CanPromoteWith}
 use Rattle.nmgc_minor.proofs.FoundLaws.{in_nursery, node_at, found_tracked, is_shared_node}
 use Rattle.nmgc_minor.proofs.Conditions.{starts_within, found_can, can_place_all, same_nursery}
 
-module _ (layout : Layout) (base : ℕ) (later earlier : List World) (places : List Place) (w : World) (words : List ℕ) (inputs : Inputs) (s : Segments) (nurseries : List Nursery)
+module _ (layout : Layout) (base : ℕ) (later earlier : List World) (places : List Place) (w : World) (words : List ℕ) (inputs : Inputs)
+    (s : Segments) (nurseries : List Nursery)
     (differ : (a b : Header) → IsHeader a → IsHeader b → header_word a ≡ header_word b → a ≡ b)
     (world : IsWorld w)
     (spoken : StillSpoken base later earlier places w)
@@ -44,17 +45,27 @@ module _ (layout : Layout) (base : ℕ) (later earlier : List World) (places : L
     (used : AreUsed layout base places w nurseries)
     (reserve : KeepsReserve s.layout s.segments 0 ⊎ AreEmpty nurseries) where
   -- what is found lies in the used part of its nursery
-  found_used : (at : ℕ) → IsFound base words (IsStart inputs words) at → base ≤ at → (maker : ℕ) × InNursery layout maker at × (at + 2 ≤ (nursery_at nurseries maker).top)
+  found_used : (at : ℕ) → IsFound base words (IsStart inputs words) at → base ≤ at → (maker : ℕ) × InNursery layout maker at ×
+      (at + 2 ≤ (nursery_at nurseries maker).top)
   found_used at f l =
       let h = found_tracked layout base later earlier places w words inputs differ world spoken emptied r m at f in
       let node = node_at layout base later earlier places w words inputs differ world spoken emptied r m h.0 at h.1 in
-      let u = used.used (record { at = at; name = h.0 }) node.0 h.1 l node.1 in
-      (h.0.maker, in_nursery layout base later earlier places w words inputs differ world spoken emptied r m (record { at = at; name = h.0 }) h.1 l, omega (arith, u))
+      let u = used.used (record { at = at; name = h.0 }) node.0 h.1 l node.1 in (
+        h.0.maker,
+        in_nursery layout base later earlier places w words inputs differ world spoken emptied r m (record { at = at; name = h.0 }) h.1 l,
+        omega (arith, u),
+      )
 
-  all_found : (y : Young) (table : List ℕ) → y.base ≡ base → ((at : ℕ) → y.base ≤ at → IsMarked y.base table at → IsFound y.base words (IsStart inputs words) at) → (at : ℕ) → base ≤ at → IsMarked base table at → IsFound base words (IsStart inputs words) at
-  all_found y table e marked at l k = subst (λ (b : ℕ). IsFound b words (IsStart inputs words) at) e (marked at (omega (arith, e, l)) (subst (λ (b : ℕ). IsMarked b table at) (sym e) k))
+  all_found : (y : Young) (table : List ℕ) → y.base ≡ base → ((at : ℕ) → y.base ≤ at → IsMarked y.base table at →
+      IsFound y.base words (IsStart inputs words) at) → (at : ℕ) → base ≤ at → IsMarked base table at → IsFound base words (IsStart inputs words) at
+  all_found y table e marked at l k = subst (λ (b : ℕ). IsFound b words (IsStart inputs words) at) e (marked at (omega (
+    arith,
+    e,
+    l,
+  )) (subst (λ (b : ℕ). IsMarked b table at) (sym e) k))
 
-  are_nurseries : (table : List ℕ) → length table ≡ layout.mutators * layout.nursery → ((at : ℕ) → base ≤ at → IsMarked base table at → IsFound base words (IsStart inputs words) at) → AreNurseries layout base table nurseries
+  are_nurseries : (table : List ℕ) → length table ≡ layout.mutators * layout.nursery →
+      ((at : ℕ) → base ≤ at → IsMarked base table at → IsFound base words (IsStart inputs words) at) → AreNurseries layout base table nurseries
   are_nurseries table size marked = record {
     begins = emptied;
     count = used.count;
@@ -68,13 +79,19 @@ module _ (layout : Layout) (base : ℕ) (later earlier : List World) (places : L
           let tops = used.tops maker lt in
           let l : base ≤ at = omega (arith, places_are, tops.0, up, emptied) in
           let f = found_used at (marked at l ne) l in
-          let own = same_nursery layout base later earlier places w words inputs differ world spoken emptied r m f.0 maker at f.1 (omega (arith, places_are, tops.0, up)) high in
+          let own = same_nursery layout base later earlier places w words inputs differ world spoken emptied r m f.0 maker at f.1 (omega (
+            arith,
+            places_are,
+            tops.0,
+            up,
+          )) high in
           let top : (nursery_at nurseries f.0).top ≡ (nursery_at nurseries maker).top = ap (λ (k : ℕ). (nursery_at nurseries k).top) own in
           absurd (let g = f.2 in omega (arith, g, top, up))
     ];
   }
 
-  can_place : (table : List ℕ) → ((at : ℕ) → base ≤ at → IsMarked base table at → IsFound base words (IsStart inputs words) at) → CanPlaceEach layout words table base nurseries
+  can_place : (table : List ℕ) → ((at : ℕ) → base ≤ at → IsMarked base table at → IsFound base words (IsStart inputs words) at) →
+      CanPlaceEach layout words table base nurseries
   can_place table marked maker lt =
       let c = can_place_all layout base later earlier places w words inputs differ world spoken emptied r m table maker lt marked in
       let from = used.places_are maker lt in
@@ -91,7 +108,11 @@ module _ (layout : Layout) (base : ℕ) (later earlier : List World) (places : L
             let same_header : header ≡ header_of node.0 = differ header (header_of node.0) is.0 o.object.valid (sym is.1 ∙ o.object.header) in
             let count : HEADER_WORDS + header.fields ≡ size_of node.0 = ap (λ (x : Header). HEADER_WORDS + x.fields) same_header in
             let u = used.used (record { at = at; name = h.0 }) node.0 h.1 l node.1 in
-            let own = same_nursery layout base later earlier places w words inputs differ world spoken emptied r m h.0.maker maker at (in_nursery layout base later earlier places w words inputs differ world spoken emptied r m (record { at = at; name = h.0 }) h.1 l) (omega (arith, low, from)) (omega (arith, high, tops.1, from)) in
+            let own = same_nursery layout base later earlier places w words inputs differ world spoken emptied r m h.0.maker maker at
+            (in_nursery layout base later earlier places w words inputs differ world spoken emptied r m (record {
+              at = at;
+              name = h.0;
+            }) h.1 l) (omega (arith, low, from)) (omega (arith, high, tops.1, from)) in
             let top : (nursery_at nurseries h.0.maker).top ≡ (nursery_at nurseries maker).top = ap (λ (i : ℕ). (nursery_at nurseries i).top) own in
             omega (arith, u, top, count);
         apart = λ at next header low lt' high k k' is. c.apart at next header (omega (arith, low, from)) lt' (omega (arith, high, tops.1, from)) k k' is;
@@ -115,7 +136,8 @@ module _ (layout : Layout) (base : ℕ) (later earlier : List World) (places : L
           | inl g ↦
               let last = g.1 at (omega (arith, e)) (omega (arith, e, count, within)) in
               let b = last.before in
-              let up : (g.0 + 1) * layout.words ≤ layout.segments * layout.words = mul-le-mul_right layout.words (let z = last.exists in let f : g.0 + 1 ≤ layout.segments = omega arith in f) in
+              let up : (g.0 + 1) * layout.words ≤ layout.segments * layout.words = mul-le-mul_right layout.words (let z = last.exists in
+              let f : g.0 + 1 ≤ layout.segments = omega arith in f) in
               let flat : (g.0 + 1) * layout.words ≡ g.0 * layout.words + layout.words = omega arith in
               omega (arith, b, up, flat, emptied)
           | inr g ↦ let first = g.1 h.0.at (omega arith) (omega arith) in let f = first.from in absurd (omega (arith, f, low, emptied))
@@ -139,7 +161,8 @@ module _ (layout : Layout) (base : ℕ) (later earlier : List World) (places : L
       let lt = n.exists in
       let tops = used.tops h.0.maker lt in
       let from = used.places_are h.0.maker lt in
-      let up : (h.0.maker + 1) * layout.nursery ≤ layout.mutators * layout.nursery = mul-le-mul_right layout.nursery (let e : h.0.maker + 1 ≤ layout.mutators = omega arith in e) in
+      let up : (h.0.maker + 1) * layout.nursery ≤ layout.mutators * layout.nursery =
+      mul-le-mul_right layout.nursery (let e : h.0.maker + 1 ≤ layout.mutators = omega arith in e) in
       let flat : (h.0.maker + 1) * layout.nursery ≡ h.0.maker * layout.nursery + layout.nursery = omega arith in
       let total = r.total in
       omega (arith, u, tops.1, from, up, flat, total)
@@ -158,11 +181,14 @@ module _ (layout : Layout) (base : ℕ) (later earlier : List World) (places : L
         recorded = λ at c. let l = recorded_low at c in omega (arith, l, e);
         weaks = weak_inside;
         within = starts_within layout base later earlier places w words inputs differ world spoken emptied r m y e count;
-        can = λ at f. found_can layout base later earlier places w words inputs differ world spoken emptied r m y e count at (subst (λ (b : ℕ). IsFound b words (IsStart inputs words) at) e f);
+        can = λ at f. found_can layout base later earlier places w words inputs differ world spoken emptied r m y e count at (subst (λ (b : ℕ).
+            IsFound b words (IsStart inputs words) at) e f);
         parts = λ table length_is marked.
             let found = all_found y table e marked in (
-              subst (λ (l : Layout). AreNurseries l y.base table nurseries) (sym same) (subst (λ (b : ℕ). AreNurseries layout b table nurseries) (sym e) (are_nurseries table (length_is ∙ count) found)),
-              subst (λ (l : Layout). CanPlaceEach l words table y.base nurseries) (sym same) (subst (λ (b : ℕ). CanPlaceEach layout words table b nurseries) (sym e) (can_place table found)),
+              subst (λ (l : Layout). AreNurseries l y.base table nurseries) (sym same) (subst (λ (b : ℕ).
+                  AreNurseries layout b table nurseries) (sym e) (are_nurseries table (length_is ∙ count) found)),
+              subst (λ (l : Layout). CanPlaceEach l words table y.base nurseries) (sym same) (subst (λ (b : ℕ).
+                  CanPlaceEach layout words table b nurseries) (sym e) (can_place table found)),
             );
         reserve = reserve;
       }

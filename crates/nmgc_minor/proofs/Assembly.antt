@@ -31,7 +31,8 @@ use Rattle.nmgc_minor.specs.Placing.{HasHeaderWord, IsPlacing, IsSharedSlot, IsO
 use Rattle.nmgc_minor.proofs.FoundLaws.{is_shared_node}
 use Rattle.nmgc_blocks.specs.laws.Blocks.{occupied_in, is_block, occupied_apart}
 
-module _ (layout : Layout) (base : ℕ) (later earlier : List World) (places : List Place) (w : World) (old new : List ℕ) (inputs : Inputs) (s0 s : Segments) (moves : List Moved) (forward : ℕ → ℕ)
+module _ (layout : Layout) (base : ℕ) (later earlier : List World) (places : List Place) (w : World) (old new : List ℕ) (inputs : Inputs)
+    (s0 s : Segments) (moves : List Moved) (forward : ℕ → ℕ)
     (differ : (a b : Header) → IsHeader a → IsHeader b → header_word a ≡ header_word b → a ≡ b)
     (world : IsWorld w)
     (spoken : StillSpoken base later earlier places w)
@@ -64,7 +65,8 @@ module _ (layout : Layout) (base : ℕ) (later earlier : List World) (places : L
   block_at : (d : Moved) (node : Node) → Contains moves d → node_of w d.name ≡ Some node → (size : ℕ) × IsOccupied s d.to size × (size_of node ≤ size)
   block_at d node c e = let b = placing.placed d c in (b.0, b.1, b.2 (header_of node) (header_at d node c e))
 
-  spared : (p : Place) (node : Node) (d : Moved) (other : Node) → Contains places p → p.at < base → node_of w p.name ≡ Some node → Contains moves d → node_of w d.name ≡ Some other → (d.to + size_of other ≤ p.at) ⊎ ((p.at + size_of node ≤ d.to) × (p.at + 4 ≤ d.to))
+  spared : (p : Place) (node : Node) (d : Moved) (other : Node) → Contains places p → p.at < base → node_of w p.name ≡ Some node →
+      Contains moves d → node_of w d.name ≡ Some other → (d.to + size_of other ≤ p.at) ⊎ ((p.at + size_of node ≤ d.to) × (p.at + 4 ≤ d.to))
   spared p node d other c l e cd ed =
       let b = block_at d other cd ed in
       let fits = is_block s base d.to b.0 sound ends b.1 in
@@ -93,7 +95,8 @@ module _ (layout : Layout) (base : ℕ) (later earlier : List World) (places : L
       shared_size (Stack size values) h = absurd h
 
   -- a word of an object that stays is none of the moved objects' new ones
-  outside : (p : Place) (node : Node) (k : ℕ) → Contains places p → p.at < base → node_of w p.name ≡ Some node → k < size_of node → IsOutside moves old (p.at + k)
+  outside : (p : Place) (node : Node) (k : ℕ) → Contains places p → p.at < base → node_of w p.name ≡ Some node → k < size_of node →
+      IsOutside moves old (p.at + k)
   outside p node k c l e lt d header cd h =
       let other = node_at (old_place d) (taken d cd).0 in
       let mine = header_at d other.0 cd other.1 in
@@ -105,7 +108,8 @@ module _ (layout : Layout) (base : ℕ) (later earlier : List World) (places : L
       ]
 
   -- a recorded place is of a field
-  recorded_field : (at : ℕ) → Contains inputs.recorded at → (p : Place) × (node : Node) × Contains places p × IsTracked w earlier p.name × (node_of w p.name ≡ Some node) × (p.at + HEADER_WORDS ≤ at) × (at < p.at + size_of node) × (p.at < base)
+  recorded_field : (at : ℕ) → Contains inputs.recorded at → (p : Place) × (node : Node) × Contains places p × IsTracked w earlier p.name ×
+      (node_of w p.name ≡ Some node) × (p.at + HEADER_WORDS ≤ at) × (at < p.at + size_of node) × (p.at < base)
   recorded_field at c =
       let h = m.left.fields at c in
       let of = at_some (node_of w h.0.name) h.1 (IsNodeOf w) h.6 (world.nodes h.0.name) in
@@ -132,7 +136,8 @@ module _ (layout : Layout) (base : ℕ) (later earlier : List World) (places : L
       let node = node_at p c in
       let below : p.at + k < base = elim (r.named p c).lies [
         | inl g ↦ omega (arith, g.1, emptied, lt)
-        | inr o ↦ let mine = blocks.held p node.0 c l o.0 node.1 in let b = is_block s base p.at mine.0 sound ends (placing.stays p.at mine.0 mine.1) in omega (arith, b.below, b.four, lt)
+        | inr o ↦ let mine = blocks.held p node.0 c l o.0 node.1 in
+            let b = is_block s base p.at mine.0 sound ends (placing.stays p.at mine.0 mine.1) in omega (arith, b.below, b.four, lt)
       ] in
       let not_recorded : Contains inputs.recorded (p.at + k) → ⊥ = λ h.
       let f = recorded_field (p.at + k) h in
@@ -143,14 +148,16 @@ module _ (layout : Layout) (base : ℕ) (later earlier : List World) (places : L
       ] in
       let not_slot : IsSharedSlot (p.at + k) → ⊥ = λ h. elim (r.named p c).lies [
         | inl g ↦ omega (arith, g.1, h.0, lt)
-        | inr o ↦ let mine = blocks.held p node.0 c l o.0 node.1 in let b = is_block s base p.at mine.0 sound ends (placing.stays p.at mine.0 mine.1) in omega (arith, b.above, h.1)
+        | inr o ↦ let mine = blocks.held p node.0 c l o.0 node.1 in
+            let b = is_block s base p.at mine.0 sound ends (placing.stays p.at mine.0 mine.1) in omega (arith, b.above, h.1)
       ] in
       elim (writes.others (p.at + k) below (outside p node.0 k c l node.1 (omega arith))) [
         | inl f ↦ elim f.1 [ inl h ↦ absurd (not_recorded h) | inr h ↦ absurd (not_slot h) ]
         | inr f ↦ f.0
       ]
 
-  keeps : (p : Place) (node : Node) → Contains places p → p.at < base → IsTracked w later p.name → node_of w p.name ≡ Some node → Keeps base places forward old new p.at node
+  keeps : (p : Place) (node : Node) → Contains places p → p.at < base → IsTracked w later p.name → node_of w p.name ≡ Some node →
+      Keeps base places forward old new p.at node
   keeps p node c l t e = record {
     header = subst (λ (k : ℕ). slice_index new k ≡ slice_index old k) (let z : p.at + 0 ≡ p.at = omega arith in z) (unchanged p 0 c l (omega arith));
     fields = λ i lt.
@@ -160,7 +167,8 @@ module _ (layout : Layout) (base : ℕ) (later earlier : List World) (places : L
               let same = is_shared_node w p.name node g.0 e in
               let few = shared_fields node (subst (λ (x : Node). IsShared x) (sym same) world.shared) in
               omega (arith, g.1, emptied, lt, few)
-          | inr o ↦ let mine = blocks.held p node c l o.0 e in let b = is_block s base p.at mine.0 sound ends (placing.stays p.at mine.0 mine.1) in omega (arith, b.below, mine.2, lt)
+          | inr o ↦ let mine = blocks.held p node c l o.0 e in let b = is_block s base p.at mine.0 sound ends (placing.stays p.at mine.0 mine.1) in
+              omega (arith, b.below, mine.2, lt)
         ] in
         let flat : p.at + (HEADER_WORDS + i) ≡ p.at + HEADER_WORDS + i = omega arith in
         let out = subst (λ (k : ℕ). IsOutside moves old k) flat (outside p node (HEADER_WORDS + i) c l e (omega arith)) in
@@ -190,7 +198,8 @@ module _ (layout : Layout) (base : ℕ) (later earlier : List World) (places : L
       shared_fields (Weak parts) h = absurd h
       shared_fields (Stack size values) h = absurd h
 
-  alone : (d : Moved) (node : Node) (q : Place) → Contains moves d → node_of w d.name ≡ Some node → ((x : Moved) × Contains moves x × (q ≡ new_place x)) ⊎ (Contains places q × (q.at < base)) → (q.at ≤ d.to) ⊎ (d.to + size_of node ≤ q.at)
+  alone : (d : Moved) (node : Node) (q : Place) → Contains moves d → node_of w d.name ≡ Some node →
+      ((x : Moved) × Contains moves x × (q ≡ new_place x)) ⊎ (Contains places q × (q.at < base)) → (q.at ≤ d.to) ⊎ (d.to + size_of node ≤ q.at)
   alone d node q c e (inl n) =
       let b = block_at d node c e in
       let other = placing.placed n.0 n.1 in
@@ -216,11 +225,19 @@ module _ (layout : Layout) (base : ℕ) (later earlier : List World) (places : L
           let p = blocks.filled at size was in
           let b = is_block s base at size sound ends o in
           (p.0, settled_stays base moves places (record { at = at; name = p.0 }) p.1 (omega (arith, b.below, b.four)))
-      | inr moved ↦ (moved.0.name, subst (λ (k : ℕ). Contains (settled base moves places) (record { at = k; name = moved.0.name })) moved.2 (settled_comes base moves places moved.0 moved.1))
+      | inr moved ↦ (
+        moved.0.name,
+        subst (λ (k : ℕ). Contains (settled base moves places) (record {
+          at = k;
+          name = moved.0.name;
+        })) moved.2 (settled_comes base moves places moved.0 moved.1),
+      )
     ];
   }
     where
-      held : (p : Place) (node : Node) → node_of w p.name ≡ Some node → p.name.maker ≢ SHARED_MAKER → ((x : Moved) × Contains moves x × (p ≡ new_place x)) ⊎ (Contains places p × (p.at < base)) → (size : ℕ) × IsOccupied s p.at size × (size_of node ≤ size)
+      held : (p : Place) (node : Node) → node_of w p.name ≡ Some node → p.name.maker ≢ SHARED_MAKER →
+          ((x : Moved) × Contains moves x × (p ≡ new_place x)) ⊎ (Contains places p × (p.at < base)) → (size : ℕ) × IsOccupied s p.at size ×
+          (size_of node ≤ size)
       held p node e other (inl n) =
           let named : p.name ≡ n.0.name = ap (λ (x : Place). x.name) n.2 in
           let at : n.0.to ≡ p.at = sym (ap (λ (x : Place). x.at) n.2) in
@@ -250,8 +267,11 @@ module _ (layout : Layout) (base : ℕ) (later earlier : List World) (places : L
       | inr g ↦ let b = below_base d cd in omega (arith, b, e, g)
     ];
     lies = λ d node c e.
-        let b = block_at d node c e in
-        (b.1.number, λ i low high. subst (λ (l : Layout). InSegment l b.1.number i) same_layout (occupied_in s d.to b.0 sound b.1 i low (let f = b.2 in omega (arith, f, high))));
+        let b = block_at d node c e in (
+          b.1.number,
+          λ i low high.
+              subst (λ (l : Layout). InSegment l b.1.number i) same_layout (occupied_in s d.to b.0 sound b.1 i low (let f = b.2 in omega (arith, f, high))),
+        );
     alone = λ d node q c e h. alone d node q c e (settled_cases base moves places q h);
     spared = λ p node d cp l t e cd.
         let other = node_at (old_place d) (taken d cd).0 in

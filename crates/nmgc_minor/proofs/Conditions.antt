@@ -42,10 +42,12 @@ module _ (layout : Layout) (base : ℕ) (later earlier : List World) (places : L
       omega (arith, b, up, flat, emptied)
 
   place_in_table : (n : Name) (at : ℕ) → Contains places (record { at = at; name = n }) → base ≤ at → at < base + layout.mutators * layout.nursery
-  place_in_table n at c l = in_table n.maker at (in_nursery layout base later earlier places w words inputs differ world spoken emptied r m (record { at = at; name = n }) c l)
+  place_in_table n at c l =
+      in_table n.maker at (in_nursery layout base later earlier places w words inputs differ world spoken emptied r m (record { at = at; name = n }) c l)
 
   -- what the search starts at points into the table
-  pub starts_within : (y : Young) → y.base ≡ base → length y.table.items ≡ layout.mutators * layout.nursery → (word : ℕ) → IsStart inputs words word → IsWithin y word
+  pub starts_within : (y : Young) → y.base ≡ base → length y.table.items ≡ layout.mutators * layout.nursery → (word : ℕ) →
+      IsStart inputs words word → IsWithin y word
   starts_within y same size word s at e l =
       let low : base ≤ at = omega (arith, same, l) in
       let h = started layout base later earlier places w words inputs differ world spoken emptied r m at low (subst (λ (k : ℕ). IsStart inputs words k) e s) in
@@ -53,7 +55,8 @@ module _ (layout : Layout) (base : ℕ) (later earlier : List World) (places : L
       omega (arith, same, size, t)
 
   -- a young tracked object lies in its maker's nursery, with its header
-  pub young_object : (n : Name) (node : Node) (at : ℕ) → IsTracked w earlier n → node_of w n ≡ Some node → Contains places (record { at = at; name = n }) → base ≤ at → LiesInNursery layout n.maker at (size_of node)
+  pub young_object : (n : Name) (node : Node) (at : ℕ) → IsTracked w earlier n → node_of w n ≡ Some node →
+      Contains places (record { at = at; name = n }) → base ≤ at → LiesInNursery layout n.maker at (size_of node)
   young_object n node at t e c l =
       let o = stands layout earlier NoNode places w words differ world r n node at t e c in
       let four : 2 ≤ size_of node = omega arith in
@@ -62,7 +65,8 @@ module _ (layout : Layout) (base : ℕ) (later earlier : List World) (places : L
         | inr h ↦ elim h.1 [
           | inl s ↦
               let x = s.1 at (omega arith) (omega arith) in
-              let up : (s.0 + 1) * layout.words ≤ layout.segments * layout.words = mul-le-mul_right layout.words (let k = x.exists in let f : s.0 + 1 ≤ layout.segments = omega arith in f) in
+              let up : (s.0 + 1) * layout.words ≤ layout.segments * layout.words = mul-le-mul_right layout.words (let k = x.exists in
+              let f : s.0 + 1 ≤ layout.segments = omega arith in f) in
               let flat : (s.0 + 1) * layout.words ≡ s.0 * layout.words + layout.words = omega arith in
               let b = x.before in
               absurd (omega (arith, b, up, flat, emptied, l))
@@ -70,7 +74,8 @@ module _ (layout : Layout) (base : ℕ) (later earlier : List World) (places : L
         ]
       ]
 
-  header_in : (n : Name) (node : Node) (at : ℕ) → IsTracked w earlier n → node_of w n ≡ Some node → Contains places (record { at = at; name = n }) → base ≤ at → HasHeader words at
+  header_in : (n : Name) (node : Node) (at : ℕ) → IsTracked w earlier n → node_of w n ≡ Some node → Contains places (record { at = at; name = n }) →
+      base ≤ at → HasHeader words at
   header_in n node at t e c l =
       let o = stands layout earlier NoNode places w words differ world r n node at t e c in
       let y = young_object n node at t e c l in
@@ -85,7 +90,8 @@ module _ (layout : Layout) (base : ℕ) (later earlier : List World) (places : L
       }
 
   -- what is found can be followed
-  pub found_can : (y : Young) → y.base ≡ base → length y.table.items ≡ layout.mutators * layout.nursery → (at : ℕ) → IsFound base words (IsStart inputs words) at → CanFollow y words at
+  pub found_can : (y : Young) → y.base ≡ base → length y.table.items ≡ layout.mutators * layout.nursery → (at : ℕ) →
+      IsFound base words (IsStart inputs words) at → CanFollow y words at
   found_can y same size at f =
       let h = found_tracked layout base later earlier places w words inputs differ world spoken emptied r m at f in
       let node = node_at layout base later earlier places w words inputs differ world spoken emptied r m h.0 at h.1 in
@@ -94,7 +100,11 @@ module _ (layout : Layout) (base : ℕ) (later earlier : List World) (places : L
         header = header_in h.0 node.0 at h.2 node.1 h.1 low;
         within = λ word s to e l.
             let low' : base ≤ to = omega (arith, same, l) in
-            let g = field_in layout earlier NoNode places w words differ world r h.0 node.0 at to h.2 node.1 h.1 (omega (arith, low', emptied)) (subst (λ (k : ℕ). HasStrong words at k) e s) in
+            let g = field_in layout earlier NoNode places w words differ world r h.0 node.0 at to h.2 node.1 h.1 (omega (
+              arith,
+              low',
+              emptied,
+            )) (subst (λ (k : ℕ). HasStrong words at k) e s) in
             let t = place_in_table g.0 to g.1 low' in
             omega (arith, same, size, t);
       }
@@ -104,7 +114,8 @@ module _ (layout : Layout) (base : ℕ) (later earlier : List World) (places : L
       found_young at (IsFound.field from _ f l h) = l
 
   step : (a b n : ℕ) → a < b → a * n + n ≤ b * n
-  step a b n lt = let up : (a + 1) * n ≤ b * n = mul-le-mul_right n (let e : a + 1 ≤ b = omega arith in e) in let flat : (a + 1) * n ≡ a * n + n = omega arith in omega (arith, up, flat)
+  step a b n lt = let up : (a + 1) * n ≤ b * n = mul-le-mul_right n (let e : a + 1 ≤ b = omega arith in e) in
+      let flat : (a + 1) * n ≡ a * n + n = omega arith in omega (arith, up, flat)
 
   -- a word lies in one nursery
   pub same_nursery : (a b at : ℕ) → InNursery layout a at → nursery_place layout b ≤ at → at < nursery_place layout b + layout.nursery → a ≡ b

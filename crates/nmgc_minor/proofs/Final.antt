@@ -26,7 +26,8 @@ use Rattle.nmgc_minor.proofs.FoundLaws.{found_tracked, tracked_found}
 use Rattle.nmgc_minor.proofs.Assembly.{moves_made, blocks_made, recorded_goes}
 use Rattle.nmgc_minor.proofs.WriteLaws.{map_in, map_from}
 
-module _ (layout : Layout) (base : ℕ) (later earlier : List World) (places : List Place) (w : World) (old new : List ℕ) (inputs : Inputs) (s s' : Segments) (moves : List Move) (table : List ℕ)
+module _ (layout : Layout) (base : ℕ) (later earlier : List World) (places : List Place) (w : World) (old new : List ℕ) (inputs : Inputs)
+    (s s' : Segments) (moves : List Move) (table : List ℕ)
     (differ : (a b : Header) → IsHeader a → IsHeader b → header_word a ≡ header_word b → a ≡ b)
     (names : (a b : Name) → IsName a → IsName b → name_word a ≡ name_word b → a ≡ b)
     (world : IsWorld w)
@@ -43,7 +44,8 @@ module _ (layout : Layout) (base : ℕ) (later earlier : List World) (places : L
   found_young at (IsFound.field _ _ _ l _) = l
 
   -- a move tells the name that has the place
-  pub names_are : (d : Move) → Contains moves d → (n : Name) → IsTracked w earlier n → Contains places (record { at = d.from.0; name = n }) → base ≤ d.from.0 → d.name ≡ n
+  pub names_are : (d : Move) → Contains moves d → (n : Name) → IsTracked w earlier n → Contains places (record { at = d.from.0; name = n }) →
+      base ≤ d.from.0 → d.name ≡ n
   names_are d c n t there l =
       let told = p.named d c in
       let known = r.named (record { at = d.from.0; name = n }) there in
@@ -78,7 +80,8 @@ module _ (layout : Layout) (base : ℕ) (later earlier : List World) (places : L
   move_place d c = let h = taken (moved_of d) (map_in moved_of moves d c) in (h.0, h.1)
 
   -- where young objects lie in the order of their names, the moves are in order of names
-  pub moves_in_order : ((a b : Place) → Contains places a → Contains places b → base ≤ a.at → a.at < b.at → IsBefore a.name b.name) → IsInOrder (map (λ (d : Move). d.name) moves)
+  pub moves_in_order : ((a b : Place) → Contains places a → Contains places b → base ≤ a.at → a.at < b.at → IsBefore a.name b.name) →
+      IsInOrder (map (λ (d : Move). d.name) moves)
   moves_in_order order = go moves p.rising (λ d c. c)
     where
       go : (xs : List Move) → AreRising xs → ((d : Move) → Contains xs d → Contains moves d) → IsInOrder (map (λ (d : Move). d.name) xs)
@@ -86,17 +89,23 @@ module _ (layout : Layout) (base : ℕ) (later earlier : List World) (places : L
       go (a ∷ []) o h = tt
       go (a ∷ b ∷ xs) o h =
           let x = move_place a (h a (contains_head a (b ∷ xs))) in
-          let y = move_place b (h b (contains_tail a (b ∷ xs) b (contains_head b xs))) in
-          (order (record { at = a.from.0; name = a.name }) (record { at = b.from.0; name = b.name }) x.0 y.0 x.1 o.0, go (b ∷ xs) o.1 (λ d c. h d (contains_tail a (b ∷ xs) d c)))
+          let y = move_place b (h b (contains_tail a (b ∷ xs) b (contains_head b xs))) in (
+            order (record { at = a.from.0; name = a.name }) (record { at = b.from.0; name = b.name }) x.0 y.0 x.1 o.0,
+            go (b ∷ xs) o.1 (λ d c. h d (contains_tail a (b ∷ xs) d c)),
+          )
 
   pub promotes_moves : Moves layout base later places w (map moved_of moves) (forward_word table base) old new
-  promotes_moves = moves_made layout base later earlier places w old new inputs s s' (map moved_of moves) (forward_word table base) differ world spoken r m sound same emptied blocks p.placing p.forwards taken all once p.rewrites
+  promotes_moves = moves_made layout base later earlier places w old new inputs s s' (map moved_of moves) (forward_word table base) differ world
+      spoken r m sound same emptied blocks p.placing p.forwards taken all once p.rewrites
 
   pub promotes_represents : Represents layout later NoNode (settled base (map moved_of moves) places) w new
-  promotes_represents = represents_moved layout base later earlier NoNode places w (map moved_of moves) (forward_word table base) old new world spoken emptied r promotes_moves
+  promotes_represents =
+      represents_moved layout base later earlier NoNode places w (map moved_of moves) (forward_word table base) old new world spoken emptied r promotes_moves
 
   pub promotes_blocks : AreBlocks s' base (settled base (map moved_of moves) places) w
-  promotes_blocks = blocks_made layout base later earlier places w old new inputs s s' (map moved_of moves) (forward_word table base) differ world spoken r m sound same emptied blocks p.placing p.forwards taken all once p.rewrites
+  promotes_blocks = blocks_made layout base later earlier places w old new inputs s s' (map moved_of moves) (forward_word table base) differ world
+      spoken r m sound same emptied blocks p.placing p.forwards taken all once p.rewrites
 
   pub promotes_fields : (at : ℕ) → at < base → Contains inputs.recorded at → slice_index new at ≡ forward_word table base (slice_index old at)
-  promotes_fields = recorded_goes layout base later earlier places w old new inputs s s' (map moved_of moves) (forward_word table base) differ world spoken r m sound same emptied blocks p.placing p.forwards taken all once p.rewrites
+  promotes_fields = recorded_goes layout base later earlier places w old new inputs s s' (map moved_of moves) (forward_word table base) differ world
+      spoken r m sound same emptied blocks p.placing p.forwards taken all once p.rewrites

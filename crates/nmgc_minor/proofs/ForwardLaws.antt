@@ -63,7 +63,8 @@ module _ (table : List ℕ) (base : ℕ) where
   ]
 
   -- the table forwards to the new places that it has
-  pub table_forwards : (moves : List Moved) → 1 ≤ base → ((m : Moved) → Contains moves m → (base ≤ m.from) × (slice_index table (m.from - base) ≡ m.to) × (m.to ≢ 0)) → Forwards base moves (forward_word table base)
+  pub table_forwards : (moves : List Moved) → 1 ≤ base → ((m : Moved) → Contains moves m → (base ≤ m.from) ×
+      (slice_index table (m.from - base) ≡ m.to) × (m.to ≢ 0)) → Forwards base moves (forward_word table base)
   table_forwards moves positive entries = record {
     unset = low_stays 0 (omega arith);
     nil = odd_stays NIL_WORD (omega arith);
@@ -73,9 +74,11 @@ module _ (table : List ℕ) (base : ℕ) where
   }
 
   -- one more recorded field
-  pub recorded_more : (old cur : List ℕ) (xs : List Address) (i : ℕ) (x : Address) → ((k : ℕ) → slice_index table k < base) → i < length xs → x ≡ get_or xs i x → x.0 < length cur
+  pub recorded_more : (old cur : List ℕ) (xs : List Address) (i : ℕ) (x : Address) → ((k : ℕ) → slice_index table k < base) → i < length xs →
+      x ≡ get_or xs i x → x.0 < length cur
       → ForwardsAt (forward_word table base) old cur (λ k. Contains (take i xs) (record { 0 = k }))
-      → ForwardsAt (forward_word table base) old (set cur x.0 (forward_word table base (slice_index cur x.0))) (λ k. Contains (take (i + 1) xs) (record { 0 = k }))
+      → ForwardsAt (forward_word table base) old (set cur x.0 (forward_word table base (slice_index cur x.0))) (λ k.
+      Contains (take (i + 1) xs) (record { 0 = k }))
   recorded_more old cur xs i x small lt read in' f =
       let e : take (i + 1) xs ≡ take i xs ++ x ∷ [] = take_more xs i x lt ∙ ap (λ (y : Address). take i xs ++ y ∷ []) (sym read) in
       let word = forward_word table base (slice_index cur x.0) in
@@ -83,8 +86,12 @@ module _ (table : List ℕ) (base : ℕ) where
         total = length-set cur x.0 word ∙ f.total;
         each = λ k l. elim (cases_eq k x.0) [
           | inl s ↦
-              let there : Contains (take (i + 1) xs) (record { 0 = k }) = subst (λ (ys : List Address). Contains ys (record { 0 = k })) (sym e) (subst (λ (n : ℕ). Contains (take i xs ++ x ∷ []) (record { 0 = n })) (sym s) (Contains-push (take i xs) x)) in
-              let now : slice_index (set cur x.0 word) k ≡ forward_word table base (slice_index cur k) = ap (λ (n : ℕ). slice_index (set cur x.0 word) n) s ∙ get_or-set_same cur x.0 word 0 in' ∙ ap (λ (n : ℕ). forward_word table base (slice_index cur n)) (sym s) in
+              let there : Contains (take (i + 1) xs) (record { 0 = k }) =
+              subst (λ (ys : List Address). Contains ys (record { 0 = k })) (sym e) (subst (λ (n : ℕ).
+              Contains (take i xs ++ x ∷ []) (record { 0 = n })) (sym s) (Contains-push (take i xs) x)) in
+              let now : slice_index (set cur x.0 word) k ≡ forward_word table base (slice_index cur k) =
+              ap (λ (n : ℕ). slice_index (set cur x.0 word) n) s ∙ get_or-set_same cur x.0 word 0 in' ∙
+              ap (λ (n : ℕ). forward_word table base (slice_index cur n)) (sym s) in
               elim (f.each k l) [
                 | inl g ↦ inl (now ∙ ap (λ (y : ℕ). forward_word table base y) g.0 ∙ twice small (slice_index old k), there)
                 | inr g ↦ inl (now ∙ ap (λ (y : ℕ). forward_word table base y) g.0, there)
@@ -92,7 +99,11 @@ module _ (table : List ℕ) (base : ℕ) where
           | inr ne ↦
               let same = get_or-set_other cur x.0 k word 0 ne in
               elim (f.each k l) [
-                | inl g ↦ inl (same ∙ g.0, subst (λ (ys : List Address). Contains ys (record { 0 = k })) (sym e) (Contains-append_left (take i xs) (x ∷ []) (record { 0 = k }) g.1))
+                | inl g ↦ inl (
+                  same ∙ g.0,
+                  subst (λ (ys : List Address).
+                      Contains ys (record { 0 = k })) (sym e) (Contains-append_left (take i xs) (x ∷ []) (record { 0 = k }) g.1),
+                )
                 | inr g ↦ inr (
                   same ∙ g.0,
                   λ c. elim (Contains-push_cases (take i xs) x (record { 0 = k }) (subst (λ (ys : List Address). Contains ys (record { 0 = k })) e c)) [
@@ -105,16 +116,19 @@ module _ (table : List ℕ) (base : ℕ) where
       }
 
 -- one more of the places from a first one on
-pub range_forwarded : (forward : ℕ → ℕ) (old cur : List ℕ) (first i : ℕ) → first ≤ i → i < length cur → ForwardsAt forward old cur (λ k. (first ≤ k) × (k < i)) → ForwardsAt forward old (set cur i (forward (slice_index cur i))) (λ k. (first ≤ k) × (k < i + 1))
+pub range_forwarded : (forward : ℕ → ℕ) (old cur : List ℕ) (first i : ℕ) → first ≤ i → i < length cur →
+    ForwardsAt forward old cur (λ k. (first ≤ k) × (k < i)) → ForwardsAt forward old (set cur i (forward (slice_index cur i))) (λ k. (first ≤ k) × (k < i + 1))
 range_forwarded forward old cur first i low in' f =
     let word = forward (slice_index cur i) in
     record {
       total = length-set cur i word ∙ f.total;
       each = λ k l. elim (cases_eq k i) [
         | inl s ↦
-            let was : slice_index cur i ≡ slice_index old i = elim (f.each i (let t = f.total in omega (arith, in', t))) [ inl g ↦ absurd (omega (arith, g.1.1)) | inr g ↦ g.0 ] in
+            let was : slice_index cur i ≡ slice_index old i =
+            elim (f.each i (let t = f.total in omega (arith, in', t))) [ inl g ↦ absurd (omega (arith, g.1.1)) | inr g ↦ g.0 ] in
             inl (
-              ap (λ (n : ℕ). slice_index (set cur i word) n) s ∙ get_or-set_same cur i word 0 in' ∙ ap forward was ∙ ap (λ (n : ℕ). forward (slice_index old n)) (sym s),
+              ap (λ (n : ℕ). slice_index (set cur i word) n) s ∙ get_or-set_same cur i word 0 in' ∙ ap forward was ∙
+                  ap (λ (n : ℕ). forward (slice_index old n)) (sym s),
               (omega (arith, low, s), omega (arith, s)),
             )
         | inr ne ↦
@@ -134,7 +148,8 @@ none_forwarded forward old At none = record { total = refl; each = λ i l. inr (
 pub none_copied : (forward : ℕ → ℕ) (old : List ℕ) (from to : ℕ) → CopiesFields forward old old from to 0
 none_copied forward old from to = record { total = refl; fields = λ i l. absurd (omega arith); others = λ i h. refl }
 
-pub fields_copied : (forward : ℕ → ℕ) (old cur : List ℕ) (from to i : ℕ) → to + i ≤ from → from + i < length old → CopiesFields forward old cur from to i → CopiesFields forward old (set cur (to + i) (forward (slice_index cur (from + i)))) from to (i + 1)
+pub fields_copied : (forward : ℕ → ℕ) (old cur : List ℕ) (from to i : ℕ) → to + i ≤ from → from + i < length old →
+    CopiesFields forward old cur from to i → CopiesFields forward old (set cur (to + i) (forward (slice_index cur (from + i)))) from to (i + 1)
 fields_copied forward old cur from to i apart in' f =
     let word = forward (slice_index cur (from + i)) in
     let t = f.total in
@@ -142,7 +157,8 @@ fields_copied forward old cur from to i apart in' f =
     record {
       total = length-set cur (to + i) word ∙ f.total;
       fields = λ k l. elim (cases_eq k i) [
-        | inl s ↦ ap (λ (n : ℕ). slice_index (set cur (to + i) word) (to + n)) s ∙ get_or-set_same cur (to + i) word 0 there ∙ ap forward (f.others (from + i) (inr (omega arith))) ∙ ap (λ (n : ℕ). forward (slice_index old (from + n))) (sym s)
+        | inl s ↦ ap (λ (n : ℕ). slice_index (set cur (to + i) word) (to + n)) s ∙ get_or-set_same cur (to + i) word 0 there ∙
+            ap forward (f.others (from + i) (inr (omega arith))) ∙ ap (λ (n : ℕ). forward (slice_index old (from + n))) (sym s)
         | inr ne ↦ get_or-set_other cur (to + i) (to + k) word 0 (λ e. ne (omega (arith, e))) ∙ f.fields k (omega (arith, l, ne))
       ];
       others = λ k out.
@@ -151,19 +167,27 @@ fields_copied forward old cur from to i apart in' f =
     }
 
 -- once its fields, its header and its name were copied, the object was
-pub object_copied : (differ : (a b : Header) → IsHeader a → IsHeader b → header_word a ≡ header_word b → a ≡ b) (forward : ℕ → ℕ) (old one two new : List ℕ) (from to count : ℕ) (h : HasHeader old from) → count ≡ h.header.fields → to + HEADER_WORDS + count ≤ from
-    → CopiesFields forward old one (from + HEADER_WORDS) (to + HEADER_WORDS) count → two ≡ set one to (slice_index one from) → new ≡ set two (to + 1) (slice_index two (from + 1)) → CopiesObject forward old new from to
+pub object_copied : (differ : (a b : Header) → IsHeader a → IsHeader b → header_word a ≡ header_word b → a ≡ b) (forward : ℕ →
+    ℕ) (old one two new : List ℕ) (from to count : ℕ) (h : HasHeader old from) → count ≡ h.header.fields → to + HEADER_WORDS + count ≤ from
+    → CopiesFields forward old one (from + HEADER_WORDS) (to + HEADER_WORDS) count → two ≡ set one to (slice_index one from) →
+    new ≡ set two (to + 1) (slice_index two (from + 1)) → CopiesObject forward old new from to
 object_copied differ forward old one two new from to count h fields apart f first second =
     let inside = h.inside in
     let total = f.total in
     let size : length two ≡ length one = ap length first ∙ length-set one to (slice_index one from) in
     let to_in : to < length one = omega (arith, total, inside, apart) in
     let next_in : to + 1 < length two = omega (arith, size, total, inside, apart) in
-    let at_two : (k : ℕ) → k ≢ to → slice_index two k ≡ slice_index one k = λ k ne. ap (λ (xs : List ℕ). slice_index xs k) first ∙ get_or-set_other one to k (slice_index one from) 0 ne in
-    let at_new : (k : ℕ) → k ≢ to + 1 → slice_index new k ≡ slice_index two k = λ k ne. ap (λ (xs : List ℕ). slice_index xs k) second ∙ get_or-set_other two (to + 1) k (slice_index two (from + 1)) 0 ne in
-    let header : slice_index new to ≡ slice_index old from = at_new to (λ e. omega (arith, e)) ∙ ap (λ (xs : List ℕ). slice_index xs to) first ∙ get_or-set_same one to (slice_index one from) 0 to_in ∙ f.others from (inr (omega (arith, apart))) in
-    let name : slice_index new (to + 1) ≡ slice_index old (from + 1) = ap (λ (xs : List ℕ). slice_index xs (to + 1)) second ∙ get_or-set_same two (to + 1) (slice_index two (from + 1)) 0 next_in ∙ at_two (from + 1) (λ e. omega (arith, e, apart)) ∙ f.others (from + 1) (inr (omega (arith, apart))) in
-    let all : (x : Header) → HasHeaderWord old from x → x.fields ≡ count = λ x is. ap (λ (y : Header). y.fields) (differ x h.header is.0 h.valid (sym is.1 ∙ h.read)) ∙ sym fields in
+    let at_two : (k : ℕ) → k ≢ to → slice_index two k ≡ slice_index one k = λ k ne. ap (λ (xs : List ℕ). slice_index xs k) first ∙
+    get_or-set_other one to k (slice_index one from) 0 ne in
+    let at_new : (k : ℕ) → k ≢ to + 1 → slice_index new k ≡ slice_index two k = λ k ne. ap (λ (xs : List ℕ). slice_index xs k) second ∙
+    get_or-set_other two (to + 1) k (slice_index two (from + 1)) 0 ne in
+    let header : slice_index new to ≡ slice_index old from = at_new to (λ e. omega (arith, e)) ∙ ap (λ (xs : List ℕ). slice_index xs to) first ∙
+    get_or-set_same one to (slice_index one from) 0 to_in ∙ f.others from (inr (omega (arith, apart))) in
+    let name : slice_index new (to + 1) ≡ slice_index old (from + 1) = ap (λ (xs : List ℕ). slice_index xs (to + 1)) second ∙
+    get_or-set_same two (to + 1) (slice_index two (from + 1)) 0 next_in ∙ at_two (from + 1) (λ e. omega (arith, e, apart)) ∙
+    f.others (from + 1) (inr (omega (arith, apart))) in
+    let all : (x : Header) → HasHeaderWord old from x → x.fields ≡ count = λ x is.
+    ap (λ (y : Header). y.fields) (differ x h.header is.0 h.valid (sym is.1 ∙ h.read)) ∙ sym fields in
     record {
       total = ap length second ∙ length-set two (to + 1) (slice_index two (from + 1)) ∙ size ∙ f.total;
       copied = λ x is. record {
@@ -175,16 +199,22 @@ object_copied differ forward old one two new from to count h fields apart f firs
       named = name;
       others = λ i x is out.
           let n = all x is in
-          let apart_from : (k : ℕ) → k < HEADER_WORDS + count → i ≢ to + k = λ k l e. elim out [ inl low ↦ omega (arith, low, e) | inr high ↦ omega (arith, high, e, l, n) ] in
+          let apart_from : (k : ℕ) → k < HEADER_WORDS + count →
+          i ≢ to + k = λ k l e. elim out [ inl low ↦ omega (arith, low, e) | inr high ↦ omega (arith, high, e, l, n) ] in
           let ne : i ≢ to = λ e. apart_from 0 (omega arith) (omega (arith, e)) in
-          at_new i (apart_from 1 (omega arith)) ∙ at_two i ne ∙ f.others i (elim out [ inl low ↦ inl (omega (arith, low)) | inr high ↦ inr (omega (arith, high, n)) ]);
+          at_new i (apart_from 1 (omega arith)) ∙ at_two i ne ∙
+          f.others i (elim out [ inl low ↦ inl (omega (arith, low)) | inr high ↦ inr (omega (arith, high, n)) ]);
     }
 
 -- the headers of what is still to be copied are unchanged
-pub still_header : (base : ℕ) (forward : ℕ → ℕ) (old cur : List ℕ) (all done : List Move) (m : Move) → ((x : Move) → Contains done x → Contains all x) → CanCopyAll base old all → CopiesAll forward old cur done → Contains all m → (i : ℕ) → base ≤ i → slice_index cur i ≡ slice_index old i
-still_header base forward old cur all done m some can f c i l = f.others i (λ x header cx h. inr (let b = can.below x header (some x cx) h in omega (arith, b, l)))
+pub still_header : (base : ℕ) (forward : ℕ → ℕ) (old cur : List ℕ) (all done : List Move) (m : Move) →
+    ((x : Move) → Contains done x → Contains all x) → CanCopyAll base old all → CopiesAll forward old cur done → Contains all m → (i : ℕ) →
+    base ≤ i → slice_index cur i ≡ slice_index old i
+still_header base forward old cur all done m some can f c i l =
+    f.others i (λ x header cx h. inr (let b = can.below x header (some x cx) h in omega (arith, b, l)))
 
-pub copy_header : (base : ℕ) (forward : ℕ → ℕ) (old cur : List ℕ) (all done : List Move) (m : Move) → ((x : Move) → Contains done x → Contains all x) → CanCopyAll base old all → CopiesAll forward old cur done → Contains all m → HasHeader cur m.from.0
+pub copy_header : (base : ℕ) (forward : ℕ → ℕ) (old cur : List ℕ) (all done : List Move) (m : Move) →
+    ((x : Move) → Contains done x → Contains all x) → CanCopyAll base old all → CopiesAll forward old cur done → Contains all m → HasHeader cur m.from.0
 copy_header base forward old cur all done m some can f c =
     let h = can.each m c in
     let o = h.0 in
@@ -196,7 +226,9 @@ copy_header base forward old cur all done m some can f c =
       inside = let e = f.total in let n = o.inside in omega (arith, e, n);
     }
 
-pub copies_more : (base : ℕ) (forward : ℕ → ℕ) (old cur new : List ℕ) (all : List Move) (i : ℕ) (m : Move) → CanCopyAll base old all → i < length all → m ≡ get_or all i m → CopiesAll forward old cur (take i all) → CopiesObject forward cur new m.from.0 m.to.0 → CopiesAll forward old new (take (i + 1) all)
+pub copies_more : (base : ℕ) (forward : ℕ → ℕ) (old cur new : List ℕ) (all : List Move) (i : ℕ) (m : Move) → CanCopyAll base old all →
+    i < length all → m ≡ get_or all i m → CopiesAll forward old cur (take i all) → CopiesObject forward cur new m.from.0 m.to.0 →
+    CopiesAll forward old new (take (i + 1) all)
 copies_more base forward old cur new all i m can lt read f g =
     let e : take (i + 1) all ≡ take i all ++ m ∷ [] = take_more all i m lt ∙ ap (λ (y : Move). take i all ++ y ∷ []) (sym read) in
     let some : (x : Move) → Contains (take i all) x → Contains all x = λ x c. taken_in all i x c in
@@ -204,7 +236,8 @@ copies_more base forward old cur new all i m can lt read f g =
     let from = can.each m mine in
     let young : (k : ℕ) → base ≤ k → slice_index cur k ≡ slice_index old k = still_header base forward old cur all (take i all) m some can f mine in
     let header : HasHeaderWord cur m.from.0 from.0.header = (from.0.valid, young m.from.0 from.1 ∙ from.0.read) in
-    let this : (h : Header) → HasHeaderWord old m.from.0 h → Copies forward old new m.from.0 m.to.0 h.fields × (slice_index new (m.to.0 + 1) ≡ slice_index old (m.from.0 + 1)) = λ h is.
+    let this : (h : Header) → HasHeaderWord old m.from.0 h → Copies forward old new m.from.0 m.to.0 h.fields ×
+    (slice_index new (m.to.0 + 1) ≡ slice_index old (m.from.0 + 1)) = λ h is.
     let is' : HasHeaderWord cur m.from.0 h = (is.0, young m.from.0 from.1 ∙ is.1) in
     let c = g.copied h is' in (
       record {
@@ -216,23 +249,31 @@ copies_more base forward old cur new all i m can lt read f g =
     record {
       total = g.total ∙ f.total;
       copied = λ x h c is. elim (Contains-push_cases (take i all) m x (subst (λ (ys : List Move). Contains ys x) e c)) [
-        | inr s ↦ subst (λ (y : Move). Copies forward old new y.from.0 y.to.0 h.fields × (slice_index new (y.to.0 + 1) ≡ slice_index old (y.from.0 + 1))) s (this h (subst (λ (y : Move). HasHeaderWord old y.from.0 h) (sym s) is))
+        | inr s ↦ subst (λ (y : Move). Copies forward old new y.from.0 y.to.0 h.fields ×
+            (slice_index new (y.to.0 + 1) ≡ slice_index old (y.from.0 + 1))) s (this h (subst (λ (y : Move). HasHeaderWord old y.from.0 h) (sym s) is))
         | inl d ↦ elim (can.apart x m h from.0.header (some x d) mine is (from.0.valid, from.0.read)) [
-          | inl s ↦ subst (λ (y : Move). Copies forward old new y.from.0 y.to.0 h.fields × (slice_index new (y.to.0 + 1) ≡ slice_index old (y.from.0 + 1))) (sym s) (this h (subst (λ (y : Move). HasHeaderWord old y.from.0 h) s is))
+          | inl s ↦ subst (λ (y : Move). Copies forward old new y.from.0 y.to.0 h.fields ×
+              (slice_index new (y.to.0 + 1) ≡ slice_index old (y.from.0 + 1))) (sym s) (this h (subst (λ (y : Move). HasHeaderWord old y.from.0 h) s is))
           | inr apart ↦
               let before = f.copied x h d is in
-              let kept : (k : ℕ) → k < HEADER_WORDS + h.fields → slice_index new (x.to.0 + k) ≡ slice_index cur (x.to.0 + k) = λ k l. g.others (x.to.0 + k) from.0.header header (elim apart [ inl a ↦ inl (omega (arith, a, l)) | inr a ↦ inr (omega (arith, a)) ]) in
-              let first : slice_index new x.to.0 ≡ slice_index cur x.to.0 = subst (λ (n : ℕ). slice_index new n ≡ slice_index cur n) (let z : x.to.0 + 0 ≡ x.to.0 = omega arith in z) (kept 0 (omega arith)) in (
+              let kept : (k : ℕ) → k < HEADER_WORDS + h.fields →
+              slice_index new (x.to.0 + k) ≡ slice_index cur (x.to.0 + k) = λ k l.
+              g.others (x.to.0 + k) from.0.header header (elim apart [ inl a ↦ inl (omega (arith, a, l)) | inr a ↦ inr (omega (arith, a)) ]) in
+              let first : slice_index new x.to.0 ≡ slice_index cur x.to.0 =
+              subst (λ (n : ℕ). slice_index new n ≡ slice_index cur n) (let z : x.to.0 + 0 ≡ x.to.0 = omega arith in z) (kept 0 (omega arith)) in (
                 record {
                   header = first ∙ before.0.header;
-                  fields = λ k l. subst (λ (n : ℕ). slice_index new n ≡ slice_index cur n) (let z : x.to.0 + (HEADER_WORDS + k) ≡ x.to.0 + HEADER_WORDS + k = omega arith in z) (kept (HEADER_WORDS + k) (omega (arith, l))) ∙ before.0.fields k l;
+                  fields = λ k l. subst (λ (n : ℕ). slice_index new n ≡
+                      slice_index cur n) (let z : x.to.0 + (HEADER_WORDS + k) ≡ x.to.0 + HEADER_WORDS + k = omega arith in
+                      z) (kept (HEADER_WORDS + k) (omega (arith, l))) ∙ before.0.fields k l;
                 },
                 kept 1 (omega arith) ∙ before.1,
               )
         ]
       ];
       others = λ k out.
-          let all_before : slice_index cur k ≡ slice_index old k = f.others k (λ x h c is. out x h (subst (λ (ys : List Move). Contains ys x) (sym e) (Contains-append_left (take i all) (m ∷ []) x c)) is) in
+          let all_before : slice_index cur k ≡ slice_index old k =
+          f.others k (λ x h c is. out x h (subst (λ (ys : List Move). Contains ys x) (sym e) (Contains-append_left (take i all) (m ∷ []) x c)) is) in
           let last = out m from.0.header (subst (λ (ys : List Move). Contains ys m) (sym e) (Contains-push (take i all) m)) (from.0.valid, from.0.read) in
           g.others k from.0.header header last ∙ all_before;
     }

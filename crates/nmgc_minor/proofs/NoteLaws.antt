@@ -31,7 +31,8 @@ notes_none y Given h has = record {
 }
 
 -- one word after the other
-pub notes_then : (a b c : Young) (P Q R : ℕ → Type 0) → Notes a b P → Notes b c Q → ((w : ℕ) → P w → R w) → ((w : ℕ) → Q w → R w) → ((w : ℕ) → R w → P w ⊎ Q w) → Notes a c R
+pub notes_then : (a b c : Young) (P Q R : ℕ → Type 0) → Notes a b P → Notes b c Q → ((w : ℕ) → P w → R w) → ((w : ℕ) → Q w → R w) →
+    ((w : ℕ) → R w → P w ⊎ Q w) → Notes a c R
 notes_then a b c P Q R f g left right both = record {
   young = g.young;
   base = g.base ∙ f.base;
@@ -42,7 +43,8 @@ notes_then a b c P Q R f g left right both = record {
     | inr j ↦ inr (let e = f.base in omega (arith, e, j.0), right (2 * at) j.1)
   ];
   complete = λ at l r. elim (both (2 * at) r) [
-    | inl p ↦ let i = f.complete at l p in subst (λ (xs : List Address). Contains xs (record { 0 = at })) (sym g.more.1) (Contains-append_left b.found.items g.more.0 (record { 0 = at }) i)
+    | inl p ↦ let i = f.complete at l p in subst (λ (xs : List Address).
+        Contains xs (record { 0 = at })) (sym g.more.1) (Contains-append_left b.found.items g.more.0 (record { 0 = at }) i)
     | inr q ↦ g.complete at (let e = f.base in omega (arith, e, l)) q
   ];
   conserved = g.conserved ∙ f.conserved;
@@ -64,7 +66,8 @@ notes_as a b P R f to from = record {
 
 -- an entry that was free
 pub notes_fresh : (y z : Young) (index : ℕ) → IsYoung y → index < length y.table.items → slice_index y.table.items index ≡ 0
-    → z.base ≡ y.base → z.table.items ≡ set y.table.items index FOUND → z.found.items ≡ y.found.items ++ record { 0 = y.base + index } ∷ [] → z.found.spare + 1 ≡ y.found.spare
+    → z.base ≡ y.base → z.table.items ≡ set y.table.items index FOUND → z.found.items ≡ y.found.items ++ record { 0 = y.base + index } ∷ [] →
+    z.found.spare + 1 ≡ y.found.spare
     → Notes y z (λ w. w ≡ 2 * (y.base + index))
 notes_fresh y z index h lt was base table found spare =
     let new : Address = record { 0 = y.base + index } in
@@ -73,8 +76,10 @@ notes_fresh y z index h lt was base table found spare =
     let one : ◌≡◌ {A = ℕ} (cond (eqb (get_or y.table.items index 0) 0) 1 0) 1 = rw was refl in
     let count : unfound_count z ≡ count_by (λ n. eqb n 0) (set y.table.items index FOUND) = ap (λ (xs : List ℕ). count_by (λ n. eqb n 0) xs) table in
     let less : unfound_count z + 1 ≡ unfound_count y = omega (arith, sums, one, count) in
-    let longer : length z.found.items ≡ length y.found.items + 1 = let e = ap length found in let f = length-append y.found.items (new ∷ []) in omega (arith, e, f) in
-    let kept : (a : Address) → Contains y.found.items a → Contains z.found.items a = λ a c. subst (λ (xs : List Address). Contains xs a) (sym found) (Contains-append_left y.found.items (new ∷ []) a c) in
+    let longer : length z.found.items ≡ length y.found.items + 1 = let e = ap length found in let f = length-append y.found.items (new ∷ []) in
+    omega (arith, e, f) in
+    let kept : (a : Address) → Contains y.found.items a → Contains z.found.items a = λ a c.
+    subst (λ (xs : List Address). Contains xs a) (sym found) (Contains-append_left y.found.items (new ∷ []) a c) in
     let here : Contains z.found.items new = subst (λ (xs : List Address). Contains xs new) (sym found) (Contains-push y.found.items new) in
     record {
       young = record {
@@ -82,28 +87,42 @@ notes_fresh y z index h lt was base table found spare =
         listed = λ k ne. elim (cases_eq k index) [
           | inl s ↦ subst (λ (n : ℕ). Contains z.found.items (record { 0 = n })) (let e : y.base + index ≡ z.base + k = omega (arith, base, s) in e) here
           | inr o ↦
-              let same : slice_index z.table.items k ≡ slice_index y.table.items k = ap (λ (xs : List ℕ). slice_index xs k) table ∙ get_or-set_other y.table.items index k FOUND 0 o in
+              let same : slice_index z.table.items k ≡ slice_index y.table.items k = ap (λ (xs : List ℕ). slice_index xs k) table ∙
+              get_or-set_other y.table.items index k FOUND 0 o in
               let old = h.listed k (λ e. ne (same ∙ e)) in
-              subst (λ (n : ℕ). Contains z.found.items (record { 0 = n })) (let e : y.base + k ≡ z.base + k = omega (arith, base) in e) (kept (record { 0 = y.base + k }) old)
+              subst (λ (n : ℕ). Contains z.found.items (record { 0 = n })) (let e : y.base + k ≡ z.base + k = omega (arith, base) in
+              e) (kept (record { 0 = y.base + k }) old)
         ];
-        tabled = λ at c. elim (Contains-push_cases y.found.items new (record { 0 = at }) (subst (λ (xs : List Address). Contains xs (record { 0 = at })) found c)) [
-          | inl old ↦
-              let t = h.tabled at old in
-              let other : t.0 ≢ index = λ e. let f : slice_index y.table.items t.0 ≡ 0 = rw e was in omega (arith, f, t.3) in
-              (t.0, omega (arith, base, t.1), omega (arith, size, t.2), ap (λ (xs : List ℕ). slice_index xs t.0) table ∙ get_or-set_other y.table.items index t.0 FOUND 0 other ∙ t.3)
-          | inr e ↦
-              let s : y.base + index ≡ at = ap (λ (a : Address). a.0) e in
-              (index, omega (arith, base, s), omega (arith, size, lt), ap (λ (xs : List ℕ). slice_index xs index) table ∙ get_or-set_same y.table.items index FOUND 0 lt)
-        ];
+        tabled = λ at c. elim (Contains-push_cases y.found.items new (record { 0 = at }) (subst (λ (xs : List Address).
+            Contains xs (record { 0 = at })) found c)) [
+              | inl old ↦
+                  let t = h.tabled at old in
+                  let other : t.0 ≢ index = λ e. let f : slice_index y.table.items t.0 ≡ 0 = rw e was in omega (arith, f, t.3) in (
+                    t.0,
+                    omega (arith, base, t.1),
+                    omega (arith, size, t.2),
+                    ap (λ (xs : List ℕ). slice_index xs t.0) table ∙
+                        get_or-set_other y.table.items index t.0 FOUND 0 other ∙ t.3,
+                  )
+              | inr e ↦
+                  let s : y.base + index ≡ at = ap (λ (a : Address). a.0) e in (
+                    index,
+                    omega (arith, base, s),
+                    omega (arith, size, lt),
+                    ap (λ (xs : List ℕ). slice_index xs index) table ∙
+                        get_or-set_same y.table.items index FOUND 0 lt,
+                  )
+            ];
         room = let r = h.room in omega (arith, r, less, spare);
       };
       base = base;
       size = size;
       more = (new ∷ [], found);
-      sound = λ at c. elim (Contains-push_cases y.found.items new (record { 0 = at }) (subst (λ (xs : List Address). Contains xs (record { 0 = at })) found c)) [
-        | inl old ↦ inl old
-        | inr e ↦ let s : y.base + index ≡ at = ap (λ (a : Address). a.0) e in inr (omega (arith, s), omega (arith, s))
-      ];
+      sound = λ at c. elim (Contains-push_cases y.found.items new (record { 0 = at }) (subst (λ (xs : List Address).
+          Contains xs (record { 0 = at })) found c)) [
+            | inl old ↦ inl old
+            | inr e ↦ let s : y.base + index ≡ at = ap (λ (a : Address). a.0) e in inr (omega (arith, s), omega (arith, s))
+          ];
       complete = λ at l e. let s : y.base + index ≡ at = omega (arith, e) in subst (λ (n : ℕ). Contains z.found.items (record { 0 = n })) s here;
       conserved = omega (arith, less, longer);
       kept_room = omega (arith, spare, longer);
@@ -111,14 +130,16 @@ notes_fresh y z index h lt was base table found spare =
 
 -- an entry that was found before
 pub notes_again : (y : Young) (index : ℕ) → IsYoung y → slice_index y.table.items index ≢ 0 → Notes y y (λ w. w ≡ 2 * (y.base + index))
-notes_again y index h ne = notes_none y (λ w. w ≡ 2 * (y.base + index)) h (λ at l e. let s : y.base + index ≡ at = omega (arith, e) in subst (λ (n : ℕ). IsIn y n) s (h.listed index ne))
+notes_again y index h ne = notes_none y (λ w. w ≡ 2 * (y.base + index)) h (λ at l e. let s : y.base + index ≡ at = omega (arith, e) in
+    subst (λ (n : ℕ). IsIn y n) s (h.listed index ne))
 
 -- within a table of the same size
 pub still_within : (a b : Young) (P : ℕ → Type 0) (word : ℕ) → Notes a b P → IsWithin a word → IsWithin b word
 still_within a b P word n h at e l = let s = n.base in let t = n.size in let r = h at e (omega (arith, s, l)) in omega (arith, s, t, r)
 
 -- the words of a slice up to one, and that one
-pub notes_word : (a b c : Young) (words : List ℕ) (i w : ℕ) → i < length words → w ≡ get_or words i w → Notes a b (Contains (take i words)) → Notes b c (λ x. x ≡ w) → Notes a c (Contains (take (i + 1) words))
+pub notes_word : (a b c : Young) (words : List ℕ) (i w : ℕ) → i < length words → w ≡ get_or words i w → Notes a b (Contains (take i words)) →
+    Notes b c (λ x. x ≡ w) → Notes a c (Contains (take (i + 1) words))
 notes_word a b c words i w lt read f g =
     let e : take (i + 1) words ≡ take i words ++ w ∷ [] = take_more words i w lt ∙ ap (λ (x : ℕ). take i words ++ x ∷ []) (sym read) in
     notes_then a b c (Contains (take i words)) (λ x. x ≡ w) (Contains (take (i + 1) words)) f g
@@ -130,7 +151,8 @@ notes_word a b c words i w lt read f g =
 pub among_none : (y : Young) (words : List ℕ) (from : ℕ) → IsYoung y → Notes y y (IsAmong words from from)
 among_none y words from h = notes_none y (IsAmong words from from) h (λ at l i. absurd (omega (arith, i.1, i.2)))
 
-pub among_more : (a b c : Young) (words : List ℕ) (from i w : ℕ) → from ≤ i → w ≡ slice_index words i → Notes a b (IsAmong words from i) → Notes b c (λ x. x ≡ w) → Notes a c (IsAmong words from (i + 1))
+pub among_more : (a b c : Young) (words : List ℕ) (from i w : ℕ) → from ≤ i → w ≡ slice_index words i → Notes a b (IsAmong words from i) →
+    Notes b c (λ x. x ≡ w) → Notes a c (IsAmong words from (i + 1))
 among_more a b c words from i w low read f g =
     notes_then a b c (IsAmong words from i) (λ x. x ≡ w) (IsAmong words from (i + 1)) f g
     (λ x h. (h.0, h.1, omega (arith, h.2), h.3))
@@ -156,7 +178,8 @@ strong_read words at from to w s i =
       is = ap (λ (k : ℕ). slice_index words k) e ∙ i.3;
     }
 
-pub strong_has : (differ : (a b : Header) → IsHeader a → IsHeader b → header_word a ≡ header_word b → a ≡ b) (words : List ℕ) (at from to w : ℕ) → IsStrongRange words at from to → HasStrong words at w → IsAmong words from to w
+pub strong_has : (differ : (a b : Header) → IsHeader a → IsHeader b → header_word a ≡ header_word b → a ≡ b) (words : List ℕ) (at from to w : ℕ) →
+    IsStrongRange words at from to → HasStrong words at w → IsAmong words from to w
 strong_has differ words at from to w s h =
     let same : h.header ≡ s.header = differ h.header s.header h.valid s.valid (sym h.read ∙ s.read) in
     let low = subst (λ (x : Header). (strong_of words at x).0 ≤ h.index) same h.from in
@@ -167,7 +190,10 @@ strong_has differ words at from to w s h =
 
 -- what was found is still found
 still_in : (a b : Young) (at : ℕ) → (added : List Address) × (b.found.items ≡ a.found.items ++ added) → IsIn a at → IsIn b at
-still_in a b at more i = subst (λ (xs : List Address). Contains xs (record { 0 = at })) (sym more.1) (Contains-append_left a.found.items more.0 (record { 0 = at }) i)
+still_in a b at more i = subst (λ (xs : List Address). Contains xs (record {
+  0 =
+      at;
+})) (sym more.1) (Contains-append_left a.found.items more.0 (record { 0 = at }) i)
 
 address_at : (xs : List Address) (i : ℕ) → i < length xs → Contains xs (record { 0 = (get_or xs i (record { 0 = 0 })).0 })
 address_at xs i lt = Contains-get_or xs i (record { 0 = 0 }) lt
@@ -184,7 +210,8 @@ following_none y words h = record {
   traced = λ i at to lt. absurd (omega arith);
 }
 
-pub can_still : (a b : Young) (words : List ℕ) (next : ℕ) (x : Address) → Following a b words next → next < length b.found.items → x ≡ get_or b.found.items next x → ((at : ℕ) → IsFound a.base words (PointsIn a) at → CanFollow a words at) → CanFollow b words x.0
+pub can_still : (a b : Young) (words : List ℕ) (next : ℕ) (x : Address) → Following a b words next → next < length b.found.items →
+    x ≡ get_or b.found.items next x → ((at : ℕ) → IsFound a.base words (PointsIn a) at → CanFollow a words at) → CanFollow b words x.0
 can_still a b words next x f lt read can =
     let there : Contains b.found.items x = subst (λ (z : Address). Contains b.found.items z) (sym read) (Contains-get_or b.found.items next x lt) in
     let c = can x.0 (f.sound x.0 there) in
@@ -193,7 +220,8 @@ can_still a b words next x f lt read can =
       within = λ word h at e l. let s = f.base in let t = f.size in let w = c.within word h at e (omega (arith, s, l)) in omega (arith, s, t, w);
     }
 
-pub following_more : (a b c : Young) (words : List ℕ) (next : ℕ) (x : Address) → Following a b words next → next < length b.found.items → x ≡ get_or b.found.items next x → Notes b c (HasStrong words x.0) → Following a c words (next + 1)
+pub following_more : (a b c : Young) (words : List ℕ) (next : ℕ) (x : Address) → Following a b words next → next < length b.found.items →
+    x ≡ get_or b.found.items next x → Notes b c (HasStrong words x.0) → Following a c words (next + 1)
 following_more a b c words next x f lt read n =
     let there : Contains b.found.items x = subst (λ (z : Address). Contains b.found.items z) (sym read) (Contains-get_or b.found.items next x lt) in
     let longer : length c.found.items ≡ length b.found.items + length n.more.0 = ap length n.more.1 ∙ length-append b.found.items n.more.0 in
@@ -209,13 +237,16 @@ following_more a b c words next x f lt read n =
       ];
       within = omega (arith, longer);
       traced = λ i at to low is l h.
-          let same : get_or c.found.items i (record { 0 = 0 }) ≡ get_or b.found.items i (record { 0 = 0 }) = ap (λ (xs : List Address). get_or xs i (record { 0 = 0 })) n.more.1 ∙ get_or_append_left b.found.items n.more.0 (record { 0 = 0 }) i (omega arith) in
+          let same : get_or c.found.items i (record { 0 = 0 }) ≡ get_or b.found.items i (record { 0 = 0 }) =
+          ap (λ (xs : List Address). get_or xs i (record { 0 = 0 })) n.more.1 ∙
+          get_or_append_left b.found.items n.more.0 (record { 0 = 0 }) i (omega arith) in
           let is' : (get_or b.found.items i (record { 0 = 0 })).0 ≡ at = sym (ap (λ (z : Address). z.0) same) ∙ is in
           elim (cases_lt i next) [
             | inl lt' ↦ still_in b c to n.more (f.traced i at to lt' is' l h)
             | inr ge ↦
                 let e : i ≡ next = omega arith in
-                let first : (get_or b.found.items next (record { 0 = 0 })).0 ≡ at = subst (λ (k : ℕ). (get_or b.found.items k (record { 0 = 0 })).0 ≡ at) e is' in
+                let first : (get_or b.found.items next (record { 0 = 0 })).0 ≡ at =
+                subst (λ (k : ℕ). (get_or b.found.items k (record { 0 = 0 })).0 ≡ at) e is' in
                 let it : x.0 ≡ at = ap (λ (z : Address). z.0) (read ∙ get_or_default b.found.items next x (record { 0 = 0 }) lt) ∙ first in
                 n.complete to (let g = f.base in omega (arith, g, l)) (subst (λ (k : ℕ). HasStrong words k (2 * to)) (sym it) h)
           ];
@@ -237,5 +268,6 @@ following_all a b words next f end = record {
     complete at (IsFound.field from _ found l h) =
         let i = complete from found in
         let lt : i.0 < next = omega (arith, i.1, end) in
-        let is : (get_or b.found.items i.0 (record { 0 = 0 })).0 ≡ from = ap (λ (z : Address). z.0) (get_or_default b.found.items i.0 (record { 0 = 0 }) (record { 0 = from }) i.1 ∙ i.2) in
+        let is : (get_or b.found.items i.0 (record { 0 = 0 })).0 ≡ from =
+        ap (λ (z : Address). z.0) (get_or_default b.found.items i.0 (record { 0 = 0 }) (record { 0 = from }) i.1 ∙ i.2) in
         f.traced i.0 from at lt is l h

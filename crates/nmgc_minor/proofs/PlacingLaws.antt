@@ -56,13 +56,15 @@ placing_none s words = record {
 only_one : (x m : Moved) → Contains (x ∷ []) m → x ≡ m
 only_one x m c = elim (contains_cases x [] m c) [ inl e ↦ e | inr d ↦ absurd (nothing_in m d) ]
 
-placing_one : (s new : Segments) (words : List ℕ) (maker : ℕ) (m : Move) → IsSegments s → IsSegments new → PlacesOne s new words maker m → IsPlacing s new words (moved_of m ∷ [])
+placing_one : (s new : Segments) (words : List ℕ) (maker : ℕ) (m : Move) → IsSegments s → IsSegments new → PlacesOne s new words maker m →
+    IsPlacing s new words (moved_of m ∷ [])
 placing_one s new words maker m sound after p = record {
   layout = p.allocates.layout;
   stays = λ at size o. (stays_occupied s new maker p.class m.to.0 sound after p.allocates at size o).0;
   placed = λ x c.
       let e = only_one (moved_of m) x c in
-      subst (λ (y : Moved). (size : ℕ) × IsOccupied new y.to size × ((header : Header) → HasHeaderWord words y.from header → HEADER_WORDS + header.fields ≤ size)) e
+      subst (λ (y : Moved). (size : ℕ) × IsOccupied new y.to size ×
+      ((header : Header) → HasHeaderWord words y.from header → HEADER_WORDS + header.fields ≤ size)) e
       (block_size p.class, occupies s new maker p.class m.to.0 sound after p.allocates, λ header is. (p.class_is header is).holds);
   fresh = λ x size c o.
       let e = only_one (moved_of m) x c in
@@ -131,16 +133,19 @@ rising_few : (m : Move) (xs : List Move) (to : ℕ) → AreRising (m ∷ xs) →
 rising_few m [] to r h = let low = h m (contains_head m []) in omega (arith, low)
 rising_few m (n ∷ xs) to r h = let rest = rising_few n xs to r.1 (λ x c. h x (contains_tail m (n ∷ xs) x c)) in let up = r.0 in omega (arith, rest, up)
 
-pub few_moves : (moves : List Move) (from count : ℕ) → AreRising moves → ((m : Move) → Contains moves m → (from ≤ m.from.0) × (m.from.0 < from + count)) → length moves ≤ count
+pub few_moves : (moves : List Move) (from count : ℕ) → AreRising moves →
+    ((m : Move) → Contains moves m → (from ≤ m.from.0) × (m.from.0 < from + count)) → length moves ≤ count
 few_moves [] from count r h = omega arith
-few_moves (m ∷ moves) from count r h = let all = rising_few m moves (from + count) r (λ x c. (h x c).1) in let low = (h m (contains_head m moves)).0 in omega (arith, all, low)
+few_moves (m ∷ moves) from count r h = let all = rising_few m moves (from + count) r (λ x c. (h x c).1) in
+    let low = (h m (contains_head m moves)).0 in omega (arith, all, low)
 
 -- no placing leaves the allocation state
 stands_none : (s : Segments) (words : List ℕ) → StandsAfter s s words []
 stands_none s words names old long h = (old, refl, h)
 
 -- one placing
-stands_one : (s new : Segments) (words : List ℕ) (maker : ℕ) (m : Move) → IsSegments s → IsSegments new → PlacesOne s new words maker m → StandsAfter s new words (m ∷ [])
+stands_one : (s new : Segments) (words : List ℕ) (maker : ℕ) (m : Move) → IsSegments s → IsSegments new → PlacesOne s new words maker m →
+    StandsAfter s new words (m ∷ [])
 stands_one s new words maker m sound after p names old long h =
     let at = m.to.0 + 1 in
     let o = occupies s new maker p.class m.to.0 sound after p.allocates in
@@ -152,10 +157,13 @@ stands_one s new words maker m sound after p names old long h =
     let writes : Writes names (set names (m.to.0 + 1) (name_word m.name)) m.to.0 p.class m.name = record {
       length = length-set names (m.to.0 + 1) (name_word m.name);
       second = get_or-set_same names (m.to.0 + 1) (name_word m.name) 0 inside;
-      others = λ i out. get_or-set_other names (m.to.0 + 1) i (name_word m.name) 0 (λ e. elim out [ inl a ↦ omega (arith, a, e) | inr a ↦ omega (arith, a, e, four) ]);
+      others = λ i out. get_or-set_other names (m.to.0 + 1) i (name_word m.name) 0 (λ e.
+          elim out [ inl a ↦ omega (arith, a, e) | inr a ↦ omega (arith, a, e, four) ]);
     } in
-    let placed = placed_stands s new names (set names (m.to.0 + 1) (name_word m.name)) old maker p.class m.to.0 m.name p.valid sound after h p.allocates writes in
-    let step = subst (λ (k : ℕ). (step : Places s.layout old placed.0 k p.class m.name) × (m.to.0 ≡ block_place s.layout step.number p.class step.block)) (sym p.made) (placed.1, placed.2) in
+    let placed = placed_stands s new names (set names (m.to.0 + 1) (name_word m.name)) old maker p.class m.to.0 m.name p.valid sound after h
+    p.allocates writes in
+    let step = subst (λ (k : ℕ). (step : Places s.layout old placed.0 k p.class m.name) ×
+    (m.to.0 ≡ block_place s.layout step.number p.class step.block)) (sym p.made) (placed.1, placed.2) in
     (placed.0, (placed.0, p.class, step.0, p.class_is, step.1, refl), placed.3)
 
 pub names_length : (moves : List Move) (names : List ℕ) → length (with_names names moves) ≡ length names
@@ -166,19 +174,24 @@ names_then : (xs ys : List Move) (names : List ℕ) → with_names names (xs ++ 
 names_then [] ys names = refl
 names_then (m ∷ xs) ys names = names_then xs ys (set names (m.to.0 + 1) (name_word m.name))
 
-each_then : (layout : Layout) (words : List ℕ) (xs ys : List Move) (a b c : AllocState) → PlacesEach layout words a xs b → PlacesEach layout words b ys c → PlacesEach layout words a (xs ++ ys) c
+each_then : (layout : Layout) (words : List ℕ) (xs ys : List Move) (a b c : AllocState) → PlacesEach layout words a xs b →
+    PlacesEach layout words b ys c → PlacesEach layout words a (xs ++ ys) c
 each_then layout words [] ys a b c f g = subst (λ (x : AllocState). PlacesEach layout words x ys c) (sym f) g
 each_then layout words (m ∷ xs) ys a b c f g = (f.0, f.1, f.2, f.3, f.4, each_then layout words xs ys f.0 b c f.5 g)
 
 -- one after the other
-stands_then : (a b c : Segments) (words : List ℕ) (xs ys : List Move) → b.layout ≡ a.layout → StandsAfter a b words xs → StandsAfter b c words ys → StandsAfter a c words (xs ++ ys)
+stands_then : (a b c : Segments) (words : List ℕ) (xs ys : List Move) → b.layout ≡ a.layout → StandsAfter a b words xs → StandsAfter b c words ys →
+    StandsAfter a c words (xs ++ ys)
 stands_then a b c words xs ys same f g names old long h =
     let first = f names old long h in
     let ends : nursery_place b.layout 0 ≡ nursery_place a.layout 0 = ap (λ (l : Layout). nursery_place l 0) same in
     let size = names_length xs names in
     let second = g (with_names names xs) first.0 (omega (arith, ends, size, long)) first.2 in
-    let each = subst (λ (l : Layout). PlacesEach l words first.0 ys second.0) same second.1 in
-    (second.0, each_then a.layout words xs ys old first.0 second.0 first.1 each, subst (λ (n : List ℕ). StandsFor c n second.0) (sym (names_then xs ys names)) second.2)
+    let each = subst (λ (l : Layout). PlacesEach l words first.0 ys second.0) same second.1 in (
+      second.0,
+      each_then a.layout words xs ys old first.0 second.0 first.1 each,
+      subst (λ (n : List ℕ). StandsFor c n second.0) (sym (names_then xs ys names)) second.2,
+    )
 
 no_move : (m : Move) → Contains [] m → ⊥
 no_move m c = omega (arith, c.1)
@@ -197,7 +210,8 @@ range_none base words s t from = record {
   rising = tt;
 }
 
-pub range_skip : (base : ℕ) (words : List ℕ) (s s' : Segments) (t t' : List ℕ) (added : List Move) (from at : ℕ) → base ≤ from → from ≤ at → slice_index t' (at - base) ≡ 0 → PlacesRange base words s s' t t' added from at → PlacesRange base words s s' t t' added from (at + 1)
+pub range_skip : (base : ℕ) (words : List ℕ) (s s' : Segments) (t t' : List ℕ) (added : List Move) (from at : ℕ) → base ≤ from → from ≤ at →
+    slice_index t' (at - base) ≡ 0 → PlacesRange base words s s' t t' added from at → PlacesRange base words s s' t t' added from (at + 1)
 range_skip base words s s' t t' added from at low le free r =
     let same = r.outside at (omega arith) (inr (omega arith)) in
     record {
@@ -219,14 +233,17 @@ range_skip base words s s' t t' added from at low le free r =
       rising = r.rising;
     }
 
-pub range_more : (base : ℕ) (words : List ℕ) (s cur next : Segments) (t t' : List ℕ) (added : List Move) (from at maker : ℕ) (m : Move) → base ≤ from → from ≤ at → at - base < length t' → IsSegments cur → IsSegments next → slice_index t' (at - base) ≢ 0 → m.from.0 ≡ at → PlacesOne cur next words maker m
+pub range_more : (base : ℕ) (words : List ℕ) (s cur next : Segments) (t t' : List ℕ) (added : List Move) (from at maker : ℕ) (m : Move) →
+    base ≤ from → from ≤ at → at - base < length t' → IsSegments cur → IsSegments next → slice_index t' (at - base) ≢ 0 → m.from.0 ≡ at →
+    PlacesOne cur next words maker m
     → PlacesRange base words s cur t t' added from at → PlacesRange base words s next t (set t' (at - base) m.to.0) (added ++ m ∷ []) from (at + 1)
 range_more base words s cur next t t' added from at maker m low le in' sound after used here p r =
     let same = r.outside at (omega arith) (inr (omega arith)) in
     let mark : IsMarked base t at = λ e. used (same ∙ e) in
     let moved = placing_then s cur next words (map moved_of added) (moved_of m ∷ []) r.placing (placing_one cur next words maker m sound after p) in
     let all : map moved_of (added ++ m ∷ []) ≡ map moved_of added ++ moved_of m ∷ [] = map-append moved_of added (m ∷ []) in
-    let other : (k : ℕ) → base ≤ k → k ≢ at → slice_index (set t' (at - base) m.to.0) (k - base) ≡ slice_index t' (k - base) = λ k l ne. get_or-set_other t' (at - base) (k - base) m.to.0 0 (λ e. ne (omega (arith, e))) in
+    let other : (k : ℕ) → base ≤ k → k ≢ at → slice_index (set t' (at - base) m.to.0) (k - base) ≡ slice_index t' (k - base) = λ k l ne.
+    get_or-set_other t' (at - base) (k - base) m.to.0 0 (λ e. ne (omega (arith, e))) in
     record {
       placing = subst (λ (xs : List Moved). IsPlacing s next words xs) (sym all) moved;
       size = length-set t' (at - base) m.to.0 ∙ r.size;
@@ -238,10 +255,20 @@ range_more base words s cur next t t' added from at maker m low le in' sound aft
         | inr ge ↦ let e : k ≡ at = omega arith in absurd (u (subst (λ (n : ℕ). IsMarked base t n) (sym e) mark))
       ];
       entries = λ k l h u. elim (cases_lt k at) [
-        | inl lt ↦ let x = r.entries k l lt u in (x.0, Contains-append_left added (m ∷ []) x.0 x.1, x.2, other k (omega arith) (λ e. omega (arith, e, lt)) ∙ x.3)
+        | inl lt ↦ let x = r.entries k l lt u in (
+          x.0,
+          Contains-append_left added (m ∷ []) x.0 x.1,
+          x.2,
+          other k (omega arith) (λ e. omega (arith, e, lt)) ∙ x.3,
+        )
         | inr ge ↦
-            let e : k ≡ at = omega arith in
-            (m, Contains-push added m, here ∙ sym e, ap (λ (n : ℕ). slice_index (set t' (at - base) m.to.0) (n - base)) e ∙ get_or-set_same t' (at - base) m.to.0 0 in')
+            let e : k ≡ at = omega arith in (
+              m,
+              Contains-push added m,
+              here ∙ sym e,
+              ap (λ (n : ℕ). slice_index (set t' (at - base) m.to.0) (n - base)) e ∙
+                  get_or-set_same t' (at - base) m.to.0 0 in',
+            )
       ];
       marked = λ x c. elim (Contains-push_cases added m x c) [
         | inl d ↦ let h = r.marked x d in (h.0, omega (arith, h.1), h.2)
@@ -267,7 +294,8 @@ range_more base words s cur next t t' added from at maker m low le in' sound aft
       rising = rising_push added m r.rising (λ x c. let h = r.marked x c in omega (arith, h.1, here));
     }
 
-pub reaches_none : (layout : Layout) (base : ℕ) (words t : List ℕ) (s : Segments) (before from to : ℕ) → from ≤ to → KeepsReserve layout s.segments before → Reaches layout base words t s before from from to
+pub reaches_none : (layout : Layout) (base : ℕ) (words t : List ℕ) (s : Segments) (before from to : ℕ) → from ≤ to →
+    KeepsReserve layout s.segments before → Reaches layout base words t s before from from to
 reaches_none layout base words t s before from to le r = record {
   reach = from;
   above = omega arith;
@@ -276,7 +304,8 @@ reaches_none layout base words t s before from to le r = record {
   reserve = more_placed layout s.segments before (before + (from - from)) (omega arith) r;
 }
 
-pub reaches_skip : (layout : Layout) (base : ℕ) (words t : List ℕ) (s : Segments) (before from at to : ℕ) → Reaches layout base words t s before from at to → Reaches layout base words t s before from (at + 1) to
+pub reaches_skip : (layout : Layout) (base : ℕ) (words t : List ℕ) (s : Segments) (before from at to : ℕ) →
+    Reaches layout base words t s before from at to → Reaches layout base words t s before from (at + 1) to
 reaches_skip layout base words t s before from at to r = record {
   reach = r.reach;
   above = r.above;
@@ -285,7 +314,9 @@ reaches_skip layout base words t s before from at to r = record {
   reserve = r.reserve;
 }
 
-pub reaches_more : (layout : Layout) (base : ℕ) (words t : List ℕ) (cur next : Segments) (before from at to maker : ℕ) (m : Move) → IsSegments cur → cur.layout ≡ layout → maker < layout.mutators → from ≤ at → at < to → CanPlaceAll layout maker words t base from to → IsMarked base t at → m.from.0 ≡ at → PlacesOne cur next words maker m
+pub reaches_more : (layout : Layout) (base : ℕ) (words t : List ℕ) (cur next : Segments) (before from at to maker : ℕ) (m : Move) → IsSegments cur →
+    cur.layout ≡ layout → maker < layout.mutators → from ≤ at → at < to → CanPlaceAll layout maker words t base from to → IsMarked base t at →
+    m.from.0 ≡ at → PlacesOne cur next words maker m
     → Reaches layout base words t cur before from at to → Reaches layout base words t next before from (at + 1) to
 reaches_more layout base words t cur next before from at to maker m sound same low le lt can mark here p r =
     let o = can.each at le lt mark in
@@ -297,7 +328,8 @@ reaches_more layout base words t cur next before from at to maker m sound same l
     let words_ok : IsSegmentSize cur.layout.words = sound.layout.words in
     let counted = (class_counted cur.layout p.class words_ok).1 p.fits in
     let mutator : maker < cur.layout.mutators = subst (λ (l : Layout). maker < l.mutators) (sym same) low in
-    let kept = placing_keeps cur next maker p.class m.to.0 (before + (r.reach - from)) size sound p.allocates mutator counted (omega arith) fits (p.class_is header there) (subst (λ (l : Layout). KeepsReserve l cur.segments (before + (r.reach - from))) (sym same) r.reserve) in
+    let kept = placing_keeps cur next maker p.class m.to.0 (before + (r.reach - from)) size sound p.allocates mutator counted (omega arith) fits
+    (p.class_is header there) (subst (λ (l : Layout). KeepsReserve l cur.segments (before + (r.reach - from))) (sym same) r.reserve) in
     let kept' = subst (λ (l : Layout). KeepsReserve l next.segments (before + (r.reach - from) + size)) same kept in
     let reached = r.next at (omega arith) lt mark in
     let above = r.above in
@@ -310,18 +342,24 @@ reaches_more layout base words t cur next before from at to maker m sound same l
     }
 
 -- what was placed so far leaves room for any class
-pub reaches_room : (layout : Layout) (base : ℕ) (words t : List ℕ) (cur : Segments) (maker from at to : ℕ) → IsSegments cur → cur.layout ≡ layout → maker < layout.mutators → from ≤ to → to ≤ from + layout.nursery → Reaches layout base words t cur (maker * layout.nursery) from at to → (class : ℕ) → IsClass cur.layout class → HasRoom cur maker class
+pub reaches_room : (layout : Layout) (base : ℕ) (words t : List ℕ) (cur : Segments) (maker from at to : ℕ) → IsSegments cur → cur.layout ≡ layout →
+    maker < layout.mutators → from ≤ to → to ≤ from + layout.nursery → Reaches layout base words t cur (maker * layout.nursery) from at to →
+    (class : ℕ) → IsClass cur.layout class → HasRoom cur maker class
 reaches_room layout base words t cur maker from at to sound same low le most r class fits =
     let counted = (class_counted cur.layout class sound.layout.words).1 fits in
     let mutator : maker < cur.layout.mutators = subst (λ (l : Layout). maker < l.mutators) (sym same) low in
-    let up : (maker + 1) * layout.nursery ≤ layout.mutators * layout.nursery = mul-le-mul_right layout.nursery (let e : maker + 1 ≤ layout.mutators = omega arith in e) in
+    let up : (maker + 1) * layout.nursery ≤ layout.mutators * layout.nursery =
+    mul-le-mul_right layout.nursery (let e : maker + 1 ≤ layout.mutators = omega arith in e) in
     let flat : (maker + 1) * layout.nursery ≡ maker * layout.nursery + layout.nursery = omega arith in
     let within = r.within in
     let few : maker * layout.nursery + (r.reach - from) ≤ layout.mutators * layout.nursery = omega (arith, up, flat, within, most) in
     let few' = subst (λ (l : Layout). maker * layout.nursery + (r.reach - from) ≤ l.mutators * l.nursery) (sym same) few in
-    reserve_has_room cur maker class (maker * layout.nursery + (r.reach - from)) sound mutator counted few' (subst (λ (l : Layout). KeepsReserve l cur.segments (maker * layout.nursery + (r.reach - from))) (sym same) r.reserve)
+    reserve_has_room cur maker class (maker * layout.nursery + (r.reach - from)) sound mutator counted few' (subst (λ (l : Layout).
+    KeepsReserve l cur.segments (maker * layout.nursery + (r.reach - from))) (sym same) r.reserve)
 
-pub reaches_all : (layout : Layout) (base : ℕ) (words t : List ℕ) (cur : Segments) (maker from at to : ℕ) → cur.layout ≡ layout → to ≤ from + layout.nursery → Reaches layout base words t cur (maker * layout.nursery) from at to → KeepsReserve cur.layout cur.segments ((maker + 1) * layout.nursery)
+pub reaches_all : (layout : Layout) (base : ℕ) (words t : List ℕ) (cur : Segments) (maker from at to : ℕ) → cur.layout ≡ layout →
+    to ≤ from + layout.nursery → Reaches layout base words t cur (maker * layout.nursery) from at to →
+    KeepsReserve cur.layout cur.segments ((maker + 1) * layout.nursery)
 reaches_all layout base words t cur maker from at to same most r =
     let flat : (maker + 1) * layout.nursery ≡ maker * layout.nursery + layout.nursery = omega arith in
     let within = r.within in
@@ -329,7 +367,9 @@ reaches_all layout base words t cur maker from at to same most r =
     (more_placed layout cur.segments (maker * layout.nursery + (r.reach - from)) ((maker + 1) * layout.nursery) (omega (arith, flat, within, most)) r.reserve)
 
 -- a part without found objects
-pub range_gap : (base : ℕ) (words : List ℕ) (s s' : Segments) (t t' : List ℕ) (added : List Move) (from at to : ℕ) → base ≤ from → from ≤ at → at ≤ to → ((k : ℕ) → at ≤ k → k < to → slice_index t (k - base) ≡ 0) → PlacesRange base words s s' t t' added from at → PlacesRange base words s s' t t' added from to
+pub range_gap : (base : ℕ) (words : List ℕ) (s s' : Segments) (t t' : List ℕ) (added : List Move) (from at to : ℕ) → base ≤ from → from ≤ at →
+    at ≤ to → ((k : ℕ) → at ≤ k → k < to → slice_index t (k - base) ≡ 0) → PlacesRange base words s s' t t' added from at →
+    PlacesRange base words s s' t t' added from to
 range_gap base words s s' t t' added from at to low le up gap r = record {
   placing = r.placing;
   size = r.size;
@@ -350,13 +390,15 @@ range_gap base words s s' t t' added from at to low le up gap r = record {
 }
 
 -- one part after the other
-pub range_then : (base : ℕ) (words : List ℕ) (a b c : Segments) (t u v : List ℕ) (xs ys : List Move) (from mid to : ℕ) → base ≤ from → from ≤ mid → mid ≤ to → PlacesRange base words a b t u xs from mid → PlacesRange base words b c u v ys mid to → PlacesRange base words a c t v (xs ++ ys) from to
+pub range_then : (base : ℕ) (words : List ℕ) (a b c : Segments) (t u v : List ℕ) (xs ys : List Move) (from mid to : ℕ) → base ≤ from → from ≤ mid →
+    mid ≤ to → PlacesRange base words a b t u xs from mid → PlacesRange base words b c u v ys mid to → PlacesRange base words a c t v (xs ++ ys) from to
 range_then base words a b c t u v xs ys from mid to low le up f g =
     let all : map moved_of (xs ++ ys) ≡ map moved_of xs ++ map moved_of ys = map-append moved_of xs ys in
     let early : (k : ℕ) → base ≤ k → k < mid → slice_index v (k - base) ≡ slice_index u (k - base) = λ k l h. g.outside k l (inl h) in
     let late : (k : ℕ) → mid ≤ k → slice_index u (k - base) ≡ slice_index t (k - base) = λ k l. f.outside k (omega arith) (inr l) in
     record {
-      placing = subst (λ (zs : List Moved). IsPlacing a c words zs) (sym all) (placing_then a b c words (map moved_of xs) (map moved_of ys) f.placing g.placing);
+      placing = subst (λ (zs : List Moved).
+          IsPlacing a c words zs) (sym all) (placing_then a b c words (map moved_of xs) (map moved_of ys) f.placing g.placing);
       size = g.size ∙ f.size;
       outside = λ k l o. elim o [
         | inl h ↦ early k l (omega arith) ∙ f.outside k l (inl h)
@@ -390,7 +432,9 @@ range_then base words a b c t u v xs ys from mid to low le up f g =
     }
 
 -- what can be placed in a part whose entries are as they were
-pub still_can_place : (layout : Layout) (maker : ℕ) (words t u : List ℕ) (base from to : ℕ) → base ≤ from → ((k : ℕ) → from ≤ k → slice_index u (k - base) ≡ slice_index t (k - base)) → CanPlaceAll layout maker words t base from to → CanPlaceAll layout maker words u base from to
+pub still_can_place : (layout : Layout) (maker : ℕ) (words t u : List ℕ) (base from to : ℕ) → base ≤ from →
+    ((k : ℕ) → from ≤ k → slice_index u (k - base) ≡ slice_index t (k - base)) → CanPlaceAll layout maker words t base from to →
+    CanPlaceAll layout maker words u base from to
 still_can_place layout maker words t u base from to low same can = record {
   each = λ at l h m. can.each at l h (λ e. m (same at l ∙ e));
   within = λ at header l h m is. can.within at header l h (λ e. m (same at l ∙ e)) is;

@@ -47,7 +47,8 @@ abbrev IsMet : World → List World → World → Name → Type 0
 IsMet began later w n = IsTracked w (began ∷ later) n × IsReached w (IsFirstPromoted began w) n
 
 -- a part of a weak pointer, in its slot
-part_slot : (weak : Name) (parts : Parts) (i : ℕ) → i < WEAK_FIELDS → (v : Value) × (slice_get (slots_of (Weak (Some parts))) i ≡ Some (holds v)) × ((n : Name) → v ≡ value.Ref n → IsOfWeak weak parts n)
+part_slot : (weak : Name) (parts : Parts) (i : ℕ) → i < WEAK_FIELDS → (v : Value) × (slice_get (slots_of (Weak (Some parts))) i ≡ Some (holds v)) ×
+    ((n : Name) → v ≡ value.Ref n → IsOfWeak weak parts n)
 part_slot weak parts zero l = (parts.key, refl, λ n e. inr (inl e))
 part_slot weak parts (suc zero) l = (parts.value, refl, λ n e. inr (inr (inl e)))
 part_slot weak parts (suc (suc zero)) l = (parts.finaliser, refl, λ n e. inr (inr (inr e)))
@@ -56,7 +57,8 @@ part_slot weak parts (suc (suc (suc i))) l = absurd (omega arith)
 not_weak : (node : Node) (parts : Parts) → IsShared node → node ≡ Weak (Some parts) → ⊥
 not_weak node parts h e = let k : IsShared (Weak (Some parts)) = subst (λ (x : Node). IsShared x) e h in k
 
-module _ (layout : Layout) (base : ℕ) (later : List World) (began : World) (places : List Place) (w : World) (words : List ℕ) (inputs : Inputs) (serials : List ℕ)
+module _ (layout : Layout) (base : ℕ) (later : List World) (began : World) (places : List Place) (w : World) (words : List ℕ) (inputs : Inputs)
+    (serials : List ℕ)
     (differ : (a b : Header) → IsHeader a → IsHeader b → header_word a ≡ header_word b → a ≡ b)
     (world : IsWorld w)
     (spoken : StillSpoken base later (began ∷ later) places w)
@@ -75,7 +77,8 @@ module _ (layout : Layout) (base : ℕ) (later : List World) (began : World) (pl
   ]
 
   -- a word that points to a young place
-  pointed : (T : Name → Type 0) (word at : ℕ) → word ≡ 2 * at → base ≤ at → (v : Value) → Means (Contains places) word v → ((n : Name) → v ≡ value.Ref n → Contains places (record { at = at; name = n }) → T n) → (n : Name) × Contains places (record { at = at; name = n }) × T n
+  pointed : (T : Name → Type 0) (word at : ℕ) → word ≡ 2 * at → base ≤ at → (v : Value) → Means (Contains places) word v →
+      ((n : Name) → v ≡ value.Ref n → Contains places (record { at = at; name = n }) → T n) → (n : Name) × Contains places (record { at = at; name = n }) × T n
   pointed T word at e l value.Nil f t = absurd (omega (arith, e, f))
   pointed T word at e l (value.Number n) f t = absurd (omega (arith, e, f))
   pointed T word at e l (value.Ref n) f t =
@@ -87,7 +90,8 @@ module _ (layout : Layout) (base : ℕ) (later : List World) (began : World) (pl
   root_met n h = (root_tracked layout base later (began ∷ later) places w words inputs differ world spoken emptied r m n h, IsReached.start n (inl h))
 
   -- no part of a weak pointer that isn't young is young
-  part_is_old : (name n : Name) (parts : Parts) (at : ℕ) → IsSome (node_of began name) → IsAlive w name parts → Contains (parts.key ∷ parts.value ∷ parts.finaliser ∷ []) (value.Ref n) → Contains places (record { at = at; name = n }) → base ≤ at → ⊥
+  part_is_old : (name n : Name) (parts : Parts) (at : ℕ) → IsSome (node_of began name) → IsAlive w name parts →
+      Contains (parts.key ∷ parts.value ∷ parts.finaliser ∷ []) (value.Ref n) → Contains places (record { at = at; name = n }) → base ≤ at → ⊥
   part_is_old name n parts at old alive c d l =
       let before = round.parts name parts old alive in
       let past = round.past began (contains_head began later) in
@@ -96,7 +100,9 @@ module _ (layout : Layout) (base : ℕ) (later : List World) (began : World) (pl
       not_both (node_of began n) known (none_before (record { at = at; name = n }) d l)
 
   -- what a field of an object that isn't young points to, where it is young
-  slot_met : (name : Name) (node : Node) (word at : ℕ) (slot : Slot) → word ≡ 2 * at → base ≤ at → IsSome (node_of began name) → IsTracked w (began ∷ later) name → node_of w name ≡ Some node → Contains (slots_of node) slot → slot ≢ untold → Fills (Contains places) word slot → (n : Name) × Contains places (record { at = at; name = n }) × IsMet began later w n
+  slot_met : (name : Name) (node : Node) (word at : ℕ) (slot : Slot) → word ≡ 2 * at → base ≤ at → IsSome (node_of began name) →
+      IsTracked w (began ∷ later) name → node_of w name ≡ Some node → Contains (slots_of node) slot → slot ≢ untold →
+      Fills (Contains places) word slot → (n : Name) × Contains places (record { at = at; name = n }) × IsMet began later w n
   slot_met name node word at (holds v) e l old t is c told f = pointed (IsMet began later w) word at e l v f (λ n s d.
       elim (slot_held node (value.Ref n) (subst (λ (x : Value). Contains (slots_of node) (holds x)) s c)) [
         | inl strong ↦
@@ -110,10 +116,20 @@ module _ (layout : Layout) (base : ℕ) (later : List World) (began : World) (pl
   started_met : (at : ℕ) → base ≤ at → IsStart inputs words (2 * at) → (n : Name) × Contains places (record { at = at; name = n }) × IsMet began later w n
   started_met at l (IsStart.register c) =
       let h = m.held (2 * at) c in
-      pointed (IsMet began later w) (2 * at) at refl l h.1 h.3 (λ n s d. root_met n (inr (h.0, Contains-append_left (state_of w h.0).registers (state_of w h.0).queue (value.Ref n) (subst (λ (x : Value). Contains (state_of w h.0).registers x) s h.2))))
+      pointed (IsMet began later w) (2 * at) at refl l h.1 h.3 (λ n s d.
+      root_met n (inr (
+        h.0,
+        Contains-append_left (state_of w h.0).registers (state_of w h.0).queue (value.Ref n) (subst (λ (x : Value).
+            Contains (state_of w h.0).registers x) s h.2),
+      )))
   started_met at l (IsStart.queued queue c k) =
       let h = m.waiting queue (2 * at) c k in
-      pointed (IsMet began later w) (2 * at) at refl l h.1 h.3 (λ n s d. root_met n (inr (h.0, Contains-append_right (state_of w h.0).registers (state_of w h.0).queue (value.Ref n) (subst (λ (x : Value). Contains (state_of w h.0).queue x) s h.2))))
+      pointed (IsMet began later w) (2 * at) at refl l h.1 h.3 (λ n s d.
+      root_met n (inr (
+        h.0,
+        Contains-append_right (state_of w h.0).registers (state_of w h.0).queue (value.Ref n) (subst (λ (x : Value).
+            Contains (state_of w h.0).queue x) s h.2),
+      )))
   started_met at l (IsStart.shared i lt e) =
       let t = shared_tracked layout base later (began ∷ later) places w words inputs differ world spoken emptied r m in
       let p = r.tracked shared_name w.shared t refl in
@@ -123,7 +139,8 @@ module _ (layout : Layout) (base : ℕ) (later : List World) (began : World) (pl
       let in' = contains_read (slots_of w.shared) i (holds s.0) s.1 in
       pointed (IsMet began later w) (slice_index words (SHARED_PLACE + HEADER_WORDS + i)) at e l s.0 f (λ n v d.
       elim (slot_held w.shared (value.Ref n) (subst (λ (x : Value). Contains (slots_of w.shared) (holds x)) v in')) [
-        | inl strong ↦ let refers : RefersTo w shared_name n = (w.shared, refl, strong) in (IsReached.field shared_name n t refers, IsReached.field shared_name n (IsReached.start shared_name (inl (inl refl))) refers)
+        | inl strong ↦ let refers : RefersTo w shared_name n = (w.shared, refl, strong) in
+            (IsReached.field shared_name n t refers, IsReached.field shared_name n (IsReached.start shared_name (inl (inl refl))) refers)
         | inr p ↦ absurd (not_weak w.shared p.0 world.shared p.1)
       ])
   started_met at l (IsStart.recorded from c e) =
@@ -131,7 +148,8 @@ module _ (layout : Layout) (base : ℕ) (later : List World) (began : World) (pl
       let p = h.0 in
       let o = stands layout (began ∷ later) NoNode places w words differ world r p.name h.1 p.at h.5 h.6 h.4 in
       let f = o.fields h.2 h.3 h.7 in
-      slot_met p.name h.1 (slice_index words from) at h.3 e l (known_before p h.4 h.10) h.5 h.6 (contains_read (slots_of h.1) h.2 h.3 h.7) h.8 (subst (λ (k : ℕ). Fills (Contains places) (slice_index words k) h.3) (sym h.9) f)
+      slot_met p.name h.1 (slice_index words from) at h.3 e l (known_before p h.4 h.10) h.5 h.6 (contains_read (slots_of h.1) h.2 h.3 h.7) h.8
+      (subst (λ (k : ℕ). Fills (Contains places) (slice_index words k) h.3) (sym h.9) f)
   started_met at l (IsStart.weak from c alive e) =
       let h = weak_alive layout base later (began ∷ later) places w words inputs differ world spoken emptied r m from c alive in
       let s : from ≡ at = omega (arith, e) in
@@ -147,8 +165,10 @@ module _ (layout : Layout) (base : ℕ) (later : List World) (began : World) (pl
       let o = stands layout (began ∷ later) NoNode places w words differ world r h.0 (Weak (Some h.1)) from t h.3 h.2 in
       let s = part_slot h.0 h.1 i lt in
       pointed (IsMet began later w) (slice_index words (from + HEADER_WORDS + i)) at e l s.0 (o.fields i (holds s.0) s.1) (λ n v d.
-      let of = s.2 n v in
-      (IsReached.start n (w, contains_head w (began ∷ later), IsReached.start n (inr (h.0, h.1, h.3, of))), IsReached.start n (inr (inr (h.0, h.1, young, h.3, of)))))
+      let of = s.2 n v in (
+        IsReached.start n (w, contains_head w (began ∷ later), IsReached.start n (inr (h.0, h.1, h.3, of))),
+        IsReached.start n (inr (inr (h.0, h.1, young, h.3, of))),
+      ))
 
   found_met : (at : ℕ) → IsFound base words (IsStart inputs words) at → (n : Name) × Contains places (record { at = at; name = n }) × IsMet began later w n
   found_met at (IsFound.start _ l s) = started_met at l s
@@ -163,20 +183,27 @@ module _ (layout : Layout) (base : ℕ) (later : List World) (began : World) (pl
   found_young at (IsFound.field from _ f l h) = l
 
   -- what is found is promoted
-  pub found_promoted : (at : ℕ) → IsFound base words (IsStart inputs words) at → (n : Name) × Contains places (record { at = at; name = n }) × IsPromoted began w n
+  pub found_promoted : (at : ℕ) → IsFound base words (IsStart inputs words) at → (n : Name) × Contains places (record { at = at; name = n }) ×
+      IsPromoted began w n
   found_promoted at f =
       let h = found_met at f in
       let l = found_young at f in
       (h.0, h.1, ((none_before (record { at = at; name = h.0 }) h.1 l, (r.named (record { at = at; name = h.0 }) h.1).known), h.2.1))
 
   -- a young name that an object holds which isn't young
-  held_found : (holder n : Name) → IsSome (node_of began holder) → node_of began n ≡ None → RefersTo w holder n → IsTracked w (began ∷ later) n × ((to : ℕ) → Contains places (record { at = to; name = n }) → base ≤ to → IsFound base words (IsStart inputs words) to)
+  held_found : (holder n : Name) → IsSome (node_of began holder) → node_of began n ≡ None → RefersTo w holder n → IsTracked w (began ∷ later) n ×
+      ((to : ℕ) → Contains places (record { at = to; name = n }) → base ≤ to → IsFound base words (IsStart inputs words) to)
   held_found holder n old none refers =
       let t = round.changed holder n old none refers in
-      let p = r.tracked holder refers.0 t refers.1 in
-      (IsReached.field holder n t refers, λ to d l. followed layout base later (began ∷ later) places w words inputs differ world spoken emptied r m holder n p.at to t p.there (λ up. absurd (not_both (node_of began holder) old (none_before (record { at = p.at; name = holder }) p.there up))) refers d l)
+      let p = r.tracked holder refers.0 t refers.1 in (
+        IsReached.field holder n t refers,
+        λ to d l. followed layout base later (began ∷
+            later) places w words inputs differ world spoken emptied r m holder n p.at to t p.there (λ up.
+            absurd (not_both (node_of began holder) old (none_before (record { at = p.at; name = holder }) p.there up))) refers d l,
+      )
 
-  met_found : (n : Name) → IsReached w (IsFirstPromoted began w) n → node_of began n ≡ None → IsTracked w (began ∷ later) n × ((to : ℕ) → Contains places (record { at = to; name = n }) → base ≤ to → IsFound base words (IsStart inputs words) to)
+  met_found : (n : Name) → IsReached w (IsFirstPromoted began w) n → node_of began n ≡ None → IsTracked w (began ∷ later) n ×
+      ((to : ℕ) → Contains places (record { at = to; name = n }) → base ≤ to → IsFound base words (IsStart inputs words) to)
   met_found n (IsReached.start _ (inl root)) none = (
     root_tracked layout base later (began ∷ later) places w words inputs differ world spoken emptied r m n root,
     λ to d l. root_found layout base later (began ∷ later) places w words inputs differ world spoken emptied r m n to (inl root) d l,
@@ -190,12 +217,16 @@ module _ (layout : Layout) (base : ℕ) (later : List World) (began : World) (pl
     | inl old ↦ held_found name n old none refers
     | inr new ↦
         let a = met_found name h new in
-        let p = r.tracked name refers.0 a.0 refers.1 in
-        (IsReached.field name n a.0 refers, λ to d l. followed layout base later (began ∷ later) places w words inputs differ world spoken emptied r m name n p.at to a.0 p.there (λ up. a.1 p.at p.there up) refers d l)
+        let p = r.tracked name refers.0 a.0 refers.1 in (
+          IsReached.field name n a.0 refers,
+          λ to d l. followed layout base later (began ∷
+              later) places w words inputs differ world spoken emptied r m name n p.at to a.0 p.there (λ up. a.1 p.at p.there up) refers d l,
+        )
   ]
 
   -- what is promoted has a place, at which it is found
-  pub promoted_found : (n : Name) → IsPromoted began w n → (at : ℕ) × Contains places (record { at = at; name = n }) × IsFound base words (IsStart inputs words) at
+  pub promoted_found : (n : Name) → IsPromoted began w n → (at : ℕ) × Contains places (record { at = at; name = n }) ×
+      IsFound base words (IsStart inputs words) at
   promoted_found n p =
       let a = met_found n p.1 p.0.0 in
       let node = is_some_of (node_of w n) p.0.1 in

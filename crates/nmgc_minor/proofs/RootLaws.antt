@@ -18,7 +18,8 @@ use Rattle.nmgc_blocks.specs.Remembers.{Remembers}
 use Rattle.nmgc_minor.specs.Inputs.{Inputs, HasInputs}
 
 -- a word of a list that stands for values means one of them, and each of them has its word
-list_has : (P : Place → Type 0) (words : List ℕ) (values : List Value) (word : ℕ) → ListMeans P words values → Contains words word → (v : Value) × Contains values v × Means P word v
+list_has : (P : Place → Type 0) (words : List ℕ) (values : List Value) (word : ℕ) → ListMeans P words values → Contains words word → (v : Value) ×
+    Contains values v × Means P word v
 list_has P [] values word m c = absurd (omega (arith, c.1))
 list_has P (w ∷ ws) [] word m c = absurd m
 list_has P (w ∷ ws) (v ∷ vs) word m c = elim (contains_cases w ws word c) [
@@ -26,7 +27,8 @@ list_has P (w ∷ ws) (v ∷ vs) word m c = elim (contains_cases w ws word c) [
   | inr d ↦ let r = list_has P ws vs word m.1 d in (r.0, contains_tail v vs r.0 r.1, r.2)
 ]
 
-list_of : (P : Place → Type 0) (words : List ℕ) (values : List Value) (v : Value) → ListMeans P words values → Contains values v → (word : ℕ) × Contains words word × Means P word v
+list_of : (P : Place → Type 0) (words : List ℕ) (values : List Value) (v : Value) → ListMeans P words values → Contains values v → (word : ℕ) ×
+    Contains words word × Means P word v
 list_of P words [] v m c = absurd (omega (arith, c.1))
 list_of P [] (x ∷ vs) v m c = absurd m
 list_of P (w ∷ ws) (x ∷ vs) v m c = elim (contains_cases x vs v c) [
@@ -34,7 +36,8 @@ list_of P (w ∷ ws) (x ∷ vs) v m c = elim (contains_cases x vs v c) [
   | inr d ↦ let r = list_of P ws vs v m.1 d in (r.0, contains_tail w ws r.0 r.1, r.2)
 ]
 
-module _ (places : List Place) (w : World) (registers : List ℕ) (queues : List (List ℕ)) (serials : List ℕ) (world : IsWorld w) (r : RepresentsRoots places w registers queues serials) where
+module _ (places : List Place) (w : World) (registers : List ℕ) (queues : List (List ℕ)) (serials : List ℕ) (world : IsWorld w)
+    (r : RepresentsRoots places w registers queues serials) where
   -- only a mutator that is there holds something
   there : (m : ℕ) → (0 < length (state_of w m).registers) → m < length w.mutators
   there m some = elim (cases_lt m (length w.mutators)) [
@@ -66,10 +69,12 @@ module _ (places : List Place) (w : World) (registers : List ℕ) (queues : List
       let v = get_or own i Nil in
       let f = r.held m lt i v (slice_get-get_or own i Nil within) in
       let at : REGISTERS * m + i ≡ c.0 = omega arith in
-      let word_is : slice_index registers (REGISTERS * m + i) ≡ word = ap (λ (n : ℕ). slice_index registers n) at ∙ get_or_default registers c.0 0 word c.1 ∙ c.2 in
+      let word_is : slice_index registers (REGISTERS * m + i) ≡ word = ap (λ (n : ℕ). slice_index registers n) at ∙
+      get_or_default registers c.0 0 word c.1 ∙ c.2 in
       (m, v, Contains-get_or own i Nil within, subst (λ (x : ℕ). Means (Contains places) x v) word_is f)
 
-  holds_all : (m : ℕ) (n : Name) → Contains (state_of w m).registers (Ref n) → (at : ℕ) × Contains registers (2 * at) × Contains places (record { at = at; name = n })
+  holds_all : (m : ℕ) (n : Name) → Contains (state_of w m).registers (Ref n) → (at : ℕ) × Contains registers (2 * at) ×
+      Contains places (record { at = at; name = n })
   holds_all m n c =
       let count = r.count in
       let lt = there m (omega (arith, c.1)) in
@@ -79,12 +84,14 @@ module _ (places : List Place) (w : World) (registers : List ℕ) (queues : List
       let within : k < length registers = omega (arith, count, size, c.1, lt) in
       (f.0, (k, within, get_or_default registers k (2 * f.0) 0 within ∙ f.1), f.2)
 
-  waiting : (queue : List ℕ) (word : ℕ) → Contains queues queue → Contains queue word → (m : ℕ) × (v : Value) × Contains (state_of w m).queue v × Means (Contains places) word v
+  waiting : (queue : List ℕ) (word : ℕ) → Contains queues queue → Contains queue word → (m : ℕ) × (v : Value) × Contains (state_of w m).queue v ×
+      Means (Contains places) word v
   waiting queue word c d =
       let h = list_has (Contains places) queue (state_of w c.0).queue word (r.queued c.0 queue (slice_get-get_or queues c.0 queue c.1 ∙ ap Some c.2)) d in
       (c.0, h.0, h.1, h.2)
 
-  waits_all : (m : ℕ) (n : Name) → Contains (state_of w m).queue (Ref n) → (at : ℕ) × (queue : List ℕ) × Contains queues queue × Contains queue (2 * at) × Contains places (record { at = at; name = n })
+  waits_all : (m : ℕ) (n : Name) → Contains (state_of w m).queue (Ref n) → (at : ℕ) × (queue : List ℕ) × Contains queues queue ×
+      Contains queue (2 * at) × Contains places (record { at = at; name = n })
   waits_all m n c =
       let count = r.mutators.0 in
       let lt = queue_there m (omega (arith, c.1)) in
@@ -93,7 +100,8 @@ module _ (places : List Place) (w : World) (registers : List ℕ) (queues : List
       let h = list_of (Contains places) own (state_of w m).queue (Ref n) (r.queued m own (slice_get-get_or queues m [] within)) c in
       (h.2.0, own, Contains-get_or queues m [] within, subst (λ (x : ℕ). Contains own x) h.2.1 h.1, h.2.2)
 
-  pub has_inputs : (base : ℕ) (earlier : List World) (inputs : Inputs) → inputs.registers ≡ registers → inputs.queues ≡ queues → Remembers base earlier places w inputs.recorded inputs.weaks → HasInputs base earlier places w inputs
+  pub has_inputs : (base : ℕ) (earlier : List World) (inputs : Inputs) → inputs.registers ≡ registers → inputs.queues ≡ queues →
+      Remembers base earlier places w inputs.recorded inputs.weaks → HasInputs base earlier places w inputs
   has_inputs base earlier inputs first second left = record {
     held = λ word c. held word (subst (λ (xs : List ℕ). Contains xs word) first c);
     holds_all = λ m n c. let h = holds_all m n c in (h.0, subst (λ (xs : List ℕ). Contains xs (2 * h.0)) (sym first) h.1, h.2);

@@ -16,7 +16,8 @@ use Rattle.nmgc_minor.specs.Start.{inputs_of, IsWeakStart, Finds}
 use Rattle.nmgc_minor.proofs.NoteLaws.{notes_then, notes_none}
 
 -- one more item of a list
-pub notes_item : {X : Type 0} (G : X → ℕ → Type 0) (a b c : Young) (xs : List X) (i : ℕ) (x : X) → i < length xs → x ≡ get_or xs i x → Notes a b (λ w. (y : X) × Contains (take i xs) y × G y w) → Notes b c (G x) → Notes a c (λ w. (y : X) × Contains (take (i + 1) xs) y × G y w)
+pub notes_item : {X : Type 0} (G : X → ℕ → Type 0) (a b c : Young) (xs : List X) (i : ℕ) (x : X) → i < length xs → x ≡ get_or xs i x →
+    Notes a b (λ w. (y : X) × Contains (take i xs) y × G y w) → Notes b c (G x) → Notes a c (λ w. (y : X) × Contains (take (i + 1) xs) y × G y w)
 notes_item {X} G a b c xs i x lt read f g =
     let e : take (i + 1) xs ≡ take i xs ++ x ∷ [] = take_more xs i x lt ∙ ap (λ (y : X). take i xs ++ y ∷ []) (sym read) in
     notes_then a b c (λ w. (y : X) × Contains (take i xs) y × G y w) (G x) (λ w. (y : X) × Contains (take (i + 1) xs) y × G y w) f g
@@ -84,14 +85,19 @@ module _ (registers : List ℕ) (queues : List FinQueue) (recorded weaks : List 
 
   cases : (w : ℕ) → Starts w → (((Contains registers w ⊎ OfQueue w) ⊎ OfShared w) ⊎ OfRecorded w) ⊎ OfWeak w
   cases w (IsStart.register c) = inl (inl (inl (inl c)))
-  cases w (IsStart.queued queue c d) = let q = map_from (λ (x : FinQueue). x.words) queues queue c in inl (inl (inl (inr (q.0, q.1, subst (λ (xs : List ℕ). Contains xs w) q.2 d))))
+  cases w (IsStart.queued queue c d) = let q = map_from (λ (x : FinQueue). x.words) queues queue c in
+      inl (inl (inl (inr (q.0, q.1, subst (λ (xs : List ℕ). Contains xs w) q.2 d))))
   cases w (IsStart.shared i lt e) = inl (inl (inr (i, lt, e)))
-  cases w (IsStart.recorded at c e) = let a = map_from (λ (x : Address). x.0) recorded at c in inl (inr (a.0, a.1, subst (λ (k : ℕ). slice_index words k ≡ w) a.2 e))
-  cases w (IsStart.weak at c alive e) = let a = map_from (λ (x : Address). x.0) weaks at c in inr (a.0, a.1, (subst (λ (k : ℕ). IsAliveAt words k) a.2 alive, inl (subst (λ (k : ℕ). 2 * k ≡ w) a.2 e)))
-  cases w (IsStart.part at i c alive lt e) = let a = map_from (λ (x : Address). x.0) weaks at c in inr (a.0, a.1, (subst (λ (k : ℕ). IsAliveAt words k) a.2 alive, inr (i, lt, subst (λ (k : ℕ). slice_index words (k + HEADER_WORDS + i) ≡ w) a.2 e)))
+  cases w (IsStart.recorded at c e) = let a = map_from (λ (x : Address). x.0) recorded at c in
+      inl (inr (a.0, a.1, subst (λ (k : ℕ). slice_index words k ≡ w) a.2 e))
+  cases w (IsStart.weak at c alive e) = let a = map_from (λ (x : Address). x.0) weaks at c in
+      inr (a.0, a.1, (subst (λ (k : ℕ). IsAliveAt words k) a.2 alive, inl (subst (λ (k : ℕ). 2 * k ≡ w) a.2 e)))
+  cases w (IsStart.part at i c alive lt e) = let a = map_from (λ (x : Address). x.0) weaks at c in
+      inr (a.0, a.1, (subst (λ (k : ℕ). IsAliveAt words k) a.2 alive, inr (i, lt, subst (λ (k : ℕ). slice_index words (k + HEADER_WORDS + i) ≡ w) a.2 e)))
 
   -- all kinds
-  pub notes_starts : (a b c d e f : Young) → Notes a b (Contains registers) → Notes b c OfQueue → Notes c d OfShared → Notes d e OfRecorded → Notes e f OfWeak → Notes a f Starts
+  pub notes_starts : (a b c d e f : Young) → Notes a b (Contains registers) → Notes b c OfQueue → Notes c d OfShared → Notes d e OfRecorded →
+      Notes e f OfWeak → Notes a f Starts
   notes_starts a b c d e f n1 n2 n3 n4 n5 =
       let P2 : ℕ → Type 0 = λ w. Contains registers w ⊎ OfQueue w in
       let P3 : ℕ → Type 0 = λ w. P2 w ⊎ OfShared w in
@@ -110,25 +116,31 @@ module _ (registers : List ℕ) (queues : List FinQueue) (recorded weaks : List 
       by_weak cases
 
 -- what is reached from what was noted is what is reached from the words
-noted_found : (a b : Young) (words : List ℕ) (Starts : ℕ → Type 0) → a.found.items ≡ [] → Notes a b Starts → (at : ℕ) → IsFound b.base words (PointsIn b) at → IsFound a.base words Starts at
+noted_found : (a b : Young) (words : List ℕ) (Starts : ℕ → Type 0) → a.found.items ≡ [] → Notes a b Starts → (at : ℕ) →
+    IsFound b.base words (PointsIn b) at → IsFound a.base words Starts at
 noted_found a b words Starts none n at (IsFound.start _ l p) =
     let e : p.0 ≡ at = omega (arith, p.1) in
     elim (n.sound p.0 p.2) [
       | inl i ↦ let z = ap length none in absurd (omega (arith, i.1, z))
       | inr h ↦ subst (λ (k : ℕ). IsFound a.base words Starts k) e (IsFound.start p.0 h.0 h.1)
     ]
-noted_found a b words Starts none n at (IsFound.field from _ f l h) = IsFound.field from at (noted_found a b words Starts none n from f) (let s = n.base in omega (arith, s, l)) h
+noted_found a b words Starts none n at (IsFound.field from _ f l h) =
+    IsFound.field from at (noted_found a b words Starts none n from f) (let s = n.base in omega (arith, s, l)) h
 
-found_noted : (a b : Young) (words : List ℕ) (Starts : ℕ → Type 0) → Notes a b Starts → (at : ℕ) → IsFound a.base words Starts at → IsFound b.base words (PointsIn b) at
+found_noted : (a b : Young) (words : List ℕ) (Starts : ℕ → Type 0) → Notes a b Starts → (at : ℕ) → IsFound a.base words Starts at →
+    IsFound b.base words (PointsIn b) at
 found_noted a b words Starts n at (IsFound.start _ l p) = IsFound.start at (let s = n.base in omega (arith, s, l)) (at, refl, n.complete at l p)
-found_noted a b words Starts n at (IsFound.field from _ f l h) = IsFound.field from at (found_noted a b words Starts n from f) (let s = n.base in omega (arith, s, l)) h
+found_noted a b words Starts n at (IsFound.field from _ f l h) = IsFound.field from at (found_noted a b words Starts n from f) (let s = n.base in
+    omega (arith, s, l)) h
 
-pub can_follow_noted : (a b : Young) (words : List ℕ) (Starts : ℕ → Type 0) → a.found.items ≡ [] → Notes a b Starts → ((at : ℕ) → IsFound a.base words Starts at → CanFollow a words at) → (at : ℕ) → IsFound b.base words (PointsIn b) at → CanFollow b words at
+pub can_follow_noted : (a b : Young) (words : List ℕ) (Starts : ℕ → Type 0) → a.found.items ≡ [] → Notes a b Starts →
+    ((at : ℕ) → IsFound a.base words Starts at → CanFollow a words at) → (at : ℕ) → IsFound b.base words (PointsIn b) at → CanFollow b words at
 can_follow_noted a b words Starts none n can at f =
     let c = can at (noted_found a b words Starts none n at f) in
     record { header = c.header; within = λ word h. within_after a b Starts n word (c.within word h) }
 
-pub finds_all : (a b c : Young) (words : List ℕ) (inputs : Inputs) → a.found.items ≡ [] → Notes a b (IsStart inputs words) → Follows b c words → Finds a c words inputs
+pub finds_all : (a b c : Young) (words : List ℕ) (inputs : Inputs) → a.found.items ≡ [] → Notes a b (IsStart inputs words) → Follows b c words →
+    Finds a c words inputs
 finds_all a b c words inputs none n f = record {
   young = f.young;
   base = f.base ∙ n.base;

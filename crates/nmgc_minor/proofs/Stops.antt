@@ -60,23 +60,30 @@ module _ (t : Stopped) (s : Segments) (old : List ℕ) (nurseries : List Nursery
   ]
 
   pub stop_allows : CanPromoteWith s old nurseries inputs
-  stop_allows = world_allows s.layout (young_base s) t.later (earlier_of t) t.places t.world old inputs s nurseries differ h.world spoken refl h.represents has h.segments refl h.used reserve
+  stop_allows = world_allows s.layout (young_base s) t.later (earlier_of t) t.places t.world old inputs s nurseries differ h.world spoken refl
+      h.represents has h.segments refl h.used reserve
 
   module _ (s' : Segments) (new : List ℕ) (moves : List Move) (table : List ℕ) (sound : IsSegments s') (same : s'.layout ≡ s.layout)
       (p : Promotes (young_base s) old new s s' moves inputs table) where
     taken_at : (d : Moved) → Contains (map moved_of moves) d → Contains t.places (old_place d)
-    taken_at d c = (taken s.layout (young_base s) t.later (earlier_of t) t.places t.world old new inputs s s' moves table differ names h.world spoken refl h.represents has sound same h.blocks p d c).0
+    taken_at d c = (taken s.layout (young_base s) t.later (earlier_of t) t.places t.world old new inputs s s' moves table differ names h.world
+        spoken refl h.represents has sound same h.blocks p d c).0
 
     -- a move is of the promoted name at its place
     move_promoted : (m : Move) → Contains moves m → IsPromoted t.began t.world m.name
     move_promoted m c =
-        let f = found_promoted s.layout (young_base s) t.later t.began t.places t.world old inputs t.serials differ h.world spoken refl h.represents has h.round m.from.0 (p.found m c) in
-        let e = h.represents.one (record { at = m.from.0; name = f.0 }) (record { at = m.from.0; name = m.name }) f.1 (taken_at (moved_of m) (map_in moved_of moves m c)) (inr refl) in
+        let f = found_promoted s.layout (young_base s) t.later t.began t.places t.world old inputs t.serials differ h.world spoken refl h.represents
+        has h.round m.from.0 (p.found m c) in
+        let e = h.represents.one (record { at = m.from.0; name = f.0 }) (record {
+          at = m.from.0;
+          name = m.name;
+        }) f.1 (taken_at (moved_of m) (map_in moved_of moves m c)) (inr refl) in
         subst (λ (q : Place). IsPromoted t.began t.world q.name) e f.2
 
     promoted_move : (n : Name) → IsPromoted t.began t.world n → (m : Move) × Contains moves m × (m.name ≡ n)
     promoted_move n q =
-        let f = promoted_found s.layout (young_base s) t.later t.began t.places t.world old inputs t.serials differ h.world spoken refl h.represents has h.round n q in
+        let f = promoted_found s.layout (young_base s) t.later t.began t.places t.world old inputs t.serials differ h.world spoken refl h.represents
+        has h.round n q in
         let d = p.all f.0 f.2 in
         let there = taken_at (moved_of d.0) (map_in moved_of moves d.0 d.1) in
         let e = h.represents.one (record { at = d.0.from.0; name = d.0.name }) (record { at = f.0; name = n }) there f.1 (inr d.2) in
@@ -84,7 +91,8 @@ module _ (t : Stopped) (s : Segments) (old : List ℕ) (nurseries : List Nursery
 
     lists : Lists (IsPromoted t.began t.world) (map (λ (m : Move). m.name) moves)
     lists = record {
-      ordered = moves_in_order s.layout (young_base s) t.later (earlier_of t) t.places t.world old new inputs s s' moves table differ names h.world spoken refl h.represents has sound same h.blocks p h.order;
+      ordered = moves_in_order s.layout (young_base s) t.later (earlier_of t) t.places t.world old new inputs s s' moves table differ names h.world
+          spoken refl h.represents has sound same h.blocks p h.order;
       sound = λ n c.
           let x = map_from (λ (m : Move). m.name) moves n c in
           subst (λ (k : Name). IsPromoted t.began t.world k) (sym x.2) (move_promoted x.0 x.1);
@@ -93,35 +101,48 @@ module _ (t : Stopped) (s : Segments) (old : List ℕ) (nurseries : List Nursery
           subst (λ (k : Name). Contains (map (λ (m : Move). m.name) moves) k) x.2 (map_in (λ (m : Move). m.name) moves x.0 x.1);
     }
 
-    pub stop_settles : IsSettled t s' new (map (forward_word table (young_base s)) inputs.registers) (map (map (forward_word table (young_base s))) inputs.queues) (map moved_of moves)
+    pub stop_settles : IsSettled t s' new (map (forward_word table (young_base s)) inputs.registers)
+        (map (map (forward_word table (young_base s))) inputs.queues) (map moved_of moves)
     stop_settles =
         let base_same : young_base s ≡ young_base s' = ap (λ (l : Layout). nursery_place l 0) (sym same) in
-        let moved = promotes_moves s.layout (young_base s) t.later (earlier_of t) t.places t.world old new inputs s s' moves table differ names h.world spoken refl h.represents has sound same h.blocks p in
-        let represents = promotes_represents s.layout (young_base s) t.later (earlier_of t) t.places t.world old new inputs s s' moves table differ names h.world spoken refl h.represents has sound same h.blocks p in
-        let blocks = promotes_blocks s.layout (young_base s) t.later (earlier_of t) t.places t.world old new inputs s s' moves table differ names h.world spoken refl h.represents has sound same h.blocks p in
-        let roots = roots_moved s.layout (young_base s) t.later (earlier_of t) NoNode t.places t.world (map moved_of moves) (forward_word table (young_base s)) old new inputs.registers inputs.queues t.serials h.world spoken refl h.represents moved h.roots in
+        let moved = promotes_moves s.layout (young_base s) t.later (earlier_of t) t.places t.world old new inputs s s' moves table differ names
+        h.world spoken refl h.represents has sound same h.blocks p in
+        let represents = promotes_represents s.layout (young_base s) t.later (earlier_of t) t.places t.world old new inputs s s' moves table differ
+        names h.world spoken refl h.represents has sound same h.blocks p in
+        let blocks = promotes_blocks s.layout (young_base s) t.later (earlier_of t) t.places t.world old new inputs s s' moves table differ names
+        h.world spoken refl h.represents has sound same h.blocks p in
+        let roots = roots_moved s.layout (young_base s) t.later (earlier_of t) NoNode t.places t.world (map moved_of moves)
+        (forward_word table (young_base s)) old new inputs.registers inputs.queues t.serials h.world spoken refl h.represents moved h.roots in
         record {
           promoted = subst (λ (xs : List Name). Lists (IsPromoted t.began t.world) xs) (sym (names_twice moves)) lists;
           moved = taken_at;
           low = λ d c. subst (λ (b : ℕ). d.to < b) base_same (moved.taken d c).2;
-          represents = subst (λ (l : Layout). Represents l t.later NoNode (settled (nursery_place l 0) (map moved_of moves) t.places) t.world new) (sym same) represents;
-          roots = subst (λ (b : ℕ). RepresentsRoots (settled b (map moved_of moves) t.places) t.world (map (forward_word table (young_base s)) inputs.registers) (map (map (forward_word table (young_base s))) inputs.queues) t.serials) base_same roots;
+          represents = subst (λ (l : Layout).
+              Represents l t.later NoNode (settled (nursery_place l 0) (map moved_of moves) t.places) t.world new) (sym same) represents;
+          roots = subst (λ (b : ℕ).
+              RepresentsRoots (settled b (map moved_of moves) t.places) t.world (map (forward_word table (young_base s)) inputs.registers)
+              (map (map (forward_word table (young_base s))) inputs.queues) t.serials) base_same roots;
           blocks = subst (λ (b : ℕ). AreBlocks s' b (settled b (map moved_of moves) t.places) t.world) base_same blocks;
         }
 
     -- the allocation state afterwards is that of placing the promoted names one by one
-    pub stop_places : (a : AllocState) → StandsFor s old a → (b : AllocState) × PlacesEach s.layout t.world a (map (λ (m : Moved). m.name) (map moved_of moves)) b × StandsFor s' new b
+    pub stop_places : (a : AllocState) → StandsFor s old a → (b : AllocState) ×
+        PlacesEach s.layout t.world a (map (λ (m : Moved). m.name) (map moved_of moves)) b × StandsFor s' new b
     stop_places a st =
         let total = h.represents.total in
         let q = p.stands old a (omega (arith, total)) st in
-        let each = places_each s.layout (young_base s) t.later (earlier_of t) t.places t.world old new inputs s s' moves table differ names h.world spoken refl h.represents has sound same h.blocks p moves (λ x c. c) a q.0 q.1 in (
+        let each = places_each s.layout (young_base s) t.later (earlier_of t) t.places t.world old new inputs s s' moves table differ names h.world
+        spoken refl h.represents has sound same h.blocks p moves (λ x c. c) a q.0 q.1 in (
           q.0,
           subst (λ (xs : List Name). PlacesEach s.layout t.world a xs q.0) (sym (names_twice moves)) each,
-          stands_final s.layout (young_base s) t.later (earlier_of t) t.places t.world old new inputs s s' moves table differ names h.world spoken refl h.represents has sound same h.blocks p q.0 q.2,
+          stands_final s.layout (young_base s) t.later (earlier_of t) t.places t.world old new inputs s s' moves table differ names h.world spoken
+              refl h.represents has sound same h.blocks p q.0 q.2,
         )
 
     -- each recorded field is forwarded
     pub stop_fields : (at : ℕ) → Contains inputs.recorded at → slice_index new at ≡ forward_word table (young_base s) (slice_index old at)
     stop_fields at c =
-        let low = recorded_low s.layout (young_base s) t.later (earlier_of t) t.places t.world old inputs s nurseries differ h.world spoken refl h.represents has h.segments refl h.used reserve at c in
-        promotes_fields s.layout (young_base s) t.later (earlier_of t) t.places t.world old new inputs s s' moves table differ names h.world spoken refl h.represents has sound same h.blocks p at low c
+        let low = recorded_low s.layout (young_base s) t.later (earlier_of t) t.places t.world old inputs s nurseries differ h.world spoken refl
+        h.represents has h.segments refl h.used reserve at c in
+        promotes_fields s.layout (young_base s) t.later (earlier_of t) t.places t.world old new inputs s s' moves table differ names h.world spoken
+        refl h.represents has sound same h.blocks p at low c

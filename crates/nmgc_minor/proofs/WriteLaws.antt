@@ -44,7 +44,9 @@ pub address_in : (xs : List Address) (x : Address) → Contains xs x → Contain
 address_in xs x c = map_in (λ (at : Address). at.0) xs x c
 
 -- what the second pass asks, once the first has found what is to be moved
-pub parts_of : (y z : Young) (s : Segments) (words : List ℕ) (nurseries : List Nursery) (inputs : Inputs) (table : List ℕ) → CanPromote y s words nurseries inputs → Finds y z words inputs → table ≡ z.table.items → AreNurseries s.layout z.base table nurseries × CanPlaceEach s.layout words table z.base nurseries
+pub parts_of : (y z : Young) (s : Segments) (words : List ℕ) (nurseries : List Nursery) (inputs : Inputs) (table : List ℕ) →
+    CanPromote y s words nurseries inputs → Finds y z words inputs → table ≡ z.table.items → AreNurseries s.layout z.base table nurseries ×
+    CanPlaceEach s.layout words table z.base nurseries
 parts_of y z s words nurseries inputs table can f same =
     let size : length table ≡ length y.table.items = ap length same ∙ f.size in
     let e = f.base in
@@ -74,8 +76,11 @@ module _ (base : ℕ) (words : List ℕ) (s s' : Segments) (y : Young) (table : 
   mark_of : (at : ℕ) → IsIn y at → (base ≤ at) × (at < base + length y.table.items) × IsMarked base y.table.items at
   mark_of at i =
       let t = young.tabled at i in
-      let k : at - base ≡ t.0 = omega (arith, t.1, same) in
-      (omega (arith, t.1, same), omega (arith, t.1, t.2, same), λ e. let f : slice_index y.table.items t.0 ≡ 0 = subst (λ (n : ℕ). slice_index y.table.items n ≡ 0) k e in omega (arith, f, t.3))
+      let k : at - base ≡ t.0 = omega (arith, t.1, same) in (
+        omega (arith, t.1, same),
+        omega (arith, t.1, t.2, same),
+        λ e. let f : slice_index y.table.items t.0 ≡ 0 = subst (λ (n : ℕ). slice_index y.table.items n ≡ 0) k e in omega (arith, f, t.3),
+      )
 
   from_found : (m : Move) → Contains moves m → IsFound base words (IsStart inputs words) m.from.0
   from_found m c =
@@ -84,7 +89,8 @@ module _ (base : ℕ) (words : List ℕ) (s s' : Segments) (y : Young) (table : 
       let e : y.base + (m.from.0 - base) ≡ m.from.0 = omega (arith, same, h.0) in
       finds m.from.0 (subst (λ (n : ℕ). IsIn y n) e i)
 
-  to_found : (at : ℕ) → IsFound base words (IsStart inputs words) at → (m : Move) × Contains moves m × (m.from.0 ≡ at) × (slice_index table (at - base) ≡ m.to.0)
+  to_found : (at : ℕ) → IsFound base words (IsStart inputs words) at → (m : Move) × Contains moves m × (m.from.0 ≡ at) ×
+      (slice_index table (at - base) ≡ m.to.0)
   to_found at f = let h = mark_of at (finds_all at f) in range.entries at h.0 h.1 h.2
 
   block_of : (m : Move) → Contains moves m → (size : ℕ) × IsBlock base m.to.0 size
@@ -104,7 +110,8 @@ module _ (base : ℕ) (words : List ℕ) (s s' : Segments) (y : Young) (table : 
         let here : base + k - base ≡ k = omega arith in
         elim (cases_eq (slice_index y.table.items k) 0) [
           | inl z ↦
-              let u = range.unmarked (base + k) (omega arith) (omega (arith, lt, size)) (λ n. n (subst (λ (i : ℕ). slice_index y.table.items i ≡ 0) (sym here) z)) in
+              let u = range.unmarked (base + k) (omega arith) (omega (arith, lt, size)) (λ n.
+              n (subst (λ (i : ℕ). slice_index y.table.items i ≡ 0) (sym here) z)) in
               let v : slice_index table k ≡ 0 = subst (λ (i : ℕ). slice_index table i ≡ 0) here u in
               omega (arith, v, emptied)
           | inr ne ↦
@@ -120,7 +127,8 @@ module _ (base : ℕ) (words : List ℕ) (s s' : Segments) (y : Young) (table : 
   abbrev forward : ℕ → ℕ
   forward = forward_word table base
 
-  module _ (one two : List ℕ) (shared : ForwardsAt (forward_word table base) words one IsSharedSlot) (fields : ForwardsAt (forward_word table base) one two (λ i. Contains recorded (record { 0 = i }))) where
+  module _ (one two : List ℕ) (shared : ForwardsAt (forward_word table base) words one IsSharedSlot)
+      (fields : ForwardsAt (forward_word table base) one two (λ i. Contains recorded (record { 0 = i }))) where
     -- the words from the base on are as they were
     upper : (i : ℕ) → base ≤ i → slice_index two i ≡ slice_index words i
     upper i l = elim (cases_lt i (length words)) [
@@ -138,11 +146,16 @@ module _ (base : ℕ) (words : List ℕ) (s s' : Segments) (y : Young) (table : 
     ]
 
     -- each word below is forwarded where it is a slot of g or recorded, and unchanged elsewhere
-    lower : (i : ℕ) → i < base → ((slice_index two i ≡ forward (slice_index words i)) × (Contains inputs.recorded i ⊎ IsSharedSlot i)) ⊎ ((slice_index two i ≡ slice_index words i) × ((Contains inputs.recorded i → ⊥) × (IsSharedSlot i → ⊥)))
+    lower : (i : ℕ) → i < base → ((slice_index two i ≡ forward (slice_index words i)) × (Contains inputs.recorded i ⊎ IsSharedSlot i)) ⊎
+        ((slice_index two i ≡ slice_index words i) × ((Contains inputs.recorded i → ⊥) × (IsSharedSlot i → ⊥)))
     lower i l =
         let a = shared.total in
-        let to : Contains recorded (record { 0 = i }) → Contains inputs.recorded i = λ c. subst (λ (xs : List ℕ). Contains xs i) (sym told) (map_in (λ (at : Address). at.0) recorded (record { 0 = i }) c) in
-        let from : Contains inputs.recorded i → Contains recorded (record { 0 = i }) = λ c. let r = map_from (λ (at : Address). at.0) recorded i (subst (λ (xs : List ℕ). Contains xs i) told c) in subst (λ (x : Address). Contains recorded x) (let e : r.0 ≡ record { 0 = i } = ap (λ (k : ℕ). let x : Address = record { 0 = k } in x) (sym r.2) in e) r.1 in
+        let to : Contains recorded (record { 0 = i }) → Contains inputs.recorded i = λ c.
+        subst (λ (xs : List ℕ). Contains xs i) (sym told) (map_in (λ (at : Address). at.0) recorded (record { 0 = i }) c) in
+        let from : Contains inputs.recorded i → Contains recorded (record { 0 = i }) = λ c.
+        let r = map_from (λ (at : Address). at.0) recorded i (subst (λ (xs : List ℕ). Contains xs i) told c) in
+        subst (λ (x : Address).
+        Contains recorded x) (let e : r.0 ≡ record { 0 = i } = ap (λ (k : ℕ). let x : Address = record { 0 = k } in x) (sym r.2) in e) r.1 in
         elim (shared.each i (omega (arith, inside))) [
           | inl h ↦ elim (fields.each i (omega (arith, inside, a))) [
             | inl k ↦ inl (k.0 ∙ ap (λ (x : ℕ). forward_word table base x) h.0 ∙ twice table base small (slice_index words i), inr h.1)
@@ -200,7 +213,8 @@ module _ (base : ℕ) (words : List ℕ) (s s' : Segments) (y : Young) (table : 
       placing = range.placing;
       stands = range.stands;
       rising = range.rising;
-      few = let size = range.size in let few = few_moves moves base (length y.table.items) range.rising (λ m c. let h = range.marked m c in (h.0, h.1)) in omega (arith, size, few);
+      few = let size = range.size in
+          let few = few_moves moves base (length y.table.items) range.rising (λ m c. let h = range.marked m c in (h.0, h.1)) in omega (arith, size, few);
       forwards = table_forwards table base (map moved_of moves) (omega (arith, emptied)) (λ d c.
           let m = map_from moved_of moves d c in
           let b = block_of m.0 m.1 in
@@ -217,15 +231,18 @@ module _ (base : ℕ) (words : List ℕ) (s s' : Segments) (y : Young) (table : 
             let up = range.marked m.0 m.1 in
             let there : HasHeaderWord two m.0.from.0 header = (is'.0, upper m.0.from.0 up.0 ∙ is'.1) in
             let made = copies.copied m.0 header m.1 there in
-            subst (λ (k : Moved). Copies (forward_word table base) words new k.from k.to header.fields × (slice_index new (k.to + 1) ≡ slice_index words (k.from + 1))) (sym m.2) (
+            subst (λ (k : Moved). Copies (forward_word table base) words new k.from k.to header.fields ×
+            (slice_index new (k.to + 1) ≡ slice_index words (k.from + 1))) (sym m.2) (
               record {
                 header = made.0.header ∙ upper m.0.from.0 up.0;
-                fields = λ i l. made.0.fields i l ∙ ap (λ (x : ℕ). forward_word table base x) (upper (m.0.from.0 + HEADER_WORDS + i) (let b = up.0 in omega (arith, b)));
+                fields = λ i l. made.0.fields i l ∙ ap (λ (x : ℕ).
+                    forward_word table base x) (upper (m.0.from.0 + HEADER_WORDS + i) (let b = up.0 in omega (arith, b)));
               },
               made.1 ∙ upper (m.0.from.0 + 1) (let b = up.0 in omega (arith, b)),
             );
         others = λ i l out.
-            let same_word : slice_index new i ≡ slice_index two i = copies.others i (λ m header c h. out (moved_of m) header (map_in moved_of moves m c) (header_still m header c h)) in
+            let same_word : slice_index new i ≡ slice_index two i =
+            copies.others i (λ m header c h. out (moved_of m) header (map_in moved_of moves m c) (header_still m header c h)) in
             elim (lower i l) [
               | inl h ↦ inl (same_word ∙ h.0, h.1)
               | inr h ↦ inr (same_word ∙ h.0, h.1)
@@ -246,7 +263,10 @@ pub record Ready (z : Young) (words : List ℕ) (s s' : Segments) (table : List 
   pub low : (at : Address) → Contains recorded at → at.0 < z.base
   pub range : PlacesRange z.base words s s' z.table.items table moves z.base (z.base + length z.table.items)
 
-pub ready : (y z : Young) (s s' : Segments) (words : List ℕ) (nurseries : List Nursery) (inputs : Inputs) (recorded : List Address) (t1 t2 table : List ℕ) (moves added : List Move) → CanPromote y s words nurseries inputs → Finds y z words inputs → inputs.recorded ≡ map (λ (at : Address). at.0) recorded → t1 ≡ z.table.items → table ≡ t2 → moves ≡ added → IsSegments s' → s'.layout ≡ s.layout → PlacesRange z.base words s s' t1 t2 added z.base (z.base + length t1) → Ready z words s s' table moves inputs recorded
+pub ready : (y z : Young) (s s' : Segments) (words : List ℕ) (nurseries : List Nursery) (inputs : Inputs) (recorded : List Address)
+    (t1 t2 table : List ℕ) (moves added : List Move) → CanPromote y s words nurseries inputs → Finds y z words inputs →
+    inputs.recorded ≡ map (λ (at : Address). at.0) recorded → t1 ≡ z.table.items → table ≡ t2 → moves ≡ added → IsSegments s' →
+    s'.layout ≡ s.layout → PlacesRange z.base words s s' t1 t2 added z.base (z.base + length t1) → Ready z words s s' table moves inputs recorded
 ready y z s s' words nurseries inputs recorded t1 t2 table moves added can f told first second third sound same range =
     let e = f.base in
     let parts = parts_of y z s words nurseries inputs t1 can f first in
@@ -266,18 +286,26 @@ ready y z s s' words nurseries inputs recorded t1 t2 table moves added can f tol
       range = subst (λ (xs : List Move). PlacesRange z.base words s s' z.table.items table xs z.base (z.base + length z.table.items)) (sym third) r2;
     }
 
-module _ (z : Young) (words : List ℕ) (s s' : Segments) (table : List ℕ) (moves : List Move) (inputs : Inputs) (recorded : List Address) (r : Ready z words s s' table moves inputs recorded) where
+module _ (z : Young) (words : List ℕ) (s s' : Segments) (table : List ℕ) (moves : List Move) (inputs : Inputs) (recorded : List Address)
+    (r : Ready z words s s' table moves inputs recorded) where
   pub ready_small : (k : ℕ) → slice_index table k < z.base
   ready_small = small z.base words s s' z table moves inputs r.sound r.emptied refl r.young r.finds r.finds_all r.can r.inside recorded r.told r.low r.range
 
-  pub ready_copy : (one two : List ℕ) → ForwardsAt (forward_word table z.base) words one IsSharedSlot → ForwardsAt (forward_word table z.base) one two (λ i. Contains recorded (record { 0 = i })) → CanCopyAll z.base two moves
+  pub ready_copy : (one two : List ℕ) → ForwardsAt (forward_word table z.base) words one IsSharedSlot →
+      ForwardsAt (forward_word table z.base) one two (λ i. Contains recorded (record { 0 = i })) → CanCopyAll z.base two moves
   ready_copy = can_copy z.base words s s' z table moves inputs r.sound r.emptied refl r.young r.finds r.finds_all r.can r.inside recorded r.told r.low r.range
 
-  pub ready_promotes : (one two new : List ℕ) → ForwardsAt (forward_word table z.base) words one IsSharedSlot → ForwardsAt (forward_word table z.base) one two (λ i. Contains recorded (record { 0 = i })) → CopiesAll (forward_word table z.base) two new moves → Promotes z.base words new s s' moves inputs table
-  ready_promotes one two new f g h = promotes z.base words s s' z table moves inputs r.sound r.emptied refl r.young r.finds r.finds_all r.can r.inside recorded r.told r.low r.range one two f g new h
+  pub ready_promotes : (one two new : List ℕ) → ForwardsAt (forward_word table z.base) words one IsSharedSlot →
+      ForwardsAt (forward_word table z.base) one two (λ i. Contains recorded (record { 0 = i })) →
+      CopiesAll (forward_word table z.base) two new moves → Promotes z.base words new s s' moves inputs table
+  ready_promotes one two new f g h =
+      promotes z.base words s s' z table moves inputs r.sound r.emptied refl r.young r.finds r.finds_all r.can r.inside recorded r.told r.low
+      r.range one two f g new h
 
 -- what the second pass leaves in the table
-pub leaves : (y z v : Young) (words : List ℕ) (s s' : Segments) (table : List ℕ) (moves : List Move) (inputs : Inputs) (recorded : List Address) → Finds y z words inputs → Ready z words s s' table moves inputs recorded → v.base ≡ z.base → v.table.items ≡ table → v.found.items ≡ z.found.items → v.found.spare ≡ z.found.spare → Leaves y v
+pub leaves : (y z v : Young) (words : List ℕ) (s s' : Segments) (table : List ℕ) (moves : List Move) (inputs : Inputs) (recorded : List Address) →
+    Finds y z words inputs → Ready z words s s' table moves inputs recorded → v.base ≡ z.base → v.table.items ≡ table →
+    v.found.items ≡ z.found.items → v.found.spare ≡ z.found.spare → Leaves y v
 leaves y z v words s s' table moves inputs recorded f r base same items spare =
     let size : length v.table.items ≡ length z.table.items = ap length same ∙ r.range.size in
     let longer = ap length items in
@@ -294,11 +322,13 @@ leaves y z v words s s' table moves inputs recorded f r base same items spare =
                 let total = r.range.size in
                 elim (cases_eq (slice_index z.table.items k) 0) [
                   | inl free ↦
-                      let u = r.range.unmarked (z.base + k) (omega arith) (omega (arith, lt, total)) (λ n. n (subst (λ (i : ℕ). slice_index z.table.items i ≡ 0) (sym here) free)) in
+                      let u = r.range.unmarked (z.base + k) (omega arith) (omega (arith, lt, total)) (λ n.
+                      n (subst (λ (i : ℕ). slice_index z.table.items i ≡ 0) (sym here) free)) in
                       absurd (there (subst (λ (i : ℕ). slice_index table i ≡ 0) here u))
                   | inr used ↦
                       let i = r.young.listed k used in
-                      subst (λ (xs : List Address). Contains xs (record { 0 = v.base + k })) (sym items) (subst (λ (n : ℕ). Contains z.found.items (record { 0 = n })) (let e : z.base + k ≡ v.base + k = omega (arith, base) in e) i)
+                      subst (λ (xs : List Address). Contains xs (record { 0 = v.base + k })) (sym items) (subst (λ (n : ℕ).
+                      Contains z.found.items (record { 0 = n })) (let e : z.base + k ≡ v.base + k = omega (arith, base) in e) i)
                 ]
           ];
       tabled = λ at i.
@@ -308,5 +338,6 @@ leaves y z v words s s' table moves inputs recorded f r base same items spare =
     }
 
 -- the table that was lent, once it is back
-pub lent_back : (length_ : ℕ) (old lent new table : List ℕ) → length lent ≡ length_ → length new ≡ length lent → table ≡ take length_ (new ++ drop (length new) old) → table ≡ new
+pub lent_back : (length_ : ℕ) (old lent new table : List ℕ) → length lent ≡ length_ → length new ≡ length lent →
+    table ≡ take length_ (new ++ drop (length new) old) → table ≡ new
 lent_back n old lent new table l size is = is ∙ take_at new (drop (length new) old) n (size ∙ l)

@@ -21,7 +21,8 @@ pub data IsStart (inputs : Inputs) (words : List ℕ) (word : ℕ) : Type 0 wher
   shared : (i : ℕ) → i < SHARED_SLOTS → slice_index words (SHARED_PLACE + HEADER_WORDS + i) ≡ word → IsStart inputs words word
   recorded : (at : ℕ) → Contains inputs.recorded at → slice_index words at ≡ word → IsStart inputs words word
   weak : (at : ℕ) → Contains inputs.weaks at → IsAliveAt words at → 2 * at ≡ word → IsStart inputs words word
-  part : (at i : ℕ) → Contains inputs.weaks at → IsAliveAt words at → i < WEAK_FIELDS → slice_index words (at + HEADER_WORDS + i) ≡ word → IsStart inputs words word
+  part : (at i : ℕ) → Contains inputs.weaks at → IsAliveAt words at → i < WEAK_FIELDS → slice_index words (at + HEADER_WORDS + i) ≡ word →
+      IsStart inputs words word
 
 -- the young objects that are found: those that the search starts at, and those that strong fields of found ones point to
 pub data IsFound (base : ℕ) (words : List ℕ) (Starts : ℕ → Type 0) : ℕ → Type 0 where

@@ -17,7 +17,10 @@ pub record Inputs : Type 0 where
 -- registers and queues hold what the world's hold, in whatever order; the lists are what a round left
 pub record HasInputs (base : ℕ) (earlier : List World) (places : List Place) (w : World) (inputs : Inputs) : Type 0 where
   pub held : (word : ℕ) → Contains inputs.registers word → (m : ℕ) × (v : Value) × Contains (state_of w m).registers v × Means (Contains places) word v
-  pub holds_all : (m : ℕ) (n : Name) → Contains (state_of w m).registers (Ref n) → (at : ℕ) × Contains inputs.registers (2 * at) × Contains places (record { at = at; name = n })
-  pub waiting : (queue : List ℕ) (word : ℕ) → Contains inputs.queues queue → Contains queue word → (m : ℕ) × (v : Value) × Contains (state_of w m).queue v × Means (Contains places) word v
-  pub waits_all : (m : ℕ) (n : Name) → Contains (state_of w m).queue (Ref n) → (at : ℕ) × (queue : List ℕ) × Contains inputs.queues queue × Contains queue (2 * at) × Contains places (record { at = at; name = n })
+  pub holds_all : (m : ℕ) (n : Name) → Contains (state_of w m).registers (Ref n) → (at : ℕ) × Contains inputs.registers (2 * at) ×
+      Contains places (record { at = at; name = n })
+  pub waiting : (queue : List ℕ) (word : ℕ) → Contains inputs.queues queue → Contains queue word → (m : ℕ) × (v : Value) ×
+      Contains (state_of w m).queue v × Means (Contains places) word v
+  pub waits_all : (m : ℕ) (n : Name) → Contains (state_of w m).queue (Ref n) → (at : ℕ) × (queue : List ℕ) × Contains inputs.queues queue ×
+      Contains queue (2 * at) × Contains places (record { at = at; name = n })
   pub left : Remembers base earlier places w inputs.recorded inputs.weaks

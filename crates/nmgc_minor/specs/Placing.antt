@@ -27,7 +27,8 @@ HasHeaderWord words at header = IsHeader header × (slice_index words at ≡ hea
 pub record IsPlacing (old new : Segments) (words : List ℕ) (moves : List Moved) : Type 0 where
   pub layout : new.layout ≡ old.layout
   pub stays : (p size : ℕ) → IsOccupied old p size → IsOccupied new p size
-  pub placed : (m : Moved) → Contains moves m → (size : ℕ) × IsOccupied new m.to size × ((header : Header) → HasHeaderWord words m.from header → HEADER_WORDS + header.fields ≤ size)
+  pub placed : (m : Moved) → Contains moves m → (size : ℕ) × IsOccupied new m.to size ×
+      ((header : Header) → HasHeaderWord words m.from header → HEADER_WORDS + header.fields ≤ size)
   pub fresh : (m : Moved) (size : ℕ) → Contains moves m → IsOccupied old m.to size → ⊥
   pub only : (p size : ℕ) → IsOccupied new p size → IsOccupied old p size ⊎ ((m : Moved) × Contains moves m × (m.to ≡ p))
   pub once : (a b : Moved) → Contains moves a → Contains moves b → a.to ≡ b.to → a ≡ b
@@ -39,13 +40,17 @@ IsSharedSlot i = (SHARED_PLACE + HEADER_WORDS ≤ i) × (i < SHARED_PLACE + HEAD
 
 -- the word is none of the moved objects' new ones
 abbrev pub IsOutside : List Moved → List ℕ → ℕ → Type 0
-IsOutside moves words i = (m : Moved) (header : Header) → Contains moves m → HasHeaderWord words m.from header → (i < m.to) ⊎ (m.to + HEADER_WORDS + header.fields ≤ i)
+IsOutside moves words i = (m : Moved) (header : Header) → Contains moves m → HasHeaderWord words m.from header → (i < m.to) ⊎
+    (m.to + HEADER_WORDS + header.fields ≤ i)
 
--- the final words: moved objects are copied with their fields forwarded, recorded fields and slots of g are forwarded, and the other words below the base are unchanged
+-- the final words: moved objects are copied with their fields forwarded, recorded fields and slots of g are
+-- forwarded, and the other words below the base are unchanged
 pub record Rewrites (base : ℕ) (recorded : List ℕ) (moves : List Moved) (forward : ℕ → ℕ) (old new : List ℕ) : Type 0 where
   pub total : length new ≡ length old
-  pub moved : (m : Moved) (header : Header) → Contains moves m → HasHeaderWord old m.from header → Copies forward old new m.from m.to header.fields × (slice_index new (m.to + 1) ≡ slice_index old (m.from + 1))
-  pub others : (i : ℕ) → i < base → IsOutside moves old i → ((slice_index new i ≡ forward (slice_index old i)) × (Contains recorded i ⊎ IsSharedSlot i)) ⊎ ((slice_index new i ≡ slice_index old i) × ((Contains recorded i → ⊥) × (IsSharedSlot i → ⊥)))
+  pub moved : (m : Moved) (header : Header) → Contains moves m → HasHeaderWord old m.from header →
+      Copies forward old new m.from m.to header.fields × (slice_index new (m.to + 1) ≡ slice_index old (m.from + 1))
+  pub others : (i : ℕ) → i < base → IsOutside moves old i → ((slice_index new i ≡ forward (slice_index old i)) ×
+      (Contains recorded i ⊎ IsSharedSlot i)) ⊎ ((slice_index new i ≡ slice_index old i) × ((Contains recorded i → ⊥) × (IsSharedSlot i → ⊥)))
 
 -- an object that can be given a block: its header, its name, and no more words than a segment
 pub record CanPlace (layout : Layout) (maker : ℕ) (words : List ℕ) (at : ℕ) : Type 0 where
@@ -90,7 +95,8 @@ PlacesEach layout words old (m ∷ moves) new =
 
 -- segments that stood for an allocation state stand for the one after the placings, once the new blocks have their names
 abbrev pub StandsAfter : Segments → Segments → List ℕ → List Move → Type 0
-StandsAfter s s' words moves = (names : List ℕ) (old : AllocState) → nursery_place s.layout 0 ≤ length names → StandsFor s names old → (new : AllocState) × PlacesEach s.layout words old moves new × StandsFor s' (with_names names moves) new
+StandsAfter s s' words moves = (names : List ℕ) (old : AllocState) → nursery_place s.layout 0 ≤ length names → StandsFor s names old →
+    (new : AllocState) × PlacesEach s.layout words old moves new × StandsFor s' (with_names names moves) new
 
 -- a move as the heap tells it
 abbrev pub moved_of : Move → Moved
@@ -103,8 +109,10 @@ IsMarked base table at = slice_index table (at - base) ≢ 0
 -- the found objects of a part of the table can be given blocks, and lie one after another in it
 pub record CanPlaceAll (layout : Layout) (maker : ℕ) (words table : List ℕ) (base from to : ℕ) : Type 0 where
   pub each : (at : ℕ) → from ≤ at → at < to → IsMarked base table at → CanPlace layout maker words at
-  pub within : (at : ℕ) (header : Header) → from ≤ at → at < to → IsMarked base table at → HasHeaderWord words at header → at + HEADER_WORDS + header.fields ≤ to
-  pub apart : (at next : ℕ) (header : Header) → from ≤ at → at < next → next < to → IsMarked base table at → IsMarked base table next → HasHeaderWord words at header → at + HEADER_WORDS + header.fields ≤ next
+  pub within : (at : ℕ) (header : Header) → from ≤ at → at < to → IsMarked base table at → HasHeaderWord words at header →
+      at + HEADER_WORDS + header.fields ≤ to
+  pub apart : (at next : ℕ) (header : Header) → from ≤ at → at < next → next < to → IsMarked base table at → IsMarked base table next →
+      HasHeaderWord words at header → at + HEADER_WORDS + header.fields ≤ next
 
 -- the found objects of a part of the table were given blocks, in their order: the entry of each is its new place
 pub record PlacesRange (base : ℕ) (words : List ℕ) (s s' : Segments) (t t' : List ℕ) (added : List Move) (from to : ℕ) : Type 0 where
@@ -133,9 +141,12 @@ pub record AreNurseries (layout : Layout) (base : ℕ) (table : List ℕ) (nurse
   pub count : length nurseries ≡ layout.mutators
   pub size : length table ≡ layout.mutators * layout.nursery
   pub places : (maker : ℕ) → maker < layout.mutators → (nursery_at nurseries maker).base ≡ nursery_place layout maker
-  pub tops : (maker : ℕ) → maker < layout.mutators → ((nursery_at nurseries maker).base ≤ (nursery_at nurseries maker).top) × ((nursery_at nurseries maker).top ≤ (nursery_at nurseries maker).base + layout.nursery)
-  pub unused : (maker at : ℕ) → maker < layout.mutators → (nursery_at nurseries maker).top ≤ at → at < nursery_place layout maker + layout.nursery → slice_index table (at - base) ≡ 0
+  pub tops : (maker : ℕ) → maker < layout.mutators → ((nursery_at nurseries maker).base ≤ (nursery_at nurseries maker).top) ×
+      ((nursery_at nurseries maker).top ≤ (nursery_at nurseries maker).base + layout.nursery)
+  pub unused : (maker at : ℕ) → maker < layout.mutators → (nursery_at nurseries maker).top ≤ at → at < nursery_place layout maker + layout.nursery →
+      slice_index table (at - base) ≡ 0
 
 -- the found objects of every nursery can be given blocks
 abbrev pub CanPlaceEach : Layout → List ℕ → List ℕ → ℕ → List Nursery → Type 0
-CanPlaceEach layout words table base nurseries = (maker : ℕ) → maker < layout.mutators → CanPlaceAll layout maker words table base (nursery_at nurseries maker).base (nursery_at nurseries maker).top
+CanPlaceEach layout words table base nurseries = (maker : ℕ) → maker < layout.mutators →
+    CanPlaceAll layout maker words table base (nursery_at nurseries maker).base (nursery_at nurseries maker).top

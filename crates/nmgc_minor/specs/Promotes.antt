@@ -26,12 +26,15 @@ pub record CanPromote (y : Young) (s : Segments) (words : List ℕ) (nurseries :
   pub weaks : (at : ℕ) → Contains inputs.weaks at → at + 5 ≤ length words
   pub within : (word : ℕ) → IsStart inputs words word → IsWithin y word
   pub can : (at : ℕ) → IsFound y.base words (IsStart inputs words) at → CanFollow y words at
-  pub parts : (table : List ℕ) → length table ≡ length y.table.items → ((at : ℕ) → y.base ≤ at → IsMarked y.base table at → IsFound y.base words (IsStart inputs words) at) → AreNurseries s.layout y.base table nurseries × CanPlaceEach s.layout words table y.base nurseries
+  pub parts : (table : List ℕ) → length table ≡ length y.table.items →
+      ((at : ℕ) → y.base ≤ at → IsMarked y.base table at → IsFound y.base words (IsStart inputs words) at) →
+      AreNurseries s.layout y.base table nurseries × CanPlaceEach s.layout words table y.base nurseries
   pub reserve : KeepsReserve s.layout s.segments 0 ⊎ AreEmpty nurseries
 
 -- the same, for the lists of a promotion that begins
 abbrev pub CanPromoteWith : Segments → List ℕ → List Nursery → Inputs → Type 0
-CanPromoteWith s words nurseries inputs = (y : Young) → IsYoung y → y.found.items ≡ [] → y.base ≡ nursery_place s.layout 0 → length y.table.items ≡ s.layout.mutators * s.layout.nursery → CanPromote y s words nurseries inputs
+CanPromoteWith s words nurseries inputs = (y : Young) → IsYoung y → y.found.items ≡ [] → y.base ≡ nursery_place s.layout 0 →
+    length y.table.items ≡ s.layout.mutators * s.layout.nursery → CanPromote y s words nurseries inputs
 
 -- a nursery without objects
 abbrev pub emptied : Nursery → Nursery
@@ -58,8 +61,10 @@ pub record Promotes (base : ℕ) (old new : List ℕ) (s s' : Segments) (moves :
   pub forwards : Forwards base (map moved_of moves) (forward_word table base)
   pub rewrites : Rewrites base inputs.recorded (map moved_of moves) (forward_word table base) old new
 
--- each pointer to what moved was changed, in recorded fields, slots of g, moved objects, registers and queues, by one function of words; the other words below the nurseries are unchanged but in the moved objects' new places
-pub record Changes (base : ℕ) (recorded : List ℕ) (moves : List Moved) (forward : ℕ → ℕ) (old new : List ℕ) (registers registers' : List ℕ) (queues queues' : List (List ℕ)) : Type 0 where
+-- each pointer to what moved was changed, in recorded fields, slots of g, moved objects, registers and queues, by one
+-- function of words; the other words below the nurseries are unchanged but in the moved objects' new places
+pub record Changes (base : ℕ) (recorded : List ℕ) (moves : List Moved) (forward : ℕ →
+    ℕ) (old new : List ℕ) (registers registers' : List ℕ) (queues queues' : List (List ℕ)) : Type 0 where
   pub forwards : Forwards base moves forward
   pub rewrites : Rewrites base recorded moves forward old new
   pub fields : (at : ℕ) → Contains recorded at → slice_index new at ≡ forward (slice_index old at)

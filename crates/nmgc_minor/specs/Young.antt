@@ -87,4 +87,5 @@ pub record Following (old new : Young) (words : List ℕ) (next : ℕ) : Type 0 
   pub kept_room : new.found.spare + length new.found.items ≡ old.found.spare + length old.found.items
   pub sound : (at : ℕ) → IsIn new at → IsFound old.base words (PointsIn old) at
   pub within : next ≤ length new.found.items
-  pub traced : (i at to : ℕ) → i < next → (slice_index_or new.found.items i (record { 0 = 0 })).0 ≡ at → old.base ≤ to → HasStrong words at (2 * to) → IsIn new to
+  pub traced : (i at to : ℕ) → i < next → (slice_index_or new.found.items i (record { 0 = 0 })).0 ≡ at → old.base ≤ to →
+      HasStrong words at (2 * to) → IsIn new to

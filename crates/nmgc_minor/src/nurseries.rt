@@ -39,10 +39,12 @@ pub fn place_all<W: HeapWords>(
     requires reserve { KeepsReserve segments.old.layout segments.old.segments (maker * segments.old.layout.nursery) ⊎ (from ≡ to) }
     ensures sound { IsSegments segments.new }
     ensures layout { segments.new.layout ≡ segments.old.layout }
-    ensures places { (added : List Shown) × (moves.new.items ≡ moves.old.items ++ added) × PlacesRange base (W.words words.old) segments.old segments.new table.old table.new added from to }
+    ensures places { (added : List Shown) × (moves.new.items ≡ moves.old.items ++ added) ×
+        PlacesRange base (W.words words.old) segments.old segments.new table.old table.new added from to }
     ensures spare { moves.old.spare + from ≤ moves.new.spare + to }
     ensures room { moves.new.spare + length moves.new.items ≡ moves.old.spare + length moves.old.items }
-    ensures reserve { KeepsReserve segments.old.layout segments.old.segments (maker * segments.old.layout.nursery) → KeepsReserve segments.new.layout segments.new.segments ((maker + 1) * segments.old.layout.nursery) }
+    ensures reserve { KeepsReserve segments.old.layout segments.old.segments (maker * segments.old.layout.nursery) →
+        KeepsReserve segments.new.layout segments.new.segments ((maker + 1) * segments.old.layout.nursery) }
     ensures same { W.words words.new ≡ W.words words.old }
 {
     for at in from..to {
@@ -71,7 +73,8 @@ pub fn place_nurseries<W: HeapWords>(
     requires reserve { KeepsReserve segments.old.layout segments.old.segments 0 ⊎ AreEmpty nurseries.now }
     ensures sound { IsSegments segments.new }
     ensures layout { segments.new.layout ≡ segments.old.layout }
-    ensures places { (added : List Shown) × (moves.new.items ≡ moves.old.items ++ added) × PlacesRange base (W.words words.old) segments.old segments.new table.old table.new added base (base + length table.old) }
+    ensures places { (added : List Shown) × (moves.new.items ≡ moves.old.items ++ added) ×
+        PlacesRange base (W.words words.old) segments.old segments.new table.old table.new added base (base + length table.old) }
     ensures room { moves.new.spare + length moves.new.items ≡ moves.old.spare + length moves.old.items }
     ensures same { W.words words.new ≡ W.words words.old }
 {

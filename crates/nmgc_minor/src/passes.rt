@@ -39,7 +39,8 @@ fn promote_words<W: HeapWords>(
     requires can { CanPromote young.old segments.old (W.words words.old) nurseries.now (inputs_of registers.now queues.now recorded.now weaks.now) }
     requires moves { moves.old.items ≡ [] }
     requires spare { length young.old.table.items ≤ moves.old.spare }
-    ensures promotes { Promotes young.old.base (W.words words.old) (W.words words.new) segments.old segments.new moves.new.items (inputs_of registers.now queues.now recorded.now weaks.now) young.new.table.items }
+    ensures promotes { Promotes young.old.base (W.words words.old) (W.words words.new) segments.old segments.new moves.new.items
+        (inputs_of registers.now queues.now recorded.now weaks.now) young.new.table.items }
     ensures leaves { Leaves young.old young.new }
     ensures room { moves.new.spare + length moves.new.items ≡ moves.old.spare + length moves.old.items }
     ensures sound { IsSegments segments.new }
@@ -144,7 +145,8 @@ pub fn run_passes<W: HeapWords>(
     requires base { young.old.base ≡ nursery_place segments.old.layout 0 }
     requires size { length young.old.table.items ≡ segments.old.layout.mutators * segments.old.layout.nursery }
     requires can { CanPromoteWith segments.old (W.words words.old) nurseries.old (inputs_of roots.old.registers roots.old.queues recorded.now weaks.now) }
-    ensures promotes { Promotes (nursery_place segments.old.layout 0) (W.words words.old) (W.words words.new) segments.old segments.new moves.new.items (inputs_of roots.old.registers roots.old.queues recorded.now weaks.now) young.new.table.items }
+    ensures promotes { Promotes (nursery_place segments.old.layout 0) (W.words words.old) (W.words words.new) segments.old segments.new
+        moves.new.items (inputs_of roots.old.registers roots.old.queues recorded.now weaks.now) young.new.table.items }
     ensures registers { roots.new.registers ≡ map (forward_word young.new.table.items (nursery_place segments.old.layout 0)) roots.old.registers }
     ensures queues { roots.new.queues ≡ map (forwarded_queue young.new.table.items (nursery_place segments.old.layout 0)) roots.old.queues }
     ensures emptied { nurseries.new ≡ map emptied nurseries.old }

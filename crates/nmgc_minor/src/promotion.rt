@@ -95,15 +95,25 @@ impl Promotion {
         young_weaks: &[Address],
     )
         requires layout { IsFor segments.old.layout self.old }
-        requires stopped { (t : Stopped) × IsStopped t segments.old (W.words words.old) nurseries.old roots.old.registers (words_of roots.old.queues) (places_of recorded.now) (places_of young_weaks.now) }
+        requires stopped { (t : Stopped) ×
+            IsStopped t segments.old (W.words words.old) nurseries.old roots.old.registers (words_of roots.old.queues) (places_of recorded.now)
+            (places_of young_weaks.now) }
 
         // What words, roots and blocks stand for; that exactly the promoted objects moved; and the state
         // of the segments.
-        ensures settled { (t : Stopped) → IsStopped t segments.old (W.words words.old) nurseries.old roots.old.registers (words_of roots.old.queues) (places_of recorded.now) (places_of young_weaks.now) → IsSettled t segments.new (W.words words.new) roots.new.registers (words_of roots.new.queues) (map moved_of self.new.moves) }
-        ensures places { (t : Stopped) → IsStopped t segments.old (W.words words.old) nurseries.old roots.old.registers (words_of roots.old.queues) (places_of recorded.now) (places_of young_weaks.now) → (a : AllocState) → StandsFor segments.old (W.words words.old) a → (b : AllocState) × PlacesEach segments.old.layout t.world a (map (λ m. m.name) (map moved_of self.new.moves)) b × StandsFor segments.new (W.words words.new) b }
+        ensures settled { (t : Stopped) →
+            IsStopped t segments.old (W.words words.old) nurseries.old roots.old.registers (words_of roots.old.queues) (places_of recorded.now)
+            (places_of young_weaks.now) →
+            IsSettled t segments.new (W.words words.new) roots.new.registers (words_of roots.new.queues) (map moved_of self.new.moves) }
+        ensures places { (t : Stopped) →
+            IsStopped t segments.old (W.words words.old) nurseries.old roots.old.registers (words_of roots.old.queues) (places_of recorded.now)
+            (places_of young_weaks.now) → (a : AllocState) → StandsFor segments.old (W.words words.old) a → (b : AllocState) ×
+            PlacesEach segments.old.layout t.world a (map (λ m. m.name) (map moved_of self.new.moves)) b × StandsFor segments.new (W.words words.new) b }
 
         // Which words changed, and how.
-        ensures changes { (forward : ℕ → ℕ) × Changes (young_base segments.old) (places_of recorded.now) (map moved_of self.new.moves) forward (W.words words.old) (W.words words.new) roots.old.registers roots.new.registers (words_of roots.old.queues) (words_of roots.new.queues) }
+        ensures changes { (forward : ℕ → ℕ) ×
+            Changes (young_base segments.old) (places_of recorded.now) (map moved_of self.new.moves) forward (W.words words.old) (W.words words.new)
+            roots.old.registers roots.new.registers (words_of roots.old.queues) (words_of roots.new.queues) }
         ensures room { map (λ queue. queue.spare) roots.new.queues ≡ map (λ queue. queue.spare) roots.old.queues }
         ensures emptied { nurseries.new ≡ map emptied nurseries.old }
         ensures sound { IsSegments segments.new }

@@ -93,7 +93,9 @@ pub fn mark<W: HeapWords>(
     requires recorded { (at : Address) → Contains recorded.now at → at.0 < length (W.words words.old) }
     requires weaks { (at : Address) → Contains weaks.now at → at.0 + 5 ≤ length (W.words words.old) }
     requires within { (word : ℕ) → IsStart (inputs_of registers.now queues.now recorded.now weaks.now) (W.words words.old) word → IsWithin young.old word }
-    requires can { (at : ℕ) → IsFound young.old.base (W.words words.old) (IsStart (inputs_of registers.now queues.now recorded.now weaks.now) (W.words words.old)) at → CanFollow young.old (W.words words.old) at }
+    requires can { (at : ℕ) →
+        IsFound young.old.base (W.words words.old) (IsStart (inputs_of registers.now queues.now recorded.now weaks.now) (W.words words.old)) at →
+        CanFollow young.old (W.words words.old) at }
     ensures finds { Finds young.old young.new (W.words words.old) (inputs_of registers.now queues.now recorded.now weaks.now) }
     ensures same { W.words words.new ≡ W.words words.old }
 {

@@ -54,7 +54,8 @@ pub fn places_lie_apart()
 /// The parts of an object are words of it, and no two of them are the same word.
 pub fn parts_lie_apart()
     ensures name { (header : Header) (at : ℕ) → (header_place at < name_place at) × (name_place at < at + object_size header) }
-    ensures field { (header : Header) (at field : ℕ) → field < header.fields → (name_place at < field_place at field) × (field_place at field < at + object_size header) }
+    ensures field { (header : Header) (at field : ℕ) → field < header.fields → (name_place at < field_place at field) ×
+        (field_place at field < at + object_size header) }
     ensures fields { (at a b : ℕ) → field_place at a ≡ field_place at b → a ≡ b }
 {}
 
@@ -62,8 +63,10 @@ pub fn parts_lie_apart()
 /// segment too. An object has at least two words, at most those of the greatest block, and at least
 /// half of those of its block and of what is left over in a segment of such blocks.
 pub fn objects_have_classes()
-    ensures fits { (layout : Layout) (words class : ℕ) → IsLayout layout → words ≤ layout.words → IsClassOf words class → (block_size class ≤ layout.words) × (class < class_count layout) }
+    ensures fits { (layout : Layout) (words class : ℕ) → IsLayout layout → words ≤ layout.words → IsClassOf words class →
+        (block_size class ≤ layout.words) × (class < class_count layout) }
     ensures object { (header : Header) → IsHeader header → (2 ≤ object_size header) × (object_size header ≤ MAX_BLOCK_WORDS) }
-    ensures half { (layout : Layout) (words class : ℕ) → IsLayout layout → 2 ≤ words → words ≤ layout.words → IsClassOf words class → left_over layout class + block_size class ≤ 2 * words }
+    ensures half { (layout : Layout) (words class : ℕ) → IsLayout layout → 2 ≤ words → words ≤ layout.words → IsClassOf words class →
+        left_over layout class + block_size class ≤ 2 * words }
     ensures classes { (layout : Layout) (class : ℕ) → IsLayout layout → (class < class_count layout) ↔ (block_size class ≤ layout.words) }
 {}

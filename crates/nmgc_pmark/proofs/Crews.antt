@@ -73,7 +73,12 @@ pub record Gathers (v : Seen) (ms : List Marker) : Type 0 where
 pub gathers_one : (m : Marker) → (seen m.seat).parts ≡ part_of m ∷ [] → Gathers (seen m.seat) (m ∷ [])
 gathers_one m alone = record {
   has = has_one;
-  only = λ i p e. only_one (λ (q : Part). (k : ℕ) × (x : Marker) × (slice_get (m ∷ []) k ≡ Some x) × (q ≡ part_of x)) (part_of m) (0, m, refl, refl) i p (ap (λ l. get_elem? l i) (sym alone) ∙ e);
+  only = λ i p e. only_one (λ (q : Part). (k : ℕ) × (x : Marker) × (slice_get (m ∷ []) k ≡ Some x) × (q ≡ part_of x)) (part_of m) (
+    0,
+    m,
+    refl,
+    refl,
+  ) i p (ap (λ l. get_elem? l i) (sym alone) ∙ e);
   others = others_one;
 }
   where
@@ -85,7 +90,8 @@ gathers_one m alone = record {
     others_one zero x b e c = let same : m ≡ x = cc in subst (λ (y : Marker). Contains (seen y.seat).others b) (sym same) c
     others_one (suc k) x b e c = absurd (cc)
 
-pub gathers_more : (v : Seen) (ms : List Marker) (m : Marker) → Gathers v ms → (seen m.seat).parts ≡ part_of m ∷ [] → Gathers (together v (seen m.seat)) (ms ++ m ∷ [])
+pub gathers_more : (v : Seen) (ms : List Marker) (m : Marker) → Gathers v ms → (seen m.seat).parts ≡ part_of m ∷ [] →
+    Gathers (together v (seen m.seat)) (ms ++ m ∷ [])
 gathers_more v ms m g alone =
     let w : Seen = seen m.seat in
     record {
@@ -95,7 +101,8 @@ gathers_more v ms m g alone =
       ];
       only = λ i p e. elim (in_either v.parts w.parts i p e) [
         | inl old ↦ let t = g.only i p old in (t.0, t.1, at_front ms (m ∷ []) t.1 t.0 t.2, t.3)
-        | inr new ↦ only_one (λ (q : Part). (k : ℕ) × (x : Marker) × (slice_get (ms ++ m ∷ []) k ≡ Some x) × (q ≡ part_of x)) (part_of m) (length ms, m, at_pushed ms m, refl) new.0 p (ap (λ l. get_elem? l new.0) (sym alone) ∙ new.1)
+        | inr new ↦ only_one (λ (q : Part). (k : ℕ) × (x : Marker) × (slice_get (ms ++ m ∷ []) k ≡ Some x) ×
+            (q ≡ part_of x)) (part_of m) (length ms, m, at_pushed ms m, refl) new.0 p (ap (λ l. get_elem? l new.0) (sym alone) ∙ new.1)
       ];
       others = λ k x b e c. elim (at_push ms m x k e) [
         | inl old ↦ Contains-append_left v.others w.others b (g.others k x b old c)
@@ -156,7 +163,9 @@ number_of (x ∷ xs) at c = elim (contains_cases x xs (record { 0 = at }) c) [
   | inr d ↦ contains_tail (block_index x.0) (blocks_of xs) (block_index at) (number_of xs at d)
 ]
 
-module _ (t : ClaimTable) (words starts : List ℕ) (markers : ℕ) (crew : List Marker) (marked : HaveAllMarked t words starts markers crew) (numbers : AreNumbered crew) (count : length crew ≡ markers) (some_ : 0 < markers) (can : CanMark words starts (bounds_of t).blocks) (shared : IsSharedAmong crew) where
+module _ (t : ClaimTable) (words starts : List ℕ) (markers : ℕ) (crew : List Marker) (marked : HaveAllMarked t words starts markers crew)
+    (numbers : AreNumbered crew) (count : length crew ≡
+    markers) (some_ : 0 < markers) (can : CanMark words starts (bounds_of t).blocks) (shared : IsSharedAmong crew) where
   at_crew : (k : ℕ) (m : Marker) → slice_get crew k ≡ Some m → HasMarked t words starts markers m
   at_crew k m e = subst (λ (x : Marker). HasMarked t words starts markers x) (get_or_from_slice_get crew k m m e) (marked k m (slice_get_within crew k m e))
 
@@ -166,7 +175,8 @@ module _ (t : ClaimTable) (words starts : List ℕ) (markers : ℕ) (crew : List
   -- a found object whose block is taken is listed
   listed : (at : ℕ) → IsFound words starts at → (k : ℕ) (m : Marker) → slice_get crew k ≡ Some m → IsTaken m (block_index at) → Listed at
   listed at found k m e i =
-      let by : (j : ℕ) × (n : Marker) × (slice_get crew j ≡ Some n) × Contains (blocks_of n.found.items) (block_index at) = elim i [ inl c ↦ (k, m, e, c) | inr c ↦ shared.found k m (block_index at) e c ] in
+      let by : (j : ℕ) × (n : Marker) × (slice_get crew j ≡ Some n) ×
+      Contains (blocks_of n.found.items) (block_index at) = elim i [ inl c ↦ (k, m, e, c) | inr c ↦ shared.found k m (block_index at) e c ] in
       let p = place_of by.1.found.items (block_index at) by.3 in
       let same : p.0 ≡ at = can.one p.0 at ((at_crew by.0 by.1 by.2).found p.0 p.1) found p.2 in
       (by.0, by.1, by.2, subst (λ (j : ℕ). IsIn by.1.found.items j) same p.1)
@@ -194,7 +204,8 @@ module _ (t : ClaimTable) (words starts : List ℕ) (markers : ℕ) (crew : List
     apart = λ j k at xs ys e f c d.
         let o = at_mapped found_of crew j xs (subst (λ (l : List (Room Address)). slice_get l j ≡ Some xs) is e) in
         let p = at_mapped found_of crew k ys (subst (λ (l : List (Room Address)). slice_get l k ≡ Some ys) is f) in
-        let same = shared.apart j k o.0 p.0 (block_index at) o.1 p.1 (number_of o.0.found.items at (subst (λ (y : Room Address). IsIn y.items at) o.2 c)) (number_of p.0.found.items at (subst (λ (y : Room Address). IsIn y.items at) p.2 d)) in
+        let same = shared.apart j k o.0 p.0 (block_index at) o.1 p.1 (number_of o.0.found.items at (subst (λ (y : Room Address).
+        IsIn y.items at) o.2 c)) (number_of p.0.found.items at (subst (λ (y : Room Address). IsIn y.items at) p.2 d)) in
         sym (numbered crew numbers j o.0 o.1) ∙ same ∙ numbered crew numbers k p.0 p.1;
     once = λ k xs e.
         let o = at_mapped found_of crew k xs (subst (λ (l : List (Room Address)). slice_get l k ≡ Some xs) is e) in
@@ -236,7 +247,8 @@ module _ (all before : List Marker) (last : Marker) (is : all ≡ before ++ last
   at_middle (x ∷ xs) ys m = at_middle xs ys m
 
   pub comes_at : (xs ys : List Marker) (m : Marker) → xs ++ m ∷ ys ≡ before → slice_get all (length xs) ≡ Some m
-  comes_at xs ys m e = ap (λ (l : List Marker). slice_get l (length xs)) is ∙ at_front before (last ∷ []) m (length xs) (ap (λ (l : List Marker). slice_get l (length xs)) (sym e) ∙ at_middle xs ys m)
+  comes_at xs ys m e = ap (λ (l : List Marker). slice_get l (length xs)) is ∙
+      at_front before (last ∷ []) m (length xs) (ap (λ (l : List Marker). slice_get l (length xs)) (sym e) ∙ at_middle xs ys m)
 
   pub last_at : slice_get all (length before) ≡ Some last
   last_at = ap (λ (l : List Marker). slice_get l (length before)) is ∙ at_pushed before last

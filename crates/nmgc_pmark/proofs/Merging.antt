@@ -20,8 +20,12 @@ abbrev pub all : List (List Name) → List Name
 all by = flat_map (λ (own : List Name). own) by
 
 -- names in order are distinct
-before_all : (name next : Name) (names : List Name) → IsBefore name next → IsInOrder (next ∷ names) → (other : Name) → Contains (next ∷ names) other → IsBefore name other
-before_all name next [] first ordered other c = elim (contains_cases next [] other c) [ inl e ↦ subst (λ (n : Name). IsBefore name n) e first | inr d ↦ absurd (omega (arith, d.1)) ]
+before_all : (name next : Name) (names : List Name) → IsBefore name next → IsInOrder (next ∷ names) → (other : Name) →
+    Contains (next ∷ names) other → IsBefore name other
+before_all name next [] first ordered other c = elim (contains_cases next [] other c) [
+  | inl e ↦ subst (λ (n : Name). IsBefore name n) e first
+  | inr d ↦ absurd (omega (arith, d.1))
+]
 before_all name next (more ∷ names) first ordered other c = elim (contains_cases next (more ∷ names) other c) [
   | inl e ↦ subst (λ (n : Name). IsBefore name n) e first
   | inr d ↦ before_all name more names (then name next more first ordered.0) ordered.1 other d
@@ -50,19 +54,24 @@ both_distinct (x ∷ xs) ys a b apart = (
   both_distinct xs ys a.1 b (λ name c d. apart name (contains_tail x xs name c) d),
 )
 
-all_distinct : (by : List (List Name)) → ((k : ℕ) (names : List Name) → slice_get by k ≡ Some names → IsInOrder names) → ((j k : ℕ) (xs ys : List Name) (name : Name) → slice_get by j ≡ Some xs → slice_get by k ≡ Some ys → Contains xs name → Contains ys name → j ≡ k) → AreDistinct (all by)
+all_distinct : (by : List (List Name)) → ((k : ℕ) (names : List Name) → slice_get by k ≡ Some names → IsInOrder names) →
+    ((j k : ℕ) (xs ys : List Name) (name : Name) → slice_get by j ≡ Some xs → slice_get by k ≡ Some ys → Contains xs name → Contains ys name →
+    j ≡ k) → AreDistinct (all by)
 all_distinct [] ordered once = tt
 all_distinct (names ∷ by) ordered once =
-    both_distinct names (all by) (ordered_distinct names (ordered 0 names refl)) (all_distinct by (λ k own e. ordered (suc k) own e) (λ j k xs ys name e f c d. let same : suc j ≡ suc k = once (suc j) (suc k) xs ys name e f c d in omega (arith, same)))
+    both_distinct names (all by) (ordered_distinct names (ordered 0 names refl)) (all_distinct by (λ k own e.
+    ordered (suc k) own e) (λ j k xs ys name e f c d. let same : suc j ≡ suc k = once (suc j) (suc k) xs ys name e f c d in omega (arith, same)))
     (λ name c d.
     let own = flat_contains (λ (xs : List Name). xs) by name d in
     let at = place_of by own.0 own.1 in
     let same : 0 ≡ suc at.0 = once 0 (suc at.0) names own.0 name refl at.1 c own.2 in
     absurd (omega (arith, same)))
 
-pub merged : (by : List (List Name)) (names sorted : List Name) → names ≡ all by → IsPermutation names sorted → AreSorted sorted → (w : World) (roots : List Value) (markers : ℕ) → AreClaims w roots markers by → Lists (IsStrong w roots) sorted
+pub merged : (by : List (List Name)) (names sorted : List Name) → names ≡ all by → IsPermutation names sorted → AreSorted sorted →
+    (w : World) (roots : List Value) (markers : ℕ) → AreClaims w roots markers by → Lists (IsStrong w roots) sorted
 merged by names sorted is moved order w roots markers claims = record {
-  ordered = sort_orders names sorted moved order (distinct_once names (subst (λ (l : List Name). AreDistinct l) (sym is) (all_distinct by claims.ordered claims.once)));
+  ordered = sort_orders names sorted moved order (distinct_once names (subst (λ (l : List Name).
+      AreDistinct l) (sym is) (all_distinct by claims.ordered claims.once)));
   sound = λ name c.
       let own = flat_contains (λ (xs : List Name). xs) by name (subst (λ (l : List Name). Contains l name) is (permuted_had names sorted name moved c)) in
       let at = place_of by own.0 own.1 in

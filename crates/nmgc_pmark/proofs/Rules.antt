@@ -29,7 +29,8 @@ module _ {A : Type 0} where
   at_end [] a b zero e = inr (refl, some-injective a b e)
   at_end [] a b (suc j) e = absurd (some-ne-none b (sym e))
   at_end (x ∷ xs) a b zero e = inl ((omega arith), e)
-  at_end (x ∷ xs) a b (suc j) e = ⊎_elim (λ (t : (j < length xs) × (get_elem? xs j ≡ some b)). let h = t.0 in inl ((omega arith), t.1)) (λ (t : (j ≡ length xs) × (a ≡ b)). inr (ap suc t.0, t.1)) (at_end xs a b j e)
+  at_end (x ∷ xs) a b (suc j) e = ⊎_elim (λ (t : (j < length xs) × (get_elem? xs j ≡ some b)). let h = t.0 in
+      inl ((omega arith), t.1)) (λ (t : (j ≡ length xs) × (a ≡ b)). inr (ap suc t.0, t.1)) (at_end xs a b j e)
 
   -- in one list or the other
   pub in_either : (xs ys : List A) (j : ℕ) (b : A) → get_elem? (xs ++ ys) j ≡ some b → (get_elem? xs j ≡ some b) ⊎ ((k : ℕ) × (get_elem? ys k ≡ some b))
@@ -67,13 +68,15 @@ module _ (bounds : Bounds) where
   one_view : (views : List Seen) (i j : ℕ) (v w : Seen) → get_elem? views i ≡ some v → get_elem? views j ≡ some w → j ≡ i → w ≡ v
   one_view views i j v w e f s = some-injective w v (sym f ∙ ap (λ k. get_elem? views k) s ∙ e)
 
-  module _ (words : List ℕ) (views : List Seen) (h : Keeps bounds words views) (id : ℕ) (v : Seen) (here : get_elem? views id ≡ some v) (p : Part) (alone : v.parts ≡ p ∷ []) (i : ℕ) where
+  module _ (words : List ℕ) (views : List Seen) (h : Keeps bounds words views) (id : ℕ) (v : Seen) (here : get_elem? views id ≡
+      some v) (p : Part) (alone : v.parts ≡ p ∷ []) (i : ℕ) where
     mine : (h.owner p.number ≡ id) × (p.number < bounds.markers) × ((b : ℕ) → Contains p.claimed b → slice_index words b ≡ p.number + 1)
     mine = (h.agrees id v here).parts 0 p (ap (λ l. get_elem? l 0) alone)
 
     -- what v lists is what its one part lists
     own : (number b : ℕ) → IsListed v number b → (p.number ≡ number) × Contains p.claimed b
-    own number b l = only_one (λ (r : Part). r.number ≡ number → Contains r.claimed b → (p.number ≡ number) × Contains p.claimed b) p (λ e c. (e, c)) l.place l.part (ap (λ k. get_elem? k l.place) (sym alone) ∙ l.there) l.is l.claimed
+    own number b l = only_one (λ (r : Part). r.number ≡ number → Contains r.claimed b → (p.number ≡ number) ×
+        Contains p.claimed b) p (λ e c. (e, c)) l.place l.part (ap (λ k. get_elem? k l.place) (sym alone) ∙ l.there) l.is l.claimed
 
     pub fresh : slice_index words i ≡ 0 → Contains (claimed_by v) i → ⊥
     fresh was c =
@@ -101,11 +104,17 @@ module _ (bounds : Bounds) where
       kept b n e = same_word b (λ z. absurd (omega (arith, e, z))) ∙ e
 
       mine_now : (b : ℕ) → Contains taken.claimed b → slice_index now_ b ≡ p.number + 1
-      mine_now b c = ⊎_elim (λ (d : Contains p.claimed b). kept b p.number (mine.2 b d)) (λ (e : i ≡ b). subst (λ k. slice_index now_ k ≡ p.number + 1) e new_word) (Contains-push_cases p.claimed i b c)
+      mine_now b c = ⊎_elim (λ (d : Contains p.claimed b). kept b p.number (mine.2 b d)) (λ (e : i ≡ b).
+          subst (λ k. slice_index now_ k ≡ p.number + 1) e new_word) (Contains-push_cases p.claimed i b c)
 
       after_agrees : Agrees bounds now_ h.owner id after
       after_agrees = record {
-        parts = λ k r e. only_one (λ (q : Part). (h.owner q.number ≡ id) × (q.number < bounds.markers) × ((b : ℕ) → Contains q.claimed b → slice_index now_ b ≡ q.number + 1)) taken (mine.0, mine.1, mine_now) k r (ap (λ l. get_elem? (first_changed (claiming i) l) k) (sym alone) ∙ e);
+        parts = λ k r e. only_one (λ (q : Part). (h.owner q.number ≡ id) × (q.number < bounds.markers) ×
+            ((b : ℕ) → Contains q.claimed b → slice_index now_ b ≡ q.number + 1)) taken (
+              mine.0,
+              mine.1,
+              mine_now,
+            ) k r (ap (λ l. get_elem? (first_changed (claiming i) l) k) (sym alone) ∙ e);
         others = λ b c z. let ne = (h.agrees id v here).others b c in ne (sym (same_word b ne) ∙ z);
       }
 
@@ -162,7 +171,8 @@ module _ (bounds : Bounds) where
         agrees = λ j u at. ⊎_elim
             (λ (t : (j ≡ id) × (refused ≡ u)). subst (λ (y : ℕ × Seen). Agrees bounds words h.owner y.0 y.1) (λ k. (sym t.0 k, t.1 k)) (record {
               parts = (h.agrees id v here).parts;
-              others = λ b c. ⊎_elim (λ (d : Contains v.others b). (h.agrees id v here).others b d) (λ (e : i ≡ b) z. had (ap (λ k. slice_index words k) e ∙ z)) (Contains-push_cases v.others i b c);
+              others = λ b c. ⊎_elim (λ (d : Contains v.others b). (h.agrees id v here).others b d) (λ (e : i ≡ b) z.
+                  had (ap (λ k. slice_index words k) e ∙ z)) (Contains-push_cases v.others i b c);
             }))
             (λ (t : (j ≢ id) × (get_elem? views j ≡ some u)). h.agrees j u t.1)
             (at_set views id j refused u at);
@@ -178,26 +188,30 @@ module _ (bounds : Bounds) where
 
   -- a block's word is compared with 0 and exchanged
   module _ (slots id : ℕ) (me : Me (Unit {0}) Seen) (bare : me.1 ≡ []) (marker i : ℕ) (is : IsMarker me.0 marker) (within : i < bounds.blocks) where
-    step_as : (s : State (Unit {0}) Seen) → holds s → get_elem? s.views id ≡ some me.0 → (hit : Bool) → eqb (slice_index s.words i) 0 ≡ hit → Keeps bounds (set s.words i (either hit (marker + 1) (slice_index s.words i))) (set s.views id (tried me.0 i hit))
+    step_as : (s : State (Unit {0}) Seen) → holds s → get_elem? s.views id ≡ some me.0 → (hit : Bool) → eqb (slice_index s.words i) 0 ≡ hit →
+        Keeps bounds (set s.words i (either hit (marker + 1) (slice_index s.words i))) (set s.views id (tried me.0 i hit))
     step_as s h here true e =
         let long = h.size in
         subst (λ k. Keeps bounds (set s.words i (k + 1)) (set s.views id (tried me.0 i true))) is.2
         (claimed_keeps s.words s.views h id me.0 here is.0 is.1 i (omega (arith, within, long)) (hit_is s.words e))
       where
         hit_is : (ws : List ℕ) → eqb (slice_index ws i) 0 ≡ true → slice_index ws i ≡ 0
-        hit_is ws t = ⊎_elim (λ (z : slice_index ws i ≡ 0). z) (λ (n : slice_index ws i ≢ 0). absurd (true≢false (sym t ∙ ne_eqb (slice_index ws i) 0 n))) (cases_eq (slice_index ws i) 0)
+        hit_is ws t = ⊎_elim (λ (z : slice_index ws i ≡ 0). z) (λ (n : slice_index ws i ≢ 0).
+            absurd (true≢false (sym t ∙ ne_eqb (slice_index ws i) 0 n))) (cases_eq (slice_index ws i) 0)
     step_as s h here false e =
         subst (λ (ws : List ℕ). Keeps bounds ws (set s.views id (tried me.0 i false))) (sym (word_again s.words i))
         (refused_keeps s.words s.views h id me.0 here is.0 is.1 i (λ z. true≢false (sym (eq-eqb (slice_index s.words i) 0 z) ∙ e)))
 
-    pub claim_allows : Allows holds slots id me i (λ n. either (eqb n 0) (marker + 1) n) (λ n m. ((m.0 ≡ tried me.0 i (eqb n 0)) × (n ≡ 0 → Contains (claimed_by me.0) i → ⊥)) × (m.1 ≡ []))
+    pub claim_allows : Allows holds slots id me i (λ n. either (eqb n 0) (marker + 1) n) (λ n m. ((m.0 ≡ tried me.0 i (eqb n 0)) ×
+        (n ≡ 0 → Contains (claimed_by me.0) i → ⊥)) × (m.1 ≡ []))
     claim_allows s h len here small =
         let n : ℕ = slice_index s.words i in
         let hit : Bool = eqb n 0 in
         (tried me.0 i hit, keeps, tt, step_as s h here hit refl, ((refl, fresh s.words s.views h id me.0 here is.0 is.1 i), bare))
 
   -- a seat gives its first marker to a new seat
-  split_listed : (v : Seen) (p : Part) (ps : List Part) → v.parts ≡ p ∷ ps → (number b : ℕ) → IsListed v number b → IsListed (gives_first v) number b ⊎ IsListed (keeps_rest v) number b
+  split_listed : (v : Seen) (p : Part) (ps : List Part) → v.parts ≡ p ∷ ps → (number b : ℕ) → IsListed v number b →
+      IsListed (gives_first v) number b ⊎ IsListed (keeps_rest v) number b
   split_listed v p ps e number b l = go l.place (ap (λ k. get_elem? k l.place) (sym e) ∙ l.there)
     where
       go : (k : ℕ) → get_elem? (p ∷ ps) k ≡ some l.part → IsListed (gives_first v) number b ⊎ IsListed (keeps_rest v) number b
@@ -228,12 +242,23 @@ module _ (bounds : Bounds) where
               others = g.others;
             }))
             (λ (x : (j ≢ id) × (get_elem? s.views j ≡ some u)). let f = h.agrees j u x.1 in record {
-              parts = λ k q e. let t = f.parts k q e in (is_old q.number p.number n (h.owner q.number) (λ (same : q.number ≡ p.number). x.0 (sym t.0 ∙ ap h.owner same ∙ mine.0)) ∙ t.0, t.1, t.2);
+              parts = λ k q e. let t = f.parts k q e in (
+                is_old q.number p.number n (h.owner q.number) (λ (same : q.number ≡ p.number).
+                    x.0 (sym t.0 ∙ ap h.owner same ∙ mine.0)) ∙ t.0,
+                t.1,
+                t.2,
+              );
               others = f.others;
             })
             (at_set s.views id j left u t.1))
-            (λ (t : (j ≡ length (set s.views id left)) × (right ≡ u)). subst (λ (y : ℕ × Seen). Agrees bounds s.words owner y.0 y.1) (λ i. (sym (t.0 ∙ short) i, t.1 i)) (record {
-              parts = λ k q e. only_one (λ (r : Part). (cond (eqb r.number p.number) n (h.owner r.number) ≡ n) × (r.number < bounds.markers) × ((b : ℕ) → Contains r.claimed b → slice_index s.words b ≡ r.number + 1)) p (is_new p.number p.number n (h.owner p.number) refl, mine.1, mine.2) k q (ap (λ l. get_elem? l k) (sym (ap first_alone can.2)) ∙ e);
+            (λ (t : (j ≡ length (set s.views id left)) × (right ≡ u)).
+            subst (λ (y : ℕ × Seen). Agrees bounds s.words owner y.0 y.1) (λ i. (sym (t.0 ∙ short) i, t.1 i)) (record {
+              parts = λ k q e. only_one (λ (r : Part). (cond (eqb r.number p.number) n (h.owner r.number) ≡ n) × (r.number < bounds.markers) ×
+                  ((b : ℕ) → Contains r.claimed b → slice_index s.words b ≡ r.number + 1)) p (
+                    is_new p.number p.number n (h.owner p.number) refl,
+                    mine.1,
+                    mine.2,
+                  ) k q (ap (λ l. get_elem? l k) (sym (ap first_alone can.2)) ∙ e);
               others = λ b c. absurd (nothing b c);
             }))
             (at_end (set s.views id left) right u j at);
@@ -244,7 +269,13 @@ module _ (bounds : Bounds) where
             let l : IsListed v number b = subst (λ (y : Seen). IsListed y number b) (one_view s.views id old.0 v old.1 here old.2 x) old.3 in
             ⊎_elim
             (λ (f : IsListed right number b). (n, right, at_last (set s.views id left) right n short, f))
-            (λ (f : IsListed left number b). (id, left, at_longer (set s.views id left) (right ∷ []) id left (set_here s.views id left (inside s.views id v here)), f))
+            (λ (f : IsListed left number b). (
+              id,
+              left,
+              at_longer (set s.views id left) (right ∷
+                  []) id left (set_here s.views id left (inside s.views id v here)),
+              f,
+            ))
             (split_listed v p ps can.2 number b l))
             (λ (m : old.0 ≢ id). (old.0, old.1, at_longer (set s.views id left) (right ∷ []) old.0 old.1 (set_else s.views id old.0 left m ∙ old.2), old.3))
             (cases_eq old.0 id);
@@ -254,26 +285,39 @@ module _ (bounds : Bounds) where
   pub joins : (id : ℕ) (v : Seen) (other : ℕ) (w : Seen) → Joins holds id v other w (together v w) nobody
   joins id v other w s h here apart at =
       let both : Seen = together v w in
-      let there : get_elem? s.views other ≡ some w = ⊎_elim (λ (t : (other ≡ id) × (both ≡ w)). absurd (apart t.0)) (λ (t : (other ≢ id) × (get_elem? s.views other ≡ some w)). t.1) (at_set s.views id other both w at) in
+      let there : get_elem? s.views other ≡ some w = ⊎_elim (λ (t : (other ≡ id) × (both ≡ w)). absurd (apart t.0)) (λ (t : (other ≢ id) ×
+      (get_elem? s.views other ≡ some w)). t.1) (at_set s.views id other both w at) in
       let owner : ℕ → ℕ = λ k. cond (eqb (h.owner k) other) id (h.owner k) in
       let f = h.agrees id v here in
       let g = h.agrees other w there in
-      let mine : get_elem? (set (set s.views id both) other nobody) id ≡ some both = set_else (set s.views id both) other id nobody (λ (e : id ≡ other). apart (sym e)) ∙ set_here s.views id both (inside s.views id v here) in
+      let mine : get_elem? (set (set s.views id both) other nobody) id ≡ some both =
+      set_else (set s.views id both) other id nobody (λ (e : id ≡ other). apart (sym e)) ∙ set_here s.views id both (inside s.views id v here) in
       record {
         size = h.size;
         owner = owner;
         agrees = λ j u a. ⊎_elim
-            (λ (x : (j ≡ other) × (nobody ≡ u)). subst (λ (y : ℕ × Seen). Agrees bounds s.words owner y.0 y.1) (λ i. (sym x.0 i, x.1 i)) (nobody_agrees s.words owner other))
+            (λ (x : (j ≡ other) × (nobody ≡ u)). subst (λ (y : ℕ × Seen). Agrees bounds s.words owner y.0 y.1) (λ i. (
+              sym x.0 i,
+              x.1 i,
+            )) (nobody_agrees s.words owner other))
             (λ (x : (j ≢ other) × (get_elem? (set s.views id both) j ≡ some u)). ⊎_elim
             (λ (y : (j ≡ id) × (both ≡ u)). subst (λ (z : ℕ × Seen). Agrees bounds s.words owner z.0 z.1) (λ i. (sym y.0 i, y.1 i)) (record {
               parts = λ k q e. ⊎_elim
-                  (λ (t : get_elem? v.parts k ≡ some q). let r = f.parts k q t in (is_old (h.owner q.number) other id (h.owner q.number) (λ (e' : h.owner q.number ≡ other). apart (sym e' ∙ r.0)) ∙ r.0, r.1, r.2))
-                  (λ (t : (i : ℕ) × (get_elem? w.parts i ≡ some q)). let r = g.parts t.0 q t.1 in (is_new (h.owner q.number) other id (h.owner q.number) r.0, r.1, r.2))
+                  (λ (t : get_elem? v.parts k ≡ some q). let r = f.parts k q t in
+                  (is_old (h.owner q.number) other id (h.owner q.number) (λ (e' : h.owner q.number ≡ other). apart (sym e' ∙ r.0)) ∙ r.0, r.1, r.2))
+                  (λ (t : (i : ℕ) × (get_elem? w.parts i ≡ some q)). let r = g.parts t.0 q t.1 in
+                  (is_new (h.owner q.number) other id (h.owner q.number) r.0, r.1, r.2))
                   (in_either v.parts w.parts k q e);
-              others = λ b c. ⊎_elim (λ (d : Contains v.others b). f.others b d) (λ (d : Contains w.others b). g.others b d) (Contains-append_cases v.others w.others b c);
+              others = λ b c. ⊎_elim (λ (d : Contains v.others b). f.others b d) (λ (d : Contains w.others b).
+                  g.others b d) (Contains-append_cases v.others w.others b c);
             }))
             (λ (y : (j ≢ id) × (get_elem? s.views j ≡ some u)). let o = h.agrees j u y.1 in record {
-              parts = λ k q e. let r = o.parts k q e in (is_old (h.owner q.number) other id (h.owner q.number) (λ (e' : h.owner q.number ≡ other). x.0 (sym r.0 ∙ e')) ∙ r.0, r.1, r.2);
+              parts = λ k q e. let r = o.parts k q e in (
+                is_old (h.owner q.number) other id (h.owner q.number) (λ (e' : h.owner q.number ≡ other).
+                    x.0 (sym r.0 ∙ e')) ∙ r.0,
+                r.1,
+                r.2,
+              );
               others = o.others;
             })
             (at_set s.views id j both u x.1))
@@ -282,8 +326,18 @@ module _ (bounds : Bounds) where
             let old = h.listed b number e in
             ⊎_elim
             (λ (x : old.0 ≡ id).
-            let l : IsListed v number b = subst (λ (y : Seen). IsListed y number b) (one_view s.views id old.0 v old.1 here old.2 x) old.3 in
-            (id, both, mine, record { place = l.place; part = l.part; there = at_longer v.parts w.parts l.place l.part l.there; is = l.is; claimed = l.claimed }))
+            let l : IsListed v number b = subst (λ (y : Seen). IsListed y number b) (one_view s.views id old.0 v old.1 here old.2 x) old.3 in (
+              id,
+              both,
+              mine,
+              record {
+                place = l.place;
+                part = l.part;
+                there = at_longer v.parts w.parts l.place l.part l.there;
+                is = l.is;
+                claimed = l.claimed;
+              },
+            ))
             (λ (m : old.0 ≢ id). ⊎_elim
             (λ (x : old.0 ≡ other).
             let l : IsListed w number b = subst (λ (y : Seen). IsListed y number b) (one_view s.views other old.0 w old.1 there old.2 x) old.3 in
@@ -315,7 +369,8 @@ module _ (bounds : Bounds) where
     where
       first : (id : ℕ) (v : Seen) → get_elem? (whole bounds.markers ∷ []) id ≡ some v → Agrees bounds (replicate bounds.blocks 0) (λ k. 0) id v
       first zero v e = subst (λ (u : Seen). Agrees bounds (replicate bounds.blocks 0) (λ k. 0) 0 u) (some-injective (whole bounds.markers) v e) (record {
-        parts = λ k p e'. let t = blanks_at 0 bounds.markers k p e' in (refl, (let lt = t.0 in omega arith), λ b c. absurd (nothing b (subst (λ (l : List ℕ). Contains l b) t.1 c)));
+        parts = λ k p e'. let t = blanks_at 0 bounds.markers k p e' in
+            (refl, (let lt = t.0 in omega arith), λ b c. absurd (nothing b (subst (λ (l : List ℕ). Contains l b) t.1 c)));
         others = λ b c. absurd (nothing b c);
       })
       first (suc id) v e = absurd (some-ne-none v (sym e))
@@ -341,7 +396,8 @@ module _ (bounds : Bounds) where
           omega (arith, a, c);
       found = λ b c.
           let ne = (h.agrees id v here).others b c in
-          all_here (slice_index s.words b - 1) b (⊎_elim (λ (z : slice_index s.words b ≡ 0). absurd (ne z)) (λ (n : slice_index s.words b ≢ 0). omega arith) (cases_eq (slice_index s.words b) 0));
+          all_here (slice_index s.words b - 1) b (⊎_elim (λ (z : slice_index s.words b ≡ 0). absurd (ne z)) (λ (n : slice_index s.words b ≢ 0).
+          omega arith) (cases_eq (slice_index s.words b) 0));
     }
 
   pub final : (id : ℕ) (v : Seen) (words : List ℕ) (slots : List (Unit {0})) → HasAll bounds.markers v → Final (SeenIn holds id v) words slots → IsShared v

@@ -42,10 +42,23 @@ as_it_is : (s : State) → IsAsBefore s s
 as_it_is s = record { world = refl; snapshot = refl; is_closed = refl; owed = refl; pushed = refl }
 
 and_then : (s t u : State) → IsAsBefore s t → IsAsBefore t u → IsAsBefore s u
-and_then s t u a b = record { world = b.world ∙ a.world; snapshot = b.snapshot ∙ a.snapshot; is_closed = b.is_closed ∙ a.is_closed; owed = b.owed ∙ a.owed; pushed = b.pushed ∙ a.pushed }
+and_then s t u a b = record {
+  world = b.world ∙ a.world;
+  snapshot = b.snapshot ∙ a.snapshot;
+  is_closed = b.is_closed ∙ a.is_closed;
+  owed = b.owed ∙
+      a.owed;
+  pushed = b.pushed ∙ a.pushed;
+}
 
 named : (s : State) (name : Name) → IsAsBefore s (mark_name s name)
-named s name = mark_cases (λ (t : State). IsAsBefore s t) s name (λ e. record { world = refl; snapshot = refl; is_closed = refl; owed = refl; pushed = refl }) (λ e. as_it_is s)
+named s name = mark_cases (λ (t : State). IsAsBefore s t) s name (λ e. record {
+  world = refl;
+  snapshot = refl;
+  is_closed = refl;
+  owed = refl;
+  pushed = refl;
+}) (λ e. as_it_is s)
 
 read : (s : State) (o : Option Value) → IsAsBefore s (mark_read s o)
 read s None = as_it_is s
@@ -65,7 +78,8 @@ valued s (value.Ref name ∷ values) = and_then s (mark_name s name) (mark_value
 
 -- a marked name was marked before, or is the one that was read
 name_marked : (s : State) (name other : Name) → Contains (mark_name s name).marked other → Contains s.marked other ⊎ (name ≡ other)
-name_marked s name other = mark_cases (λ (t : State). Contains t.marked other → Contains s.marked other ⊎ (name ≡ other)) s name (λ e c. Contains-push_cases s.marked name other c) (λ e c. inl c)
+name_marked s name other = mark_cases (λ (t : State). Contains t.marked other → Contains s.marked other ⊎
+    (name ≡ other)) s name (λ e c. Contains-push_cases s.marked name other c) (λ e c. inl c)
 
 read_marked : (s : State) (o : Option Value) (other : Name) → Contains (mark_read s o).marked other → Contains s.marked other ⊎ (o ≡ Some (value.Ref other))
 read_marked s None other c = inl c
@@ -77,10 +91,19 @@ moved_marked : (s : State) (queue : List Entry) → (advanced s queue).marked �
 moved_marked s [] = refl
 moved_marked s (entry ∷ rest) = refl
 
-values_marked : (s : State) (values : List Value) (other : Name) → Contains (mark_values s values).marked other → Contains s.marked other ⊎ Contains values (value.Ref other)
+values_marked : (s : State) (values : List Value) (other : Name) → Contains (mark_values s values).marked other → Contains s.marked other ⊎
+    Contains values (value.Ref other)
 values_marked s [] other c = inl c
-values_marked s (value.Nil ∷ values) other c = elim (values_marked s values other c) [ inl old ↦ inl old | inr d ↦ inr (contains_tail value.Nil values (value.Ref other) d) ]
-values_marked s (value.Number n ∷ values) other c = elim (values_marked s values other c) [ inl old ↦ inl old | inr d ↦ inr (contains_tail (value.Number n) values (value.Ref other) d) ]
+values_marked s (value.Nil ∷ values) other c = elim (values_marked s values other c) [
+  | inl old ↦ inl old
+  | inr d ↦
+      inr (contains_tail value.Nil values (value.Ref other) d)
+]
+values_marked s (value.Number n ∷ values) other c = elim (values_marked s values other c) [
+  | inl old ↦ inl old
+  | inr d ↦
+      inr (contains_tail (value.Number n) values (value.Ref other) d)
+]
 values_marked s (value.Ref name ∷ values) other c = elim (values_marked (mark_name s name) values other c) [
   | inl old ↦ elim (name_marked s name other old) [
     | inl older ↦ inl older
@@ -109,7 +132,8 @@ module _ (w : World) (h : IsWorld w) where
     pub reached : (name : Name) → Contains s.marked name → Reached name
 
   -- what is read at a field of a reached object is reached
-  field_reached : (s : State) (i : IsScanned s) (entry : Entry) → Contains s.queue entry → (k : ℕ) → entry.position ≡ suc k → (node : Node) → node_of s.world entry.name ≡ Some node → (name : Name) → field_at node k ≡ Some (value.Ref name) → Reached name
+  field_reached : (s : State) (i : IsScanned s) (entry : Entry) → Contains s.queue entry → (k : ℕ) → entry.position ≡ suc k → (node : Node) →
+      node_of s.world entry.name ≡ Some node → (name : Name) → field_at node k ≡ Some (value.Ref name) → Reached name
   field_reached s i entry c k at node is name e =
       let here : node_of w entry.name ≡ Some node = subst (λ (v : World). node_of v entry.name ≡ Some node) i.world is in
       let from : Reached entry.name = i.reached entry.name (i.facts.base.queued entry c) in
@@ -125,7 +149,8 @@ module _ (w : World) (h : IsWorld w) where
         ])
       ]
 
-  read_reached : (s : State) (i : IsScanned s) (entry : Entry) → Contains s.queue entry → (o : Option Node) → node_of s.world entry.name ≡ o → (position : ℕ) → entry.position ≡ position → (name : Name) → read_at o position ≡ Some (value.Ref name) → Reached name
+  read_reached : (s : State) (i : IsScanned s) (entry : Entry) → Contains s.queue entry → (o : Option Node) → node_of s.world entry.name ≡ o →
+      (position : ℕ) → entry.position ≡ position → (name : Name) → read_at o position ≡ Some (value.Ref name) → Reached name
   read_reached s i entry c None is position at name e = absurd cc
   read_reached s i entry c (Some node) is zero at name e = absurd cc
   read_reached s i entry c (Some node) is (suc k) at name e = field_reached s i entry c k at node is name e
@@ -151,7 +176,8 @@ module _ (w : World) (h : IsWorld w) where
       }
 
   -- what the mutators hold is a root, and so are the slots of g
-  held_root : (f : MutatorState → List Value) → ((m : ℕ) (v : Value) → Contains (f (state_of w m)) v → Contains ((state_of w m).registers ++ (state_of w m).queue) v) → (name : Name) → Contains (flat_map f w.mutators) (value.Ref name) → IsRoot w name
+  held_root : (f : MutatorState → List Value) → ((m : ℕ) (v : Value) → Contains (f (state_of w m)) v →
+      Contains ((state_of w m).registers ++ (state_of w m).queue) v) → (name : Name) → Contains (flat_map f w.mutators) (value.Ref name) → IsRoot w name
   held_root f part name c =
       let d = flat_contains f w.mutators (value.Ref name) c in
       let p = place_of w.mutators d.0 d.1 in
@@ -160,28 +186,36 @@ module _ (w : World) (h : IsWorld w) where
 
   pub start_root : (name : Name) → IsStart (roots_of w) name → IsRoot w name
   start_root name (inl g) = inl g
-  start_root name (inr c) = elim (Contains-append_cases (flat_map (λ (state : MutatorState). state.registers) w.mutators) (flat_map (λ (state : MutatorState). state.queue) w.mutators) (value.Ref name) c) [
-    | inl r ↦ held_root (λ (state : MutatorState). state.registers) (λ m v d. Contains-append_left (state_of w m).registers (state_of w m).queue v d) name r
-    | inr q ↦ held_root (λ (state : MutatorState). state.queue) (λ m v d. Contains-append_right (state_of w m).registers (state_of w m).queue v d) name q
-  ]
+  start_root name (inr c) = elim (Contains-append_cases (flat_map (λ (state : MutatorState).
+      state.registers) w.mutators) (flat_map (λ (state : MutatorState). state.queue) w.mutators) (value.Ref name) c) [
+        | inl r ↦ held_root (λ (state : MutatorState). state.registers) (λ m v d. Contains-append_left (state_of w m).registers (state_of w m).queue v d) name r
+        | inr q ↦ held_root (λ (state : MutatorState). state.queue) (λ m v d. Contains-append_right (state_of w m).registers (state_of w m).queue v d) name q
+      ]
 
   pub root_start : (name : Name) → IsRoot w name → IsStart (roots_of w) name
   root_start name (inl g) = inl g
   root_start name (inr (m, c)) = elim (cases_lt m (length w.mutators)) [
-    | inr past ↦ let empty : Contains (no_mutator.registers ++ no_mutator.queue) (value.Ref name) = rw (get_or_past w.mutators m no_mutator past) at c in absurd (nothing_in (value.Ref name) empty)
+    | inr past ↦ let empty : Contains (no_mutator.registers ++ no_mutator.queue) (value.Ref name) = rw (get_or_past w.mutators m no_mutator past) at c in
+        absurd (nothing_in (value.Ref name) empty)
     | inl lt ↦
         let there : Contains w.mutators (state_of w m) = Contains-get_or w.mutators m no_mutator lt in
         inr (elim (Contains-append_cases (state_of w m).registers (state_of w m).queue (value.Ref name) c) [
-          | inl r ↦ Contains-append_left (flat_map (λ (state : MutatorState). state.registers) w.mutators) _ (value.Ref name) (contains_flat (λ (state : MutatorState). state.registers) w.mutators (state_of w m) (value.Ref name) there r)
-          | inr q ↦ Contains-append_right (flat_map (λ (state : MutatorState). state.registers) w.mutators) _ (value.Ref name) (contains_flat (λ (state : MutatorState). state.queue) w.mutators (state_of w m) (value.Ref name) there q)
+          | inl r ↦ Contains-append_left (flat_map (λ (state : MutatorState).
+              state.registers) w.mutators) _ (value.Ref name) (contains_flat (λ (state : MutatorState).
+              state.registers) w.mutators (state_of w m) (value.Ref name) there r)
+          | inr q ↦ Contains-append_right (flat_map (λ (state : MutatorState).
+              state.registers) w.mutators) _ (value.Ref name) (contains_flat (λ (state : MutatorState).
+              state.queue) w.mutators (state_of w m) (value.Ref name) there q)
         ])
   ]
 
   opened_reached : (name : Name) → Contains (root_values w) (value.Ref name) → Reached name
   opened_reached name c = elim (Contains-append_cases (flat_map (λ (state : MutatorState). state.registers) w.mutators) _ (value.Ref name) c) [
-    | inl r ↦ IsReached.start name (start_root name (inr (Contains-append_left (flat_map (λ (state : MutatorState). state.registers) w.mutators) _ (value.Ref name) r)))
+    | inl r ↦ IsReached.start name (start_root name (inr (Contains-append_left (flat_map (λ (state : MutatorState).
+        state.registers) w.mutators) _ (value.Ref name) r)))
     | inr more ↦ elim (Contains-append_cases (flat_map (λ (state : MutatorState). state.queue) w.mutators) (strong_fields w.shared) (value.Ref name) more) [
-      | inl q ↦ IsReached.start name (start_root name (inr (Contains-append_right (flat_map (λ (state : MutatorState). state.registers) w.mutators) _ (value.Ref name) q)))
+      | inl q ↦ IsReached.start name (start_root name (inr (Contains-append_right (flat_map (λ (state : MutatorState).
+          state.registers) w.mutators) _ (value.Ref name) q)))
       | inr slot ↦ IsReached.field shared_name name (IsReached.start shared_name (inl refl)) (w.shared, refl, slot)
     ]
   ]

@@ -34,7 +34,8 @@ got_below [] i x e = absurd cc
 got_below (y ∷ xs) zero x e = omega arith
 got_below (y ∷ xs) (suc i) x e = let r = got_below xs i x e in omega (arith, r)
 
-list_means : (P : Place → Type 0) (ws : List ℕ) (values : List Value) → length ws ≡ length values → ((i : ℕ) (v : Value) → slice_get values i ≡ Some v → Means P (get_or ws i 0) v) → ListMeans P ws values
+list_means : (P : Place → Type 0) (ws : List ℕ) (values : List Value) → length ws ≡ length values →
+    ((i : ℕ) (v : Value) → slice_get values i ≡ Some v → Means P (get_or ws i 0) v) → ListMeans P ws values
 list_means P [] [] e h = tt
 list_means P [] (v ∷ vs) e h = absurd (omega (arith, e))
 list_means P (w ∷ ws) [] e h = absurd (omega (arith, e))
@@ -47,7 +48,9 @@ means_append P (w ∷ ws) us [] ys a b = absurd a
 means_append P (w ∷ ws) us (x ∷ xs) ys a b = (a.0, means_append P ws us xs ys a.1 b)
 
 -- the registers of all mutators are one list of words
-flat_registers : (P : Place → Type 0) (xs : List MutatorState) (ws : List ℕ) → length ws ≡ REGISTERS * length xs → ((m : ℕ) → m < length xs → (length (get_or xs m no_mutator).registers ≡ REGISTERS) × AllMean P ws (REGISTERS * m) (get_or xs m no_mutator).registers) → ListMeans P ws (flat_map (λ (state : MutatorState). state.registers) xs)
+flat_registers : (P : Place → Type 0) (xs : List MutatorState) (ws : List ℕ) → length ws ≡ REGISTERS * length xs →
+    ((m : ℕ) → m < length xs → (length (get_or xs m no_mutator).registers ≡ REGISTERS) ×
+    AllMean P ws (REGISTERS * m) (get_or xs m no_mutator).registers) → ListMeans P ws (flat_map (λ (state : MutatorState). state.registers) xs)
 flat_registers P [] [] size h = tt
 flat_registers P [] (w ∷ ws) size h = absurd (omega (arith, size))
 flat_registers P (x ∷ xs) ws size h =
@@ -68,17 +71,23 @@ flat_registers P (x ∷ xs) ws size h =
           let at : REGISTERS * suc m + i ≡ REGISTERS + (REGISTERS * m + i) = omega arith in
           subst (λ (y : ℕ). Means P y v) (ap (λ (j : ℕ). get_or ws j 0) at ∙ sym (get_or-drop REGISTERS ws (REGISTERS * m + i) 0)) (r.1 i v e),
     )) in
-    subst (λ (l : List ℕ). ListMeans P l (flat_map (λ (state : MutatorState). state.registers) (x ∷ xs))) (take-append-drop REGISTERS ws) (means_append P (take REGISTERS ws) (drop REGISTERS ws) x.registers (flat_map (λ (state : MutatorState). state.registers) xs) a b)
+    subst (λ (l : List ℕ). ListMeans P l (flat_map (λ (state : MutatorState). state.registers) (x ∷
+    xs))) (take-append-drop REGISTERS ws) (means_append P (take REGISTERS ws) (drop REGISTERS ws) x.registers
+    (flat_map (λ (state : MutatorState). state.registers) xs) a b)
 
 -- and so are their finaliser queues
-flat_queues : (P : Place → Type 0) (ends : List MutatorEnd) (xs : List MutatorState) → length (queues_of ends) ≡ length xs → ((m : ℕ) (own : List ℕ) → slice_get (queues_of ends) m ≡ Some own → ListMeans P own (get_or xs m no_mutator).queue) → ListMeans P (flat_map (λ (m : MutatorEnd). m.queue) ends) (flat_map (λ (state : MutatorState). state.queue) xs)
+flat_queues : (P : Place → Type 0) (ends : List MutatorEnd) (xs : List MutatorState) → length (queues_of ends) ≡ length xs →
+    ((m : ℕ) (own : List ℕ) → slice_get (queues_of ends) m ≡ Some own → ListMeans P own (get_or xs m no_mutator).queue) →
+    ListMeans P (flat_map (λ (m : MutatorEnd). m.queue) ends) (flat_map (λ (state : MutatorState). state.queue) xs)
 flat_queues P [] [] e h = tt
 flat_queues P [] (x ∷ xs) e h = absurd (omega (arith, e))
 flat_queues P (q ∷ ends) [] e h = absurd (omega (arith, e))
 flat_queues P (q ∷ ends) (x ∷ xs) e h =
-    means_append P q.queue (flat_map (λ (m : MutatorEnd). m.queue) ends) x.queue (flat_map (λ (state : MutatorState). state.queue) xs) (h 0 q.queue refl) (flat_queues P ends xs (omega (arith, e)) (λ m own g. h (suc m) own g))
+    means_append P q.queue (flat_map (λ (m : MutatorEnd). m.queue) ends) x.queue (flat_map (λ (state : MutatorState).
+    state.queue) xs) (h 0 q.queue refl) (flat_queues P ends xs (omega (arith, e)) (λ m own g. h (suc m) own g))
 
-module _ (layout : Layout) (s : State) (words : List ℕ) (segments : Segments) (mutators : List MutatorEnd) (weaks : List Place) (world : IsWorld s.world) (sound : IsSegments segments) (h : HoldsAtStop layout s words segments mutators weaks) where
+module _ (layout : Layout) (s : State) (words : List ℕ) (segments : Segments) (mutators : List MutatorEnd) (weaks : List Place)
+    (world : IsWorld s.world) (sound : IsSegments segments) (h : HoldsAtStop layout s words segments mutators weaks) where
   abbrev base : ℕ
   base = nursery_place segments.layout 0
 
@@ -90,7 +99,9 @@ module _ (layout : Layout) (s : State) (words : List ℕ) (segments : Segments) 
   emptied p c = elim ((h.all p).0 c) [
     | inl g ↦ let at : p.at ≡ 1 = ap (λ (q : Place). q.at) g in omega (arith, at)
     | inr b ↦
-        let o : IsOccupied segments p.at (block_size (cells s.allocation b.number).class) = subst (λ (k : ℕ). IsOccupied segments k (block_size (cells s.allocation b.number).class)) (sym b.at) (block_used layout s.allocation words segments h.holds.layout_is h.holds.stands b.number b.block p.name b.lies) in
+        let o : IsOccupied segments p.at (block_size (cells s.allocation b.number).class) =
+        subst (λ (k : ℕ). IsOccupied segments k (block_size (cells s.allocation b.number).class)) (sym b.at)
+        (block_used layout s.allocation words segments h.holds.layout_is h.holds.stands b.number b.block p.name b.lies) in
         let k = is_block segments base p.at (block_size (cells s.allocation b.number).class) sound refl o in
         let four = k.four in
         let below = k.below in
@@ -98,12 +109,21 @@ module _ (layout : Layout) (s : State) (words : List ℕ) (segments : Segments) 
   ]
 
   root_tracked : (name : Name) → Contains (roots_of s.world) (value.Ref name) → IsTracked s.world (snapshots s.progress) name
-  root_tracked name c = IsReached.start name (s.world, contains_head s.world (snapshots s.progress), IsReached.start name (inl (start_root s.world world name (inr c))))
+  root_tracked name c = IsReached.start name (
+    s.world,
+    contains_head s.world (snapshots s.progress),
+    IsReached.start name (inl (start_root s.world world name (inr c))),
+  )
 
   means : ListMeans (Contains h.places) (root_words mutators) (roots_of s.world)
   means =
-      means_append (Contains h.places) (registers_of mutators) (flat_map (λ (m : MutatorEnd). m.queue) mutators) (flat_map (λ (state : MutatorState). state.registers) s.world.mutators) (flat_map (λ (state : MutatorState). state.queue) s.world.mutators)
-      (flat_registers (Contains h.places) s.world.mutators (registers_of mutators) h.holds.roots.count (λ m lt. (world.registers m lt, h.holds.roots.held m lt)))
+      means_append (Contains h.places) (registers_of mutators) (flat_map (λ (m : MutatorEnd).
+      m.queue) mutators) (flat_map (λ (state : MutatorState). state.registers) s.world.mutators) (flat_map (λ (state : MutatorState).
+      state.queue) s.world.mutators)
+      (flat_registers (Contains h.places) s.world.mutators (registers_of mutators) h.holds.roots.count (λ m lt. (
+        world.registers m lt,
+        h.holds.roots.held m lt,
+      )))
       (flat_queues (Contains h.places) mutators s.world.mutators h.holds.roots.mutators.0 h.holds.roots.queued)
 
   stopped : IsStoppedAs s segments words (root_words mutators)
@@ -115,7 +135,8 @@ module _ (layout : Layout) (s : State) (words : List ℕ) (segments : Segments) 
       world = world;
       represents = subst (λ (l : Layout). Represents l (snapshots s.progress) NoNode h.places s.world words) (sym h.holds.layout_is) h.holds.represents;
       segments = sound;
-      blocks = subst (λ (l : Layout). AreBlocks segments (nursery_place l 0) h.places s.world) (sym h.holds.layout_is) (blocks_at_stop layout s words segments mutators weaks h);
+      blocks = subst (λ (l : Layout).
+          AreBlocks segments (nursery_place l 0) h.places s.world) (sym h.holds.layout_is) (blocks_at_stop layout s words segments mutators weaks h);
       emptied = emptied;
       means = means;
       tracked = root_tracked;

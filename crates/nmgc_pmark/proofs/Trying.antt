@@ -90,7 +90,8 @@ one_part y = record { number = y.0; claimed = y.1 } ∷ []
 
 module _ (t : ClaimTable) where
   -- nothing to try
-  pub tried_none : (m : Marker) (Given : ℕ → Type 0) → IsSound t m → ((at : ℕ) → FIRST_PLACE ≤ at → Given (2 * at) → IsTaken m (block_index at)) → HasTried t m m Given
+  pub tried_none : (m : Marker) (Given : ℕ → Type 0) → IsSound t m → ((at : ℕ) → FIRST_PLACE ≤ at → Given (2 * at) → IsTaken m (block_index at)) →
+      HasTried t m m Given
   tried_none m Given h has = record {
     sound = h;
     number = refl;
@@ -102,7 +103,8 @@ module _ (t : ClaimTable) where
   }
 
   -- one after the other
-  pub tried_then : (a b c : Marker) (P Q R : ℕ → Type 0) → HasTried t a b P → HasTried t b c Q → ((w : ℕ) → P w → R w) → ((w : ℕ) → Q w → R w) → ((w : ℕ) → R w → P w ⊎ Q w) → HasTried t a c R
+  pub tried_then : (a b c : Marker) (P Q R : ℕ → Type 0) → HasTried t a b P → HasTried t b c Q → ((w : ℕ) → P w → R w) → ((w : ℕ) → Q w → R w) →
+      ((w : ℕ) → R w → P w ⊎ Q w) → HasTried t a c R
   tried_then a b c P Q R f g left right both = record {
     sound = g.sound;
     number = g.number ∙ f.number;
@@ -128,7 +130,8 @@ module _ (t : ClaimTable) where
     conserved = f.conserved;
   }
 
-  module _ (m n : Marker) (at : ℕ) (h : IsSound t m) (above : FIRST_PLACE ≤ at) (within : block_index at < (bounds_of t).blocks) (seat : IsAt t n.seat) (number : n.number ≡ m.number) where
+  module _ (m n : Marker) (at : ℕ) (h : IsSound t m) (above : FIRST_PLACE ≤ at) (within : block_index at < (bounds_of t).blocks)
+      (seat : IsAt t n.seat) (number : n.number ≡ m.number) where
     own : claimed_by (seen m.seat) ≡ blocks_of m.found.items
     own = ap claimed_in h.alone
 
@@ -141,7 +144,11 @@ module _ (t : ClaimTable) where
     has_room fresh =
         let all = few (bounds_of t).blocks (blocks_of m.found.items ++ block_index at ∷ [])
         (distinct_push (blocks_of m.found.items) (block_index at) h.once (λ c. fresh (subst (λ (l : List ℕ). Contains l (block_index at)) (sym own) c)))
-        (λ b c. elim (Contains-push_cases (blocks_of m.found.items) (block_index at) b c) [ inl d ↦ h.below b d | inr e ↦ subst (λ (k : ℕ). k < (bounds_of t).blocks) e within ])
+        (λ b c. elim (Contains-push_cases (blocks_of m.found.items) (block_index at) b c) [
+          | inl d ↦ h.below b d
+          | inr e ↦
+              subst (λ (k : ℕ). k < (bounds_of t).blocks) e within
+        ])
         in
         let long = length-append (blocks_of m.found.items) (block_index at ∷ []) in
         let same = length-map m.found.items (λ (a : Address). block_index a.0) in
@@ -149,18 +156,22 @@ module _ (t : ClaimTable) where
         omega (arith, all, long, same, room)
 
     -- the block is the marker's now
-    pub tried_claimed : (Contains (claimed_by (seen m.seat)) (block_index at) → ⊥) → seen n.seat ≡ tried (seen m.seat) (block_index at) true → n.found.items ≡ m.found.items ++ record { 0 = at } ∷ [] → n.found.spare + 1 ≡ m.found.spare → HasTried t m n (λ w. w ≡ 2 * at)
+    pub tried_claimed : (Contains (claimed_by (seen m.seat)) (block_index at) → ⊥) → seen n.seat ≡ tried (seen m.seat) (block_index at) true →
+        n.found.items ≡ m.found.items ++ record { 0 = at } ∷ [] → n.found.spare + 1 ≡ m.found.spare → HasTried t m n (λ w. w ≡ 2 * at)
     tried_claimed fresh view found spare =
         let new : Address = record { 0 = at } in
         let b : ℕ = block_index at in
-        let blocks : blocks_of n.found.items ≡ blocks_of m.found.items ++ b ∷ [] = ap (λ (xs : List Address). blocks_of xs) found ∙ blocks_snoc m.found.items new in
-        let longer : length n.found.items ≡ length m.found.items + 1 = let e = ap (λ (xs : List Address). length xs) found in let f = length-append m.found.items (new ∷ []) in omega (arith, e, f) in
+        let blocks : blocks_of n.found.items ≡ blocks_of m.found.items ++ b ∷ [] = ap (λ (xs : List Address). blocks_of xs) found ∙
+        blocks_snoc m.found.items new in
+        let longer : length n.found.items ≡ length m.found.items + 1 = let e = ap (λ (xs : List Address). length xs) found in
+        let f = length-append m.found.items (new ∷ []) in omega (arith, e, f) in
         let here : Contains (blocks_of n.found.items) b = subst (λ (l : List ℕ). Contains l b) (sym blocks) (Contains-push (blocks_of m.found.items) b) in
         record {
           sound = record {
             seat = seat;
             alone = ap (λ (v : Seen). v.parts) view ∙ ap (first_changed (claiming b)) h.alone ∙ ap one_part (λ i. (sym number i, sym blocks i));
-            once = subst (λ (l : List ℕ). AreDistinct l) (sym blocks) (distinct_push (blocks_of m.found.items) b h.once (λ c. fresh (subst (λ (l : List ℕ). Contains l b) (sym own) c)));
+            once = subst (λ (l : List ℕ). AreDistinct l) (sym blocks) (distinct_push (blocks_of m.found.items) b h.once (λ c.
+                fresh (subst (λ (l : List ℕ). Contains l b) (sym own) c)));
             below = λ k c. elim (Contains-push_cases (blocks_of m.found.items) b k (subst (λ (l : List ℕ). Contains l k) blocks c)) [
               | inl d ↦ h.below k d
               | inr e ↦ subst (λ (j : ℕ). j < (bounds_of t).blocks) e within
@@ -173,10 +184,11 @@ module _ (t : ClaimTable) where
             | inl d ↦ inl (subst (λ (l : List ℕ). Contains l k) (sym blocks) (Contains-append_left (blocks_of m.found.items) (b ∷ []) k d))
             | inr d ↦ inr (subst (λ (v : Seen). Contains v.others k) (sym view) d)
           ];
-          given = λ a c. elim (Contains-push_cases m.found.items new (record { 0 = a }) (subst (λ (xs : List Address). Contains xs (record { 0 = a })) found c)) [
-            | inl old ↦ inl old
-            | inr e ↦ let s : at ≡ a = ap (λ (x : Address). x.0) e in inr (omega (arith, s, above), omega (arith, s))
-          ];
+          given = λ a c. elim (Contains-push_cases m.found.items new (record { 0 = a }) (subst (λ (xs : List Address).
+              Contains xs (record { 0 = a })) found c)) [
+                | inl old ↦ inl old
+                | inr e ↦ let s : at ≡ a = ap (λ (x : Address). x.0) e in inr (omega (arith, s, above), omega (arith, s))
+              ];
           taken = λ a l e. let s : at ≡ a = omega (arith, e) in inl (subst (λ (j : ℕ). Contains (blocks_of n.found.items) (block_index j)) s here);
           conserved = omega (arith, longer, spare);
         }
@@ -203,7 +215,9 @@ module _ (t : ClaimTable) where
             | inr d ↦ inr (subst (λ (v : Seen). Contains v.others k) (sym view) (Contains-append_left (seen m.seat).others (b ∷ []) k d))
           ];
           given = λ a c. inl (subst (λ (xs : List Address). Contains xs (record { 0 = a })) items c);
-          taken = λ a l e. let s : at ≡ a = omega (arith, e) in inr (subst (λ (j : ℕ). Contains (seen n.seat).others (block_index j)) s (subst (λ (v : Seen). Contains v.others b) (sym view) (Contains-push (seen m.seat).others b)));
+          taken = λ a l e. let s : at ≡ a = omega (arith, e) in
+              inr (subst (λ (j : ℕ). Contains (seen n.seat).others (block_index j)) s (subst (λ (v : Seen).
+              Contains v.others b) (sym view) (Contains-push (seen m.seat).others b)));
           conserved = omega (arith, longs, spares);
         }
 
@@ -211,7 +225,8 @@ module _ (t : ClaimTable) where
 pub own_none : (t : ClaimTable) (m : Marker) (starts : List ℕ) (markers number : ℕ) → IsSound t m → HasTried t m m (IsOwnStart starts markers number 0)
 own_none t m starts markers number h = tried_none t m (IsOwnStart starts markers number 0) h (λ at l i. absurd (omega (arith, i.1)))
 
-pub own_more : (t : ClaimTable) (a b c : Marker) (starts : List ℕ) (markers number i w : ℕ) → i % markers ≡ number → slice_index starts i ≡ w → HasTried t a b (IsOwnStart starts markers number i) → HasTried t b c (λ x. x ≡ w) → HasTried t a c (IsOwnStart starts markers number (i + 1))
+pub own_more : (t : ClaimTable) (a b c : Marker) (starts : List ℕ) (markers number i w : ℕ) → i % markers ≡ number → slice_index starts i ≡ w →
+    HasTried t a b (IsOwnStart starts markers number i) → HasTried t b c (λ x. x ≡ w) → HasTried t a c (IsOwnStart starts markers number (i + 1))
 own_more t a b c starts markers number i w mine read f g =
     tried_then t a b c (IsOwnStart starts markers number i) (λ x. x ≡ w) (IsOwnStart starts markers number (i + 1)) f g
     (λ x h. (h.0, omega (arith, h.1), h.2, h.3))
@@ -221,7 +236,8 @@ own_more t a b c starts markers number i w mine read f g =
       | inr ne ↦ inl (r.0, omega (arith, r.1, ne), r.2, r.3)
     ])
 
-pub own_skip : (t : ClaimTable) (a b : Marker) (starts : List ℕ) (markers number i : ℕ) → i % markers ≢ number → HasTried t a b (IsOwnStart starts markers number i) → HasTried t a b (IsOwnStart starts markers number (i + 1))
+pub own_skip : (t : ClaimTable) (a b : Marker) (starts : List ℕ) (markers number i : ℕ) → i % markers ≢ number →
+    HasTried t a b (IsOwnStart starts markers number i) → HasTried t a b (IsOwnStart starts markers number (i + 1))
 own_skip t a b starts markers number i other f =
     tried_as t a b (IsOwnStart starts markers number i) (IsOwnStart starts markers number (i + 1)) f
     (λ x h. (h.0, omega (arith, h.1), h.2, h.3))
@@ -234,7 +250,8 @@ own_skip t a b starts markers number i other f =
 pub among_none : (t : ClaimTable) (m : Marker) (words : List ℕ) (from : ℕ) → IsSound t m → HasTried t m m (IsAmong words from from)
 among_none t m words from h = tried_none t m (IsAmong words from from) h (λ at l i. absurd (omega (arith, i.1, i.2)))
 
-pub among_more : (t : ClaimTable) (a b c : Marker) (words : List ℕ) (from i w : ℕ) → from ≤ i → w ≡ slice_index words i → HasTried t a b (IsAmong words from i) → HasTried t b c (λ x. x ≡ w) → HasTried t a c (IsAmong words from (i + 1))
+pub among_more : (t : ClaimTable) (a b c : Marker) (words : List ℕ) (from i w : ℕ) → from ≤ i → w ≡ slice_index words i →
+    HasTried t a b (IsAmong words from i) → HasTried t b c (λ x. x ≡ w) → HasTried t a c (IsAmong words from (i + 1))
 among_more t a b c words from i w low read f g =
     tried_then t a b c (IsAmong words from i) (λ x. x ≡ w) (IsAmong words from (i + 1)) f g
     (λ x h. (h.0, h.1, omega (arith, h.2), h.3))
@@ -260,7 +277,8 @@ strong_read words at from to w s i =
       is = ap (λ (k : ℕ). slice_index words k) e ∙ i.3;
     }
 
-pub strong_has : (differ : (a b : Header) → IsHeader a → IsHeader b → header_word a ≡ header_word b → a ≡ b) (words : List ℕ) (at from to w : ℕ) → IsStrongRange words at from to → HasStrong words at w → IsAmong words from to w
+pub strong_has : (differ : (a b : Header) → IsHeader a → IsHeader b → header_word a ≡ header_word b → a ≡ b) (words : List ℕ) (at from to w : ℕ) →
+    IsStrongRange words at from to → HasStrong words at w → IsAmong words from to w
 strong_has differ words at from to w s h =
     let same : h.header ≡ s.header = differ h.header s.header h.valid s.valid (sym h.read ∙ s.read) in
     let low = subst (λ (x : Header). (strong_of words at x).0 ≤ h.index) same h.from in

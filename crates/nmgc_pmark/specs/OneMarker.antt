@@ -24,4 +24,6 @@ pub record IsMarkedAlone (o : Opening) (s : Segments) (marker : MarkerSeen) : Ty
 
 -- of each object of the snapshot but g: the one marker marked its block exactly where one of several markers lists its name
 abbrev pub MarksTheSame : Type 0
-MarksTheSame = (o : Opening) (s : Segments) (marker : MarkerSeen) (markers : ℕ) (by : List (List Name)) → IsMarkedAlone o s marker → AreClaims o.core.snapshot (roots_of o.core.snapshot) markers by → (p : Place) → Contains o.places p → IsSnapshotAt s p.at → p.name ≢ shared_name → IsMarkedAt s marker.epoch p.at ↔ IsClaimed by p.name
+MarksTheSame = (o : Opening) (s : Segments) (marker : MarkerSeen) (markers : ℕ) (by : List (List Name)) → IsMarkedAlone o s marker →
+    AreClaims o.core.snapshot (roots_of o.core.snapshot) markers by → (p : Place) → Contains o.places p → IsSnapshotAt s p.at →
+    p.name ≢ shared_name → IsMarkedAt s marker.epoch p.at ↔ IsClaimed by p.name

@@ -23,4 +23,5 @@ pub record IsStoppedAs (s : State) (segments : Segments) (words roots : List ℕ
 
 -- what a stop leaves is a stopped heap
 abbrev pub StopsAreStopped : Type 0
-StopsAreStopped = (layout : Layout) (s : State) (words : List ℕ) (segments : Segments) (mutators : List MutatorEnd) (weaks : List Place) → IsWorld s.world → IsSegments segments → HoldsAtStop layout s words segments mutators weaks → IsStoppedAs s segments words (root_words mutators)
+StopsAreStopped = (layout : Layout) (s : State) (words : List ℕ) (segments : Segments) (mutators : List MutatorEnd) (weaks : List Place) →
+    IsWorld s.world → IsSegments segments → HoldsAtStop layout s words segments mutators weaks → IsStoppedAs s segments words (root_words mutators)

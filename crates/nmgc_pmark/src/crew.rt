@@ -127,7 +127,8 @@ fn mark_beside<R: Threads + Sync, W: StillWords, G: Gate>(
         crew,
         MOST_MARKERS as usize,
         &|number, marker: &mut Marker|
-            requires { CanBegin table.now markers marker.now × CanMark (W.words words.now) starts.now (bounds_of table.now).blocks × (marker.now.number ≡ number) }
+            requires { CanBegin table.now markers marker.now × CanMark (W.words words.now) starts.now (bounds_of table.now).blocks ×
+                (marker.now.number ≡ number) }
             ensures { HasMarked table.entry.now (W.words words.entry.now) starts.entry.now markers marker.exit.now × (marker.exit.now.number ≡ number) }
         {
             let _ = number;

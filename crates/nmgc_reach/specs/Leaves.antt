@@ -23,7 +23,8 @@ pub record QueueGrows (before after : MutatorState) : Type 0 where
 
 -- a command leaves what other mutators have in hand
 abbrev pub StepLeavesOthers : Type 0
-StepLeavesOthers = (w : World) (m : ℕ) (c : Command) → IsWorld w → CanApply w m c → (other : ℕ) → other ≢ m → SameHands (state_of w other) (state_of (step w m c).0 other)
+StepLeavesOthers = (w : World) (m : ℕ) (c : Command) → IsWorld w → CanApply w m c → (other : ℕ) → other ≢ m →
+    SameHands (state_of w other) (state_of (step w m c).0 other)
 
 -- a closing leaves registers and serials, and queues but for what joins them
 abbrev pub ClosingLeavesHands : Type 0

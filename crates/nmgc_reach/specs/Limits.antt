@@ -50,7 +50,8 @@ abbrev pub StepKeepsLimits : Type 0
 StepKeepsLimits = (words : ℕ) (w : World) (m : ℕ) (c : Command) → IsWorld w → CanApply w m c → Fits words c → IsWithin words w → IsWithin words (step w m c).0
 
 abbrev pub RowsKeepLimits : Type 0
-RowsKeepLimits = (words : ℕ) (w : World) (rows : List Row) → IsWorld w → CanReplay w rows → All (λ (row : Row). Fits words row.command) rows → IsWithin words w → IsWithin words (replayed w rows)
+RowsKeepLimits = (words : ℕ) (w : World) (rows : List Row) → IsWorld w → CanReplay w rows → All (λ (row : Row). Fits words row.command) rows →
+    IsWithin words w → IsWithin words (replayed w rows)
 
 -- and closing does
 abbrev pub ClosingKeepsLimits : Type 0

@@ -64,7 +64,8 @@ NewIsWorld = (mutators : ℕ) → 1 ≤ mutators → mutators ≤ MAKERS → IsW
 
 -- the wide reach after a command: what was in it, and the name that the command makes
 abbrev pub StepAddsOne : Type 0
-StepAddsOne = (w : World) (m : ℕ) (c : Command) → IsWorld w → CanApply w m c → (name : Name) → IsWide (step w m c).0 name → IsWide w name ⊎ (name ≡ next_name (state_of w m) m)
+StepAddsOne = (w : World) (m : ℕ) (c : Command) → IsWorld w → CanApply w m c → (name : Name) → IsWide (step w m c).0 name → IsWide w name ⊎
+    (name ≡ next_name (state_of w m) m)
 
 -- closing adds nothing to it
 abbrev pub ClosingAddsNone : Type 0
@@ -72,7 +73,8 @@ ClosingAddsNone = (w : World) (weaks : List Name) → IsWorld w → (name : Name
 
 -- the names that are in the wide reach of a world are the only ones of it that can be reached later
 abbrev pub StaysUnreached : Type 0
-StaysUnreached = (w : World) (rows : List Row) → IsWorld w → CanReplay w rows → (name : Name) → IsSome (node_of w name) → IsWide (replayed w rows) name → IsWide w name
+StaysUnreached = (w : World) (rows : List Row) → IsWorld w → CanReplay w rows → (name : Name) → IsSome (node_of w name) →
+    IsWide (replayed w rows) name → IsWide w name
 
 -- the name is one of the world only if it is live there, with these opened names
 abbrev pub IsLiveOrNew : World → List Name → Name → Type 0
@@ -80,7 +82,8 @@ IsLiveOrNew w extra name = IsSome (node_of w name) → IsLive w extra name
 
 -- after rows mutators hold only what is live at their beginning, with what the rows opened, or new; and what isn't live has the node that it had
 abbrev pub RowsHoldLive : Type 0
-RowsHoldLive = (w : World) (rows : List Row) → IsWorld w → CanReplay w rows → CoversReach (IsLiveOrNew w (opened w rows)) (replayed w rows) × ((name : Name) → IsSome (node_of w name) → (IsLive w (opened w rows) name → ⊥) → node_of (replayed w rows) name ≡ node_of w name)
+RowsHoldLive = (w : World) (rows : List Row) → IsWorld w → CanReplay w rows → CoversReach (IsLiveOrNew w (opened w rows)) (replayed w rows) ×
+    ((name : Name) → IsSome (node_of w name) → (IsLive w (opened w rows) name → ⊥) → node_of (replayed w rows) name ≡ node_of w name)
 
 -- a snapshot, and the commands since
 pub record Interval : Type 0 where
@@ -104,7 +107,8 @@ IsKeptAfter i name = IsKept i.snapshot (opened i.snapshot i.rows) (finalised i.s
 abbrev pub closed_after : Interval → List Name → World
 closed_after i dead = closed (replayed i.snapshot i.rows) dead
 
--- the name isn't lost: if the snapshot has it, it is none of those that aren't kept. Without a list of the kept names nothing decides whether a name is kept, so this is all that can be said of it
+-- the name isn't lost: if the snapshot has it, it is none of those that aren't kept. Without a list of the kept names
+-- nothing decides whether a name is kept, so this is all that can be said of it
 abbrev pub IsNotLost : Interval → Name → Type 0
 IsNotLost i name = IsSome (node_of i.snapshot name) → (IsKeptAfter i name → ⊥) → ⊥
 
@@ -120,7 +124,8 @@ ClosesWell = (i : Interval) (dead : List Name) → IsSound i → Lists (IsDeadAf
 
 -- whatever the wide reach has of the snapshot's names isn't lost, after the closing and after any commands since
 abbrev pub NothingReachableIsFreed : Type 0
-NothingReachableIsFreed = (i : Interval) (dead : List Name) (since : List Row) → IsSound i → Lists (IsDeadAfter i) dead → CanReplay (closed_after i dead) since → (name : Name) → IsWide (replayed (closed_after i dead) since) name → IsNotLost i name
+NothingReachableIsFreed = (i : Interval) (dead : List Name) (since : List Row) → IsSound i → Lists (IsDeadAfter i) dead →
+    CanReplay (closed_after i dead) since → (name : Name) → IsWide (replayed (closed_after i dead) since) name → IsNotLost i name
 
 -- commands, and then a closing with some weak pointers, or with none: what a run does over and over
 pub record Stretch : Type 0 where
@@ -139,16 +144,23 @@ CanContinue w (stretch ∷ stretches) = CanReplay w stretch.rows × CanContinue 
 
 -- a name that left the wide reach never comes back, whatever commands and closings follow
 abbrev pub NeverComesBack : Type 0
-NeverComesBack = (w : World) (later : List Stretch) → IsWorld w → CanContinue w later → (name : Name) → IsSome (node_of w name) → IsWide (continued w later) name → IsWide w name
+NeverComesBack = (w : World) (later : List Stretch) → IsWorld w → CanContinue w later → (name : Name) → IsSome (node_of w name) →
+    IsWide (continued w later) name → IsWide w name
 
 -- the same as long as a run goes on, with its further closings
 abbrev pub NothingReachableIsEverFreed : Type 0
-NothingReachableIsEverFreed = (i : Interval) (dead : List Name) (later : List Stretch) → IsSound i → Lists (IsDeadAfter i) dead → CanContinue (closed_after i dead) later → (name : Name) → IsWide (continued (closed_after i dead) later) name → IsNotLost i name
+NothingReachableIsEverFreed = (i : Interval) (dead : List Name) (later : List Stretch) → IsSound i → Lists (IsDeadAfter i) dead →
+    CanContinue (closed_after i dead) later → (name : Name) → IsWide (continued (closed_after i dead) later) name → IsNotLost i name
 
--- nothing reachable is freed: a list of exactly the kept names has all that the wide reach has of the snapshot's names, after the closing and after any commands since
+-- nothing reachable is freed: a list of exactly the kept names has all that the wide reach has of the snapshot's
+-- names, after the closing and after any commands since
 abbrev pub ReachableIsKept : Type 0
-ReachableIsKept = (i : Interval) (dead kept : List Name) (since : List Row) → IsSound i → Lists (IsDeadAfter i) dead → Lists (IsKeptAfter i) kept → CanReplay (closed_after i dead) since → (name : Name) → IsSome (node_of i.snapshot name) → IsWide (replayed (closed_after i dead) since) name → Contains kept name
+ReachableIsKept = (i : Interval) (dead kept : List Name) (since : List Row) → IsSound i → Lists (IsDeadAfter i) dead → Lists (IsKeptAfter i) kept →
+    CanReplay (closed_after i dead) since → (name : Name) → IsSome (node_of i.snapshot name) → IsWide (replayed (closed_after i dead) since) name →
+    Contains kept name
 
 -- nothing reachable is ever freed: the same as long as a run goes on, with its further closings
 abbrev pub ReachableIsEverKept : Type 0
-ReachableIsEverKept = (i : Interval) (dead kept : List Name) (later : List Stretch) → IsSound i → Lists (IsDeadAfter i) dead → Lists (IsKeptAfter i) kept → CanContinue (closed_after i dead) later → (name : Name) → IsSome (node_of i.snapshot name) → IsWide (continued (closed_after i dead) later) name → Contains kept name
+ReachableIsEverKept = (i : Interval) (dead kept : List Name) (later : List Stretch) → IsSound i → Lists (IsDeadAfter i) dead →
+    Lists (IsKeptAfter i) kept → CanContinue (closed_after i dead) later → (name : Name) → IsSome (node_of i.snapshot name) →
+    IsWide (continued (closed_after i dead) later) name → Contains kept name

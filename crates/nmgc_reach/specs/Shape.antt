@@ -56,7 +56,11 @@ made_by w m (command.Con dest tag fields) = Some (Con tag (values_for w m fields
 made_by w m (command.Var dest v) = Some (Var (value_for w m v))
 made_by w m (command.Arr dest count v) = Some (Arr (replicate count (value_for w m v)))
 made_by w m (command.Thunk dest free) = Some (Thunk (values_for w m free) None)
-made_by w m (command.Weak dest key v finaliser) = Some (Weak (Some (record { key = value_for w m key; value = value_for w m v; finaliser = value_for w m finaliser })))
+made_by w m (command.Weak dest key v finaliser) = Some (Weak (Some (record {
+  key = value_for w m key;
+  value = value_for w m v;
+  finaliser = value_for w m finaliser;
+})))
 made_by w m (command.Stack dest size) = Some (Stack size [])
 made_by w m _ = None
 

@@ -49,7 +49,8 @@ pub record Stores (w : World) (m : ℕ) (c : Command) (name : Name) (field : ℕ
 
 -- what stands in a strong field after a command stood there before, or is in the object that the command makes, or the command stores it there
 abbrev pub StepStores : Type 0
-StepStores = (w : World) (m : ℕ) (c : Command) → IsWorld w → CanApply w m c → (name : Name) (field : ℕ) (v : Value) → HasStrongField (step w m c).0 name field v → HasStrongField w name field v ⊎ ((name ≡ next_name (state_of w m) m) ⊎ Stores w m c name field v)
+StepStores = (w : World) (m : ℕ) (c : Command) → IsWorld w → CanApply w m c → (name : Name) (field : ℕ) (v : Value) →
+    HasStrongField (step w m c).0 name field v → HasStrongField w name field v ⊎ ((name ≡ next_name (state_of w m) m) ⊎ Stores w m c name field v)
 
 -- one of the rows stores the value, in an object that was in the wide reach as the rows began
 pub record IsStored (began : World) (rows : List Row) (name : Name) (field : ℕ) (v : Value) : Type 0 where
@@ -62,8 +63,11 @@ pub record IsStored (began : World) (rows : List Row) (name : Name) (field : ℕ
 
 -- a strong field of an old object that refers to a young one was stored by one of the rows
 abbrev pub OldRefersToYoung : Type 0
-OldRefersToYoung = (began : World) (rows : List Row) → IsWorld began → CanReplay began rows → (name target : Name) (field : ℕ) → IsSome (node_of began name) → (IsSome (node_of began target) → ⊥) → HasStrongField (replayed began rows) name field (value.Ref target) → IsStored began rows name field (value.Ref target)
+OldRefersToYoung = (began : World) (rows : List Row) → IsWorld began → CanReplay began rows → (name target : Name) (field : ℕ) →
+    IsSome (node_of began name) → (IsSome (node_of began target) → ⊥) → HasStrongField (replayed began rows) name field (value.Ref target) →
+    IsStored began rows name field (value.Ref target)
 
 -- a weak pointer that was there before the rows and is alive after them has the parts that it had
 abbrev pub OldWeaksStay : Type 0
-OldWeaksStay = (began : World) (rows : List Row) → IsWorld began → CanReplay began rows → (weak : Name) (parts : Parts) → IsSome (node_of began weak) → IsAlive (replayed began rows) weak parts → IsAlive began weak parts
+OldWeaksStay = (began : World) (rows : List Row) → IsWorld began → CanReplay began rows → (weak : Name) (parts : Parts) →
+    IsSome (node_of began weak) → IsAlive (replayed began rows) weak parts → IsAlive began weak parts

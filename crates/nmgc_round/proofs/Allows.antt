@@ -32,14 +32,30 @@ module _ (o : Opening) where
     abbrev Steps : ℕ → (ℕ → ℕ) → (ℕ → Seen → Type 0) → Type 0
     Steps i f then = Allows holds slots id me i f (λ n m. then n m.0 × (m.1 ≡ []))
 
-    pub load_allows : (at index : ℕ) (c : Command) → Mutates (λ o p. CanLoad o p at index c) me.0 → Steps (at + HEADER_WORDS + index) (λ n. n) (λ n w. (w ≡ answered me.0 c (word n)) × IsSafe me.0.opening n)
+    pub load_allows : (at index : ℕ) (c : Command) → Mutates (λ o p. CanLoad o p at index c) me.0 →
+        Steps (at + HEADER_WORDS + index) (λ n. n) (λ n w. (w ≡ answered me.0 c (word n)) × IsSafe me.0.opening n)
     load_allows at index c can s h len here small =
         let i : ℕ = at + HEADER_WORDS + index in
         let w : Seen = answered me.0 c (word (slice_index s.words i)) in
-        let is = (h.agrees id me.0 here).opening (acts me.0 can.0 can.1) in
-        (w, keeps, tt, unchanged s.words (set s.views id w) i (load_keeps o s.words s.views h id me.0 here can.0 can.1 at index c (subst (λ (y : Opening). CanLoad y can.0 at index c) is can.2)).1, ((refl, subst (λ (y : Opening). IsSafe y (slice_index s.words i)) (sym is) (load_safe o s.words s.views h id me.0 here can.0 can.1 at index c (subst (λ (y : Opening). CanLoad y can.0 at index c) is can.2))), bare))
+        let is = (h.agrees id me.0 here).opening (acts me.0 can.0 can.1) in (
+          w,
+          keeps,
+          tt,
+          unchanged s.words (set s.views id w) i
+              (load_keeps o s.words s.views h id me.0 here can.0 can.1 at index c (subst (λ (y : Opening). CanLoad y can.0 at index c) is can.2)).1,
+          (
+            (
+              refl,
+              subst (λ (y : Opening).
+                  IsSafe y (slice_index s.words i)) (sym is) (load_safe o s.words s.views h id me.0 here can.0 can.1 at index c (subst (λ (y : Opening).
+                  CanLoad y can.0 at index c) is can.2)),
+            ),
+            bare,
+          ),
+        )
 
-    pub swap_allows : (at index new : ℕ) (c : Command) → Mutates (λ o p. CanSwap o p at index new c) me.0 → Steps (at + HEADER_WORDS + index) (λ _. new) (λ n w. (w ≡ swapped me.0 c n) × IsSafe me.0.opening n)
+    pub swap_allows : (at index new : ℕ) (c : Command) → Mutates (λ o p. CanSwap o p at index new c) me.0 →
+        Steps (at + HEADER_WORDS + index) (λ _. new) (λ n w. (w ≡ swapped me.0 c n) × IsSafe me.0.opening n)
     swap_allows at index new c can s h len here small =
         let i : ℕ = at + HEADER_WORDS + index in
         let n : ℕ = slice_index s.words i in
@@ -54,13 +70,26 @@ module _ (o : Opening) where
 
     pub store_allows : (i new : ℕ) → Mutates (λ o p. CanStore o p i) me.0 → Steps i (λ _. new) (λ n w. w ≡ stored me.0 i new)
     store_allows i new can s h len here small =
-        let is = (h.agrees id me.0 here).opening (acts me.0 can.0 can.1) in
-        (stored me.0 i new, keeps, tt, (store_keeps o s.words s.views h id me.0 here can.0 can.1 i new (subst (λ (y : Opening). CanStore y can.0 i) is can.2)).0, (refl, bare))
+        let is = (h.agrees id me.0 here).opening (acts me.0 can.0 can.1) in (
+          stored me.0 i new,
+          keeps,
+          tt,
+          (store_keeps o s.words s.views h id me.0 here can.0 can.1 i new (subst (λ (y : Opening).
+              CanStore y can.0 i) is can.2)).0,
+          (refl, bare),
+        )
 
-    pub birth_allows : (at header : ℕ) (c : Command) → Mutates (λ o p. CanBear o p at header c) me.0 → Steps at (λ _. header) (λ n w. w ≡ gave_birth me.0 at header c)
+    pub birth_allows : (at header : ℕ) (c : Command) → Mutates (λ o p. CanBear o p at header c) me.0 →
+        Steps at (λ _. header) (λ n w. w ≡ gave_birth me.0 at header c)
     birth_allows at header c can s h len here small =
-        let is = (h.agrees id me.0 here).opening (acts me.0 can.0 can.1) in
-        (gave_birth me.0 at header c, keeps, tt, (birth_keeps o s.words s.views h id me.0 here can.0 can.1 at header c (subst (λ (y : Opening). CanBear y can.0 at header c) is can.2)).1, (refl, bare))
+        let is = (h.agrees id me.0 here).opening (acts me.0 can.0 can.1) in (
+          gave_birth me.0 at header c,
+          keeps,
+          tt,
+          (birth_keeps o s.words s.views h id me.0 here can.0 can.1 at header c (subst (λ (y : Opening).
+              CanBear y can.0 at header c) is can.2)).1,
+          (refl, bare),
+        )
 
     pub meet_allows : (i wanted : ℕ) → Mutates (λ o p. CanStore o p i) me.0 → Steps i (λ n. n) (λ n w. w ≡ met me.0 i wanted (eqb n wanted))
     meet_allows i wanted can s h len here small = (met me.0 i wanted (eqb n wanted), keeps, tt, kept (eqb n wanted) refl, (refl, bare))
@@ -72,10 +101,13 @@ module _ (o : Opening) where
         is = (h.agrees id me.0 here).opening (acts me.0 can.0 can.1)
 
         kept : (hit : Bool) → eqb n wanted ≡ hit → Keeps o (set s.words i n) (set s.views id (met me.0 i wanted hit))
-        kept true e = subst (λ (w : ℕ). Keeps o (set s.words i w) (set s.views id (stored me.0 i wanted))) (sym (eqb-true n wanted e)) (store_keeps o s.words s.views h id me.0 here can.0 can.1 i wanted (subst (λ (y : Opening). CanStore y can.0 i) is can.2)).0
+        kept true e = subst (λ (w : ℕ).
+            Keeps o (set s.words i w) (set s.views id (stored me.0 i wanted))) (sym (eqb-true n wanted e))
+            (store_keeps o s.words s.views h id me.0 here can.0 can.1 i wanted (subst (λ (y : Opening). CanStore y can.0 i) is can.2)).0
         kept false e = unchanged s.words (set s.views id me.0) i (same_law o s.words s.views h id me.0 here me.0 (h.agrees id me.0 here)).0
 
-    pub meet_birth_allows : (at header : ℕ) (c : Command) → Mutates (λ o p. CanBear o p at header c) me.0 → Steps at (λ n. n) (λ n w. w ≡ met_at_birth me.0 at header c (eqb n header))
+    pub meet_birth_allows : (at header : ℕ) (c : Command) → Mutates (λ o p. CanBear o p at header c) me.0 →
+        Steps at (λ n. n) (λ n w. w ≡ met_at_birth me.0 at header c (eqb n header))
     meet_birth_allows at header c can s h len here small = (met_at_birth me.0 at header c (eqb n header), keeps, tt, kept (eqb n header) refl, (refl, bare))
       where
         n : ℕ
@@ -85,10 +117,13 @@ module _ (o : Opening) where
         is = (h.agrees id me.0 here).opening (acts me.0 can.0 can.1)
 
         kept : (hit : Bool) → eqb n header ≡ hit → Keeps o (set s.words at n) (set s.views id (met_at_birth me.0 at header c hit))
-        kept true e = subst (λ (w : ℕ). Keeps o (set s.words at w) (set s.views id (gave_birth me.0 at header c))) (sym (eqb-true n header e)) (birth_keeps o s.words s.views h id me.0 here can.0 can.1 at header c (subst (λ (y : Opening). CanBear y can.0 at header c) is can.2)).1
+        kept true e = subst (λ (w : ℕ).
+            Keeps o (set s.words at w) (set s.views id (gave_birth me.0 at header c))) (sym (eqb-true n header e))
+            (birth_keeps o s.words s.views h id me.0 here can.0 can.1 at header c (subst (λ (y : Opening). CanBear y can.0 at header c) is can.2)).1
         kept false e = unchanged s.words (set s.views id me.0) at (same_law o s.words s.views h id me.0 here me.0 (h.agrees id me.0 here)).0
 
-    pub fix_allows : (at offset : ℕ) → Mutates (λ o p. CanFix o p at offset) me.0 → Steps (at + offset) (λ n. n) (λ n w. (w ≡ loaded me.0 at offset n) × Tells me.0.opening at offset n)
+    pub fix_allows : (at offset : ℕ) → Mutates (λ o p. CanFix o p at offset) me.0 →
+        Steps (at + offset) (λ n. n) (λ n w. (w ≡ loaded me.0 at offset n) × Tells me.0.opening at offset n)
     fix_allows at offset can s h len here small =
         let n : ℕ = slice_index s.words (at + offset) in
         let is = (h.agrees id me.0 here).opening (acts me.0 can.0 can.1) in
@@ -100,7 +135,8 @@ module _ (o : Opening) where
           ((refl, subst (λ (y : Opening). Tells y at offset n) (sym is) (fix_room o s.words s.views h id me.0 here can.0 can.1 at offset can')), bare),
         )
 
-    pub take_allows : (at offset : ℕ) (c : Command) → Mutates (λ o p. CanTake o p at offset c) me.0 → Steps (at + offset) (λ n. n) (λ n w. (w ≡ taken me.0 at offset c n) × TellsField me.0.opening offset n × Mutates TellsQueue me.0)
+    pub take_allows : (at offset : ℕ) (c : Command) → Mutates (λ o p. CanTake o p at offset c) me.0 →
+        Steps (at + offset) (λ n. n) (λ n w. (w ≡ taken me.0 at offset c n) × TellsField me.0.opening offset n × Mutates TellsQueue me.0)
     take_allows at offset c can s h len here small =
         let n : ℕ = slice_index s.words (at + offset) in
         let is = (h.agrees id me.0 here).opening (acts me.0 can.0 can.1) in
@@ -108,8 +144,16 @@ module _ (o : Opening) where
           taken me.0 at offset c n,
           keeps,
           tt,
-          unchanged s.words (set s.views id (taken me.0 at offset c n)) (at + offset) (take_keeps o s.words s.views h id me.0 here can.0 can.1 at offset c can').1,
-          ((refl, subst (λ (y : Opening). TellsField y offset n) (sym is) (take_safe o s.words s.views h id me.0 here can.0 can.1 at offset c can'), (can.0, can.1, subst (λ (y : Opening). TellsQueue y can.0) (sym is) (queue_safe o s.words s.views h id me.0 here can.0 can.1))), bare),
+          unchanged s.words (set s.views id (taken me.0 at offset c n)) (at + offset)
+              (take_keeps o s.words s.views h id me.0 here can.0 can.1 at offset c can').1,
+          (
+            (
+              refl,
+              subst (λ (y : Opening). TellsField y offset n) (sym is) (take_safe o s.words s.views h id me.0 here can.0 can.1 at offset c can'),
+              (can.0, can.1, subst (λ (y : Opening). TellsQueue y can.0) (sym is) (queue_safe o s.words s.views h id me.0 here can.0 can.1)),
+            ),
+            bare,
+          ),
         )
 
     pub scan_allows : (at offset : ℕ) → CanScan me.0 at offset → Steps (at + offset) (λ n. n) (λ n w. (w ≡ scanned_by me.0 n) × TellsScan me.0 n)

@@ -63,14 +63,16 @@ module _ (layout : Layout) (words : List ℕ) (is : IsLayout layout) (h : IsEmpt
     owed = let n : length (replicate {A = List Name} (length W.mutators) []) ≡ length W.mutators = length-replicate (length W.mutators) [] in n ∙ mutators;
     snapshot = λ m. omega arith;
     wide = λ e. shares e;
-    in_segments = λ p c m lt. inl (subst (λ (q : Place). q.at < 32 + layout.segments * layout.words + m * layout.nursery) (one_is shared_place p c) (omega arith));
+    in_segments = λ p c m lt.
+        inl (subst (λ (q : Place). q.at < 32 + layout.segments * layout.words + m * layout.nursery) (one_is shared_place p c) (omega arith));
   }
 
   g_slots : HasSlots P words (SHARED_PLACE + HEADER_WORDS) (slots_of empty_array)
   g_slots = values_fill P words (SHARED_PLACE + HEADER_WORDS) (replicate SHARED_SLOTS value.Nil) mean
     where
       mean : AllMean P words (SHARED_PLACE + HEADER_WORDS) (replicate SHARED_SLOTS value.Nil)
-      mean i v e = let t = all_item SHARED_SLOTS i value.Nil v e in subst (λ (x : Value). Means P (slice_index words (SHARED_PLACE + HEADER_WORDS + i)) x) (sym t.0) (h.slots i t.1)
+      mean i v e = let t = all_item SHARED_SLOTS i value.Nil v e in
+          subst (λ (x : Value). Means P (slice_index words (SHARED_PLACE + HEADER_WORDS + i)) x) (sym t.0) (h.slots i t.1)
 
   g_object : IsObject layout (shared_place ∷ []) words shared_place empty_array
   g_object = record {
@@ -82,10 +84,18 @@ module _ (layout : Layout) (words : List ℕ) (is : IsLayout layout) (h : IsEmpt
 
   -- g is the only name
   only_g : (name : Name) (node : Node) → node_of W name ≡ Some node → (shared_name ≡ name) × (empty_array ≡ node)
-  only_g name node e = at_some (node_of W name) node (λ n. (shared_name ≡ name) × (empty_array ≡ n)) e (new_nodes (λ name n. (shared_name ≡ name) × (empty_array ≡ n)) (refl, refl) layout.mutators name)
+  only_g name node e = at_some (node_of W name) node (λ n. (shared_name ≡ name) ×
+      (empty_array ≡ n)) e (new_nodes (λ name n. (shared_name ≡ name) × (empty_array ≡ n)) (refl, refl) layout.mutators name)
 
   g_placed : IsPlaced layout [] NoNode (shared_place ∷ []) words shared_name empty_array
-  g_placed = record { at = SHARED_PLACE; there = contains_one shared_place; object = g_object; fields = g_slots; free = λ e before c. absurd (nothing_in e c); kept = λ before k. absurd k }
+  g_placed = record {
+    at = SHARED_PLACE;
+    there = contains_one shared_place;
+    object = g_object;
+    fields = g_slots;
+    free = λ e before c. absurd (nothing_in e c);
+    kept = λ before k. absurd k;
+  }
 
   g_named : IsNamed layout W words shared_place
   g_named = record { known = refl; valid = (omega arith, omega arith, λ e. refl); name = h.name; lies = inl (refl, refl, omega arith) }
@@ -95,7 +105,8 @@ module _ (layout : Layout) (words : List ℕ) (is : IsLayout layout) (h : IsEmpt
     total = h.total;
     one = λ p q c d e. sym (one_is shared_place p c) ∙ one_is shared_place q d;
     named = λ p c. subst (IsNamed layout W words) (one_is shared_place p c) g_named;
-    tracked = λ name node t e. let r = only_g name node e in subst (λ (n : Name × Node). IsPlaced layout [] NoNode (shared_place ∷ []) words n.0 n.1) (λ i. (r.0 i, r.1 i)) g_placed;
+    tracked = λ name node t e. let r = only_g name node e in subst (λ (n : Name × Node).
+        IsPlaced layout [] NoNode (shared_place ∷ []) words n.0 n.1) (λ i. (r.0 i, r.1 i)) g_placed;
     born = λ p node c in_ e. absurd (let same : SHARED_PLACE ≡ p.at = ap (λ (q : Place). q.at) (one_is shared_place p c) in let from = in_.from in omega arith);
   }
 
@@ -112,7 +123,10 @@ module _ (layout : Layout) (words : List ℕ) (is : IsLayout layout) (h : IsEmpt
       let mine : hand_of o.hands m ≡ new_hand = all_equal layout.mutators m new_hand no_hand lt in
       let state : state_of W m ≡ new_mutator = all_equal layout.mutators m new_mutator no_mutator lt in
       record {
-        registers = subst (λ (k : Hand × MutatorState). ListMeans P k.0.registers k.1.registers) (λ i. (sym mine i, sym state i)) (replicate_means P REGISTERS NIL_WORD value.Nil refl);
+        registers = subst (λ (k : Hand × MutatorState). ListMeans P k.0.registers k.1.registers) (λ i. (
+          sym mine i,
+          sym state i,
+        )) (replicate_means P REGISTERS NIL_WORD value.Nil refl);
         queue = subst (λ (k : Hand × MutatorState). ListMeans P k.0.queue k.1.queue) (λ i. (sym mine i, sym state i)) tt;
         serial = ap (λ (k : Hand). k.serial) mine ∙ sym (ap (λ (s : MutatorState). length s.nodes) state);
         stacks = ap (λ (k : Hand). k.stacks) mine ∙ sym (no_stacks m);

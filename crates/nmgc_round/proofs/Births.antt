@@ -42,7 +42,8 @@ module _ (o : Opening) (born : List Object) (x : Object) where
   place_cases p (inr h) = elim (Contains-push_cases born x h.0 h.1) [ inl c ↦ inl (inr (h.0, c, h.2)) | inr e ↦ inr (ap place_of e ∙ h.2) ]
 
 -- a word changes, an object stands none of whose words it is
-module _ (o : Opening) (born more : List Object) (grow : (p : Place) → IsIn o born p → IsIn o more p) (w v : World) (ws : List ℕ) (i new : ℕ) (y : Object) (h : IsStanding o born w ws y)
+module _ (o : Opening) (born more : List Object) (grow : (p : Place) → IsIn o born p →
+    IsIn o more p) (w v : World) (ws : List ℕ) (i new : ℕ) (y : Object) (h : IsStanding o born w ws y)
     (free : (i < y.at) ⊎ (end_of y ≤ i)) (same : node_of v y.name ≡ node_of w y.name) where
   abbrev us : List ℕ
   us = set ws i new
@@ -59,15 +60,20 @@ module _ (o : Opening) (born more : List Object) (grow : (p : Place) → IsIn o 
         there = same ∙ h.there;
         later = h.later;
         sized = h.sized;
-        fields = fields_same (IsIn o born) (IsIn o more) grow ws us (y.at + HEADER_WORDS) h.node h.sized (λ j lo hi. beyond j (omega arith) (omega arith)) h.fields;
+        fields = fields_same (IsIn o born) (IsIn o more) grow ws us (y.at + HEADER_WORDS) h.node h.sized (λ j lo hi.
+            beyond j (omega arith) (omega arith)) h.fields;
         kept = λ before k.
             let g = h.kept before k in
-            let n : (header_of before).fields ≡ (header_of y.node).fields = ap (λ (r : Header). r.fields) (sym g.0.header) in
-            (g.0, kept_same o y (IsIn o born) (IsIn o more) grow ws us (y.at + HEADER_WORDS) before k (λ j lo hi fixed. beyond j (omega arith) (omega arith)) g.1);
+            let n : (header_of before).fields ≡ (header_of y.node).fields = ap (λ (r : Header). r.fields) (sym g.0.header) in (
+              g.0,
+              kept_same o y (IsIn o born) (IsIn o more) grow ws us (y.at + HEADER_WORDS) before k (λ j lo hi fixed.
+                  beyond j (omega arith) (omega arith)) g.1,
+            );
       }
 
 -- a word of no object changes
-pub stands_free : (o : Opening) (born : List Object) (w : World) (ws : List ℕ) (i new : ℕ) → IsFree o born i → RepresentsInRound o born w ws → RepresentsInRound o born w (set ws i new)
+pub stands_free : (o : Opening) (born : List Object) (w : World) (ws : List ℕ) (i new : ℕ) → IsFree o born i → RepresentsInRound o born w ws →
+    RepresentsInRound o born w (set ws i new)
 stands_free o born w ws i new free st = record {
   total = length-set ws i new ∙ st.total;
   one = st.one;
@@ -85,7 +91,8 @@ module _ (o : Opening) (born : List Object) (w v : World) (ws : List ℕ) (st : 
     (free : (i : ℕ) → x.at ≤ i → i < end_of x → IsFree o born i)
     (mine : node_of v x.name ≡ Some x.node) (others : (n : Name) → (n ≡ x.name → ⊥) → node_of v n ≡ node_of w n)
     (unknown : node_of w x.name ≡ None) (no_snapshot : node_of o.core.snapshot x.name ≡ None)
-    (valid_name : IsName x.name) (name : slice_index ws (x.at + 1) ≡ name_word x.name) (sized : IsSized x.node) (fields : HasSlots (IsIn o born) ws (x.at + HEADER_WORDS) (slots_of x.node)) where
+    (valid_name : IsName x.name) (name : slice_index ws (x.at + 1) ≡
+    name_word x.name) (sized : IsSized x.node) (fields : HasSlots (IsIn o born) ws (x.at + HEADER_WORDS) (slots_of x.node)) where
   abbrev more : List Object
   more = born ++ x ∷ []
 
@@ -116,7 +123,11 @@ module _ (o : Opening) (born : List Object) (w v : World) (ws : List ℕ) (st : 
       | inr b ↦ absurd (other_place p a (subst (λ (r : Place). (p.name ≡ r.name) ⊎ (p.at ≡ r.at)) (sym b) e))
     ]
     | inr a ↦ elim (place_cases o born x q hq) [
-      | inl b ↦ absurd (other_place q b (elim (subst (λ (r : Place). (r.name ≡ q.name) ⊎ (r.at ≡ q.at)) (sym a) e) [ inl k ↦ inl (sym k) | inr k ↦ inr (sym k) ]))
+      | inl b ↦ absurd (other_place q b (elim (subst (λ (r : Place). (r.name ≡ q.name) ⊎ (r.at ≡ q.at)) (sym a) e) [
+        | inl k ↦ inl (sym k)
+        | inr k ↦
+            inr (sym k)
+      ]))
       | inr b ↦ sym a ∙ b
     ]
   ]
@@ -133,7 +144,13 @@ module _ (o : Opening) (born : List Object) (w v : World) (ws : List ℕ) (st : 
   old_named p hp =
       let h = st.named p hp in
       let ne : p.at + 1 ≢ x.at = λ e. elim (here.places p hp) [ inl l ↦ omega arith | inr l ↦ omega arith ] in
-      record { known = subst (λ y. IsSome y) (sym (others p.name (unlike p.name h.known))) h.known; valid = h.valid; name = away (p.at + 1) ne ∙ h.name; lies = h.lies }
+      record {
+        known = subst (λ y. IsSome y) (sym (others p.name (unlike p.name h.known))) h.known;
+        valid = h.valid;
+        name = away (p.at + 1) ne ∙
+            h.name;
+        lies = h.lies;
+      }
 
   new_apart : IsApart o more x
   new_apart = record {
@@ -171,13 +188,17 @@ module _ (o : Opening) (born : List Object) (w v : World) (ws : List ℕ) (st : 
     sized = sized;
     fields = grown;
     kept = λ before k. elim k as (λ k. IsLater before x.node × KeepsOf o x before (IsIn o more) vs (x.at + HEADER_WORDS) k) [
-      | inl e ↦ subst (λ (n : Node). IsLater n x.node × HasSlots (IsIn o more) vs (x.at + HEADER_WORDS) (fixed_slots n)) (sym e) (same_node x.node, fixed_of_slots (IsIn o more) vs (x.at + HEADER_WORDS) x.node grown)
+      | inl e ↦ subst (λ (n : Node). IsLater n x.node × HasSlots (IsIn o more) vs (x.at + HEADER_WORDS) (fixed_slots n)) (sym e) (
+        same_node x.node,
+        fixed_of_slots (IsIn o more) vs (x.at + HEADER_WORDS) x.node grown,
+      )
       | inr s ↦ let t : node_of o.core.snapshot x.name ≡ Some before = s.there in let bad : None ≡ Some before = sym no_snapshot ∙ t in absurd cc
     ];
   }
     where
       grown : HasSlots (IsIn o more) vs (x.at + HEADER_WORDS) (slots_of x.node)
-      grown = fields_same (IsIn o born) (IsIn o more) (more_places o born x) ws vs (x.at + HEADER_WORDS) x.node sized (λ j lo hi. away j (λ e. omega arith)) fields
+      grown = fields_same (IsIn o born) (IsIn o more) (more_places o born x) ws vs (x.at + HEADER_WORDS) x.node sized (λ j lo hi.
+          away j (λ e. omega arith)) fields
 
   pub stands_born : RepresentsInRound o more v vs
   stands_born = record {
@@ -186,7 +207,8 @@ module _ (o : Opening) (born : List Object) (w v : World) (ws : List ℕ) (st : 
     named = λ p hp. elim (place_cases o born x p hp) [ inl a ↦ old_named p a | inr e ↦ subst (IsNamed o.layout v vs) e new_named ];
     apart = λ y hy. elim (object_cases o born x y hy) [ inl a ↦ old_apart y a | inr e ↦ subst (IsApart o more) e new_apart ];
     objects = λ y hy. elim (object_cases o born x y hy) [
-      | inl a ↦ still_stands o born more (more_places o born x) w v ws x.at (header_word (header_of x.node)) y (st.objects y a) (here.objects y a) (others y.name (unlike y.name (st.named (place_of y) (placed o born y a)).known))
+      | inl a ↦ still_stands o born more (more_places o born x) w v ws x.at (header_word (header_of x.node)) y (st.objects y a) (here.objects y a)
+          (others y.name (unlike y.name (st.named (place_of y) (placed o born y a)).known))
       | inr e ↦ subst (IsStanding o more v vs) e new_standing
     ];
   }

@@ -25,22 +25,28 @@ use Rattle.nmgc_round.specs.Ready.{IsWritable, IsReadable}
 use Rattle.nmgc_round.proofs.Fields.{all_set}
 
 -- `set` of a field that is there
-pub step_set : (w : World) (m : ℕ) (object v : Operand) (index : ℕ) (name : Name) (found made : Node) → value_for w m object ≡ value.Ref name → node_of w name ≡ Some found → field_set found index (value_for w m v) ≡ (made, Fine) → step w m (Set object index v) ≡ (with_node w name made, Fine)
+pub step_set : (w : World) (m : ℕ) (object v : Operand) (index : ℕ) (name : Name) (found made : Node) → value_for w m object ≡ value.Ref name →
+    node_of w name ≡ Some found → field_set found index (value_for w m v) ≡ (made, Fine) → step w m (Set object index v) ≡ (with_node w name made, Fine)
 step_set w m object v index name found made is there does =
     let c : Change = change.Set index (value_for w m v) in
     ap (λ y. change_object w y c) is ∙ ap (λ o. change_node w name o c) there ∙ ap (λ (r : Node × Reply). (with_node w name r.0, r.1)) does
 
 -- it owes the old value
-pub owes_set : (w : World) (m : ℕ) (object v : Operand) (index : ℕ) (name : Name) (found : Node) (old : Value) → value_for w m object ≡ value.Ref name → node_of w name ≡ Some found → field_held found index ≡ Some old → owed_by w m (Set object index v) ≡ names_among (old ∷ [])
+pub owes_set : (w : World) (m : ℕ) (object v : Operand) (index : ℕ) (name : Name) (found : Node) (old : Value) →
+    value_for w m object ≡ value.Ref name → node_of w name ≡ Some found → field_held found index ≡ Some old →
+    owed_by w m (Set object index v) ≡ names_among (old ∷ [])
 owes_set w m object v index name found old is there held =
     let c : Change = change.Set index (value_for w m v) in
     ap (λ y. names_among (owed_of w y c)) is ∙ ap (λ o. names_among (owed_at c name o)) there ∙ ap (λ o. names_among (option_to_list o)) held
 
 -- `get` of a field that is there
-pub step_get : (w : World) (m dest : ℕ) (object : Operand) (index : ℕ) (name : Name) (found : Node) (v : Value) → value_for w m object ≡ value.Ref name → node_of w name ≡ Some found → field_read found index ≡ Given v → step w m (Get dest object index) ≡ (with_register w m dest v, Given v)
+pub step_get : (w : World) (m dest : ℕ) (object : Operand) (index : ℕ) (name : Name) (found : Node) (v : Value) →
+    value_for w m object ≡ value.Ref name → node_of w name ≡ Some found → field_read found index ≡ Given v →
+    step w m (Get dest object index) ≡ (with_register w m dest v, Given v)
 step_get w m dest object index name found v is there reads =
     let read : Node → Reply = λ n. field_read n index in
-    ap (λ y. read_into w m dest (read_object (object_of w y) read)) is ∙ ap (λ o. read_into w m dest (read_object o read)) there ∙ ap (λ r. read_into w m dest r) reads
+    ap (λ y. read_into w m dest (read_object (object_of w y) read)) is ∙ ap (λ o. read_into w m dest (read_object o read)) there ∙
+    ap (λ r. read_into w m dest r) reads
 
 -- a field that is written, with its word
 pub record Written (P : Place → Type 0) (ws : List ℕ) (from index new : ℕ) (found : Node) (v : Value) : Type 0 where
@@ -54,7 +60,8 @@ pub record Written (P : Place → Type 0) (ws : List ℕ) (from index new : ℕ)
   pub was : Means P (slice_index ws (from + index)) old
   pub no_stack : (size : ℕ) (values : List Value) → found ≡ Stack size values → ⊥
 
-pub written : (P : Place → Type 0) (ws : List ℕ) (from index new : ℕ) (found : Node) (v : Value) → IsWritable (header_of found).kind → index < (header_of found).fields → from + index < length ws → HasSlots P ws from (slots_of found) → Means P new v → Written P ws from index new found v
+pub written : (P : Place → Type 0) (ws : List ℕ) (from index new : ℕ) (found : Node) (v : Value) → IsWritable (header_of found).kind →
+    index < (header_of found).fields → from + index < length ws → HasSlots P ws from (slots_of found) → Means P new v → Written P ws from index new found v
 written P ws from index new (Con tag values) v may within inside h m = absurd may
 written P ws from index new (Thunk free result) v may within inside h m = absurd may
 written P ws from index new (Weak parts) v may within inside h m = absurd may
@@ -96,14 +103,21 @@ pub record Read (P : Place → Type 0) (ws : List ℕ) (from index : ℕ) (found
   pub reads : field_read found index ≡ Given value
   pub means : Means P (slice_index ws (from + index)) value
 
-read_at : (P : Place → Type 0) (ws : List ℕ) (from index : ℕ) (values : List Value) → index < length values → ((i : ℕ) (v : Value) → slice_get values i ≡ Some v → Means P (slice_index ws (from + i)) v) → (v : Value) × (given_or NoField (slice_get values index) ≡ Given v) × Means P (slice_index ws (from + index)) v
-read_at P ws from index values within h = let e : slice_get values index ≡ Some (get_or values index value.Nil) = slice_get-get_or values index value.Nil within in (get_or values index value.Nil, ap (λ o. given_or NoField o) e, h index (get_or values index value.Nil) e)
+read_at : (P : Place → Type 0) (ws : List ℕ) (from index : ℕ) (values : List Value) → index < length values →
+    ((i : ℕ) (v : Value) → slice_get values i ≡ Some v → Means P (slice_index ws (from + i)) v) → (v : Value) ×
+    (given_or NoField (slice_get values index) ≡ Given v) × Means P (slice_index ws (from + index)) v
+read_at P ws from index values within h =
+    let e : slice_get values index ≡ Some (get_or values index value.Nil) = slice_get-get_or values index value.Nil within in
+    (get_or values index value.Nil, ap (λ o. given_or NoField o) e, h index (get_or values index value.Nil) e)
 
-pub read : (P : Place → Type 0) (ws : List ℕ) (from index : ℕ) (found : Node) → IsReadable (header_of found).kind → index < (header_of found).fields → HasSlots P ws from (slots_of found) → Read P ws from index found
+pub read : (P : Place → Type 0) (ws : List ℕ) (from index : ℕ) (found : Node) → IsReadable (header_of found).kind →
+    index < (header_of found).fields → HasSlots P ws from (slots_of found) → Read P ws from index found
 read P ws from index (Thunk free result) may within h = absurd may
 read P ws from index (Weak parts) may within h = absurd may
 read P ws from index (Stack size values) may within h = absurd may
-read P ws from index (Con tag values) may within h = let r = read_at P ws from index values within (slots_mean P ws from values h) in record { value = r.0; reads = r.1; means = r.2 }
-read P ws from index (Arr values) may within h = let r = read_at P ws from index values within (slots_mean P ws from values h) in record { value = r.0; reads = r.1; means = r.2 }
+read P ws from index (Con tag values) may within h = let r = read_at P ws from index values within (slots_mean P ws from values h) in
+    record { value = r.0; reads = r.1; means = r.2 }
+read P ws from index (Arr values) may within h = let r = read_at P ws from index values within (slots_mean P ws from values h) in
+    record { value = r.0; reads = r.1; means = r.2 }
 read P ws from (suc index) (Var old) may within h = absurd (omega arith)
 read P ws from zero (Var old) may within h = record { value = old; reads = refl; means = h zero (holds old) refl }

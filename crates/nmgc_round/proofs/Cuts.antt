@@ -37,16 +37,19 @@ module _ (o : Opening) (k : ℕ) (hs : List Hand) (h : k < length hs) where
 pub last_at : (o : Opening) (k : ℕ) (hs : List Hand) → suc k ≡ length hs → alones o k (drop k hs) ≡ from o k (drop k hs) ∷ []
 last_at o k hs e = let h : k < length hs = omega arith in
     let none : drop (suc k) hs ≡ [] = subst (λ n. drop n hs ≡ []) (sym e) (drop_all hs) in
-    alones_at o k hs h ∙ ap (λ l. alone o k ∷ alones o (suc k) l) none ∙ ap (λ x. x ∷ []) (sym (ap (λ l. from o k l) (first o k hs h) ∙ ap (λ l. from o k (get_or hs k no_hand ∷ l)) none))
+    alones_at o k hs h ∙ ap (λ l. alone o k ∷ alones o (suc k) l) none ∙
+    ap (λ x. x ∷ []) (sym (ap (λ l. from o k l) (first o k hs h) ∙ ap (λ l. from o k (get_or hs k no_hand ∷ l)) none))
   where
     drop_all : (l : List Hand) → drop (length l) l ≡ []
     drop_all [] = refl
     drop_all (x ∷ xs) = drop_all xs
 
-pub gather_more : (p : Seat (Unit {0}) Seen) (xs : List (Seat (Unit {0}) Seen)) (x : Seat (Unit {0}) Seen) → all_together (seen p) (map seen (xs ++ x ∷ [])) ≡ together (all_together (seen p) (map seen xs)) (seen x)
+pub gather_more : (p : Seat (Unit {0}) Seen) (xs : List (Seat (Unit {0}) Seen)) (x : Seat (Unit {0}) Seen) →
+    all_together (seen p) (map seen (xs ++ x ∷ [])) ≡ together (all_together (seen p) (map seen xs)) (seen x)
 gather_more p xs x = at_end_of (seen p) xs x
   where
-    at_end_of : (v : Seen) (xs : List (Seat (Unit {0}) Seen)) (x : Seat (Unit {0}) Seen) → all_together v (map seen (xs ++ x ∷ [])) ≡ together (all_together v (map seen xs)) (seen x)
+    at_end_of : (v : Seen) (xs : List (Seat (Unit {0}) Seen)) (x : Seat (Unit {0}) Seen) →
+        all_together v (map seen (xs ++ x ∷ [])) ≡ together (all_together v (map seen xs)) (seen x)
     at_end_of v [] x = refl
     at_end_of v (y ∷ ys) x = at_end_of (together v (seen y)) ys x
 
@@ -69,9 +72,11 @@ pub cut_first : (r : Round) (p : RoundSeat) → IsAt r p → seen p ≡ from (op
 cut_first r p at is = record { at = at; count = omega arith; rest = is; seats = refl; all = All-nil (IsAt r) }
 
 pub cut_can : (r : Round) (p : RoundSeat) (xs : List RoundSeat) (n : ℕ) → IsCut r p xs n → n < length (opening_of r).hands → CanSplit (seen p)
-cut_can r p xs n h lt = let c = h.count in let k : length xs < length (opening_of r).hands = omega arith in subst CanSplit (sym h.rest) (can_split_at (opening_of r) (length xs) (opening_of r).hands k)
+cut_can r p xs n h lt = let c = h.count in let k : length xs < length (opening_of r).hands = omega arith in
+    subst CanSplit (sym h.rest) (can_split_at (opening_of r) (length xs) (opening_of r).hands k)
 
-pub cut_next : (r : Round) (p q s : RoundSeat) (xs : List RoundSeat) (n : ℕ) → IsCut r p xs n → n < length (opening_of r).hands → IsAt r q → IsAt r s → seen q ≡ keeps_rest (seen p) → seen s ≡ gives_first (seen p) → IsCut r q (xs ++ s ∷ []) (n + 1)
+pub cut_next : (r : Round) (p q s : RoundSeat) (xs : List RoundSeat) (n : ℕ) → IsCut r p xs n → n < length (opening_of r).hands → IsAt r q →
+    IsAt r s → seen q ≡ keeps_rest (seen p) → seen s ≡ gives_first (seen p) → IsCut r q (xs ++ s ∷ []) (n + 1)
 cut_next r p q s xs n h lt atq ats isq iss =
     let c = h.count in
     let O = opening_of r in
@@ -84,12 +89,16 @@ cut_next r p q s xs n h lt atq ats isq iss =
       seats =
           let a : map seen (xs ++ s ∷ []) ≡ map seen xs ++ alone O (length xs) ∷ [] = map-snoc xs s ∙ ap (λ x. map seen xs ++ x ∷ []) is in
           let t : List Seen = alones O (suc (length xs)) (drop (suc (length xs)) O.hands) in
-          ap (λ j. map seen (xs ++ s ∷ []) ++ alones O j (drop j O.hands)) l ∙ ap (λ u. u ++ t) a ∙ append_assoc (map seen xs) (alone O (length xs) ∷ []) t ∙ ap (λ u. map seen xs ++ u) (sym (alones_at O (length xs) O.hands k)) ∙ h.seats;
+          ap (λ j. map seen (xs ++ s ∷ []) ++ alones O j (drop j O.hands)) l ∙ ap (λ u. u ++ t) a ∙
+          append_assoc (map seen xs) (alone O (length xs) ∷ []) t ∙ ap (λ u. map seen xs ++ u) (sym (alones_at O (length xs) O.hands k)) ∙ h.seats;
       all = All-append (IsAt r) xs (s ∷ []) h.all (All-cons (IsAt r) s [] ats (All-nil (IsAt r)));
     }
 
-pub cut_done : (r : Round) (p : RoundSeat) (xs : List RoundSeat) (n : ℕ) → IsCut r p xs n → n ≡ length (opening_of r).hands → (map seen (xs ++ p ∷ []) ≡ alones (opening_of r) 0 (opening_of r).hands) × All (IsAt r) (xs ++ p ∷ [])
+pub cut_done : (r : Round) (p : RoundSeat) (xs : List RoundSeat) (n : ℕ) → IsCut r p xs n → n ≡ length (opening_of r).hands →
+    (map seen (xs ++ p ∷ []) ≡ alones (opening_of r) 0 (opening_of r).hands) × All (IsAt r) (xs ++ p ∷ [])
 cut_done r p xs n h e =
     let c = h.count in
-    let l = last_at (opening_of r) (length xs) (opening_of r).hands (omega arith) in
-    (map-snoc xs p ∙ ap (λ x. map seen xs ++ x ∷ []) h.rest ∙ ap (λ u. map seen xs ++ u) (sym l) ∙ h.seats, All-append (IsAt r) xs (p ∷ []) h.all (All-cons (IsAt r) p [] h.at (All-nil (IsAt r))))
+    let l = last_at (opening_of r) (length xs) (opening_of r).hands (omega arith) in (
+      map-snoc xs p ∙ ap (λ x. map seen xs ++ x ∷ []) h.rest ∙ ap (λ u. map seen xs ++ u) (sym l) ∙ h.seats,
+      All-append (IsAt r) xs (p ∷ []) h.all (All-cons (IsAt r) p [] h.at (All-nil (IsAt r))),
+    )

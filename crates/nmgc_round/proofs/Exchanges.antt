@@ -37,35 +37,45 @@ use Rattle.nmgc_round.proofs.Refusals.{same_words}
 use Rattle.nmgc_round.proofs.Writes.{Changes, field_law, own_same, node_now, node_again}
 
 -- `cas` of a field that is there compares its value, and then writes as `set` does
-compares : (found : Node) (index : ℕ) (expected v old : Value) (made : Node) → field_held found index ≡ Some old → field_set found index v ≡ (made, reply.Fine) → field_exchanged found index expected v ≡ node_exchanged old expected found made
+compares : (found : Node) (index : ℕ) (expected v old : Value) (made : Node) → field_held found index ≡ Some old →
+    field_set found index v ≡ (made, reply.Fine) → field_exchanged found index expected v ≡ node_exchanged old expected found made
 compares (Con tag values) index expected v old made held does = absurd cc
 compares (Thunk free result) index expected v old made held does = absurd cc
 compares (Weak parts) index expected v old made held does = absurd cc
 compares (Stack size values) index expected v old made held does = absurd cc
-compares (Var x) index expected v old made held does = ap (λ o. exchanged_at o expected (Var x) (Var v)) held ∙ ap (λ n. node_exchanged old expected (Var x) n) (var_made (eqb index 0) does)
+compares (Var x) index expected v old made held does = ap (λ o. exchanged_at o expected (Var x) (Var v)) held ∙
+    ap (λ n. node_exchanged old expected (Var x) n) (var_made (eqb index 0) does)
   where
     var_made : (b : Bool) → cond {A = Node × Reply} b (Var v, reply.Fine) (Var x, reply.NoField) ≡ (made, reply.Fine) → Var v ≡ made
     var_made true e = ap (λ (r : Node × Reply). r.0) e
     var_made false e = let no : reply.NoField ≡ reply.Fine = ap (λ (r : Node × Reply). r.1) e in absurd cc
-compares (Arr values) index expected v old made held does = ap (λ o. exchanged_at o expected (Arr values) (Arr (set values index v))) held ∙ ap (λ n. node_exchanged old expected (Arr values) n) (arr_made _ does)
+compares (Arr values) index expected v old made held does = ap (λ o. exchanged_at o expected (Arr values) (Arr (set values index v))) held ∙
+    ap (λ n. node_exchanged old expected (Arr values) n) (arr_made _ does)
   where
-    arr_made : (b : Bool) → cond {A = Node × Reply} b (Arr (set values index v), reply.Fine) (Arr values, reply.NoField) ≡ (made, reply.Fine) → Arr (set values index v) ≡ made
+    arr_made : (b : Bool) → cond {A = Node × Reply} b (Arr (set values index v), reply.Fine) (Arr values, reply.NoField) ≡ (made, reply.Fine) →
+        Arr (set values index v) ≡ made
     arr_made true e = ap (λ (r : Node × Reply). r.0) e
     arr_made false e = let no : reply.NoField ≡ reply.Fine = ap (λ (r : Node × Reply). r.1) e in absurd cc
 
 -- `cas` of a field that is there
-step_cas : (w : World) (m : ℕ) (object e v : Operand) (index : ℕ) (name : Name) (found made : Node) (r : Reply) → value_for w m object ≡ value.Ref name → node_of w name ≡ Some found → field_exchanged found index (value_for w m e) (value_for w m v) ≡ (made, r) → step w m (Cas object index e v) ≡ (with_node w name made, r)
+step_cas : (w : World) (m : ℕ) (object e v : Operand) (index : ℕ) (name : Name) (found made : Node) (r : Reply) →
+    value_for w m object ≡ value.Ref name → node_of w name ≡ Some found →
+    field_exchanged found index (value_for w m e) (value_for w m v) ≡ (made, r) → step w m (Cas object index e v) ≡ (with_node w name made, r)
 step_cas w m object e v index name found made r is there does =
     let c : Change = change.Exchange index (value_for w m e) (value_for w m v) in
     ap (λ y. change_object w y c) is ∙ ap (λ o. change_node w name o c) there ∙ ap (λ (r : Node × Reply). (with_node w name r.0, r.1)) does
 
 -- it owes the old value, if that is the expected one
-owes_cas : (w : World) (m : ℕ) (object e v : Operand) (index : ℕ) (name : Name) (found : Node) (old : Value) (same : Bool) → value_for w m object ≡ value.Ref name → node_of w name ≡ Some found → field_held found index ≡ Some old → is_same old (value_for w m e) ≡ same → owed_by w m (Cas object index e v) ≡ names_among (cond same (old ∷ []) [])
+owes_cas : (w : World) (m : ℕ) (object e v : Operand) (index : ℕ) (name : Name) (found : Node) (old : Value) (same : Bool) →
+    value_for w m object ≡ value.Ref name → node_of w name ≡ Some found → field_held found index ≡ Some old → is_same old (value_for w m e) ≡ same →
+    owed_by w m (Cas object index e v) ≡ names_among (cond same (old ∷ []) [])
 owes_cas w m object e v index name found old same is there held hit =
     let c : Change = change.Exchange index (value_for w m e) (value_for w m v) in
-    ap (λ y. names_among (owed_of w y c)) is ∙ ap (λ o. names_among (owed_at c name o)) there ∙ ap (λ o. names_among (if_same (value_for w m e) o)) held ∙ ap (λ b. names_among (cond b (old ∷ []) [])) hit
+    ap (λ y. names_among (owed_of w y c)) is ∙ ap (λ o. names_among (owed_at c name o)) there ∙
+    ap (λ o. names_among (if_same (value_for w m e) o)) held ∙ ap (λ b. names_among (cond b (old ∷ []) [])) hit
 
-module _ (o : Opening) (words : List ℕ) (views : List Seen) (h : Keeps o words views) (id : ℕ) (v : Seen) (here : get_elem? views id ≡ some v) (p : Part) (is : IsMutator v p) where
+module _ (o : Opening) (words : List ℕ) (views : List Seen) (h : Keeps o words views) (id : ℕ) (v : Seen) (here : get_elem? views id ≡
+    some v) (p : Part) (is : IsMutator v p) where
   abbrev S : State
   S = now o h.events
 
@@ -87,7 +97,8 @@ module _ (o : Opening) (words : List ℕ) (views : List Seen) (h : Keeps o words
     within : index < (header_of object.node).fields
     may : MayChange (header_of object.node).kind index
     write : Written P words (at + HEADER_WORDS) index w (h.stands.objects object there).node (value_for W p.number can.value)
-    compares : field_exchanged (h.stands.objects object there).node index (value_for W p.number can.before) (value_for W p.number can.value) ≡ node_exchanged write.old (value_for W p.number can.before) (h.stands.objects object there).node write.made
+    compares : field_exchanged (h.stands.objects object there).node index (value_for W p.number can.before) (value_for W p.number can.value) ≡
+        node_exchanged write.old (value_for W p.number can.before) (h.stands.objects object there).node write.made
     same : is_same write.old (value_for W p.number can.before) ≡ eqb (slice_index words (at + HEADER_WORDS + index)) expected
 
   finds : (at index expected w : ℕ) (c : Command) (can : CanExchange o p at index expected w c) → Finds at index expected w c can
@@ -114,11 +125,15 @@ module _ (o : Opening) (words : List ℕ) (views : List Seen) (h : Keeps o words
         may = subst (λ (k : Header). MayChange k.kind index) (sym m.head) (may_change can.header.kind index can.kind);
         write = t;
         compares = compares st.node index (value_for W p.number can.before) val t.old t.made t.held t.does;
-        same = same_words o words views h id v here p is (slice_index words (at + HEADER_WORDS + index)) expected t.old (value_for W p.number can.before) t.was (subst (λ n. Means P n (value_for W p.number can.before)) can.before_word (operand_is o words views h id v here p is can.before));
+        same = same_words o words views h id v here p is (slice_index words (at + HEADER_WORDS + index)) expected t.old
+            (value_for W p.number can.before) t.was (subst (λ n.
+            Means P n (value_for W p.number can.before)) can.before_word (operand_is o words views h id v here p is can.before));
       }
 
   -- it found the expected word: the field changes, and the old word is owed
-  exchange_yes : (at index expected w : ℕ) (c : Command) → CanExchange o p at index expected w c → eqb (slice_index words (at + HEADER_WORDS + index)) expected ≡ true → AddsCommand o words views h p.number c (set words (at + HEADER_WORDS + index) w) (set views id (exchanged v c expected true))
+  exchange_yes : (at index expected w : ℕ) (c : Command) → CanExchange o p at index expected w c →
+      eqb (slice_index words (at + HEADER_WORDS + index)) expected ≡ true →
+      AddsCommand o words views h p.number c (set words (at + HEADER_WORDS + index) w) (set views id (exchanged v c expected true))
   exchange_yes at index expected w c can hit =
       let f = finds at index expected w c can in
       let x = f.object in
@@ -127,8 +142,11 @@ module _ (o : Opening) (words : List ℕ) (views : List Seen) (h : Keeps o words
       let C : Command = Cas can.object index can.before can.value in
       let u : World = with_node W x.name t.made in
       let same : is_same t.old (value_for W p.number can.before) ≡ true = f.same ∙ hit in
-      let does : step W p.number C ≡ (u, reply.Yes) = step_cas W p.number can.object can.before can.value index x.name st.node t.made reply.Yes f.refers st.there (f.compares ∙ ap (λ b. cond {A = Node × Reply} b (t.made, reply.Yes) (st.node, reply.No)) same) in
-      let owes : owed_by W p.number C ≡ names_among (t.old ∷ []) = owes_cas W p.number can.object can.before can.value index x.name st.node t.old true f.refers st.there t.held same in
+      let does : step W p.number C ≡ (u, reply.Yes) =
+      step_cas W p.number can.object can.before can.value index x.name st.node t.made reply.Yes f.refers st.there (f.compares ∙
+      ap (λ b. cond {A = Node × Reply} b (t.made, reply.Yes) (st.node, reply.No)) same) in
+      let owes : owed_by W p.number C ≡ names_among (t.old ∷ []) =
+      owes_cas W p.number can.object can.before can.value index x.name st.node t.old true f.refers st.there t.held same in
       let now_ = node_now o words views h id v here p is x f.there t.made in
       let is_word : slice_index words (at + HEADER_WORDS + index) ≡ expected = eqb-true (slice_index words (at + HEADER_WORDS + index)) expected hit in
       let was : Means P expected t.old = subst (λ n. Means P n t.old) is_word t.was in
@@ -142,19 +160,36 @@ module _ (o : Opening) (words : List ℕ) (views : List Seen) (h : Keeps o words
         fields = subst (λ a. HasSlots P (set words (a + HEADER_WORDS + index) w) (a + HEADER_WORDS) (slots_of t.made)) (sym f.is_at) t.fields;
         stacks = λ size values e. absurd (t.no_stack size values e);
       } in
-      subst (λ l. AddsCommand o words views h p.number c (set words (at + HEADER_WORDS + index) w) (set views id (record v { parts = first_changed (λ q. doing (finding q expected) c (plain reply.Yes) (owed_word v.opening.marking expected)) l }))) (sym is.alone)
-      (subst (λ (y : Opening). AddsCommand o words views h p.number c (set words (at + HEADER_WORDS + index) w) (set views id (record v { parts = doing (finding p expected) c (plain reply.Yes) (owed_word y.marking expected) ∷ [] }))) (sym (same_opening o words views h id v here p is))
-      (subst (λ (d : Command). AddsCommand o words views h p.number d (set words (at + HEADER_WORDS + index) w) (set views id (record v { parts = doing (finding p expected) d (plain reply.Yes) (owed_word o.marking expected) ∷ [] }))) (sym can.command)
-      (subst (λ a. AddsCommand o words views h p.number C (set words (a + HEADER_WORDS + index) w) (set views id (record v { parts = doing (finding p expected) C (plain reply.Yes) (owed_word o.marking expected) ∷ [] }))) f.is_at
-      (field_law o words views h id v here p is x f.there index w t.made C reply.Yes (plain reply.Yes) u (p.found ++ expected ∷ []) (owed_word o.marking expected) ch
+      subst (λ l. AddsCommand o words views h p.number c (set words (at + HEADER_WORDS + index) w) (set views id (record v {
+        parts =
+            first_changed (λ q. doing (finding q expected) c (plain reply.Yes) (owed_word v.opening.marking expected)) l;
+      }))) (sym is.alone)
+      (subst (λ (y : Opening). AddsCommand o words views h p.number c (set words (at + HEADER_WORDS + index) w) (set views id (record v {
+        parts =
+            doing (finding p expected) c (plain reply.Yes) (owed_word y.marking expected) ∷ [];
+      }))) (sym (same_opening o words views h id v here p is))
+      (subst (λ (d : Command). AddsCommand o words views h p.number d (set words (at + HEADER_WORDS + index) w) (set views id (record v {
+        parts =
+            doing (finding p expected) d (plain reply.Yes) (owed_word o.marking expected) ∷ [];
+      }))) (sym can.command)
+      (subst (λ a. AddsCommand o words views h p.number C (set words (a + HEADER_WORDS + index) w) (set views id (record v {
+        parts =
+            doing (finding p expected) C (plain reply.Yes) (owed_word o.marking expected) ∷ [];
+      }))) f.is_at
+      (field_law o words views h id v here p is x f.there index w t.made C reply.Yes (plain reply.Yes) u (p.found ++ expected ∷
+      []) (owed_word o.marking expected) ch
       (subst (λ (d : Command). CanGive o p d) can.command can.gives) does refl
       (hand_kept o words views h id v here p is u (hand_now o p) (node_frame W x.name st.node t.made st.there p.number) fits.hand)
-      (subst (λ ns. Owes o.marking P (p.owed ++ owed_word o.marking expected) (names_of S.owed p.number ++ ns)) (sym owes) (owes_old o words views h id v here p is o.marking p.owed (names_of S.owed p.number) expected t.old fits.owed was))
-      (subst (λ ns. Owes true P (p.found ++ expected ∷ []) (names_of S.owed p.number ++ ns)) (sym owes) (owes_old o words views h id v here p is true p.found (names_of S.owed p.number) expected t.old fits.found was))
+      (subst (λ ns. Owes o.marking P (p.owed ++ owed_word o.marking expected) (names_of S.owed p.number ++
+      ns)) (sym owes) (owes_old o words views h id v here p is o.marking p.owed (names_of S.owed p.number) expected t.old fits.owed was))
+      (subst (λ ns. Owes true P (p.found ++ expected ∷ []) (names_of S.owed p.number ++
+      ns)) (sym owes) (owes_old o words views h id v here p is true p.found (names_of S.owed p.number) expected t.old fits.found was))
       (own_same o words views h id v here p is x f.there index w t.made u (hand_now o p) ch (λ size values e. t.no_stack size values e) refl)))))
 
   -- it found another word: nothing changes
-  exchange_no : (at index expected w : ℕ) (c : Command) → CanExchange o p at index expected w c → eqb (slice_index words (at + HEADER_WORDS + index)) expected ≡ false → AddsCommand o words views h p.number c words (set views id (exchanged v c expected false))
+  exchange_no : (at index expected w : ℕ) (c : Command) → CanExchange o p at index expected w c →
+      eqb (slice_index words (at + HEADER_WORDS + index)) expected ≡ false →
+      AddsCommand o words views h p.number c words (set views id (exchanged v c expected false))
   exchange_no at index expected w c can no_ =
       let f = finds at index expected w c can in
       let x = f.object in
@@ -163,16 +198,25 @@ module _ (o : Opening) (words : List ℕ) (views : List Seen) (h : Keeps o words
       let C : Command = Cas can.object index can.before can.value in
       let u : World = with_node W x.name st.node in
       let same : is_same t.old (value_for W p.number can.before) ≡ false = f.same ∙ no_ in
-      let does : step W p.number C ≡ (u, reply.No) = step_cas W p.number can.object can.before can.value index x.name st.node st.node reply.No f.refers st.there (f.compares ∙ ap (λ b. cond {A = Node × Reply} b (t.made, reply.Yes) (st.node, reply.No)) same) in
-      let owes : owed_by W p.number C ≡ [] = owes_cas W p.number can.object can.before can.value index x.name st.node t.old false f.refers st.there t.held same in
+      let does : step W p.number C ≡ (u, reply.No) =
+      step_cas W p.number can.object can.before can.value index x.name st.node st.node reply.No f.refers st.there (f.compares ∙
+      ap (λ b. cond {A = Node × Reply} b (t.made, reply.Yes) (st.node, reply.No)) same) in
+      let owes : owed_by W p.number C ≡ [] =
+      owes_cas W p.number can.object can.before can.value index x.name st.node t.old false f.refers st.there t.held same in
       let again = node_again o words views h id v here p is x f.there in
       subst (λ (d : Command). AddsCommand o words views h p.number d words (set views id (answered v d (plain reply.No)))) (sym can.command)
-      (still_law o words views h id v here p is C reply.No (plain reply.No) u (subst (λ (d : Command). CanGive o p d) can.command can.gives) does again owes refl
+      (still_law o words views h id v here p is C reply.No (plain reply.No) u (subst (λ (d : Command).
+      CanGive o p d) can.command can.gives) does again owes refl
       (hand_kept o words views h id v here p is u (hand_now o p) (node_frame W x.name st.node st.node st.there p.number) fits.hand) refl)
 
-  exchange_as : (at index expected w : ℕ) (c : Command) → CanExchange o p at index expected w c → (hit : Bool) → eqb (slice_index words (at + HEADER_WORDS + index)) expected ≡ hit → AddsCommand o words views h p.number c (words_exchanged words (at + HEADER_WORDS + index) w hit) (set views id (exchanged v c expected hit))
+  exchange_as : (at index expected w : ℕ) (c : Command) → CanExchange o p at index expected w c → (hit : Bool) →
+      eqb (slice_index words (at + HEADER_WORDS + index)) expected ≡ hit →
+      AddsCommand o words views h p.number c (words_exchanged words (at + HEADER_WORDS + index) w hit) (set views id (exchanged v c expected hit))
   exchange_as at index expected w c can true e = exchange_yes at index expected w c can e
   exchange_as at index expected w c can false e = exchange_no at index expected w c can e
 
-  pub exchange_keeps : (at index expected w : ℕ) (c : Command) → CanExchange o p at index expected w c → AddsCommand o words views h p.number c (words_exchanged words (at + HEADER_WORDS + index) w (eqb (slice_index words (at + HEADER_WORDS + index)) expected)) (set views id (exchanged v c expected (eqb (slice_index words (at + HEADER_WORDS + index)) expected)))
+  pub exchange_keeps : (at index expected w : ℕ) (c : Command) → CanExchange o p at index expected w c →
+      AddsCommand o words views h p.number c (words_exchanged words (at + HEADER_WORDS + index) w
+      (eqb (slice_index words (at + HEADER_WORDS + index)) expected))
+      (set views id (exchanged v c expected (eqb (slice_index words (at + HEADER_WORDS + index)) expected)))
   exchange_keeps at index expected w c can = exchange_as at index expected w c can (eqb (slice_index words (at + HEADER_WORDS + index)) expected) refl

@@ -34,7 +34,9 @@ module _ (P Q : Place → Type 0) (more : (p : Place) → P p → Q p) where
   list_more (w ∷ ws) (v ∷ vs) h = (means_more w v h.0, list_more ws vs h.1)
 
   -- the fields stand, where no word changed of which something is said
-  pub slots_same : (ws us : List ℕ) (from : ℕ) (slots : List Slot) → ((i : ℕ) (s : Slot) → slice_get slots i ≡ Some s → IsTold s → slice_index us (from + i) ≡ slice_index ws (from + i)) → HasSlots P ws from slots → HasSlots Q us from slots
+  pub slots_same : (ws us : List ℕ) (from : ℕ) (slots : List Slot) →
+      ((i : ℕ) (s : Slot) → slice_get slots i ≡ Some s → IsTold s → slice_index us (from + i) ≡ slice_index ws (from + i)) →
+      HasSlots P ws from slots → HasSlots Q us from slots
   slots_same ws us from slots same h i s e = by_slot s e (h i s e)
     where
       by_slot : (s : Slot) → slice_get slots i ≡ Some s → Fills P (slice_index ws (from + i)) s → Fills Q (slice_index us (from + i)) s
@@ -43,12 +45,14 @@ module _ (P Q : Place → Type 0) (more : (p : Place) → P p → Q p) where
       by_slot untold e k = tt
 
 -- a field that is told for good is one, and may not change
-never_changes : (n : Node) (i : ℕ) (s : Slot) → slice_get (fixed_slots n) i ≡ Some s → IsTold s → (i < (header_of n).fields) × (MayChange (header_of n).kind i → ⊥)
+never_changes : (n : Node) (i : ℕ) (s : Slot) → slice_get (fixed_slots n) i ≡ Some s → IsTold s → (i < (header_of n).fields) ×
+    (MayChange (header_of n).kind i → ⊥)
 never_changes (Con tag values) i s e told = absurd cc
 never_changes (Var v) i s e told = absurd cc
 never_changes (Arr values) i s e told = absurd cc
 never_changes (Thunk free None) zero s e told = absurd (told cc)
-never_changes (Thunk free None) (suc i) s e told = let x = map_item holds free i s e in let lt = slice_get_within free i x.0 x.1 in (omega (arith, lt), λ c. omega arith)
+never_changes (Thunk free None) (suc i) s e told = let x = map_item holds free i s e in let lt = slice_get_within free i x.0 x.1 in
+    (omega (arith, lt), λ c. omega arith)
 never_changes (Thunk free (Some result)) i s e told = absurd cc
 never_changes (Weak None) i s e told = absurd cc
 never_changes (Weak (Some parts)) zero s e told = (omega arith, λ c. omega arith)
@@ -69,20 +73,26 @@ fixed_of_slots P ws from (Arr values) h = slots_none P ws from
 fixed_of_slots P ws from (Thunk free None) h = slots_of_kept P ws from (Thunk free None) (fields_of_slots P ws from (Thunk free None) h).1
 fixed_of_slots P ws from (Thunk free (Some result)) h = slots_none P ws from
 fixed_of_slots P ws from (Weak None) h = slots_none P ws from
-fixed_of_slots P ws from (Weak (Some parts)) h = let k = fields_of_slots P ws from (Weak (Some parts)) h in slots_of_kept P ws from (Weak (Some parts)) (k.0, k.2)
+fixed_of_slots P ws from (Weak (Some parts)) h = let k = fields_of_slots P ws from (Weak (Some parts)) h in
+    slots_of_kept P ws from (Weak (Some parts)) (k.0, k.2)
 fixed_of_slots P ws from (Stack size values) h = slots_none P ws from
 
 module _ (P Q : Place → Type 0) (more : (p : Place) → P p → Q p) (ws us : List ℕ) (from : ℕ) (n : Node) where
   -- the fields stand, where none of their words changed
-  pub fields_same : IsSized n → ((j : ℕ) → from ≤ j → j < from + (header_of n).fields → slice_index us j ≡ slice_index ws j) → HasSlots P ws from (slots_of n) → HasSlots Q us from (slots_of n)
-  fields_same sized same h = slots_same P Q more ws us from (slots_of n) (λ i s e told. let lt = slice_get_within (slots_of n) i s e in let c = slot_count n sized in same (from + i) (omega arith) (omega (arith, lt, c))) h
+  pub fields_same : IsSized n → ((j : ℕ) → from ≤ j → j < from + (header_of n).fields → slice_index us j ≡ slice_index ws j) →
+      HasSlots P ws from (slots_of n) → HasSlots Q us from (slots_of n)
+  fields_same sized same h = slots_same P Q more ws us from (slots_of n) (λ i s e told. let lt = slice_get_within (slots_of n) i s e in
+      let c = slot_count n sized in same (from + i) (omega arith) (omega (arith, lt, c))) h
 
   -- and what is told for good does, where at most words of other fields changed
   abbrev IsSame : Type 0
-  IsSame = (j : ℕ) → from ≤ j → j < from + (header_of n).fields → ((i : ℕ) → j ≡ from + i → MayChange (header_of n).kind i → ⊥) → slice_index us j ≡ slice_index ws j
+  IsSame = (j : ℕ) → from ≤ j → j < from + (header_of n).fields → ((i : ℕ) → j ≡ from + i → MayChange (header_of n).kind i → ⊥) →
+      slice_index us j ≡ slice_index ws j
 
   word_same : IsSame → (i : ℕ) (s : Slot) → slice_get (fixed_slots n) i ≡ Some s → IsTold s → slice_index us (from + i) ≡ slice_index ws (from + i)
-  word_same same i s e told = let k = never_changes n i s e told in same (from + i) (omega arith) (omega (arith, k.0)) (λ j at may. let z : j ≡ i = omega (arith, at) in k.1 (subst (λ (l : ℕ). MayChange (header_of n).kind l) z may))
+  word_same same i s e told = let k = never_changes n i s e told in
+      same (from + i) (omega arith) (omega (arith, k.0)) (λ j at may. let z : j ≡ i = omega (arith, at) in
+      k.1 (subst (λ (l : ℕ). MayChange (header_of n).kind l) z may))
 
   pub fixed_same : IsSame → HasSlots P ws from (fixed_slots n) → HasSlots Q us from (fixed_slots n)
   fixed_same same h = slots_same P Q more ws us from (fixed_slots n) (word_same same) h
@@ -92,12 +102,16 @@ module _ (P Q : Place → Type 0) (more : (p : Place) → P p → Q p) (ws us : 
   free_same same h = slots_same P Q more ws us from (free_slots n) (λ i s e told. word_same same i s (free_fixed n i s e) told) h
 
 -- what is kept of an earlier node
-pub kept_same : (o : Opening) (x : Object) (P Q : Place → Type 0) (more : (p : Place) → P p → Q p) (ws us : List ℕ) (from : ℕ) (before : Node) (k : IsEarlierNode o x before) → ((j : ℕ) → from ≤ j → j < from + (header_of before).fields → ((i : ℕ) → j ≡ from + i → MayChange (header_of before).kind i → ⊥) → slice_index us j ≡ slice_index ws j) → KeepsOf o x before P ws from k → KeepsOf o x before Q us from k
+pub kept_same : (o : Opening) (x : Object) (P Q : Place → Type 0) (more : (p : Place) → P p →
+    Q p) (ws us : List ℕ) (from : ℕ) (before : Node) (k : IsEarlierNode o x before) →
+    ((j : ℕ) → from ≤ j → j < from + (header_of before).fields → ((i : ℕ) → j ≡ from + i → MayChange (header_of before).kind i → ⊥) →
+    slice_index us j ≡ slice_index ws j) → KeepsOf o x before P ws from k → KeepsOf o x before Q us from k
 kept_same o x P Q more ws us from before (inl e) same h = fixed_same P Q more ws us from before same h
 kept_same o x P Q more ws us from before (inr s) same h = free_same P Q more ws us from before same h
 
 -- a field of an array changes with its word
-pub all_set : (P : Place → Type 0) (ws : List ℕ) (from index new : ℕ) (values : List Value) (v : Value) → from + index < length ws → AllMean P ws from values → Means P new v → AllMean P (set ws (from + index) new) from (set values index v)
+pub all_set : (P : Place → Type 0) (ws : List ℕ) (from index new : ℕ) (values : List Value) (v : Value) → from + index < length ws →
+    AllMean P ws from values → Means P new v → AllMean P (set ws (from + index) new) from (set values index v)
 all_set P ws from index new values v inside h m i x e =
     let lt : i < length (set values index v) = slice_get_within (set values index v) i x e in
     elim (cases_eq i index) [
@@ -105,8 +119,11 @@ all_set P ws from index new values v inside h m i x e =
           let within : index < length values = omega (arith, length-set values index v) in
           let is : Some v ≡ Some x = sym (slice_get-set_same values index v within) ∙ subst (λ j. slice_get (set values index v) j ≡ Some x) same e in
           let vx : v ≡ x = cc in
-          subst (λ y. Means P (slice_index (set ws (from + index) new) (from + i)) y) vx (subst (λ j. Means P (slice_index (set ws (from + index) new) (from + j)) v) (sym same) (subst (λ w. Means P w v) (sym (get_or-set_same ws (from + index) new 0 inside)) m))
+          subst (λ y. Means P (slice_index (set ws (from + index) new) (from + i)) y) vx (subst (λ j.
+          Means P (slice_index (set ws (from + index) new) (from + j)) v) (sym same) (subst (λ w.
+          Means P w v) (sym (get_or-set_same ws (from + index) new 0 inside)) m))
       | inr other ↦
           let far : from + i ≢ from + index = λ k. other (omega arith) in
-          subst (λ w. Means P w x) (sym (get_or-set_other ws (from + index) (from + i) new 0 far)) (h i x (sym (slice_get-set_other values index i v other) ∙ e))
+          subst (λ w. Means P w x) (sym (get_or-set_other ws (from + index) (from + i) new 0 far))
+          (h i x (sym (slice_get-set_other values index i v other) ∙ e))
     ]

@@ -50,7 +50,8 @@ map_contains (y ∷ ys) p c = elim (contains_cases (place_of y) (map place_of ys
 ]
 
 -- a reference among values has a place
-list_refers : (P : Place → Type 0) (ws : List ℕ) (vs : List Value) (name : Name) → ListMeans P ws vs → Contains vs (value.Ref name) → (at : ℕ) × P (record { at = at; name = name })
+list_refers : (P : Place → Type 0) (ws : List ℕ) (vs : List Value) (name : Name) → ListMeans P ws vs → Contains vs (value.Ref name) → (at : ℕ) ×
+    P (record { at = at; name = name })
 list_refers P [] [] name h c = absurd (let lt = c.1 in omega arith)
 list_refers P [] (v ∷ vs) name h c = absurd h
 list_refers P (w ∷ ws) [] name h c = absurd h
@@ -59,11 +60,13 @@ list_refers P (w ∷ ws) (v ∷ vs) name h c = elim (contains_cases v vs (value.
   | inr d ↦ list_refers P ws vs name h.1 d
 ]
 
-all_refers : (P : Place → Type 0) (words : List ℕ) (from : ℕ) (vs : List Value) (name : Name) → AllMean P words from vs → Contains vs (value.Ref name) → (at : ℕ) × P (record { at = at; name = name })
+all_refers : (P : Place → Type 0) (words : List ℕ) (from : ℕ) (vs : List Value) (name : Name) → AllMean P words from vs →
+    Contains vs (value.Ref name) → (at : ℕ) × P (record { at = at; name = name })
 all_refers P words from vs name h c = let t = item_of vs (value.Ref name) c in let m = h t.0 (value.Ref name) t.1 in (m.0, m.2)
 
 -- a strong field that is a reference has a place
-strong_refers : (P : Place → Type 0) (words : List ℕ) (from : ℕ) (n : Node) (name : Name) → HasFields P words from n → Contains (strong_fields n) (value.Ref name) → (at : ℕ) × P (record { at = at; name = name })
+strong_refers : (P : Place → Type 0) (words : List ℕ) (from : ℕ) (n : Node) (name : Name) → HasFields P words from n →
+    Contains (strong_fields n) (value.Ref name) → (at : ℕ) × P (record { at = at; name = name })
 strong_refers P words from (Con tag values) name h c = all_refers P words from values name h c
 strong_refers P words from (Var v) name h c = list_refers P (slice_index words from ∷ []) (v ∷ []) name (h, tt) c
 strong_refers P words from (Arr values) name h c = all_refers P words from values name h c
@@ -87,7 +90,8 @@ module _ (o : Opening) (words : List ℕ) (v : Seen) (h : IsFinished o words v) 
 
   listed : (p : Place) → IsPlace o h.born p → Contains places p
   listed p (inl c) = Contains-append_left o.places (map place_of h.born) p c
-  listed p (inr t) = Contains-append_right o.places (map place_of h.born) p (subst (λ (q : Place). Contains (map place_of h.born) q) t.2 (contains_map h.born t.0 t.1))
+  listed p (inr t) = Contains-append_right o.places (map place_of h.born) p (subst (λ (q : Place).
+      Contains (map place_of h.born) q) t.2 (contains_map h.born t.0 t.1))
 
   is_place : (p : Place) → Contains places p → IsPlace o h.born p
   is_place p c = elim (Contains-append_cases o.places (map place_of h.born) p c) [ inl d ↦ inl d | inr d ↦ inr (map_contains h.born p d) ]
@@ -106,7 +110,11 @@ module _ (o : Opening) (words : List ℕ) (v : Seen) (h : IsFinished o words v) 
   -- what was tracked as the round began has its object
   old_here : (name : Name) → IsTracked o.core.world (earlier o) name → IsHere name
   old_here name t node e = elim (h.known name node e) [
-    | inl k ↦ let place = h.placed name k.0 t k.1 in (record { at = place.0; name = name; node = k.0 }, inl (record { there = place.1; tracked = t; node = k.1 }), refl)
+    | inl k ↦ let place = h.placed name k.0 t k.1 in (
+      record { at = place.0; name = name; node = k.0 },
+      inl (record { there = place.1; tracked = t; node = k.1 }),
+      refl,
+    )
     | inr k ↦ (k.0, inr k.1, k.2)
   ]
 
@@ -118,7 +126,8 @@ module _ (o : Opening) (words : List ℕ) (v : Seen) (h : IsFinished o words v) 
       let st = h.stands.objects t.0 t.1 in
       let same : Some st.node ≡ Some refers.0 = sym st.there ∙ ap (λ k. node_of W k) t.2 ∙ refers.1 in
       let is : st.node ≡ refers.0 = cc in
-      let place = strong_refers P words (t.0.at + HEADER_WORDS) st.node target (fields_of_slots P words (t.0.at + HEADER_WORDS) st.node st.fields) (subst (λ k. Contains (strong_fields k) (value.Ref target)) (sym is) refers.2) in
+      let place = strong_refers P words (t.0.at + HEADER_WORDS) st.node target (fields_of_slots P words (t.0.at + HEADER_WORDS) st.node st.fields)
+      (subst (λ k. Contains (strong_fields k) (value.Ref target)) (sym is) refers.2) in
       in_here place.0 target place.1
 
   -- an alive weak pointer was tracked as the round began, or was born since; so were its parts
@@ -127,7 +136,11 @@ module _ (o : Opening) (words : List ℕ) (v : Seen) (h : IsFinished o words v) 
     | inl k ↦
         let before : k.0 ≡ Weak (Some parts) = k.2.alive parts refl in
         let alive' : IsAlive o.core.world weak parts = k.1 ∙ ap (λ (n : Node). Some n) before in
-        old_here weak (start weak (o.core.world, contains_head o.core.world (earlier o), start weak (inr (weak, parts, alive', inl refl)))) (Weak (Some parts)) alive
+        old_here weak (start weak (
+          o.core.world,
+          contains_head o.core.world (earlier o),
+          start weak (inr (weak, parts, alive', inl refl)),
+        )) (Weak (Some parts)) alive
     | inr k ↦ (k.0, inr k.1, k.2)
   ]
 
@@ -137,17 +150,22 @@ module _ (o : Opening) (words : List ℕ) (v : Seen) (h : IsFinished o words v) 
       let st = h.stands.objects t.0 t.1 in
       let same : Some st.node ≡ Some (Weak (Some parts)) = sym st.there ∙ ap (λ k. node_of W k) t.2 ∙ alive in
       let is : st.node ≡ Weak (Some parts) = cc in
-      let f = fields_of_slots P words (t.0.at + HEADER_WORDS) (Weak (Some parts)) (subst (λ k. HasSlots P words (t.0.at + HEADER_WORDS) (slots_of k)) is st.fields) in
-      let ws : List ℕ = slice_index words (t.0.at + HEADER_WORDS) ∷ slice_index words (t.0.at + HEADER_WORDS + 1) ∷ slice_index words (t.0.at + HEADER_WORDS + 2) ∷ [] in
+      let f = fields_of_slots P words (t.0.at + HEADER_WORDS) (Weak (Some parts)) (subst (λ k.
+      HasSlots P words (t.0.at + HEADER_WORDS) (slots_of k)) is st.fields) in
+      let ws : List ℕ = slice_index words (t.0.at + HEADER_WORDS) ∷ slice_index words (t.0.at + HEADER_WORDS + 1) ∷
+      slice_index words (t.0.at + HEADER_WORDS + 2) ∷ [] in
       let vs : List Value = parts.key ∷ parts.value ∷ parts.finaliser ∷ [] in
-      let by_place : Contains vs (value.Ref name) → (x : Object) × IsObject o h.born x × (x.name ≡ name) = λ c. let place = list_refers P ws vs name (f.0, (f.1, (f.2, tt))) c in in_here place.0 name place.1 node e in
+      let by_place : Contains vs (value.Ref name) → (x : Object) × IsObject o h.born x ×
+      (x.name ≡ name) = λ c. let place = list_refers P ws vs name (f.0, (f.1, (f.2, tt))) c in in_here place.0 name place.1 node e in
       elim of [
         | inl k ↦ (t.0, t.1, t.2 ∙ sym k)
         | inr a ↦ elim a [
           | inl k ↦ by_place (subst (λ x. Contains vs x) k (contains_head parts.key (parts.value ∷ parts.finaliser ∷ [])))
           | inr b ↦ elim b [
-            | inl k ↦ by_place (subst (λ x. Contains vs x) k (contains_tail parts.key (parts.value ∷ parts.finaliser ∷ []) parts.value (contains_head parts.value (parts.finaliser ∷ []))))
-            | inr k ↦ by_place (subst (λ x. Contains vs x) k (contains_tail parts.key (parts.value ∷ parts.finaliser ∷ []) parts.finaliser (contains_tail parts.value (parts.finaliser ∷ []) parts.finaliser (contains_head parts.finaliser []))))
+            | inl k ↦ by_place (subst (λ x. Contains vs x) k (contains_tail parts.key (parts.value ∷ parts.finaliser ∷
+                []) parts.value (contains_head parts.value (parts.finaliser ∷ []))))
+            | inr k ↦ by_place (subst (λ x. Contains vs x) k (contains_tail parts.key (parts.value ∷ parts.finaliser ∷
+                []) parts.finaliser (contains_tail parts.value (parts.finaliser ∷ []) parts.finaliser (contains_head parts.finaliser []))))
           ]
         ]
       ]
@@ -160,8 +178,10 @@ module _ (o : Opening) (words : List ℕ) (v : Seen) (h : IsFinished o words v) 
         let t = each m (subst (λ n. m < n) count lt) in
         let k = (h.parts t.0 t.1 t.2).0.hand in
         elim (Contains-append_cases (state_of W m).registers (state_of W m).queue (value.Ref name) c) [
-          | inl d ↦ let place = list_refers P (hand_now o t.1).registers (state_of W t.1.number).registers name k.registers (subst (λ j. Contains (state_of W j).registers (value.Ref name)) (sym t.3) d) in in_here place.0 name place.1
-          | inr d ↦ let place = list_refers P (hand_now o t.1).queue (state_of W t.1.number).queue name k.queue (subst (λ j. Contains (state_of W j).queue (value.Ref name)) (sym t.3) d) in in_here place.0 name place.1
+          | inl d ↦ let place = list_refers P (hand_now o t.1).registers (state_of W t.1.number).registers name k.registers (subst (λ j. Contains (state_of W j).registers (value.Ref name)) (sym t.3) d) in
+              in_here place.0 name place.1
+          | inr d ↦ let place = list_refers P (hand_now o t.1).queue (state_of W t.1.number).queue name k.queue (subst (λ j. Contains (state_of W j).queue (value.Ref name)) (sym t.3) d) in
+              in_here place.0 name place.1
         ]
     | inr le ↦
         let none : state_of W m ≡ no_mutator = get_or_past W.mutators m no_mutator le in
@@ -207,49 +227,70 @@ module _ (o : Opening) (words : List ℕ) (v : Seen) (h : IsFinished o words v) 
         record {
           at = x.0.at;
           there = subst (λ (p : Place). Contains places p) named (in_listed (place_of x.0) (x.0.node, x.1));
-          object = subst (λ (p : Place). IsObjectAt o.layout places words p node) named (subst (λ k. IsObjectAt o.layout places words (place_of x.0) k) is (object_then x.0 x.1));
-          fields = subst (λ k. HasSlots (Contains places) words (x.0.at + HEADER_WORDS) (slots_of k)) is (fields_same P (Contains places) in_listed words words (x.0.at + HEADER_WORDS) st.node st.sized (λ j lo hi. refl) st.fields);
+          object = subst (λ (p : Place). IsObjectAt o.layout places words p node) named (subst (λ k.
+              IsObjectAt o.layout places words (place_of x.0) k) is (object_then x.0 x.1));
+          fields = subst (λ k. HasSlots (Contains places) words (x.0.at + HEADER_WORDS) (slots_of k)) is
+              (fields_same P (Contains places) in_listed words words (x.0.at + HEADER_WORDS) st.node st.sized (λ j lo hi. refl) st.fields);
           free = λ w before c k. free_then x.0 x.1 x.2 w before c k;
           kept = λ before k. kept_then x.0 x.1 x.2 before k;
         };
     born = λ p node c in_ e. elim (is_place p c) [
-      | inl d ↦ elim (h.is.in_segments p d p.name.maker in_.exists) [ inl l ↦ absurd (let a = in_.from in omega arith) | inr l ↦ absurd (let a = in_.before in omega arith) ]
+      | inl d ↦ elim (h.is.in_segments p d p.name.maker in_.exists) [
+        | inl l ↦ absurd (let a = in_.from in omega arith)
+        | inr l ↦
+            absurd (let a = in_.before in omega arith)
+      ]
       | inr t ↦
           let hx : IsObject o h.born t.0 = inr t.1 in
           let st = h.stands.objects t.0 hx in
           let same : Some st.node ≡ Some node = sym st.there ∙ ap (λ (q : Place). node_of W q.name) t.2 ∙ e in
           let is : st.node ≡ node = cc in (
-            subst (λ (q : Place). IsObjectAt o.layout places words q node) t.2 (subst (λ k. IsObjectAt o.layout places words (place_of t.0) k) is (object_then t.0 hx)),
-            λ dead. let f = subst (λ k. HasSlots P words (t.0.at + HEADER_WORDS) (slots_of k)) (is ∙ dead) st.fields in subst (λ (q : Place). slice_index words (q.at + HEADER_WORDS + 1) ≡ 0) t.2 (f 1 unset refl),
+            subst (λ (q : Place). IsObjectAt o.layout places words q node) t.2 (subst (λ k.
+                IsObjectAt o.layout places words (place_of t.0) k) is (object_then t.0 hx)),
+            λ dead. let f = subst (λ k. HasSlots P words (t.0.at + HEADER_WORDS) (slots_of k)) (is ∙ dead) st.fields in
+                subst (λ (q : Place). slice_index words (q.at + HEADER_WORDS + 1) ≡ 0) t.2 (f 1 unset refl),
           )
     ];
   }
     where
-      kept_then : (x : Object) → IsObject o h.born x → {name : Name} → x.name ≡ name → (before : Node) → IsKeptThen o h.born name before → HasSlots (Contains places) words (x.at + HEADER_WORDS) (fixed_slots before)
+      kept_then : (x : Object) → IsObject o h.born x → {name : Name} → x.name ≡ name → (before : Node) → IsKeptThen o h.born name before →
+          HasSlots (Contains places) words (x.at + HEADER_WORDS) (fixed_slots before)
       kept_then x hx e before (y, hy, named, k) =
-          let at : y.at ≡ x.at = ap (λ (p : Place). p.at) (h.stands.one (place_of y) (place_of x) (placed o h.born y hy) (placed o h.born x hx) (inl (named ∙ sym e))) in
-          subst (λ a. HasSlots (Contains places) words (a + HEADER_WORDS) (fixed_slots before)) at (fixed_same P (Contains places) in_listed words words (y.at + HEADER_WORDS) before (λ j lo hi never. refl) ((h.stands.objects y hy).kept before (inl k)).1)
+          let at : y.at ≡ x.at =
+          ap (λ (p : Place). p.at) (h.stands.one (place_of y) (place_of x) (placed o h.born y hy) (placed o h.born x hx) (inl (named ∙ sym e))) in
+          subst (λ a. HasSlots (Contains places) words (a + HEADER_WORDS) (fixed_slots before)) at
+          (fixed_same P (Contains places) in_listed words words (y.at + HEADER_WORDS) before (λ j lo hi never.
+          refl) ((h.stands.objects y hy).kept before (inl k)).1)
 
-      free_in_opening : (x : Object) → IsObject o h.born x → (before : Node) → node_of o.core.world x.name ≡ Some before → HasSlots (Contains places) words (x.at + HEADER_WORDS) (free_slots before)
+      free_in_opening : (x : Object) → IsObject o h.born x → (before : Node) → node_of o.core.world x.name ≡ Some before →
+          HasSlots (Contains places) words (x.at + HEADER_WORDS) (free_slots before)
       free_in_opening x (inl old) before e =
           let first : before ≡ x.node = let t : Some before ≡ Some x.node = sym e ∙ old.node in cc in
-          free_same P (Contains places) in_listed words words (x.at + HEADER_WORDS) before (λ j lo hi never. refl) (free_of_fixed P words (x.at + HEADER_WORDS) before ((h.stands.objects x (inl old)).kept before (inl first)).1)
+          free_same P (Contains places) in_listed words words (x.at + HEADER_WORDS) before (λ j lo hi never.
+          refl) (free_of_fixed P words (x.at + HEADER_WORDS) before ((h.stands.objects x (inl old)).kept before (inl first)).1)
       free_in_opening x (inr c) before e = let bad : None ≡ Some before = sym (h.new x c).unknown ∙ e in absurd cc
 
-      free_in_snapshot : (x : Object) → IsObject o h.born x → o.marking ≡ true → (before : Node) → node_of o.core.snapshot x.name ≡ Some before → HasSlots (Contains places) words (x.at + HEADER_WORDS) (free_slots before)
+      free_in_snapshot : (x : Object) → IsObject o h.born x → o.marking ≡ true → (before : Node) → node_of o.core.snapshot x.name ≡ Some before →
+          HasSlots (Contains places) words (x.at + HEADER_WORDS) (free_slots before)
       free_in_snapshot x (inl old) m before e =
           free_same P (Contains places) in_listed words words (x.at + HEADER_WORDS) before (λ j lo hi never. refl)
-          ((h.stands.objects x (inl old)).kept before (inr (record { marking = m; wide = h.is.wide m x old (subst (λ y. IsSome y) (sym e) refl); there = e }))).1
+          ((h.stands.objects x (inl old)).kept before (inr (record {
+            marking = m;
+            wide = h.is.wide m x old (subst (λ y. IsSome y) (sym e) refl);
+            there = e;
+          }))).1
       free_in_snapshot x (inr c) m before e = let bad : None ≡ Some before = sym (h.new x c).no_snapshot ∙ e in absurd cc
 
       in_earlier : (b : Bool) → o.marking ≡ b → (e : World) → Contains (cond b (o.core.snapshot ∷ []) []) e → (o.marking ≡ true) × (o.core.snapshot ≡ e)
       in_earlier true m e c = (m, one_is o.core.snapshot e c)
       in_earlier false m e c = absurd (let lt = c.1 in omega arith)
 
-      free_then : (x : Object) → IsObject o h.born x → {name : Name} → x.name ≡ name → (e : World) (before : Node) → Contains (o.core.world ∷ earlier o) e → node_of e name ≡ Some before → HasSlots (Contains places) words (x.at + HEADER_WORDS) (free_slots before)
+      free_then : (x : Object) → IsObject o h.born x → {name : Name} → x.name ≡ name → (e : World) (before : Node) →
+          Contains (o.core.world ∷ earlier o) e → node_of e name ≡ Some before → HasSlots (Contains places) words (x.at + HEADER_WORDS) (free_slots before)
       free_then x hx named e before c there = elim (contains_cases o.core.world (earlier o) e c) [
         | inl same ↦ free_in_opening x hx before (ap (λ (k : World). node_of k x.name) same ∙ ap (λ n. node_of e n) named ∙ there)
-        | inr d ↦ let s = in_earlier o.marking refl e d in free_in_snapshot x hx s.0 before (ap (λ (k : World). node_of k x.name) s.1 ∙ ap (λ n. node_of e n) named ∙ there)
+        | inr d ↦ let s = in_earlier o.marking refl e d in free_in_snapshot x hx s.0 before (ap (λ (k : World). node_of k x.name) s.1 ∙
+            ap (λ n. node_of e n) named ∙ there)
       ]
 
 pub leaves : (o : Opening) (words : List ℕ) (v : Seen) → IsFinished o words v → HasEach o v → Leaves o words v

@@ -43,7 +43,8 @@ there_again [] i a b e = absurd (some-ne-none a (sym e))
 there_again (x ∷ xs) zero a b e = refl
 there_again (x ∷ xs) (suc i) a b e = there_again xs i a b e
 
-module _ (o : Opening) (words : List ℕ) (views : List Seen) (h : Keeps o words views) (id : ℕ) (v : Seen) (here : get_elem? views id ≡ some v) (p : Part) (is : IsMutator v p) where
+module _ (o : Opening) (words : List ℕ) (views : List Seen) (h : Keeps o words views) (id : ℕ) (v : Seen) (here : get_elem? views id ≡
+    some v) (p : Part) (is : IsMutator v p) where
   rests : Rests o h.born words p
   rests = ((h.agrees id v here).parts 0 p (ap (λ l. get_elem? l 0) is.alone)).2
 
@@ -52,20 +53,23 @@ module _ (o : Opening) (words : List ℕ) (views : List Seen) (h : Keeps o words
   first_fixed x hx offset lt = record { object = x; here = hx; is_at = refl; within = omega arith; fixed = λ i e may. omega arith }
 
   -- a field of an object whose header is named
-  named_fixed : (at : ℕ) (header : Header) (i : ℕ) → Names p at header → i < header.fields → (MayChange header.kind i → ⊥) → IsFixed o h.born at (HEADER_WORDS + i)
+  named_fixed : (at : ℕ) (header : Header) (i : ℕ) → Names p at header → i < header.fields → (MayChange header.kind i → ⊥) →
+      IsFixed o h.born at (HEADER_WORDS + i)
   named_fixed at header i names lt never =
       let f = rests.fixed (record { at = at; offset = 0; word = header_word header }) names.there in
       let x : Object = f.0.object in
       let st = h.stands.objects x f.0.here in
       let z : at + 0 ≡ x.at = let e = f.0.is_at in omega arith in
-      let head : header_of x.node ≡ header = same_header (header_of x.node) header (h.stands.apart x f.0.here).valid names.valid (sym st.header ∙ ap (λ j. slice_index words j) (sym z) ∙ f.1) in
+      let head : header_of x.node ≡ header = same_header (header_of x.node) header (h.stands.apart x f.0.here).valid names.valid (sym st.header ∙
+      ap (λ j. slice_index words j) (sym z) ∙ f.1) in
       let n : (header_of x.node).fields ≡ header.fields = ap (λ (k : Header). k.fields) head in
       record {
         object = x;
         here = f.0.here;
         is_at = f.0.is_at;
         within = omega arith;
-        fixed = λ j e may. let same : j ≡ i = omega arith in never (subst (λ k. MayChange header.kind k) same (subst (λ (k : Header). MayChange k.kind j) head may));
+        fixed = λ j e may. let same : j ≡ i = omega arith in never (subst (λ k.
+            MayChange header.kind k) same (subst (λ (k : Header). MayChange k.kind j) head may));
       }
 
   is_fixed : (at offset : ℕ) → CanFix o p at offset → IsFixed o h.born at offset
@@ -90,7 +94,12 @@ module _ (o : Opening) (words : List ℕ) (views : List Seen) (h : Keeps o words
           let a = g.is_at in
           let z : at + offset ≡ x.at = omega arith in
           let l = lies_within o.layout (place_of x) (size_of x.node) (omega arith) (h.stands.apart x g.here).lies in
-          record { header = header_of x.node; valid = (h.stands.apart x g.here).valid; word_is = ap (λ j. slice_index words j) z ∙ st.header; room = omega arith }
+          record {
+            header = header_of x.node;
+            valid = (h.stands.apart x g.here).valid;
+            word_is = ap (λ j. slice_index words j) z ∙ st.header;
+            room = omega arith;
+          }
 
       name_told : offset ≡ 1 → TellsName (slice_index words (at + offset))
       name_told second =
@@ -122,7 +131,9 @@ module _ (o : Opening) (words : List ℕ) (views : List Seen) (h : Keeps o words
       let m = meant o words views h id v here p is at can.header can.object can.object_word can.names in
       let st = h.stands.objects m.object m.there in
       let head : header_of st.node ≡ can.header = st.later.header ∙ m.head in
-      let t = read (IsIn o h.born) words (at + HEADER_WORDS) index st.node (subst (λ (k : Header). IsReadable k.kind) (sym head) can.kind) (subst (λ (k : Header). index < k.fields) (sym head) can.within) (subst (λ a. HasSlots (IsIn o h.born) words (a + HEADER_WORDS) (slots_of st.node)) m.is_at st.fields) in
+      let t = read (IsIn o h.born) words (at + HEADER_WORDS) index st.node (subst (λ (k : Header).
+      IsReadable k.kind) (sym head) can.kind) (subst (λ (k : Header). index < k.fields) (sym head) can.within) (subst (λ a.
+      HasSlots (IsIn o h.born) words (a + HEADER_WORDS) (slots_of st.node)) m.is_at st.fields) in
       safe_word (slice_index words (at + HEADER_WORDS + index)) t.value t.means
 
   -- the word that a swap finds
@@ -131,7 +142,9 @@ module _ (o : Opening) (words : List ℕ) (views : List Seen) (h : Keeps o words
       let m = meant o words views h id v here p is at can.header can.object can.object_word can.names in
       let st = h.stands.objects m.object m.there in
       let head : header_of st.node ≡ can.header = st.later.header ∙ m.head in
-      let t = read (IsIn o h.born) words (at + HEADER_WORDS) index st.node (may_read (header_of st.node).kind (subst (λ (k : Header). IsWritable k.kind) (sym head) can.kind)) (subst (λ (k : Header). index < k.fields) (sym head) can.within) (subst (λ a. HasSlots (IsIn o h.born) words (a + HEADER_WORDS) (slots_of st.node)) m.is_at st.fields) in
+      let t = read (IsIn o h.born) words (at + HEADER_WORDS) index st.node (may_read (header_of st.node).kind (subst (λ (k : Header).
+      IsWritable k.kind) (sym head) can.kind)) (subst (λ (k : Header). index < k.fields) (sym head) can.within) (subst (λ a.
+      HasSlots (IsIn o h.born) words (a + HEADER_WORDS) (slots_of st.node)) m.is_at st.fields) in
       safe_word (slice_index words (at + HEADER_WORDS + index)) t.value t.means
 
   -- the part after a command
@@ -139,15 +152,21 @@ module _ (o : Opening) (words : List ℕ) (views : List Seen) (h : Keeps o words
   is_doing c a = record { alone = ap (λ (l : List Part). first_changed (λ q. doing q c a []) l) is.alone; no_collector = is.no_collector }
 
   is_telling : (c : Command) → IsMutator (told v c) (doing p c (told_by (hand_now v.opening p) p.fixed c) [])
-  is_telling c = record { alone = ap (λ (l : List Part). first_changed (λ q. doing q c (told_by (hand_now v.opening q) q.fixed c) []) l) is.alone; no_collector = is.no_collector }
+  is_telling c = record {
+    alone = ap (λ (l : List Part). first_changed (λ q. doing q c (told_by (hand_now v.opening q) q.fixed c) []) l) is.alone;
+    no_collector = is.no_collector;
+  }
 
 -- a view that changed twice
-twice : (o : Opening) (words : List ℕ) (views : List Seen) (id : ℕ) (a b : Seen) (es : List Happening) → (n : Keeps o words (set (set views id a) id b)) × (n.events ≡ es) → (n : Keeps o words (set views id b)) × (n.events ≡ es)
+twice : (o : Opening) (words : List ℕ) (views : List Seen) (id : ℕ) (a b : Seen) (es : List Happening) →
+    (n : Keeps o words (set (set views id a) id b)) × (n.events ≡ es) → (n : Keeps o words (set views id b)) × (n.events ≡ es)
 twice o words views id a b es h = subst (λ (l : List Seen). (n : Keeps o words l) × (n.events ≡ es)) (set-set views id a b) h
 
-module _ (o : Opening) (words : List ℕ) (views : List Seen) (h : Keeps o words views) (id : ℕ) (v : Seen) (here : get_elem? views id ≡ some v) (p : Part) (is : IsMutator v p) where
+module _ (o : Opening) (words : List ℕ) (views : List Seen) (h : Keeps o words views) (id : ℕ) (v : Seen) (here : get_elem? views id ≡
+    some v) (p : Part) (is : IsMutator v p) where
   -- a load at which a command takes its place
-  pub take_keeps : (at offset : ℕ) (c : Command) → CanTake o p at offset c → AddsCommand o words views h p.number c words (set views id (taken v at offset c (slice_index words (at + offset))))
+  pub take_keeps : (at offset : ℕ) (c : Command) → CanTake o p at offset c →
+      AddsCommand o words views h p.number c words (set views id (taken v at offset c (slice_index words (at + offset))))
   take_keeps at zero c (inl (is_at, z, can)) =
       let w : ℕ = slice_index words (at + 0) in
       let next = told v c in
@@ -155,8 +174,11 @@ module _ (o : Opening) (words : List ℕ) (views : List Seen) (h : Keeps o words
       let k : Keeps o words (set views id next) = t.1 in
       let at' : at ≡ SHARED_PLACE = is_at in
       let here' = there_again views id v next here in
-      let f : IsFixed o k.born at 0 = subst (λ j. IsFixed o k.born j 0) (sym at') (first_fixed o words (set views id next) k id next here' _ (is_telling o words views h id v here p is c) (record { at = SHARED_PLACE; name = shared_name; node = k.shared.0 }) k.shared.1 0 (omega arith)) in
-      let n = twice o words views id next (loaded next at 0 w) k.events (fixed_keeps o words (set views id next) k id next here' _ (is_telling o words views h id v here p is c) at 0 f) in
+      let f : IsFixed o k.born at 0 =
+      subst (λ j. IsFixed o k.born j 0) (sym at') (first_fixed o words (set views id next) k id next here' _
+      (is_telling o words views h id v here p is c) (record { at = SHARED_PLACE; name = shared_name; node = k.shared.0 }) k.shared.1 0 (omega arith)) in
+      let n = twice o words views id next (loaded next at 0 w) k.events
+      (fixed_keeps o words (set views id next) k id next here' _ (is_telling o words views h id v here p is c) at 0 f) in
       (t.0, n.0, n.1 ∙ t.2)
   take_keeps at (suc offset) c (inl (is_at, z, can)) = absurd (omega arith)
   take_keeps at zero c (inr (i, e, can)) = absurd (omega arith)
@@ -165,13 +187,18 @@ module _ (o : Opening) (words : List ℕ) (views : List Seen) (h : Keeps o words
       let a : Answer = word w in
       let next = answered v c a in
       let place : at + HEADER_WORDS + i ≡ at + suc offset = omega arith in
-      let t : AddsCommand o words views h p.number c words (set views id next) = subst (λ j. AddsCommand o words views h p.number c words (set views id (answered v c (word (slice_index words j))))) place (load_keeps o words views h id v here p is at i c can.0) in
+      let t : AddsCommand o words views h p.number c words (set views id next) =
+      subst (λ j. AddsCommand o words views h p.number c words (set views id (answered v c (word (slice_index words j))))) place
+      (load_keeps o words views h id v here p is at i c can.0) in
       let k : Keeps o words (set views id next) = t.1 in
       let here' = there_again views id v next here in
       let is' = is_doing o words views h id v here p is c a in
       let names : Names (doing p c a []) at can.0.header = record { valid = can.0.names.valid; there = can.0.names.there } in
-      let f : IsFixed o k.born at (suc offset) = subst (λ j. IsFixed o k.born at j) (sym e) (named_fixed o words (set views id next) k id next here' (doing p c a []) is' at can.0.header i names can.0.within (λ may. subst (λ (t : Kind). MayChange t i) can.1 may)) in
-      let n = twice o words views id next (loaded next at (suc offset) w) k.events (fixed_keeps o words (set views id next) k id next here' (doing p c a []) is' at (suc offset) f) in
+      let f : IsFixed o k.born at (suc offset) =
+      subst (λ j. IsFixed o k.born at j) (sym e) (named_fixed o words (set views id next) k id next here' (doing p c a []) is' at can.0.header
+      i names can.0.within (λ may. subst (λ (t : Kind). MayChange t i) can.1 may)) in
+      let n = twice o words views id next (loaded next at (suc offset) w) k.events
+      (fixed_keeps o words (set views id next) k id next here' (doing p c a []) is' at (suc offset) f) in
       (t.0, n.0, n.1 ∙ t.2)
 
   -- the field that a command finds there

@@ -26,13 +26,18 @@ pub record IsSameState (s t : MutatorState) : Type 0 where
   pub serial : length s.nodes ≡ length t.nodes
 
 same_of : (s t : MutatorState) → s ≡ t → IsSameState s t
-same_of s t e = record { registers = ap (λ (u : MutatorState). u.registers) e; queue = ap (λ (u : MutatorState). u.queue) e; serial = ap (λ (u : MutatorState). length u.nodes) e }
+same_of s t e = record {
+  registers = ap (λ (u : MutatorState). u.registers) e;
+  queue = ap (λ (u : MutatorState). u.queue) e;
+  serial = ap (λ (u : MutatorState). length u.nodes) e;
+}
 
 same_then : (s t u : MutatorState) → IsSameState s t → IsSameState t u → IsSameState s u
 same_then s t u a b = record { registers = a.registers ∙ b.registers; queue = a.queue ∙ b.queue; serial = a.serial ∙ b.serial }
 
 -- of every mutator, where the node of a name changes
-pub node_frame : (w : World) (name : Name) (found made : Node) → node_of w name ≡ Some found → (k : ℕ) → IsSameState (state_of (with_node w name made) k) (state_of w k)
+pub node_frame : (w : World) (name : Name) (found made : Node) → node_of w name ≡ Some found → (k : ℕ) →
+    IsSameState (state_of (with_node w name made) k) (state_of w k)
 node_frame w name found made there k = elim (eqb_tells name.maker SHARED_MAKER) [
   | inl p ↦ rw p.0 (same_of _ _ refl)
   | inr p ↦
@@ -41,12 +46,14 @@ node_frame w name found made there k = elim (eqb_tells name.maker SHARED_MAKER) 
       let lt : m < length w.mutators = maker_there w name found made there p.1 in
       let mine : IsSameState q (state_of w m) = record { registers = refl; queue = refl; serial = length-set (state_of w m).nodes name.serial made } in
       rw p.0 (elim (cases_eq k m) [
-        | inl e ↦ subst (λ (j : ℕ). IsSameState (state_of (with_state w m q) j) (state_of w j)) (sym e) (subst (λ (s : MutatorState). IsSameState s (state_of w m)) (sym (state_same w m q lt)) mine)
+        | inl e ↦ subst (λ (j : ℕ). IsSameState (state_of (with_state w m q) j) (state_of w j)) (sym e) (subst (λ (s : MutatorState).
+            IsSameState s (state_of w m)) (sym (state_same w m q lt)) mine)
         | inr ne ↦ same_of _ _ (state_other w m q lt k ne)
       ])
 ]
 
-change_node_frame : (w : World) (name : Name) (o : Option Node) (c : Change) → node_of w name ≡ o → (k : ℕ) → IsSameState (state_of (change_node w name o c).0 k) (state_of w k)
+change_node_frame : (w : World) (name : Name) (o : Option Node) (c : Change) → node_of w name ≡ o → (k : ℕ) →
+    IsSameState (state_of (change_node w name o c).0 k) (state_of w k)
 change_node_frame w name None c there k = same_of _ _ refl
 change_node_frame w name (Some found) c there k = node_frame w name found (changed c name.maker found).0 there k
 
@@ -55,7 +62,8 @@ change_frame w value.Nil c k = same_of _ _ refl
 change_frame w (value.Number n) c k = same_of _ _ refl
 change_frame w (value.Ref name) c k = change_node_frame w name (node_of w name) c refl k
 
-change_node_count : (w : World) (name : Name) (o : Option Node) (c : Change) → node_of w name ≡ o → length (change_node w name o c).0.mutators ≡ length w.mutators
+change_node_count : (w : World) (name : Name) (o : Option Node) (c : Change) → node_of w name ≡ o →
+    length (change_node w name o c).0.mutators ≡ length w.mutators
 change_node_count w name None c there = refl
 change_node_count w name (Some found) c there = as_many w name found (changed c name.maker found).0 there
 
@@ -83,7 +91,8 @@ module _ (m k : ℕ) (ne : k ≢ m) where
   keeping_other w dest reply.StackFull lt = refl
   keeping_other w dest reply.StackEmpty lt = refl
 
-  into_other : (w : World) (dest : ℕ) (v : Value) (c : Change) → m < length w.mutators → IsSameState (state_of (change_into m dest (change_object w v c)).0 k) (state_of w k)
+  into_other : (w : World) (dest : ℕ) (v : Value) (c : Change) → m < length w.mutators →
+      IsSameState (state_of (change_into m dest (change_object w v c)).0 k) (state_of w k)
   into_other w dest v c lt =
       let r : World × Reply = change_object w v c in
       let count : length r.0.mutators ≡ length w.mutators = change_count w v c in

@@ -57,7 +57,8 @@ module _ (o : Opening) (born more : List Object) (grow : (x : Object) → IsObje
 
   -- a part that is another mutator's
   pub fits_other : (s : State) (done : List (Command × Reply)) (m : ℕ) (c : Command) (q : Part) → m < length s.world.mutators → q.number ≢ m
-      → ((name : Name) (size : ℕ) (values : List Value) → name.maker ≢ m → node_of s.world name ≡ Some (Stack size values) → node_of (step s.world m c).0 name ≡ Some (Stack size values))
+      → ((name : Name) (size : ℕ) (values : List Value) → name.maker ≢ m → node_of s.world name ≡ Some (Stack size values) →
+      node_of (step s.world m c).0 name ≡ Some (Stack size values))
       → OwnSlots o more (step s.world m c).0 q.number (hand_now o q)
       → Fits o born s done q → Fits o more (after_command s m c) done q
   fits_other s done m c q lt ne stacks own f =
@@ -67,31 +68,46 @@ module _ (o : Opening) (born more : List Object) (grow : (x : Object) → IsObje
         owing = subst (λ n. q.number < n) (sym (length-set s.owed m (names_of s.owed m ++ owed_by s.world m c))) f.owing;
         rows = answers_more (IsIn o born) (IsIn o more) grown q.rows done f.rows;
         hand = record {
-          registers = subst (λ l. ListMeans (IsIn o more) (hand_now o q).registers l) (sym same.registers) (list_more (IsIn o born) (IsIn o more) grown _ _ f.hand.registers);
+          registers = subst (λ l.
+              ListMeans (IsIn o more) (hand_now o q).registers l) (sym same.registers) (list_more (IsIn o born) (IsIn o more) grown _ _ f.hand.registers);
           queue = subst (λ l. ListMeans (IsIn o more) (hand_now o q).queue l) (sym same.queue) (list_more (IsIn o born) (IsIn o more) grown _ _ f.hand.queue);
           serial = f.hand.serial ∙ sym same.serial;
         };
-        found = subst (λ ns. Owes true (IsIn o more) q.found ns) (sym (names_other s.owed m q.number (names_of s.owed m ++ owed_by s.world m c) ne)) (owes_more true q.found _ f.found);
-        owed = subst (λ ns. Owes o.marking (IsIn o more) q.owed ns) (sym (names_other s.owed m q.number (names_of s.owed m ++ owed_by s.world m c) ne)) (owes_more o.marking q.owed _ f.owed);
+        found = subst (λ ns. Owes true (IsIn o more) q.found ns) (sym (names_other s.owed m q.number (names_of s.owed m ++
+            owed_by s.world m c) ne)) (owes_more true q.found _ f.found);
+        owed = subst (λ ns. Owes o.marking (IsIn o more) q.owed ns) (sym (names_other s.owed m q.number (names_of s.owed m ++
+            owed_by s.world m c) ne)) (owes_more o.marking q.owed _ f.owed);
         own = own;
       }
 
   -- the part of the mutator that did the command
-  pub fits_mine : (s : State) (done : List (Command × Reply)) (p : Part) (used : ℕ) (unborn : List UnbornWord) (fixed : List FixedWord) (found : List ℕ) (c : Command) (r : Reply) (a : Answer) (owed : List ℕ)
+  pub fits_mine : (s : State) (done : List (Command ×
+      Reply)) (p : Part) (used : ℕ) (unborn : List UnbornWord) (fixed : List FixedWord) (found : List ℕ) (c : Command) (r : Reply) (a : Answer) (owed : List ℕ)
       → Answers (IsIn o more) a r → IsHand o more (step s.world p.number c).0 p.number (leaves (hand_now o p) c a)
       → Owes o.marking (IsIn o more) (p.owed ++ owed) (names_of s.owed p.number ++ owed_by s.world p.number c)
       → Owes true (IsIn o more) found (names_of s.owed p.number ++ owed_by s.world p.number c)
       → OwnSlots o more (step s.world p.number c).0 p.number (leaves (hand_now o p) c a)
-      → Fits o born s done p → Fits o more (after_command s p.number c) (done ++ (c, r) ∷ []) (doing (record p { used = used; unborn = unborn; fixed = fixed; found = found }) c a owed)
+      → Fits o born s done p → Fits o more (after_command s p.number c) (done ++ (c, r) ∷
+      []) (doing (record p { used = used; unborn = unborn; fixed = fixed; found = found }) c a owed)
   fits_mine s done p used unborn fixed found c r a owed says hand owes finds own f =
       let count = (step_grows s.world p.number c f.exists).mutators in record {
         exists = subst (λ n. p.number < n) (sym count) f.exists;
         owing = subst (λ n. p.number < n) (sym (length-set s.owed p.number (names_of s.owed p.number ++ owed_by s.world p.number c))) f.owing;
         rows = answer_push (IsIn o more) p.rows done c a r (answers_more (IsIn o born) (IsIn o more) grown p.rows done f.rows) says;
-        hand = subst (λ (h : Hand). IsHand o more (step s.world p.number c).0 p.number h) (sym (leave_more (hand_of o.hands p.number) p.rows (record { command = c; answer = a }))) hand;
-        found = subst (λ ns. Owes true (IsIn o more) found ns) (sym (names_same s.owed p.number (names_of s.owed p.number ++ owed_by s.world p.number c) f.owing)) finds;
-        owed = subst (λ ns. Owes o.marking (IsIn o more) (p.owed ++ owed) ns) (sym (names_same s.owed p.number (names_of s.owed p.number ++ owed_by s.world p.number c) f.owing)) owes;
-        own = subst (λ (h : Hand). OwnSlots o more (step s.world p.number c).0 p.number h) (sym (leave_more (hand_of o.hands p.number) p.rows (record { command = c; answer = a }))) own;
+        hand = subst (λ (h : Hand).
+            IsHand o more (step s.world p.number c).0 p.number h) (sym (leave_more (hand_of o.hands p.number) p.rows (record {
+              command = c;
+              answer = a;
+            }))) hand;
+        found = subst (λ ns. Owes true (IsIn o more) found ns) (sym (names_same s.owed p.number (names_of s.owed p.number ++
+            owed_by s.world p.number c) f.owing)) finds;
+        owed = subst (λ ns. Owes o.marking (IsIn o more) (p.owed ++
+            owed) ns) (sym (names_same s.owed p.number (names_of s.owed p.number ++ owed_by s.world p.number c) f.owing)) owes;
+        own = subst (λ (h : Hand).
+            OwnSlots o more (step s.world p.number c).0 p.number h) (sym (leave_more (hand_of o.hands p.number) p.rows (record {
+              command = c;
+              answer = a;
+            }))) own;
       }
 
 folded_more : (o : Opening) (m : Marks) (ss : List Scan) (s : Scan) → folded o m (ss ++ s ∷ []) ≡ after_word o (folded o m ss) s
@@ -103,7 +119,8 @@ module _ (o : Opening) (words : List ℕ) (views : List Seen) (h : Keeps o words
   now_more e = replay_more o.core h.events e
 
   -- one view changes, and the others agree
-  change : (new : List ℕ) (es : List Happening) (more : List Object) (w : Seen) → ((x : Object) → IsObject o h.born x → IsObject o more x) → ((x : Object) → Contains more x → IsNew o x)
+  change : (new : List ℕ) (es : List Happening) (more : List Object) (w : Seen) → ((x : Object) → IsObject o h.born x → IsObject o more x) →
+      ((x : Object) → Contains more x → IsNew o x)
       → IsLegal o.core es → RepresentsInRound o more (now o es).world new → AreKnown o more (now o es).world
       → ((entry : Entry) → Contains (now o es).queue entry → IsQueued o entry)
       → Agrees o more new es h.owner h.scanner id w
@@ -124,7 +141,8 @@ module _ (o : Opening) (words : List ℕ) (views : List Seen) (h : Keeps o words
       known = known;
       queued = queued;
       agrees = λ j u at. ⊎_elim
-          (λ (t : (j ≡ id) × (w ≡ u)). subst (λ (k : ℕ). Agrees o more new es h.owner h.scanner k u) (sym t.0) (subst (Agrees o more new es h.owner h.scanner id) t.1 mine))
+          (λ (t : (j ≡ id) × (w ≡ u)).
+          subst (λ (k : ℕ). Agrees o more new es h.owner h.scanner k u) (sym t.0) (subst (Agrees o more new es h.owner h.scanner id) t.1 mine))
           (λ (t : (j ≢ id) × (get_elem? views j ≡ some u)). others j u t.0 t.1)
           (at_set views id j w u at);
     },
@@ -132,12 +150,15 @@ module _ (o : Opening) (words : List ℕ) (views : List Seen) (h : Keeps o words
   )
 
   -- the nodes after a command
-  known_more : (more : List Object) → ((x : Object) → IsObject o h.born x → IsObject o more x) → (u : World) → ((n : Name) (node : Node) → node_of u n ≡ Some node → ((before : Node) × (node_of (now o h.events).world n ≡ Some before) × IsLater before node) ⊎ ((x : Object) × Contains more x × (x.name ≡ n))) → AreKnown o more u
+  known_more : (more : List Object) → ((x : Object) → IsObject o h.born x → IsObject o more x) → (u : World) →
+      ((n : Name) (node : Node) → node_of u n ≡ Some node → ((before : Node) × (node_of (now o h.events).world n ≡ Some before) ×
+      IsLater before node) ⊎ ((x : Object) × Contains more x × (x.name ≡ n))) → AreKnown o more u
   known_more more grow u names n node e = elim (names n node e) [
     | inl t ↦ elim (h.known n t.0 t.1) [
       | inl k ↦ inl (k.0, k.1, later_of t.0 node t.2 k.0 k.2)
       | inr k ↦ elim (grow k.0 (inr k.1)) [
-        | inl old ↦ inl (absurd (let none : node_of o.core.world k.0.name ≡ None = (h.new k.0 k.1).unknown in let some_ : node_of o.core.world k.0.name ≡ Some k.0.node = old.node in let bad : None ≡ Some k.0.node = sym none ∙ some_ in cc))
+        | inl old ↦ inl (absurd (let none : node_of o.core.world k.0.name ≡ None = (h.new k.0 k.1).unknown in
+            let some_ : node_of o.core.world k.0.name ≡ Some k.0.node = old.node in let bad : None ≡ Some k.0.node = sym none ∙ some_ in cc))
         | inr c ↦ inr (k.0, c, k.2)
       ]
     ]
@@ -145,16 +166,20 @@ module _ (o : Opening) (words : List ℕ) (views : List Seen) (h : Keeps o words
   ]
 
   -- what the seats of others know of a command
-  module _ (m : ℕ) (c : Command) (r : Reply) (lt : m < length (now o h.events).world.mutators) (more : List Object) (grow : (x : Object) → IsObject o h.born x → IsObject o more x)
-      (stacks : (name : Name) (size : ℕ) (values : List Value) → name.maker ≢ m → node_of (now o h.events).world name ≡ Some (Stack size values) → node_of (step (now o h.events).world m c).0 name ≡ Some (Stack size values))
-      (only : (x : Object) → Contains more x → Contains h.born x ⊎ (x.name.maker ≡ m)) (new : List ℕ) (st : RepresentsInRound o more (step (now o h.events).world m c).0 new) where
+  module _ (m : ℕ) (c : Command) (r : Reply) (lt : m < length (now o h.events).world.mutators) (more : List Object) (grow : (x : Object) →
+      IsObject o h.born x → IsObject o more x)
+      (stacks : (name : Name) (size : ℕ) (values : List Value) → name.maker ≢ m → node_of (now o h.events).world name ≡ Some (Stack size values) →
+      node_of (step (now o h.events).world m c).0 name ≡ Some (Stack size values))
+      (only : (x : Object) → Contains more x → Contains h.born x ⊎
+      (x.name.maker ≡ m)) (new : List ℕ) (st : RepresentsInRound o more (step (now o h.events).world m c).0 new) where
     -- an object that isn't this mutator's was there before
     there_before : (x : Object) → x.name.maker ≢ m → IsObject o more x → IsObject o h.born x
     there_before x ne (inl old) = inl old
     there_before x ne (inr b) = elim (only x b) [ inl c ↦ inr c | inr mine ↦ absurd (ne mine) ]
 
     -- the own stacks of another are as they were
-    other_own : (q : Part) → q.number ≢ m → OwnSlots o h.born (now o h.events).world q.number (hand_now o q) → OwnSlots o more (step (now o h.events).world m c).0 q.number (hand_now o q)
+    other_own : (q : Part) → q.number ≢ m → OwnSlots o h.born (now o h.events).world q.number (hand_now o q) →
+        OwnSlots o more (step (now o h.events).world m c).0 q.number (hand_now o q)
     other_own q ne own x size values hx mine e =
         let apart : x.name.maker ≢ m = λ same. ne (sym mine ∙ same) in
         let hx' = there_before x apart hx in
@@ -169,28 +194,35 @@ module _ (o : Opening) (words : List ℕ) (views : List Seen) (h : Keeps o words
         let r = own x size t.0 hx' mine was in
         (r.0, r.1, list_more (IsIn o h.born) (IsIn o more) (grown o h.born more grow) r.0 values (subst (λ l. ListMeans (IsIn o h.born) r.0 l) same r.2))
 
-    other_fits : (q : Part) → q.number ≢ m → Fits o h.born (now o h.events) (done_by q.number h.events) q → Fits o more (now o (h.events ++ did m c r ∷ [])) (done_by q.number (h.events ++ did m c r ∷ [])) q
+    other_fits : (q : Part) → q.number ≢ m → Fits o h.born (now o h.events) (done_by q.number h.events) q →
+        Fits o more (now o (h.events ++ did m c r ∷ [])) (done_by q.number (h.events ++ did m c r ∷ [])) q
     other_fits q ne f =
         subst (λ (s : State). Fits o more s (done_by q.number (h.events ++ did m c r ∷ [])) q) (sym (now_more (did m c r)))
         (subst (λ d. Fits o more (after_command (now o h.events) m c) d q) (sym (done_other q.number m h.events c r (λ e. ne (sym e))))
         (fits_other o h.born more grow (now o h.events) (done_by q.number h.events) m c q lt ne stacks (other_own q ne f.own) f))
 
   -- a command more: every step with a place in the order is an instance
-  pub command_law : (new : List ℕ) (more : List Object) (p : Part) (used : ℕ) (unborn : List UnbornWord) (fixed : List FixedWord) (found : List ℕ) (c : Command) (r : Reply) (a : Answer) (owed : List ℕ)
+  pub command_law : (new : List ℕ) (more : List Object) (p : Part) (used : ℕ) (unborn : List UnbornWord) (fixed : List FixedWord) (found : List ℕ)
+      (c : Command) (r : Reply) (a : Answer) (owed : List ℕ)
       → IsMutator v p → ((x : Object) → IsObject o h.born x → IsObject o more x) → ((x : Object) → Contains more x → IsNew o x)
       → IsPossible (now o h.events) (event.Command p.number c r)
       → Answers (IsIn o more) a r
       → IsHand o more (step (now o h.events).world p.number c).0 p.number (leaves (hand_now o p) c a)
       → Owes o.marking (IsIn o more) (p.owed ++ owed) (names_of (now o h.events).owed p.number ++ owed_by (now o h.events).world p.number c)
       → Owes true (IsIn o more) found (names_of (now o h.events).owed p.number ++ owed_by (now o h.events).world p.number c)
-      → ((name : Name) (size : ℕ) (values : List Value) → name.maker ≢ p.number → node_of (now o h.events).world name ≡ Some (Stack size values) → node_of (step (now o h.events).world p.number c).0 name ≡ Some (Stack size values))
-      → ((n : Name) (node : Node) → node_of (step (now o h.events).world p.number c).0 n ≡ Some node → ((before : Node) × (node_of (now o h.events).world n ≡ Some before) × IsLater before node) ⊎ ((x : Object) × Contains more x × (x.name ≡ n)))
+      → ((name : Name) (size : ℕ) (values : List Value) → name.maker ≢ p.number → node_of (now o h.events).world name ≡ Some (Stack size values) →
+      node_of (step (now o h.events).world p.number c).0 name ≡ Some (Stack size values))
+      → ((n : Name) (node : Node) → node_of (step (now o h.events).world p.number c).0 n ≡ Some node →
+      ((before : Node) × (node_of (now o h.events).world n ≡ Some before) × IsLater before node) ⊎ ((x : Object) × Contains more x × (x.name ≡ n)))
       → RepresentsInRound o more (step (now o h.events).world p.number c).0 new
       → Rests o more new (doing (record p { used = used; unborn = unborn; fixed = fixed; found = found }) c a owed)
       → ((q : Part) → q.number ≢ p.number → Rests o h.born words q → Rests o more new q)
       → ((x : Object) → Contains more x → Contains h.born x ⊎ (x.name.maker ≡ p.number))
       → OwnSlots o more (step (now o h.events).world p.number c).0 p.number (leaves (hand_now o p) c a)
-      → AddsCommand o words views h p.number c new (set views id (record v { parts = doing (record p { used = used; unborn = unborn; fixed = fixed; found = found }) c a owed ∷ [] }))
+      → AddsCommand o words views h p.number c new (set views id (record v {
+        parts =
+            doing (record p { used = used; unborn = unborn; fixed = fixed; found = found }) c a owed ∷ [];
+      }))
   command_law new more p used unborn fixed found c r a owed is grow news can says hand owes finds stacks names st rests rest only own =
       let m : ℕ = p.number in
       let e : Happening = did m c r in
@@ -198,7 +230,10 @@ module _ (o : Opening) (words : List ℕ) (views : List Seen) (h : Keeps o words
       let g = h.agrees id v here in
       let mine = g.parts 0 p (ap (λ l. get_elem? l 0) is.alone) in
       let p' : Part = doing (record p { used = used; unborn = unborn; fixed = fixed; found = found }) c a owed in
-      let fits : Fits o more (now o (h.events ++ e ∷ [])) (done_by m (h.events ++ e ∷ [])) p' = subst (λ (t : State). Fits o more t (done_by m (h.events ++ e ∷ [])) p') (sym (now_more e)) (subst (λ d. Fits o more (after_command s m c) d p') (sym (done_more m h.events c r)) (fits_mine o h.born more grow s (done_by m h.events) p used unborn fixed found c r a owed says hand owes finds own mine.1)) in
+      let fits : Fits o more (now o (h.events ++ e ∷ [])) (done_by m (h.events ++ e ∷ [])) p' =
+      subst (λ (t : State). Fits o more t (done_by m (h.events ++ e ∷ [])) p') (sym (now_more e)) (subst (λ d.
+      Fits o more (after_command s m c) d p') (sym (done_more m h.events c r))
+      (fits_mine o h.born more grow s (done_by m h.events) p used unborn fixed found c r a owed says hand owes finds own mine.1)) in
       let n = change new (h.events ++ e ∷ []) more (record v { parts = p' ∷ [] }) grow news (legal_more o.core h.events e h.legal (can, tt))
       (subst (λ (t : State). RepresentsInRound o more t.world new) (sym (now_more e)) st)
       (subst (λ (t : State). AreKnown o more t.world) (sym (now_more e)) (known_more more grow (step s.world m c).0 names))
@@ -206,7 +241,8 @@ module _ (o : Opening) (words : List ℕ) (views : List Seen) (h : Keeps o words
       (record {
         shares = g.shares;
         opening = λ _. g.opening (acts v p is);
-        parts = only_one (λ (q : Part). (h.owner q.number ≡ id) × Fits o more (now o (h.events ++ e ∷ [])) (done_by q.number (h.events ++ e ∷ [])) q × Rests o more new q) p' (mine.0, fits, rests);
+        parts = only_one (λ (q : Part). (h.owner q.number ≡ id) ×
+            Fits o more (now o (h.events ++ e ∷ [])) (done_by q.number (h.events ++ e ∷ [])) q × Rests o more new q) p' (mine.0, fits, rests);
         scans = λ yes. let no = is.no_collector in absurd cc;
       })
       (λ j u ne at. let f = h.agrees j u at in record {
@@ -216,25 +252,41 @@ module _ (o : Opening) (words : List ℕ) (views : List Seen) (h : Keeps o words
             let t = f.parts k q at' in
             let apart : q.number ≢ m = λ same. ne (sym t.0 ∙ ap h.owner same ∙ mine.0) in
             (t.0, other_fits m c r mine.1.exists more grow stacks only new st q apart t.1, rest q apart t.2);
-        scans = λ yes. let t = f.scans yes in (t.0, subst (λ l. AllRead (IsIn o more) u.scans l) (sym (scans_same h.events m c r)) (reads_more (IsIn o h.born) (IsIn o more) (grown o h.born more grow) u.scans (scans_in h.events) t.1), ap (λ (s : State). marks_of s) (now_more e) ∙ t.2);
+        scans = λ yes. let t = f.scans yes in (
+          t.0,
+          subst (λ l.
+              AllRead (IsIn o more) u.scans l) (sym (scans_same h.events m c r))
+              (reads_more (IsIn o h.born) (IsIn o more) (grown o h.born more grow) u.scans (scans_in h.events) t.1),
+          ap (λ (s : State). marks_of s) (now_more e) ∙ t.2,
+        );
       }) in
       (r, n.0, n.1)
 
   -- no event: one part says other things of the words
   pub store_law : (new : List ℕ) (p : Part) (used : ℕ) (unborn : List UnbornWord) (fixed : List FixedWord) → IsMutator v p
-      → RepresentsInRound o h.born (now o h.events).world new → Rests o h.born new (record p { used = used; unborn = unborn; fixed = fixed }) → ((q : Part) → q.number ≢ p.number → Rests o h.born words q → Rests o h.born new q)
+      → RepresentsInRound o h.born (now o h.events).world new → Rests o h.born new (record p { used = used; unborn = unborn; fixed = fixed }) →
+      ((q : Part) → q.number ≢ p.number → Rests o h.born words q → Rests o h.born new q)
       → Stays o words views h new (set views id (record v { parts = record p { used = used; unborn = unborn; fixed = fixed } ∷ [] }))
   store_law new p used unborn fixed is st rests rest =
       let g = h.agrees id v here in
       let mine = g.parts 0 p (ap (λ l. get_elem? l 0) is.alone) in
       let p' : Part = record p { used = used; unborn = unborn; fixed = fixed } in
       let f = mine.1 in
-      let fits : Fits o h.born (now o h.events) (done_by p.number h.events) p' = record { exists = f.exists; owing = f.owing; rows = f.rows; hand = f.hand; found = f.found; owed = f.owed; own = f.own } in
+      let fits : Fits o h.born (now o h.events) (done_by p.number h.events) p' = record {
+        exists = f.exists;
+        owing = f.owing;
+        rows = f.rows;
+        hand = f.hand;
+        found = f.found;
+        owed = f.owed;
+        own = f.own;
+      } in
       change new h.events h.born (record v { parts = p' ∷ [] }) (λ x y. y) h.new h.legal st h.known h.queued
       (record {
         shares = g.shares;
         opening = λ _. g.opening (acts v p is);
-        parts = only_one (λ (q : Part). (h.owner q.number ≡ id) × Fits o h.born (now o h.events) (done_by q.number h.events) q × Rests o h.born new q) p' (mine.0, fits, rests);
+        parts = only_one (λ (q : Part). (h.owner q.number ≡ id) × Fits o h.born (now o h.events) (done_by q.number h.events) q ×
+            Rests o h.born new q) p' (mine.0, fits, rests);
         scans = λ yes. let no = is.no_collector in absurd cc;
       })
       (λ j u ne at. let t = h.agrees j u at in record {
@@ -277,10 +329,14 @@ module _ (o : Opening) (words : List ℕ) (views : List Seen) (h : Keeps o words
       let one : Scan = record { entry = entry; word = w } in
       let kept = rest_scan s s.queue in
       let full : s.queue ≡ [] → ⊥ = λ no. let bad : entry ∷ rest ≡ [] = sym queue ∙ no in cc in
-      let fits : (q : Part) → Fits o h.born s (done_by q.number h.events) q → Fits o h.born (now o (h.events ++ e ∷ [])) (done_by q.number (h.events ++ e ∷ [])) q =
-      λ q f. subst (λ (u : State). Fits o h.born u (done_by q.number (h.events ++ e ∷ [])) q) (sym (now_more e)) (subst (λ d. Fits o h.born t d q) (sym (done_scan q.number h.events entry x)) (fits_rest s t (done_by q.number h.events) q kept.world kept.owed f)) in
-      let n = change words (h.events ++ e ∷ []) h.born (scanning v one) (λ y hy. hy) h.new (legal_more o.core h.events e h.legal ((still_open o.core h.events h.is.not_closed, full), ((rest, queue), reads)))
-      (subst (λ (u : State). RepresentsInRound o h.born u.world words) (sym (now_more e)) (subst (λ (u : World). RepresentsInRound o h.born u words) (sym kept.world) h.stands))
+      let fits : (q : Part) → Fits o h.born s (done_by q.number h.events) q →
+      Fits o h.born (now o (h.events ++ e ∷ [])) (done_by q.number (h.events ++ e ∷ [])) q =
+      λ q f. subst (λ (u : State). Fits o h.born u (done_by q.number (h.events ++ e ∷ [])) q) (sym (now_more e)) (subst (λ d.
+      Fits o h.born t d q) (sym (done_scan q.number h.events entry x)) (fits_rest s t (done_by q.number h.events) q kept.world kept.owed f)) in
+      let n = change words (h.events ++ e ∷ []) h.born (scanning v one) (λ y hy.
+      hy) h.new (legal_more o.core h.events e h.legal ((still_open o.core h.events h.is.not_closed, full), ((rest, queue), reads)))
+      (subst (λ (u : State). RepresentsInRound o h.born u.world words) (sym (now_more e)) (subst (λ (u : World).
+      RepresentsInRound o h.born u words) (sym kept.world) h.stands))
       (subst (λ (u : State). AreKnown o h.born u.world) (sym (now_more e)) (subst (λ (u : World). AreKnown o h.born u) (sym kept.world) h.known))
       (λ k c. queued k (subst (λ (u : State). Contains u.queue k) (now_more e) c))
       (record {
@@ -289,7 +345,8 @@ module _ (o : Opening) (words : List ℕ) (views : List Seen) (h : Keeps o words
         parts = λ k q at. let f = g.parts k q at in (f.0, fits q f.1, f.2);
         scans = λ yes. (
           mine.0,
-          subst (λ l. AllRead (IsIn o h.born) (v.scans ++ one ∷ []) l) (sym (scans_more h.events entry x)) (read_push (IsIn o h.born) v.scans (scans_in h.events) one x mine.1 means unset),
+          subst (λ l. AllRead (IsIn o h.born) (v.scans ++ one ∷
+              []) l) (sym (scans_more h.events entry x)) (read_push (IsIn o h.born) v.scans (scans_in h.events) one x mine.1 means unset),
           ap (λ (u : State). marks_of u) (now_more e) ∙ marks ∙ ap (λ m. after_word o m one) mine.2 ∙ sym (folded_more o (marks_of o.core) v.scans one),
         );
       })

@@ -35,7 +35,8 @@ module _ (P : Place → Type 0) where
   word_means (x ∷ ws) (v ∷ vs) (suc i) w h e = word_means ws vs i w h.1 e
 
   -- an operand's word means the operand's value
-  pub operand_means : (ws : List ℕ) (vs : List Value) (operand : Operand) → P (record { at = SHARED_PLACE; name = shared_name }) → ListMeans P ws vs → Means P (word_of ws operand) (value_of vs operand)
+  pub operand_means : (ws : List ℕ) (vs : List Value) (operand : Operand) → P (record { at = SHARED_PLACE; name = shared_name }) →
+      ListMeans P ws vs → Means P (word_of ws operand) (value_of vs operand)
   operand_means ws vs (Register r) g h = means_at ws vs r h
   operand_means ws vs Shared g h = (SHARED_PLACE, refl, g)
 
@@ -52,13 +53,15 @@ module _ (P : Place → Type 0) where
   list_append (w ∷ ws) us [] xs h k = absurd h
   list_append (w ∷ ws) us (v ∷ vs) xs h k = (h.0, list_append ws us vs xs h.1 k)
 
-  pub answer_push : (rs : List Row) (xs : List (Command × Reply)) (c : Command) (a : Answer) (r : Reply) → AllAnswer P rs xs → Answers P a r → AllAnswer P (rs ++ record { command = c; answer = a } ∷ []) (xs ++ (c, r) ∷ [])
+  pub answer_push : (rs : List Row) (xs : List (Command × Reply)) (c : Command) (a : Answer) (r : Reply) → AllAnswer P rs xs → Answers P a r →
+      AllAnswer P (rs ++ record { command = c; answer = a } ∷ []) (xs ++ (c, r) ∷ [])
   answer_push [] [] c a r h k = ((refl, k), tt)
   answer_push [] (x ∷ xs) c a r h k = absurd h
   answer_push (s ∷ rs) [] c a r h k = absurd h
   answer_push (s ∷ rs) (x ∷ xs) c a r h k = (h.0, answer_push rs xs c a r h.1 k)
 
-  pub read_push : (ss : List Scan) (xs : List (Entry × Option Value)) (s : Scan) (v : Option Value) → AllRead P ss xs → IsRead P s.word v → (v ≡ None → 1 ≤ s.entry.position → s.word ≡ 0) → AllRead P (ss ++ s ∷ []) (xs ++ (s.entry, v) ∷ [])
+  pub read_push : (ss : List Scan) (xs : List (Entry × Option Value)) (s : Scan) (v : Option Value) → AllRead P ss xs → IsRead P s.word v →
+      (v ≡ None → 1 ≤ s.entry.position → s.word ≡ 0) → AllRead P (ss ++ s ∷ []) (xs ++ (s.entry, v) ∷ [])
   read_push [] [] s v h k z = ((refl, k, z), tt)
   read_push [] (x ∷ xs) s v h k z = absurd h
   read_push (t ∷ ss) [] s v h k z = absurd h
@@ -82,7 +85,8 @@ names_append (value.Number n ∷ vs) xs = names_append vs xs
 names_append (value.Ref name ∷ vs) xs = ap (λ (l : List Name). name ∷ l) (names_append vs xs)
 
 -- what is owed, and more that is owed
-pub owed_append : (P : Place → Type 0) (ws us : List ℕ) (ns : List Name) (xs : List Value) → AreOwed P ws ns → ListMeans P us xs → AreOwed P (ws ++ us) (ns ++ names_among xs)
+pub owed_append : (P : Place → Type 0) (ws us : List ℕ) (ns : List Name) (xs : List Value) → AreOwed P ws ns → ListMeans P us xs →
+    AreOwed P (ws ++ us) (ns ++ names_among xs)
 owed_append P ws us ns xs h m = (h.0 ++ xs, list_append P ws us h.0 xs h.1 m, names_append h.0 xs ∙ ap (λ (l : List Name). l ++ names_among xs) h.2)
 
 module _ (P Q : Place → Type 0) (more : (p : Place) → P p → Q p) where

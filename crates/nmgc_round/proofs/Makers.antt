@@ -74,17 +74,21 @@ pub record IsMaker (P : Place → Type 0) (regs : List ℕ) (w : World) (m : ℕ
   pub fields : (words : List ℕ) (from : ℕ) → StandFrom words from (fields_made regs c) → HasSlots P words from (slots_of made)
   pub hand : (h : Hand) (at : ℕ) → IsBearing h (leaves h c (word (2 * at))) dest at made
 
-all_from : (P : Place → Type 0) (words : List ℕ) (from : ℕ) (us : List ℕ) (values : List Value) → ListMeans P us values → StandFrom words from us → AllMean P words from values
+all_from : (P : Place → Type 0) (words : List ℕ) (from : ℕ) (us : List ℕ) (values : List Value) → ListMeans P us values → StandFrom words from us →
+    AllMean P words from values
 all_from P words from [] [] h k i v e = absurd cc
 all_from P words from [] (y ∷ values) h k i v e = absurd h
 all_from P words from (u ∷ us) [] h k i v e = absurd h
-all_from P words from (u ∷ us) (y ∷ values) h k zero v e = let same : y ≡ v = cc in subst (λ x. Means P (slice_index words (from + 0)) x) same (subst (λ w. Means P w y) (sym (k 0 u refl)) h.0)
+all_from P words from (u ∷ us) (y ∷ values) h k zero v e = let same : y ≡ v = cc in
+    subst (λ x. Means P (slice_index words (from + 0)) x) same (subst (λ w. Means P w y) (sym (k 0 u refl)) h.0)
 all_from P words from (u ∷ us) (y ∷ values) h k (suc i) v e =
-    let next : AllMean P words (from + 1) values = all_from P words (from + 1) us values h.1 (λ j w f. let s : from + 1 + j ≡ from + suc j = omega arith in ap (λ n. slice_index words n) s ∙ k (suc j) w f) in
+    let next : AllMean P words (from + 1) values = all_from P words (from + 1) us values h.1 (λ j w f.
+    let s : from + 1 + j ≡ from + suc j = omega arith in ap (λ n. slice_index words n) s ∙ k (suc j) w f) in
     let s : from + 1 + i ≡ from + suc i = omega arith in
     subst (λ n. Means P (slice_index words n) v) s (next i v e)
 
-operands_mean : (P : Place → Type 0) (ws : List ℕ) (vs : List Value) (operands : List Operand) → P (record { at = SHARED_PLACE; name = shared_name }) → ListMeans P ws vs → ListMeans P (map (word_of ws) operands) (map (value_of vs) operands)
+operands_mean : (P : Place → Type 0) (ws : List ℕ) (vs : List Value) (operands : List Operand) →
+    P (record { at = SHARED_PLACE; name = shared_name }) → ListMeans P ws vs → ListMeans P (map (word_of ws) operands) (map (value_of vs) operands)
 operands_mean P ws vs [] g h = tt
 operands_mean P ws vs (x ∷ xs) g h = (operand_means P ws vs x g h, operands_mean P ws vs xs g h)
 
@@ -92,10 +96,20 @@ pub replicate_means : (P : Place → Type 0) (n w : ℕ) (v : Value) → Means P
 replicate_means P zero w v m = tt
 replicate_means P (suc n) w v m = (m, replicate_means P n w v m)
 
-bearing_plain : (h : Hand) (dest at : ℕ) (made : Node) → ((size : ℕ) (values : List Value) → made ≡ node.Stack size values → ⊥) → IsBearing h (record h { serial = h.serial + 1; registers = set h.registers dest (2 * at) }) dest at made
-bearing_plain h dest at made none = record { registers = refl; queue = refl; serial = refl; others = λ y ne. refl; first = λ size values e. absurd (none size values e) }
+bearing_plain : (h : Hand) (dest at : ℕ) (made : Node) → ((size : ℕ) (values : List Value) → made ≡ node.Stack size values → ⊥) →
+    IsBearing h (record h { serial = h.serial + 1; registers = set h.registers dest (2 * at) }) dest at made
+bearing_plain h dest at made none = record {
+  registers = refl;
+  queue = refl;
+  serial = refl;
+  others = λ y ne. refl;
+  first = λ size values e. absurd (none size values e);
+}
 
-module _ (P : Place → Type 0) (ws : List ℕ) (w : World) (m : ℕ) (g : P (record { at = SHARED_PLACE; name = shared_name })) (k : ListMeans P ws (state_of w m).registers) where
+module _ (P : Place → Type 0) (ws : List ℕ) (w : World) (m : ℕ) (g : P (record {
+  at = SHARED_PLACE;
+  name = shared_name;
+})) (k : ListMeans P ws (state_of w m).registers) where
   abbrev vs : List Value
   vs = (state_of w m).registers
 
@@ -114,7 +128,9 @@ module _ (P : Place → Type 0) (ws : List ℕ) (w : World) (m : ℕ) (g : P (re
     size = rw length-map refl;
     sized = tt;
     owes = refl;
-    fields = λ words from s. values_fill P words from (map (value_of vs) fields) (all_from P words from (map (word_of ws) fields) (map (value_of vs) fields) (operands_mean P ws vs fields g k) s);
+    fields = λ words from s.
+        values_fill P words from (map (value_of vs) fields) (all_from P words from (map (word_of ws) fields) (map (value_of vs) fields)
+        (operands_mean P ws vs fields g k) s);
     hand = λ h at. bearing_plain h dest at _ (λ n values e. cc);
   }
   maker (Var dest v) is = record {
@@ -125,7 +141,8 @@ module _ (P : Place → Type 0) (ws : List ℕ) (w : World) (m : ℕ) (g : P (re
     size = refl;
     sized = tt;
     owes = refl;
-    fields = λ words from s. slots_of_fields P words from (node.Var (value_of vs v)) (subst (λ n. Means P n (value_of vs v)) (sym (at_first words from [] (word_of ws v) s)) (operand_means P ws vs v g k));
+    fields = λ words from s. slots_of_fields P words from (node.Var (value_of vs v)) (subst (λ n.
+        Means P n (value_of vs v)) (sym (at_first words from [] (word_of ws v) s)) (operand_means P ws vs v g k));
     hand = λ h at. bearing_plain h dest at _ (λ n values e. cc);
   }
   maker (Arr dest count v) is = record {
@@ -136,7 +153,10 @@ module _ (P : Place → Type 0) (ws : List ℕ) (w : World) (m : ℕ) (g : P (re
     size = rw length-replicate refl;
     sized = tt;
     owes = refl;
-    fields = λ words from s. values_fill P words from (replicate count (value_of vs v)) (all_from P words from (replicate count (word_of ws v)) (replicate count (value_of vs v)) (replicate_means P count (word_of ws v) (value_of vs v) (operand_means P ws vs v g k)) s);
+    fields = λ words from s.
+        values_fill P words from (replicate count (value_of vs v))
+        (all_from P words from (replicate count (word_of ws v)) (replicate count (value_of vs v))
+        (replicate_means P count (word_of ws v) (value_of vs v) (operand_means P ws vs v g k)) s);
     hand = λ h at. bearing_plain h dest at _ (λ n values e. cc);
   }
   maker (Thunk dest free) is = record {
@@ -147,7 +167,12 @@ module _ (P : Place → Type 0) (ws : List ℕ) (w : World) (m : ℕ) (g : P (re
     size = rw length-map (omega arith);
     sized = tt;
     owes = refl;
-    fields = λ words from s. slots_of_fields P words from (node.Thunk (map (value_of vs) free) None) (at_first words from (map (word_of ws) free) 0 s, all_from P words (from + 1) (map (word_of ws) free) (map (value_of vs) free) (operands_mean P ws vs free g k) (later words from (map (word_of ws) free) 0 s));
+    fields = λ words from s.
+        slots_of_fields P words from (node.Thunk (map (value_of vs) free) None) (
+          at_first words from (map (word_of ws) free) 0 s,
+          all_from P words (from + 1) (map (word_of ws) free) (map (value_of vs) free) (operands_mean P ws vs free g k)
+              (later words from (map (word_of ws) free) 0 s),
+        );
     hand = λ h at. bearing_plain h dest at _ (λ n values e. cc);
   }
   maker (Weak dest key v finaliser) is = record {
@@ -158,8 +183,13 @@ module _ (P : Place → Type 0) (ws : List ℕ) (w : World) (m : ℕ) (g : P (re
     size = refl;
     sized = tt;
     owes = refl;
-    fields = λ words from s. slots_of_fields P words from (node.Weak (Some (record { key = value_of vs key; value = value_of vs v; finaliser = value_of vs finaliser }))) (
-      subst (λ n. Means P n (value_of vs key)) (sym (at_first words from (word_of ws v ∷ word_of ws finaliser ∷ []) (word_of ws key) s)) (operand_means P ws vs key g k),
+    fields = λ words from s. slots_of_fields P words from (node.Weak (Some (record {
+      key = value_of vs key;
+      value = value_of vs v;
+      finaliser = value_of vs finaliser;
+    }))) (
+      subst (λ n. Means P n (value_of vs key)) (sym (at_first words from (word_of ws v ∷ word_of ws finaliser ∷
+          []) (word_of ws key) s)) (operand_means P ws vs key g k),
       subst (λ n. Means P n (value_of vs v)) (sym (s 1 (word_of ws v) refl)) (operand_means P ws vs v g k),
       subst (λ n. Means P n (value_of vs finaliser)) (sym (s 2 (word_of ws finaliser) refl)) (operand_means P ws vs finaliser g k),
     );
@@ -178,8 +208,10 @@ module _ (P : Place → Type 0) (ws : List ℕ) (w : World) (m : ℕ) (g : P (re
       registers = refl;
       queue = refl;
       serial = refl;
-      others = λ y ne. let half : 2 * at / 2 ≡ at = omega arith in ap (λ (b : Bool). cond b (Some []) (slots_at h.stacks y)) (ne_eqb (2 * at / 2) y (λ e. ne (sym e ∙ half)));
-      first = λ n values e. let half : 2 * at / 2 ≡ at = omega arith in ((let none : [] ≡ values = cc in sym none), ap (λ (b : Bool). cond b (Some []) (slots_at h.stacks at)) (eq-eqb (2 * at / 2) at half));
+      others = λ y ne. let half : 2 * at / 2 ≡ at = omega arith in
+          ap (λ (b : Bool). cond b (Some []) (slots_at h.stacks y)) (ne_eqb (2 * at / 2) y (λ e. ne (sym e ∙ half)));
+      first = λ n values e. let half : 2 * at / 2 ≡ at = omega arith in
+          ((let none : [] ≡ values = cc in sym none), ap (λ (b : Bool). cond b (Some []) (slots_at h.stacks at)) (eq-eqb (2 * at / 2) at half));
     };
   }
   maker (Num dest number) is = absurd is

@@ -66,7 +66,8 @@ at_last : {A : Type 0} (xs : List A) (x : A) → slice_get (xs ++ x ∷ []) (len
 at_last [] x = refl
 at_last (y ∷ xs) x = at_last xs x
 
-module _ (o : Opening) (words : List ℕ) (views : List Seen) (h : Keeps o words views) (id : ℕ) (v : Seen) (here : get_elem? views id ≡ some v) (p : Part) (is : IsMutator v p) where
+module _ (o : Opening) (words : List ℕ) (views : List Seen) (h : Keeps o words views) (id : ℕ) (v : Seen) (here : get_elem? views id ≡
+    some v) (p : Part) (is : IsMutator v p) where
   abbrev S : State
   S = now o h.events
 
@@ -113,7 +114,11 @@ module _ (o : Opening) (words : List ℕ) (views : List Seen) (h : Keeps o words
       }
 
   pub possible : (c : Command) (r : Reply) → CanGive o p c → (step W p.number c).1 ≡ r → IsPossible S (event.Command p.number c r)
-  possible c r gives says = (still_open o.core h.events h.is.not_closed, record { mutator = fits.exists; registers = gives.fits.registers; serial = subst (λ n. n < 2 ^ 32 - 1) fits.hand.serial gives.serial }, says)
+  possible c r gives says = (
+    still_open o.core h.events h.is.not_closed,
+    record { mutator = fits.exists; registers = gives.fits.registers; serial = subst (λ n. n < 2 ^ 32 - 1) fits.hand.serial gives.serial },
+    says,
+  )
 
   -- the words of an object are within the words
   pub inside : (x : Object) → IsObject o h.born x → end_of x ≤ length words
@@ -125,12 +130,14 @@ module _ (o : Opening) (words : List ℕ) (views : List Seen) (h : Keeps o words
   pub finds_same : (ws : List ℕ) (ns : List Name) → Owes true P ws ns → Owes true P ws (ns ++ [])
   finds_same ws ns k = rw (append-nil ns) k
 
-  pub owes_old : (b : Bool) (ws : List ℕ) (ns : List Name) (w : ℕ) (x : Value) → Owes b P ws ns → Means P w x → Owes b P (ws ++ owed_word b w) (ns ++ names_among (x ∷ []))
+  pub owes_old : (b : Bool) (ws : List ℕ) (ns : List Name) (w : ℕ) (x : Value) → Owes b P ws ns → Means P w x →
+      Owes b P (ws ++ owed_word b w) (ns ++ names_among (x ∷ []))
   owes_old true ws ns w x k m = owed_append P ws (w ∷ []) ns (x ∷ []) k (m, tt)
   owes_old false ws ns w x k m = append-nil ws ∙ k
 
   -- the node of an object changes, and what the mutator has stays
-  pub hand_kept : (u : World) (hand : Hand) → IsSameState (state_of u p.number) (state_of W p.number) → IsHand o h.born W p.number hand → IsHand o h.born u p.number hand
+  pub hand_kept : (u : World) (hand : Hand) → IsSameState (state_of u p.number) (state_of W p.number) → IsHand o h.born W p.number hand →
+      IsHand o h.born u p.number hand
   hand_kept u hand same k = record {
     registers = subst (λ l. ListMeans P hand.registers l) (sym same.registers) k.registers;
     queue = subst (λ l. ListMeans P hand.queue l) (sym same.queue) k.queue;
@@ -138,7 +145,9 @@ module _ (o : Opening) (words : List ℕ) (views : List Seen) (h : Keeps o words
   }
 
   -- `set` with its swap
-  pub swap_keeps : (at index w : ℕ) (c : Command) → CanSwap o p at index w c → AddsCommand o words views h p.number c (set words (at + HEADER_WORDS + index) w) (set views id (swapped v c (slice_index words (at + HEADER_WORDS + index))))
+  pub swap_keeps : (at index w : ℕ) (c : Command) → CanSwap o p at index w c →
+      AddsCommand o words views h p.number c (set words (at + HEADER_WORDS + index) w)
+      (set views id (swapped v c (slice_index words (at + HEADER_WORDS + index))))
   swap_keeps at index w c can =
       let m = meant at can.header can.object can.object_word can.names in
       let x = m.object in
@@ -153,20 +162,27 @@ module _ (o : Opening) (words : List ℕ) (views : List Seen) (h : Keeps o words
       let may : IsWritable (header_of st.node).kind = subst (λ (k : Header). IsWritable k.kind) (sym head) can.kind in
       let within : index < (header_of st.node).fields = subst (λ (k : Header). index < k.fields) (sym head) can.within in
       let within' : index < (header_of x.node).fields = subst (λ (k : Header). index < k.fields) (sym m.head) can.within in
-      let may' : MayChange (header_of x.node).kind index = subst (λ (k : Header). MayChange k.kind index) (sym m.head) (may_change can.header.kind index can.kind) in
+      let may' : MayChange (header_of x.node).kind index = subst (λ (k : Header).
+      MayChange k.kind index) (sym m.head) (may_change can.header.kind index can.kind) in
       let far = inside x m.there in
       let is_at = m.is_at in
       let t = written P words (at + HEADER_WORDS) index w st.node val may within (omega arith) fields means in
       let u : World = with_node W name t.made in
-      let does : step W p.number (Set can.object index can.value) ≡ (u, Fine) = step_set W p.number can.object can.value index name st.node t.made m.refers st.there t.does in
-      let owes : owed_by W p.number (Set can.object index can.value) ≡ names_among (t.old ∷ []) = owes_set W p.number can.object can.value index name st.node t.old m.refers st.there t.held in
+      let does : step W p.number (Set can.object index can.value) ≡ (u, Fine) =
+      step_set W p.number can.object can.value index name st.node t.made m.refers st.there t.does in
+      let owes : owed_by W p.number (Set can.object index can.value) ≡ names_among (t.old ∷ []) =
+      owes_set W p.number can.object can.value index name st.node t.old m.refers st.there t.held in
       let cases = node_cases W name st.node t.made st.there in
-      let stacks : (n : Name) (size : ℕ) (values : List Value) → node_of W n ≡ Some (Stack size values) → node_of u n ≡ Some (Stack size values) = λ n size values e. elim (cases n) [
-        | inl s ↦ absurd (t.no_stack size values (let same : Some st.node ≡ Some (Stack size values) = sym st.there ∙ ap (λ k. node_of W k) (sym s.0) ∙ e in cc))
+      let stacks : (n : Name) (size : ℕ) (values : List Value) → node_of W n ≡ Some (Stack size values) →
+      node_of u n ≡ Some (Stack size values) = λ n size values e. elim (cases n) [
+        | inl s ↦ absurd (t.no_stack size values
+            (let same : Some st.node ≡ Some (Stack size values) = sym st.there ∙ ap (λ k. node_of W k) (sym s.0) ∙ e in cc))
         | inr s ↦ s.1 ∙ e
       ] in
-      let before : (n : Name) (size : ℕ) (values : List Value) → node_of u n ≡ Some (Stack size values) → node_of W n ≡ Some (Stack size values) = λ n size values e. elim (cases n) [
-        | inl s ↦ absurd (let both : Some t.made ≡ Some (Stack size values) = sym s.1 ∙ e in let is : t.made ≡ Stack size values = cc in let was = stack_of st.node size values (sym t.later.header ∙ ap header_of is) in t.no_stack size was.0 was.1)
+      let before : (n : Name) (size : ℕ) (values : List Value) → node_of u n ≡ Some (Stack size values) →
+      node_of W n ≡ Some (Stack size values) = λ n size values e. elim (cases n) [
+        | inl s ↦ absurd (let both : Some t.made ≡ Some (Stack size values) = sym s.1 ∙ e in let is : t.made ≡ Stack size values = cc in
+            let was = stack_of st.node size values (sym t.later.header ∙ ap header_of is) in t.no_stack size was.0 was.1)
         | inr s ↦ sym s.1 ∙ e
       ] in
       let mine : node_of u name ≡ Some t.made = elim (cases name) [ inl s ↦ s.1 | inr s ↦ absurd (s.0 refl) ] in
@@ -174,27 +190,44 @@ module _ (o : Opening) (words : List ℕ) (views : List Seen) (h : Keeps o words
       let stands : RepresentsInRound o h.born u new = subst (λ a. RepresentsInRound o h.born u (set words (a + HEADER_WORDS + index) w)) m.is_at
       (stands_field o h.born W words h.stands u x m.there index w t.made within' may' t.later t.sized mine others
       (subst (λ a. HasSlots P (set words (a + HEADER_WORDS + index) w) (a + HEADER_WORDS) (slots_of t.made)) (sym m.is_at) t.fields)) in
-      let rest : (q : Part) → Rests o h.born words q → Rests o h.born new q = λ q r. subst (λ a. Rests o h.born (set words (a + HEADER_WORDS + index) w) q) m.is_at (rests_field o h.is h.born W words h.stands h.new x m.there index w within' may' q r) in
+      let rest : (q : Part) → Rests o h.born words q → Rests o h.born new q = λ q r.
+      subst (λ a. Rests o h.born (set words (a + HEADER_WORDS + index) w) q) m.is_at
+      (rests_field o h.is h.born W words h.stands h.new x m.there index w within' may' q r) in
       let mine_rests = rest p rests in
-      subst (λ l. AddsCommand o words views h p.number c new (set views id (record v { parts = first_changed (λ q. doing (finding q old) c (plain Fine) (owed_word v.opening.marking old)) l }))) (sym is.alone)
-      (subst (λ (y : Opening). AddsCommand o words views h p.number c new (set views id (record v { parts = doing (finding p old) c (plain Fine) (owed_word y.marking old) ∷ [] }))) (sym same_opening)
-      (subst (λ (d : Command). AddsCommand o words views h p.number d new (set views id (record v { parts = doing (finding p old) d (plain Fine) (owed_word o.marking old) ∷ [] }))) (sym can.command)
-      (command_law o words views h id v here new h.born p p.used p.unborn p.fixed (p.found ++ old ∷ []) (Set can.object index can.value) Fine (plain Fine) (owed_word o.marking old) is (λ y hy. hy) h.new
+      subst (λ l. AddsCommand o words views h p.number c new (set views id (record v {
+        parts =
+            first_changed (λ q. doing (finding q old) c (plain Fine) (owed_word v.opening.marking old)) l;
+      }))) (sym is.alone)
+      (subst (λ (y : Opening). AddsCommand o words views h p.number c new (set views id (record v {
+        parts =
+            doing (finding p old) c (plain Fine) (owed_word y.marking old) ∷ [];
+      }))) (sym same_opening)
+      (subst (λ (d : Command). AddsCommand o words views h p.number d new (set views id (record v {
+        parts =
+            doing (finding p old) d (plain Fine) (owed_word o.marking old) ∷ [];
+      }))) (sym can.command)
+      (command_law o words views h id v here new h.born p p.used p.unborn p.fixed (p.found ++ old ∷
+      []) (Set can.object index can.value) Fine (plain Fine) (owed_word o.marking old) is (λ y hy. hy) h.new
       (possible (Set can.object index can.value) Fine (subst (λ (d : Command). CanGive o p d) can.command can.gives) (ap (λ (r : World × Reply). r.1) does))
       refl
-      (subst (λ (r : World × Reply). IsHand o h.born r.0 p.number (hand_now o p)) (sym does) (hand_kept u (hand_now o p) (node_frame W name st.node t.made st.there p.number) fits.hand))
-      (subst (λ ns. Owes o.marking P (p.owed ++ owed_word o.marking old) (names_of S.owed p.number ++ ns)) (sym owes) (owes_old o.marking p.owed (names_of S.owed p.number) old t.old fits.owed t.was))
-      (subst (λ ns. Owes true P (p.found ++ old ∷ []) (names_of S.owed p.number ++ ns)) (sym owes) (owes_old true p.found (names_of S.owed p.number) old t.old fits.found t.was))
+      (subst (λ (r : World × Reply).
+      IsHand o h.born r.0 p.number (hand_now o p)) (sym does) (hand_kept u (hand_now o p) (node_frame W name st.node t.made st.there p.number) fits.hand))
+      (subst (λ ns. Owes o.marking P (p.owed ++ owed_word o.marking old) (names_of S.owed p.number ++
+      ns)) (sym owes) (owes_old o.marking p.owed (names_of S.owed p.number) old t.old fits.owed t.was))
+      (subst (λ ns. Owes true P (p.found ++ old ∷ []) (names_of S.owed p.number ++
+      ns)) (sym owes) (owes_old true p.found (names_of S.owed p.number) old t.old fits.found t.was))
       (λ n size values ne e. subst (λ (r : World × Reply). node_of r.0 n ≡ Some (Stack size values)) (sym does) (stacks n size values e))
       (λ n node e. let e' : node_of u n ≡ Some node = subst (λ (r : World × Reply). node_of r.0 n ≡ Some node) does e in elim (cases n) [
-        | inl s ↦ let is : Some t.made ≡ Some node = sym s.1 ∙ e' in let same : t.made ≡ node = cc in inl (st.node, ap (λ k. node_of W k) s.0 ∙ st.there, subst (λ (k : Node). IsLater st.node k) same t.later)
+        | inl s ↦ let is : Some t.made ≡ Some node = sym s.1 ∙ e' in let same : t.made ≡ node = cc in
+            inl (st.node, ap (λ k. node_of W k) s.0 ∙ st.there, subst (λ (k : Node). IsLater st.node k) same t.later)
         | inr s ↦ inl (node, sym s.1 ∙ e', same_node node)
       ])
       (subst (λ (r : World × Reply). RepresentsInRound o h.born r.0 new) (sym does) stands)
       (record { exists = mine_rests.exists; room = mine_rests.room; below = mine_rests.below; unborn = mine_rests.unborn; fixed = mine_rests.fixed })
       (λ q ne r. rest q r)
       (λ y c. inl c)
-      (subst (λ (r : World × Reply). OwnSlots o h.born r.0 p.number (hand_now o p)) (sym does) (own_kept o h.born W u p.number (hand_now o p) (hand_now o p) refl before fits.own)))))
+      (subst (λ (r : World × Reply).
+      OwnSlots o h.born r.0 p.number (hand_now o p)) (sym does) (own_kept o h.born W u p.number (hand_now o p) (hand_now o p) refl before fits.own)))))
 
   -- a register takes a value, and the hand its word
   pub register_hand : (dest w : ℕ) (val : Value) → Means P w val → IsHand o h.born (with_register W p.number dest val) p.number (holding (hand_now o p) dest w)
@@ -202,21 +235,26 @@ module _ (o : Opening) (words : List ℕ) (views : List Seen) (h : Keeps o words
       let q : MutatorState = world_holding (state_of W p.number) dest val in
       let same : state_of (with_state W p.number q) p.number ≡ q = state_same W p.number q fits.exists in
       let k = fits.hand in record {
-        registers = subst (λ (s : MutatorState). ListMeans P (set (hand_now o p).registers dest w) s.registers) (sym same) (list_set P (hand_now o p).registers (state_of W p.number).registers dest w val k.registers m);
+        registers = subst (λ (s : MutatorState).
+            ListMeans P (set (hand_now o p).registers dest w) s.registers) (sym same)
+            (list_set P (hand_now o p).registers (state_of W p.number).registers dest w val k.registers m);
         queue = subst (λ (s : MutatorState). ListMeans P (hand_now o p).queue s.queue) (sym same) k.queue;
         serial = k.serial ∙ ap (λ (s : MutatorState). length s.nodes) (sym same);
       }
 
   -- a command that changes no node, and no word changes
-  pub still_law : (c : Command) (r : Reply) (a : Answer) (u : World) → CanGive o p c → step W p.number c ≡ (u, r) → ((n : Name) → node_of u n ≡ node_of W n) → owed_by W p.number c ≡ []
-      → Answers P a r → IsHand o h.born u p.number (leaves (hand_now o p) c a) → (leaves (hand_now o p) c a).stacks ≡ (hand_now o p).stacks → AddsCommand o words views h p.number c words (set views id (answered v c a))
+  pub still_law : (c : Command) (r : Reply) (a : Answer) (u : World) → CanGive o p c → step W p.number c ≡ (u, r) →
+      ((n : Name) → node_of u n ≡ node_of W n) → owed_by W p.number c ≡ []
+      → Answers P a r → IsHand o h.born u p.number (leaves (hand_now o p) c a) → (leaves (hand_now o p) c a).stacks ≡ (hand_now o p).stacks →
+      AddsCommand o words views h p.number c words (set views id (answered v c a))
   still_law c r a u gives does same owes says hand left =
       subst (λ l. AddsCommand o words views h p.number c words (set views id (record v { parts = first_changed (λ q. doing q c a []) l }))) (sym is.alone)
       (command_law o words views h id v here words h.born p p.used p.unborn p.fixed p.found c r a [] is (λ y hy. hy) h.new
       (possible c r gives (ap (λ (x : World × Reply). x.1) does))
       says
       (subst (λ (x : World × Reply). IsHand o h.born x.0 p.number (leaves (hand_now o p) c a)) (sym does) hand)
-      (subst (λ ns. Owes o.marking P (p.owed ++ []) (names_of S.owed p.number ++ ns)) (sym owes) (owes_nothing o.marking p.owed (names_of S.owed p.number) fits.owed))
+      (subst (λ ns. Owes o.marking P (p.owed ++ []) (names_of S.owed p.number ++
+      ns)) (sym owes) (owes_nothing o.marking p.owed (names_of S.owed p.number) fits.owed))
       (subst (λ ns. Owes true P p.found (names_of S.owed p.number ++ ns)) (sym owes) (finds_same p.found (names_of S.owed p.number) fits.found))
       (λ n size values ne e. subst (λ (x : World × Reply). node_of x.0 n ≡ Some (Stack size values)) (sym does) (same n ∙ e))
       (λ n node e. inl (node, sym (same n) ∙ subst (λ (x : World × Reply). node_of x.0 n ≡ Some node) does e, same_node node))
@@ -224,10 +262,13 @@ module _ (o : Opening) (words : List ℕ) (views : List Seen) (h : Keeps o words
       (record { exists = rests.exists; room = rests.room; below = rests.below; unborn = rests.unborn; fixed = rests.fixed })
       (λ q ne r. r)
       (λ y c. inl c)
-      (subst (λ (x : World × Reply). OwnSlots o h.born x.0 p.number (leaves (hand_now o p) c a)) (sym does) (own_kept o h.born W u p.number (hand_now o p) (leaves (hand_now o p) c a) left (λ n size values e. sym (same n) ∙ e) fits.own)))
+      (subst (λ (x : World × Reply).
+      OwnSlots o h.born x.0 p.number (leaves (hand_now o p) c a)) (sym does)
+      (own_kept o h.born W u p.number (hand_now o p) (leaves (hand_now o p) c a) left (λ n size values e. sym (same n) ∙ e) fits.own)))
 
   -- `get` of a field with its load
-  pub load_keeps : (at index : ℕ) (c : Command) → CanLoad o p at index c → AddsCommand o words views h p.number c words (set views id (answered v c (word (slice_index words (at + HEADER_WORDS + index)))))
+  pub load_keeps : (at index : ℕ) (c : Command) → CanLoad o p at index c →
+      AddsCommand o words views h p.number c words (set views id (answered v c (word (slice_index words (at + HEADER_WORDS + index)))))
   load_keeps at index c can =
       let m = meant at can.header can.object can.object_word can.names in
       let st = h.stands.objects m.object m.there in
@@ -249,10 +290,15 @@ module _ (o : Opening) (words : List ℕ) (views : List Seen) (h : Keeps o words
       refl)
 
   -- a load of a word that never changes
-  pub fixed_keeps : (at offset : ℕ) → IsFixed o h.born at offset → Stays o words views h words (set views id (loaded v at offset (slice_index words (at + offset))))
+  pub fixed_keeps : (at offset : ℕ) → IsFixed o h.born at offset →
+      Stays o words views h words (set views id (loaded v at offset (slice_index words (at + offset))))
   fixed_keeps at offset f =
-      subst (λ l. Stays o words views h words (set views id (record v { parts = first_changed (λ q. knowing q at offset (slice_index words (at + offset))) l }))) (sym is.alone)
-      (store_law o words views h id v here words p p.used p.unborn (record { at = at; offset = offset; word = slice_index words (at + offset) } ∷ p.fixed) is h.stands
+      subst (λ l. Stays o words views h words (set views id (record v {
+        parts =
+            first_changed (λ q. knowing q at offset (slice_index words (at + offset))) l;
+      }))) (sym is.alone)
+      (store_law o words views h id v here words p p.used p.unborn (record { at = at; offset = offset; word = slice_index words (at + offset) } ∷
+      p.fixed) is h.stands
       (record {
         exists = rests.exists;
         room = rests.room;
@@ -284,7 +330,8 @@ module _ (o : Opening) (words : List ℕ) (views : List Seen) (h : Keeps o words
       (λ q ne r. rests_store o h.is h.born W words h.stands h.new p rests at w can.from can.to q ne r))
 
   -- a birth: the header is written last
-  pub birth_keeps : (at header : ℕ) (c : Command) → CanBear o p at header c → AddsCommand o words views h p.number c (set words at header) (set views id (gave_birth v at header c))
+  pub birth_keeps : (at header : ℕ) (c : Command) → CanBear o p at header c →
+      AddsCommand o words views h p.number c (set words at header) (set views id (gave_birth v at header c))
   birth_keeps at header c can =
       let m : ℕ = p.number in
       let own : m ≢ SHARED_MAKER = λ e. let a = rests.exists in let b = h.is.layout.mutators.1 in omega arith in
@@ -307,52 +354,93 @@ module _ (o : Opening) (words : List ℕ) (views : List Seen) (h : Keeps o words
       let unknown : node_of W name ≡ None = next_is_new W m own in
       let others : (n : Name) → (n ≡ name → ⊥) → node_of u n ≡ node_of W n = λ n ne. elim (cases n) [ inl e ↦ absurd (ne e.0) | inr e ↦ e ] in
       let same : state_of u m ≡ q = state_same W m q fits.exists in
-      let mine : node_of u name ≡ Some t.made = elim (cases name) [ inl e ↦ e.1 | inr e ↦ node_same W m q fits.exists own name refl ∙ at_last (state_of W m).nodes t.made ] in
+      let mine : node_of u name ≡ Some t.made = elim (cases name) [
+        | inl e ↦ e.1
+        | inr e ↦ node_same W m q fits.exists own name refl ∙
+            at_last (state_of W m).nodes t.made
+      ] in
       let grows : serial_of o.core.world m ≤ serial_of W m = serials_grow o.core h.events h.legal m in
       let older : serial_of o.core.snapshot m ≤ serial_of o.core.world m = h.is.snapshot m in
-      let no_snapshot : node_of o.core.snapshot name ≡ None = own_node o.core.snapshot m own name refl ∙ slice_get_past (state_of o.core.snapshot m).nodes (length (state_of W m).nodes) (omega arith) in
-      let no_world : node_of o.core.world name ≡ None = own_node o.core.world m own name refl ∙ slice_get_past (state_of o.core.world m).nodes (length (state_of W m).nodes) grows in
-      let name_there : slice_index words (at + 1) ≡ name_word (next_of o p) = (rests.unborn (record { at = at + 1; word = name_word (next_of o p) }) can.name).0 in
-      let valid_name : IsName name = (let a = rests.exists in let b = h.is.layout.mutators.1 in omega arith, (let a : serial_of W m < 2 ^ 32 - 1 = subst (λ n. n < 2 ^ 32 - 1) fits.hand.serial can.gives.serial in omega arith), λ e. absurd (own e)) in
-      let lies : LiesWell o.layout (place_of x) (size_of t.made) = inr (own, inr (let fit = can.gives.fits.size in omega arith, λ i l k. record { exists = rests.exists; from = omega arith; before = omega arith })) in
-      let st : RepresentsInRound o more u (set words at (header_word (header_of t.made))) = stands_born o h.born W u words h.stands x (omega arith) (subst (λ k. IsHeader k) (sym t.head) (made_header o.layout.words c h.is.layout.words.most can.gives.fits can.makes)) lies
+      let no_snapshot : node_of o.core.snapshot name ≡ None = own_node o.core.snapshot m own name refl ∙
+      slice_get_past (state_of o.core.snapshot m).nodes (length (state_of W m).nodes) (omega arith) in
+      let no_world : node_of o.core.world name ≡ None = own_node o.core.world m own name refl ∙
+      slice_get_past (state_of o.core.world m).nodes (length (state_of W m).nodes) grows in
+      let name_there : slice_index words (at + 1) ≡ name_word (next_of o p) =
+      (rests.unborn (record { at = at + 1; word = name_word (next_of o p) }) can.name).0 in
+      let valid_name : IsName name = (
+        let a = rests.exists in let b = h.is.layout.mutators.1 in omega arith,
+        (let a : serial_of W m < 2 ^ 32 - 1 = subst (λ n. n < 2 ^ 32 - 1) fits.hand.serial can.gives.serial in omega arith),
+        λ e. absurd (own e),
+      ) in
+      let lies : LiesWell o.layout (place_of x) (size_of t.made) = inr (
+        own,
+        inr (let fit = can.gives.fits.size in omega arith, λ i l k. record { exists = rests.exists; from = omega arith; before = omega arith }),
+      ) in
+      let st : RepresentsInRound o more u (set words at (header_word (header_of t.made))) =
+      stands_born o h.born W u words h.stands x (omega arith) (subst (λ k.
+      IsHeader k) (sym t.head) (made_header o.layout.words c h.is.layout.words.most can.gives.fits can.makes)) lies
       (λ i lo hi. rest_free o h.is h.born W words p h.stands h.new rests i (omega arith) (omega arith))
       mine others unknown no_snapshot valid_name (name_there ∙ ap (λ n. name_word n) next) t.sized
       (t.fields words (at + HEADER_WORDS) (λ i w e. (rests.unborn (record { at = at + HEADER_WORDS + i; word = w }) (can.fields i w e)).0)) in
-      let stays : (n : Name) (size : ℕ) (values : List Value) → node_of W n ≡ Some (Stack size values) → node_of u n ≡ Some (Stack size values) = λ n size values e. elim (cases n) [
+      let stays : (n : Name) (size : ℕ) (values : List Value) → node_of W n ≡ Some (Stack size values) →
+      node_of u n ≡ Some (Stack size values) = λ n size values e. elim (cases n) [
         | inl k ↦ let bad : Some (Stack size values) ≡ None = sym e ∙ ap (λ n. node_of W n) k.0 ∙ unknown in absurd cc
         | inr k ↦ k ∙ e
       ] in
       let b = t.hand (hand_now o p) at in
       let k = fits.hand in
       let hand : IsHand o more u m (leaves (hand_now o p) c (word (2 * at))) = record {
-        registers = subst (λ l. ListMeans Q l (state_of u m).registers) (sym b.registers) (subst (λ (s : MutatorState). ListMeans Q (set (hand_now o p).registers t.dest (2 * at)) s.registers) (sym same)
-            (list_set Q (hand_now o p).registers (state_of W m).registers t.dest (2 * at) (value.Ref name) (list_more P Q (grown o h.born more grow) (hand_now o p).registers (state_of W m).registers k.registers) (at, refl, there)));
-        queue = subst (λ l. ListMeans Q l (state_of u m).queue) (sym b.queue) (subst (λ (s : MutatorState). ListMeans Q (hand_now o p).queue s.queue) (sym same) (list_more P Q (grown o h.born more grow) (hand_now o p).queue (state_of W m).queue k.queue));
+        registers = subst (λ l. ListMeans Q l (state_of u m).registers) (sym b.registers) (subst (λ (s : MutatorState).
+            ListMeans Q (set (hand_now o p).registers t.dest (2 * at)) s.registers) (sym same)
+            (list_set Q (hand_now o p).registers (state_of W m).registers t.dest (2 * at) (value.Ref name)
+            (list_more P Q (grown o h.born more grow) (hand_now o p).registers (state_of W m).registers k.registers) (at, refl, there)));
+        queue = subst (λ l. ListMeans Q l (state_of u m).queue) (sym b.queue) (subst (λ (s : MutatorState).
+            ListMeans Q (hand_now o p).queue s.queue) (sym same) (list_more P Q (grown o h.born more grow) (hand_now o p).queue (state_of W m).queue k.queue));
         serial = b.serial ∙ ap (λ n. n + 1) k.serial ∙ sym (ap (λ (s : MutatorState). length s.nodes) same ∙ length-append (state_of W m).nodes (t.made ∷ []));
       } in
       let fresh : IsNew o x = record { unknown = no_world; no_snapshot = no_snapshot; maker = rests.exists; from = omega arith; to = omega arith } in
-      let born : Rests o more (set words at header) (bearing_object p at (size_of t.made) header (slice_index words (at + 1))) = rests_born o h.is h.born W words h.stands h.new p rests x refl from (omega arith) header (omega arith) in
+      let born : Rests o more (set words at header) (bearing_object p at (size_of t.made) header (slice_index words (at + 1))) =
+      rests_born o h.is h.born W words h.stands h.new p rests x refl from (omega arith) header (omega arith) in
       let r : Rests o more (set words at header) (bearing_object p at (words_made c) header (name_word (next_of o p))) =
-      subst (λ n. Rests o more (set words at header) (bearing_object p at n header (name_word (next_of o p)))) (sym size) (subst (λ n. Rests o more (set words at header) (bearing_object p at (size_of t.made) header n)) name_there born) in
-      subst (λ l. AddsCommand o words views h p.number c (set words at header) (set views id (record v { parts = first_changed (λ q. doing (bearing_object q at (words_made c) header (name_word (next_of v.opening q))) c (word (2 * at)) []) l }))) (sym is.alone)
-      (subst (λ (y : Opening). AddsCommand o words views h p.number c (set words at header) (set views id (record v { parts = doing (bearing_object p at (words_made c) header (name_word (next_of y p))) c (word (2 * at)) [] ∷ [] }))) (sym same_opening)
-      (command_law o words views h id v here (set words at header) more p (p.used + words_made c) [] (bearing_object p at (words_made c) header (name_word (next_of o p))).fixed p.found c (Given (value.Ref name)) (word (2 * at)) [] is grow
+      subst (λ n. Rests o more (set words at header) (bearing_object p at n header (name_word (next_of o p)))) (sym size) (subst (λ n.
+      Rests o more (set words at header) (bearing_object p at (size_of t.made) header n)) name_there born) in
+      subst (λ l. AddsCommand o words views h p.number c (set words at header) (set views id (record v {
+        parts =
+            first_changed (λ q. doing (bearing_object q at (words_made c) header (name_word (next_of v.opening q))) c (word (2 * at)) []) l;
+      }))) (sym is.alone)
+      (subst (λ (y : Opening). AddsCommand o words views h p.number c (set words at header) (set views id (record v {
+        parts =
+            doing (bearing_object p at (words_made c) header (name_word (next_of y p))) c (word (2 * at)) [] ∷ [];
+      }))) (sym same_opening)
+      (command_law o words views h id v here (set words at header) more p (p.used + words_made c) []
+      (bearing_object p at (words_made c) header (name_word (next_of o p))).fixed p.found c (Given (value.Ref name)) (word (2 * at)) [] is grow
       (λ y hy. elim (Contains-push_cases h.born x y hy) [ inl d ↦ h.new y d | inr e ↦ subst (IsNew o) e fresh ])
       (possible c (Given (value.Ref name)) can.gives (ap (λ (z : World × Reply). z.1) t.does))
       (value.Ref name, refl, (at, refl, there))
       (subst (λ (z : World × Reply). IsHand o more z.0 m (leaves (hand_now o p) c (word (2 * at)))) (sym t.does) hand)
-      (subst (λ ns. Owes o.marking Q (p.owed ++ []) (names_of S.owed m ++ ns)) (sym t.owes) (owes_more o h.born more grow o.marking (p.owed ++ []) (names_of S.owed m ++ []) (owes_nothing o.marking p.owed (names_of S.owed m) fits.owed)))
-      (subst (λ ns. Owes true Q p.found (names_of S.owed m ++ ns)) (sym t.owes) (owes_more o h.born more grow true p.found (names_of S.owed m ++ []) (finds_same p.found (names_of S.owed m) fits.found)))
+      (subst (λ ns. Owes o.marking Q (p.owed ++ []) (names_of S.owed m ++ ns)) (sym t.owes) (owes_more o h.born more grow o.marking (p.owed ++
+      []) (names_of S.owed m ++ []) (owes_nothing o.marking p.owed (names_of S.owed m) fits.owed)))
+      (subst (λ ns. Owes true Q p.found (names_of S.owed m ++ ns)) (sym t.owes) (owes_more o h.born more grow true p.found (names_of S.owed m ++
+      []) (finds_same p.found (names_of S.owed m) fits.found)))
       (λ n size values ne e. subst (λ (z : World × Reply). node_of z.0 n ≡ Some (Stack size values)) (sym t.does) (stays n size values e))
-      (λ n node e. let e' : node_of u n ≡ Some node = subst (λ (z : World × Reply). node_of z.0 n ≡ Some node) t.does e in elim (cases n) [ inl k ↦ inr (x, Contains-push h.born x, sym k.0) | inr k ↦ inl (node, sym k ∙ e', same_node node) ])
-      (subst (λ (z : World × Reply). RepresentsInRound o more z.0 (set words at header)) (sym t.does) (subst (λ n. RepresentsInRound o more u (set words at n)) (sym head) st))
+      (λ n node e. let e' : node_of u n ≡ Some node = subst (λ (z : World × Reply). node_of z.0 n ≡ Some node) t.does e in
+      elim (cases n) [ inl k ↦ inr (x, Contains-push h.born x, sym k.0) | inr k ↦ inl (node, sym k ∙ e', same_node node) ])
+      (subst (λ (z : World × Reply). RepresentsInRound o more z.0 (set words at header)) (sym t.does) (subst (λ n.
+      RepresentsInRound o more u (set words at n)) (sym head) st))
       (record { exists = r.exists; room = r.room; below = r.below; unborn = r.unborn; fixed = r.fixed })
       (λ q ne s. rests_birth o h.is h.born W words h.stands h.new p rests x refl from (omega arith) header q ne s)
       (λ y hy. elim (Contains-push_cases h.born x y hy) [ inl d ↦ inl d | inr e ↦ inr (sym (ap (λ (z : Object). z.name.maker) e)) ])
       (subst (λ (z : World × Reply). OwnSlots o more z.0 m (leaves (hand_now o p) c (word (2 * at)))) (sym t.does)
-      (own_born o h.born more W u (set words at (header_word (header_of t.made))) st m (hand_now o p) (leaves (hand_now o p) c (word (2 * at))) x (inr (Contains-push h.born x)) grow
-      (λ y hy ne. elim hy [ inl d ↦ inl d | inr d ↦ elim (Contains-push_cases h.born x y d) [ inl i ↦ inr i | inr e ↦ absurd (ne (sym (ap (λ (z : Object). z.at) e))) ] ])
+      (own_born o h.born more W u (set words at (header_word (header_of t.made))) st m (hand_now o p) (leaves (hand_now o p) c (word (2 * at))) x
+      (inr (Contains-push h.born x)) grow
+      (λ y hy ne. elim hy [
+        | inl d ↦ inl d
+        | inr d ↦ elim (Contains-push_cases h.born x y d) [
+          | inl i ↦ inr i
+          | inr e ↦
+              absurd (ne (sym (ap (λ (z : Object). z.at) e)))
+        ]
+      ])
       b.others
       (λ n values e. let both : Some t.made ≡ Some (Stack n values) = sym mine ∙ e in let is : t.made ≡ Stack n values = cc in b.first n values is)
       others fits.own))))

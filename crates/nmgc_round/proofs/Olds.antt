@@ -31,14 +31,17 @@ same_name a b e =
     λ i. record { maker = maker i; serial = serial i }
 
 name_itself : (a b : Name) → a ≡ b → is_same_name a b ≡ true
-name_itself a b e = and_from (eqb a.maker b.maker) (eqb a.serial b.serial) (eq-eqb a.maker b.maker (ap (λ (n : Name). n.maker) e)) (eq-eqb a.serial b.serial (ap (λ (n : Name). n.serial) e))
+name_itself a b e = and_from (eqb a.maker b.maker) (eqb a.serial b.serial) (eq-eqb a.maker b.maker (ap (λ (n : Name).
+    n.maker) e)) (eq-eqb a.serial b.serial (ap (λ (n : Name). n.serial) e))
 
 -- a name with a place has the one that is found
-place_there : (ps : List Place) (name : Name) (at : ℕ) → Contains ps (record { at = at; name = name }) → Contains ps (record { at = place_named ps name; name = name })
+place_there : (ps : List Place) (name : Name) (at : ℕ) → Contains ps (record { at = at; name = name }) →
+    Contains ps (record { at = place_named ps name; name = name })
 place_there [] name at c = absurd (let lt = c.1 in omega arith)
 place_there (p ∷ ps) name at c = by_test (λ d. place_there ps name at d) (is_same_name p.name name) refl
   where
-    by_test : (Contains ps (record { at = at; name = name }) → Contains ps (record { at = place_named ps name; name = name })) → (b : Bool) → is_same_name p.name name ≡ b → Contains (p ∷ ps) (record { at = place_named (p ∷ ps) name; name = name })
+    by_test : (Contains ps (record { at = at; name = name }) → Contains ps (record { at = place_named ps name; name = name })) → (b : Bool) →
+        is_same_name p.name name ≡ b → Contains (p ∷ ps) (record { at = place_named (p ∷ ps) name; name = name })
     by_test rest true e =
         let here : p.at ≡ place_named (p ∷ ps) name = ap (λ t. cond t p.at (place_named ps name)) (sym e) in
         let named : p.name ≡ name = same_name p.name name e in
@@ -61,12 +64,15 @@ skip_node places at y (Some (Thunk free result)) rest ne = refl
 skip_node places at y (Some (Weak parts)) rest ne = refl
 skip_node places at y (Some (Stack size values)) rest ne = ap (λ t. cond t (Some (map (word_in places) values)) (slots_at rest y)) (ne_eqb at y ne)
 
-skip : (places : List Place) (at y : ℕ) (o : Option Node) (b : Bool) (rest : List Slots) → at ≢ y → slots_at (cond b (slots_of_node places at o) [] ++ rest) y ≡ slots_at rest y
+skip : (places : List Place) (at y : ℕ) (o : Option Node) (b : Bool) (rest : List Slots) → at ≢ y →
+    slots_at (cond b (slots_of_node places at o) [] ++ rest) y ≡ slots_at rest y
 skip places at y o true rest ne = skip_node places at y o rest ne
 skip places at y o false rest ne = refl
 
-module _ (places : List Place) (w : World) (m : ℕ) (x : Place) (size : ℕ) (values : List Value) (mine : x.name.maker ≡ m) (node : node_of w x.name ≡ Some (Stack size values)) where
-  found : (ps : List Place) → ((p : Place) → Contains ps p → p.at ≡ x.at → p ≡ x) → Contains ps x → slots_at (stacks_at places w m ps) x.at ≡ Some (map (word_in places) values)
+module _ (places : List Place) (w : World) (m : ℕ) (x : Place) (size : ℕ) (values : List Value) (mine : x.name.maker ≡ m) (node : node_of w x.name ≡
+    Some (Stack size values)) where
+  found : (ps : List Place) → ((p : Place) → Contains ps p → p.at ≡ x.at → p ≡ x) → Contains ps x →
+      slots_at (stacks_at places w m ps) x.at ≡ Some (map (word_in places) values)
   found [] one c = absurd (let lt = c.1 in omega arith)
   found (p ∷ ps) one c = elim (cases_eq p.at x.at) [
     | inl e ↦
@@ -82,7 +88,8 @@ module _ (places : List Place) (w : World) (m : ℕ) (x : Place) (size : ℕ) (v
   ]
 
 -- words that mean values one by one
-list_by : (P : Place → Type 0) (f : Value → ℕ) (values : List Value) → ((i : ℕ) (v : Value) → slice_get values i ≡ Some v → Means P (f v) v) → ListMeans P (map f values) values
+list_by : (P : Place → Type 0) (f : Value → ℕ) (values : List Value) → ((i : ℕ) (v : Value) → slice_get values i ≡ Some v → Means P (f v) v) →
+    ListMeans P (map f values) values
 list_by P f [] h = tt
 list_by P f (v ∷ values) h = (h 0 v refl, list_by P f values (λ i x e. h (suc i) x e))
 
@@ -94,10 +101,12 @@ module _ (o : Opening) (words : List ℕ) (h : CanOpen o words) where
   among p c t = let n = is_some_of (node_of W p.name) (h.represents.named p c).known in (n.0, inl (record { there = c; tracked = t; node = n.1 }))
 
   -- the value's own word, where some word means it
-  word_means : (n : ℕ) (v : Value) → ((name : Name) → v ≡ value.Ref name → IsTracked W (earlier o) name) → Means (Contains o.places) n v → Means (IsIn o []) (word_in o.places v) v
+  word_means : (n : ℕ) (v : Value) → ((name : Name) → v ≡ value.Ref name → IsTracked W (earlier o) name) → Means (Contains o.places) n v →
+      Means (IsIn o []) (word_in o.places v) v
   word_means n value.Nil t m = refl
   word_means n (value.Number k) t m = refl
-  word_means n (value.Ref name) t m = let at : ℕ = place_named o.places name in (at, refl, among (record { at = at; name = name }) (place_there o.places name m.0 m.2) (t name refl))
+  word_means n (value.Ref name) t m = let at : ℕ = place_named o.places name in
+      (at, refl, among (record { at = at; name = name }) (place_there o.places name m.0 m.2) (t name refl))
 
   pub own_old : (m : ℕ) → m < o.layout.mutators → OwnSlots o [] W m (hand_of o.hands m)
   own_old m lt x size values (inr born) mine there = absurd (let none = born.1 in omega arith)
@@ -105,10 +114,13 @@ module _ (o : Opening) (words : List ℕ) (h : CanOpen o words) where
       let node : Node = Stack size values in
       let t = h.represents.tracked x.name node old.tracked there in
       let fields = fields_of_slots (Contains o.places) words (t.at + HEADER_WORDS) node t.fields in
-      let listed : slots_at (old_stacks o.places W m) x.at ≡ Some (map (word_in o.places) values) = found o.places W m (place_of x) size values mine there o.places (λ p c e. h.represents.one p (place_of x) c old.there (inr e)) old.there in (
+      let listed : slots_at (old_stacks o.places W m) x.at ≡ Some (map (word_in o.places) values) =
+      found o.places W m (place_of x) size values mine there o.places (λ p c e. h.represents.one p (place_of x) c old.there (inr e)) old.there in (
         map (word_in o.places) values,
         ap (λ (l : List Slots). slots_at l x.at) (h.hands m lt).stacks ∙ listed,
         list_by (IsIn o []) (word_in o.places) values (λ i v e.
             word_means (slice_index words (t.at + HEADER_WORDS + i)) v (λ name is.
-            slot_tracked W (earlier o) x.name node name old.tracked there (subst (λ y. Contains (slots_of node) (holds y)) is (contains_read (slots_of node) i (holds v) (item_left (map holds values) _ i (holds v) (item_map holds values i v e))))) (fields.0 i v e)),
+            slot_tracked W (earlier o) x.name node name old.tracked there (subst (λ y.
+            Contains (slots_of node) (holds y)) is (contains_read (slots_of node) i (holds v)
+            (item_left (map holds values) _ i (holds v) (item_map holds values i v e))))) (fields.0 i v e)),
       )

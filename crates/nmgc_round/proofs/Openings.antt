@@ -53,7 +53,8 @@ module _ (P Q : Place → Type 0) (T : Name → Type 0) (among : (p : Place) →
   list_among (w ∷ ws) (v ∷ vs) t h = (means_among w v (t v (contains_head v vs)) h.0, list_among ws vs (λ x c. t x (contains_tail v vs x c)) h.1)
 
   -- slots that refer to these names
-  slots_among : (words : List ℕ) (from : ℕ) (slots : List Slot) → ((v : Value) → Contains slots (holds v) → Refers T v) → HasSlots P words from slots → HasSlots Q words from slots
+  slots_among : (words : List ℕ) (from : ℕ) (slots : List Slot) → ((v : Value) → Contains slots (holds v) → Refers T v) →
+      HasSlots P words from slots → HasSlots Q words from slots
   slots_among words from slots t h i s e = by_slot s e (h i s e)
     where
       by_slot : (s : Slot) → slice_get slots i ≡ Some s → Fills P (slice_index words (from + i)) s → Fills Q (slice_index words (from + i)) s
@@ -94,7 +95,10 @@ module _ (o : Opening) (words : List ℕ) (h : CanOpen o words) where
   old_place p (inr c) = not_born c.0 c.1
 
   -- where the representation has an object
-  placed_at : (x : Object) → IsOld o x → IsObjectAt o.layout o.places words (place_of x) x.node × HasSlots (Contains o.places) words (x.at + HEADER_WORDS) (slots_of x.node) × ((e : World) (before : Node) → Contains (earlier o) e → node_of e x.name ≡ Some before → HasSlots (Contains o.places) words (x.at + HEADER_WORDS) (free_slots before))
+  placed_at : (x : Object) → IsOld o x → IsObjectAt o.layout o.places words (place_of x) x.node ×
+      HasSlots (Contains o.places) words (x.at + HEADER_WORDS) (slots_of x.node) ×
+      ((e : World) (before : Node) → Contains (earlier o) e → node_of e x.name ≡ Some before →
+      HasSlots (Contains o.places) words (x.at + HEADER_WORDS) (free_slots before))
   placed_at x old =
       let t = h.represents.tracked x.name x.node old.tracked old.node in
       let e = ap (λ (p : Place). p.at) (h.represents.one (record { at = t.at; name = x.name }) (place_of x) t.there old.there (inl refl)) in (
@@ -110,7 +114,9 @@ module _ (o : Opening) (words : List ℕ) (h : CanOpen o words) where
   old_standing x old =
       let t = placed_at x old in
       let sized : IsSized x.node = (at_some (node_of W x.name) x.node (IsNodeOf W) old.node (h.world.nodes x.name)).sized in
-      let mine = slots_among (Contains o.places) (IsIn o []) T among words (x.at + HEADER_WORDS) (slots_of x.node) (λ v c. refers_if T v (λ target e. slot_tracked W (earlier o) x.name x.node target old.tracked old.node (subst (λ y. Contains (slots_of x.node) (holds y)) e c))) t.1 in
+      let mine = slots_among (Contains o.places) (IsIn o []) T among words (x.at + HEADER_WORDS) (slots_of x.node) (λ v c.
+      refers_if T v (λ target e. slot_tracked W (earlier o) x.name x.node target old.tracked old.node (subst (λ y.
+      Contains (slots_of x.node) (holds y)) e c))) t.1 in
       record {
         header = t.0.header;
         node = x.node;
@@ -119,13 +125,21 @@ module _ (o : Opening) (words : List ℕ) (h : CanOpen o words) where
         sized = sized;
         fields = mine;
         kept = λ before k. elim k as (λ k. IsLater before x.node × KeepsOf o x before (IsIn o []) words (x.at + HEADER_WORDS) k) [
-          | inl e ↦ subst (λ (n : Node). IsLater n x.node × HasSlots (IsIn o []) words (x.at + HEADER_WORDS) (fixed_slots n)) (sym e) (same_node x.node, fixed_of_slots (IsIn o []) words (x.at + HEADER_WORDS) x.node mine)
+          | inl e ↦ subst (λ (n : Node). IsLater n x.node ×
+              HasSlots (IsIn o []) words (x.at + HEADER_WORDS) (fixed_slots n)) (sym e) (
+                same_node x.node,
+                fixed_of_slots (IsIn o []) words (x.at + HEADER_WORDS) x.node mine,
+              )
           | inr s ↦
               let S : World = o.core.snapshot in
               let c = snapshot_earlier s.marking in (
                 h.older x before s old.node,
                 slots_among (Contains o.places) (IsIn o []) T among words (x.at + HEADER_WORDS) (free_slots before)
-                    (λ v d. refers_if T v (λ target e. in_earlier S target c (field x.name target s.wide (before, s.there, subst (λ y. Contains (strong_fields before) y) e (free_held before v d)))))
+                    (λ v d. refers_if T v (λ target e. in_earlier S target c (field x.name target s.wide (
+                      before,
+                      s.there,
+                      subst (λ y. Contains (strong_fields before) y) e (free_held before v d),
+                    ))))
                     (t.2 S before c s.there),
               )
         ];
@@ -154,10 +168,16 @@ module _ (o : Opening) (words : List ℕ) (h : CanOpen o words) where
   hand_stands : (m : ℕ) → m < length o.hands → IsHand o [] W m (hand_of o.hands m)
   hand_stands m lt =
       let n = h.count in let k = h.hands m (omega arith) in
-      let held : (v : Value) → Contains ((state_of W m).registers ++ (state_of W m).queue) v → Refers T v = λ v c. refers_if T v (λ name e. roots name (inl (inr (m, subst (λ x. Contains ((state_of W m).registers ++ (state_of W m).queue) x) e c)))) in
+      let held : (v : Value) → Contains ((state_of W m).registers ++ (state_of W m).queue) v →
+      Refers T v = λ v c. refers_if T v (λ name e. roots name (inl (inr (
+        m,
+        subst (λ x. Contains ((state_of W m).registers ++ (state_of W m).queue) x) e c,
+      )))) in
       record {
-        registers = list_among (Contains o.places) (IsIn o []) T among (hand_of o.hands m).registers (state_of W m).registers (λ v c. held v (Contains-append_left (state_of W m).registers (state_of W m).queue v c)) k.registers;
-        queue = list_among (Contains o.places) (IsIn o []) T among (hand_of o.hands m).queue (state_of W m).queue (λ v c. held v (Contains-append_right (state_of W m).registers (state_of W m).queue v c)) k.queue;
+        registers = list_among (Contains o.places) (IsIn o []) T among (hand_of o.hands m).registers (state_of W m).registers (λ v c.
+            held v (Contains-append_left (state_of W m).registers (state_of W m).queue v c)) k.registers;
+        queue = list_among (Contains o.places) (IsIn o []) T among (hand_of o.hands m).queue (state_of W m).queue (λ v c.
+            held v (Contains-append_right (state_of W m).registers (state_of W m).queue v c)) k.queue;
         serial = k.serial;
       }
 
@@ -166,7 +186,16 @@ module _ (o : Opening) (words : List ℕ) (h : CanOpen o words) where
   owes_none false m = refl
 
   blank_fits : (m : ℕ) → m < length o.hands → Fits o [] o.core [] (blank m)
-  blank_fits m lt = let a = h.count in let b = h.is.mutators in let c = h.is.owed in record { exists = omega arith; owing = omega arith; rows = tt; hand = hand_stands m lt; found = owes_none true m; owed = owes_none o.marking m; own = own_old o words h m (omega arith) }
+  blank_fits m lt = let a = h.count in let b = h.is.mutators in let c = h.is.owed in
+      record {
+        exists = omega arith;
+        owing = omega arith;
+        rows = tt;
+        hand = hand_stands m lt;
+        found = owes_none true m;
+        owed = owes_none o.marking m;
+        own = own_old o words h m (omega arith);
+      }
 
   blank_rests : (m : ℕ) → m < length o.hands → Rests o [] words (blank m)
   blank_rests m lt = record {
@@ -205,7 +234,8 @@ module _ (o : Opening) (words : List ℕ) (h : CanOpen o words) where
         part_is : (m : ℕ) (hs : List Hand) (k : ℕ) (p : Part) → get_elem? (blanks m hs) k ≡ some p → (p ≡ blank (m + k)) × (k < length hs)
         part_is m [] k p e = absurd (some-ne-none p (sym e))
         part_is m (x ∷ hs) zero p e = (sym (some-injective (blank m) p e) ∙ ap (λ n. blank n) (let z : m ≡ m + 0 = omega arith in z), omega arith)
-        part_is m (x ∷ hs) (suc k) p e = let r = part_is (suc m) hs k p e in (r.0 ∙ ap (λ n. blank n) (let z : suc m + k ≡ m + suc k = omega arith in z), (let lt = r.1 in omega arith))
+        part_is m (x ∷ hs) (suc k) p e = let r = part_is (suc m) hs k p e in
+            (r.0 ∙ ap (λ n. blank n) (let z : suc m + k ≡ m + suc k = omega arith in z), (let lt = r.1 in omega arith))
 
         first : Agrees o [] words [] (λ m. id) id id (whole o)
         first = record {

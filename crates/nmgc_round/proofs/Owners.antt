@@ -25,12 +25,18 @@ stack_of (Weak parts) size values e = let k = ap (λ (h : Header). h.kind) e in 
 stack_of (Stack n vs) size values e = (vs, ap (λ (h : Header). Stack h.fields vs) e)
 
 -- the own stacks stay, where every stack was there before and the hand has the same
-pub own_kept : (o : Opening) (born : List Object) (w u : World) (m : ℕ) (h k : Hand) → k.stacks ≡ h.stacks → ((n : Name) (size : ℕ) (values : List Value) → node_of u n ≡ Some (Stack size values) → node_of w n ≡ Some (Stack size values)) → OwnSlots o born w m h → OwnSlots o born u m k
-own_kept o born w u m h k same before own x size values hx mine there = subst (λ (l : List Slots). HasStack o born l x.at values) (sym same) (own x size values hx mine (before x.name size values there))
+pub own_kept : (o : Opening) (born : List Object) (w u : World) (m : ℕ) (h k : Hand) → k.stacks ≡ h.stacks →
+    ((n : Name) (size : ℕ) (values : List Value) → node_of u n ≡ Some (Stack size values) → node_of w n ≡ Some (Stack size values)) →
+    OwnSlots o born w m h → OwnSlots o born u m k
+own_kept o born w u m h k same before own x size values hx mine there =
+    subst (λ (l : List Slots). HasStack o born l x.at values) (sym same) (own x size values hx mine (before x.name size values there))
 
 -- an object more, whose stack is empty if it is one
-pub own_born : (o : Opening) (born more : List Object) (w u : World) (ws : List ℕ) → RepresentsInRound o more u ws → (m : ℕ) (h k : Hand) (x : Object) → IsObject o more x → ((y : Object) → IsObject o born y → IsObject o more y) → ((y : Object) → IsObject o more y → y.at ≢ x.at → IsObject o born y)
-    → ((y : ℕ) → y ≢ x.at → slots_at k.stacks y ≡ slots_at h.stacks y) → ((size : ℕ) (values : List Value) → node_of u x.name ≡ Some (Stack size values) → (values ≡ []) × (slots_at k.stacks x.at ≡ Some []))
+pub own_born : (o : Opening) (born more : List Object) (w u : World) (ws : List ℕ) → RepresentsInRound o more u ws →
+    (m : ℕ) (h k : Hand) (x : Object) → IsObject o more x → ((y : Object) → IsObject o born y → IsObject o more y) →
+    ((y : Object) → IsObject o more y → y.at ≢ x.at → IsObject o born y)
+    → ((y : ℕ) → y ≢ x.at → slots_at k.stacks y ≡ slots_at h.stacks y) →
+    ((size : ℕ) (values : List Value) → node_of u x.name ≡ Some (Stack size values) → (values ≡ []) × (slots_at k.stacks x.at ≡ Some []))
     → ((n : Name) → (n ≡ x.name → ⊥) → node_of u n ≡ node_of w n) → OwnSlots o born w m h → OwnSlots o more u m k
 own_born o born more w u ws st m h k x hx grow before others first nodes own y size values hy mine there = elim (cases_eq y.at x.at) [
   | inl e ↦
@@ -38,7 +44,14 @@ own_born o born more w u ws st m h k x hx grow before others first nodes own y s
       let t = first size values (subst (λ n. node_of u n ≡ Some (Stack size values)) (ap (λ (p : Place). p.name) one) there) in
       ([], ap (λ a. slots_at k.stacks a) e ∙ t.1, subst (λ l. ListMeans (IsIn o more) [] l) (sym t.0) tt)
   | inr ne ↦
-      let apart : y.name ≡ x.name → ⊥ = λ same. ne (ap (λ (p : Place). p.at) (st.one (place_of y) (place_of x) (placed o more y hy) (placed o more x hx) (inl same))) in
-      let r = own y size values (before y hy ne) mine (sym (nodes y.name apart) ∙ there) in
-      (r.0, others y.at ne ∙ r.1, list_more (IsIn o born) (IsIn o more) (λ (q : Place) (i : IsIn o born q). (i.0, grow (record { at = q.at; name = q.name; node = i.0 }) i.1)) r.0 values r.2)
+      let apart : y.name ≡ x.name → ⊥ = λ same. ne (ap (λ (p : Place).
+      p.at) (st.one (place_of y) (place_of x) (placed o more y hy) (placed o more x hx) (inl same))) in
+      let r = own y size values (before y hy ne) mine (sym (nodes y.name apart) ∙ there) in (
+        r.0,
+        others y.at ne ∙ r.1,
+        list_more (IsIn o born) (IsIn o more) (λ (q : Place) (i : IsIn o born q). (
+          i.0,
+          grow (record { at = q.at; name = q.name; node = i.0 }) i.1,
+        )) r.0 values r.2,
+      )
 ]

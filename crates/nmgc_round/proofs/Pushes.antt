@@ -71,28 +71,34 @@ no_values [] e = refl
 no_values (v ∷ vs) e = absurd (omega (arith, e))
 
 -- `push` onto a stack
-step_push : (w : World) (m : ℕ) (object v : Operand) (name : Name) (found made : Node) (r : Reply) → value_for w m object ≡ value.Ref name → node_of w name ≡ Some found → stack_pushed (eqb name.maker m) found (value_for w m v) ≡ (made, r) → step w m (Push object v) ≡ (with_node w name made, r)
+step_push : (w : World) (m : ℕ) (object v : Operand) (name : Name) (found made : Node) (r : Reply) → value_for w m object ≡ value.Ref name →
+    node_of w name ≡ Some found → stack_pushed (eqb name.maker m) found (value_for w m v) ≡ (made, r) → step w m (Push object v) ≡ (with_node w name made, r)
 step_push w m object v name found made r is there does =
     let c : Change = change.Push m (value_for w m v) in
     ap (λ y. change_object w y c) is ∙ ap (λ o. change_node w name o c) there ∙ ap (λ (r : Node × Reply). (with_node w name r.0, r.1)) does
 
-owes_push : (w : World) (m : ℕ) (object v : Operand) (name : Name) (found : Node) → value_for w m object ≡ value.Ref name → node_of w name ≡ Some found → owed_by w m (Push object v) ≡ []
+owes_push : (w : World) (m : ℕ) (object v : Operand) (name : Name) (found : Node) → value_for w m object ≡ value.Ref name →
+    node_of w name ≡ Some found → owed_by w m (Push object v) ≡ []
 owes_push w m object v name found is there =
     let c : Change = change.Push m (value_for w m v) in
     ap (λ y. names_among (owed_of w y c)) is ∙ ap (λ o. names_among (owed_at c name o)) there
 
 -- `pop` off a stack
-step_pop : (w : World) (m dest : ℕ) (object : Operand) (name : Name) (found made : Node) (r : Reply) → value_for w m object ≡ value.Ref name → node_of w name ≡ Some found → stack_popped (eqb name.maker m) found ≡ (made, r) → step w m (Pop dest object) ≡ (keeping (with_node w name made) m dest r, r)
+step_pop : (w : World) (m dest : ℕ) (object : Operand) (name : Name) (found made : Node) (r : Reply) → value_for w m object ≡ value.Ref name →
+    node_of w name ≡ Some found → stack_popped (eqb name.maker m) found ≡ (made, r) → step w m (Pop dest object) ≡ (keeping (with_node w name made) m dest r, r)
 step_pop w m dest object name found made r is there does =
     let c : Change = change.Pop m in
-    ap (λ y. change_into m dest (change_object w y c)) is ∙ ap (λ o. change_into m dest (change_node w name o c)) there ∙ ap (λ (r : Node × Reply). change_into m dest (with_node w name r.0, r.1)) does
+    ap (λ y. change_into m dest (change_object w y c)) is ∙ ap (λ o. change_into m dest (change_node w name o c)) there ∙
+    ap (λ (r : Node × Reply). change_into m dest (with_node w name r.0, r.1)) does
 
-owes_pop : (w : World) (m dest : ℕ) (object : Operand) (name : Name) (found : Node) → value_for w m object ≡ value.Ref name → node_of w name ≡ Some found → owed_by w m (Pop dest object) ≡ names_among (top_held (eqb name.maker m) found)
+owes_pop : (w : World) (m dest : ℕ) (object : Operand) (name : Name) (found : Node) → value_for w m object ≡ value.Ref name →
+    node_of w name ≡ Some found → owed_by w m (Pop dest object) ≡ names_among (top_held (eqb name.maker m) found)
 owes_pop w m dest object name found is there =
     let c : Change = change.Pop m in
     ap (λ y. names_among (owed_of w y c)) is ∙ ap (λ o. names_among (owed_at c name o)) there
 
-module _ (o : Opening) (words : List ℕ) (views : List Seen) (h : Keeps o words views) (id : ℕ) (v : Seen) (here : get_elem? views id ≡ some v) (p : Part) (is : IsMutator v p) where
+module _ (o : Opening) (words : List ℕ) (views : List Seen) (h : Keeps o words views) (id : ℕ) (v : Seen) (here : get_elem? views id ≡
+    some v) (p : Part) (is : IsMutator v p) where
   abbrev S : State
   S = now o h.events
 
@@ -140,7 +146,8 @@ module _ (o : Opening) (words : List ℕ) (views : List Seen) (h : Keeps o words
       let told = rests.fixed (record { at = at; offset = 1; word = name_word stack.name }) stack.named in
       let same : name_word x.name ≡ name_word stack.name = sym named.name ∙ ap (λ a. slice_index words (a + 1)) m.is_at ∙ told.1 in
       let mine : x.name.maker ≡ p.number = one_maker x.name stack.name named.valid stack.valid same ∙ stack.own in
-      let fields = fields_of_slots P words (at + HEADER_WORDS) (Stack t.0 t.1) (subst (λ (n : Node). HasSlots P words (at + HEADER_WORDS) (slots_of n)) t.2 (subst (λ a. HasSlots P words (a + HEADER_WORDS) (slots_of st.node)) m.is_at st.fields)) in
+      let fields = fields_of_slots P words (at + HEADER_WORDS) (Stack t.0 t.1) (subst (λ (n : Node).
+      HasSlots P words (at + HEADER_WORDS) (slots_of n)) t.2 (subst (λ a. HasSlots P words (a + HEADER_WORDS) (slots_of st.node)) m.is_at st.fields)) in
       let own = fits.own x t.0 t.1 m.there mine node_there in
       record {
         thing = x;
@@ -164,7 +171,8 @@ module _ (o : Opening) (words : List ℕ) (views : List Seen) (h : Keeps o words
 
   -- one header is named at a place
   one_header : (at : ℕ) (k l : Header) → Names p at k → Names p at l → k.fields ≡ l.fields
-  one_header at k l a b = ap (λ (t : Header). t.fields) (same_header k l a.valid b.valid (sym (named_header o words views h id v here p is at k a) ∙ named_header o words views h id v here p is at l b))
+  one_header at k l a b = ap (λ (t : Header). t.fields) (same_header k l a.valid b.valid (sym (named_header o words views h id v here p is at k a) ∙
+      named_header o words views h id v here p is at l b))
 
   -- what a load of a slot finds
   peek_tells : (at slot : ℕ) (can : CanPeek o p at slot) → TellsSlot o p at slot (slice_index words (at + HEADER_WORDS + slot))
@@ -174,22 +182,38 @@ module _ (o : Opening) (words : List ℕ) (views : List Seen) (h : Keeps o words
       let long = as_long P f.slots f.values f.list in
       let size = f.size_is in
       let within = can.within in
-      let most : (header : Header) → Names p at header → length f.slots ≤ header.fields = λ header names. let same = one_header at header can.stack.header names can.stack.names in let sized = f.sized in omega arith in
+      let most : (header : Header) → Names p at header → length f.slots ≤ header.fields = λ header names.
+      let same = one_header at header can.stack.header names can.stack.names in let sized = f.sized in omega arith in
       elim (cases_lt slot (length f.values)) [
         | inl lt ↦
             let x : Value = get_or f.values slot value.Nil in
             let e : slice_get f.values slot ≡ Some x = slice_get-get_or f.values slot value.Nil lt in
             let m : Means P w x = f.means slot x e in
-            record { words = f.slots; listed = f.listed; is_word = one_word o words views h id v here p is w (slice_index f.slots slot) x m (list_at P f.slots f.values slot x f.list e); set = λ _. means_some P (above o words views h id v here p is) w x m; most = most }
-        | inr le ↦ record { words = f.slots; listed = f.listed; is_word = f.unset slot le (omega arith) ∙ sym (past f.slots slot (omega arith)); set = λ lt. absurd (omega arith); most = most }
+            record {
+              words = f.slots;
+              listed = f.listed;
+              is_word =
+                  one_word o words views h id v here p is w (slice_index f.slots slot) x m (list_at P f.slots f.values slot x f.list e);
+              set = λ _. means_some P (above o words views h id v here p is) w x m;
+              most = most;
+            }
+        | inr le ↦ record {
+          words = f.slots;
+          listed = f.listed;
+          is_word = f.unset slot le (omega arith) ∙ sym (past f.slots slot (omega arith));
+          set = λ lt. absurd (omega arith);
+          most = most;
+        }
       ]
 
   -- a load of a slot changes nothing
-  pub peek_keeps : (at slot : ℕ) → CanPeek o p at slot → Stays o words views h words (set views id v) × TellsSlot o p at slot (slice_index words (at + HEADER_WORDS + slot))
+  pub peek_keeps : (at slot : ℕ) → CanPeek o p at slot → Stays o words views h words (set views id v) ×
+      TellsSlot o p at slot (slice_index words (at + HEADER_WORDS + slot))
   peek_keeps at slot can = (same_law o words views h id v here v (h.agrees id v here), peek_tells at slot can)
 
   -- a stack changes, and what the mutator has with it
-  stack_hand : (at : ℕ) (u : World) (g : List ℕ → List ℕ) → IsSameState (state_of u p.number) (state_of W p.number) → IsHand o h.born u p.number (record (hand_now o p) { stacks = with_slots (hand_now o p).stacks at g })
+  stack_hand : (at : ℕ) (u : World) (g : List ℕ → List ℕ) → IsSameState (state_of u p.number) (state_of W p.number) →
+      IsHand o h.born u p.number (record (hand_now o p) { stacks = with_slots (hand_now o p).stacks at g })
   stack_hand at u g same =
       let k = fits.hand in
       record {
@@ -199,22 +223,33 @@ module _ (o : Opening) (words : List ℕ) (views : List Seen) (h : Keeps o words
       }
 
   -- and its own stacks
-  stack_own : (at : ℕ) (stack : IsOwn o p at) (f : Found at stack) (made : Node) (u : World) (g : List ℕ → List ℕ) (values : List Value) (k : Hand) → k.stacks ≡ with_slots (hand_now o p).stacks at g → made ≡ Stack f.size values → node_of u f.thing.name ≡ Some made → ((n : Name) → (n ≡ f.thing.name → ⊥) → node_of u n ≡ node_of W n)
+  stack_own : (at : ℕ) (stack : IsOwn o p at) (f : Found at stack) (made : Node) (u : World) (g : List ℕ →
+      List ℕ) (values : List Value) (k : Hand) → k.stacks ≡ with_slots (hand_now o p).stacks at g → made ≡ Stack f.size values →
+      node_of u f.thing.name ≡ Some made → ((n : Name) → (n ≡ f.thing.name → ⊥) → node_of u n ≡ node_of W n)
       → ((ws : List ℕ) → ListMeans P ws f.values → ListMeans P (g ws) values) → OwnSlots o h.born u p.number k
-  stack_own at stack f made u g values k stacks is_made mine others more y size vs hy own there = subst (λ (l : List Slots). HasStack o h.born l y.at vs) (sym stacks) (elim (name_cases y.name f.thing.name) [
-    | inl e ↦
-        let one : place_of y ≡ place_of f.thing = h.stands.one (place_of y) (place_of f.thing) (placed o h.born y hy) (placed o h.born f.thing f.there) (inl e) in
-        let at_one : y.at ≡ at = ap (λ (q : Place). q.at) one ∙ f.is_at in
-        let both : Some (Stack f.size values) ≡ Some (Stack size vs) = ap (λ (n : Node). Some n) (sym is_made) ∙ sym mine ∙ ap (λ n. node_of u n) (sym e) ∙ there in
-        let held : values ≡ vs = cc in
-        (g f.slots, ap (λ a. slots_at (with_slots (hand_now o p).stacks at g) a) at_one ∙ slots_same (hand_now o p).stacks at g f.slots f.listed, subst (λ l. ListMeans P (g f.slots) l) held (more f.slots f.list))
-    | inr ne ↦
-        let apart : y.at ≢ at = λ e. ne (ap (λ (q : Place). q.name) (h.stands.one (place_of y) (place_of f.thing) (placed o h.born y hy) (placed o h.born f.thing f.there) (inr (e ∙ sym f.is_at)))) in
-        let r = fits.own y size vs hy own (sym (others y.name ne) ∙ there) in
-        (r.0, slots_other (hand_now o p).stacks at y.at g apart ∙ r.1, r.2)
-  ])
+  stack_own at stack f made u g values k stacks is_made mine others more y size vs hy own there =
+      subst (λ (l : List Slots). HasStack o h.born l y.at vs) (sym stacks) (elim (name_cases y.name f.thing.name) [
+        | inl e ↦
+            let one : place_of y ≡ place_of f.thing =
+            h.stands.one (place_of y) (place_of f.thing) (placed o h.born y hy) (placed o h.born f.thing f.there) (inl e) in
+            let at_one : y.at ≡ at = ap (λ (q : Place). q.at) one ∙ f.is_at in
+            let both : Some (Stack f.size values) ≡ Some (Stack size vs) = ap (λ (n : Node). Some n) (sym is_made) ∙ sym mine ∙
+            ap (λ n. node_of u n) (sym e) ∙ there in
+            let held : values ≡ vs = cc in (
+              g f.slots,
+              ap (λ a. slots_at (with_slots (hand_now o p).stacks at g) a) at_one ∙ slots_same (hand_now o p).stacks at g f.slots f.listed,
+              subst (λ l. ListMeans P (g f.slots) l) held (more f.slots f.list),
+            )
+        | inr ne ↦
+            let apart : y.at ≢ at = λ e.
+            ne (ap (λ (q : Place).
+            q.name) (h.stands.one (place_of y) (place_of f.thing) (placed o h.born y hy) (placed o h.born f.thing f.there) (inr (e ∙ sym f.is_at)))) in
+            let r = fits.own y size vs hy own (sym (others y.name ne) ∙ there) in
+            (r.0, slots_other (hand_now o p).stacks at y.at g apart ∙ r.1, r.2)
+      ])
 
-  push_keeps : (at slot w : ℕ) (c : Command) → CanPush o p at slot w c → AddsCommand o words views h p.number c (set words (at + HEADER_WORDS + slot) w) (set views id (answered v c (plain reply.Fine)))
+  push_keeps : (at slot w : ℕ) (c : Command) → CanPush o p at slot w c →
+      AddsCommand o words views h p.number c (set words (at + HEADER_WORDS + slot) w) (set views id (answered v c (plain reply.Fine)))
   push_keeps at slot w c can =
       let f = found at can.stack in
       let x = f.thing in
@@ -234,13 +269,20 @@ module _ (o : Opening) (words : List ℕ) (views : List Seen) (h : Keeps o words
       let is_at = f.is_at in
       let count : (header_of x.node).fields ≡ f.size = ap (λ (k : Header). k.fields) f.head in
       let room : at + HEADER_WORDS + length f.values < length words = omega arith in
-      let pushes : stack_pushed (eqb x.name.maker p.number) st.node val ≡ (made, reply.Fine) = ap (λ b. stack_pushed b st.node val) (eq-eqb x.name.maker p.number f.mine) ∙ ap (λ n. stack_pushed true n val) f.node_is ∙ ap (λ b. cond {A = Node × Reply} b (made, reply.Fine) (Stack f.size f.values, reply.StackFull)) (lt-ltb (length f.values) f.size lt) in
+      let pushes : stack_pushed (eqb x.name.maker p.number) st.node val ≡ (made, reply.Fine) =
+      ap (λ b. stack_pushed b st.node val) (eq-eqb x.name.maker p.number f.mine) ∙ ap (λ n. stack_pushed true n val) f.node_is ∙
+      ap (λ b. cond {A = Node × Reply} b (made, reply.Fine) (Stack f.size f.values, reply.StackFull)) (lt-ltb (length f.values) f.size lt) in
       let does : step W p.number C ≡ (u, reply.Fine) = step_push W p.number object can.value x.name st.node made reply.Fine f.refers st.there pushes in
       let owes : owed_by W p.number C ≡ [] = owes_push W p.number object can.value x.name st.node f.refers st.there in
       let now_ = node_now o words views h id v here p is x f.there made in
-      let all : AllMean P (set words (at + HEADER_WORDS + length f.values) w) (at + HEADER_WORDS) (f.values ++ val ∷ []) = all_pushed P words (at + HEADER_WORDS) w f.values val room f.means means in
-      let rest : AreUnset (set words (at + HEADER_WORDS + length f.values) w) (at + HEADER_WORDS) (length (f.values ++ val ∷ [])) f.size = subst (λ n. AreUnset (set words (at + HEADER_WORDS + length f.values) w) (at + HEADER_WORDS) n f.size) (sym long) (unset_pushed words (at + HEADER_WORDS) w (length f.values) f.size f.unset) in
-      let fields : HasSlots P (set words (at + HEADER_WORDS + slot) w) (at + HEADER_WORDS) (slots_of made) = subst (λ n. HasSlots P (set words (at + HEADER_WORDS + n) w) (at + HEADER_WORDS) (slots_of made)) (sym top) (slots_of_fields P (set words (at + HEADER_WORDS + length f.values) w) (at + HEADER_WORDS) made (all, rest)) in
+      let all : AllMean P (set words (at + HEADER_WORDS + length f.values) w) (at + HEADER_WORDS) (f.values ++ val ∷ []) =
+      all_pushed P words (at + HEADER_WORDS) w f.values val room f.means means in
+      let rest : AreUnset (set words (at + HEADER_WORDS + length f.values) w) (at + HEADER_WORDS) (length (f.values ++ val ∷ [])) f.size =
+      subst (λ n. AreUnset (set words (at + HEADER_WORDS + length f.values) w) (at + HEADER_WORDS) n f.size) (sym long)
+      (unset_pushed words (at + HEADER_WORDS) w (length f.values) f.size f.unset) in
+      let fields : HasSlots P (set words (at + HEADER_WORDS + slot) w) (at + HEADER_WORDS) (slots_of made) =
+      subst (λ n. HasSlots P (set words (at + HEADER_WORDS + n) w) (at + HEADER_WORDS) (slots_of made)) (sym top)
+      (slots_of_fields P (set words (at + HEADER_WORDS + length f.values) w) (at + HEADER_WORDS) made (all, rest)) in
       let ch : Changes o words views h id v here p is x f.there slot w made u = record {
         within = omega arith;
         may = subst (λ (k : Header). MayChange k.kind slot) (sym f.head) tt;
@@ -252,18 +294,33 @@ module _ (o : Opening) (words : List ℕ) (views : List Seen) (h : Keeps o words
         stacks = λ size values e. f.mine;
       } in
       let g : List ℕ → List ℕ = λ ws. ws ++ w ∷ [] in
-      let more : (ws : List ℕ) → ListMeans P ws f.values → ListMeans P (g ws) (f.values ++ val ∷ []) = λ ws l. list_append P ws (w ∷ []) f.values (val ∷ []) l (means, tt) in
+      let more : (ws : List ℕ) → ListMeans P ws f.values → ListMeans P (g ws) (f.values ++ val ∷ []) = λ ws l.
+      list_append P ws (w ∷ []) f.values (val ∷ []) l (means, tt) in
       let half : operand_word o p object / 2 ≡ at = let e = can.stack.object_word in omega arith in
-      let left : leaves (hand_now o p) C (plain reply.Fine) ≡ record (hand_now o p) { stacks = with_slots (hand_now o p).stacks at g } = ap (λ (y : ℕ × ℕ). record (hand_now o p) { stacks = with_slots (hand_now o p).stacks y.0 (λ ws. ws ++ y.1 ∷ []) }) (λ i. (half i, can.value_word i)) in
-      subst (λ (d : Command). AddsCommand o words views h p.number d (set words (at + HEADER_WORDS + slot) w) (set views id (answered v d (plain reply.Fine)))) (sym can.command)
-      (subst (λ l. AddsCommand o words views h p.number C (set words (at + HEADER_WORDS + slot) w) (set views id (record v { parts = first_changed (λ q. doing q C (plain reply.Fine) []) l }))) (sym is.alone)
-      (subst (λ a. AddsCommand o words views h p.number C (set words (a + HEADER_WORDS + slot) w) (set views id (record v { parts = doing p C (plain reply.Fine) [] ∷ [] }))) f.is_at
+      let left : leaves (hand_now o p) C (plain reply.Fine) ≡ record (hand_now o p) { stacks = with_slots (hand_now o p).stacks at g } =
+      ap (λ (y : ℕ × ℕ). record (hand_now o p) { stacks = with_slots (hand_now o p).stacks y.0 (λ ws. ws ++ y.1 ∷ []) }) (λ i. (
+        half i,
+        can.value_word i,
+      )) in
+      subst (λ (d : Command).
+      AddsCommand o words views h p.number d (set words (at + HEADER_WORDS + slot) w) (set views id (answered v d (plain reply.Fine)))) (sym can.command)
+      (subst (λ l. AddsCommand o words views h p.number C (set words (at + HEADER_WORDS + slot) w) (set views id (record v {
+        parts =
+            first_changed (λ q. doing q C (plain reply.Fine) []) l;
+      }))) (sym is.alone)
+      (subst (λ a. AddsCommand o words views h p.number C (set words (a + HEADER_WORDS + slot) w) (set views id (record v {
+        parts =
+            doing p C (plain reply.Fine) [] ∷ [];
+      }))) f.is_at
       (field_law o words views h id v here p is x f.there slot w made C reply.Fine (plain reply.Fine) u p.found [] ch
       (subst (λ (d : Command). CanGive o p d) can.command can.gives) does refl
       (subst (λ (k : Hand). IsHand o h.born u p.number k) (sym left) (stack_hand at u g (node_frame W x.name st.node made st.there p.number)))
-      (subst (λ ns. Owes o.marking P (p.owed ++ []) (names_of S.owed p.number ++ ns)) (sym owes) (owes_nothing o words views h id v here p is o.marking p.owed (names_of S.owed p.number) fits.owed))
-      (subst (λ ns. Owes true P p.found (names_of S.owed p.number ++ ns)) (sym owes) (finds_same o words views h id v here p is p.found (names_of S.owed p.number) fits.found))
-      (stack_own at can.stack f made u g (f.values ++ val ∷ []) (leaves (hand_now o p) C (plain reply.Fine)) (ap (λ (k : Hand). k.stacks) left) refl now_.0 now_.1 more))))
+      (subst (λ ns. Owes o.marking P (p.owed ++ []) (names_of S.owed p.number ++
+      ns)) (sym owes) (owes_nothing o words views h id v here p is o.marking p.owed (names_of S.owed p.number) fits.owed))
+      (subst (λ ns. Owes true P p.found (names_of S.owed p.number ++
+      ns)) (sym owes) (finds_same o words views h id v here p is p.found (names_of S.owed p.number) fits.found))
+      (stack_own at can.stack f made u g (f.values ++ val ∷ []) (leaves (hand_now o p) C (plain reply.Fine)) (ap (λ (k : Hand).
+      k.stacks) left) refl now_.0 now_.1 more))))
 
   -- what a pop finds on top
   record Top (at slot : ℕ) (stack : IsOwn o p at) (f : Found at stack) : Type 0 where
@@ -284,10 +341,20 @@ module _ (o : Opening) (words : List ℕ) (views : List Seen) (h : Keeps o words
             let n : length f.values ≡ length r.0 + 1 = ap length r.2 ∙ length-append r.0 (r.1 ∷ []) in
             let depth : slot ≡ length r.0 = omega arith in
             let last : length f.values - 1 ≡ slot = omega arith in
-            record { front = r.0; top = r.1; values_are = r.2; front_is = r.3; last_is = r.4; depth = depth; means = f.means slot r.1 (ap (λ k. slice_get f.values k) (sym last) ∙ r.4) }
+            record {
+              front = r.0;
+              top = r.1;
+              values_are = r.2;
+              front_is = r.3;
+              last_is = r.4;
+              depth = depth;
+              means = f.means slot r.1 (ap (λ k. slice_get f.values k) (sym last) ∙ r.4);
+            }
       ]
 
-  pop_keeps : (at slot : ℕ) (c : Command) → CanPop o p at slot c → AddsCommand o words views h p.number c (set words (at + HEADER_WORDS + slot) 0) (set views id (slot_swapped v c (slice_index words (at + HEADER_WORDS + slot))))
+  pop_keeps : (at slot : ℕ) (c : Command) → CanPop o p at slot c →
+      AddsCommand o words views h p.number c (set words (at + HEADER_WORDS + slot) 0)
+      (set views id (slot_swapped v c (slice_index words (at + HEADER_WORDS + slot))))
   pop_keeps at slot c can =
       let f = found at can.stack in
       let x = f.thing in
@@ -306,16 +373,25 @@ module _ (o : Opening) (words : List ℕ) (views : List Seen) (h : Keeps o words
       let depth = t.depth in
       let count : (header_of x.node).fields ≡ f.size = ap (λ (k : Header). k.fields) f.head in
       let room : at + HEADER_WORDS + length t.front < length words = omega arith in
-      let pops : stack_popped (eqb x.name.maker p.number) st.node ≡ (made, reply.Given t.top) = ap (λ b. stack_popped b st.node) (eq-eqb x.name.maker p.number f.mine) ∙ ap (λ n. stack_popped true n) f.node_is ∙ (λ i. (Stack f.size (t.front_is i), given_or reply.StackEmpty (t.last_is i))) in
-      let does : step W p.number C ≡ (v', reply.Given t.top) = step_pop W p.number can.dest object x.name st.node made (reply.Given t.top) f.refers st.there pops in
-      let owes : owed_by W p.number C ≡ names_among (t.top ∷ []) = owes_pop W p.number can.dest object x.name st.node f.refers st.there ∙ ap (λ b. names_among (top_held b st.node)) (eq-eqb x.name.maker p.number f.mine) ∙ ap (λ n. names_among (top_held true n)) f.node_is ∙ ap (λ l. names_among (option_to_list l)) t.last_is in
+      let pops : stack_popped (eqb x.name.maker p.number) st.node ≡ (made, reply.Given t.top) =
+      ap (λ b. stack_popped b st.node) (eq-eqb x.name.maker p.number f.mine) ∙ ap (λ n. stack_popped true n) f.node_is ∙
+      (λ i. (Stack f.size (t.front_is i), given_or reply.StackEmpty (t.last_is i))) in
+      let does : step W p.number C ≡ (v', reply.Given t.top) =
+      step_pop W p.number can.dest object x.name st.node made (reply.Given t.top) f.refers st.there pops in
+      let owes : owed_by W p.number C ≡ names_among (t.top ∷ []) = owes_pop W p.number can.dest object x.name st.node f.refers st.there ∙
+      ap (λ b. names_among (top_held b st.node)) (eq-eqb x.name.maker p.number f.mine) ∙ ap (λ n. names_among (top_held true n)) f.node_is ∙
+      ap (λ l. names_among (option_to_list l)) t.last_is in
       let now_ = node_now o words views h id v here p is x f.there made in
       let q : MutatorState = world_holding (state_of u p.number) can.dest t.top in
       let exists : p.number < length u.mutators = subst (λ n. p.number < n) (sym (as_many W x.name st.node made st.there)) fits.exists in
       let kept = nodes_kept u p.number q exists refl in
-      let all : AllMean P (set words (at + HEADER_WORDS + length t.front) 0) (at + HEADER_WORDS) t.front = all_popped P words (at + HEADER_WORDS) 0 t.front t.top (subst (λ l. AllMean P words (at + HEADER_WORDS) l) t.values_are f.means) in
-      let rest : AreUnset (set words (at + HEADER_WORDS + length t.front) 0) (at + HEADER_WORDS) (length t.front) f.size = unset_popped words (at + HEADER_WORDS) (length t.front) f.size room (subst (λ n. AreUnset words (at + HEADER_WORDS) n f.size) long f.unset) in
-      let fields : HasSlots P (set words (at + HEADER_WORDS + slot) 0) (at + HEADER_WORDS) (slots_of made) = subst (λ n. HasSlots P (set words (at + HEADER_WORDS + n) 0) (at + HEADER_WORDS) (slots_of made)) (sym t.depth) (slots_of_fields P (set words (at + HEADER_WORDS + length t.front) 0) (at + HEADER_WORDS) made (all, rest)) in
+      let all : AllMean P (set words (at + HEADER_WORDS + length t.front) 0) (at + HEADER_WORDS) t.front =
+      all_popped P words (at + HEADER_WORDS) 0 t.front t.top (subst (λ l. AllMean P words (at + HEADER_WORDS) l) t.values_are f.means) in
+      let rest : AreUnset (set words (at + HEADER_WORDS + length t.front) 0) (at + HEADER_WORDS) (length t.front) f.size =
+      unset_popped words (at + HEADER_WORDS) (length t.front) f.size room (subst (λ n. AreUnset words (at + HEADER_WORDS) n f.size) long f.unset) in
+      let fields : HasSlots P (set words (at + HEADER_WORDS + slot) 0) (at + HEADER_WORDS) (slots_of made) =
+      subst (λ n. HasSlots P (set words (at + HEADER_WORDS + n) 0) (at + HEADER_WORDS) (slots_of made)) (sym t.depth)
+      (slots_of_fields P (set words (at + HEADER_WORDS + length t.front) 0) (at + HEADER_WORDS) made (all, rest)) in
       let ch : Changes o words views h id v here p is x f.there slot 0 made v' = record {
         within = omega arith;
         may = subst (λ (k : Header). MayChange k.kind slot) (sym f.head) tt;
@@ -327,31 +403,55 @@ module _ (o : Opening) (words : List ℕ) (views : List Seen) (h : Keeps o words
         stacks = λ size values e. f.mine;
       } in
       let g : List ℕ → List ℕ = λ ws. take (length ws - 1) ws in
-      let more : (ws : List ℕ) → ListMeans P ws f.values → ListMeans P (g ws) t.front = λ ws l. front_means P ws t.front t.top (subst (λ k. ListMeans P ws k) t.values_are l) in
+      let more : (ws : List ℕ) → ListMeans P ws f.values → ListMeans P (g ws) t.front = λ ws l.
+      front_means P ws t.front t.top (subst (λ k. ListMeans P ws k) t.values_are l) in
       let half : operand_word o p object / 2 ≡ at = let e = can.stack.object_word in omega arith in
       let popped : Hand = record (hand_now o p) { stacks = with_slots (hand_now o p).stacks at g } in
-      let left : leaves (hand_now o p) C (word n) ≡ holding popped can.dest n = ap (λ a. holding (record (hand_now o p) { stacks = with_slots (hand_now o p).stacks a g }) can.dest n) half in
-      subst (λ (d : Command). AddsCommand o words views h p.number d (set words (at + HEADER_WORDS + slot) 0) (set views id (slot_swapped v d n))) (sym can.command)
-      (subst (λ l. AddsCommand o words views h p.number C (set words (at + HEADER_WORDS + slot) 0) (set views id (record v { parts = first_changed (λ q. doing (finding q n) C (word n) (owed_word v.opening.marking n)) l }))) (sym is.alone)
-      (subst (λ (y : Opening). AddsCommand o words views h p.number C (set words (at + HEADER_WORDS + slot) 0) (set views id (record v { parts = doing (finding p n) C (word n) (owed_word y.marking n) ∷ [] }))) (sym (same_opening o words views h id v here p is))
-      (subst (λ a. AddsCommand o words views h p.number C (set words (a + HEADER_WORDS + slot) 0) (set views id (record v { parts = doing (finding p n) C (word n) (owed_word o.marking n) ∷ [] }))) f.is_at
+      let left : leaves (hand_now o p) C (word n) ≡ holding popped can.dest n =
+      ap (λ a. holding (record (hand_now o p) { stacks = with_slots (hand_now o p).stacks a g }) can.dest n) half in
+      subst (λ (d : Command).
+      AddsCommand o words views h p.number d (set words (at + HEADER_WORDS + slot) 0) (set views id (slot_swapped v d n))) (sym can.command)
+      (subst (λ l. AddsCommand o words views h p.number C (set words (at + HEADER_WORDS + slot) 0) (set views id (record v {
+        parts =
+            first_changed (λ q. doing (finding q n) C (word n) (owed_word v.opening.marking n)) l;
+      }))) (sym is.alone)
+      (subst (λ (y : Opening). AddsCommand o words views h p.number C (set words (at + HEADER_WORDS + slot) 0) (set views id (record v {
+        parts =
+            doing (finding p n) C (word n) (owed_word y.marking n) ∷ [];
+      }))) (sym (same_opening o words views h id v here p is))
+      (subst (λ a. AddsCommand o words views h p.number C (set words (a + HEADER_WORDS + slot) 0) (set views id (record v {
+        parts =
+            doing (finding p n) C (word n) (owed_word o.marking n) ∷ [];
+      }))) f.is_at
       (field_law o words views h id v here p is x f.there slot 0 made C (reply.Given t.top) (word n) v' (p.found ++ n ∷ []) (owed_word o.marking n) ch
       (subst (λ (d : Command). CanGive o p d) can.command can.gives) does (t.top, refl, t.means)
-      (subst (λ (k : Hand). IsHand o h.born v' p.number k) (sym left) (register_in o words views h id v here p is u popped can.dest n t.top exists (stack_hand at u g (node_frame W x.name st.node made st.there p.number)) t.means))
-      (subst (λ ns. Owes o.marking P (p.owed ++ owed_word o.marking n) (names_of S.owed p.number ++ ns)) (sym owes) (owes_old o words views h id v here p is o.marking p.owed (names_of S.owed p.number) n t.top fits.owed t.means))
-      (subst (λ ns. Owes true P (p.found ++ n ∷ []) (names_of S.owed p.number ++ ns)) (sym owes) (owes_old o words views h id v here p is true p.found (names_of S.owed p.number) n t.top fits.found t.means))
+      (subst (λ (k : Hand).
+      IsHand o h.born v' p.number k) (sym left) (register_in o words views h id v here p is u popped can.dest n t.top exists
+      (stack_hand at u g (node_frame W x.name st.node made st.there p.number)) t.means))
+      (subst (λ ns. Owes o.marking P (p.owed ++ owed_word o.marking n) (names_of S.owed p.number ++
+      ns)) (sym owes) (owes_old o words views h id v here p is o.marking p.owed (names_of S.owed p.number) n t.top fits.owed t.means))
+      (subst (λ ns. Owes true P (p.found ++ n ∷ []) (names_of S.owed p.number ++
+      ns)) (sym owes) (owes_old o words views h id v here p is true p.found (names_of S.owed p.number) n t.top fits.found t.means))
       (stack_own at can.stack f made v' g t.front (leaves (hand_now o p) C (word n)) (ap (λ (k : Hand). k.stacks) left) refl ch.mine ch.others more)))))
 
-  pub slot_keeps : (at slot w : ℕ) (c : Command) → CanSlot o p at slot w c → AddsCommand o words views h p.number c (set words (at + HEADER_WORDS + slot) w) (set views id (slot_swapped v c (slice_index words (at + HEADER_WORDS + slot))))
+  pub slot_keeps : (at slot w : ℕ) (c : Command) → CanSlot o p at slot w c →
+      AddsCommand o words views h p.number c (set words (at + HEADER_WORDS + slot) w)
+      (set views id (slot_swapped v c (slice_index words (at + HEADER_WORDS + slot))))
   slot_keeps at slot w c (inl can) =
       let n : ℕ = slice_index words (at + HEADER_WORDS + slot) in
-      subst (λ (d : Command). AddsCommand o words views h p.number d (set words (at + HEADER_WORDS + slot) w) (set views id (slot_swapped v d n))) (sym can.command)
-      (subst (λ (d : Command). AddsCommand o words views h p.number d (set words (at + HEADER_WORDS + slot) w) (set views id (answered v d (plain reply.Fine)))) can.command (push_keeps at slot w c can))
-  slot_keeps at slot w c (inr (can, z)) = subst (λ k. AddsCommand o words views h p.number c (set words (at + HEADER_WORDS + slot) k) (set views id (slot_swapped v c (slice_index words (at + HEADER_WORDS + slot))))) (sym z) (pop_keeps at slot c can)
+      subst (λ (d : Command).
+      AddsCommand o words views h p.number d (set words (at + HEADER_WORDS + slot) w) (set views id (slot_swapped v d n))) (sym can.command)
+      (subst (λ (d : Command).
+      AddsCommand o words views h p.number d (set words (at + HEADER_WORDS + slot) w) (set views id (answered v d (plain reply.Fine))))
+      can.command (push_keeps at slot w c can))
+  slot_keeps at slot w c (inr (can, z)) =
+      subst (λ k. AddsCommand o words views h p.number c (set words (at + HEADER_WORDS + slot) k)
+      (set views id (slot_swapped v c (slice_index words (at + HEADER_WORDS + slot))))) (sym z) (pop_keeps at slot c can)
 
   -- a word that a pop finds
   pub pop_safe : (at slot : ℕ) (c : Command) → CanPop o p at slot c → IsSafe o (slice_index words (at + HEADER_WORDS + slot))
-  pop_safe at slot c can = let t = top_of at slot c can (found at can.stack) in safe_word o words views h id v here p is (slice_index words (at + HEADER_WORDS + slot)) t.top t.means
+  pop_safe at slot c can = let t = top_of at slot c can (found at can.stack) in
+      safe_word o words views h id v here p is (slice_index words (at + HEADER_WORDS + slot)) t.top t.means
 
   -- and one that a push finds: there is none
   pub slot_safe : (at slot w : ℕ) (c : Command) → CanSlot o p at slot w c → IsSafe o (slice_index words (at + HEADER_WORDS + slot))
@@ -377,11 +477,18 @@ module _ (o : Opening) (words : List ℕ) (views : List Seen) (h : Keeps o words
       let long = as_long P f.slots f.values f.list in
       let full = can.full f.slots f.listed in
       let size = f.size_is in
-      let pushes : stack_pushed (eqb x.name.maker p.number) st.node val ≡ (st.node, reply.StackFull) = ap (λ b. stack_pushed b st.node val) (eq-eqb x.name.maker p.number f.mine) ∙ ap (λ n. stack_pushed true n val) f.node_is ∙ ap (λ b. cond {A = Node × Reply} b (Stack f.size (f.values ++ val ∷ []), reply.Fine) (Stack f.size f.values, reply.StackFull)) (le-ltb (length f.values) f.size (omega arith)) ∙ ap (λ (n : Node). (n, reply.StackFull)) (sym f.node_is) in
-      let does : step W p.number C ≡ (u, reply.StackFull) = step_push W p.number object can.value x.name st.node st.node reply.StackFull f.refers st.there pushes in
+      let pushes : stack_pushed (eqb x.name.maker p.number) st.node val ≡ (st.node, reply.StackFull) =
+      ap (λ b. stack_pushed b st.node val) (eq-eqb x.name.maker p.number f.mine) ∙ ap (λ n. stack_pushed true n val) f.node_is ∙
+      ap (λ b. cond {A = Node × Reply} b (Stack f.size (f.values ++ val ∷ []), reply.Fine) (
+        Stack f.size f.values,
+        reply.StackFull,
+      )) (le-ltb (length f.values) f.size (omega arith)) ∙ ap (λ (n : Node). (n, reply.StackFull)) (sym f.node_is) in
+      let does : step W p.number C ≡ (u, reply.StackFull) =
+      step_push W p.number object can.value x.name st.node st.node reply.StackFull f.refers st.there pushes in
       let again = node_again o words views h id v here p is x f.there in
       subst (λ (d : Command). AddsCommand o words views h p.number d words (set views id (slot_refused v d))) (sym can.command)
-      (still_law o words views h id v here p is C reply.StackFull (plain reply.StackFull) u (subst (λ (d : Command). CanGive o p d) can.command can.gives) does again (owes_push W p.number object can.value x.name st.node f.refers st.there) refl
+      (still_law o words views h id v here p is C reply.StackFull (plain reply.StackFull) u (subst (λ (d : Command).
+      CanGive o p d) can.command can.gives) does again (owes_push W p.number object can.value x.name st.node f.refers st.there) refl
       (moves_kept o words views h id v here p is u (hand_now o p) (node_frame W x.name st.node st.node st.there p.number) fits.hand) refl)
   barred_keeps at c (inr can) =
       let f = found at can.stack in
@@ -390,13 +497,22 @@ module _ (o : Opening) (words : List ℕ) (views : List Seen) (h : Keeps o words
       let object : Operand = can.stack.object in
       let C : Command = Pop can.dest object in
       let u : World = with_node W x.name st.node in
-      let none : f.values ≡ [] = no_values f.values (elim (cases_lt 0 can.stack.header.fields) [ inl some_ ↦ sym (as_long P f.slots f.values f.list) ∙ can.empty f.slots f.listed some_ | inr le ↦ let size = f.size_is in let sized = f.sized in omega arith ]) in
+      let none : f.values ≡ [] = no_values f.values (elim (cases_lt 0 can.stack.header.fields) [
+        | inl some_ ↦
+            sym (as_long P f.slots f.values f.list) ∙ can.empty f.slots f.listed some_
+        | inr le ↦ let size = f.size_is in let sized = f.sized in
+            omega arith
+      ]) in
       let was : st.node ≡ Stack f.size [] = f.node_is ∙ ap (λ l. Stack f.size l) none in
       let mine = eq-eqb x.name.maker p.number f.mine in
-      let pops : stack_popped (eqb x.name.maker p.number) st.node ≡ (st.node, reply.StackEmpty) = ap (λ b. stack_popped b st.node) mine ∙ ap (λ n. stack_popped true n) was ∙ ap (λ (n : Node). (n, reply.StackEmpty)) (sym was) in
-      let does : step W p.number C ≡ (u, reply.StackEmpty) = step_pop W p.number can.dest object x.name st.node st.node reply.StackEmpty f.refers st.there pops in
-      let owes : owed_by W p.number C ≡ [] = owes_pop W p.number can.dest object x.name st.node f.refers st.there ∙ ap (λ b. names_among (top_held b st.node)) mine ∙ ap (λ n. names_among (top_held true n)) was in
+      let pops : stack_popped (eqb x.name.maker p.number) st.node ≡ (st.node, reply.StackEmpty) = ap (λ b. stack_popped b st.node) mine ∙
+      ap (λ n. stack_popped true n) was ∙ ap (λ (n : Node). (n, reply.StackEmpty)) (sym was) in
+      let does : step W p.number C ≡ (u, reply.StackEmpty) =
+      step_pop W p.number can.dest object x.name st.node st.node reply.StackEmpty f.refers st.there pops in
+      let owes : owed_by W p.number C ≡ [] = owes_pop W p.number can.dest object x.name st.node f.refers st.there ∙
+      ap (λ b. names_among (top_held b st.node)) mine ∙ ap (λ n. names_among (top_held true n)) was in
       let again = node_again o words views h id v here p is x f.there in
       subst (λ (d : Command). AddsCommand o words views h p.number d words (set views id (slot_refused v d))) (sym can.command)
-      (still_law o words views h id v here p is C reply.StackEmpty (plain reply.StackEmpty) u (subst (λ (d : Command). CanGive o p d) can.command can.gives) does again owes refl
+      (still_law o words views h id v here p is C reply.StackEmpty (plain reply.StackEmpty) u (subst (λ (d : Command).
+      CanGive o p d) can.command can.gives) does again owes refl
       (moves_kept o words views h id v here p is u (hand_now o p) (node_frame W x.name st.node st.node st.there p.number) fits.hand) refl)

@@ -44,24 +44,36 @@ use Rattle.nmgc_round.proofs.Standing.{placed}
 use Rattle.nmgc_round.proofs.Keeping.{acts}
 
 -- a field that isn't there, or isn't to be read
-get_refused : (n : Node) (index : ℕ) → (IsReadable (header_of n).kind → (header_of n).fields ≤ index) → field_read n index ≡ get_refusal (header_word (header_of n))
-get_refused (node.Con tag values) index bad = let e : header_word (header_of (node.Con tag values)) % 8 ≡ 1 = omega arith in ap (λ o. given_or NoField o) (slice_get_past values index (bad tt)) ∙ sym (ap (λ k. cond (leb k 3) NoField WrongKind) e)
+get_refused : (n : Node) (index : ℕ) → (IsReadable (header_of n).kind → (header_of n).fields ≤ index) →
+    field_read n index ≡ get_refusal (header_word (header_of n))
+get_refused (node.Con tag values) index bad = let e : header_word (header_of (node.Con tag values)) % 8 ≡ 1 = omega arith in
+    ap (λ o. given_or NoField o) (slice_get_past values index (bad tt)) ∙ sym (ap (λ k. cond (leb k 3) NoField WrongKind) e)
 get_refused (node.Var v) index bad = let le : 1 ≤ index = bad tt in ap (λ o. given_or NoField o) (slice_get_past (v ∷ []) index le)
-get_refused (node.Arr values) index bad = let e : header_word (header_of (node.Arr values)) % 8 ≡ 3 = omega arith in ap (λ o. given_or NoField o) (slice_get_past values index (bad tt)) ∙ sym (ap (λ k. cond (leb k 3) NoField WrongKind) e)
-get_refused (node.Thunk free result) index bad = let e : header_word (header_of (node.Thunk free result)) % 8 ≡ 4 = omega arith in sym (ap (λ k. cond (leb k 3) NoField WrongKind) e)
+get_refused (node.Arr values) index bad = let e : header_word (header_of (node.Arr values)) % 8 ≡ 3 = omega arith in
+    ap (λ o. given_or NoField o) (slice_get_past values index (bad tt)) ∙ sym (ap (λ k. cond (leb k 3) NoField WrongKind) e)
+get_refused (node.Thunk free result) index bad = let e : header_word (header_of (node.Thunk free result)) % 8 ≡ 4 = omega arith in
+    sym (ap (λ k. cond (leb k 3) NoField WrongKind) e)
 get_refused (node.Weak parts) index bad = refl
-get_refused (node.Stack size values) index bad = let e : header_word (header_of (node.Stack size values)) % 8 ≡ 6 = omega arith in sym (ap (λ k. cond (leb k 3) NoField WrongKind) e)
+get_refused (node.Stack size values) index bad = let e : header_word (header_of (node.Stack size values)) % 8 ≡ 6 = omega arith in
+    sym (ap (λ k. cond (leb k 3) NoField WrongKind) e)
 
 abbrev set_reply : ℕ → Reply
 set_reply k = cond (eqb k 1) Fixed (cond (leb k 3) NoField WrongKind)
 
-set_refused : (n : Node) (index : ℕ) (v : Value) → (IsWritable (header_of n).kind → (header_of n).fields ≤ index) → field_set n index v ≡ (n, set_refusal (header_word (header_of n)))
-set_refused (node.Con tag values) index v bad = let e : header_word (header_of (node.Con tag values)) % 8 ≡ 1 = omega arith in ap (λ (r : Reply). (node.Con tag values, r)) (sym (ap set_reply e))
-set_refused (node.Var old) index v bad = let le : 1 ≤ index = bad tt in ap (λ b. cond {A = Node × Reply} b (node.Var v, Fine) (node.Var old, NoField)) (ne_eqb index 0 (λ z. omega arith))
-set_refused (node.Arr values) index v bad = let e : header_word (header_of (node.Arr values)) % 8 ≡ 3 = omega arith in ap (λ b. cond {A = Node × Reply} b (node.Arr (set values index v), Fine) (node.Arr values, NoField)) (le-ltb index (length values) (bad tt)) ∙ ap (λ (r : Reply). (node.Arr values, r)) (sym (ap set_reply e))
-set_refused (node.Thunk free result) index v bad = let e : header_word (header_of (node.Thunk free result)) % 8 ≡ 4 = omega arith in ap (λ (r : Reply). (node.Thunk free result, r)) (sym (ap set_reply e))
+set_refused : (n : Node) (index : ℕ) (v : Value) → (IsWritable (header_of n).kind → (header_of n).fields ≤ index) →
+    field_set n index v ≡ (n, set_refusal (header_word (header_of n)))
+set_refused (node.Con tag values) index v bad = let e : header_word (header_of (node.Con tag values)) % 8 ≡ 1 = omega arith in
+    ap (λ (r : Reply). (node.Con tag values, r)) (sym (ap set_reply e))
+set_refused (node.Var old) index v bad = let le : 1 ≤ index = bad tt in
+    ap (λ b. cond {A = Node × Reply} b (node.Var v, Fine) (node.Var old, NoField)) (ne_eqb index 0 (λ z. omega arith))
+set_refused (node.Arr values) index v bad = let e : header_word (header_of (node.Arr values)) % 8 ≡ 3 = omega arith in
+    ap (λ b. cond {A = Node × Reply} b (node.Arr (set values index v), Fine) (node.Arr values, NoField)) (le-ltb index (length values) (bad tt)) ∙
+    ap (λ (r : Reply). (node.Arr values, r)) (sym (ap set_reply e))
+set_refused (node.Thunk free result) index v bad = let e : header_word (header_of (node.Thunk free result)) % 8 ≡ 4 = omega arith in
+    ap (λ (r : Reply). (node.Thunk free result, r)) (sym (ap set_reply e))
 set_refused (node.Weak parts) index v bad = refl
-set_refused (node.Stack size values) index v bad = let e : header_word (header_of (node.Stack size values)) % 8 ≡ 6 = omega arith in ap (λ (r : Reply). (node.Stack size values, r)) (sym (ap set_reply e))
+set_refused (node.Stack size values) index v bad = let e : header_word (header_of (node.Stack size values)) % 8 ≡ 6 = omega arith in
+    ap (λ (r : Reply). (node.Stack size values, r)) (sym (ap set_reply e))
 
 -- it owes nothing then
 none_owed : (n : Node) (index : ℕ) → (IsWritable (header_of n).kind → (header_of n).fields ≤ index) → field_held n index ≡ None
@@ -73,28 +85,38 @@ none_owed (node.Weak parts) index bad = refl
 none_owed (node.Stack size values) index bad = refl
 
 -- the header that is named at a place is the word there
-pub header_there : (fixed : List FixedWord) (at w : ℕ) → ((f : FixedWord) → Contains fixed f → f.at ≡ at → f.offset ≡ 0 → f.word ≡ w) → Contains fixed (record { at = at; offset = 0; word = w }) → header_at fixed at ≡ w
+pub header_there : (fixed : List FixedWord) (at w : ℕ) → ((f : FixedWord) → Contains fixed f → f.at ≡ at → f.offset ≡ 0 → f.word ≡ w) →
+    Contains fixed (record { at = at; offset = 0; word = w }) → header_at fixed at ≡ w
 header_there [] at w stand c = absurd (let lt = c.1 in omega arith)
 header_there (f ∷ fs) at w stand c = by_test (eqb f.at at && eqb f.offset 0) refl (λ d. header_there fs at w (λ g h. stand g (contains_tail f fs g h)) d)
   where
-    by_test : (b : Bool) → (eqb f.at at && eqb f.offset 0) ≡ b → (Contains fs (record { at = at; offset = 0; word = w }) → header_at fs at ≡ w) → cond b f.word (header_at fs at) ≡ w
+    by_test : (b : Bool) → (eqb f.at at && eqb f.offset 0) ≡ b → (Contains fs (record { at = at; offset = 0; word = w }) → header_at fs at ≡ w) →
+        cond b f.word (header_at fs at) ≡ w
     by_test true e rec = let t = and_parts (eqb f.at at) (eqb f.offset 0) e in stand f (contains_head f fs) (eqb-true f.at at t.0) (eqb-true f.offset 0 t.1)
     by_test false e rec = elim (contains_cases f fs (record { at = at; offset = 0; word = w }) c) [
       | inl same ↦
-          let yes : (eqb f.at at && eqb f.offset 0) ≡ true = ap (λ (g : FixedWord). eqb g.at at && eqb g.offset 0) same ∙ ap (λ (b : Bool). b && true) (eq-eqb at at refl) in
+          let yes : (eqb f.at at && eqb f.offset 0) ≡ true = ap (λ (g : FixedWord). eqb g.at at && eqb g.offset 0) same ∙
+          ap (λ (b : Bool). b && true) (eq-eqb at at refl) in
           let bad : true ≡ false = sym yes ∙ e in
           absurd cc
       | inr d ↦ rec d
     ]
 
 -- `cas` of a field that isn't there, or isn't to be written
-cas_refused : (n : Node) (index : ℕ) (e v : Value) → (IsWritable (header_of n).kind → (header_of n).fields ≤ index) → field_exchanged n index e v ≡ (n, set_refusal (header_word (header_of n)))
-cas_refused (node.Con tag values) index e v bad = let k : header_word (header_of (node.Con tag values)) % 8 ≡ 1 = omega arith in ap (λ (r : Reply). (node.Con tag values, r)) (sym (ap set_reply k))
-cas_refused (node.Var old) index e v bad = let le : 1 ≤ index = bad tt in ap (λ o. exchanged_at o e (node.Var old) (node.Var v)) (slice_get_past (old ∷ []) index le)
-cas_refused (node.Arr values) index e v bad = let k : header_word (header_of (node.Arr values)) % 8 ≡ 3 = omega arith in ap (λ o. exchanged_at o e (node.Arr values) (node.Arr (set values index v))) (slice_get_past values index (bad tt)) ∙ ap (λ (r : Reply). (node.Arr values, r)) (sym (ap set_reply k))
-cas_refused (node.Thunk free result) index e v bad = let k : header_word (header_of (node.Thunk free result)) % 8 ≡ 4 = omega arith in ap (λ (r : Reply). (node.Thunk free result, r)) (sym (ap set_reply k))
+cas_refused : (n : Node) (index : ℕ) (e v : Value) → (IsWritable (header_of n).kind → (header_of n).fields ≤ index) →
+    field_exchanged n index e v ≡ (n, set_refusal (header_word (header_of n)))
+cas_refused (node.Con tag values) index e v bad = let k : header_word (header_of (node.Con tag values)) % 8 ≡ 1 = omega arith in
+    ap (λ (r : Reply). (node.Con tag values, r)) (sym (ap set_reply k))
+cas_refused (node.Var old) index e v bad = let le : 1 ≤ index = bad tt in
+    ap (λ o. exchanged_at o e (node.Var old) (node.Var v)) (slice_get_past (old ∷ []) index le)
+cas_refused (node.Arr values) index e v bad = let k : header_word (header_of (node.Arr values)) % 8 ≡ 3 = omega arith in
+    ap (λ o. exchanged_at o e (node.Arr values) (node.Arr (set values index v))) (slice_get_past values index (bad tt)) ∙
+    ap (λ (r : Reply). (node.Arr values, r)) (sym (ap set_reply k))
+cas_refused (node.Thunk free result) index e v bad = let k : header_word (header_of (node.Thunk free result)) % 8 ≡ 4 = omega arith in
+    ap (λ (r : Reply). (node.Thunk free result, r)) (sym (ap set_reply k))
 cas_refused (node.Weak parts) index e v bad = refl
-cas_refused (node.Stack size values) index e v bad = let k : header_word (header_of (node.Stack size values)) % 8 ≡ 6 = omega arith in ap (λ (r : Reply). (node.Stack size values, r)) (sym (ap set_reply k))
+cas_refused (node.Stack size values) index e v bad = let k : header_word (header_of (node.Stack size values)) % 8 ≡ 6 = omega arith in
+    ap (λ (r : Reply). (node.Stack size values, r)) (sym (ap set_reply k))
 
 -- what is no thunk
 no_thunk : (n : Node) (v : Value) → ((header_of n).kind ≡ kind.Thunk → ⊥) → (thunk_updated n v ≡ (n, WrongKind)) × (free_held n ≡ [])
@@ -114,7 +136,8 @@ no_result (node.Weak parts) bad = refl
 no_result (node.Stack size values) bad = refl
 
 -- what is no weak pointer
-no_weak : (name : Name) (n : Node) → ((header_of n).kind ≡ kind.Weak → ⊥) → (value_read n ≡ WrongKind) × (value_held (Some n) ≡ []) × (weak_finalised n ≡ (n, WrongKind)) × (weak_held name n ≡ [])
+no_weak : (name : Name) (n : Node) → ((header_of n).kind ≡ kind.Weak → ⊥) → (value_read n ≡ WrongKind) × (value_held (Some n) ≡ []) ×
+    (weak_finalised n ≡ (n, WrongKind)) × (weak_held name n ≡ [])
 no_weak name (node.Con tag values) bad = (refl, refl, refl, refl)
 no_weak name (node.Var x) bad = (refl, refl, refl, refl)
 no_weak name (node.Arr values) bad = (refl, refl, refl, refl)
@@ -135,22 +158,29 @@ top_none true (node.Thunk free result) bad = refl
 top_none true (node.Weak parts) bad = refl
 top_none true (node.Stack size values) bad = absurd (bad refl)
 
-no_stack : (own : Bool) (n : Node) (v : Value) → ((header_of n).kind ≡ kind.Stack → ⊥) → (stack_pushed own n v ≡ (n, owner_refusal (header_word (header_of n)))) × (stack_popped own n ≡ (n, owner_refusal (header_word (header_of n)))) × (top_held own n ≡ [])
-no_stack own (node.Con tag values) v bad = let k : header_word (header_of (node.Con tag values)) % 8 ≡ 1 = omega arith in let r = ap (λ (r : Reply). (node.Con tag values, r)) (sym (ap owner_reply k)) in (r, r, top_none own (node.Con tag values) bad)
+no_stack : (own : Bool) (n : Node) (v : Value) → ((header_of n).kind ≡ kind.Stack → ⊥) →
+    (stack_pushed own n v ≡ (n, owner_refusal (header_word (header_of n)))) ×
+    (stack_popped own n ≡ (n, owner_refusal (header_word (header_of n)))) × (top_held own n ≡ [])
+no_stack own (node.Con tag values) v bad = let k : header_word (header_of (node.Con tag values)) % 8 ≡ 1 = omega arith in
+    let r = ap (λ (r : Reply). (node.Con tag values, r)) (sym (ap owner_reply k)) in (r, r, top_none own (node.Con tag values) bad)
 no_stack own (node.Var x) v bad = (refl, refl, top_none own (node.Var x) bad)
-no_stack own (node.Arr values) v bad = let k : header_word (header_of (node.Arr values)) % 8 ≡ 3 = omega arith in let r = ap (λ (r : Reply). (node.Arr values, r)) (sym (ap owner_reply k)) in (r, r, top_none own (node.Arr values) bad)
-no_stack own (node.Thunk free result) v bad = let k : header_word (header_of (node.Thunk free result)) % 8 ≡ 4 = omega arith in let r = ap (λ (r : Reply). (node.Thunk free result, r)) (sym (ap owner_reply k)) in (r, r, top_none own (node.Thunk free result) bad)
+no_stack own (node.Arr values) v bad = let k : header_word (header_of (node.Arr values)) % 8 ≡ 3 = omega arith in
+    let r = ap (λ (r : Reply). (node.Arr values, r)) (sym (ap owner_reply k)) in (r, r, top_none own (node.Arr values) bad)
+no_stack own (node.Thunk free result) v bad = let k : header_word (header_of (node.Thunk free result)) % 8 ≡ 4 = omega arith in
+    let r = ap (λ (r : Reply). (node.Thunk free result, r)) (sym (ap owner_reply k)) in (r, r, top_none own (node.Thunk free result) bad)
 no_stack own (node.Weak parts) v bad = (refl, refl, top_none own (node.Weak parts) bad)
 no_stack own (node.Stack size values) v bad = absurd (bad refl)
 
 -- a stack of another
-foreign_stack : (n : Node) (v : Value) → (header_of n).kind ≡ kind.Stack → (stack_pushed false n v ≡ (n, owner_refusal (header_word (header_of n)))) × (stack_popped false n ≡ (n, owner_refusal (header_word (header_of n))))
+foreign_stack : (n : Node) (v : Value) → (header_of n).kind ≡ kind.Stack →
+    (stack_pushed false n v ≡ (n, owner_refusal (header_word (header_of n)))) × (stack_popped false n ≡ (n, owner_refusal (header_word (header_of n))))
 foreign_stack (node.Con tag values) v e = absurd cc
 foreign_stack (node.Var x) v e = absurd cc
 foreign_stack (node.Arr values) v e = absurd cc
 foreign_stack (node.Thunk free result) v e = absurd cc
 foreign_stack (node.Weak parts) v e = absurd cc
-foreign_stack (node.Stack size values) v e = let k : header_word (header_of (node.Stack size values)) % 8 ≡ 6 = omega arith in let r = ap (λ (r : Reply). (node.Stack size values, r)) (sym (ap owner_reply k)) in (r, r)
+foreign_stack (node.Stack size values) v e = let k : header_word (header_of (node.Stack size values)) % 8 ≡ 6 = omega arith in
+    let r = ap (λ (r : Reply). (node.Stack size values, r)) (sym (ap owner_reply k)) in (r, r)
 
 -- a name's word tells its maker
 pub one_maker : (a b : Name) → IsName a → IsName b → name_word a ≡ name_word b → a.maker ≡ b.maker
@@ -194,7 +224,8 @@ same_self value.Nil = refl
 same_self (value.Number n) = eq-eqb n n refl
 same_self (value.Ref name) = is_same_name-refl name
 
-module _ (o : Opening) (words : List ℕ) (views : List Seen) (h : Keeps o words views) (id : ℕ) (v : Seen) (here : get_elem? views id ≡ some v) (p : Part) (is : IsMutator v p) where
+module _ (o : Opening) (words : List ℕ) (views : List Seen) (h : Keeps o words views) (id : ℕ) (v : Seen) (here : get_elem? views id ≡
+    some v) (p : Part) (is : IsMutator v p) where
   abbrev W : World
   W = (now o h.events).world
 
@@ -215,21 +246,34 @@ module _ (o : Opening) (words : List ℕ) (views : List Seen) (h : Keeps o words
       let f : Part → Part = λ q. doing q c a [] in
       let g : Part → Part = λ q. doing q c (told_by (hand_now v.opening q) q.fixed c) [] in
       let here' : told_by (hand_now v.opening p) p.fixed c ≡ a = ap (λ (y : Opening). told_by (hand_now y p) p.fixed c) same ∙ e in
-      ap (λ (l : List Part). V (first_changed f l)) is.alone ∙ ap (λ (b : Answer). V (doing p c b [] ∷ [])) (sym here') ∙ sym (ap (λ (l : List Part). V (first_changed g l)) is.alone)
+      ap (λ (l : List Part). V (first_changed f l)) is.alone ∙ ap (λ (b : Answer). V (doing p c b [] ∷ [])) (sym here') ∙
+      sym (ap (λ (l : List Part). V (first_changed g l)) is.alone)
 
-  pub tell : (c : Command) (r : Reply) (a : Answer) (u : World) → told_by (hand_now o p) p.fixed c ≡ a → CanGive o p c → step W p.number c ≡ (u, r) → ((n : Name) → node_of u n ≡ node_of W n) → owed_by W p.number c ≡ []
-      → Answers P a r → IsHand o h.born u p.number (leaves (hand_now o p) c a) → (leaves (hand_now o p) c a).stacks ≡ (hand_now o p).stacks → AddsCommand o words views h p.number c words (set views id (told v c))
-  tell c r a u e gives does same owes says hand left = subst (λ (w : Seen). AddsCommand o words views h p.number c words (set views id w)) (told_is c a e) (still_law o words views h id v here p is c r a u gives does same owes says hand left)
+  pub tell : (c : Command) (r : Reply) (a : Answer) (u : World) → told_by (hand_now o p) p.fixed c ≡ a → CanGive o p c →
+      step W p.number c ≡ (u, r) → ((n : Name) → node_of u n ≡ node_of W n) → owed_by W p.number c ≡ []
+      → Answers P a r → IsHand o h.born u p.number (leaves (hand_now o p) c a) → (leaves (hand_now o p) c a).stacks ≡ (hand_now o p).stacks →
+      AddsCommand o words views h p.number c words (set views id (told v c))
+  tell c r a u e gives does same owes says hand left = subst (λ (w : Seen).
+      AddsCommand o words views h p.number c words (set views id w)) (told_is c a e)
+      (still_law o words views h id v here p is c r a u gives does same owes says hand left)
 
   -- a command that takes its place there and leaves the world
-  pub tell_same : (c : Command) (r : Reply) (a : Answer) → told_by (hand_now o p) p.fixed c ≡ a → CanGive o p c → step W p.number c ≡ (W, r) → owed_by W p.number c ≡ [] → Answers P a r → leaves (hand_now o p) c a ≡ hand_now o p → AddsCommand o words views h p.number c words (set views id (told v c))
-  tell_same c r a e gives does owes says left = tell c r a W e gives does (λ n. refl) owes says (subst (λ (k : Hand). IsHand o h.born W p.number k) (sym left) fits.hand) (ap (λ (k : Hand). k.stacks) left)
+  pub tell_same : (c : Command) (r : Reply) (a : Answer) → told_by (hand_now o p) p.fixed c ≡ a → CanGive o p c → step W p.number c ≡ (W, r) →
+      owed_by W p.number c ≡ [] → Answers P a r → leaves (hand_now o p) c a ≡ hand_now o p →
+      AddsCommand o words views h p.number c words (set views id (told v c))
+  tell_same c r a e gives does owes says left = tell c r a W e gives does (λ n.
+      refl) owes says (subst (λ (k : Hand). IsHand o h.born W p.number k) (sym left) fits.hand) (ap (λ (k : Hand). k.stacks) left)
 
   -- a command that puts a word into a register
-  tell_register : (c : Command) (dest w : ℕ) (x : Value) → told_by (hand_now o p) p.fixed c ≡ plain Fine → CanGive o p c → step W p.number c ≡ (with_register W p.number dest x, Fine) → owed_by W p.number c ≡ [] → leaves (hand_now o p) c (plain Fine) ≡ holding (hand_now o p) dest w → Means P w x → AddsCommand o words views h p.number c words (set views id (told v c))
+  tell_register : (c : Command) (dest w : ℕ) (x : Value) → told_by (hand_now o p) p.fixed c ≡ plain Fine → CanGive o p c →
+      step W p.number c ≡ (with_register W p.number dest x, Fine) → owed_by W p.number c ≡ [] →
+      leaves (hand_now o p) c (plain Fine) ≡ holding (hand_now o p) dest w → Means P w x →
+      AddsCommand o words views h p.number c words (set views id (told v c))
   tell_register c dest w x e gives does owes left m =
       tell c Fine (plain Fine) (with_register W p.number dest x) e gives does (nodes_kept W p.number _ fits.exists refl) owes refl
-      (subst (λ (k : Hand). IsHand o h.born (with_register W p.number dest x) p.number k) (sym left) (register_hand o words views h id v here p is dest w x m)) (ap (λ (k : Hand). k.stacks) left)
+      (subst (λ (k : Hand).
+      IsHand o h.born (with_register W p.number dest x) p.number k) (sym left) (register_hand o words views h id v here p is dest w x m))
+      (ap (λ (k : Hand). k.stacks) left)
 
   -- an odd word refers to no object
   pub no_object : (w : ℕ) (x : Value) → Means P w x → w % 2 ≡ 1 → (x ≡ value.Nil) ⊎ ((n : ℕ) × (x ≡ value.Number n))
@@ -238,22 +282,29 @@ module _ (o : Opening) (words : List ℕ) (views : List Seen) (h : Keeps o words
   no_object w (value.Ref name) m e = absurd (let t = m.1 in omega arith)
 
   pub refused_none : (w : ℕ) (refusal : ℕ → Reply) → w % 2 ≡ 1 → refused p.fixed w refusal ≡ plain NoPointer
-  refused_none w refusal e = let b : eqb (w % 2) 0 ≡ false = ne_eqb (w % 2) 0 (λ z. omega arith) in ap (λ (t : Bool). cond t (plain (refusal (header_at p.fixed (w / 2)))) (plain NoPointer)) b
+  refused_none w refusal e = let b : eqb (w % 2) 0 ≡ false = ne_eqb (w % 2) 0 (λ z. omega arith) in
+      ap (λ (t : Bool). cond t (plain (refusal (header_at p.fixed (w / 2)))) (plain NoPointer)) b
 
-  pub refused_there : (w at : ℕ) (header : Header) (refusal : ℕ → Reply) → w ≡ 2 * at → Names p at header → refused p.fixed w refusal ≡ plain (refusal (header_word header))
+  pub refused_there : (w at : ℕ) (header : Header) (refusal : ℕ → Reply) → w ≡ 2 * at → Names p at header →
+      refused p.fixed w refusal ≡ plain (refusal (header_word header))
   refused_there w at header refusal e names =
       let b : eqb (w % 2) 0 ≡ true = eq-eqb (w % 2) 0 (omega arith) in
       let half : w / 2 ≡ at = omega arith in
       let there = rests.fixed (record { at = at; offset = 0; word = header_word header }) names.there in
-      let found : header_at p.fixed at ≡ header_word header = header_there p.fixed at (header_word header) (λ f c a z. let t = rests.fixed f c in sym t.1 ∙ ap (λ j. slice_index words j) (λ i. a i + z i) ∙ there.1) names.there in
-      ap (λ (t : Bool). cond t (plain (refusal (header_at p.fixed (w / 2)))) (plain NoPointer)) b ∙ ap (λ k. plain (refusal k)) (ap (λ k. header_at p.fixed k) half ∙ found)
+      let found : header_at p.fixed at ≡ header_word header = header_there p.fixed at (header_word header) (λ f c a z. let t = rests.fixed f c in
+      sym t.1 ∙ ap (λ j. slice_index words j) (λ i. a i + z i) ∙ there.1) names.there in
+      ap (λ (t : Bool). cond t (plain (refusal (header_at p.fixed (w / 2)))) (plain NoPointer)) b ∙
+      ap (λ k. plain (refusal k)) (ap (λ k. header_at p.fixed k) half ∙ found)
 
   -- `get` of an object that is none, or of a field that isn't there
-  get_told : (dest : ℕ) (object : Operand) (index : ℕ) → CanGive o p (Get dest object index) → IsRefused o p object (λ header. IsReadable header.kind → header.fields ≤ index) → AddsCommand o words views h p.number (Get dest object index) words (set views id (told v (Get dest object index)))
+  get_told : (dest : ℕ) (object : Operand) (index : ℕ) → CanGive o p (Get dest object index) →
+      IsRefused o p object (λ header. IsReadable header.kind → header.fields ≤ index) →
+      AddsCommand o words views h p.number (Get dest object index) words (set views id (told v (Get dest object index)))
   get_told dest object index gives (inl odd) =
       let c : Command = Get dest object index in
       let read : Node → Reply = λ n. field_read n index in
-      let none : step W p.number c ≡ (W, NoPointer) = elim (no_object (operand_word o p object) (value_for W p.number object) (operand_is o words views h id v here p is object) odd) [
+      let none : step W p.number c ≡ (W, NoPointer) =
+      elim (no_object (operand_word o p object) (value_for W p.number object) (operand_is o words views h id v here p is object) odd) [
         | inl e ↦ ap (λ y. read_into W p.number dest (read_object (object_of W y) read)) e
         | inr e ↦ ap (λ y. read_into W p.number dest (read_object (object_of W y) read)) e.1
       ] in
@@ -264,17 +315,23 @@ module _ (o : Opening) (words : List ℕ) (views : List Seen) (h : Keeps o words
       let st = h.stands.objects m.object m.there in
       let head : header_of st.node ≡ header = st.later.header ∙ m.head in
       let r : Reply = get_refusal (header_word header) in
-      let refuses : field_read st.node index ≡ r = get_refused st.node index (subst (λ (k : Header). IsReadable k.kind → k.fields ≤ index) (sym head) bad) ∙ ap (λ k. get_refusal (header_word k)) head in
+      let refuses : field_read st.node index ≡ r = get_refused st.node index (subst (λ (k : Header). IsReadable k.kind →
+      k.fields ≤ index) (sym head) bad) ∙ ap (λ k. get_refusal (header_word k)) head in
       let read : Node → Reply = λ n. field_read n index in
-      let does : step W p.number c ≡ (W, r) = ap (λ y. read_into W p.number dest (read_object (object_of W y) read)) m.refers ∙ ap (λ y. read_into W p.number dest (read_object y read)) st.there ∙ ap (λ y. read_into W p.number dest y) refuses ∙ ap (λ (u : World). (u, r)) (keeping_refused W p.number dest (leb (header_word header % 8) 3)) in
+      let does : step W p.number c ≡ (W, r) = ap (λ y. read_into W p.number dest (read_object (object_of W y) read)) m.refers ∙
+      ap (λ y. read_into W p.number dest (read_object y read)) st.there ∙ ap (λ y. read_into W p.number dest y) refuses ∙
+      ap (λ (u : World). (u, r)) (keeping_refused W p.number dest (leb (header_word header % 8) 3)) in
       tell_same c r (plain r) (refused_there (operand_word o p object) at header get_refusal e names) gives does refl refl refl
 
   -- `set` likewise
-  set_told : (object : Operand) (index : ℕ) (x : Operand) → CanGive o p (Set object index x) → IsRefused o p object (λ header. IsWritable header.kind → header.fields ≤ index) → AddsCommand o words views h p.number (Set object index x) words (set views id (told v (Set object index x)))
+  set_told : (object : Operand) (index : ℕ) (x : Operand) → CanGive o p (Set object index x) →
+      IsRefused o p object (λ header. IsWritable header.kind → header.fields ≤ index) →
+      AddsCommand o words views h p.number (Set object index x) words (set views id (told v (Set object index x)))
   set_told object index x gives (inl odd) =
       let c : Command = Set object index x in
       let d : Change = change.Set index (value_for W p.number x) in
-      let none : (step W p.number c ≡ (W, NoPointer)) × (owed_by W p.number c ≡ []) = elim (no_object (operand_word o p object) (value_for W p.number object) (operand_is o words views h id v here p is object) odd) [
+      let none : (step W p.number c ≡ (W, NoPointer)) × (owed_by W p.number c ≡ []) =
+      elim (no_object (operand_word o p object) (value_for W p.number object) (operand_is o words views h id v here p is object) odd) [
         | inl e ↦ (ap (λ y. change_object W y d) e, ap (λ y. names_among (owed_of W y d)) e)
         | inr e ↦ (ap (λ y. change_object W y d) e.1, ap (λ y. names_among (owed_of W y d)) e.1)
       ] in
@@ -290,15 +347,25 @@ module _ (o : Opening) (words : List ℕ) (views : List Seen) (h : Keeps o words
       let r : Reply = set_refusal (header_word header) in
       let bad' = subst (λ (k : Header). IsWritable k.kind → k.fields ≤ index) (sym head) bad in
       let refuses : field_set st.node index val ≡ (st.node, r) = set_refused st.node index val bad' ∙ ap (λ k. (st.node, set_refusal (header_word k))) head in
-      let changes : step W p.number c ≡ (with_node W name st.node, r) = ap (λ y. change_object W y d) m.refers ∙ ap (λ y. change_node W name y d) st.there ∙ ap (λ (y : Node × Reply). (with_node W name y.0, y.1)) refuses in
+      let changes : step W p.number c ≡ (with_node W name st.node, r) = ap (λ y. change_object W y d) m.refers ∙
+      ap (λ y. change_node W name y d) st.there ∙ ap (λ (y : Node × Reply). (with_node W name y.0, y.1)) refuses in
       let cases = node_cases W name st.node st.node st.there in
-      let same : (n : Name) → node_of (with_node W name st.node) n ≡ node_of W n = λ n. elim (cases n) [ inl k ↦ k.1 ∙ sym st.there ∙ ap (λ (y : Name). node_of W y) (sym k.0) | inr k ↦ k.1 ] in
-      let owes : owed_by W p.number c ≡ [] = ap (λ y. names_among (owed_of W y d)) m.refers ∙ ap (λ y. names_among (owed_at d name y)) st.there ∙ ap (λ y. names_among (option_to_list y)) (none_owed st.node index bad') in
+      let same : (n : Name) → node_of (with_node W name st.node) n ≡ node_of W n = λ n. elim (cases n) [
+        | inl k ↦ k.1 ∙ sym st.there ∙
+            ap (λ (y : Name). node_of W y) (sym k.0)
+        | inr k ↦ k.1
+      ] in
+      let owes : owed_by W p.number c ≡ [] = ap (λ y. names_among (owed_of W y d)) m.refers ∙ ap (λ y. names_among (owed_at d name y)) st.there ∙
+      ap (λ y. names_among (option_to_list y)) (none_owed st.node index bad') in
       tell c r (plain r) (with_node W name st.node) (refused_there (operand_word o p object) at header set_refusal e names) gives changes same owes refl
       (hand_kept o words views h id v here p is (with_node W name st.node) (hand_now o p) (node_frame W name st.node st.node st.there p.number) fits.hand) refl
 
   pub one_place : (a b : Place) → P a → P b → (a.name ≡ b.name) ⊎ (a.at ≡ b.at) → a ≡ b
-  one_place a b x y e = h.stands.one a b (placed o h.born (record { at = a.at; name = a.name; node = x.0 }) x.1) (placed o h.born (record { at = b.at; name = b.name; node = y.0 }) y.1) e
+  one_place a b x y e = h.stands.one a b (placed o h.born (record {
+    at = a.at;
+    name = a.name;
+    node = x.0;
+  }) x.1) (placed o h.born (record { at = b.at; name = b.name; node = y.0 }) y.1) e
 
   -- a value has one word
   pub one_word : (a b : ℕ) (x : Value) → Means P a x → Means P b x → a ≡ b
@@ -330,19 +397,30 @@ module _ (o : Opening) (words : List ℕ) (views : List Seen) (h : Keeps o words
       (λ e. let k = eqb-true a b e in subst (λ z. is_same x z ≡ true) (one_value a x y m (subst (λ z. Means P z y) (sym k) n)) (same_self x))
 
   -- a change that is refused at an object that is none
-  change_none : (c : Command) (object : Operand) (d : Change) (refusal : ℕ → Reply) → ((u : World) → change_object W (value_for W p.number object) d ≡ (u, NoPointer) → step W p.number c ≡ (u, NoPointer)) → owed_by W p.number c ≡ names_among (owed_of W (value_for W p.number object) d) → told_by (hand_now o p) p.fixed c ≡ refused p.fixed (operand_word o p object) refusal
-      → leaves (hand_now o p) c (plain NoPointer) ≡ hand_now o p → CanGive o p c → operand_word o p object % 2 ≡ 1 → AddsCommand o words views h p.number c words (set views id (told v c))
+  change_none : (c : Command) (object : Operand) (d : Change) (refusal : ℕ → Reply) →
+      ((u : World) → change_object W (value_for W p.number object) d ≡ (u, NoPointer) → step W p.number c ≡ (u, NoPointer)) →
+      owed_by W p.number c ≡ names_among (owed_of W (value_for W p.number object) d) →
+      told_by (hand_now o p) p.fixed c ≡ refused p.fixed (operand_word o p object) refusal
+      → leaves (hand_now o p) c (plain NoPointer) ≡ hand_now o p → CanGive o p c → operand_word o p object % 2 ≡ 1 →
+      AddsCommand o words views h p.number c words (set views id (told v c))
   change_none c object d refusal does owes tells left gives odd =
-      let none : (change_object W (value_for W p.number object) d ≡ (W, NoPointer)) × (names_among (owed_of W (value_for W p.number object) d) ≡ []) = elim (no_object (operand_word o p object) (value_for W p.number object) (operand_is o words views h id v here p is object) odd) [
+      let none : (change_object W (value_for W p.number object) d ≡ (W, NoPointer)) ×
+      (names_among (owed_of W (value_for W p.number object) d) ≡ []) =
+      elim (no_object (operand_word o p object) (value_for W p.number object) (operand_is o words views h id v here p is object) odd) [
         | inl e ↦ (ap (λ y. change_object W y d) e, ap (λ y. names_among (owed_of W y d)) e)
         | inr e ↦ (ap (λ y. change_object W y d) e.1, ap (λ y. names_among (owed_of W y d)) e.1)
       ] in
       tell_same c NoPointer (plain NoPointer) (tells ∙ refused_none (operand_word o p object) refusal odd) gives (does W none.0) (owes ∙ none.1) refl left
 
   -- and at one that is there
-  change_at : (c : Command) (object : Operand) (d : Change) (refusal : ℕ → Reply) (at : ℕ) (header : Header) → ((u : World) → change_object W (value_for W p.number object) d ≡ (u, refusal (header_word header)) → step W p.number c ≡ (u, refusal (header_word header))) → owed_by W p.number c ≡ names_among (owed_of W (value_for W p.number object) d) → told_by (hand_now o p) p.fixed c ≡ refused p.fixed (operand_word o p object) refusal
+  change_at : (c : Command) (object : Operand) (d : Change) (refusal : ℕ → Reply) (at : ℕ) (header : Header) →
+      ((u : World) → change_object W (value_for W p.number object) d ≡ (u, refusal (header_word header)) →
+      step W p.number c ≡ (u, refusal (header_word header))) → owed_by W p.number c ≡ names_among (owed_of W (value_for W p.number object) d) →
+      told_by (hand_now o p) p.fixed c ≡ refused p.fixed (operand_word o p object) refusal
       → leaves (hand_now o p) c (plain (refusal (header_word header))) ≡ hand_now o p → CanGive o p c → operand_word o p object ≡ 2 * at → Names p at header
-      → ((x : Object) (hx : IsObject o h.born x) → x.at ≡ at → header_of (h.stands.objects x hx).node ≡ header → (changed d x.name.maker (h.stands.objects x hx).node ≡ ((h.stands.objects x hx).node, refusal (header_word header))) × (owed_in d x.name (h.stands.objects x hx).node ≡ []))
+      → ((x : Object) (hx : IsObject o h.born x) → x.at ≡ at → header_of (h.stands.objects x hx).node ≡ header →
+      (changed d x.name.maker (h.stands.objects x hx).node ≡ ((h.stands.objects x hx).node, refusal (header_word header))) ×
+      (owed_in d x.name (h.stands.objects x hx).node ≡ []))
       → AddsCommand o words views h p.number c words (set views id (told v c))
   change_at c object d refusal at header does owes tells left gives e names refuses =
       let m = meant o words views h id v here p is at header object e names in
@@ -351,87 +429,157 @@ module _ (o : Opening) (words : List ℕ) (views : List Seen) (h : Keeps o words
       let r : Reply = refusal (header_word header) in
       let t = refuses m.object m.there m.is_at (st.later.header ∙ m.head) in
       let u : World = with_node W name st.node in
-      let changes : change_object W (value_for W p.number object) d ≡ (u, r) = ap (λ y. change_object W y d) m.refers ∙ ap (λ y. change_node W name y d) st.there ∙ ap (λ (y : Node × Reply). (with_node W name y.0, y.1)) t.0 in
+      let changes : change_object W (value_for W p.number object) d ≡ (u, r) = ap (λ y. change_object W y d) m.refers ∙
+      ap (λ y. change_node W name y d) st.there ∙ ap (λ (y : Node × Reply). (with_node W name y.0, y.1)) t.0 in
       let cases = node_cases W name st.node st.node st.there in
-      let same : (n : Name) → node_of u n ≡ node_of W n = λ n. elim (cases n) [ inl k ↦ k.1 ∙ sym st.there ∙ ap (λ (y : Name). node_of W y) (sym k.0) | inr k ↦ k.1 ] in
-      let none : names_among (owed_of W (value_for W p.number object) d) ≡ [] = ap (λ y. names_among (owed_of W y d)) m.refers ∙ ap (λ y. names_among (owed_at d name y)) st.there ∙ ap (λ y. names_among y) t.1 in
+      let same : (n : Name) → node_of u n ≡ node_of W n = λ n. elim (cases n) [
+        | inl k ↦ k.1 ∙ sym st.there ∙
+            ap (λ (y : Name). node_of W y) (sym k.0)
+        | inr k ↦ k.1
+      ] in
+      let none : names_among (owed_of W (value_for W p.number object) d) ≡ [] = ap (λ y. names_among (owed_of W y d)) m.refers ∙
+      ap (λ y. names_among (owed_at d name y)) st.there ∙ ap (λ y. names_among y) t.1 in
       let kept = hand_kept o words views h id v here p is u (hand_now o p) (node_frame W name st.node st.node st.there p.number) fits.hand in
-      tell c r (plain r) u (tells ∙ refused_there (operand_word o p object) at header refusal e names) gives (does u changes) same (owes ∙ none) refl (subst (λ (k : Hand). IsHand o h.born u p.number k) (sym left) kept) (ap (λ (k : Hand). k.stacks) left)
+      tell c r (plain r) u (tells ∙ refused_there (operand_word o p object) at header refusal e names) gives (does u changes) same (owes ∙
+      none) refl (subst (λ (k : Hand). IsHand o h.born u p.number k) (sym left) kept) (ap (λ (k : Hand). k.stacks) left)
 
   -- a read that is refused
-  read_none : (c : Command) (dest : ℕ) (object : Operand) (read : Node → Reply) → ((x : Value) → value_for W p.number object ≡ x → step W p.number c ≡ read_into W p.number dest (read_object (object_of W x) read)) → ((x : Value) → value_for W p.number object ≡ x → object_of W x ≡ None → owed_by W p.number c ≡ []) → told_by (hand_now o p) p.fixed c ≡ refused p.fixed (operand_word o p object) (λ n. WrongKind)
-      → leaves (hand_now o p) c (plain NoPointer) ≡ hand_now o p → CanGive o p c → operand_word o p object % 2 ≡ 1 → AddsCommand o words views h p.number c words (set views id (told v c))
+  read_none : (c : Command) (dest : ℕ) (object : Operand) (read : Node → Reply) →
+      ((x : Value) → value_for W p.number object ≡ x → step W p.number c ≡ read_into W p.number dest (read_object (object_of W x) read)) →
+      ((x : Value) → value_for W p.number object ≡ x → object_of W x ≡ None → owed_by W p.number c ≡ []) →
+      told_by (hand_now o p) p.fixed c ≡ refused p.fixed (operand_word o p object) (λ n. WrongKind)
+      → leaves (hand_now o p) c (plain NoPointer) ≡ hand_now o p → CanGive o p c → operand_word o p object % 2 ≡ 1 →
+      AddsCommand o words views h p.number c words (set views id (told v c))
   read_none c dest object read does owes tells left gives odd =
-      let none : (step W p.number c ≡ (W, NoPointer)) × (owed_by W p.number c ≡ []) = elim (no_object (operand_word o p object) (value_for W p.number object) (operand_is o words views h id v here p is object) odd) [
+      let none : (step W p.number c ≡ (W, NoPointer)) × (owed_by W p.number c ≡ []) =
+      elim (no_object (operand_word o p object) (value_for W p.number object) (operand_is o words views h id v here p is object) odd) [
         | inl e ↦ (does value.Nil e, owes value.Nil e refl)
         | inr e ↦ (does (value.Number e.0) e.1, owes (value.Number e.0) e.1 refl)
       ] in
       tell_same c NoPointer (plain NoPointer) (tells ∙ refused_none (operand_word o p object) (λ n. WrongKind) odd) gives none.0 none.1 refl left
 
-  read_wrong : (c : Command) (dest : ℕ) (object : Operand) (read : Node → Reply) (at : ℕ) (header : Header) → ((x : Value) → value_for W p.number object ≡ x → step W p.number c ≡ read_into W p.number dest (read_object (object_of W x) read)) → told_by (hand_now o p) p.fixed c ≡ refused p.fixed (operand_word o p object) (λ n. WrongKind)
+  read_wrong : (c : Command) (dest : ℕ) (object : Operand) (read : Node → Reply) (at : ℕ) (header : Header) →
+      ((x : Value) → value_for W p.number object ≡ x → step W p.number c ≡ read_into W p.number dest (read_object (object_of W x) read)) →
+      told_by (hand_now o p) p.fixed c ≡ refused p.fixed (operand_word o p object) (λ n. WrongKind)
       → leaves (hand_now o p) c (plain WrongKind) ≡ hand_now o p → CanGive o p c → operand_word o p object ≡ 2 * at → Names p at header
-      → ((name : Name) (n : Node) → value_for W p.number object ≡ value.Ref name → node_of W name ≡ Some n → header_of n ≡ header → (read n ≡ WrongKind) × (owed_by W p.number c ≡ []))
+      → ((name : Name) (n : Node) → value_for W p.number object ≡ value.Ref name → node_of W name ≡ Some n → header_of n ≡ header →
+      (read n ≡ WrongKind) × (owed_by W p.number c ≡ []))
       → AddsCommand o words views h p.number c words (set views id (told v c))
   read_wrong c dest object read at header does tells left gives e names refuses =
       let m = meant o words views h id v here p is at header object e names in
       let st = h.stands.objects m.object m.there in
       let t = refuses m.object.name st.node m.refers st.there (st.later.header ∙ m.head) in
-      let says : step W p.number c ≡ (W, WrongKind) = does (value.Ref m.object.name) m.refers ∙ ap (λ y. read_into W p.number dest (read_object y read)) st.there ∙ ap (λ y. read_into W p.number dest y) t.0 in
+      let says : step W p.number c ≡ (W, WrongKind) = does (value.Ref m.object.name) m.refers ∙
+      ap (λ y. read_into W p.number dest (read_object y read)) st.there ∙ ap (λ y. read_into W p.number dest y) t.0 in
       tell_same c WrongKind (plain WrongKind) (tells ∙ refused_there (operand_word o p object) at header (λ n. WrongKind) e names) gives says t.1 refl left
 
   -- `cas` as `set`
-  cas_told : (object : Operand) (index : ℕ) (expected x : Operand) → CanGive o p (Cas object index expected x) → IsRefused o p object (λ header. IsWritable header.kind → header.fields ≤ index) → AddsCommand o words views h p.number (Cas object index expected x) words (set views id (told v (Cas object index expected x)))
-  cas_told object index expected x gives (inl odd) = change_none (Cas object index expected x) object (change.Exchange index (value_for W p.number expected) (value_for W p.number x)) set_refusal (λ u e. e) refl refl refl gives odd
-  cas_told object index expected x gives (inr (at, header, e, names, bad)) = change_at (Cas object index expected x) object (change.Exchange index (value_for W p.number expected) (value_for W p.number x)) set_refusal at header (λ u e. e) refl refl refl gives e names
-      (λ y hy is_at head. let n : Node = (h.stands.objects y hy).node in let bad' = subst (λ (k : Header). IsWritable k.kind → k.fields ≤ index) (sym head) bad in
-      (cas_refused n index (value_for W p.number expected) (value_for W p.number x) bad' ∙ ap (λ k. (n, set_refusal (header_word k))) head, ap (λ l. if_same (value_for W p.number expected) l) (none_owed n index bad')))
+  cas_told : (object : Operand) (index : ℕ) (expected x : Operand) → CanGive o p (Cas object index expected x) →
+      IsRefused o p object (λ header. IsWritable header.kind → header.fields ≤ index) →
+      AddsCommand o words views h p.number (Cas object index expected x) words (set views id (told v (Cas object index expected x)))
+  cas_told object index expected x gives (inl odd) =
+      change_none (Cas object index expected x) object (change.Exchange index (value_for W p.number expected) (value_for W p.number x)) set_refusal
+      (λ u e. e) refl refl refl gives odd
+  cas_told object index expected x gives (inr (at, header, e, names, bad)) =
+      change_at (Cas object index expected x) object (change.Exchange index (value_for W p.number expected) (value_for W p.number x)) set_refusal at
+      header (λ u e. e) refl refl refl gives e names
+      (λ y hy is_at head. let n : Node = (h.stands.objects y hy).node in
+      let bad' = subst (λ (k : Header). IsWritable k.kind → k.fields ≤ index) (sym head) bad in (
+        cas_refused n index (value_for W p.number expected) (value_for W p.number x) bad' ∙ ap (λ k. (n, set_refusal (header_word k))) head,
+        ap (λ l. if_same (value_for W p.number expected) l) (none_owed n index bad'),
+      ))
 
   -- `update` of what is no thunk
-  update_told : (object x : Operand) → CanGive o p (Update object x) → IsRefused o p object (λ header. header.kind ≡ kind.Thunk → ⊥) → AddsCommand o words views h p.number (Update object x) words (set views id (told v (Update object x)))
-  update_told object x gives (inl odd) = change_none (Update object x) object (change.Update (value_for W p.number x)) (λ n. WrongKind) (λ u e. e) refl refl refl gives odd
-  update_told object x gives (inr (at, header, e, names, bad)) = change_at (Update object x) object (change.Update (value_for W p.number x)) (λ n. WrongKind) at header (λ u e. e) refl refl refl gives e names
+  update_told : (object x : Operand) → CanGive o p (Update object x) → IsRefused o p object (λ header. header.kind ≡ kind.Thunk → ⊥) →
+      AddsCommand o words views h p.number (Update object x) words (set views id (told v (Update object x)))
+  update_told object x gives (inl odd) = change_none (Update object x) object (change.Update (value_for W p.number x)) (λ n. WrongKind) (λ u e.
+      e) refl refl refl gives odd
+  update_told object x gives (inr (at, header, e, names, bad)) =
+      change_at (Update object x) object (change.Update (value_for W p.number x)) (λ n. WrongKind) at header (λ u e. e) refl refl refl gives e names
       (λ y hy is_at head. no_thunk (h.stands.objects y hy).node (value_for W p.number x) (λ k. bad (sym (ap (λ (t : Header). t.kind) head) ∙ k)))
 
   -- `force` of what is no thunk, and `deref` of what is no weak pointer
-  force_told : (dest : ℕ) (object : Operand) → CanGive o p (Force dest object) → IsRefused o p object (λ header. header.kind ≡ kind.Thunk → ⊥) → AddsCommand o words views h p.number (Force dest object) words (set views id (told v (Force dest object)))
-  force_told dest object gives (inl odd) = read_none (Force dest object) dest object result_read (λ x e. ap (λ y. read_into W p.number dest (read_object (object_of W y) result_read)) e) (λ x e k. refl) refl refl gives odd
-  force_told dest object gives (inr (at, header, e, names, bad)) = read_wrong (Force dest object) dest object result_read at header (λ x e. ap (λ y. read_into W p.number dest (read_object (object_of W y) result_read)) e) refl refl gives e names
+  force_told : (dest : ℕ) (object : Operand) → CanGive o p (Force dest object) → IsRefused o p object (λ header. header.kind ≡ kind.Thunk → ⊥) →
+      AddsCommand o words views h p.number (Force dest object) words (set views id (told v (Force dest object)))
+  force_told dest object gives (inl odd) = read_none (Force dest object) dest object result_read (λ x e.
+      ap (λ y. read_into W p.number dest (read_object (object_of W y) result_read)) e) (λ x e k. refl) refl refl gives odd
+  force_told dest object gives (inr (at, header, e, names, bad)) =
+      read_wrong (Force dest object) dest object result_read at header (λ x e.
+      ap (λ y. read_into W p.number dest (read_object (object_of W y) result_read)) e) refl refl gives e names
       (λ name n refers there head. (no_result n (λ k. bad (sym (ap (λ (t : Header). t.kind) head) ∙ k)), refl))
 
-  deref_told : (dest : ℕ) (object : Operand) → CanGive o p (Deref dest object) → IsRefused o p object (λ header. header.kind ≡ kind.Weak → ⊥) → AddsCommand o words views h p.number (Deref dest object) words (set views id (told v (Deref dest object)))
-  deref_told dest object gives (inl odd) = read_none (Deref dest object) dest object value_read (λ x e. ap (λ y. read_into W p.number dest (read_object (object_of W y) value_read)) e) (λ x e k. ap (λ y. names_among (value_held (object_of W y))) e ∙ ap (λ y. names_among (value_held y)) k) refl refl gives odd
-  deref_told dest object gives (inr (at, header, e, names, bad)) = read_wrong (Deref dest object) dest object value_read at header (λ x e. ap (λ y. read_into W p.number dest (read_object (object_of W y) value_read)) e) refl refl gives e names
-      (λ name n refers there head. let t = no_weak name n (λ k. bad (sym (ap (λ (t : Header). t.kind) head) ∙ k)) in (t.0, ap (λ y. names_among (value_held (object_of W y))) refers ∙ ap (λ y. names_among (value_held y)) there ∙ ap (λ y. names_among y) t.1))
+  deref_told : (dest : ℕ) (object : Operand) → CanGive o p (Deref dest object) → IsRefused o p object (λ header. header.kind ≡ kind.Weak → ⊥) →
+      AddsCommand o words views h p.number (Deref dest object) words (set views id (told v (Deref dest object)))
+  deref_told dest object gives (inl odd) = read_none (Deref dest object) dest object value_read (λ x e.
+      ap (λ y. read_into W p.number dest (read_object (object_of W y) value_read)) e) (λ x e k.
+      ap (λ y. names_among (value_held (object_of W y))) e ∙ ap (λ y. names_among (value_held y)) k) refl refl gives odd
+  deref_told dest object gives (inr (at, header, e, names, bad)) =
+      read_wrong (Deref dest object) dest object value_read at header (λ x e.
+      ap (λ y. read_into W p.number dest (read_object (object_of W y) value_read)) e) refl refl gives e names
+      (λ name n refers there head. let t = no_weak name n (λ k. bad (sym (ap (λ (t : Header). t.kind) head) ∙ k)) in
+      (t.0, ap (λ y. names_among (value_held (object_of W y))) refers ∙ ap (λ y. names_among (value_held y)) there ∙ ap (λ y. names_among y) t.1))
 
   -- `finalise` likewise
-  finalise_told : (dest : ℕ) (object : Operand) → CanGive o p (Finalise dest object) → IsRefused o p object (λ header. header.kind ≡ kind.Weak → ⊥) → AddsCommand o words views h p.number (Finalise dest object) words (set views id (told v (Finalise dest object)))
-  finalise_told dest object gives (inl odd) = change_none (Finalise dest object) object change.Finalise (λ n. WrongKind) (λ u e. ap (λ r. change_into p.number dest r) e) refl refl refl gives odd
-  finalise_told dest object gives (inr (at, header, e, names, bad)) = change_at (Finalise dest object) object change.Finalise (λ n. WrongKind) at header (λ u e. ap (λ r. change_into p.number dest r) e) refl refl refl gives e names
+  finalise_told : (dest : ℕ) (object : Operand) → CanGive o p (Finalise dest object) →
+      IsRefused o p object (λ header. header.kind ≡ kind.Weak → ⊥) →
+      AddsCommand o words views h p.number (Finalise dest object) words (set views id (told v (Finalise dest object)))
+  finalise_told dest object gives (inl odd) = change_none (Finalise dest object) object change.Finalise (λ n. WrongKind) (λ u e.
+      ap (λ r. change_into p.number dest r) e) refl refl refl gives odd
+  finalise_told dest object gives (inr (at, header, e, names, bad)) =
+      change_at (Finalise dest object) object change.Finalise (λ n. WrongKind) at header (λ u e.
+      ap (λ r. change_into p.number dest r) e) refl refl refl gives e names
       (λ y hy is_at head. let t = no_weak y.name (h.stands.objects y hy).node (λ k. bad (sym (ap (λ (t : Header). t.kind) head) ∙ k)) in (t.2, t.3))
 
   -- what another's name says of its maker
-  foreign_maker : (at : ℕ) (x : Object) (hx : IsObject o h.born x) (name : Name) → x.at ≡ at → IsName name → Contains p.fixed (record { at = at; offset = 1; word = name_word name }) → x.name.maker ≡ name.maker
+  foreign_maker : (at : ℕ) (x : Object) (hx : IsObject o h.born x) (name : Name) → x.at ≡ at → IsName name →
+      Contains p.fixed (record { at = at; offset = 1; word = name_word name }) → x.name.maker ≡ name.maker
   foreign_maker at x hx name is_at valid named =
       let there = h.stands.named (place_of x) (placed o h.born x hx) in
       let told_ = rests.fixed (record { at = at; offset = 1; word = name_word name }) named in
       one_maker x.name name there.valid valid (sym there.name ∙ ap (λ a. slice_index words (a + 1)) is_at ∙ told_.1)
 
-  push_told : (object x : Operand) → CanGive o p (Push object x) → IsRefused o p object (λ header. header.kind ≡ kind.Stack → ⊥) ⊎ IsForeign o p object → AddsCommand o words views h p.number (Push object x) words (set views id (told v (Push object x)))
-  push_told object x gives (inl (inl odd)) = change_none (Push object x) object (change.Push p.number (value_for W p.number x)) owner_refusal (λ u e. e) refl refl refl gives odd
-  push_told object x gives (inl (inr (at, header, e, names, bad))) = change_at (Push object x) object (change.Push p.number (value_for W p.number x)) owner_refusal at header (λ u e. e) refl refl (left_push (hand_now o p) object x (eqb (header_word header % 8) 6)) gives e names
-      (λ y hy is_at head. let n : Node = (h.stands.objects y hy).node in let t = no_stack (eqb y.name.maker p.number) n (value_for W p.number x) (λ k. bad (sym (ap (λ (t : Header). t.kind) head) ∙ k)) in (t.0 ∙ ap (λ k. (n, owner_refusal (header_word k))) head, refl))
-  push_told object x gives (inr f) = change_at (Push object x) object (change.Push p.number (value_for W p.number x)) owner_refusal f.at f.header (λ u e. e) refl refl (left_push (hand_now o p) object x (eqb (header_word f.header % 8) 6)) gives f.object_word f.names
-      (λ y hy is_at head. let n : Node = (h.stands.objects y hy).node in let t = foreign_stack n (value_for W p.number x) (ap (λ (k : Header). k.kind) head ∙ f.is_stack) in let off : eqb y.name.maker p.number ≡ false = ne_eqb y.name.maker p.number (λ k. f.other (sym (foreign_maker f.at y hy f.name is_at f.valid f.named) ∙ k)) in (ap (λ b. stack_pushed b n (value_for W p.number x)) off ∙ t.0 ∙ ap (λ k. (n, owner_refusal (header_word k))) head, refl))
+  push_told : (object x : Operand) → CanGive o p (Push object x) → IsRefused o p object (λ header. header.kind ≡ kind.Stack → ⊥) ⊎
+      IsForeign o p object → AddsCommand o words views h p.number (Push object x) words (set views id (told v (Push object x)))
+  push_told object x gives (inl (inl odd)) =
+      change_none (Push object x) object (change.Push p.number (value_for W p.number x)) owner_refusal (λ u e. e) refl refl refl gives odd
+  push_told object x gives (inl (inr (at, header, e, names, bad))) =
+      change_at (Push object x) object (change.Push p.number (value_for W p.number x)) owner_refusal at header (λ u e.
+      e) refl refl (left_push (hand_now o p) object x (eqb (header_word header % 8) 6)) gives e names
+      (λ y hy is_at head. let n : Node = (h.stands.objects y hy).node in
+      let t = no_stack (eqb y.name.maker p.number) n (value_for W p.number x) (λ k. bad (sym (ap (λ (t : Header). t.kind) head) ∙ k)) in
+      (t.0 ∙ ap (λ k. (n, owner_refusal (header_word k))) head, refl))
+  push_told object x gives (inr f) =
+      change_at (Push object x) object (change.Push p.number (value_for W p.number x)) owner_refusal f.at f.header (λ u e.
+      e) refl refl (left_push (hand_now o p) object x (eqb (header_word f.header % 8) 6)) gives f.object_word f.names
+      (λ y hy is_at head. let n : Node = (h.stands.objects y hy).node in
+      let t = foreign_stack n (value_for W p.number x) (ap (λ (k : Header). k.kind) head ∙ f.is_stack) in
+      let off : eqb y.name.maker p.number ≡ false = ne_eqb y.name.maker p.number (λ k.
+      f.other (sym (foreign_maker f.at y hy f.name is_at f.valid f.named) ∙ k)) in
+      (ap (λ b. stack_pushed b n (value_for W p.number x)) off ∙ t.0 ∙ ap (λ k. (n, owner_refusal (header_word k))) head, refl))
 
-  pop_told : (dest : ℕ) (object : Operand) → CanGive o p (Pop dest object) → IsRefused o p object (λ header. header.kind ≡ kind.Stack → ⊥) ⊎ IsForeign o p object → AddsCommand o words views h p.number (Pop dest object) words (set views id (told v (Pop dest object)))
-  pop_told dest object gives (inl (inl odd)) = change_none (Pop dest object) object (change.Pop p.number) owner_refusal (λ u e. ap (λ r. change_into p.number dest r) e) refl refl refl gives odd
-  pop_told dest object gives (inl (inr (at, header, e, names, bad))) = change_at (Pop dest object) object (change.Pop p.number) owner_refusal at header (λ u e. ap (λ r. change_into p.number dest r) e ∙ ap (λ w. (w, owner_refusal (header_word header))) (keeping_owner u p.number dest (eqb (header_word header % 8) 6))) refl refl refl gives e names
-      (λ y hy is_at head. let n : Node = (h.stands.objects y hy).node in let t = no_stack (eqb y.name.maker p.number) n value.Nil (λ k. bad (sym (ap (λ (t : Header). t.kind) head) ∙ k)) in (t.1 ∙ ap (λ k. (n, owner_refusal (header_word k))) head, t.2))
-  pop_told dest object gives (inr f) = change_at (Pop dest object) object (change.Pop p.number) owner_refusal f.at f.header (λ u e. ap (λ r. change_into p.number dest r) e ∙ ap (λ w. (w, owner_refusal (header_word f.header))) (keeping_owner u p.number dest (eqb (header_word f.header % 8) 6))) refl refl refl gives f.object_word f.names
-      (λ y hy is_at head. let n : Node = (h.stands.objects y hy).node in let t = foreign_stack n value.Nil (ap (λ (k : Header). k.kind) head ∙ f.is_stack) in let off : eqb y.name.maker p.number ≡ false = ne_eqb y.name.maker p.number (λ k. f.other (sym (foreign_maker f.at y hy f.name is_at f.valid f.named) ∙ k)) in (ap (λ b. stack_popped b n) off ∙ t.1 ∙ ap (λ k. (n, owner_refusal (header_word k))) head, ap (λ b. top_held b n) off))
+  pop_told : (dest : ℕ) (object : Operand) → CanGive o p (Pop dest object) → IsRefused o p object (λ header. header.kind ≡ kind.Stack → ⊥) ⊎
+      IsForeign o p object → AddsCommand o words views h p.number (Pop dest object) words (set views id (told v (Pop dest object)))
+  pop_told dest object gives (inl (inl odd)) = change_none (Pop dest object) object (change.Pop p.number) owner_refusal (λ u e.
+      ap (λ r. change_into p.number dest r) e) refl refl refl gives odd
+  pop_told dest object gives (inl (inr (at, header, e, names, bad))) =
+      change_at (Pop dest object) object (change.Pop p.number) owner_refusal at header (λ u e. ap (λ r. change_into p.number dest r) e ∙
+      ap (λ w. (w, owner_refusal (header_word header))) (keeping_owner u p.number dest (eqb (header_word header % 8) 6))) refl refl refl gives e names
+      (λ y hy is_at head. let n : Node = (h.stands.objects y hy).node in
+      let t = no_stack (eqb y.name.maker p.number) n value.Nil (λ k. bad (sym (ap (λ (t : Header). t.kind) head) ∙ k)) in
+      (t.1 ∙ ap (λ k. (n, owner_refusal (header_word k))) head, t.2))
+  pop_told dest object gives (inr f) = change_at (Pop dest object) object (change.Pop p.number) owner_refusal f.at f.header (λ u e.
+      ap (λ r. change_into p.number dest r) e ∙
+      ap (λ w. (w, owner_refusal (header_word f.header))) (keeping_owner u p.number dest (eqb (header_word f.header % 8) 6))) refl refl refl gives
+      f.object_word f.names
+      (λ y hy is_at head. let n : Node = (h.stands.objects y hy).node in
+      let t = foreign_stack n value.Nil (ap (λ (k : Header). k.kind) head ∙ f.is_stack) in
+      let off : eqb y.name.maker p.number ≡ false = ne_eqb y.name.maker p.number (λ k.
+      f.other (sym (foreign_maker f.at y hy f.name is_at f.valid f.named) ∙ k)) in
+      (ap (λ b. stack_popped b n) off ∙ t.1 ∙ ap (λ k. (n, owner_refusal (header_word k))) head, ap (λ b. top_held b n) off))
 
   -- `nextfin`: the first of the queue goes off into a register
-  finaliser_told : (dest : ℕ) → CanGive o p (NextFin dest) → (ws : List ℕ) → (hand_now o p).queue ≡ ws → (vs : List Value) → (state_of W p.number).queue ≡ vs → ListMeans P ws vs → AddsCommand o words views h p.number (NextFin dest) words (set views id (told v (NextFin dest)))
+  finaliser_told : (dest : ℕ) → CanGive o p (NextFin dest) → (ws : List ℕ) → (hand_now o p).queue ≡ ws → (vs : List Value) →
+      (state_of W p.number).queue ≡ vs → ListMeans P ws vs → AddsCommand o words views h p.number (NextFin dest) words (set views id (told v (NextFin dest)))
   finaliser_told dest gives [] e [] f m =
       let s : MutatorState = state_of W p.number in
       let F : List Value → MutatorState = λ l. holding_given (record s { queue = drop 1 l }) dest (slice_get l 0) in
@@ -443,7 +591,8 @@ module _ (o : Opening) (words : List ℕ) (views : List Seen) (h : Keeps o words
       tell (NextFin dest) Nothing (plain Nothing) u (ap (λ l. first_told l) e) gives (ap (λ l. (u, given_or Nothing (slice_get l 0))) f) nodes refl refl
       (record {
         registers = subst (λ (t : MutatorState). ListMeans P (hand_now o p).registers t.registers) (sym st) k.registers;
-        queue = subst (λ (l : List ℕ). ListMeans P (drop 1 l) (state_of u p.number).queue) (sym e) (subst (λ (t : MutatorState). ListMeans P [] t.queue) (sym st) tt);
+        queue = subst (λ (l : List ℕ). ListMeans P (drop 1 l) (state_of u p.number).queue) (sym e) (subst (λ (t : MutatorState).
+            ListMeans P [] t.queue) (sym st) tt);
         serial = k.serial ∙ ap (λ (t : MutatorState). length t.nodes) (sym st);
       })
       refl
@@ -459,8 +608,10 @@ module _ (o : Opening) (words : List ℕ) (views : List Seen) (h : Keeps o words
       let k = fits.hand in
       tell (NextFin dest) (Given x) (word w) u (ap (λ l. first_told l) e) gives (ap (λ l. (u, given_or Nothing (slice_get l 0))) f) nodes refl (x, refl, m.0)
       (record {
-        registers = subst (λ (t : MutatorState). ListMeans P (set (hand_now o p).registers dest w) t.registers) (sym st) (list_set P (hand_now o p).registers s.registers dest w x k.registers m.0);
-        queue = subst (λ (l : List ℕ). ListMeans P (drop 1 l) (state_of u p.number).queue) (sym e) (subst (λ (t : MutatorState). ListMeans P ws t.queue) (sym st) m.1);
+        registers = subst (λ (t : MutatorState).
+            ListMeans P (set (hand_now o p).registers dest w) t.registers) (sym st) (list_set P (hand_now o p).registers s.registers dest w x k.registers m.0);
+        queue = subst (λ (l : List ℕ). ListMeans P (drop 1 l) (state_of u p.number).queue) (sym e) (subst (λ (t : MutatorState).
+            ListMeans P ws t.queue) (sym st) m.1);
         serial = k.serial ∙ ap (λ (t : MutatorState). length t.nodes) (sym st);
       })
       refl
@@ -469,12 +620,19 @@ module _ (o : Opening) (words : List ℕ) (views : List Seen) (h : Keeps o words
   pub told_keeps : (c : Command) → CanTell o p c → AddsCommand o words views h p.number c words (set views id (told v c))
   told_keeps (Num dest n) can = tell_register (Num dest n) dest (2 * n + 3) (value.Number n) refl can.gives refl refl refl refl
   told_keeps (Nil dest) can = tell_register (Nil dest) dest 1 value.Nil refl can.gives refl refl refl refl
-  told_keeps (Mov dest x) can = tell_register (Mov dest x) dest (operand_word o p x) (value_for W p.number x) refl can.gives refl refl refl (operand_is o words views h id v here p is x)
+  told_keeps (Mov dest x) can =
+      tell_register (Mov dest x) dest (operand_word o p x) (value_for W p.number x) refl can.gives refl refl refl (operand_is o words views h id v here p is x)
   told_keeps (Get dest object index) can = get_told dest object index can.gives can.told
   told_keeps (Set object index x) can = set_told object index x can.gives can.told
-  told_keeps (Show x) can = tell_same (Show x) (Given (value_for W p.number x)) (word (operand_word o p x)) refl can.gives refl refl (value_for W p.number x, refl, operand_is o words views h id v here p is x) refl
+  told_keeps (Show x) can =
+      tell_same (Show x) (Given (value_for W p.number x)) (word (operand_word o p x)) refl can.gives refl refl (
+        value_for W p.number x,
+        refl,
+        operand_is o words views h id v here p is x,
+      ) refl
   told_keeps (Same left right) can =
-      let e = same_words (operand_word o p left) (operand_word o p right) (value_for W p.number left) (value_for W p.number right) (operand_is o words views h id v here p is left) (operand_is o words views h id v here p is right) in
+      let e = same_words (operand_word o p left) (operand_word o p right) (value_for W p.number left) (value_for W p.number right)
+      (operand_is o words views h id v here p is left) (operand_is o words views h id v here p is right) in
       let r : Reply = cond (eqb (operand_word o p left) (operand_word o p right)) Yes No in
       tell_same (Same left right) r (plain r) refl can.gives (ap (λ (b : Bool). (W, cond b Yes No)) e) refl refl refl
   told_keeps Yield can = tell_same Yield Fine (plain Fine) refl can.gives refl refl refl refl

@@ -55,8 +55,11 @@ same_snapshot s (scanned entry v ∷ hs) = same_snapshot (after_scan s s.queue) 
 -- no serial falls
 pub serials_grow : (s : State) (hs : List Happening) → IsLegal s hs → (k : ℕ) → serial_of s.world k ≤ serial_of (replay s hs).world k
 serials_grow s [] legal k = omega arith
-serials_grow s (did m c r ∷ hs) legal k = let a = (step_grows s.world m c legal.0.0.1.mutator).serials k in let b = serials_grow (after_command s m c) hs legal.1 k in omega arith
-serials_grow s (scanned entry v ∷ hs) legal k = let e : serial_of (after_scan s s.queue).world k ≡ serial_of s.world k = ap (λ (w : World). serial_of w k) (rest_scan s s.queue).world in let b = serials_grow (after_scan s s.queue) hs legal.1 k in omega arith
+serials_grow s (did m c r ∷ hs) legal k = let a = (step_grows s.world m c legal.0.0.1.mutator).serials k in
+    let b = serials_grow (after_command s m c) hs legal.1 k in omega arith
+serials_grow s (scanned entry v ∷ hs) legal k =
+    let e : serial_of (after_scan s s.queue).world k ≡ serial_of s.world k = ap (λ (w : World). serial_of w k) (rest_scan s s.queue).world in
+    let b = serials_grow (after_scan s s.queue) hs legal.1 k in omega arith
 
 -- there are as many mutators
 pub same_count : (s : State) (hs : List Happening) → IsLegal s hs → length (replay s hs).world.mutators ≡ length s.world.mutators

@@ -55,17 +55,21 @@ module _ (P : Place → Type 0) (words : List ℕ) where
   one_read j v m = record { means = m; unset = λ e. absurd cc }
 
   item_read : (from i : ℕ) (values : List Value) → i < length values → AllMean P words from values → IsReadAt P words (from + i) (slice_get values i)
-  item_read from i values lt h = let e : slice_get values i ≡ Some (get_or values i value.Nil) = slice_get-get_or values i value.Nil lt in subst (λ v. IsReadAt P words (from + i) v) (sym e) (one_read (from + i) (get_or values i value.Nil) (h i (get_or values i value.Nil) e))
+  item_read from i values lt h = let e : slice_get values i ≡ Some (get_or values i value.Nil) = slice_get-get_or values i value.Nil lt in
+      subst (λ v. IsReadAt P words (from + i) v) (sym e) (one_read (from + i) (get_or values i value.Nil) (h i (get_or values i value.Nil) e))
 
   -- an item of a stack, or an unset slot
-  slot_read : (from i size : ℕ) (values : List Value) → i < size → AllMean P words from values → ((k : ℕ) → length values ≤ k → k < size → slice_index words (from + k) ≡ 0) → IsReadAt P words (from + i) (slice_get values i)
+  slot_read : (from i size : ℕ) (values : List Value) → i < size → AllMean P words from values →
+      ((k : ℕ) → length values ≤ k → k < size → slice_index words (from + k) ≡ 0) → IsReadAt P words (from + i) (slice_get values i)
   slot_read from i size values lt h u = elim (cases_lt i (length values)) [
     | inl in_ ↦ item_read from i values in_ h
     | inr le ↦ subst (λ v. IsReadAt P words (from + i) v) (sym (slice_get_past values i le)) (record { means = tt; unset = λ e. u i le lt })
   ]
 
-  kept_free : (from i : ℕ) (free : List Value) (b : Node) → free_of b ≡ free → has_result b ≡ false → (header_of b).kind ≡ kind.Thunk → i < length free → KeepsFree P words from b → IsReadAt P words (from + 1 + i) (slice_get free i)
-  kept_free from i free (Thunk old None) e none k lt h = subst (λ (l : List Value). IsReadAt P words (from + 1 + i) (slice_get l i)) e (item_read (from + 1) i old (subst (λ (l : List Value). i < length l) (sym e) lt) h)
+  kept_free : (from i : ℕ) (free : List Value) (b : Node) → free_of b ≡ free → has_result b ≡ false → (header_of b).kind ≡ kind.Thunk →
+      i < length free → KeepsFree P words from b → IsReadAt P words (from + 1 + i) (slice_get free i)
+  kept_free from i free (Thunk old None) e none k lt h = subst (λ (l : List Value).
+      IsReadAt P words (from + 1 + i) (slice_get l i)) e (item_read (from + 1) i old (subst (λ (l : List Value). i < length l) (sym e) lt) h)
   kept_free from i free (Thunk old (Some r)) e none k lt h = absurd (let bad : true ≡ false = none in cc)
   kept_free from i free (Con tag values) e none k lt h = absurd cc
   kept_free from i free (Var v) e none k lt h = absurd cc
@@ -74,17 +78,22 @@ module _ (P : Place → Type 0) (words : List ℕ) where
   kept_free from i free (Stack size values) e none k lt h = absurd cc
 
   -- a field that is scanned; b is the node in the snapshot
-  field_read_at : (from i : ℕ) (n b : Node) → IsLater b n → i < fields_of n → (1 ≤ i → has_result b ≡ false) → HasFields P words from n → KeepsFree P words from b → IsReadAt P words (from + i) (field_at n i)
+  field_read_at : (from i : ℕ) (n b : Node) → IsLater b n → i < fields_of n → (1 ≤ i → has_result b ≡ false) → HasFields P words from n →
+      KeepsFree P words from b → IsReadAt P words (from + i) (field_at n i)
   field_read_at from i (Con tag values) b l lt passed h k = item_read from i values lt h
   field_read_at from zero (Var v) b l lt passed h k = let z : from ≡ from + 0 = omega arith in subst (λ j. IsReadAt P words j (Some v)) z (one_read from v h)
   field_read_at from (suc i) (Var v) b l lt passed h k = absurd (omega arith)
   field_read_at from i (Arr values) b l lt passed h k = item_read from i values lt h
-  field_read_at from zero (Thunk free None) b l lt passed h k = let z : from ≡ from + 0 = omega arith in subst (λ j. IsReadAt P words j None) z (record { means = tt; unset = λ e. h.0 })
-  field_read_at from zero (Thunk free (Some r)) b l lt passed h k = let z : from ≡ from + 0 = omega arith in subst (λ j. IsReadAt P words j (Some r)) z (one_read from r h)
-  field_read_at from (suc i) (Thunk free None) b l lt passed h k = let z : from + 1 + i ≡ from + suc i = omega arith in subst (λ j. IsReadAt P words j (slice_get free i)) z (item_read (from + 1) i free (omega arith) h.1)
+  field_read_at from zero (Thunk free None) b l lt passed h k = let z : from ≡ from + 0 = omega arith in
+      subst (λ j. IsReadAt P words j None) z (record { means = tt; unset = λ e. h.0 })
+  field_read_at from zero (Thunk free (Some r)) b l lt passed h k = let z : from ≡ from + 0 = omega arith in
+      subst (λ j. IsReadAt P words j (Some r)) z (one_read from r h)
+  field_read_at from (suc i) (Thunk free None) b l lt passed h k = let z : from + 1 + i ≡ from + suc i = omega arith in
+      subst (λ j. IsReadAt P words j (slice_get free i)) z (item_read (from + 1) i free (omega arith) h.1)
   field_read_at from (suc i) (Thunk free (Some r)) b l lt passed h k =
       let z : from + 1 + i ≡ from + suc i = omega arith in
-      subst (λ j. IsReadAt P words j (slice_get free i)) z (kept_free from i free b (sym l.free) (passed (omega arith)) (ap (λ (r : Header). r.kind) (sym l.header)) (omega arith) k)
+      subst (λ j. IsReadAt P words j (slice_get free i)) z (kept_free from i free b (sym l.free) (passed (omega arith)) (ap (λ (r : Header).
+      r.kind) (sym l.header)) (omega arith) k)
   field_read_at from i (Weak parts) b l lt passed h k = absurd (omega arith)
   field_read_at from i (Stack size values) b l lt passed h k = slot_read from i size values lt h.0 h.1
 
@@ -131,12 +140,14 @@ means_some P least w (value.Number n) m e = omega arith
 means_some P least w (value.Ref name) m e = let a = m.1 in let l = least (record { at = m.0; name = name }) m.2 in omega arith
 
 -- at position 1, a result is set exactly where the word isn't 0
-result_word : (P : Place → Type 0) → ((p : Place) → P p → 1 ≤ p.at) → (words : List ℕ) (j : ℕ) (n : Node) → IsReadAt P words j (field_at n 0) → has_result n ≡ (is_thunk n && not (eqb (slice_index words j) 0))
+result_word : (P : Place → Type 0) → ((p : Place) → P p → 1 ≤ p.at) → (words : List ℕ) (j : ℕ) (n : Node) → IsReadAt P words j (field_at n 0) →
+    has_result n ≡ (is_thunk n && not (eqb (slice_index words j) 0))
 result_word P least words j (Con tag values) r = refl
 result_word P least words j (Var v) r = refl
 result_word P least words j (Arr values) r = refl
 result_word P least words j (Thunk free None) r = ap (λ (b : Bool). not b) (sym (eq-eqb (slice_index words j) 0 (r.unset refl)))
-result_word P least words j (Thunk free (Some v)) r = ap (λ (b : Bool). not b) (sym (ne_eqb (slice_index words j) 0 (means_some P least (slice_index words j) v r.means)))
+result_word P least words j (Thunk free (Some v)) r = ap (λ (b : Bool).
+    not b) (sym (ne_eqb (slice_index words j) 0 (means_some P least (slice_index words j) v r.means)))
 result_word P least words j (Weak parts) r = refl
 result_word P least words j (Stack size values) r = refl
 
@@ -146,10 +157,14 @@ or_parts false true e = absurd cc
 or_parts true b e = absurd cc
 
 -- the last position is told by the word
-last_same : (position w : ℕ) (b n : Node) → IsLater b n → (position ≡ 1 → has_result n ≡ (is_thunk n && not (eqb w 0))) → is_last n position ≡ is_last_word b position w
+last_same : (position w : ℕ) (b n : Node) → IsLater b n → (position ≡ 1 → has_result n ≡ (is_thunk n && not (eqb w 0))) →
+    is_last n position ≡ is_last_word b position w
 last_same position w b n l f = elim (eqb_tells position 1) [
-  | inl e ↦ ap (λ k. leb k position || (eqb position 1 && has_result n)) (same_fields b n l) ∙ ap (λ (x : Bool). leb (fields_of b) position || (eqb position 1 && x)) (f e.1 ∙ ap (λ (t : Bool). t && not (eqb w 0)) (sym (same_thunk b n l)))
-  | inr e ↦ ap (λ k. leb k position || (eqb position 1 && has_result n)) (same_fields b n l) ∙ ap (λ (t : Bool). leb (fields_of b) position || (t && has_result n)) e.0 ∙ sym (ap (λ (t : Bool). leb (fields_of b) position || (t && (is_thunk b && not (eqb w 0)))) e.0)
+  | inl e ↦ ap (λ k. leb k position || (eqb position 1 && has_result n)) (same_fields b n l) ∙
+      ap (λ (x : Bool). leb (fields_of b) position || (eqb position 1 && x)) (f e.1 ∙ ap (λ (t : Bool). t && not (eqb w 0)) (sym (same_thunk b n l)))
+  | inr e ↦ ap (λ k. leb k position || (eqb position 1 && has_result n)) (same_fields b n l) ∙
+      ap (λ (t : Bool). leb (fields_of b) position || (t && has_result n)) e.0 ∙
+      sym (ap (λ (t : Bool). leb (fields_of b) position || (t && (is_thunk b && not (eqb w 0)))) e.0)
 ]
 
 -- the name that was read, if one was
@@ -159,7 +174,8 @@ ref_of (Some value.Nil) = None
 ref_of (Some (value.Number n)) = None
 ref_of (Some (value.Ref name)) = Some name
 
-marks_if : (b : Bool) (s : State) (name : Name) → marks_of (cond b (with_mark s name) s) ≡ cond b (record { marked = s.marked ++ name ∷ []; queue = s.queue ++ entry_of name ∷ [] }) (marks_of s)
+marks_if : (b : Bool) (s : State) (name : Name) → marks_of (cond b (with_mark s name) s) ≡
+    cond b (record { marked = s.marked ++ name ∷ []; queue = s.queue ++ entry_of name ∷ [] }) (marks_of s)
 marks_if true s name = refl
 marks_if false s name = refl
 
@@ -170,20 +186,38 @@ mark_is s (Some (value.Number n)) = refl
 mark_is s (Some (value.Ref name)) = marks_if (is_new s name) s name
 
 -- a queue that has a first entry still has it
-queue_if : (b : Bool) (m : Marks) (name : Name) (entry : Entry) (rest : List Entry) → m.queue ≡ entry ∷ rest → (more : List Entry) × ((cond b (record { marked = m.marked ++ name ∷ []; queue = m.queue ++ entry_of name ∷ [] }) m).queue ≡ entry ∷ more)
+queue_if : (b : Bool) (m : Marks) (name : Name) (entry : Entry) (rest : List Entry) → m.queue ≡ entry ∷ rest → (more : List Entry) ×
+    ((cond b (record { marked = m.marked ++ name ∷ []; queue = m.queue ++ entry_of name ∷ [] }) m).queue ≡ entry ∷ more)
     × ((e : Entry) → Contains more e → Contains rest e ⊎ ((b ≡ true) × (e ≡ entry_of name)))
-queue_if true m name entry rest q = (rest ++ entry_of name ∷ [], ap (λ (l : List Entry). l ++ entry_of name ∷ []) q, λ e c. elim (Contains-push_cases rest (entry_of name) e c) [ inl d ↦ inl d | inr d ↦ inr (refl, sym d) ])
+queue_if true m name entry rest q = (
+  rest ++ entry_of name ∷ [],
+  ap (λ (l : List Entry). l ++ entry_of name ∷ []) q,
+  λ e c. elim (Contains-push_cases rest (entry_of name) e c) [ inl d ↦ inl d | inr d ↦ inr (refl, sym d) ],
+)
 queue_if false m name entry rest q = (rest, q, λ e c. inl c)
 
-still_first : (snapshot : World) (m : Marks) (o : Option Name) (entry : Entry) (rest : List Entry) → m.queue ≡ entry ∷ rest → (more : List Entry) × ((with_name snapshot m o).queue ≡ entry ∷ more)
+still_first : (snapshot : World) (m : Marks) (o : Option Name) (entry : Entry) (rest : List Entry) → m.queue ≡ entry ∷ rest → (more : List Entry) ×
+    ((with_name snapshot m o).queue ≡ entry ∷ more)
     × ((e : Entry) → Contains more e → Contains rest e ⊎ ((name : Name) × (o ≡ Some name) × IsSome (node_of snapshot name) × (e ≡ entry_of name)))
 still_first snapshot m None entry rest q = (rest, q, λ e c. inl c)
 still_first snapshot m (Some name) entry rest q =
-    let t = queue_if (is_some (node_of snapshot name) && not (is_listed name m.marked)) m name entry rest q in
-    (t.0, t.1, λ e c. elim (t.2 e c) [ inl d ↦ inl d | inr d ↦ inr (name, refl, (and_parts (is_some (node_of snapshot name)) (not (is_listed name m.marked)) d.0).0, d.1) ])
+    let t = queue_if (is_some (node_of snapshot name) && not (is_listed name m.marked)) m name entry rest q in (
+      t.0,
+      t.1,
+      λ e c. elim (t.2 e c) [
+        | inl d ↦ inl d
+        | inr d ↦ inr (
+          name,
+          refl,
+          (and_parts (is_some (node_of snapshot name)) (not (is_listed name m.marked)) d.0).0,
+          d.1,
+        )
+      ],
+    )
 
 -- the place that begins here
-some_at : (places : List Place) (at : ℕ) (name : Name) → Contains places (record { at = at; name = name }) → (n : Name) × (name_at places at ≡ Some n) × Contains places (record { at = at; name = n })
+some_at : (places : List Place) (at : ℕ) (name : Name) → Contains places (record { at = at; name = name }) → (n : Name) ×
+    (name_at places at ≡ Some n) × Contains places (record { at = at; name = n })
 some_at [] at name c = absurd (let lt = c.1 in omega arith)
 some_at (p ∷ ps) at name c = elim (eqb_tells p.at at) [
   | inl e ↦ (p.name, rw e.0 refl, subst (λ (a : ℕ). Contains (p ∷ ps) (record { at = a; name = p.name })) e.1 (contains_head p ps))
@@ -211,10 +245,14 @@ module _ (o : Opening) (words : List ℕ) (views : List Seen) (h : Keeps o words
   S0 = o.core.snapshot
 
   least : (p : Place) → P p → 1 ≤ p.at
-  least p q = let x : Object = record { at = p.at; name = p.name; node = q.0 } in lies_above o.layout (place_of x) (size_of q.0) (omega arith) (h.stands.apart x q.1).lies
+  least p q = let x : Object = record { at = p.at; name = p.name; node = q.0 } in
+      lies_above o.layout (place_of x) (size_of q.0) (omega arith) (h.stands.apart x q.1).lies
 
   not_there : (m : Marks) (name : Name) → node_of S0 name ≡ None → with_name S0 m (Some name) ≡ m
-  not_there m name e = ap (λ (y : Option Node). cond (is_some y && not (is_listed name m.marked)) (record { marked = m.marked ++ name ∷ []; queue = m.queue ++ entry_of name ∷ [] }) m) e
+  not_there m name e = ap (λ (y : Option Node). cond (is_some y && not (is_listed name m.marked)) (record {
+    marked = m.marked ++ name ∷ [];
+    queue = m.queue ++ entry_of name ∷ [];
+  }) m) e
 
   -- a pointer counts for the name that it means, where that is of the snapshot
   pointer_name : (m : Marks) (at : ℕ) (name : Name) → P (record { at = at; name = name }) → with_name S0 m (name_at o.places at) ≡ with_name S0 m (Some name)
@@ -230,7 +268,10 @@ module _ (o : Opening) (words : List ℕ) (views : List Seen) (h : Keeps o words
       by_found : (y : Option Name) → name_at o.places at ≡ y → with_name S0 m y ≡ with_name S0 m (Some name)
       by_found None e = sym none
       by_found (Some n) e =
-          let same = h.stands.one (record { at = at; name = n }) (record { at = at; name = name }) (inl (found_at o.places at n e)) (inr (record { at = at; name = name; node = node }, c, refl)) (inr refl) in
+          let same = h.stands.one (record { at = at; name = n }) (record {
+            at = at;
+            name = name;
+          }) (inl (found_at o.places at n e)) (inr (record { at = at; name = name; node = node }, c, refl)) (inr refl) in
           ap (λ (p : Place). with_name S0 m (Some p.name)) same
 
   -- a word counts for what it means
@@ -290,12 +331,21 @@ module _ (o : Opening) (words : List ℕ) (views : List Seen) (h : Keeps o words
 
     target : Target
     target =
-        let q : IsQueued o can.entry = h.queued can.entry (subst (λ (l : List Entry). Contains l can.entry) (sym queue_is) (contains_head can.entry can.rest)) in
+        let q : IsQueued o can.entry = h.queued can.entry (subst (λ (l : List Entry).
+        Contains l can.entry) (sym queue_is) (contains_head can.entry can.rest)) in
         let x : Object = q.object in
-        let x_at : x.at ≡ at = ap (λ (p : Place). p.at) (h.stands.one (place_of x) (record { at = at; name = can.entry.name }) (inl q.here.there) (inl (subst (λ (y : Opening). Contains y.places (record { at = at; name = can.entry.name })) is can.there)) (inl q.name)) in
+        let x_at : x.at ≡ at = ap (λ (p : Place). p.at) (h.stands.one (place_of x) (record {
+          at = at;
+          name = can.entry.name;
+        }) (inl q.here.there) (inl (subst (λ (y : Opening).
+        Contains y.places (record { at = at; name = can.entry.name })) is can.there)) (inl q.name)) in
         let st = h.stands.objects x (inl q.here) in
         let node_there : node_of S0 x.name ≡ Some q.node = ap (λ n. node_of S0 n) q.name ∙ q.there in
-        let k = st.kept q.node (inr (record { marking = q.marking; wide = h.is.wide q.marking x q.here (subst (λ y. IsSome y) (sym node_there) refl); there = node_there })) in
+        let k = st.kept q.node (inr (record {
+          marking = q.marking;
+          wide = h.is.wide q.marking x q.here (subst (λ y. IsSome y) (sym node_there) refl);
+          there = node_there;
+        })) in
         record {
           queued = q;
           node = st.node;
@@ -323,14 +373,16 @@ module _ (o : Opening) (words : List ℕ) (views : List Seen) (h : Keeps o words
     by_position t (suc i) e =
         let within : can.entry.position ≤ fields_of t.queued.node = t.queued.within in
         let same : fields_of t.node ≡ fields_of t.queued.node = same_fields t.queued.node t.node t.later in
-        let r : IsReadAt P words (at + HEADER_WORDS + i) (field_at t.node i) = field_read_at P words (at + HEADER_WORDS) i t.node t.queued.node t.later (omega arith) (λ le. t.queued.passed (omega arith)) t.fields t.kept in
+        let r : IsReadAt P words (at + HEADER_WORDS + i) (field_at t.node i) =
+        field_read_at P words (at + HEADER_WORDS) i t.node t.queued.node t.later (omega arith) (λ le. t.queued.passed (omega arith)) t.fields t.kept in
         let place : at + offset ≡ at + HEADER_WORDS + i = let q : offset ≡ HEADER_WORDS + i = can.position ∙ ap offset_of e in omega arith in
         let r' : IsReadAt P words (at + offset) (field_at t.node i) = subst (λ j. IsReadAt P words j (field_at t.node i)) (sym place) r in
         record {
           means = r'.means;
           unset = λ a le. r'.unset a;
           name = λ m. word_name m w (field_at t.node i) r'.means r'.unset;
-          result = λ one. let z : i ≡ 0 = omega arith in result_word P least words (at + offset) t.node (subst (λ k. IsReadAt P words (at + offset) (field_at t.node k)) z r');
+          result = λ one. let z : i ≡ 0 = omega arith in result_word P least words (at + offset) t.node (subst (λ k.
+              IsReadAt P words (at + offset) (field_at t.node k)) z r');
         }
 
     pub scan_tells : TellsEntry o can.entry w
@@ -345,25 +397,40 @@ module _ (o : Opening) (words : List ℕ) (views : List Seen) (h : Keeps o words
                 valid = t.valid;
                 word_is = ap (λ j. slice_index words j) z ∙ t.header;
                 room = λ a c.
-                    let same = h.stands.one (record { at = a; name = can.entry.name }) (record { at = at; name = can.entry.name }) (inl c) (inl (subst (λ (y : Opening). Contains y.places (record { at = at; name = can.entry.name })) is can.there)) (inl refl) in
+                    let same = h.stands.one (record { at = a; name = can.entry.name }) (record {
+                      at = at;
+                      name = can.entry.name;
+                    }) (inl c) (inl (subst (λ (y : Opening).
+                    Contains y.places (record { at = at; name = can.entry.name })) is can.there)) (inl refl) in
                     let here = ap (λ (p : Place). p.at) same in
                     let room = t.room in
                     omega arith;
               };
-          safe = λ some_. let r = by_position t can.entry.position refl in read_safe w (read_at (Some t.node) can.entry.position) r.means (λ e. r.unset e some_);
+          safe = λ some_. let r = by_position t can.entry.position refl in
+              read_safe w (read_at (Some t.node) can.entry.position) r.means (λ e. r.unset e some_);
         }
 
     snapshot_is : S.snapshot ≡ S0
     snapshot_is = same_snapshot o.core h.events
 
     -- a name that was read is queued well
-    name_queued : (t : Target) (position : ℕ) → IsScanned t position → (name : Name) → ref_of (read_at (Some t.node) position) ≡ Some name → IsSome (node_of S0 name) → IsQueued o (entry_of name)
+    name_queued : (t : Target) (position : ℕ) → IsScanned t position → (name : Name) → ref_of (read_at (Some t.node) position) ≡ Some name →
+        IsSome (node_of S0 name) → IsQueued o (entry_of name)
     name_queued t position r name e some_ = by_value (read_at (Some t.node) position) r.means e
       where
         by_object : (x : Object) → IsObject o h.born x → x.name ≡ name → IsQueued o (entry_of name)
         by_object x (inl old) same =
             let n : (y : Node) × (node_of S0 name ≡ Some y) = is_some_of (node_of S0 name) some_ in
-            record { marking = t.queued.marking; object = x; here = old; name = same; node = n.0; there = n.1; within = omega arith; passed = λ le. absurd (omega arith) }
+            record {
+              marking = t.queued.marking;
+              object = x;
+              here = old;
+              name = same;
+              node = n.0;
+              there = n.1;
+              within = omega arith;
+              passed = λ le. absurd (omega arith);
+            }
         by_object x (inr c) same =
             let none : node_of S0 name ≡ None = ap (λ n. node_of S0 n) (sym same) ∙ (h.new x c).no_snapshot in
             let bad : IsSome {T = Node} None = subst (λ y. IsSome y) none some_ in
@@ -404,7 +471,8 @@ module _ (o : Opening) (words : List ℕ) (views : List Seen) (h : Keeps o words
             by_result false e none = e
             by_result true e none = let bad : true ≡ false = sym (t.later.result e) ∙ none in absurd cc
 
-        by_last : (b : Bool) → is_last t.node can.entry.position ≡ b → Contains (cond b [] ((record { name = can.entry.name; position = can.entry.position + 1 }) ∷ [])) e → IsQueued o e
+        by_last : (b : Bool) → is_last t.node can.entry.position ≡ b →
+            Contains (cond b [] ((record { name = can.entry.name; position = can.entry.position + 1 }) ∷ [])) e → IsQueued o e
         by_last true q c = absurd (let lt = c.1 in omega arith)
         by_last false q c = subst (IsQueued o) (one_is (record { name = can.entry.name; position = can.entry.position + 1 }) e c) (more q)
 
@@ -423,13 +491,18 @@ module _ (o : Opening) (words : List ℕ) (views : List Seen) (h : Keeps o words
         let world : T.world ≡ S.world = (rest_read S x).world in
         let T_queue : T.queue ≡ entry ∷ f.0 = ap (λ (m : Marks). m.queue) marked ∙ f.1 in
         let T_node : node_of T.world entry.name ≡ Some t.node = ap (λ (u : World). node_of u entry.name) world ∙ t.there in
-        let scans : after_scan S S.queue ≡ advanced T (entry ∷ f.0) = ap (λ (l : List Entry). after_scan S l) queue_is ∙ ap (λ (y : Option Value). advanced (mark_read S y) (mark_read S y).queue) read_is ∙ ap (λ (l : List Entry). advanced T l) T_queue in
+        let scans : after_scan S S.queue ≡ advanced T (entry ∷ f.0) = ap (λ (l : List Entry). after_scan S l) queue_is ∙
+        ap (λ (y : Option Value). advanced (mark_read S y) (mark_read S y).queue) read_is ∙ ap (λ (l : List Entry). advanced T l) T_queue in
         let moved : moved_on (node_of T.world entry.name) entry ≡ entry_past (node_of S0 entry.name) entry w =
-        ap (λ (y : Option Node). moved_on y entry) T_node ∙ ap (λ (b : Bool). cond b [] next) (last_same entry.position w t.queued.node t.node t.later r.result) ∙ sym (ap (λ (y : Option Node). entry_past y entry w) t.queued.there) in
+        ap (λ (y : Option Node). moved_on y entry) T_node ∙ ap (λ (b : Bool).
+        cond b [] next) (last_same entry.position w t.queued.node t.node t.later r.result) ∙
+        sym (ap (λ (y : Option Node). entry_past y entry w) t.queued.there) in
         let marks : marks_of (after_scan S S.queue) ≡ after_word o (marks_of S) (record { entry = entry; word = w }) =
         ap (λ (s : State). marks_of s) scans ∙ (λ i. record { marked = (marked i).marked; queue = moved i ++ f.0 })
-        ∙ sym (ap (λ (m : Marks). let n : Marks = record { marked = m.marked; queue = first_past S0 m.queue w } in n) (r.name (marks_of S)) ∙ ap (λ (l : List Entry). let n : Marks = record { marked = M.marked; queue = first_past S0 l w } in n) f.1) in
-        let after_queue : (after_scan S S.queue).queue ≡ moved_on (Some t.node) entry ++ f.0 = ap (λ (s : State). s.queue) scans ∙ ap (λ (y : Option Node). moved_on y entry ++ f.0) T_node in
+        ∙ sym (ap (λ (m : Marks). let n : Marks = record { marked = m.marked; queue = first_past S0 m.queue w } in n) (r.name (marks_of S)) ∙
+        ap (λ (l : List Entry). let n : Marks = record { marked = M.marked; queue = first_past S0 l w } in n) f.1) in
+        let after_queue : (after_scan S S.queue).queue ≡ moved_on (Some t.node) entry ++ f.0 = ap (λ (s : State). s.queue) scans ∙
+        ap (λ (y : Option Node). moved_on y entry ++ f.0) T_node in
         let each : (e : Entry) → Contains (after_scan S S.queue).queue e → IsQueued o e =
         λ e c. elim (Contains-append_cases (moved_on (Some t.node) entry) f.0 e (subst (λ (l : List Entry). Contains l e) after_queue c)) [
           | inl d ↦ next_queued t e d
@@ -438,5 +511,8 @@ module _ (o : Opening) (words : List ℕ) (views : List Seen) (h : Keeps o words
             | inr new ↦ subst (IsQueued o) (sym new.3) (name_queued t entry.position r new.0 new.1 new.2)
           ]
         ] in
-        subst (λ (k : Entry). AddsScan o words views h entry words (set views id (scanning v (record { entry = k; word = w })))) (sym (ap (λ (l : List Entry). first_of l) can.first))
+        subst (λ (k : Entry). AddsScan o words views h entry words (set views id (scanning v (record {
+          entry = k;
+          word = w;
+        })))) (sym (ap (λ (l : List Entry). first_of l) can.first))
         (scan_law o words views h id v here entry can.rest w x can.collects queue_is read_is r.means r.unset marks each)

@@ -15,14 +15,21 @@ past (w ∷ ws) zero le = absurd (omega arith)
 past (w ∷ ws) (suc i) le = past ws i (omega arith)
 
 -- a list that isn't empty has a last item
-pub last_apart : (values : List Value) → (values ≡ []) ⊎ ((front : List Value) × (v : Value) × (values ≡ front ++ v ∷ []) × (without_last values ≡ front) × (last_of values ≡ Some v))
+pub last_apart : (values : List Value) → (values ≡ []) ⊎ ((front : List Value) × (v : Value) × (values ≡ front ++ v ∷ []) ×
+    (without_last values ≡ front) × (last_of values ≡ Some v))
 last_apart [] = inl refl
 last_apart (x ∷ []) = inr ([], x, refl, refl, refl)
 last_apart (x ∷ y ∷ values) = elim (last_apart (y ∷ values)) [
   | inl e ↦ absurd cc
   | inr h ↦
       let n : length (x ∷ y ∷ values) - 1 ≡ suc (length (y ∷ values) - 1) = omega arith in
-      inr (x ∷ h.0, h.1, ap (λ (l : List Value). x ∷ l) h.2, ap (λ (k : ℕ). take k (x ∷ y ∷ values)) n ∙ ap (λ (l : List Value). x ∷ l) h.3, ap (λ (k : ℕ). slice_get (x ∷ y ∷ values) k) n ∙ h.4)
+      inr (
+        x ∷ h.0,
+        h.1,
+        ap (λ (l : List Value). x ∷ l) h.2,
+        ap (λ (k : ℕ). take k (x ∷ y ∷ values)) n ∙ ap (λ (l : List Value). x ∷ l) h.3,
+        ap (λ (k : ℕ). slice_get (x ∷ y ∷ values) k) n ∙ h.4,
+      )
 ]
 
 module _ (P : Place → Type 0) where
@@ -52,7 +59,8 @@ module _ (P : Place → Type 0) where
       subst (λ k. ListMeans P (take k (w ∷ u ∷ ws)) (x ∷ front)) (sym n) (h.0, front_means (u ∷ ws) front v h.1)
 
   -- a value more, in the next slot
-  pub all_pushed : (words : List ℕ) (from w : ℕ) (values : List Value) (v : Value) → from + length values < length words → AllMean P words from values → Means P w v → AllMean P (set words (from + length values) w) from (values ++ v ∷ [])
+  pub all_pushed : (words : List ℕ) (from w : ℕ) (values : List Value) (v : Value) → from + length values < length words →
+      AllMean P words from values → Means P w v → AllMean P (set words (from + length values) w) from (values ++ v ∷ [])
   all_pushed words from w values v inside h m i x e = elim (item_cases values (v ∷ []) i x e) [
     | inl l ↦
         let lt = slice_get_within values i x l in
@@ -64,11 +72,14 @@ module _ (P : Place → Type 0) where
         let is : Some v ≡ Some x = subst (λ k. slice_get (v ∷ []) k ≡ Some x) none r.2 in
         let same : v ≡ x = cc in
         let at : from + i ≡ from + length values = omega (arith, r.1) in
-        subst (λ y. Means P (slice_index (set words (from + length values) w) (from + i)) y) same (subst (λ j. Means P (slice_index (set words (from + length values) w) j) v) (sym at) (subst (λ n. Means P n v) (sym (get_or-set_same words (from + length values) w 0 inside)) m))
+        subst (λ y. Means P (slice_index (set words (from + length values) w) (from + i)) y) same (subst (λ j.
+        Means P (slice_index (set words (from + length values) w) j) v) (sym at) (subst (λ n.
+        Means P n v) (sym (get_or-set_same words (from + length values) w 0 inside)) m))
   ]
 
   -- all values but the last, where the last slot changes
-  pub all_popped : (words : List ℕ) (from w : ℕ) (front : List Value) (v : Value) → AllMean P words from (front ++ v ∷ []) → AllMean P (set words (from + length front) w) from front
+  pub all_popped : (words : List ℕ) (from w : ℕ) (front : List Value) (v : Value) → AllMean P words from (front ++ v ∷ []) →
+      AllMean P (set words (from + length front) w) from front
   all_popped words from w front v h i x e =
       let lt = slice_get_within front i x e in
       let far : from + i ≢ from + length front = λ k. omega arith in
@@ -79,7 +90,8 @@ pub unset_pushed : (words : List ℕ) (from w depth size : ℕ) → AreUnset wor
 unset_pushed words from w depth size h i lo hi = get_or-set_other words (from + depth) (from + i) w 0 (λ k. omega arith) ∙ h i (omega arith) hi
 
 -- and one more where the top is
-pub unset_popped : (words : List ℕ) (from depth size : ℕ) → from + depth < length words → AreUnset words from (depth + 1) size → AreUnset (set words (from + depth) 0) from depth size
+pub unset_popped : (words : List ℕ) (from depth size : ℕ) → from + depth < length words → AreUnset words from (depth + 1) size →
+    AreUnset (set words (from + depth) 0) from depth size
 unset_popped words from depth size inside h i lo hi = elim (cases_eq i depth) [
   | inl e ↦ ap (λ k. slice_index (set words (from + depth) 0) (from + k)) e ∙ get_or-set_same words (from + depth) 0 0 inside
   | inr ne ↦ get_or-set_other words (from + depth) (from + i) 0 0 (λ k. ne (omega arith)) ∙ h i (omega arith) hi

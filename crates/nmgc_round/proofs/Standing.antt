@@ -17,7 +17,12 @@ use Rattle.nmgc_round.proofs.Fields.{fields_same, kept_same}
 
 -- what is later than what is later
 pub later_of : (n made : Node) → IsLater n made → (first : Node) → IsLater first n → IsLater first made
-later_of n made a first b = record { header = a.header ∙ b.header; free = a.free ∙ b.free; result = λ e. a.result (b.result e); alive = λ parts e. b.alive parts (a.alive parts e) }
+later_of n made a first b = record {
+  header = a.header ∙ b.header;
+  free = a.free ∙ b.free;
+  result = λ e. a.result (b.result e);
+  alive = λ parts e. b.alive parts (a.alive parts e);
+}
 
 pub same_node : (n : Node) → IsLater n n
 same_node n = record { header = refl; free = refl; result = λ e. e; alive = λ parts e. e }
@@ -97,14 +102,19 @@ module _ (o : Opening) (born : List Object) (w : World) (ws : List ℕ) (st : Re
           fields = subst (λ a. HasSlots (IsIn o born) us (a + HEADER_WORDS) (slots_of made)) at fields;
           kept = λ before k.
               let g = h.kept before k in
-              let may' : MayChange (header_of before).kind i = subst (λ (r : Header). MayChange r.kind i) (head ∙ g.0.header) may in
-              (g.0, kept_same o y (IsIn o born) (IsIn o born) (λ p q. q) ws us (y.at + HEADER_WORDS) before k (λ j lo hi fixed. away j (λ e. fixed i (omega arith) may')) g.1);
+              let may' : MayChange (header_of before).kind i = subst (λ (r : Header). MayChange r.kind i) (head ∙ g.0.header) may in (
+                g.0,
+                kept_same o y (IsIn o born) (IsIn o born) (λ p q. q) ws us (y.at + HEADER_WORDS) before k (λ j lo hi fixed.
+                    away j (λ e. fixed i (omega arith) may')) g.1,
+              );
         }
 
     other_object : (y : Object) → IsObject o born y → (end_of x ≤ y.at) ⊎ (end_of y ≤ x.at) → IsStanding o born v us y
     other_object y hy far =
         let h = st.objects y hy in
-        let named : y.name ≡ x.name → ⊥ = λ e. let at : y.at ≡ x.at = ap (λ (p : Place). p.at) (st.one (place_of y) (place_of x) (placed o born y hy) (placed o born x hx) (inl e)) in elim far [ inl l ↦ omega arith | inr l ↦ omega arith ] in
+        let named : y.name ≡ x.name →
+        ⊥ = λ e. let at : y.at ≡ x.at = ap (λ (p : Place). p.at) (st.one (place_of y) (place_of x) (placed o born y hy) (placed o born x hx) (inl e)) in
+        elim far [ inl l ↦ omega arith | inr l ↦ omega arith ] in
         let beyond : (j : ℕ) → y.at ≤ j → j < end_of y → j ≢ x.at + HEADER_WORDS + i = λ j lo hi e. elim far [ inl l ↦ omega arith | inr l ↦ omega arith ] in
         let count : (header_of h.node).fields ≡ (header_of y.node).fields = ap (λ (r : Header). r.fields) h.later.header in
         record {
@@ -113,11 +123,15 @@ module _ (o : Opening) (born : List Object) (w : World) (ws : List ℕ) (st : Re
           there = others y.name named ∙ h.there;
           later = h.later;
           sized = h.sized;
-          fields = fields_same (IsIn o born) (IsIn o born) (λ p q. q) ws us (y.at + HEADER_WORDS) h.node h.sized (λ j lo hi. away j (beyond j (omega arith) (omega arith))) h.fields;
+          fields = fields_same (IsIn o born) (IsIn o born) (λ p q. q) ws us (y.at + HEADER_WORDS) h.node h.sized (λ j lo hi.
+              away j (beyond j (omega arith) (omega arith))) h.fields;
           kept = λ before k.
               let g = h.kept before k in
-              let n : (header_of before).fields ≡ (header_of y.node).fields = ap (λ (r : Header). r.fields) (sym g.0.header) in
-              (g.0, kept_same o y (IsIn o born) (IsIn o born) (λ p q. q) ws us (y.at + HEADER_WORDS) before k (λ j lo hi fixed. away j (beyond j (omega arith) (omega arith))) g.1);
+              let n : (header_of before).fields ≡ (header_of y.node).fields = ap (λ (r : Header). r.fields) (sym g.0.header) in (
+                g.0,
+                kept_same o y (IsIn o born) (IsIn o born) (λ p q. q) ws us (y.at + HEADER_WORDS) before k (λ j lo hi fixed.
+                    away j (beyond j (omega arith) (omega arith))) g.1,
+              );
         }
 
     pub stands_field : RepresentsInRound o born v us
@@ -133,11 +147,20 @@ module _ (o : Opening) (born : List Object) (w : World) (ws : List ℕ) (st : Re
     }
 
 -- the same words, in a world with the same nodes
-pub stands_nodes : (o : Opening) (born : List Object) (w v : World) (ws : List ℕ) → ((n : Name) → node_of v n ≡ node_of w n) → RepresentsInRound o born w ws → RepresentsInRound o born v ws
+pub stands_nodes : (o : Opening) (born : List Object) (w v : World) (ws : List ℕ) → ((n : Name) → node_of v n ≡ node_of w n) →
+    RepresentsInRound o born w ws → RepresentsInRound o born v ws
 stands_nodes o born w v ws same st = record {
   total = st.total;
   one = st.one;
   named = λ p hp. let h = st.named p hp in record { known = subst (λ y. IsSome y) (sym (same p.name)) h.known; valid = h.valid; name = h.name; lies = h.lies };
   apart = st.apart;
-  objects = λ y hy. let h = st.objects y hy in record { header = h.header; node = h.node; there = same y.name ∙ h.there; later = h.later; sized = h.sized; fields = h.fields; kept = h.kept };
+  objects = λ y hy. let h = st.objects y hy in record {
+    header = h.header;
+    node = h.node;
+    there = same y.name ∙ h.there;
+    later = h.later;
+    sized = h.sized;
+    fields = h.fields;
+    kept = h.kept;
+  };
 }

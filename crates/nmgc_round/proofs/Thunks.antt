@@ -55,23 +55,28 @@ thunk_of (Weak parts) e = absurd cc
 thunk_of (Stack size values) e = absurd cc
 
 -- `force` of a thunk
-step_force : (w : World) (m dest : ℕ) (object : Operand) (name : Name) (free : List Value) (result : Option Value) → value_for w m object ≡ value.Ref name → node_of w name ≡ Some (Thunk free result) → step w m (Force dest object) ≡ (keeping w m dest (given_or reply.Nothing result), given_or reply.Nothing result)
+step_force : (w : World) (m dest : ℕ) (object : Operand) (name : Name) (free : List Value) (result : Option Value) →
+    value_for w m object ≡ value.Ref name → node_of w name ≡ Some (Thunk free result) →
+    step w m (Force dest object) ≡ (keeping w m dest (given_or reply.Nothing result), given_or reply.Nothing result)
 step_force w m dest object name free result is there =
     ap (λ y. read_into w m dest (read_object (object_of w y) result_read)) is ∙ ap (λ o. read_into w m dest (read_object o result_read)) there
 
 -- `update` of a thunk
-step_update : (w : World) (m : ℕ) (object v : Operand) (name : Name) (found made : Node) (r : Reply) → value_for w m object ≡ value.Ref name → node_of w name ≡ Some found → thunk_updated found (value_for w m v) ≡ (made, r) → step w m (Update object v) ≡ (with_node w name made, r)
+step_update : (w : World) (m : ℕ) (object v : Operand) (name : Name) (found made : Node) (r : Reply) → value_for w m object ≡ value.Ref name →
+    node_of w name ≡ Some found → thunk_updated found (value_for w m v) ≡ (made, r) → step w m (Update object v) ≡ (with_node w name made, r)
 step_update w m object v name found made r is there does =
     let c : Change = change.Update (value_for w m v) in
     ap (λ y. change_object w y c) is ∙ ap (λ o. change_node w name o c) there ∙ ap (λ (r : Node × Reply). (with_node w name r.0, r.1)) does
 
 -- it owes the free variables, where there was no result
-owes_update : (w : World) (m : ℕ) (object v : Operand) (name : Name) (found : Node) → value_for w m object ≡ value.Ref name → node_of w name ≡ Some found → owed_by w m (Update object v) ≡ names_among (free_held found)
+owes_update : (w : World) (m : ℕ) (object v : Operand) (name : Name) (found : Node) → value_for w m object ≡ value.Ref name →
+    node_of w name ≡ Some found → owed_by w m (Update object v) ≡ names_among (free_held found)
 owes_update w m object v name found is there =
     let c : Change = change.Update (value_for w m v) in
     ap (λ y. names_among (owed_of w y c)) is ∙ ap (λ o. names_among (owed_at c name o)) there
 
-module _ (o : Opening) (words : List ℕ) (views : List Seen) (h : Keeps o words views) (id : ℕ) (v : Seen) (here : get_elem? views id ≡ some v) (p : Part) (is : IsMutator v p) where
+module _ (o : Opening) (words : List ℕ) (views : List Seen) (h : Keeps o words views) (id : ℕ) (v : Seen) (here : get_elem? views id ≡
+    some v) (p : Part) (is : IsMutator v p) where
   abbrev S : State
   S = now o h.events
 
@@ -98,7 +103,8 @@ module _ (o : Opening) (words : List ℕ) (views : List Seen) (h : Keeps o words
     first : header_of thing.node ≡ header
     fields : HasSlots P words (at + HEADER_WORDS) (slots_of (Thunk free result))
 
-  found : (at : ℕ) (object : Operand) (header : Header) → operand_word o p object ≡ 2 * at → Names p at header → header.kind ≡ kind.Thunk → Found at object header
+  found : (at : ℕ) (object : Operand) (header : Header) → operand_word o p object ≡ 2 * at → Names p at header → header.kind ≡ kind.Thunk →
+      Found at object header
   found at object header e names is_thunk =
       let m = meant o words views h id v here p is at header object e names in
       let st = h.stands.objects m.object m.there in
@@ -115,49 +121,66 @@ module _ (o : Opening) (words : List ℕ) (views : List Seen) (h : Keeps o words
         node_there = st.there ∙ ap (λ (n : Node). Some n) t.2;
         head = sym head ∙ ap header_of t.2;
         first = m.head;
-        fields = subst (λ (n : Node). HasSlots P words (at + HEADER_WORDS) (slots_of n)) t.2 (subst (λ a. HasSlots P words (a + HEADER_WORDS) (slots_of st.node)) m.is_at st.fields);
+        fields = subst (λ (n : Node). HasSlots P words (at + HEADER_WORDS) (slots_of n)) t.2 (subst (λ a.
+            HasSlots P words (a + HEADER_WORDS) (slots_of st.node)) m.is_at st.fields);
       }
 
   -- a load of a result, by whether there is one
-  force_as : (at : ℕ) (c : Command) (can : CanForce o p at c) (free : List Value) (result : Option Value) (name : Name) → value_for W p.number can.object ≡ value.Ref name → node_of W name ≡ Some (Thunk free result) → HasSlots P words (at + HEADER_WORDS) (slots_of (Thunk free result)) → AddsCommand o words views h p.number (Force can.dest can.object) words (set views id (forced v (Force can.dest can.object) (slice_index words (at + HEADER_WORDS))))
+  force_as : (at : ℕ) (c : Command) (can : CanForce o p at c) (free : List Value) (result : Option Value) (name : Name) →
+      value_for W p.number can.object ≡ value.Ref name → node_of W name ≡ Some (Thunk free result) →
+      HasSlots P words (at + HEADER_WORDS) (slots_of (Thunk free result)) →
+      AddsCommand o words views h p.number (Force can.dest can.object) words
+      (set views id (forced v (Force can.dest can.object) (slice_index words (at + HEADER_WORDS))))
   force_as at c can free None name refers there fields =
       let C : Command = Force can.dest can.object in
       let w : ℕ = slice_index words (at + HEADER_WORDS) in
       let zero_ : w ≡ 0 = (fields_of_slots P words (at + HEADER_WORDS) (Thunk free None) fields).0 in
       let a : result_told w ≡ plain reply.Nothing = ap (λ (b : Bool). cond b (plain reply.Nothing) (word w)) (eq-eqb w 0 zero_) in
       subst (λ (a : Answer). AddsCommand o words views h p.number C words (set views id (answered v C a))) (sym a)
-      (still_law o words views h id v here p is C reply.Nothing (plain reply.Nothing) W (subst (λ (d : Command). CanGive o p d) can.command can.gives) (step_force W p.number can.dest can.object name free None refers there) (λ n. refl) refl refl fits.hand refl)
+      (still_law o words views h id v here p is C reply.Nothing (plain reply.Nothing) W (subst (λ (d : Command).
+      CanGive o p d) can.command can.gives) (step_force W p.number can.dest can.object name free None refers there) (λ n. refl) refl refl fits.hand refl)
   force_as at c can free (Some x) name refers there fields =
       let C : Command = Force can.dest can.object in
       let w : ℕ = slice_index words (at + HEADER_WORDS) in
       let m : Means P w x = fields_of_slots P words (at + HEADER_WORDS) (Thunk free (Some x)) fields in
-      let a : result_told w ≡ word w = ap (λ (b : Bool). cond b (plain reply.Nothing) (word w)) (ne_eqb w 0 (means_some P (above o words views h id v here p is) w x m)) in
+      let a : result_told w ≡ word w =
+      ap (λ (b : Bool). cond b (plain reply.Nothing) (word w)) (ne_eqb w 0 (means_some P (above o words views h id v here p is) w x m)) in
       let q : MutatorState = world_holding (state_of W p.number) can.dest x in
       subst (λ (a : Answer). AddsCommand o words views h p.number C words (set views id (answered v C a))) (sym a)
-      (still_law o words views h id v here p is C (reply.Given x) (word w) (with_register W p.number can.dest x) (subst (λ (d : Command). CanGive o p d) can.command can.gives) (step_force W p.number can.dest can.object name free (Some x) refers there) (nodes_kept W p.number q fits.exists refl) refl (x, refl, m) (register_hand o words views h id v here p is can.dest w x m) refl)
+      (still_law o words views h id v here p is C (reply.Given x) (word w) (with_register W p.number can.dest x) (subst (λ (d : Command).
+      CanGive o p d) can.command can.gives) (step_force W p.number can.dest can.object name free (Some x) refers there)
+      (nodes_kept W p.number q fits.exists refl) refl (x, refl, m) (register_hand o words views h id v here p is can.dest w x m) refl)
 
-  pub force_keeps : (at : ℕ) (c : Command) → CanForce o p at c → AddsCommand o words views h p.number c words (set views id (forced v c (slice_index words (at + HEADER_WORDS))))
+  pub force_keeps : (at : ℕ) (c : Command) → CanForce o p at c →
+      AddsCommand o words views h p.number c words (set views id (forced v c (slice_index words (at + HEADER_WORDS))))
   force_keeps at c can =
       let f = found at can.object can.header can.object_word can.names can.kind in
-      subst (λ (d : Command). AddsCommand o words views h p.number d words (set views id (forced v d (slice_index words (at + HEADER_WORDS))))) (sym can.command)
+      subst (λ (d : Command).
+      AddsCommand o words views h p.number d words (set views id (forced v d (slice_index words (at + HEADER_WORDS))))) (sym can.command)
       (force_as at c can f.free f.result f.thing.name f.refers f.node_there f.fields)
 
-  safe_as : (at : ℕ) (free : List Value) (result : Option Value) → HasSlots P words (at + HEADER_WORDS) (slots_of (Thunk free result)) → slice_index words (at + HEADER_WORDS) ≢ 0 → IsSafe o (slice_index words (at + HEADER_WORDS))
+  safe_as : (at : ℕ) (free : List Value) (result : Option Value) → HasSlots P words (at + HEADER_WORDS) (slots_of (Thunk free result)) →
+      slice_index words (at + HEADER_WORDS) ≢ 0 → IsSafe o (slice_index words (at + HEADER_WORDS))
   safe_as at free None fields ne = absurd (ne (fields_of_slots P words (at + HEADER_WORDS) (Thunk free None) fields).0)
-  safe_as at free (Some x) fields ne = safe_word o words views h id v here p is (slice_index words (at + HEADER_WORDS)) x (fields_of_slots P words (at + HEADER_WORDS) (Thunk free (Some x)) fields)
+  safe_as at free (Some x) fields ne =
+      safe_word o words views h id v here p is (slice_index words (at + HEADER_WORDS)) x
+      (fields_of_slots P words (at + HEADER_WORDS) (Thunk free (Some x)) fields)
 
   -- a result that a load finds
   pub force_safe : (at : ℕ) (c : Command) → CanForce o p at c → slice_index words (at + HEADER_WORDS) ≢ 0 → IsSafe o (slice_index words (at + HEADER_WORDS))
   force_safe at c can ne = let f = found at can.object can.header can.object_word can.names can.kind in safe_as at f.free f.result f.fields ne
 
   -- how many free variables the header tells
-  free_count : (at : ℕ) (header : Header) (free : List Value) (result : Option Value) → Names p at header → header ≡ header_of (Thunk free result) → header_at p.fixed at / 2048 - 1 ≡ length free
+  free_count : (at : ℕ) (header : Header) (free : List Value) (result : Option Value) → Names p at header → header ≡ header_of (Thunk free result) →
+      header_at p.fixed at / 2048 - 1 ≡ length free
   free_count at header free result names e =
-      let t : header_at p.fixed at ≡ header_word (header_of (Thunk free result)) = named_header o words views h id v here p is at header names ∙ ap (λ (k : Header). header_word k) e in
+      let t : header_at p.fixed at ≡ header_word (header_of (Thunk free result)) = named_header o words views h id v here p is at header names ∙
+      ap (λ (k : Header). header_word k) e in
       omega arith
 
   -- an update of a thunk that has none
-  update_yes : (at w : ℕ) (c : Command) (can : CanUpdate o p at w c) (f : Found at can.object can.header) → f.result ≡ None → AddsCommand o words views h p.number c (set words (at + HEADER_WORDS) w) (set views id (updated v at c true))
+  update_yes : (at w : ℕ) (c : Command) (can : CanUpdate o p at w c) (f : Found at can.object can.header) → f.result ≡ None →
+      AddsCommand o words views h p.number c (set words (at + HEADER_WORDS) w) (set views id (updated v at c true))
   update_yes at w c can f none =
       let x = f.thing in
       let st = h.stands.objects x f.there in
@@ -167,8 +190,10 @@ module _ (o : Opening) (words : List ℕ) (views : List Seen) (h : Keeps o words
       let made : Node = Thunk free (Some val) in
       let C : Command = Update can.object can.value in
       let u : World = with_node W x.name made in
-      let does : step W p.number C ≡ (u, reply.Updated) = step_update W p.number can.object can.value x.name st.node made reply.Updated f.refers st.there (ap (λ n. thunk_updated n val) was) in
-      let owes : owed_by W p.number C ≡ names_among free = owes_update W p.number can.object can.value x.name st.node f.refers st.there ∙ ap (λ n. names_among (free_held n)) was in
+      let does : step W p.number C ≡ (u, reply.Updated) =
+      step_update W p.number can.object can.value x.name st.node made reply.Updated f.refers st.there (ap (λ n. thunk_updated n val) was) in
+      let owes : owed_by W p.number C ≡ names_among free = owes_update W p.number can.object can.value x.name st.node f.refers st.there ∙
+      ap (λ n. names_among (free_held n)) was in
       let now_ = node_now o words views h id v here p is x f.there made in
       let means : Means P w val = subst (λ n. Means P n val) can.value_word (operand_is o words views h id v here p is can.value) in
       let far = inside o words views h id v here p is x f.there in
@@ -177,7 +202,8 @@ module _ (o : Opening) (words : List ℕ) (views : List Seen) (h : Keeps o words
       let count : (header_of x.node).fields ≡ length free + 1 = ap (λ (k : Header). k.fields) head in
       let z : x.at + HEADER_WORDS + 0 ≡ x.at + HEADER_WORDS = omega arith in
       let new : List ℕ = set words (x.at + HEADER_WORDS + 0) w in
-      let stored : slice_index new (x.at + HEADER_WORDS) ≡ w = ap (λ j. slice_index (set words j w) (x.at + HEADER_WORDS)) z ∙ get_or-set_same words (x.at + HEADER_WORDS) w 0 (omega arith) in
+      let stored : slice_index new (x.at + HEADER_WORDS) ≡ w = ap (λ j. slice_index (set words j w) (x.at + HEADER_WORDS)) z ∙
+      get_or-set_same words (x.at + HEADER_WORDS) w 0 (omega arith) in
       let ch : Changes o words views h id v here p is x f.there 0 w made u = record {
         within = omega arith;
         may = subst (λ (k : Header). MayChange k.kind 0) (sym head) refl;
@@ -189,27 +215,48 @@ module _ (o : Opening) (words : List ℕ) (views : List Seen) (h : Keeps o words
         stacks = λ size values e. absurd (let both : Thunk free None ≡ Stack size values = sym was ∙ e in cc);
       } in
       let ws : List ℕ = free_named at p in
-      let all = fields_of_slots P words (at + HEADER_WORDS) (Thunk free None) (subst (λ r. HasSlots P words (at + HEADER_WORDS) (slots_of (Thunk free r))) none f.fields) in
+      let all = fields_of_slots P words (at + HEADER_WORDS) (Thunk free None) (subst (λ r.
+      HasSlots P words (at + HEADER_WORDS) (slots_of (Thunk free r))) none f.fields) in
       let as_many = free_count at can.header free f.result can.names f.head in
       let fields_are : can.header.fields ≡ length free + 1 = ap (λ (k : Header). k.fields) f.head in
       let list : ListMeans P ws free = subst (λ n. ListMeans P (fixed_from p.fixed at (HEADER_WORDS + 1) n) free) (sym as_many)
       (named_list P p.fixed words at (at + HEADER_WORDS + 1) (HEADER_WORDS + 1) free
-      (λ i lt. let there = can.free i (omega arith) in let k : at + (HEADER_WORDS + 1 + i) ≡ at + HEADER_WORDS + 1 + i = omega arith in named_word o words views h id v here p is at (HEADER_WORDS + 1 + i) there.0 there.1 ∙ ap (λ j. slice_index words j) k)
+      (λ i lt. let there = can.free i (omega arith) in let k : at + (HEADER_WORDS + 1 + i) ≡ at + HEADER_WORDS + 1 + i = omega arith in
+      named_word o words views h id v here p is at (HEADER_WORDS + 1 + i) there.0 there.1 ∙ ap (λ j. slice_index words j) k)
       all.1) in
-      subst (λ l. AddsCommand o words views h p.number c (set words (at + HEADER_WORDS) w) (set views id (record v { parts = first_changed (λ q. doing (finding_all q (free_named at q)) c (plain reply.Updated) (owed_words v.opening.marking (free_named at q))) l }))) (sym is.alone)
-      (subst (λ (y : Opening). AddsCommand o words views h p.number c (set words (at + HEADER_WORDS) w) (set views id (record v { parts = doing (finding_all p ws) c (plain reply.Updated) (owed_words y.marking ws) ∷ [] }))) (sym (same_opening o words views h id v here p is))
-      (subst (λ (d : Command). AddsCommand o words views h p.number d (set words (at + HEADER_WORDS) w) (set views id (record v { parts = doing (finding_all p ws) d (plain reply.Updated) (owed_words o.marking ws) ∷ [] }))) (sym can.command)
-      (subst (λ a. AddsCommand o words views h p.number C (set words (a + HEADER_WORDS) w) (set views id (record v { parts = doing (finding_all p ws) C (plain reply.Updated) (owed_words o.marking ws) ∷ [] }))) f.is_at
-      (subst (λ j. AddsCommand o words views h p.number C (set words j w) (set views id (record v { parts = doing (finding_all p ws) C (plain reply.Updated) (owed_words o.marking ws) ∷ [] }))) z
+      subst (λ l. AddsCommand o words views h p.number c (set words (at + HEADER_WORDS) w) (set views id (record v {
+        parts =
+            first_changed (λ q. doing (finding_all q (free_named at q)) c (plain reply.Updated) (owed_words v.opening.marking (free_named at q))) l;
+      }))) (sym is.alone)
+      (subst (λ (y : Opening). AddsCommand o words views h p.number c (set words (at + HEADER_WORDS) w) (set views id (record v {
+        parts =
+            doing (finding_all p ws) c (plain reply.Updated) (owed_words y.marking ws) ∷ [];
+      }))) (sym (same_opening o words views h id v here p is))
+      (subst (λ (d : Command). AddsCommand o words views h p.number d (set words (at + HEADER_WORDS) w) (set views id (record v {
+        parts =
+            doing (finding_all p ws) d (plain reply.Updated) (owed_words o.marking ws) ∷ [];
+      }))) (sym can.command)
+      (subst (λ a. AddsCommand o words views h p.number C (set words (a + HEADER_WORDS) w) (set views id (record v {
+        parts =
+            doing (finding_all p ws) C (plain reply.Updated) (owed_words o.marking ws) ∷ [];
+      }))) f.is_at
+      (subst (λ j. AddsCommand o words views h p.number C (set words j w) (set views id (record v {
+        parts =
+            doing (finding_all p ws) C (plain reply.Updated) (owed_words o.marking ws) ∷ [];
+      }))) z
       (field_law o words views h id v here p is x f.there 0 w made C reply.Updated (plain reply.Updated) u (p.found ++ ws) (owed_words o.marking ws) ch
       (subst (λ (d : Command). CanGive o p d) can.command can.gives) does refl
       (hand_kept o words views h id v here p is u (hand_now o p) (node_frame W x.name st.node made st.there p.number) fits.hand)
-      (subst (λ ns. Owes o.marking P (p.owed ++ owed_words o.marking ws) (names_of S.owed p.number ++ ns)) (sym owes) (owes_list P o.marking p.owed ws (names_of S.owed p.number) free fits.owed list))
-      (subst (λ ns. Owes true P (p.found ++ ws) (names_of S.owed p.number ++ ns)) (sym owes) (owes_list P true p.found ws (names_of S.owed p.number) free fits.found list))
-      (own_same o words views h id v here p is x f.there 0 w made u (hand_now o p) ch (λ size values e. let both : Thunk free None ≡ Stack size values = sym was ∙ e in cc) refl))))))
+      (subst (λ ns. Owes o.marking P (p.owed ++ owed_words o.marking ws) (names_of S.owed p.number ++
+      ns)) (sym owes) (owes_list P o.marking p.owed ws (names_of S.owed p.number) free fits.owed list))
+      (subst (λ ns. Owes true P (p.found ++ ws) (names_of S.owed p.number ++
+      ns)) (sym owes) (owes_list P true p.found ws (names_of S.owed p.number) free fits.found list))
+      (own_same o words views h id v here p is x f.there 0 w made u (hand_now o p) ch (λ size values e.
+      let both : Thunk free None ≡ Stack size values = sym was ∙ e in cc) refl))))))
 
   -- an update of a thunk that has one
-  update_no : (at w : ℕ) (c : Command) (can : CanUpdate o p at w c) (f : Found at can.object can.header) (x : Value) → f.result ≡ Some x → AddsCommand o words views h p.number c words (set views id (updated v at c false))
+  update_no : (at w : ℕ) (c : Command) (can : CanUpdate o p at w c) (f : Found at can.object can.header) (x : Value) → f.result ≡ Some x →
+      AddsCommand o words views h p.number c words (set views id (updated v at c false))
   update_no at w c can f x some_ =
       let thing = f.thing in
       let st = h.stands.objects thing f.there in
@@ -217,23 +264,36 @@ module _ (o : Opening) (words : List ℕ) (views : List Seen) (h : Keeps o words
       let val : Value = value_for W p.number can.value in
       let was : st.node ≡ Thunk f.free (Some x) = f.node_is ∙ ap (λ r. Thunk f.free r) some_ in
       let u : World = with_node W thing.name st.node in
-      let does : step W p.number C ≡ (u, reply.Already) = step_update W p.number can.object can.value thing.name st.node st.node reply.Already f.refers st.there (ap (λ n. thunk_updated n val) was ∙ ap (λ (n : Node). (n, reply.Already)) (sym was)) in
-      let owes : owed_by W p.number C ≡ [] = owes_update W p.number can.object can.value thing.name st.node f.refers st.there ∙ ap (λ n. names_among (free_held n)) was in
+      let does : step W p.number C ≡ (u, reply.Already) =
+      step_update W p.number can.object can.value thing.name st.node st.node reply.Already f.refers st.there (ap (λ n.
+      thunk_updated n val) was ∙ ap (λ (n : Node). (n, reply.Already)) (sym was)) in
+      let owes : owed_by W p.number C ≡ [] = owes_update W p.number can.object can.value thing.name st.node f.refers st.there ∙
+      ap (λ n. names_among (free_held n)) was in
       let again = node_again o words views h id v here p is thing f.there in
       subst (λ (d : Command). AddsCommand o words views h p.number d words (set views id (answered v d (plain reply.Already)))) (sym can.command)
-      (still_law o words views h id v here p is C reply.Already (plain reply.Already) u (subst (λ (d : Command). CanGive o p d) can.command can.gives) does again owes refl
+      (still_law o words views h id v here p is C reply.Already (plain reply.Already) u (subst (λ (d : Command).
+      CanGive o p d) can.command can.gives) does again owes refl
       (hand_kept o words views h id v here p is u (hand_now o p) (node_frame W thing.name st.node st.node st.there p.number) fits.hand) refl)
 
   -- by whether there is one, which the word there tells
-  update_as : (at w : ℕ) (c : Command) (can : CanUpdate o p at w c) (f : Found at can.object can.header) (result : Option Value) → f.result ≡ result → AddsCommand o words views h p.number c (words_exchanged words (at + HEADER_WORDS) w (eqb (slice_index words (at + HEADER_WORDS)) 0)) (set views id (updated v at c (eqb (slice_index words (at + HEADER_WORDS)) 0)))
+  update_as : (at w : ℕ) (c : Command) (can : CanUpdate o p at w c) (f : Found at can.object can.header) (result : Option Value) →
+      f.result ≡ result → AddsCommand o words views h p.number c
+      (words_exchanged words (at + HEADER_WORDS) w (eqb (slice_index words (at + HEADER_WORDS)) 0))
+      (set views id (updated v at c (eqb (slice_index words (at + HEADER_WORDS)) 0)))
   update_as at w c can f None e =
       let n : ℕ = slice_index words (at + HEADER_WORDS) in
-      let zero_ : n ≡ 0 = (fields_of_slots P words (at + HEADER_WORDS) (Thunk f.free None) (subst (λ r. HasSlots P words (at + HEADER_WORDS) (slots_of (Thunk f.free r))) e f.fields)).0 in
-      subst (λ (b : Bool). AddsCommand o words views h p.number c (words_exchanged words (at + HEADER_WORDS) w b) (set views id (updated v at c b))) (sym (eq-eqb n 0 zero_)) (update_yes at w c can f e)
+      let zero_ : n ≡ 0 = (fields_of_slots P words (at + HEADER_WORDS) (Thunk f.free None) (subst (λ r.
+      HasSlots P words (at + HEADER_WORDS) (slots_of (Thunk f.free r))) e f.fields)).0 in
+      subst (λ (b : Bool). AddsCommand o words views h p.number c (words_exchanged words (at + HEADER_WORDS) w b) (set views id (updated v at c b)))
+      (sym (eq-eqb n 0 zero_)) (update_yes at w c can f e)
   update_as at w c can f (Some x) e =
       let n : ℕ = slice_index words (at + HEADER_WORDS) in
-      let m : Means P n x = fields_of_slots P words (at + HEADER_WORDS) (Thunk f.free (Some x)) (subst (λ r. HasSlots P words (at + HEADER_WORDS) (slots_of (Thunk f.free r))) e f.fields) in
-      subst (λ (b : Bool). AddsCommand o words views h p.number c (words_exchanged words (at + HEADER_WORDS) w b) (set views id (updated v at c b))) (sym (ne_eqb n 0 (means_some P (above o words views h id v here p is) n x m))) (update_no at w c can f x e)
+      let m : Means P n x = fields_of_slots P words (at + HEADER_WORDS) (Thunk f.free (Some x)) (subst (λ r.
+      HasSlots P words (at + HEADER_WORDS) (slots_of (Thunk f.free r))) e f.fields) in
+      subst (λ (b : Bool). AddsCommand o words views h p.number c (words_exchanged words (at + HEADER_WORDS) w b) (set views id (updated v at c b)))
+      (sym (ne_eqb n 0 (means_some P (above o words views h id v here p is) n x m))) (update_no at w c can f x e)
 
-  pub update_keeps : (at w : ℕ) (c : Command) → CanUpdate o p at w c → AddsCommand o words views h p.number c (words_exchanged words (at + HEADER_WORDS) w (eqb (slice_index words (at + HEADER_WORDS)) 0)) (set views id (updated v at c (eqb (slice_index words (at + HEADER_WORDS)) 0)))
+  pub update_keeps : (at w : ℕ) (c : Command) → CanUpdate o p at w c →
+      AddsCommand o words views h p.number c (words_exchanged words (at + HEADER_WORDS) w (eqb (slice_index words (at + HEADER_WORDS)) 0))
+      (set views id (updated v at c (eqb (slice_index words (at + HEADER_WORDS)) 0)))
   update_keeps at w c can = let f = found at can.object can.header can.object_word can.names can.kind in update_as at w c can f f.result refl

@@ -55,22 +55,33 @@ weak_of (Weak parts) e = (parts, refl)
 weak_of (Stack size values) e = absurd cc
 
 -- `deref` of a weak pointer, and what it owes
-step_deref : (w : World) (m dest : ℕ) (object : Operand) (name : Name) (parts : Option Parts) → value_for w m object ≡ value.Ref name → node_of w name ≡ Some (Weak parts) → step w m (Deref dest object) ≡ (keeping w m dest (given_or reply.Dead (value_part parts)), given_or reply.Dead (value_part parts))
+step_deref : (w : World) (m dest : ℕ) (object : Operand) (name : Name) (parts : Option Parts) → value_for w m object ≡ value.Ref name →
+    node_of w name ≡ Some (Weak parts) → step w m (Deref dest object) ≡ (
+      keeping w m dest (given_or reply.Dead (value_part parts)),
+      given_or reply.Dead (value_part parts),
+    )
 step_deref w m dest object name parts is there =
     ap (λ y. read_into w m dest (read_object (object_of w y) value_read)) is ∙ ap (λ o. read_into w m dest (read_object o value_read)) there
 
-owes_deref : (w : World) (m dest : ℕ) (object : Operand) (name : Name) (parts : Option Parts) → value_for w m object ≡ value.Ref name → node_of w name ≡ Some (Weak parts) → owed_by w m (Deref dest object) ≡ names_among (value_held (Some (Weak parts)))
+owes_deref : (w : World) (m dest : ℕ) (object : Operand) (name : Name) (parts : Option Parts) → value_for w m object ≡ value.Ref name →
+    node_of w name ≡ Some (Weak parts) → owed_by w m (Deref dest object) ≡ names_among (value_held (Some (Weak parts)))
 owes_deref w m dest object name parts is there = ap (λ y. names_among (value_held (object_of w y))) is ∙ ap (λ o. names_among (value_held o)) there
 
 -- `finalise` of a weak pointer, and what it owes
-step_finalise : (w : World) (m dest : ℕ) (object : Operand) (name : Name) (found made : Node) (r : Reply) → value_for w m object ≡ value.Ref name → node_of w name ≡ Some found → weak_finalised found ≡ (made, r) → step w m (Finalise dest object) ≡ (keeping (with_node w name made) m dest r, r)
+step_finalise : (w : World) (m dest : ℕ) (object : Operand) (name : Name) (found made : Node) (r : Reply) → value_for w m object ≡ value.Ref name →
+    node_of w name ≡ Some found → weak_finalised found ≡ (made, r) → step w m (Finalise dest object) ≡ (keeping (with_node w name made) m dest r, r)
 step_finalise w m dest object name found made r is there does =
-    ap (λ y. change_into m dest (change_object w y change.Finalise)) is ∙ ap (λ o. change_into m dest (change_node w name o change.Finalise)) there ∙ ap (λ (r : Node × Reply). change_into m dest (with_node w name r.0, r.1)) does
+    ap (λ y. change_into m dest (change_object w y change.Finalise)) is ∙
+    ap (λ o. change_into m dest (change_node w name o change.Finalise)) there ∙
+    ap (λ (r : Node × Reply). change_into m dest (with_node w name r.0, r.1)) does
 
-owes_finalise : (w : World) (m dest : ℕ) (object : Operand) (name : Name) (found : Node) → value_for w m object ≡ value.Ref name → node_of w name ≡ Some found → owed_by w m (Finalise dest object) ≡ names_among (weak_held name found)
-owes_finalise w m dest object name found is there = ap (λ y. names_among (owed_of w y change.Finalise)) is ∙ ap (λ o. names_among (owed_at change.Finalise name o)) there
+owes_finalise : (w : World) (m dest : ℕ) (object : Operand) (name : Name) (found : Node) → value_for w m object ≡ value.Ref name →
+    node_of w name ≡ Some found → owed_by w m (Finalise dest object) ≡ names_among (weak_held name found)
+owes_finalise w m dest object name found is there = ap (λ y. names_among (owed_of w y change.Finalise)) is ∙
+    ap (λ o. names_among (owed_at change.Finalise name o)) there
 
-module _ (o : Opening) (words : List ℕ) (views : List Seen) (h : Keeps o words views) (id : ℕ) (v : Seen) (here : get_elem? views id ≡ some v) (p : Part) (is : IsMutator v p) where
+module _ (o : Opening) (words : List ℕ) (views : List Seen) (h : Keeps o words views) (id : ℕ) (v : Seen) (here : get_elem? views id ≡
+    some v) (p : Part) (is : IsMutator v p) where
   abbrev S : State
   S = now o h.events
 
@@ -84,11 +95,14 @@ module _ (o : Opening) (words : List ℕ) (views : List Seen) (h : Keeps o words
   fits = ((h.agrees id v here).parts 0 p (ap (λ l. get_elem? l 0) is.alone)).1
 
   -- a register takes a value in another world, and the hand its word
-  pub register_in : (u : World) (hand : Hand) (dest w : ℕ) (val : Value) → p.number < length u.mutators → IsHand o h.born u p.number hand → Means P w val → IsHand o h.born (with_register u p.number dest val) p.number (holding hand dest w)
+  pub register_in : (u : World) (hand : Hand) (dest w : ℕ) (val : Value) → p.number < length u.mutators → IsHand o h.born u p.number hand →
+      Means P w val → IsHand o h.born (with_register u p.number dest val) p.number (holding hand dest w)
   register_in u hand dest w val exists k m =
       let q : MutatorState = world_holding (state_of u p.number) dest val in
       let same : state_of (with_state u p.number q) p.number ≡ q = state_same u p.number q exists in record {
-        registers = subst (λ (s : MutatorState). ListMeans P (set hand.registers dest w) s.registers) (sym same) (list_set P hand.registers (state_of u p.number).registers dest w val k.registers m);
+        registers = subst (λ (s : MutatorState).
+            ListMeans P (set hand.registers dest w) s.registers) (sym same)
+            (list_set P hand.registers (state_of u p.number).registers dest w val k.registers m);
         queue = subst (λ (s : MutatorState). ListMeans P hand.queue s.queue) (sym same) k.queue;
         serial = k.serial ∙ ap (λ (s : MutatorState). length s.nodes) (sym same);
       }
@@ -105,7 +119,8 @@ module _ (o : Opening) (words : List ℕ) (views : List Seen) (h : Keeps o words
     head : header_of thing.node ≡ header_of (Weak parts)
     fields : HasSlots P words (at + HEADER_WORDS) (slots_of (Weak parts))
 
-  found : (at : ℕ) (object : Operand) (header : Header) → operand_word o p object ≡ 2 * at → Names p at header → header.kind ≡ kind.Weak → Found at object header
+  found : (at : ℕ) (object : Operand) (header : Header) → operand_word o p object ≡ 2 * at → Names p at header → header.kind ≡ kind.Weak →
+      Found at object header
   found at object header e names is_weak =
       let m = meant o words views h id v here p is at header object e names in
       let st = h.stands.objects m.object m.there in
@@ -120,7 +135,8 @@ module _ (o : Opening) (words : List ℕ) (views : List Seen) (h : Keeps o words
         node_is = t.1;
         node_there = st.there ∙ ap (λ (n : Node). Some n) t.1;
         head = m.head ∙ sym head ∙ ap header_of t.1;
-        fields = subst (λ (n : Node). HasSlots P words (at + HEADER_WORDS) (slots_of n)) t.1 (subst (λ a. HasSlots P words (a + HEADER_WORDS) (slots_of st.node)) m.is_at st.fields);
+        fields = subst (λ (n : Node). HasSlots P words (at + HEADER_WORDS) (slots_of n)) t.1 (subst (λ a.
+            HasSlots P words (a + HEADER_WORDS) (slots_of st.node)) m.is_at st.fields);
       }
 
   -- the view in which this seat's part is another
@@ -128,79 +144,120 @@ module _ (o : Opening) (words : List ℕ) (views : List Seen) (h : Keeps o words
   Views w f = set views id (record w { parts = first_changed f w.parts })
 
   -- a step whose part is known
-  one_part : (c d : Command) (new : List ℕ) (f : Opening → Command → Part → Part) (q : Part) → c ≡ d → f o d p ≡ q → AddsCommand o words views h p.number d new (set views id (record v { parts = q ∷ [] })) → AddsCommand o words views h p.number c new (Views v (f v.opening c))
+  one_part : (c d : Command) (new : List ℕ) (f : Opening → Command → Part → Part) (q : Part) → c ≡ d → f o d p ≡ q →
+      AddsCommand o words views h p.number d new (set views id (record v { parts = q ∷ [] })) →
+      AddsCommand o words views h p.number c new (Views v (f v.opening c))
   one_part c d new f q command is_part t =
       subst (λ l. AddsCommand o words views h p.number c new (set views id (record v { parts = first_changed (f v.opening c) l }))) (sym is.alone)
-      (subst (λ (y : Opening). AddsCommand o words views h p.number c new (set views id (record v { parts = f y c p ∷ [] }))) (sym (same_opening o words views h id v here p is))
+      (subst (λ (y : Opening). AddsCommand o words views h p.number c new (set views id (record v {
+        parts = f y c p ∷
+            [];
+      }))) (sym (same_opening o words views h id v here p is))
       (subst (λ (c : Command). AddsCommand o words views h p.number c new (set views id (record v { parts = f o c p ∷ [] }))) (sym command)
       (subst (λ (q : Part). AddsCommand o words views h p.number d new (set views id (record v { parts = q ∷ [] }))) (sym is_part) t)))
 
   -- a still command whose part is known
-  still_part : (c : Command) (a : Answer) (new : List ℕ) → AddsCommand o words views h p.number c new (set views id (answered v c a)) → AddsCommand o words views h p.number c new (set views id (record v { parts = doing p c a [] ∷ [] }))
-  still_part c a new t = subst (λ l. AddsCommand o words views h p.number c new (set views id (record v { parts = first_changed (λ q. doing q c a []) l }))) is.alone t
+  still_part : (c : Command) (a : Answer) (new : List ℕ) → AddsCommand o words views h p.number c new (set views id (answered v c a)) →
+      AddsCommand o words views h p.number c new (set views id (record v { parts = doing p c a [] ∷ [] }))
+  still_part c a new t = subst (λ l. AddsCommand o words views h p.number c new (set views id (record v {
+    parts =
+        first_changed (λ q. doing q c a []) l;
+  }))) is.alone t
 
-  deref_as : (at : ℕ) (c : Command) (can : CanDeref o p at c) (f : Found at can.object can.header) (parts : Option Parts) → f.parts ≡ parts → AddsCommand o words views h p.number c words (set views id (weak_read v c (slice_index words (at + HEADER_WORDS + 1))))
+  deref_as : (at : ℕ) (c : Command) (can : CanDeref o p at c) (f : Found at can.object can.header) (parts : Option Parts) → f.parts ≡ parts →
+      AddsCommand o words views h p.number c words (set views id (weak_read v c (slice_index words (at + HEADER_WORDS + 1))))
   deref_as at c can f None e =
       let C : Command = Deref can.dest can.object in
       let w : ℕ = slice_index words (at + HEADER_WORDS + 1) in
-      let zero_ : w ≡ 0 = fields_of_slots P words (at + HEADER_WORDS) (Weak None) (subst (λ r. HasSlots P words (at + HEADER_WORDS) (slots_of (Weak r))) e f.fields) in
+      let zero_ : w ≡ 0 = fields_of_slots P words (at + HEADER_WORDS) (Weak None) (subst (λ r.
+      HasSlots P words (at + HEADER_WORDS) (slots_of (Weak r))) e f.fields) in
       let there : node_of W f.thing.name ≡ Some (Weak None) = f.node_there ∙ ap (λ r. Some (Weak r)) e in
-      one_part c C words (λ o c p. derefed o c w p) (doing p C (plain reply.Dead) []) can.command (ap (λ (b : Bool). cond b (doing p C (plain reply.Dead) []) (doing (finding p w) C (word w) (owed_word o.marking w))) (eq-eqb w 0 zero_))
+      one_part c C words (λ o c p. derefed o c w p) (doing p C (plain reply.Dead) []) can.command (ap (λ (b : Bool).
+      cond b (doing p C (plain reply.Dead) []) (doing (finding p w) C (word w) (owed_word o.marking w))) (eq-eqb w 0 zero_))
       (still_part C (plain reply.Dead) words
-      (still_law o words views h id v here p is C reply.Dead (plain reply.Dead) W (subst (λ (d : Command). CanGive o p d) can.command can.gives) (step_deref W p.number can.dest can.object f.thing.name None f.refers there) (λ n. refl) (owes_deref W p.number can.dest can.object f.thing.name None f.refers there) refl fits.hand refl))
+      (still_law o words views h id v here p is C reply.Dead (plain reply.Dead) W (subst (λ (d : Command).
+      CanGive o p d) can.command can.gives) (step_deref W p.number can.dest can.object f.thing.name None f.refers there) (λ n.
+      refl) (owes_deref W p.number can.dest can.object f.thing.name None f.refers there) refl fits.hand refl))
   deref_as at c can f (Some parts) e =
       let C : Command = Deref can.dest can.object in
       let w : ℕ = slice_index words (at + HEADER_WORDS + 1) in
-      let m : Means P w parts.value = (fields_of_slots P words (at + HEADER_WORDS) (Weak (Some parts)) (subst (λ r. HasSlots P words (at + HEADER_WORDS) (slots_of (Weak r))) e f.fields)).1 in
+      let m : Means P w parts.value = (fields_of_slots P words (at + HEADER_WORDS) (Weak (Some parts)) (subst (λ r.
+      HasSlots P words (at + HEADER_WORDS) (slots_of (Weak r))) e f.fields)).1 in
       let there : node_of W f.thing.name ≡ Some (Weak (Some parts)) = f.node_there ∙ ap (λ r. Some (Weak r)) e in
       let q : MutatorState = world_holding (state_of W p.number) can.dest parts.value in
       let owes = owes_deref W p.number can.dest can.object f.thing.name (Some parts) f.refers there in
-      one_part c C words (λ o c p. derefed o c w p) (doing (finding p w) C (word w) (owed_word o.marking w)) can.command (ap (λ (b : Bool). cond b (doing p C (plain reply.Dead) []) (doing (finding p w) C (word w) (owed_word o.marking w))) (ne_eqb w 0 (means_some P (above o words views h id v here p is) w parts.value m)))
-      (owing_law o words views h id v here p is C (reply.Given parts.value) (word w) (with_register W p.number can.dest parts.value) (p.found ++ w ∷ []) (owed_word o.marking w) (subst (λ (d : Command). CanGive o p d) can.command can.gives)
-      (step_deref W p.number can.dest can.object f.thing.name (Some parts) f.refers there) (nodes_kept W p.number q fits.exists refl) (parts.value, refl, m) (register_hand o words views h id v here p is can.dest w parts.value m)
-      (subst (λ ns. Owes o.marking P (p.owed ++ owed_word o.marking w) (names_of S.owed p.number ++ ns)) (sym owes) (owes_old o words views h id v here p is o.marking p.owed (names_of S.owed p.number) w parts.value fits.owed m))
-      (subst (λ ns. Owes true P (p.found ++ w ∷ []) (names_of S.owed p.number ++ ns)) (sym owes) (owes_old o words views h id v here p is true p.found (names_of S.owed p.number) w parts.value fits.found m))
+      one_part c C words (λ o c p. derefed o c w p) (doing (finding p w) C (word w) (owed_word o.marking w)) can.command (ap (λ (b : Bool).
+      cond b (doing p C (plain reply.Dead) []) (doing (finding p w) C (word w) (owed_word o.marking w)))
+      (ne_eqb w 0 (means_some P (above o words views h id v here p is) w parts.value m)))
+      (owing_law o words views h id v here p is C (reply.Given parts.value) (word w) (with_register W p.number can.dest parts.value) (p.found ++ w ∷
+      []) (owed_word o.marking w) (subst (λ (d : Command). CanGive o p d) can.command can.gives)
+      (step_deref W p.number can.dest can.object f.thing.name (Some parts) f.refers there) (nodes_kept W p.number q fits.exists refl) (
+        parts.value,
+        refl,
+        m,
+      ) (register_hand o words views h id v here p is can.dest w parts.value m)
+      (subst (λ ns. Owes o.marking P (p.owed ++ owed_word o.marking w) (names_of S.owed p.number ++
+      ns)) (sym owes) (owes_old o words views h id v here p is o.marking p.owed (names_of S.owed p.number) w parts.value fits.owed m))
+      (subst (λ ns. Owes true P (p.found ++ w ∷ []) (names_of S.owed p.number ++
+      ns)) (sym owes) (owes_old o words views h id v here p is true p.found (names_of S.owed p.number) w parts.value fits.found m))
       refl)
 
-  pub deref_keeps : (at : ℕ) (c : Command) → CanDeref o p at c → AddsCommand o words views h p.number c words (set views id (weak_read v c (slice_index words (at + HEADER_WORDS + 1))))
+  pub deref_keeps : (at : ℕ) (c : Command) → CanDeref o p at c →
+      AddsCommand o words views h p.number c words (set views id (weak_read v c (slice_index words (at + HEADER_WORDS + 1))))
   deref_keeps at c can = let f = found at can.object can.header can.object_word can.names can.kind in deref_as at c can f f.parts refl
 
-  safe_as : (at : ℕ) (parts : Option Parts) → HasSlots P words (at + HEADER_WORDS) (slots_of (Weak parts)) → slice_index words (at + HEADER_WORDS + 1) ≢ 0 → IsSafe o (slice_index words (at + HEADER_WORDS + 1)) × IsSafe o (slice_index words (at + HEADER_WORDS + 2))
+  safe_as : (at : ℕ) (parts : Option Parts) → HasSlots P words (at + HEADER_WORDS) (slots_of (Weak parts)) →
+      slice_index words (at + HEADER_WORDS + 1) ≢ 0 → IsSafe o (slice_index words (at + HEADER_WORDS + 1)) ×
+      IsSafe o (slice_index words (at + HEADER_WORDS + 2))
   safe_as at None fields ne = absurd (ne (fields_of_slots P words (at + HEADER_WORDS) (Weak None) fields))
   safe_as at (Some parts) fields ne =
-      let t = fields_of_slots P words (at + HEADER_WORDS) (Weak (Some parts)) fields in
-      (safe_word o words views h id v here p is (slice_index words (at + HEADER_WORDS + 1)) parts.value t.1, safe_word o words views h id v here p is (slice_index words (at + HEADER_WORDS + 2)) parts.finaliser t.2)
+      let t = fields_of_slots P words (at + HEADER_WORDS) (Weak (Some parts)) fields in (
+        safe_word o words views h id v here p is (slice_index words (at + HEADER_WORDS + 1)) parts.value t.1,
+        safe_word o words views h id v here p is (slice_index words (at + HEADER_WORDS + 2)) parts.finaliser t.2,
+      )
 
   -- a value that a load finds
-  pub deref_safe : (at : ℕ) (c : Command) → CanDeref o p at c → slice_index words (at + HEADER_WORDS + 1) ≢ 0 → IsSafe o (slice_index words (at + HEADER_WORDS + 1))
+  pub deref_safe : (at : ℕ) (c : Command) → CanDeref o p at c → slice_index words (at + HEADER_WORDS + 1) ≢ 0 →
+      IsSafe o (slice_index words (at + HEADER_WORDS + 1))
   deref_safe at c can ne = let f = found at can.object can.header can.object_word can.names can.kind in (safe_as at f.parts f.fields ne).0
 
   -- the word of the finaliser is the one that stands there
   finaliser_is : (at : ℕ) (c : Command) (can : CanFinalise o p at c) → finaliser_named at p ≡ slice_index words (at + HEADER_WORDS + 2)
-  finaliser_is at c can = let k : at + (HEADER_WORDS + 2) ≡ at + HEADER_WORDS + 2 = omega arith in named_word o words views h id v here p is at (HEADER_WORDS + 2) can.finaliser.0 can.finaliser.1 ∙ ap (λ j. slice_index words j) k
+  finaliser_is at c can = let k : at + (HEADER_WORDS + 2) ≡ at + HEADER_WORDS + 2 = omega arith in
+      named_word o words views h id v here p is at (HEADER_WORDS + 2) can.finaliser.0 can.finaliser.1 ∙ ap (λ j. slice_index words j) k
 
   -- the finaliser of a weak pointer that a swap finds alive
   pub finalise_safe : (at : ℕ) (c : Command) → CanFinalise o p at c → slice_index words (at + HEADER_WORDS + 1) ≢ 0 → IsSafe o (finaliser_named at p)
-  finalise_safe at c can ne = let f = found at can.object can.header can.object_word can.names can.kind in subst (λ w. IsSafe o w) (sym (finaliser_is at c can)) (safe_as at f.parts f.fields ne).1
+  finalise_safe at c can ne = let f = found at can.object can.header can.object_word can.names can.kind in
+      subst (λ w. IsSafe o w) (sym (finaliser_is at c can)) (safe_as at f.parts f.fields ne).1
 
-  finalise_as : (at : ℕ) (c : Command) (can : CanFinalise o p at c) (f : Found at can.object can.header) (parts : Option Parts) → f.parts ≡ parts → AddsCommand o words views h p.number c (set words (at + HEADER_WORDS + 1) 0) (set views id (weak_taken v at c (slice_index words (at + HEADER_WORDS + 1))))
+  finalise_as : (at : ℕ) (c : Command) (can : CanFinalise o p at c) (f : Found at can.object can.header) (parts : Option Parts) → f.parts ≡ parts →
+      AddsCommand o words views h p.number c (set words (at + HEADER_WORDS + 1) 0)
+      (set views id (weak_taken v at c (slice_index words (at + HEADER_WORDS + 1))))
   finalise_as at c can f None e =
       let C : Command = Finalise can.dest can.object in
       let x = f.thing in
       let st = h.stands.objects x f.there in
       let i : ℕ = at + HEADER_WORDS + 1 in
       let w : ℕ = slice_index words i in
-      let zero_ : w ≡ 0 = fields_of_slots P words (at + HEADER_WORDS) (Weak None) (subst (λ r. HasSlots P words (at + HEADER_WORDS) (slots_of (Weak r))) e f.fields) in
+      let zero_ : w ≡ 0 = fields_of_slots P words (at + HEADER_WORDS) (Weak None) (subst (λ r.
+      HasSlots P words (at + HEADER_WORDS) (slots_of (Weak r))) e f.fields) in
       let same : words ≡ set words i 0 = sym (set_again words i) ∙ ap (λ k. set words i k) zero_ in
       let was : st.node ≡ Weak None = f.node_is ∙ ap (λ r. Weak r) e in
       let u : World = with_node W x.name st.node in
-      let does : step W p.number C ≡ (u, reply.Dead) = step_finalise W p.number can.dest can.object x.name st.node st.node reply.Dead f.refers st.there (ap weak_finalised was ∙ ap (λ (n : Node). (n, reply.Dead)) (sym was)) in
-      let owes : owed_by W p.number C ≡ [] = owes_finalise W p.number can.dest can.object x.name st.node f.refers st.there ∙ ap (λ n. names_among (weak_held x.name n)) was in
+      let does : step W p.number C ≡ (u, reply.Dead) =
+      step_finalise W p.number can.dest can.object x.name st.node st.node reply.Dead f.refers st.there (ap weak_finalised was ∙
+      ap (λ (n : Node). (n, reply.Dead)) (sym was)) in
+      let owes : owed_by W p.number C ≡ [] = owes_finalise W p.number can.dest can.object x.name st.node f.refers st.there ∙
+      ap (λ n. names_among (weak_held x.name n)) was in
       let again = node_again o words views h id v here p is x f.there in
-      one_part c C (set words i 0) (λ o c p. finalised o at c w p) (doing p C (plain reply.Dead) []) can.command (ap (λ (b : Bool). cond b (doing p C (plain reply.Dead) []) (doing (finding_all p (2 * at ∷ w ∷ finaliser_named at p ∷ [])) C (word (finaliser_named at p)) (owed_words o.marking (2 * at ∷ w ∷ finaliser_named at p ∷ [])))) (eq-eqb w 0 zero_))
+      one_part c C (set words i 0) (λ o c p. finalised o at c w p) (doing p C (plain reply.Dead) []) can.command (ap (λ (b : Bool).
+      cond b (doing p C (plain reply.Dead) []) (doing (finding_all p (2 * at ∷ w ∷ finaliser_named at p ∷
+      [])) C (word (finaliser_named at p)) (owed_words o.marking (2 * at ∷ w ∷ finaliser_named at p ∷ [])))) (eq-eqb w 0 zero_))
       (subst (λ (ws : List ℕ). AddsCommand o words views h p.number C ws (set views id (record v { parts = doing p C (plain reply.Dead) [] ∷ [] }))) same
       (still_part C (plain reply.Dead) words
-      (still_law o words views h id v here p is C reply.Dead (plain reply.Dead) u (subst (λ (d : Command). CanGive o p d) can.command can.gives) does again owes refl
+      (still_law o words views h id v here p is C reply.Dead (plain reply.Dead) u (subst (λ (d : Command).
+      CanGive o p d) can.command can.gives) does again owes refl
       (hand_kept o words views h id v here p is u (hand_now o p) (node_frame W x.name st.node st.node st.there p.number) fits.hand) refl)))
   finalise_as at c can f (Some parts) e =
       let C : Command = Finalise can.dest can.object in
@@ -208,7 +265,8 @@ module _ (o : Opening) (words : List ℕ) (views : List Seen) (h : Keeps o words
       let st = h.stands.objects x f.there in
       let i : ℕ = at + HEADER_WORDS + 1 in
       let w : ℕ = slice_index words i in
-      let t = fields_of_slots P words (at + HEADER_WORDS) (Weak (Some parts)) (subst (λ r. HasSlots P words (at + HEADER_WORDS) (slots_of (Weak r))) e f.fields) in
+      let t = fields_of_slots P words (at + HEADER_WORDS) (Weak (Some parts)) (subst (λ r.
+      HasSlots P words (at + HEADER_WORDS) (slots_of (Weak r))) e f.fields) in
       let was : st.node ≡ Weak (Some parts) = f.node_is ∙ ap (λ r. Weak r) e in
       let made : Node = Weak None in
       let u : World = with_node W x.name made in
@@ -217,8 +275,10 @@ module _ (o : Opening) (words : List ℕ) (views : List Seen) (h : Keeps o words
       let q : MutatorState = world_holding (state_of u p.number) can.dest parts.finaliser in
       let exists : p.number < length u.mutators = subst (λ n. p.number < n) (sym (as_many W x.name st.node made st.there)) fits.exists in
       let v' : World = with_register u p.number can.dest parts.finaliser in
-      let does : step W p.number C ≡ (v', reply.Given parts.finaliser) = step_finalise W p.number can.dest can.object x.name st.node made (reply.Given parts.finaliser) f.refers st.there (ap weak_finalised was) in
-      let owes : owed_by W p.number C ≡ names_among (value.Ref x.name ∷ parts.value ∷ parts.finaliser ∷ []) = owes_finalise W p.number can.dest can.object x.name st.node f.refers st.there ∙ ap (λ n. names_among (weak_held x.name n)) was in
+      let does : step W p.number C ≡ (v', reply.Given parts.finaliser) =
+      step_finalise W p.number can.dest can.object x.name st.node made (reply.Given parts.finaliser) f.refers st.there (ap weak_finalised was) in
+      let owes : owed_by W p.number C ≡ names_among (value.Ref x.name ∷ parts.value ∷ parts.finaliser ∷ []) =
+      owes_finalise W p.number can.dest can.object x.name st.node f.refers st.there ∙ ap (λ n. names_among (weak_held x.name n)) was in
       let now_ = node_now o words views h id v here p is x f.there made in
       let kept = nodes_kept u p.number q exists refl in
       let far = inside o words views h id v here p is x f.there in
@@ -238,14 +298,26 @@ module _ (o : Opening) (words : List ℕ) (views : List Seen) (h : Keeps o words
       let ws : List ℕ = 2 * at ∷ w ∷ fin ∷ [] in
       let itself : Means P (2 * at) (value.Ref x.name) = (at, refl, subst (λ a. P (record { at = a; name = x.name })) is_at (x.node, f.there)) in
       let list : ListMeans P ws (value.Ref x.name ∷ parts.value ∷ parts.finaliser ∷ []) = (itself, (t.1, (ends, tt))) in
-      one_part c C (set words i 0) (λ o c p. finalised o at c w p) (doing (finding_all p ws) C (word fin) (owed_words o.marking ws)) can.command (ap (λ (b : Bool). cond b (doing p C (plain reply.Dead) []) (doing (finding_all p ws) C (word fin) (owed_words o.marking ws))) (ne_eqb w 0 (means_some P (above o words views h id v here p is) w parts.value t.1)))
-      (subst (λ a. AddsCommand o words views h p.number C (set words (a + HEADER_WORDS + 1) 0) (set views id (record v { parts = doing (finding_all p ws) C (word fin) (owed_words o.marking ws) ∷ [] }))) is_at
+      one_part c C (set words i 0) (λ o c p.
+      finalised o at c w p) (doing (finding_all p ws) C (word fin) (owed_words o.marking ws)) can.command (ap (λ (b : Bool).
+      cond b (doing p C (plain reply.Dead) []) (doing (finding_all p ws) C (word fin) (owed_words o.marking ws)))
+      (ne_eqb w 0 (means_some P (above o words views h id v here p is) w parts.value t.1)))
+      (subst (λ a. AddsCommand o words views h p.number C (set words (a + HEADER_WORDS + 1) 0) (set views id (record v {
+        parts =
+            doing (finding_all p ws) C (word fin) (owed_words o.marking ws) ∷ [];
+      }))) is_at
       (field_law o words views h id v here p is x f.there 1 0 made C (reply.Given parts.finaliser) (word fin) v' (p.found ++ ws) (owed_words o.marking ws) ch
       (subst (λ (d : Command). CanGive o p d) can.command can.gives) does (parts.finaliser, refl, ends)
-      (register_in u (hand_now o p) can.dest fin parts.finaliser exists (hand_kept o words views h id v here p is u (hand_now o p) (node_frame W x.name st.node made st.there p.number) fits.hand) ends)
-      (subst (λ ns. Owes o.marking P (p.owed ++ owed_words o.marking ws) (names_of S.owed p.number ++ ns)) (sym owes) (owes_list P o.marking p.owed ws (names_of S.owed p.number) (value.Ref x.name ∷ parts.value ∷ parts.finaliser ∷ []) fits.owed list))
-      (subst (λ ns. Owes true P (p.found ++ ws) (names_of S.owed p.number ++ ns)) (sym owes) (owes_list P true p.found ws (names_of S.owed p.number) (value.Ref x.name ∷ parts.value ∷ parts.finaliser ∷ []) fits.found list))
-      (own_same o words views h id v here p is x f.there 1 0 made v' (holding (hand_now o p) can.dest fin) ch (λ size values e. let both : Weak (Some parts) ≡ Stack size values = sym was ∙ e in cc) refl)))
+      (register_in u (hand_now o p) can.dest fin parts.finaliser exists
+      (hand_kept o words views h id v here p is u (hand_now o p) (node_frame W x.name st.node made st.there p.number) fits.hand) ends)
+      (subst (λ ns. Owes o.marking P (p.owed ++ owed_words o.marking ws) (names_of S.owed p.number ++
+      ns)) (sym owes) (owes_list P o.marking p.owed ws (names_of S.owed p.number) (value.Ref x.name ∷ parts.value ∷ parts.finaliser ∷ []) fits.owed list))
+      (subst (λ ns. Owes true P (p.found ++ ws) (names_of S.owed p.number ++
+      ns)) (sym owes) (owes_list P true p.found ws (names_of S.owed p.number) (value.Ref x.name ∷ parts.value ∷ parts.finaliser ∷ []) fits.found list))
+      (own_same o words views h id v here p is x f.there 1 0 made v' (holding (hand_now o p) can.dest fin) ch (λ size values e.
+      let both : Weak (Some parts) ≡ Stack size values = sym was ∙ e in cc) refl)))
 
-  pub finalise_keeps : (at : ℕ) (c : Command) → CanFinalise o p at c → AddsCommand o words views h p.number c (set words (at + HEADER_WORDS + 1) 0) (set views id (weak_taken v at c (slice_index words (at + HEADER_WORDS + 1))))
+  pub finalise_keeps : (at : ℕ) (c : Command) → CanFinalise o p at c →
+      AddsCommand o words views h p.number c (set words (at + HEADER_WORDS + 1) 0)
+      (set views id (weak_taken v at c (slice_index words (at + HEADER_WORDS + 1))))
   finalise_keeps at c can = let f = found at can.object can.header can.object_word can.names can.kind in finalise_as at c can f f.parts refl

@@ -30,7 +30,8 @@ use Rattle.nmgc_round.proofs.Keeping.{command_law}
 use Rattle.nmgc_round.proofs.Moves.{possible}
 use Rattle.nmgc_round.proofs.Owners.{stack_of, own_kept}
 
-module _ (o : Opening) (words : List ℕ) (views : List Seen) (h : Keeps o words views) (id : ℕ) (v : Seen) (here : get_elem? views id ≡ some v) (p : Part) (is : IsMutator v p) where
+module _ (o : Opening) (words : List ℕ) (views : List Seen) (h : Keeps o words views) (id : ℕ) (v : Seen) (here : get_elem? views id ≡
+    some v) (p : Part) (is : IsMutator v p) where
   abbrev S : State
   S = now o h.events
 
@@ -63,12 +64,17 @@ module _ (o : Opening) (words : List ℕ) (views : List Seen) (h : Keeps o words
       → Owes o.marking P (p.owed ++ owed) (names_of S.owed p.number ++ owed_by W p.number c)
       → Owes true P found (names_of S.owed p.number ++ owed_by W p.number c)
       → OwnSlots o h.born u p.number (leaves (hand_now o p) c a)
-      → AddsCommand o words views h p.number c (set words (x.at + HEADER_WORDS + i) new) (set views id (record v { parts = doing (record p { found = found }) c a owed ∷ [] }))
+      → AddsCommand o words views h p.number c (set words (x.at + HEADER_WORDS + i) new) (set views id (record v {
+        parts =
+            doing (record p { found = found }) c a owed ∷ [];
+      }))
   field_law x hx i new made c r a u found owed ch gives does says hand owes finds own =
       let st = h.stands.objects x hx in
       let us : List ℕ = set words (x.at + HEADER_WORDS + i) new in
-      let stands : RepresentsInRound o h.born u us = stands_field o h.born W words h.stands u x hx i new made ch.within ch.may ch.later ch.sized ch.mine ch.others ch.fields in
-      let rest : (q : Part) → Rests o h.born words q → Rests o h.born us q = λ q r. rests_field o h.is h.born W words h.stands h.new x hx i new ch.within ch.may q r in
+      let stands : RepresentsInRound o h.born u us =
+      stands_field o h.born W words h.stands u x hx i new made ch.within ch.may ch.later ch.sized ch.mine ch.others ch.fields in
+      let rest : (q : Part) → Rests o h.born words q → Rests o h.born us q = λ q r.
+      rests_field o h.is h.born W words h.stands h.new x hx i new ch.within ch.may q r in
       let mine_rests = rest p rests in
       command_law o words views h id v here us h.born p p.used p.unborn p.fixed found c r a owed is (λ y hy. hy) h.new
       (possible o words views h id v here p is c r gives (ap (λ (r : World × Reply). r.1) does))
@@ -77,11 +83,13 @@ module _ (o : Opening) (words : List ℕ) (views : List Seen) (h : Keeps o words
       owes
       finds
       (λ n size values ne e. subst (λ (r : World × Reply). node_of r.0 n ≡ Some (Stack size values)) (sym does) (elim (name_cases n x.name) [
-        | inl s ↦ absurd (let same : Some st.node ≡ Some (Stack size values) = sym st.there ∙ ap (λ k. node_of W k) (sym s) ∙ e in let is : st.node ≡ Stack size values = cc in ne (ap (λ (k : Name). k.maker) s ∙ ch.stacks size values is))
+        | inl s ↦ absurd (let same : Some st.node ≡ Some (Stack size values) = sym st.there ∙ ap (λ k. node_of W k) (sym s) ∙ e in
+            let is : st.node ≡ Stack size values = cc in ne (ap (λ (k : Name). k.maker) s ∙ ch.stacks size values is))
         | inr s ↦ ch.others n s ∙ e
       ]))
       (λ n node e. let e' : node_of u n ≡ Some node = subst (λ (r : World × Reply). node_of r.0 n ≡ Some node) does e in elim (name_cases n x.name) [
-        | inl s ↦ let is : Some made ≡ Some node = sym ch.mine ∙ ap (λ k. node_of u k) (sym s) ∙ e' in let same : made ≡ node = cc in inl (st.node, ap (λ k. node_of W k) s ∙ st.there, subst (λ (k : Node). IsLater st.node k) same ch.later)
+        | inl s ↦ let is : Some made ≡ Some node = sym ch.mine ∙ ap (λ k. node_of u k) (sym s) ∙ e' in let same : made ≡ node = cc in
+            inl (st.node, ap (λ k. node_of W k) s ∙ st.there, subst (λ (k : Node). IsLater st.node k) same ch.later)
         | inr s ↦ inl (node, sym (ch.others n s) ∙ e', same_node node)
       ])
       (subst (λ (r : World × Reply). RepresentsInRound o h.born r.0 us) (sym does) stands)
@@ -91,7 +99,8 @@ module _ (o : Opening) (words : List ℕ) (views : List Seen) (h : Keeps o words
       (subst (λ (r : World × Reply). OwnSlots o h.born r.0 p.number (leaves (hand_now o p) c a)) (sym does) own)
 
   -- a command that changes no node, and owes something
-  pub owing_law : (c : Command) (r : Reply) (a : Answer) (u : World) (found owed : List ℕ) → CanGive o p c → step W p.number c ≡ (u, r) → ((n : Name) → node_of u n ≡ node_of W n)
+  pub owing_law : (c : Command) (r : Reply) (a : Answer) (u : World) (found owed : List ℕ) → CanGive o p c → step W p.number c ≡ (u, r) →
+      ((n : Name) → node_of u n ≡ node_of W n)
       → Answers P a r → IsHand o h.born u p.number (leaves (hand_now o p) c a)
       → Owes o.marking P (p.owed ++ owed) (names_of S.owed p.number ++ owed_by W p.number c)
       → Owes true P found (names_of S.owed p.number ++ owed_by W p.number c)
@@ -110,10 +119,13 @@ module _ (o : Opening) (words : List ℕ) (views : List Seen) (h : Keeps o words
       (record { exists = rests.exists; room = rests.room; below = rests.below; unborn = rests.unborn; fixed = rests.fixed })
       (λ q ne r. r)
       (λ y c. inl c)
-      (subst (λ (x : World × Reply). OwnSlots o h.born x.0 p.number (leaves (hand_now o p) c a)) (sym does) (own_kept o h.born W u p.number (hand_now o p) (leaves (hand_now o p) c a) left (λ n size values e. sym (same n) ∙ e) fits.own))
+      (subst (λ (x : World × Reply).
+      OwnSlots o h.born x.0 p.number (leaves (hand_now o p) c a)) (sym does)
+      (own_kept o h.born W u p.number (hand_now o p) (leaves (hand_now o p) c a) left (λ n size values e. sym (same n) ∙ e) fits.own))
 
   -- the world in which one node is another
-  pub node_now : (x : Object) (hx : IsObject o h.born x) (made : Node) → (node_of (with_node W x.name made) x.name ≡ Some made) × ((n : Name) → (n ≡ x.name → ⊥) → node_of (with_node W x.name made) n ≡ node_of W n)
+  pub node_now : (x : Object) (hx : IsObject o h.born x) (made : Node) → (node_of (with_node W x.name made) x.name ≡ Some made) ×
+      ((n : Name) → (n ≡ x.name → ⊥) → node_of (with_node W x.name made) n ≡ node_of W n)
   node_now x hx made =
       let st = h.stands.objects x hx in
       let cases = node_cases W x.name st.node made st.there in
@@ -126,8 +138,12 @@ module _ (o : Opening) (words : List ℕ) (views : List Seen) (h : Keeps o words
       elim (node_cases W x.name st.node st.node st.there n) [ inl k ↦ k.1 ∙ sym st.there ∙ ap (λ (y : Name). node_of W y) (sym k.0) | inr k ↦ k.1 ]
 
   -- the own stacks, where one node changed that is none
-  pub own_same : (x : Object) (hx : IsObject o h.born x) (i new : ℕ) (made : Node) (u : World) (k : Hand) → Changes x hx i new made u → ((size : ℕ) (values : List Value) → (h.stands.objects x hx).node ≡ Stack size values → ⊥) → k.stacks ≡ (hand_now o p).stacks → OwnSlots o h.born u p.number k
+  pub own_same : (x : Object) (hx : IsObject o h.born x) (i new : ℕ) (made : Node) (u : World) (k : Hand) → Changes x hx i new made u →
+      ((size : ℕ) (values : List Value) → (h.stands.objects x hx).node ≡ Stack size values → ⊥) → k.stacks ≡ (hand_now o p).stacks →
+      OwnSlots o h.born u p.number k
   own_same x hx i new made u k ch none left = own_kept o h.born W u p.number (hand_now o p) k left (λ n size values e. elim (name_cases n x.name) [
-    | inl s ↦ absurd (let both : Some made ≡ Some (Stack size values) = sym ch.mine ∙ ap (λ y. node_of u y) (sym s) ∙ e in let is : made ≡ Stack size values = cc in let was = stack_of (h.stands.objects x hx).node size values (sym ch.later.header ∙ ap header_of is) in none size was.0 was.1)
+    | inl s ↦ absurd (let both : Some made ≡ Some (Stack size values) = sym ch.mine ∙ ap (λ y. node_of u y) (sym s) ∙ e in
+        let is : made ≡ Stack size values = cc in
+        let was = stack_of (h.stands.objects x hx).node size values (sym ch.later.header ∙ ap header_of is) in none size was.0 was.1)
     | inr s ↦ sym (ch.others n s) ∙ e
   ]) fits.own

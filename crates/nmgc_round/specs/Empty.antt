@@ -34,4 +34,10 @@ new_hand = record { registers = replicate REGISTERS NIL_WORD; queue = []; serial
 
 -- the opening of the first round of a run
 abbrev pub first_opening : Layout → Opening
-first_opening layout = record { layout = layout; marking = false; core = unmarked (new_world layout.mutators); places = shared_place ∷ []; hands = replicate layout.mutators new_hand }
+first_opening layout = record {
+  layout = layout;
+  marking = false;
+  core = unmarked (new_world layout.mutators);
+  places = shared_place ∷ [];
+  hands = replicate layout.mutators new_hand;
+}

@@ -53,4 +53,5 @@ IsKeptThen o born name before = (x : Object) × IsObject o born x × (x.name ≡
 
 -- what a round leaves to whoever knows this: there is one list of events for it, and the words represent the world after them
 abbrev pub Leaves : Opening → List ℕ → Seen → Type 0
-Leaves o words v = (h : IsFinished o words v) × Represents o.layout (o.core.world ∷ earlier o) (IsKeptThen o h.born) (places_then o h.born) (now o h.events).world words
+Leaves o words v = (h : IsFinished o words v) × Represents o.layout (o.core.world ∷
+    earlier o) (IsKeptThen o h.born) (places_then o h.born) (now o h.events).world words

@@ -36,7 +36,10 @@ name_read places (suc i) w = name_meant places w
 -- the name of the snapshot, unless it is marked, is marked and queued at the back
 abbrev pub with_name : World → Marks → Option Name → Marks
 with_name snapshot m None = m
-with_name snapshot m (Some name) = if is_some (node_of snapshot name) && not (is_listed name m.marked) then record { marked = m.marked ++ name ∷ []; queue = m.queue ++ entry_of name ∷ [] } else m
+with_name snapshot m (Some name) = if is_some (node_of snapshot name) && not (is_listed name m.marked) then record {
+  marked = m.marked ++ name ∷ [];
+  queue = m.queue ++ entry_of name ∷ [];
+} else m
 
 abbrev pub is_thunk : Node → Bool
 is_thunk (Thunk free result) = true

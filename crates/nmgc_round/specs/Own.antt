@@ -26,7 +26,8 @@ HasStack o born stacks at values = (ws : List ℕ) × (slots_at stacks at ≡ So
 
 -- a hand has the stack of each object that is one and that this mutator made
 abbrev pub OwnSlots : Opening → List Object → World → ℕ → Hand → Type 0
-OwnSlots o born w m h = (x : Object) (size : ℕ) (values : List Value) → IsObject o born x → x.name.maker ≡ m → node_of w x.name ≡ Some (Stack size values) → HasStack o born h.stacks x.at values
+OwnSlots o born w m h = (x : Object) (size : ℕ) (values : List Value) → IsObject o born x → x.name.maker ≡ m →
+    node_of w x.name ≡ Some (Stack size values) → HasStack o born h.stacks x.at values
 
 -- where the object of a name is, among these
 abbrev pub place_named : List Place → Name → ℕ

@@ -71,7 +71,8 @@ pub record IsHand (o : Opening) (born : List Object) (w : World) (m : ℕ) (h : 
   pub queue : ListMeans (IsIn o born) h.queue (state_of w m).queue
   pub serial : h.serial ≡ serial_of w m
 
--- a part agrees with the state and with what its mutator did; what its swaps found refers to what the core machine lists as taken out of fields; it lists all own stacks
+-- a part agrees with the state and with what its mutator did; what its swaps found refers to what the core machine
+-- lists as taken out of fields; it lists all own stacks
 pub record Fits (o : Opening) (born : List Object) (s : State) (done : List (Command × Reply)) (p : Part) : Type 0 where
   pub exists : p.number < length s.world.mutators
   pub owing : p.number < length s.owed
@@ -124,7 +125,8 @@ pub record Agrees (o : Opening) (born : List Object) (words : List ℕ) (es : Li
 
 -- every name that was tracked as the round began has a place
 abbrev pub ArePlaced : Opening → Type 0
-ArePlaced o = (name : Name) (node : Node) → IsTracked o.core.world (earlier o) name → node_of o.core.world name ≡ Some node → (at : ℕ) × Contains o.places (record { at = at; name = name })
+ArePlaced o = (name : Name) (node : Node) → IsTracked o.core.world (earlier o) name → node_of o.core.world name ≡ Some node → (at : ℕ) ×
+    Contains o.places (record { at = at; name = name })
 
 -- an object born in the round: its name is new, and it lies in its maker's nursery
 pub record IsNew (o : Opening) (x : Object) : Type 0 where
@@ -157,7 +159,8 @@ pub record IsQueued (o : Opening) (entry : Entry) : Type 0 where
 
 -- every node of the world is a later one of a node that was there as the round began, or that of an object born since
 abbrev pub AreKnown : Opening → List Object → World → Type 0
-AreKnown o born w = (name : Name) (node : Node) → node_of w name ≡ Some node → ((before : Node) × (node_of o.core.world name ≡ Some before) × IsLater before node) ⊎ ((x : Object) × Contains born x × (x.name ≡ name))
+AreKnown o born w = (name : Name) (node : Node) → node_of w name ≡ Some node →
+    ((before : Node) × (node_of o.core.world name ≡ Some before) × IsLater before node) ⊎ ((x : Object) × Contains born x × (x.name ≡ name))
 
 -- the rule of a round with this opening
 pub record Keeps (o : Opening) (words : List ℕ) (views : List Seen) : Type 0 where

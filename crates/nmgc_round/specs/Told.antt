@@ -66,7 +66,8 @@ told_by h fixed _ = plain Fine
 
 -- the object is refused: it is none, or it has a header that doesn't do
 abbrev pub IsRefused : Opening → Part → Operand → (Header → Type 0) → Type 0
-IsRefused o p object bad = (operand_word o p object % 2 ≡ 1) ⊎ ((at : ℕ) × (header : Header) × (operand_word o p object ≡ 2 * at) × Names p at header × bad header)
+IsRefused o p object bad = (operand_word o p object % 2 ≡ 1) ⊎
+    ((at : ℕ) × (header : Header) × (operand_word o p object ≡ 2 * at) × Names p at header × bad header)
 
 -- the object is a stack that another mutator made: its header and its name are named
 pub record IsForeign (o : Opening) (p : Part) (object : Operand) : Type 0 where
@@ -111,7 +112,8 @@ pub record CanTell (o : Opening) (p : Part) (c : Command) : Type 0 where
 abbrev pub told : Seen → Command → Seen
 told v c = changing (λ p. doing p c (told_by (hand_now v.opening p) p.fixed c) []) v
 
--- a fixed word that the mutator may load: header or name of an object that an operand refers to, or a field that never changes, of an object whose header it names
+-- a fixed word that the mutator may load: header or name of an object that an operand refers to, or a field that
+-- never changes, of an object whose header it names
 abbrev pub CanFix : Opening → Part → ℕ → ℕ → Type 0
 CanFix o p at offset =
     ((object : Operand) × (operand_word o p object ≡ 2 * at) × (offset < HEADER_WORDS))

@@ -240,7 +240,13 @@ scanning v s = record v { scans = v.scans ++ s ∷ [] }
 
 -- a seat that was joined away
 abbrev pub no_opening : Opening
-no_opening = record { layout = record { segments = 0; words = 0; nursery = 0; mutators = 0 }; marking = false; core = unmarked (new_world 0); places = []; hands = [] }
+no_opening = record {
+  layout = record { segments = 0; words = 0; nursery = 0; mutators = 0 };
+  marking = false;
+  core = unmarked (new_world 0);
+  places = [];
+  hands = [];
+}
 
 abbrev pub nobody : Seen
 nobody = record { is_sole = false; words = []; opening = no_opening; parts = []; collects = false; scans = [] }

@@ -36,88 +36,120 @@ ghost use Rattle.nmgc_round.specs.Finishing.{IsFinished, HasAll, HasEach, Leaves
 
 /// A load of a word that never changes, without a place in the order: no word changes, and no event is added.
 pub fn fixed_load()
-    ensures { (o : Opening) (words : List ℕ) (views : List Seen) (id : ℕ) (v : Seen) (p : Part) (at offset : ℕ) (k : Keeps o words views) → get_elem? views id ≡ some v → IsMutator v p → CanFix o p at offset → Stays o words views k words (set views id (loaded v at offset (slice_index words (at + offset)))) }
+    ensures { (o : Opening) (words : List ℕ) (views : List Seen) (id : ℕ) (v : Seen) (p : Part) (at offset : ℕ) (k : Keeps o words views) →
+        get_elem? views id ≡ some v → IsMutator v p → CanFix o p at offset →
+        Stays o words views k words (set views id (loaded v at offset (slice_index words (at + offset)))) }
 {}
 
 /// A load of a word that never changes, at which a command takes its place: no word changes, and one command
 /// that changes no node is added.
 pub fn fixed_load_of_command()
-    ensures { (o : Opening) (words : List ℕ) (views : List Seen) (id : ℕ) (v : Seen) (p : Part) (at offset : ℕ) (c : Command) (k : Keeps o words views) → get_elem? views id ≡ some v → IsMutator v p → CanTake o p at offset c → AddsCommand o words views k p.number c words (set views id (taken v at offset c (slice_index words (at + offset)))) }
+    ensures { (o : Opening) (words : List ℕ) (views : List Seen) (id : ℕ) (v : Seen) (p : Part) (at offset : ℕ) (c : Command)
+        (k : Keeps o words views) → get_elem? views id ≡ some v → IsMutator v p → CanTake o p at offset c →
+        AddsCommand o words views k p.number c words (set views id (taken v at offset c (slice_index words (at + offset)))) }
 {}
 
 /// A load of a field: no word changes, and one command that changes no node is added.
 pub fn field_load()
-    ensures { (o : Opening) (words : List ℕ) (views : List Seen) (id : ℕ) (v : Seen) (p : Part) (at index : ℕ) (c : Command) (k : Keeps o words views) → get_elem? views id ≡ some v → IsMutator v p → CanLoad o p at index c → AddsCommand o words views k p.number c words (set views id (answered v c (word (slice_index words (at + HEADER_WORDS + index))))) }
+    ensures { (o : Opening) (words : List ℕ) (views : List Seen) (id : ℕ) (v : Seen) (p : Part) (at index : ℕ) (c : Command)
+        (k : Keeps o words views) → get_elem? views id ≡ some v → IsMutator v p → CanLoad o p at index c →
+        AddsCommand o words views k p.number c words (set views id (answered v c (word (slice_index words (at + HEADER_WORDS + index))))) }
 {}
 
 /// A swap of a field: its word changes, and one command that changes that field of that node is added. While
 /// marking the view owes the old word.
 pub fn field_swap()
-    ensures { (o : Opening) (words : List ℕ) (views : List Seen) (id : ℕ) (v : Seen) (p : Part) (at index w : ℕ) (c : Command) (k : Keeps o words views) → get_elem? views id ≡ some v → IsMutator v p → CanSwap o p at index w c → AddsCommand o words views k p.number c (set words (at + HEADER_WORDS + index) w) (set views id (swapped v c (slice_index words (at + HEADER_WORDS + index)))) }
+    ensures { (o : Opening) (words : List ℕ) (views : List Seen) (id : ℕ) (v : Seen) (p : Part) (at index w : ℕ) (c : Command)
+        (k : Keeps o words views) → get_elem? views id ≡ some v → IsMutator v p → CanSwap o p at index w c →
+        AddsCommand o words views k p.number c (set words (at + HEADER_WORDS + index) w)
+        (set views id (swapped v c (slice_index words (at + HEADER_WORDS + index)))) }
 {}
 
 /// A compare-exchange of a field: where the expected word stands there, that word changes, one command that
 /// changes that field of that node is added, and while marking the view owes the expected word. Else no word
 /// changes, and one command that changes no node is added.
 pub fn field_exchange()
-    ensures { (o : Opening) (words : List ℕ) (views : List Seen) (id : ℕ) (v : Seen) (p : Part) (at index expected w : ℕ) (c : Command) (k : Keeps o words views) → get_elem? views id ≡ some v → IsMutator v p → CanExchange o p at index expected w c → let hit = slice_index words (at + HEADER_WORDS + index) == expected in AddsCommand o words views k p.number c (words_exchanged words (at + HEADER_WORDS + index) w hit) (set views id (exchanged v c expected hit)) }
+    ensures { (o : Opening) (words : List ℕ) (views : List Seen) (id : ℕ) (v : Seen) (p : Part) (at index expected w : ℕ) (c : Command)
+        (k : Keeps o words views) → get_elem? views id ≡ some v → IsMutator v p → CanExchange o p at index expected w c →
+        let hit = slice_index words (at + HEADER_WORDS + index) == expected in
+        AddsCommand o words views k p.number c (words_exchanged words (at + HEADER_WORDS + index) w hit) (set views id (exchanged v c expected hit)) }
 {}
 
 /// A load of a thunk's result: no word changes, and one command that changes no node is added.
 pub fn result_load()
-    ensures { (o : Opening) (words : List ℕ) (views : List Seen) (id : ℕ) (v : Seen) (p : Part) (at : ℕ) (c : Command) (k : Keeps o words views) → get_elem? views id ≡ some v → IsMutator v p → CanForce o p at c → AddsCommand o words views k p.number c words (set views id (forced v c (slice_index words (at + HEADER_WORDS)))) }
+    ensures { (o : Opening) (words : List ℕ) (views : List Seen) (id : ℕ) (v : Seen) (p : Part) (at : ℕ) (c : Command) (k : Keeps o words views) →
+        get_elem? views id ≡ some v → IsMutator v p → CanForce o p at c →
+        AddsCommand o words views k p.number c words (set views id (forced v c (slice_index words (at + HEADER_WORDS)))) }
 {}
 
 /// A compare-exchange of a thunk's result: where there was none its word changes, one command that changes that
 /// node is added, and while marking the view owes the free variables. Else no word changes, and one command that
 /// changes no node is added.
 pub fn result_exchange()
-    ensures { (o : Opening) (words : List ℕ) (views : List Seen) (id : ℕ) (v : Seen) (p : Part) (at w : ℕ) (c : Command) (k : Keeps o words views) → get_elem? views id ≡ some v → IsMutator v p → CanUpdate o p at w c → let hit = slice_index words (at + HEADER_WORDS) == 0 in AddsCommand o words views k p.number c (words_exchanged words (at + HEADER_WORDS) w hit) (set views id (updated v at c hit)) }
+    ensures { (o : Opening) (words : List ℕ) (views : List Seen) (id : ℕ) (v : Seen) (p : Part) (at w : ℕ) (c : Command) (k : Keeps o words views) →
+        get_elem? views id ≡ some v → IsMutator v p → CanUpdate o p at w c → let hit = slice_index words (at + HEADER_WORDS) == 0 in
+        AddsCommand o words views k p.number c (words_exchanged words (at + HEADER_WORDS) w hit) (set views id (updated v at c hit)) }
 {}
 
 /// A load of a weak pointer's value: no word changes, and one command that changes no node is added. While
 /// marking the view owes the value, if there is one.
 pub fn weak_load()
-    ensures { (o : Opening) (words : List ℕ) (views : List Seen) (id : ℕ) (v : Seen) (p : Part) (at : ℕ) (c : Command) (k : Keeps o words views) → get_elem? views id ≡ some v → IsMutator v p → CanDeref o p at c → AddsCommand o words views k p.number c words (set views id (weak_read v c (slice_index words (at + HEADER_WORDS + 1)))) }
+    ensures { (o : Opening) (words : List ℕ) (views : List Seen) (id : ℕ) (v : Seen) (p : Part) (at : ℕ) (c : Command) (k : Keeps o words views) →
+        get_elem? views id ≡ some v → IsMutator v p → CanDeref o p at c →
+        AddsCommand o words views k p.number c words (set views id (weak_read v c (slice_index words (at + HEADER_WORDS + 1)))) }
 {}
 
 /// A swap of a weak pointer's value: the word is 0 afterwards, and one command is added that kills that weak
 /// pointer, or changes no node where it was dead. While marking the view owes what an alive one kept.
 pub fn weak_swap()
-    ensures { (o : Opening) (words : List ℕ) (views : List Seen) (id : ℕ) (v : Seen) (p : Part) (at : ℕ) (c : Command) (k : Keeps o words views) → get_elem? views id ≡ some v → IsMutator v p → CanFinalise o p at c → AddsCommand o words views k p.number c (set words (at + HEADER_WORDS + 1) 0) (set views id (weak_taken v at c (slice_index words (at + HEADER_WORDS + 1)))) }
+    ensures { (o : Opening) (words : List ℕ) (views : List Seen) (id : ℕ) (v : Seen) (p : Part) (at : ℕ) (c : Command) (k : Keeps o words views) →
+        get_elem? views id ≡ some v → IsMutator v p → CanFinalise o p at c →
+        AddsCommand o words views k p.number c (set words (at + HEADER_WORDS + 1) 0)
+        (set views id (weak_taken v at c (slice_index words (at + HEADER_WORDS + 1)))) }
 {}
 
 /// A load of a slot of an own stack: no word changes, no event is added, and no view changes. It finds what the
 /// mutator's rows leave there.
 pub fn slot_load()
-    ensures { (o : Opening) (words : List ℕ) (views : List Seen) (id : ℕ) (v : Seen) (p : Part) (at slot : ℕ) (k : Keeps o words views) → get_elem? views id ≡ some v → IsMutator v p → CanPeek o p at slot → Stays o words views k words (set views id v) × TellsSlot o p at slot (slice_index words (at + HEADER_WORDS + slot)) }
+    ensures { (o : Opening) (words : List ℕ) (views : List Seen) (id : ℕ) (v : Seen) (p : Part) (at slot : ℕ) (k : Keeps o words views) →
+        get_elem? views id ≡ some v → IsMutator v p → CanPeek o p at slot → Stays o words views k words (set views id v) ×
+        TellsSlot o p at slot (slice_index words (at + HEADER_WORDS + slot)) }
 {}
 
 /// A swap of a slot of an own stack: its word changes, and one command that changes that node is added. While
 /// marking the view owes what is popped.
 pub fn slot_swap()
-    ensures { (o : Opening) (words : List ℕ) (views : List Seen) (id : ℕ) (v : Seen) (p : Part) (at slot w : ℕ) (c : Command) (k : Keeps o words views) → get_elem? views id ≡ some v → IsMutator v p → CanSlot o p at slot w c → AddsCommand o words views k p.number c (set words (at + HEADER_WORDS + slot) w) (set views id (slot_swapped v c (slice_index words (at + HEADER_WORDS + slot)))) }
+    ensures { (o : Opening) (words : List ℕ) (views : List Seen) (id : ℕ) (v : Seen) (p : Part) (at slot w : ℕ) (c : Command)
+        (k : Keeps o words views) → get_elem? views id ≡ some v → IsMutator v p → CanSlot o p at slot w c →
+        AddsCommand o words views k p.number c (set words (at + HEADER_WORDS + slot) w)
+        (set views id (slot_swapped v c (slice_index words (at + HEADER_WORDS + slot)))) }
 {}
 
 /// A `push` onto a full own stack, or a `pop` off an empty one: no word changes, and one command that changes no
 /// node is added.
 pub fn slot_refusal()
-    ensures { (o : Opening) (words : List ℕ) (views : List Seen) (id : ℕ) (v : Seen) (p : Part) (at : ℕ) (c : Command) (k : Keeps o words views) → get_elem? views id ≡ some v → IsMutator v p → IsRefusedSlot o p at c → AddsCommand o words views k p.number c words (set views id (slot_refused v c)) }
+    ensures { (o : Opening) (words : List ℕ) (views : List Seen) (id : ℕ) (v : Seen) (p : Part) (at : ℕ) (c : Command) (k : Keeps o words views) →
+        get_elem? views id ≡ some v → IsMutator v p → IsRefusedSlot o p at c → AddsCommand o words views k p.number c words (set views id (slot_refused v c)) }
 {}
 
 /// A store where no object is yet: that word changes, and no event is added.
 pub fn unborn_store()
-    ensures { (o : Opening) (words : List ℕ) (views : List Seen) (id : ℕ) (v : Seen) (p : Part) (at w : ℕ) (k : Keeps o words views) → get_elem? views id ≡ some v → IsMutator v p → CanStore o p at → Stays o words views k (set words at w) (set views id (stored v at w)) }
+    ensures { (o : Opening) (words : List ℕ) (views : List Seen) (id : ℕ) (v : Seen) (p : Part) (at w : ℕ) (k : Keeps o words views) →
+        get_elem? views id ≡ some v → IsMutator v p → CanStore o p at → Stays o words views k (set words at w) (set views id (stored v at w)) }
 {}
 
 /// A birth: a header is written, and one command that makes that node is added.
 pub fn birth()
-    ensures { (o : Opening) (words : List ℕ) (views : List Seen) (id : ℕ) (v : Seen) (p : Part) (at header : ℕ) (c : Command) (k : Keeps o words views) → get_elem? views id ≡ some v → IsMutator v p → CanBear o p at header c → AddsCommand o words views k p.number c (set words at header) (set views id (gave_birth v at header c)) }
+    ensures { (o : Opening) (words : List ℕ) (views : List Seen) (id : ℕ) (v : Seen) (p : Part) (at header : ℕ) (c : Command)
+        (k : Keeps o words views) → get_elem? views id ≡ some v → IsMutator v p → CanBear o p at header c →
+        AddsCommand o words views k p.number c (set words at header) (set views id (gave_birth v at header c)) }
 {}
 
 /// The collector's load: no word changes, and one scan is added.
 pub fn scan()
-    ensures { (o : Opening) (words : List ℕ) (views : List Seen) (id : ℕ) (v : Seen) (at offset : ℕ) (k : Keeps o words views) → get_elem? views id ≡ some v → (can : CanScan v at offset) → AddsScan o words views k can.entry words (set views id (scanned_by v (slice_index words (at + offset)))) }
+    ensures { (o : Opening) (words : List ℕ) (views : List Seen) (id : ℕ) (v : Seen) (at offset : ℕ) (k : Keeps o words views) →
+        get_elem? views id ≡ some v → (can : CanScan v at offset) →
+        AddsScan o words views k can.entry words (set views id (scanned_by v (slice_index words (at + offset)))) }
 {}
 
 /// The words of the heap of which nothing was made open the first round of a run.
@@ -137,23 +169,28 @@ pub fn words_open()
 
 /// A seat gives its first mutator to a new seat.
 pub fn mutator_split()
-    ensures { (o : Opening) (words : List ℕ) (views : List Seen) (id : ℕ) (v : Seen) (k : Keeps o words views) → get_elem? views id ≡ some v → CanSplit v → Stays o words views k words (set views id (keeps_rest v) ++ gives_first v ∷ []) }
+    ensures { (o : Opening) (words : List ℕ) (views : List Seen) (id : ℕ) (v : Seen) (k : Keeps o words views) → get_elem? views id ≡ some v →
+        CanSplit v → Stays o words views k words (set views id (keeps_rest v) ++ gives_first v ∷ []) }
 {}
 
 /// A seat gives the collector to a new seat.
 pub fn collector_split()
-    ensures { (o : Opening) (words : List ℕ) (views : List Seen) (id : ℕ) (v : Seen) (k : Keeps o words views) → get_elem? views id ≡ some v → v.collects ≡ true → Stays o words views k words (set views id (mutates v) ++ collecting v ∷ []) }
+    ensures { (o : Opening) (words : List ℕ) (views : List Seen) (id : ℕ) (v : Seen) (k : Keeps o words views) → get_elem? views id ≡ some v →
+        v.collects ≡ true → Stays o words views k words (set views id (mutates v) ++ collecting v ∷ []) }
 {}
 
 /// A seat takes another's parts in, and that one is no more.
 pub fn join()
-    ensures { (o : Opening) (words : List ℕ) (views : List Seen) (id other : ℕ) (v w : Seen) (k : Keeps o words views) → get_elem? views id ≡ some v → get_elem? views other ≡ some w → other ≢ id → v.opening ≡ w.opening → Stays o words views k words (set (set views id (together v w)) other nobody) }
+    ensures { (o : Opening) (words : List ℕ) (views : List Seen) (id other : ℕ) (v w : Seen) (k : Keeps o words views) →
+        get_elem? views id ≡ some v → get_elem? views other ≡ some w → other ≢ id → v.opening ≡ w.opening →
+        Stays o words views k words (set (set views id (together v w)) other nobody) }
 {}
 
 /// A seat that has every part ends the round: what it knows holds for the events so far, and from then on it
 /// is the only one.
 pub fn round_end()
-    ensures { (o : Opening) (words : List ℕ) (views : List Seen) (id : ℕ) (v : Seen) (k : Keeps o words views) → get_elem? views id ≡ some v → HasAll v → ((n : IsFinished o words v) × (n.events ≡ k.events)) × Stopped words (set views id (exclusive words)) }
+    ensures { (o : Opening) (words : List ℕ) (views : List Seen) (id : ℕ) (v : Seen) (k : Keeps o words views) → get_elem? views id ≡ some v →
+        HasAll v → ((n : IsFinished o words v) × (n.events ≡ k.events)) × Stopped words (set views id (exclusive words)) }
 {}
 
 /// The words that a round leaves represent the world after one order of its commands.
@@ -164,13 +201,15 @@ pub fn words_represent()
 /// A mutator's commands in the order of the events, with their replies, are its rows by the names that
 /// it loaded.
 pub fn replies_are_named()
-    ensures { (o : Opening) (words : List ℕ) (v : Seen) (h : IsFinished o words v) (k : ℕ) (p : Part) → get_elem? v.parts k ≡ some p → (replies : List (Command × Reply)) → AllReply p.fixed p.rows replies → done_by p.number h.events ≡ replies }
+    ensures { (o : Opening) (words : List ℕ) (v : Seen) (h : IsFinished o words v) (k : ℕ) (p : Part) → get_elem? v.parts k ≡ some p →
+        (replies : List (Command × Reply)) → AllReply p.fixed p.rows replies → done_by p.number h.events ≡ replies }
 {}
 
 /// The commands among events, in their order, are a legal history of the never-collected heap, and its world
 /// is the one after the events.
 pub fn events_are_a_history()
-    ensures { (s : State) (events : List Happening) → IsLegal s events → IsLegalHistory s.world (rows_in events) × ((replay s events).world ≡ replayed s.world (rows_in events)) }
+    ensures { (s : State) (events : List Happening) → IsLegal s events → IsLegalHistory s.world (rows_in events) ×
+        ((replay s events).world ≡ replayed s.world (rows_in events)) }
 {}
 
 /// A mutator's rows in that history are its commands and replies among the events.

@@ -45,7 +45,8 @@ impl Round {
     fn begin(words: Words, marking: bool, opening: &Chosen<Opened>) -> (Round, MutatorSeat)
         requires opens { CanOpen opening.now.value words }
         requires marking { marking ≡ opening.now.value.marking }
-        ensures { IsAt result.0 result.1 × (seen result.1 ≡ whole opening.now.value) × (word_count result.0 ≡ length words) × (opening_of result.0 ≡ opening.now.value) × (0 < word_count result.0) }
+        ensures { IsAt result.0 result.1 × (seen result.1 ≡ whole opening.now.value) × (word_count result.0 ≡ length words) ×
+            (opening_of result.0 ≡ opening.now.value) × (0 < word_count result.0) }
     {
         let Words { table, seat } = words;
         let mut seat = seat;

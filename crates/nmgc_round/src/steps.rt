@@ -81,9 +81,11 @@ impl Round {
         command: Option<&Command>,
     ) -> u64
         requires seat { IsAt self.now seat.old }
-        requires ready { MatchOption command (Mutates (λ o p. CanFix o p at.0 offset) (seen seat.old)) (λ c. Mutates (λ o p. CanTake o p at.0 offset c.now) (seen seat.old)) }
+        requires ready { MatchOption command (Mutates (λ o p. CanFix o p at.0 offset) (seen seat.old)) (λ c.
+            Mutates (λ o p. CanTake o p at.0 offset c.now) (seen seat.old)) }
         requires within { at.0 + offset < word_count self.now }
-        ensures view { MatchOption command.entry (Knows self.now seat.old seat.new (loaded (seen seat.old) at.0 offset result)) (λ c. Knows self.now seat.old seat.new (taken (seen seat.old) at.0 offset c.now result)) }
+        ensures view { MatchOption command.entry (Knows self.now seat.old seat.new (loaded (seen seat.old) at.0 offset result)) (λ c.
+            Knows self.now seat.old seat.new (taken (seen seat.old) at.0 offset c.now result)) }
         ensures room { IfNone command.entry (Tells (seen seat.old).opening at.0 offset result) }
         ensures safe { IfSome command.entry (λ c. TellsField (seen seat.old).opening offset result) }
         ensures queue { IfSome command.entry (λ c. Mutates TellsQueue (seen seat.old)) }

@@ -81,12 +81,15 @@ fine_root n (inl e) = inr e
 fine_root n (inr h) = held_by h.0 h.1
   where
     held_by : (m : ℕ) → Contains ((state_of c.snapshot m).registers ++ (state_of c.snapshot m).queue) (Ref n) → Fine n
-    held_by zero h = elim (contains_cases object_name [] n (named_in ((state_of c.snapshot 0).registers ++ (state_of c.snapshot 0).queue) n h)) [ inl e ↦ inl e | inr none ↦ absurd (none_in n none) ]
+    held_by zero h = elim (contains_cases object_name [] n (named_in ((state_of c.snapshot 0).registers ++
+        (state_of c.snapshot 0).queue) n h)) [ inl e ↦ inl e | inr none ↦ absurd (none_in n none) ]
     held_by (suc m) h = absurd (none_in (Ref n) h)
 
 fine_field : (name target : Name) → Fine name → RefersTo c.snapshot name target → ⊥
-fine_field name target (inl e) r = let P : Name → Type 0 = λ n. Contains (refs_of (node_of c.snapshot n)) target in none_in target (subst P (sym e) (refers_in c.snapshot name target r))
-fine_field name target (inr e) r = let P : Name → Type 0 = λ n. Contains (refs_of (node_of c.snapshot n)) target in none_in target (subst P e (refers_in c.snapshot name target r))
+fine_field name target (inl e) r = let P : Name → Type 0 = λ n. Contains (refs_of (node_of c.snapshot n)) target in
+    none_in target (subst P (sym e) (refers_in c.snapshot name target r))
+fine_field name target (inr e) r = let P : Name → Type 0 = λ n. Contains (refs_of (node_of c.snapshot n)) target in
+    none_in target (subst P e (refers_in c.snapshot name target r))
 
 no_weak_at : (maker serial : ℕ) (parts : Parts) → IsAlive c.snapshot (record { maker = maker; serial = serial }) parts → ⊥
 no_weak_at zero zero parts e = cc
@@ -129,7 +132,18 @@ may_close = (
   inl (lit≤ tt),
   record {
     after = lit≤ tt;
-    work = λ nothing. (1, (object_name ∷ [], lists_one (IsStrongObject c.snapshot) object_name (IsReached.start object_name object_root, not_g) (only_fine (IsReached c.snapshot (IsRoot c.snapshot)) fine_reached), refl), lit≤ tt);
+    work = λ nothing. (
+      1,
+      (
+        object_name ∷ [],
+        lists_one (IsStrongObject c.snapshot) object_name (
+          IsReached.start object_name object_root,
+          not_g,
+        ) (only_fine (IsReached c.snapshot (IsRoot c.snapshot)) fine_reached),
+        refl,
+      ),
+      lit≤ tt,
+    );
   },
 )
 
@@ -139,7 +153,8 @@ pub only_filled : (n : ℕ) → IsSweptIn c n → 0 ≡ n
 only_filled zero h = refl
 only_filled (suc n) h = let free = ap (λ (x : Cells). x.state) (all_same 17 no_cells n) in let e = h.1 in absurd cc
 
-pub only_block : (state : Stands) (fresh number block : ℕ) (n : Name) → name_in (cells (held state fresh) number) block ≡ Some n → (0 ≡ number) × (0 ≡ block) × (object_name ≡ n)
+pub only_block : (state : Stands) (fresh number block : ℕ) (n : Name) → name_in (cells (held state fresh) number) block ≡ Some n → (0 ≡ number) ×
+    (0 ≡ block) × (object_name ≡ n)
 only_block state fresh zero zero n e = (refl, refl, cc)
 only_block state fresh zero (suc block) n e = absurd cc
 only_block state fresh (suc number) block n e = let none = ap (λ (x : Cells). name_in x block) (all_same 17 no_cells number) in absurd cc
@@ -226,7 +241,8 @@ place = record {
     least : (smaller : ℕ) → smaller < 5 → block_size smaller < 9
     least smaller lt = block_rises smaller 5 lt
 
-only_young : (maker serial : ℕ) → IsYoung opened.world born.world (record { maker = maker; serial = serial }) → object_name ≡ record { maker = maker; serial = serial }
+only_young : (maker serial : ℕ) → IsYoung opened.world born.world (record { maker = maker; serial = serial }) →
+    object_name ≡ record { maker = maker; serial = serial }
 only_young zero zero y = refl
 only_young zero (suc serial) y = absurd (nothing_at serial y.1)
 only_young (suc maker) serial y = absurd (nothing_at serial (not_shared (suc maker == SHARED_MAKER) _ _ _ y.0 y.1))
@@ -255,13 +271,28 @@ abbrev pub opening : Stop
 opening = record { state = opened; row = array_stop 0 Idle 18 0 0 0; cycles = [] }
 
 abbrev pub first_turn : Turn
-first_turn = record { replies = replied array_replies; history = rows; worked = born; stop = record { state = begun; row = array_stop 1 Marking 17 0 1 1; cycles = [] } }
+first_turn = record {
+  replies = replied array_replies;
+  history = rows;
+  worked = born;
+  stop = record { state = begun; row = array_stop 1 Marking 17 0 1 1; cycles = [] };
+}
 
 abbrev pub second_turn : Turn
-second_turn = record { replies = replied []; history = []; worked = scanned; stop = record { state = was_closed; row = array_stop 2 Sweeping 17 0 1 0; cycles = [] } }
+second_turn = record {
+  replies = replied [];
+  history = [];
+  worked = scanned;
+  stop = record { state = was_closed; row = array_stop 2 Sweeping 17 0 1 0; cycles = [] };
+}
 
 abbrev pub third_turn : Turn
-third_turn = record { replies = replied []; history = []; worked = swept; stop = record { state = ended; row = array_stop 3 Idle 17 1 0 0; cycles = array_row ∷ [] } }
+third_turn = record {
+  replies = replied [];
+  history = [];
+  worked = swept;
+  stop = record { state = ended; row = array_stop 3 Idle 17 1 0 0; cycles = array_row ∷ [] };
+}
 
 -- a run with so many of the turns
 abbrev pub run_of : List Turn → Run
@@ -272,7 +303,13 @@ no_turn = record {
   opening = record {
     promoted = opened;
     count = 0;
-    promotes = record { names = []; lists = lists_none (IsPromoted opened.world opened.world) (λ n p. none_young opened.world n p.0); places = refl; many = refl; rest = refl };
+    promotes = record {
+      names = [];
+      lists = lists_none (IsPromoted opened.world opened.world) (λ n p. none_young opened.world n p.0);
+      places = refl;
+      many = refl;
+      rest = refl;
+    };
     closed = opened;
     closes = refl;
     ended = opened;
@@ -319,7 +356,13 @@ is_second = record {
   stop = record {
     promoted = scanned;
     count = 0;
-    promotes = record { names = []; lists = lists_none (IsPromoted begun.world scanned.world) (λ n p. none_young begun.world n p.0); places = refl; many = refl; rest = refl };
+    promotes = record {
+      names = [];
+      lists = lists_none (IsPromoted begun.world scanned.world) (λ n p. none_young begun.world n p.0);
+      places = refl;
+      many = refl;
+      rest = refl;
+    };
     closed = was_closed;
     closes = inr (record { dead = []; lists = lists_none (IsDeadIn c) dead_none; rest = refl }, may_close);
     ended = was_closed;
@@ -335,11 +378,21 @@ is_second = record {
 pub is_third : IsTurn array_plan was_closed third_turn
 is_third = record {
   goes_on = refl;
-  round = record { history = record { lengths = refl; order = order_none; legal = tt }; swept = record { numbers = 0 ∷ []; sweeps = (held stands.Filled 0, sweeps, refl); many = refl }; rest = refl };
+  round = record {
+    history = record { lengths = refl; order = order_none; legal = tt };
+    swept = record { numbers = 0 ∷ []; sweeps = (held stands.Filled 0, sweeps, refl); many = refl };
+    rest = refl;
+  };
   stop = record {
     promoted = swept;
     count = 0;
-    promotes = record { names = []; lists = lists_none (IsPromoted was_closed.world swept.world) (λ n p. none_young was_closed.world n p.0); places = refl; many = refl; rest = refl };
+    promotes = record {
+      names = [];
+      lists = lists_none (IsPromoted was_closed.world swept.world) (λ n p. none_young was_closed.world n p.0);
+      places = refl;
+      many = refl;
+      rest = refl;
+    };
     closed = swept;
     closes = refl;
     ended = ended;

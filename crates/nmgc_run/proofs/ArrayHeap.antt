@@ -42,14 +42,17 @@ shared_node = Arr (replicate 16 Nil)
 abbrev pub array_node : Node
 array_node = Arr (replicate 7 Nil)
 
-only_names : (maker serial : ℕ) (node : Node) → node_of born.world (record { maker = maker; serial = serial }) ≡ Some node → (shared_name ≡ record { maker = maker; serial = serial }) ⊎ (object_name ≡ record { maker = maker; serial = serial })
+only_names : (maker serial : ℕ) (node : Node) → node_of born.world (record { maker = maker; serial = serial }) ≡ Some node →
+    (shared_name ≡ record { maker = maker; serial = serial }) ⊎ (object_name ≡ record { maker = maker; serial = serial })
 only_names zero zero node e = inr refl
 only_names zero (suc serial) node e = absurd (not_known serial node e)
 only_names (suc maker) serial node e = shared_or (suc maker == SHARED_MAKER) (serial == 0) _ _ node _
-    (λ b d. inl (ap (λ (m : ℕ). record { maker = m; serial = 0 }) (sym (eqb-true (suc maker) SHARED_MAKER b)) ∙ ap (λ (s : ℕ). record { maker = suc maker; serial = s }) (sym (eqb-true serial 0 d))))
+    (λ b d. inl (ap (λ (m : ℕ). record { maker = m; serial = 0 }) (sym (eqb-true (suc maker) SHARED_MAKER b)) ∙
+    ap (λ (s : ℕ). record { maker = suc maker; serial = s }) (sym (eqb-true serial 0 d))))
     (λ o. absurd (not_known serial node o)) e
 
-pub each_name : (P : Name → Node → Type 0) → P shared_name shared_node → P object_name array_node → (n : Name) (node : Node) → node_of born.world n ≡ Some node → P n node
+pub each_name : (P : Name → Node → Type 0) → P shared_name shared_node → P object_name array_node → (n : Name) (node : Node) →
+    node_of born.world n ≡ Some node → P n node
 each_name P shared object n node e = elim (only_names n.maker n.serial node e) [
   | inl is ↦
       let there : node_of born.world shared_name ≡ Some node = ap (λ (m : Name). node_of born.world m) is ∙ e in
@@ -59,10 +62,12 @@ each_name P shared object n node e = elim (only_names n.maker n.serial node e) [
       subst (λ m. P m node) is (subst (λ x. P object_name x) (some_is array_node node there) object)
 ]
 
-only_shared : (maker serial : ℕ) (node : Node) → node_of opened.world (record { maker = maker; serial = serial }) ≡ Some node → shared_name ≡ record { maker = maker; serial = serial }
+only_shared : (maker serial : ℕ) (node : Node) → node_of opened.world (record { maker = maker; serial = serial }) ≡ Some node →
+    shared_name ≡ record { maker = maker; serial = serial }
 only_shared zero serial node e = absurd (not_known serial node e)
 only_shared (suc maker) serial node e = shared_or (suc maker == SHARED_MAKER) (serial == 0) _ _ node _
-    (λ b d. ap (λ (m : ℕ). record { maker = m; serial = 0 }) (sym (eqb-true (suc maker) SHARED_MAKER b)) ∙ ap (λ (s : ℕ). record { maker = suc maker; serial = s }) (sym (eqb-true serial 0 d)))
+    (λ b d. ap (λ (m : ℕ). record { maker = m; serial = 0 }) (sym (eqb-true (suc maker) SHARED_MAKER b)) ∙
+    ap (λ (s : ℕ). record { maker = suc maker; serial = s }) (sym (eqb-true serial 0 d)))
     (λ o. absurd (not_known serial node o)) e
 
 pub each_first : (P : Name → Node → Type 0) → P shared_name shared_node → (n : Name) (node : Node) → node_of opened.world n ≡ Some node → P n node
@@ -123,12 +128,21 @@ young_has = record {
   total = refl;
   shared_header = refl;
   shared_second = refl;
-  shared_fields = has_slots (Contains (places_at 320)) (0 ∷ 32771 ∷ 32 ∷ []) (replicate 16 1) (replicate 301 0 ++ (14339 ∷ 0 ∷ (replicate 7 1 ++ replicate 7 0))) (map holds (replicate 16 Nil)) (fills_nil (Contains (places_at 320)) 16);
+  shared_fields = has_slots (Contains (places_at 320)) (0 ∷ 32771 ∷ 32 ∷ []) (replicate 16 1) (replicate 301 0 ++
+      (14339 ∷ 0 ∷ (replicate 7 1 ++ replicate 7 0))) (map holds (replicate 16 Nil)) (fills_nil (Contains (places_at 320)) 16);
   header = refl;
   second = refl;
-  fields = has_slots (Contains (places_at 320)) (0 ∷ 32771 ∷ 32 ∷ (replicate 16 1 ++ (replicate 301 0 ++ (14339 ∷ 0 ∷ [])))) (replicate 7 1) (replicate 7 0) (map holds (replicate 7 Nil)) (fills_nil (Contains (places_at 320)) 7);
+  fields = has_slots (Contains (places_at 320)) (0 ∷ 32771 ∷ 32 ∷
+      (replicate 16 1 ++ (replicate 301 0 ++
+      (14339 ∷ 0 ∷ [])))) (replicate 7 1) (replicate 7 0) (map holds (replicate 7 Nil)) (fills_nil (Contains (places_at 320)) 7);
   high = lit≤ tt;
-  lies = λ size most. inr (own_maker, inr (omega (arith, most), λ i from before. record { exists = lit< tt; from = omega (arith, from); before = omega (arith, before, most) }));
+  lies = λ size most. inr (
+    own_maker,
+    inr (
+      omega (arith, most),
+      λ i from before. record { exists = lit< tt; from = omega (arith, from); before = omega (arith, before, most) },
+    ),
+  );
 }
 
 pub old_has : HasWords 32 old_words
@@ -136,10 +150,13 @@ old_has = record {
   total = refl;
   shared_header = refl;
   shared_second = refl;
-  shared_fields = has_slots (Contains (places_at 32)) (0 ∷ 32771 ∷ 32 ∷ []) (replicate 16 1) (replicate 13 0 ++ (14339 ∷ 0 ∷ (replicate 7 1 ++ replicate 295 0))) (map holds (replicate 16 Nil)) (fills_nil (Contains (places_at 32)) 16);
+  shared_fields = has_slots (Contains (places_at 32)) (0 ∷ 32771 ∷ 32 ∷ []) (replicate 16 1) (replicate 13 0 ++
+      (14339 ∷ 0 ∷ (replicate 7 1 ++ replicate 295 0))) (map holds (replicate 16 Nil)) (fills_nil (Contains (places_at 32)) 16);
   header = refl;
   second = refl;
-  fields = has_slots (Contains (places_at 32)) (0 ∷ 32771 ∷ 32 ∷ (replicate 16 1 ++ (replicate 13 0 ++ (14339 ∷ 0 ∷ [])))) (replicate 7 1) (replicate 295 0) (map holds (replicate 7 Nil)) (fills_nil (Contains (places_at 32)) 7);
+  fields = has_slots (Contains (places_at 32)) (0 ∷ 32771 ∷ 32 ∷
+      (replicate 16 1 ++ (replicate 13 0 ++
+      (14339 ∷ 0 ∷ [])))) (replicate 7 1) (replicate 295 0) (map holds (replicate 7 Nil)) (fills_nil (Contains (places_at 32)) 7);
   high = lit≤ tt;
   lies = λ size most. inr (own_maker, inl (0, λ i from before. record { exists = lit< tt; from = omega (arith, from); before = omega (arith, before, most) }));
 }
@@ -195,7 +212,8 @@ module _ (at : ℕ) (words : List ℕ) (h : HasWords at words) (earlier : List W
   pub represents : Represents array_layout earlier NoNode (places_at at) born.world words
   represents = record {
     total = h.total;
-    one = λ p q c d. each_place at (λ x. Apart x q) (each_place at (λ y. Apart shared_place y) (λ k. refl) apart q d) (each_place at (λ y. Apart (array_place at) y) apart_back (λ k. refl) q d) p c;
+    one = λ p q c d. each_place at (λ x. Apart x q) (each_place at (λ y. Apart shared_place y) (λ k. refl) apart q d) (each_place at (λ y.
+        Apart (array_place at) y) apart_back (λ k. refl) q d) p c;
     named = each_place at (IsNamed array_layout born.world words)
         (record { known = refl; valid = (lit≤ tt, lit< tt, λ m. refl); name = h.shared_second; lies = inl (refl, refl, lit≤ tt) })
         (record { known = refl; valid = (lit≤ tt, lit< tt, λ m. absurd (omega (arith, m))); name = h.second; lies = h.lies 2 (lit≤ tt) });
@@ -203,10 +221,14 @@ module _ (at : ℕ) (words : List ℕ) (h : HasWords at words) (earlier : List W
     born = born_objects;
   }
     where
-      born_objects : (p : Place) (node : Node) → Contains (places_at at) p → InNursery array_layout p.name.maker p.at → node_of born.world p.name ≡ Some node → IsObject array_layout (places_at at) words p node × (node ≡ Weak None → slice_index words (p.at + 2 + 1) ≡ 0)
-      born_objects p node c inside there = each_place at (λ q. (node_of born.world q.name ≡ Some node) → InNursery array_layout q.name.maker q.at → IsObject array_layout (places_at at) words q node × (node ≡ Weak None → slice_index words (q.at + 2 + 1) ≡ 0))
+      born_objects : (p : Place) (node : Node) → Contains (places_at at) p → InNursery array_layout p.name.maker p.at →
+          node_of born.world p.name ≡ Some node → IsObject array_layout (places_at at) words p node × (node ≡ Weak None → slice_index words (p.at + 2 + 1) ≡ 0)
+      born_objects p node c inside there = each_place at (λ q. (node_of born.world q.name ≡ Some node) → InNursery array_layout q.name.maker q.at →
+          IsObject array_layout (places_at at) words q node × (node ≡ Weak None → slice_index words (q.at + 2 + 1) ≡ 0))
           (λ e k. absurd (omega (arith, k.exists)))
-          (λ e k. let is : array_node ≡ node = some_is array_node node e in subst (λ x. IsObject array_layout (places_at at) words (array_place at) x × (x ≡ Weak None → slice_index words (at + 2 + 1) ≡ 0)) is (array_object, λ w. absurd cc)) p c there inside
+          (λ e k. let is : array_node ≡ node = some_is array_node node e in
+          subst (λ x. IsObject array_layout (places_at at) words (array_place at) x ×
+          (x ≡ Weak None → slice_index words (at + 2 + 1) ≡ 0)) is (array_object, λ w. absurd cc)) p c there inside
 
 -- roots
 
@@ -253,29 +275,47 @@ allocation_in form = held (state_in form) 0
 used_then : (form : Form) (block : ℕ) → IsSome (name_in (cells (allocation_in form) 0) block) ↔ InUse (segment_in form) block
 used_then waits zero = (λ some. inl (lit< tt), λ used. refl)
 used_then done zero = (λ some. inl (lit< tt), λ used. refl)
-used_then waits (suc block) = (λ some. absurd cc, λ used. elim used [ inl below ↦ absurd (omega (arith, below)) | inr marked ↦ absurd (marked (all_same 3 0 block)) ])
-used_then done (suc block) = (λ some. absurd cc, λ used. elim used [ inl below ↦ absurd (omega (arith, below)) | inr marked ↦ absurd (marked (all_same 3 0 block)) ])
+used_then waits (suc block) = (
+  λ some. absurd cc,
+  λ used. elim used [
+    | inl below ↦ absurd (omega (arith, below))
+    | inr marked ↦
+        absurd (marked (all_same 3 0 block))
+  ],
+)
+used_then done (suc block) = (
+  λ some. absurd cc,
+  λ used. elim used [
+    | inl below ↦ absurd (omega (arith, below))
+    | inr marked ↦
+        absurd (marked (all_same 3 0 block))
+  ],
+)
 
 first_shows : (form : Form) → Shows (segments_of (segment_in form)) old_words 0 (cells (allocation_in form) 0)
 first_shows waits = record { state = refl; free = λ e. absurd cc; class = λ used. refl; blocks = λ used. refl; used = used_then waits; named = named }
   where
-    named : (block : ℕ) (n : Name) → name_in (cells (allocation_in waits) 0) block ≡ Some n → slice_index old_words (block_place array_layout 0 5 block + 1) ≡ name_word n
+    named : (block : ℕ) (n : Name) → name_in (cells (allocation_in waits) 0) block ≡ Some n →
+        slice_index old_words (block_place array_layout 0 5 block + 1) ≡ name_word n
     named zero n e = ap name_word (some_is object_name n e)
     named (suc block) n e = absurd cc
 first_shows done = record { state = refl; free = λ e. absurd cc; class = λ used. refl; blocks = λ used. refl; used = used_then done; named = named }
   where
-    named : (block : ℕ) (n : Name) → name_in (cells (allocation_in done) 0) block ≡ Some n → slice_index old_words (block_place array_layout 0 5 block + 1) ≡ name_word n
+    named : (block : ℕ) (n : Name) → name_in (cells (allocation_in done) 0) block ≡ Some n →
+        slice_index old_words (block_place array_layout 0 5 block + 1) ≡ name_word n
     named zero n e = ap name_word (some_is object_name n e)
     named (suc block) n e = absurd cc
 
-shows : NewStands → (form : Form) (number : ℕ) → HasNumber (segments_of (segment_in form)) number → Shows (segments_of (segment_in form)) old_words number (cells (allocation_in form) number)
+shows : NewStands → (form : Form) (number : ℕ) → HasNumber (segments_of (segment_in form)) number →
+    Shows (segments_of (segment_in form)) old_words number (cells (allocation_in form) number)
 shows new form zero has = first_shows form
 shows new form (suc number) has =
     let other = (new array_layout old_words refl).shows (suc number) has in
     record { state = other.state; free = other.free; class = other.class; blocks = other.blocks; used = other.used; named = other.named }
 
 names_valid : (form : Form) → AreNames (allocation_in form)
-names_valid form number block n lies = let is = only_block (state_in form) 0 number block n lies in subst IsName is.2 (lit≤ tt, lit< tt, λ m. absurd (omega (arith, m)))
+names_valid form number block n lies = let is = only_block (state_in form) 0 number block n lies in
+    subst IsName is.2 (lit≤ tt, lit< tt, λ m. absurd (omega (arith, m)))
 
 pub old_stands : NewStands → (form : Form) → StandsFor (segments_of (segment_in form)) old_words (allocation_in form)
 old_stands new form = record { total = refl; count = refl; names = names_valid form; fresh = refl; shows = shows new form }
@@ -291,7 +331,8 @@ old_fit form number block n node lies there =
 abbrev pub mutator_with : ℕ → MutatorEnd
 mutator_with word = record { registers = word ∷ replicate 63 1; queue = []; serial = 1 }
 
-pub old_holds : NewStands → (form : Form) (earlier : List World) → AreThese earlier → HeapStandsFor array_layout earlier (places_at 32) born.world (allocation_in form) old_words (segments_of (segment_in form)) (mutator_with 64 ∷ [])
+pub old_holds : NewStands → (form : Form) (earlier : List World) → AreThese earlier →
+    HeapStandsFor array_layout earlier (places_at 32) born.world (allocation_in form) old_words (segments_of (segment_in form)) (mutator_with 64 ∷ [])
 old_holds new form earlier these = record {
   fit = old_fit form;
   represents = represents 32 old_words old_has earlier these;
@@ -302,7 +343,15 @@ old_holds new form earlier these = record {
 }
 
 pub old_places : (form : Form) (p : Place) → Contains (places_at 32) p ↔ IsPlaceAtStop array_layout (allocation_in form) p
-old_places form p = (each_place 32 (IsPlaceAtStop array_layout (allocation_in form)) (inl refl) (inr (record { number = 0; block = 0; lies = refl; at = refl })) p, back form)
+old_places form p = (
+  each_place 32 (IsPlaceAtStop array_layout (allocation_in form)) (inl refl) (inr (record {
+    number = 0;
+    block = 0;
+    lies = refl;
+    at = refl;
+  })) p,
+  back form,
+)
   where
     same_place : (q : Place) → 32 ≡ q.at → object_name ≡ q.name → array_place 32 ≡ q
     same_place q at name = ap (λ (a : ℕ). record { at = a; name = object_name }) at ∙ ap (λ (n : Name). record { at = q.at; name = n }) name
@@ -311,14 +360,16 @@ old_places form p = (each_place 32 (IsPlaceAtStop array_layout (allocation_in fo
     back form (inl e) = subst (λ q. Contains (places_at 32) q) (sym e) (shared_in 32)
     back form (inr b) =
         let is = only_block (state_in form) 0 b.number b.block p.name b.lies in
-        let at : p.at ≡ 32 = b.at ∙ ap (λ (k : ℕ). block_place array_layout k (cells (allocation_in form) k).class b.block) (sym is.0) ∙ ap (λ (k : ℕ). block_place array_layout 0 5 k) (sym is.1) in
+        let at : p.at ≡ 32 = b.at ∙ ap (λ (k : ℕ). block_place array_layout k (cells (allocation_in form) k).class b.block) (sym is.0) ∙
+        ap (λ (k : ℕ). block_place array_layout 0 5 k) (sym is.1) in
         subst (λ q. Contains (places_at 32) q) (same_place p (sym at) is.2) (array_in 32)
 
 -- nothing lies in an empty heap
 pub nothing_lies : (number block : ℕ) (n : Name) → LiesIn (all_empty 18) number block n → ⊥
 nothing_lies number block n lies = let none = ap (λ c. name_in c block) (all_same 18 no_cells number) in cc
 
-pub young_holds : NewStands → HeapStandsFor array_layout (opened.world ∷ []) (places_at 320) born.world (all_empty 18) young_words (all_free array_layout) (mutator_with 640 ∷ [])
+pub young_holds : NewStands → HeapStandsFor array_layout (opened.world ∷
+    []) (places_at 320) born.world (all_empty 18) young_words (all_free array_layout) (mutator_with 640 ∷ [])
 young_holds new = record {
   fit = λ number block n node lies there. absurd (nothing_lies number block n lies);
   represents = represents 320 young_words young_has (opened.world ∷ []) first_only;

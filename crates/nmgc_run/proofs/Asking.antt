@@ -69,12 +69,15 @@ fine_root n (inl e) = inr e
 fine_root n (inr h) = held h.0 h.1
   where
     held : (m : ℕ) → Contains ((state_of c.snapshot m).registers ++ (state_of c.snapshot m).queue) (Ref n) → Fine n
-    held zero h = elim (contains_cases object_name [] n (named_in ((state_of c.snapshot 0).registers ++ (state_of c.snapshot 0).queue) n h)) [ inl e ↦ inl e | inr none ↦ absurd (none_in n none) ]
+    held zero h = elim (contains_cases object_name [] n (named_in ((state_of c.snapshot 0).registers ++
+        (state_of c.snapshot 0).queue) n h)) [ inl e ↦ inl e | inr none ↦ absurd (none_in n none) ]
     held (suc m) h = absurd (none_in (Ref n) h)
 
 fine_field : (name target : Name) → Fine name → RefersTo c.snapshot name target → ⊥
-fine_field name target (inl e) r = let P : Name → Type 0 = λ n. Contains (refs_of (node_of c.snapshot n)) target in none_in target (subst P (sym e) (refers_in c.snapshot name target r))
-fine_field name target (inr e) r = let P : Name → Type 0 = λ n. Contains (refs_of (node_of c.snapshot n)) target in none_in target (subst P e (refers_in c.snapshot name target r))
+fine_field name target (inl e) r = let P : Name → Type 0 = λ n. Contains (refs_of (node_of c.snapshot n)) target in
+    none_in target (subst P (sym e) (refers_in c.snapshot name target r))
+fine_field name target (inr e) r = let P : Name → Type 0 = λ n. Contains (refs_of (node_of c.snapshot n)) target in
+    none_in target (subst P e (refers_in c.snapshot name target r))
 
 no_weak_at : (maker serial : ℕ) (parts : Parts) → IsAlive c.snapshot (record { maker = maker; serial = serial }) parts → ⊥
 no_weak_at zero zero parts e = cc
@@ -114,7 +117,18 @@ may_close = (
   inl (lit≤ tt),
   record {
     after = lit≤ tt;
-    work = λ nothing. (1, (object_name ∷ [], lists_one (IsStrongObject c.snapshot) object_name (IsReached.start object_name object_root, not_g) (only_fine (IsReached c.snapshot (IsRoot c.snapshot)) fine_reached), refl), lit≤ tt);
+    work = λ nothing. (
+      1,
+      (
+        object_name ∷ [],
+        lists_one (IsStrongObject c.snapshot) object_name (
+          IsReached.start object_name object_root,
+          not_g,
+        ) (only_fine (IsReached c.snapshot (IsRoot c.snapshot)) fine_reached),
+        refl,
+      ),
+      lit≤ tt,
+    );
   },
 )
 
@@ -133,7 +147,14 @@ census = record {
   had = lists_none (IsHadIn c) (λ n h. none_filled h.0 h.2);
   freed = lists_none (IsFreedIn c) (λ n h. none_filled h.0.0 h.0.2);
   dead = lists_none (IsDeadIn c) (λ n d. no_weak n d.parts d.alive);
-  kept = (object_name ∷ [], lists_one (IsKeptObject c) object_name (IsKept.live object_name (IsLive.root object_name object_root), not_g) (only_fine (IsKeptIn c) fine_kept), refl);
+  kept = (
+    object_name ∷ [],
+    lists_one (IsKeptObject c) object_name (
+      IsKept.live object_name (IsLive.root object_name object_root),
+      not_g,
+    ) (only_fine (IsKeptIn c) fine_kept),
+    refl,
+  );
 }
 
 nothing_waits : IsSwept was_closed
@@ -157,7 +178,8 @@ place = record {
   };
 }
 
-only_young : (maker serial : ℕ) → IsYoung opened.world after_first.world (record { maker = maker; serial = serial }) → object_name ≡ record { maker = maker; serial = serial }
+only_young : (maker serial : ℕ) → IsYoung opened.world after_first.world (record { maker = maker; serial = serial }) →
+    object_name ≡ record { maker = maker; serial = serial }
 only_young zero zero y = refl
 only_young zero (suc serial) y = absurd (nothing_at serial y.1)
 only_young (suc maker) serial y = absurd (nothing_at serial (not_shared (suc maker == SHARED_MAKER) _ _ _ y.0 y.1))
@@ -178,14 +200,30 @@ pub marking_is_told : MarkingIsTold
 marking_is_told = record {
   run = record {
     opening = record { state = opened; row = quiet_stop 0 32 0; cycles = [] };
-    turns = record { replies = record { replies = asking_replies ∷ [] }; history = first_rows; worked = after_first; stop = record { state = at_first; row = marking_stop; cycles = [] } }
-        ∷ record { replies = record { replies = [] ∷ [] }; history = []; worked = after_second; stop = record { state = at_second; row = quiet_stop 2 31 0; cycles = marked_row ∷ [] } } ∷ [];
+    turns = record {
+      replies = record { replies = asking_replies ∷ [] };
+      history = first_rows;
+      worked = after_first;
+      stop = record { state = at_first; row = marking_stop; cycles = [] };
+    }
+        ∷ record {
+          replies = record { replies = [] ∷ [] };
+          history = [];
+          worked = after_second;
+          stop = record { state = at_second; row = quiet_stop 2 31 0; cycles = marked_row ∷ [] };
+        } ∷ [];
   };
   is_run = record {
     opening = record {
       promoted = opened;
       count = 0;
-      promotes = record { names = []; lists = lists_none (IsPromoted opened.world opened.world) (λ n p. none_young opened.world n p.0); places = refl; many = refl; rest = refl };
+      promotes = record {
+        names = [];
+        lists = lists_none (IsPromoted opened.world opened.world) (λ n p. none_young opened.world n p.0);
+        places = refl;
+        many = refl;
+        rest = refl;
+      };
       closed = opened;
       closes = refl;
       ended = opened;
@@ -205,7 +243,10 @@ marking_is_told = record {
           count = 1;
           promotes = record {
             names = object_name ∷ [];
-            lists = lists_one (IsPromoted opened.world after_first.world) object_name ((refl, refl), IsReached.start object_name (inl object_root)) (λ n p. only_young n.maker n.serial p.0);
+            lists = lists_one (IsPromoted opened.world after_first.world) object_name (
+              (refl, refl),
+              IsReached.start object_name (inl object_root),
+            ) (λ n p. only_young n.maker n.serial p.0);
             places = (current one, place, refl);
             many = refl;
             rest = refl;
@@ -228,7 +269,14 @@ marking_is_told = record {
           stop = record {
             promoted = after_second;
             count = 0;
-            promotes = record { names = []; lists = lists_none (IsPromoted at_first.world after_second.world) (λ n p. none_young at_first.world n p.0); places = refl; many = refl; rest = refl };
+            promotes = record {
+              names = [];
+              lists = lists_none (IsPromoted at_first.world after_second.world) (λ n p.
+                  none_young at_first.world n p.0);
+              places = refl;
+              many = refl;
+              rest = refl;
+            };
             closed = was_closed;
             closes = inr (record { dead = []; lists = lists_none (IsDeadIn c) (λ n d. no_weak n d.parts d.alive); rest = refl }, may_close);
             ended = at_second;

@@ -87,14 +87,18 @@ fine_root n (inl e) = inr e
 fine_root n (inr h) = held h.0 h.1
   where
     held : (m : ℕ) → Contains ((state_of c.snapshot m).registers ++ (state_of c.snapshot m).queue) (Ref n) → Fine n
-    held zero h = elim (contains_cases second_name [] n (named_in ((state_of c.snapshot 0).registers ++ (state_of c.snapshot 0).queue) n h)) [ inl e ↦ inl e | inr none ↦ absurd (none_in n none) ]
+    held zero h = elim (contains_cases second_name [] n (named_in ((state_of c.snapshot 0).registers ++
+        (state_of c.snapshot 0).queue) n h)) [ inl e ↦ inl e | inr none ↦ absurd (none_in n none) ]
     held (suc m) h = absurd (none_in (Ref n) h)
 
 fine_field : (name target : Name) → Fine name → RefersTo c.snapshot name target → ⊥
-fine_field name target (inl e) r = let P : Name → Type 0 = λ n. Contains (refs_of (node_of c.snapshot n)) target in none_in target (subst P (sym e) (refers_in c.snapshot name target r))
-fine_field name target (inr e) r = let P : Name → Type 0 = λ n. Contains (refs_of (node_of c.snapshot n)) target in none_in target (subst P e (refers_in c.snapshot name target r))
+fine_field name target (inl e) r = let P : Name → Type 0 = λ n. Contains (refs_of (node_of c.snapshot n)) target in
+    none_in target (subst P (sym e) (refers_in c.snapshot name target r))
+fine_field name target (inr e) r = let P : Name → Type 0 = λ n. Contains (refs_of (node_of c.snapshot n)) target in
+    none_in target (subst P e (refers_in c.snapshot name target r))
 
-pub not_weak : (b d : Bool) (values : List Value) (o : Option Node) (parts : Parts) → (o ≡ Some (Weak (Some parts)) → ⊥) → (if b then (if d then Some (Arr values) else None) else o) ≡ Some (Weak (Some parts)) → ⊥
+pub not_weak : (b d : Bool) (values : List Value) (o : Option Node) (parts : Parts) → (o ≡ Some (Weak (Some parts)) → ⊥) →
+    (if b then (if d then Some (Arr values) else None) else o) ≡ Some (Weak (Some parts)) → ⊥
 not_weak true true values o parts not e = cc
 not_weak true false values o parts not e = cc
 not_weak false d values o parts not e = not e
@@ -124,7 +128,11 @@ second_kept : IsKeptIn c second_name
 second_kept = IsKept.live second_name (IsLive.root second_name (inr (0, (2, lit< tt, refl))))
 
 first_lost : IsKeptIn c object_name → ⊥
-first_lost k = elim (fine_kept object_name k) [ inl e ↦ (let serials = ap (λ (n : Name). n.serial) e in omega arith) | inr e ↦ (let makers = ap (λ (n : Name). n.maker) e in omega arith) ]
+first_lost k = elim (fine_kept object_name k) [
+  | inl e ↦ (let serials = ap (λ (n : Name). n.serial) e in omega arith)
+  | inr e ↦
+      (let makers = ap (λ (n : Name). n.maker) e in omega arith)
+]
 
 -- what the cycle had: both objects, in the first segment
 
@@ -268,7 +276,8 @@ place_second = record {
     below zero lt = refl
     below (suc b) lt = absurd (omega (arith, lt))
 
-both_young : (maker serial : ℕ) → IsYoung opened.world after_first.world (record { maker = maker; serial = serial }) → (object_name ≡ record { maker = maker; serial = serial }) ⊎ (second_name ≡ record { maker = maker; serial = serial })
+both_young : (maker serial : ℕ) → IsYoung opened.world after_first.world (record { maker = maker; serial = serial }) →
+    (object_name ≡ record { maker = maker; serial = serial }) ⊎ (second_name ≡ record { maker = maker; serial = serial })
 both_young zero zero y = inl refl
 both_young zero (suc zero) y = inr refl
 both_young zero (suc (suc serial)) y = absurd (nothing_at serial y.1)
@@ -281,7 +290,9 @@ same_nodes (suc maker) = refl
 
 none_made : (n : Name) → IsYoung at_first.world after_second.world n → ⊥
 none_made n y =
-    let same : node_of at_first.world n ≡ node_of after_second.world n = ap (λ (nodes : List Node). if n.maker == SHARED_MAKER then (if n.serial == 0 then Some at_first.world.shared else None) else slice_get nodes n.serial) (same_nodes n.maker) in
+    let same : node_of at_first.world n ≡ node_of after_second.world n =
+    ap (λ (nodes : List Node).
+    if n.maker == SHARED_MAKER then (if n.serial == 0 then Some at_first.world.shared else None) else slice_get nodes n.serial) (same_nodes n.maker) in
     not_there (node_of after_second.world n) (sym same ∙ y.0) y.1
   where
     not_there : {A : Type 0} (o : Option A) → o ≡ None → IsSome o → ⊥
@@ -304,14 +315,30 @@ pub cycle_is_told : CycleIsTold
 cycle_is_told = record {
   run = record {
     opening = record { state = opened; row = quiet_stop 0 32 0; cycles = [] };
-    turns = record { replies = record { replies = first_replies ∷ [] }; history = first_rows; worked = after_first; stop = record { state = at_first; row = quiet_stop 1 31 2; cycles = [] } }
-        ∷ record { replies = record { replies = second_replies ∷ [] }; history = second_rows; worked = after_second; stop = record { state = at_second; row = quiet_stop 2 31 0; cycles = full_row ∷ [] } } ∷ [];
+    turns = record {
+      replies = record { replies = first_replies ∷ [] };
+      history = first_rows;
+      worked = after_first;
+      stop = record { state = at_first; row = quiet_stop 1 31 2; cycles = [] };
+    }
+        ∷ record {
+          replies = record { replies = second_replies ∷ [] };
+          history = second_rows;
+          worked = after_second;
+          stop = record { state = at_second; row = quiet_stop 2 31 0; cycles = full_row ∷ [] };
+        } ∷ [];
   };
   is_run = record {
     opening = record {
       promoted = opened;
       count = 0;
-      promotes = record { names = []; lists = lists_none (IsPromoted opened.world opened.world) (λ n p. none_young opened.world n p.0); places = refl; many = refl; rest = refl };
+      promotes = record {
+        names = [];
+        lists = lists_none (IsPromoted opened.world opened.world) (λ n p. none_young opened.world n p.0);
+        places = refl;
+        many = refl;
+        rest = refl;
+      };
       closed = opened;
       closes = refl;
       ended = opened;
@@ -331,7 +358,13 @@ cycle_is_told = record {
           count = 2;
           promotes = record {
             names = object_name ∷ second_name ∷ [];
-            lists = lists_two (IsPromoted opened.world after_first.world) object_name second_name (inr (refl, lit< tt)) ((refl, refl), begins object_name (inl (inr (0, (0, lit< tt, refl))))) ((refl, refl), begins second_name (inl (inr (0, (2, lit< tt, refl))))) (λ n p. both_young n.maker n.serial p.0);
+            lists = lists_two (IsPromoted opened.world after_first.world) object_name second_name (inr (refl, lit< tt)) (
+              (refl, refl),
+              begins object_name (inl (inr (0, (0, lit< tt, refl)))),
+            ) (
+              (refl, refl),
+              begins second_name (inl (inr (0, (2, lit< tt, refl)))),
+            ) (λ n p. both_young n.maker n.serial p.0);
             places = (current (set (replicate 16 None) 0 (Some object_name)), place_first, (current both, place_second, refl));
             many = refl;
             rest = refl;
@@ -354,7 +387,13 @@ cycle_is_told = record {
           stop = record {
             promoted = after_second;
             count = 0;
-            promotes = record { names = []; lists = lists_none (IsPromoted at_first.world after_second.world) (λ n p. none_made n p.0); places = refl; many = refl; rest = refl };
+            promotes = record {
+              names = [];
+              lists = lists_none (IsPromoted at_first.world after_second.world) (λ n p. none_made n p.0);
+              places = refl;
+              many = refl;
+              rest = refl;
+            };
             closed = after_second;
             closes = refl;
             ended = after_second;

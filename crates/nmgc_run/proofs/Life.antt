@@ -66,7 +66,12 @@ shared_placed : IsPlaced array_layout [] NoNode alone new_words shared_name shar
 shared_placed = record {
   at = 1;
   there = contains_head shared_place [];
-  object = record { header = refl; valid = (refl, lit≤ tt); lies = inl (refl, refl, lit≤ tt); alone = only_place (λ q. (q.at ≤ 1) ⊎ (1 + 18 ≤ q.at)) (inl (lit≤ tt)) };
+  object = record {
+    header = refl;
+    valid = (refl, lit≤ tt);
+    lies = inl (refl, refl, lit≤ tt);
+    alone = only_place (λ q. (q.at ≤ 1) ⊎ (1 + 18 ≤ q.at)) (inl (lit≤ tt));
+  };
   fields = has_slots (Contains alone) (0 ∷ 32771 ∷ 32 ∷ []) (replicate 16 1) (replicate 317 0) (map holds (replicate 16 Nil)) (fills_nil (Contains alone) 16);
   free = λ e before d. absurd (none_in e d);
   kept = λ before none. absurd none;
@@ -76,7 +81,12 @@ new_represents : Represents array_layout [] NoNode alone opened.world new_words
 new_represents = record {
   total = refl;
   one = λ p q a b k. only_place (λ x. x ≡ q) (only_place (λ y. shared_place ≡ y) refl q b) p a;
-  named = only_place (IsNamed array_layout opened.world new_words) (record { known = refl; valid = (lit≤ tt, lit< tt, λ m. refl); name = refl; lies = inl (refl, refl, lit≤ tt) });
+  named = only_place (IsNamed array_layout opened.world new_words) (record {
+    known = refl;
+    valid = (lit≤ tt, lit< tt, λ m. refl);
+    name = refl;
+    lies = inl (refl, refl, lit≤ tt);
+  });
   tracked = λ n node t e. each_first (λ m x. IsPlaced array_layout [] NoNode alone new_words m x) shared_placed n node e;
   born = λ p node d inside there. absurd (only_place (λ q. InNursery array_layout q.name.maker q.at → ⊥) (λ k. omega (arith, k.exists)) p d inside);
 }
@@ -96,7 +106,11 @@ new_roots = record { count = refl; mutators = (refl, refl); held = held_by; queu
     next zero serial e = sym (some_is 0 serial e)
     next (suc m) serial e = absurd cc
 
-new_heap : NewStands → HoldsAtStop array_layout opened new_words (all_free array_layout) (record { registers = replicate REGISTERS 1; queue = []; serial = 0 } ∷ []) []
+new_heap : NewStands → HoldsAtStop array_layout opened new_words (all_free array_layout) (record {
+  registers = replicate REGISTERS 1;
+  queue = [];
+  serial = 0;
+} ∷ []) []
 new_heap new = record {
   places = alone;
   all = λ p. (only_place (IsPlaceAtStop array_layout (all_empty 18)) (inl refl) p, back p);
@@ -150,15 +164,23 @@ module _ (top : ℕ) (from : 320 ≤ top) (most : top ≤ 336) where
   bases zero lt = refl
   bases (suc maker) lt = absurd (omega (arith, lt))
 
-  tops : (maker : ℕ) → maker < 1 → ((nursery_at (record { base = 320; top = top; end = 336 } ∷ []) maker).base ≤ (nursery_at (record { base = 320; top = top; end = 336 } ∷ []) maker).top) × ((nursery_at (record { base = 320; top = top; end = 336 } ∷ []) maker).top ≤ (nursery_at (record { base = 320; top = top; end = 336 } ∷ []) maker).base + 16)
+  tops : (maker : ℕ) → maker < 1 → ((nursery_at (record { base = 320; top = top; end = 336 } ∷ []) maker).base ≤ (nursery_at (record {
+    base = 320;
+    top = top;
+    end = 336;
+  } ∷ []) maker).top) × ((nursery_at (record { base = 320; top = top; end = 336 } ∷
+      []) maker).top ≤ (nursery_at (record { base = 320; top = top; end = 336 } ∷ []) maker).base + 16)
   tops zero lt = (from, most)
   tops (suc maker) lt = absurd (omega (arith, lt))
 
-  ends : (maker : ℕ) → maker < 1 → (nursery_at (record { base = 320; top = top; end = 336 } ∷ []) maker).end ≡ (nursery_at (record { base = 320; top = top; end = 336 } ∷ []) maker).base + 16
+  ends : (maker : ℕ) → maker < 1 → (nursery_at (record { base = 320; top = top; end = 336 } ∷ []) maker).end ≡
+      (nursery_at (record { base = 320; top = top; end = 336 } ∷ []) maker).base + 16
   ends zero lt = refl
   ends (suc maker) lt = absurd (omega (arith, lt))
 
-  are_nurseries : (places : List Place) (w : World) → ((p : Place) (node : Node) → Contains places p → 320 ≤ p.at → node_of w p.name ≡ Some node → p.at + size_of node ≤ (nursery_at (record { base = 320; top = top; end = 336 } ∷ []) p.name.maker).top) → AreNurseries array_layout places w (record { base = 320; top = top; end = 336 } ∷ [])
+  are_nurseries : (places : List Place) (w : World) → ((p : Place) (node : Node) → Contains places p → 320 ≤ p.at → node_of w p.name ≡ Some node →
+      p.at + size_of node ≤ (nursery_at (record { base = 320; top = top; end = 336 } ∷ []) p.name.maker).top) →
+      AreNurseries array_layout places w (record { base = 320; top = top; end = 336 } ∷ [])
   are_nurseries places w used = record { used = record { count = refl; places_are = bases; tops = tops; used = used }; ends = ends }
 
 abbrev AreLow : List Place → Type 0
@@ -174,9 +196,11 @@ low_nurseries : (places : List Place) (w : World) → AreLow places → AreNurse
 low_nurseries places w low = are_nurseries 320 (lit≤ tt) (lit≤ tt) places w (λ p node d high there. absurd (low p d high))
 
 -- at a stop the mutator is at rest
-at_rest : (word serial : ℕ) (places : List Place) (w : World) → AreLow places → (seen : Seen) → seen.mutators ≡ hand word serial 320 ∷ [] → AreAtRest array_layout places w seen
+at_rest : (word serial : ℕ) (places : List Place) (w : World) → AreLow places → (seen : Seen) → seen.mutators ≡ hand word serial 320 ∷ [] →
+    AreAtRest array_layout places w seen
 at_rest word serial places w low seen e = record {
-  nurseries = subst (λ (ms : List MutatorSeen). AreNurseries array_layout places w (map (λ (m : MutatorSeen). m.nursery) ms)) (sym e) (low_nurseries places w low);
+  nurseries = subst (λ (ms : List MutatorSeen). AreNurseries array_layout places w (map (λ (m : MutatorSeen).
+      m.nursery) ms)) (sym e) (low_nurseries places w low);
   empty = subst (λ (ms : List MutatorSeen). NurseriesEmpty (map (λ (m : MutatorSeen). m.nursery) ms)) (sym e) empty;
   nothing = subst (λ (ms : List MutatorSeen). (m : ℕ) (mutator : MutatorSeen) → slice_get ms m ≡ Some mutator → IsAtRest mutator) (sym e) nothing;
 }
@@ -215,13 +239,16 @@ opened_is new = record {
 
 -- the first round: the array was born
 
-born_used : (p : Place) (node : Node) → Contains (places_at 320) p → 320 ≤ p.at → node_of born.world p.name ≡ Some node → p.at + size_of node ≤ (nursery_at (record { base = 320; top = 329; end = 336 } ∷ []) p.name.maker).top
-born_used p node d high there = each_place 320 (λ q. 320 ≤ q.at → node_of born.world q.name ≡ Some node → q.at + size_of node ≤ (nursery_at (record { base = 320; top = 329; end = 336 } ∷ []) q.name.maker).top)
+born_used : (p : Place) (node : Node) → Contains (places_at 320) p → 320 ≤ p.at → node_of born.world p.name ≡ Some node →
+    p.at + size_of node ≤ (nursery_at (record { base = 320; top = 329; end = 336 } ∷ []) p.name.maker).top
+born_used p node d high there = each_place 320 (λ q. 320 ≤ q.at → node_of born.world q.name ≡ Some node →
+    q.at + size_of node ≤ (nursery_at (record { base = 320; top = 329; end = 336 } ∷ []) q.name.maker).top)
     (λ h e. absurd (omega (arith, h)))
     (λ h e. let is : Arr (replicate 7 Nil) ≡ node = some_is (Arr (replicate 7 Nil)) node e in subst (λ x. 320 + size_of x ≤ 329) is (lit≤ tt)) p d high there
 
 born_ordered : LieInOrder 320 (places_at 320)
-born_ordered a b in_a in_b high lower = each_place 320 (λ q. a.at < q.at → IsBefore a.name q.name) (λ h. absurd (omega (arith, h, high))) (λ h. absurd (omega (arith, h, high))) b in_b lower
+born_ordered a b in_a in_b high lower = each_place 320 (λ q. a.at < q.at →
+    IsBefore a.name q.name) (λ h. absurd (omega (arith, h, high))) (λ h. absurd (omega (arith, h, high))) b in_b lower
 
 -- nothing was recorded, and there is no weak pointer
 nothing_left : (at : ℕ) (earlier : List World) → (320 ≤ at) ⊎ (at < 320) → Remembers 320 earlier (places_at at) born.world [] []
@@ -232,13 +259,23 @@ nothing_left at earlier side = record {
   all_weaks = λ p parts d high alive. absurd (no_weak p.name parts alive);
 }
   where
-    no_field : (at : ℕ) → (320 ≤ at) ⊎ (at < 320) → (p q : Place) → Contains (places_at at) p → p.at < 320 → p.name.maker ≢ SHARED_MAKER → Contains (places_at at) q → 320 ≤ q.at → ⊥
-    no_field at (inl high) p q d low own e up = each_place at (λ x. x.at < 320 → x.name.maker ≢ SHARED_MAKER → ⊥) (λ l o. o refl) (λ l o. omega (arith, l, high)) p d low own
+    no_field : (at : ℕ) → (320 ≤ at) ⊎ (at < 320) → (p q : Place) → Contains (places_at at) p → p.at < 320 → p.name.maker ≢ SHARED_MAKER →
+        Contains (places_at at) q → 320 ≤ q.at → ⊥
+    no_field at (inl high) p q d low own e up = each_place at (λ x. x.at < 320 → x.name.maker ≢ SHARED_MAKER →
+        ⊥) (λ l o. o refl) (λ l o. omega (arith, l, high)) p d low own
     no_field at (inr below) p q d low own e up = each_place at (λ x. 320 ≤ x.at → ⊥) (λ h. omega (arith, h)) (λ h. omega (arith, h, below)) q e up
 
-born_heap : NewStands → HoldsAfterRound array_layout opened born (places_at 320) young_words (all_free array_layout) (record { registers = 640 ∷ replicate 63 1; queue = []; serial = 1 } ∷ []) []
+born_heap : NewStands → HoldsAfterRound array_layout opened born (places_at 320) young_words (all_free array_layout) (record {
+  registers = 640 ∷
+      replicate 63 1;
+  queue = [];
+  serial = 1;
+} ∷ []) []
 born_heap new = record {
-  sound = each_place 320 (IsPlaceAfterRound array_layout opened born) (inl (inl refl)) (inr (record { young = (refl, refl); nursery = record { exists = lit< tt; from = lit≤ tt; before = lit< tt } }));
+  sound = each_place 320 (IsPlaceAfterRound array_layout opened born) (inl (inl refl)) (inr (record {
+    young = (refl, refl);
+    nursery = record { exists = lit< tt; from = lit≤ tt; before = lit< tt };
+  }));
   old = old;
   born = λ n y. (320, subst (λ x. Contains (places_at 320) (record { at = 320; name = x })) (young_is n y) (array_in 320));
   holds = young_holds new;
@@ -281,20 +318,32 @@ these_none e d = absurd (none_in e d)
 abbrev mutator : MutatorEnd
 mutator = record { registers = 64 ∷ replicate 63 1; queue = []; serial = 1 }
 
-stop_heap : NewStands → (form : Form) (s : State) → s.world ≡ born.world → s.allocation ≡ allocation_in form → HeapStandsFor array_layout (snapshots s.progress) (places_at 32) born.world (allocation_in form) old_words (segments_of (segment_in form)) (mutator ∷ []) → HoldsAtStop array_layout s old_words (segments_of (segment_in form)) (mutator ∷ []) []
+stop_heap : NewStands → (form : Form) (s : State) → s.world ≡ born.world → s.allocation ≡ allocation_in form →
+    HeapStandsFor array_layout (snapshots s.progress) (places_at 32) born.world (allocation_in form) old_words (segments_of (segment_in form))
+    (mutator ∷ []) → HoldsAtStop array_layout s old_words (segments_of (segment_in form)) (mutator ∷ []) []
 stop_heap new form s w a h = record {
   places = places_at 32;
   all = subst (λ x. (p : Place) → Contains (places_at 32) p ↔ IsPlaceAtStop array_layout x p) (sym a) (old_places form);
-  holds = subst (λ x. HeapStandsFor array_layout (snapshots s.progress) (places_at 32) x s.allocation old_words (segments_of (segment_in form)) (mutator ∷ [])) (sym w) (subst (λ x. HeapStandsFor array_layout (snapshots s.progress) (places_at 32) born.world x old_words (segments_of (segment_in form)) (mutator ∷ [])) (sym a) h);
+  holds = subst (λ x. HeapStandsFor array_layout (snapshots s.progress) (places_at 32) x s.allocation old_words (segments_of (segment_in form))
+      (mutator ∷ [])) (sym w) (subst (λ x.
+      HeapStandsFor array_layout (snapshots s.progress) (places_at 32) born.world x old_words (segments_of (segment_in form)) (mutator ∷ [])) (sym a) h);
   listed = subst (λ x. ListsWeaks array_layout (places_at 32) x []) (sym w) (none_listed (places_at 32) born.world no_weak);
 }
 
-round_heap : NewStands → (form : Form) (s t : State) → s.world ≡ born.world → t.world ≡ born.world → t.allocation ≡ allocation_in form → HeapStandsFor array_layout (born.world ∷ snapshots t.progress) (places_at 32) born.world (allocation_in form) old_words (segments_of (segment_in form)) (mutator ∷ []) → HoldsAfterRound array_layout s t (places_at 32) old_words (segments_of (segment_in form)) (mutator ∷ []) []
+round_heap : NewStands → (form : Form) (s t : State) → s.world ≡ born.world → t.world ≡ born.world → t.allocation ≡ allocation_in form →
+    HeapStandsFor array_layout (born.world ∷
+    snapshots t.progress) (places_at 32) born.world (allocation_in form) old_words (segments_of (segment_in form)) (mutator ∷ []) →
+    HoldsAfterRound array_layout s t (places_at 32) old_words (segments_of (segment_in form)) (mutator ∷ []) []
 round_heap new form s t began w a h = record {
   sound = λ p d. inl (subst (λ x. IsPlaceAtStop array_layout x p) (sym a) ((old_places form p).0 d));
   old = λ p is. (old_places form p).1 (subst (λ x. IsPlaceAtStop array_layout x p) a is);
   born = λ n y. absurd (none_young born.world n (subst (λ x. IsYoung x born.world n) began (subst (λ x. IsYoung s.world x n) w y)));
-  holds = subst (λ x. HeapStandsFor array_layout (x ∷ snapshots t.progress) (places_at 32) t.world t.allocation old_words (segments_of (segment_in form)) (mutator ∷ [])) (sym began) (subst (λ x. HeapStandsFor array_layout (born.world ∷ snapshots t.progress) (places_at 32) x t.allocation old_words (segments_of (segment_in form)) (mutator ∷ [])) (sym w) (subst (λ x. HeapStandsFor array_layout (born.world ∷ snapshots t.progress) (places_at 32) born.world x old_words (segments_of (segment_in form)) (mutator ∷ [])) (sym a) h));
+  holds = subst (λ x. HeapStandsFor array_layout (x ∷
+      snapshots t.progress) (places_at 32) t.world t.allocation old_words (segments_of (segment_in form)) (mutator ∷ [])) (sym began) (subst (λ x.
+      HeapStandsFor array_layout (born.world ∷
+      snapshots t.progress) (places_at 32) x t.allocation old_words (segments_of (segment_in form)) (mutator ∷ [])) (sym w) (subst (λ x.
+      HeapStandsFor array_layout (born.world ∷
+      snapshots t.progress) (places_at 32) born.world x old_words (segments_of (segment_in form)) (mutator ∷ [])) (sym a) h));
   listed = subst (λ x. ListsWeaks array_layout (places_at 32) x []) (sym began) (none_listed (places_at 32) born.world no_weak);
 }
 
@@ -311,7 +360,8 @@ right_snapshot number block = (sound number block, complete number block)
   where
     past : (number block : ℕ) → InSnapshot (get_or (replicate 17 (free_segment 16)) number (free_segment 0)) block → ⊥
     past number block i = elim (cases_lt number 17) [
-      | inl lt ↦ unused (free_segment 16) (all_same 4 0) refl block (subst (λ (s : Segment). InSnapshot s block) (get_or-replicate 17 number (free_segment 16) (free_segment 0) lt) i)
+      | inl lt ↦ unused (free_segment 16) (all_same 4 0) refl block (subst (λ (s : Segment).
+          InSnapshot s block) (get_or-replicate 17 number (free_segment 16) (free_segment 0) lt) i)
       | inr ge ↦ unused (free_segment 0) (all_same 0 0) refl block (subst (λ (s : Segment). InSnapshot s block) (past_free number ge) i)
     ]
       where
@@ -319,13 +369,15 @@ right_snapshot number block = (sound number block, complete number block)
         unused s none zero_snap block (inl below) = omega (arith, below, zero_snap)
         unused s none zero_snap block (inr marked) = marked (none block)
 
-    sound : (number block : ℕ) → InSnapshot (nth (segments_of waiting_segment).segments number) block → (n : Name) × LiesIn (held stands.Sweeping 0) number block n × IsSome (node_of c.snapshot n)
+    sound : (number block : ℕ) → InSnapshot (nth (segments_of waiting_segment).segments number) block → (n : Name) ×
+        LiesIn (held stands.Sweeping 0) number block n × IsSome (node_of c.snapshot n)
     sound zero zero i = (object_name, refl, refl)
     sound zero (suc block) (inl below) = absurd (omega (arith, below))
     sound zero (suc block) (inr marked) = absurd (marked (all_same 3 0 block))
     sound (suc number) block i = absurd (past number block i)
 
-    complete : (number block : ℕ) → (n : Name) × LiesIn (held stands.Sweeping 0) number block n × IsSome (node_of c.snapshot n) → InSnapshot (nth (segments_of waiting_segment).segments number) block
+    complete : (number block : ℕ) → (n : Name) × LiesIn (held stands.Sweeping 0) number block n × IsSome (node_of c.snapshot n) →
+        InSnapshot (nth (segments_of waiting_segment).segments number) block
     complete number block h =
         let is = one_block number block h.0 h.1 in
         subst (λ k. InSnapshot (nth (segments_of waiting_segment).segments k) block) is.0 (subst (λ k. InSnapshot waiting_segment k) is.1 (inl (lit< tt)))
@@ -369,13 +421,18 @@ marked_names core e number block n lies =
       λ m. subst (λ k. IsMarked (nth (segments_of waiting_segment).segments k) 1 block) is.0 (subst (λ k. IsMarked waiting_segment 1 k) is.1 refl),
     )
 
-nothing_pushed : (m : ℕ) (mutator_seen : MutatorSeen) → slice_get (hand 64 1 320 ∷ []) m ≡ Some mutator_seen → AreRemembered c (places_at 32) mutator_seen.entries []
-nothing_pushed zero mutator_seen e = subst (λ (x : MutatorSeen). AreRemembered c (places_at 32) x.entries []) (some_is (hand 64 1 320) mutator_seen e) (record { names = []; at = tt; counted = refl })
+nothing_pushed : (m : ℕ) (mutator_seen : MutatorSeen) → slice_get (hand 64 1 320 ∷ []) m ≡ Some mutator_seen →
+    AreRemembered c (places_at 32) mutator_seen.entries []
+nothing_pushed zero mutator_seen e = subst (λ (x : MutatorSeen).
+    AreRemembered c (places_at 32) x.entries []) (some_is (hand 64 1 320) mutator_seen e) (record { names = []; at = tt; counted = refl })
 nothing_pushed (suc m) mutator_seen e = absurd cc
 
 -- no place is remembered
-none_high : (m : ℕ) (mutator_seen : MutatorSeen) → slice_get (hand 64 1 320 ∷ []) m ≡ Some mutator_seen → (at : ℕ) → Contains mutator_seen.entries at → at < nursery_place array_layout 0
-none_high zero mutator_seen e at there = let none : mutator_seen.entries ≡ [] = ap (λ (x : MutatorSeen). x.entries) (sym (some_is (hand 64 1 320) mutator_seen e)) in absurd (none_in at (subst (λ (l : List ℕ). Contains l at) none there))
+none_high : (m : ℕ) (mutator_seen : MutatorSeen) → slice_get (hand 64 1 320 ∷ []) m ≡ Some mutator_seen → (at : ℕ) →
+    Contains mutator_seen.entries at → at < nursery_place array_layout 0
+none_high zero mutator_seen e at there =
+    let none : mutator_seen.entries ≡ [] = ap (λ (x : MutatorSeen). x.entries) (sym (some_is (hand 64 1 320) mutator_seen e)) in
+    absurd (none_in at (subst (λ (l : List ℕ). Contains l at) none there))
 none_high (suc m) mutator_seen e at there = absurd cc
 
 each_waits : (m : ℕ) (mutator_seen : MutatorSeen) → slice_get (hand 64 1 320 ∷ []) m ≡ Some mutator_seen → 0 ≤ mutator_seen.queue.spare
@@ -392,7 +449,13 @@ last_pushed (suc m) = refl
 marking_first : IsMarking c begun marking_seen (places_at 32)
 marking_first = record {
   core = first_core;
-  machine = record { events = []; runs = (refl, refl); open_yet = refl; world_is = refl; nothing_owed = All-cons (λ names. names ≡ []) [] [] refl (All-nil (λ names. names ≡ [])) };
+  machine = record {
+    events = [];
+    runs = (refl, refl);
+    open_yet = refl;
+    world_is = refl;
+    nothing_owed = All-cons (λ names. names ≡ []) [] [] refl (All-nil (λ names. names ≡ []));
+  };
   tied = record {
     epoch = refl;
     snapshot = right_snapshot;
@@ -401,7 +464,8 @@ marking_first = record {
     fresh = All-cons IsFresh _ [] refl (All-nil IsFresh);
     count = refl;
   };
-  remembered = λ m mutator_seen e. subst (λ pushed. AreRemembered c (places_at 32) mutator_seen.entries pushed) (sym (pushed_none m)) (nothing_pushed m mutator_seen e);
+  remembered = λ m mutator_seen e.
+      subst (λ pushed. AreRemembered c (places_at 32) mutator_seen.entries pushed) (sym (pushed_none m)) (nothing_pushed m mutator_seen e);
   low = none_high;
   room = no_room marking_seen.marker refl;
   queue_room = each_waits;
@@ -428,12 +492,60 @@ abbrev eight_scans : List Event
 eight_scans = event.Scan ∷ event.Scan ∷ event.Scan ∷ event.Scan ∷ event.Scan ∷ event.Scan ∷ event.Scan ∷ event.Scan ∷ []
 
 scan_runs : Runs first_core eight_scans [] last_core
-scan_runs = (true, _, [], ((refl, λ e. cc), refl), refl, (true, _, [], ((refl, λ e. cc), refl), refl, (true, _, [], ((refl, λ e. cc), refl), refl, (true, _, [], ((refl, λ e. cc), refl), refl, (true, _, [], ((refl, λ e. cc), refl), refl, (true, _, [], ((refl, λ e. cc), refl), refl, (true, _, [], ((refl, λ e. cc), refl), refl, (true, _, [], ((refl, λ e. cc), refl), refl, (refl, refl)))))))))
+scan_runs = (
+  true,
+  _,
+  [],
+  ((refl, λ e. cc), refl),
+  refl,
+  (
+    true,
+    _,
+    [],
+    ((refl, λ e. cc), refl),
+    refl,
+    (
+      true,
+      _,
+      [],
+      ((refl, λ e. cc), refl),
+      refl,
+      (
+        true,
+        _,
+        [],
+        ((refl, λ e. cc), refl),
+        refl,
+        (
+          true,
+          _,
+          [],
+          ((refl, λ e. cc), refl),
+          refl,
+          (
+            true,
+            _,
+            [],
+            ((refl, λ e. cc), refl),
+            refl,
+            (true, _, [], ((refl, λ e. cc), refl), refl, (true, _, [], ((refl, λ e. cc), refl), refl, (refl, refl))),
+          ),
+        ),
+      ),
+    ),
+  ),
+)
 
 marking_last : IsMarking c scanned scanned_seen (places_at 32)
 marking_last = record {
   core = last_core;
-  machine = record { events = eight_scans; runs = scan_runs; open_yet = refl; world_is = refl; nothing_owed = All-cons (λ names. names ≡ []) [] [] refl (All-nil (λ names. names ≡ [])) };
+  machine = record {
+    events = eight_scans;
+    runs = scan_runs;
+    open_yet = refl;
+    world_is = refl;
+    nothing_owed = All-cons (λ names. names ≡ []) [] [] refl (All-nil (λ names. names ≡ []));
+  };
   tied = record {
     epoch = refl;
     snapshot = right_snapshot;
@@ -442,7 +554,8 @@ marking_last = record {
     fresh = All-nil IsFresh;
     count = refl;
   };
-  remembered = λ m mutator_seen e. subst (λ pushed. AreRemembered c (places_at 32) mutator_seen.entries pushed) (sym (last_pushed m)) (nothing_pushed m mutator_seen e);
+  remembered = λ m mutator_seen e.
+      subst (λ pushed. AreRemembered c (places_at 32) mutator_seen.entries pushed) (sym (last_pushed m)) (nothing_pushed m mutator_seen e);
   low = none_high;
   room = no_room scanned_seen.marker refl;
   queue_room = each_waits;
@@ -531,7 +644,19 @@ swept_cycle = record {
   noted = record { epoch = noted.epoch; swept = noted.swept };
   as_noted = λ number is. absurd (none_waits number is);
   marked = λ number block n waiting lies. absurd (none_waits number waiting);
-  had = λ n. (λ d. elim (contains_cases object_name [] n d) [ inl e ↦ subst (IsHadSoFar c (held stands.Filled 0)) e (had_one.0, had_one.1, had_one.2, none_waits had_one.0, had_one.3) | inr none ↦ absurd (none_in n none) ], λ h. let C : Name → Type 0 = Contains (object_name ∷ []) in subst C (only_had n (h.0, h.1, h.2, h.4)) (contains_head object_name []));
+  had = λ n. (
+    λ d. elim (contains_cases object_name [] n d) [
+      | inl e ↦ subst (IsHadSoFar c (held stands.Filled 0)) e (
+        had_one.0,
+        had_one.1,
+        had_one.2,
+        none_waits had_one.0,
+        had_one.3,
+      )
+      | inr none ↦ absurd (none_in n none)
+    ],
+    λ h. let C : Name → Type 0 = Contains (object_name ∷ []) in subst C (only_had n (h.0, h.1, h.2, h.4)) (contains_head object_name []),
+  );
   had_once = listed_once;
   freed = λ n. (λ d. absurd (none_in n d), λ f. absurd (none_freed (held stands.Filled 0) n f));
   freed_once = λ i j n a b. absurd cc;

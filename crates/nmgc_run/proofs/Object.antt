@@ -101,7 +101,8 @@ pub not_shared : (b : Bool) (shared old new : Option Node) → (if b then shared
 not_shared true shared old new none some = absurd (not_there shared none some)
 not_shared false shared old new none some = some
 
-only_young : (maker serial : ℕ) → IsYoung opened.world worked.world (record { maker = maker; serial = serial }) → object_name ≡ record { maker = maker; serial = serial }
+only_young : (maker serial : ℕ) → IsYoung opened.world worked.world (record { maker = maker; serial = serial }) →
+    object_name ≡ record { maker = maker; serial = serial }
 only_young zero zero y = refl
 only_young zero (suc serial) y = absurd (nothing_at serial y.1)
 only_young (suc maker) serial y = absurd (nothing_at serial (not_shared (suc maker == SHARED_MAKER) _ _ _ y.0 y.1))
@@ -110,7 +111,12 @@ only_young (suc maker) serial y = absurd (nothing_at serial (not_shared (suc mak
 abbrev pub object_run : Run
 object_run = record {
   opening = record { state = opened; row = quiet_stop 0 32 0; cycles = [] };
-  turns = record { replies = record { replies = object_replies ∷ [] }; history = rows; worked = worked; stop = record { state = last; row = quiet_stop 1 31 1; cycles = [] } } ∷ [];
+  turns = record {
+    replies = record { replies = object_replies ∷ [] };
+    history = rows;
+    worked = worked;
+    stop = record { state = last; row = quiet_stop 1 31 1; cycles = [] };
+  } ∷ [];
 }
 
 pub object_is_run : IsRun (small_plan object_program) object_run
@@ -148,7 +154,10 @@ object_is_run = record {
         count = 1;
         promotes = record {
           names = object_name ∷ [];
-          lists = lists_one (IsPromoted opened.world worked.world) object_name ((refl, refl), begins object_name (inl (inr (0, (0, lit< tt, refl))))) (λ n p. only_young n.maker n.serial p.0);
+          lists = lists_one (IsPromoted opened.world worked.world) object_name (
+            (refl, refl),
+            begins object_name (inl (inr (0, (0, lit< tt, refl)))),
+          ) (λ n p. only_young n.maker n.serial p.0);
           places = (placed, places, refl);
           many = refl;
           rest = refl;

@@ -20,7 +20,8 @@ pub not_known : (serial : ℕ) (node : Node) → slice_get {X = Node} [] serial 
 not_known serial node e = cc
 
 -- a name of g's maker has g's node, if it has one, and any other its own
-pub shared_or : (b d : Bool) (shared : Node) (o : Option Node) (node : Node) (A : Type 0) → (b ≡ true → d ≡ true → A) → (o ≡ Some node → A) → (if b then (if d then Some shared else None) else o) ≡ Some node → A
+pub shared_or : (b d : Bool) (shared : Node) (o : Option Node) (node : Node) (A : Type 0) → (b ≡ true → d ≡ true → A) → (o ≡ Some node → A) →
+    (if b then (if d then Some shared else None) else o) ≡ Some node → A
 shared_or true true shared o node A is other e = is refl refl
 shared_or true false shared o node A is other e = absurd cc
 shared_or false d shared o node A is other e = other e
@@ -32,7 +33,8 @@ module _ (P : Place → Type 0) where
   EachFills [] (slot ∷ slots) = ⊥
   EachFills (w ∷ own) (slot ∷ slots) = Fills P w slot × EachFills own slots
 
-  each_fills : (own after : List ℕ) (slots : List Slot) → EachFills own slots → (i : ℕ) (u : Slot) → slice_get slots i ≡ Some u → Fills P (get_or (own ++ after) i 0) u
+  each_fills : (own after : List ℕ) (slots : List Slot) → EachFills own slots → (i : ℕ) (u : Slot) → slice_get slots i ≡ Some u →
+      Fills P (get_or (own ++ after) i 0) u
   each_fills own after [] h i u e = absurd cc
   each_fills [] after (slot ∷ slots) h i u e = absurd h
   each_fills (w ∷ own) after (slot ∷ slots) h zero u e = subst (λ x. Fills P w x) (some_is slot u e) h.0

@@ -59,7 +59,8 @@ each_place P shared object p c = elim (two p c) [ inl e ↦ subst P e shared | i
 -- the one block with a name
 only_block : (number block : ℕ) (n : Name) → LiesIn placed number block n → (0 ≡ number) × (0 ≡ block) × (object_name ≡ n)
 only_block zero zero n e = (refl, refl, some_is object_name n e)
-only_block zero (suc block) n e = let none : get_or {A = Option Name} (replicate 15 None) block None ≡ None = all_same {A = Option Name} 15 None block in absurd cc
+only_block zero (suc block) n e =
+    let none : get_or {A = Option Name} (replicate 15 None) block None ≡ None = all_same {A = Option Name} 15 None block in absurd cc
 only_block (suc number) block n e =
     let free : get_or (replicate 31 no_cells) number no_cells ≡ no_cells = all_same 31 no_cells number in
     let none = ap (λ c. name_in c block) free in
@@ -78,19 +79,24 @@ all_places p = (each_place (IsPlaceAtStop layout placed) (inl refl) (inr (record
     back (inl e) = subst (λ q. Contains places q) (sym e) (contains_head shared_place (object_place ∷ []))
     back (inr b) =
         let is = only_block b.number b.block p.name b.lies in
-        let at : p.at ≡ 32 = b.at ∙ ap (λ (k : ℕ). block_place layout k (cells placed k).class b.block) (sym is.0) ∙ ap (λ (k : ℕ). block_place layout 0 0 k) (sym is.1) in
-        subst (λ q. Contains places q) (same_place p (sym at) is.2) (contains_tail shared_place (object_place ∷ []) object_place (contains_head object_place []))
+        let at : p.at ≡ 32 = b.at ∙ ap (λ (k : ℕ). block_place layout k (cells placed k).class b.block) (sym is.0) ∙
+        ap (λ (k : ℕ). block_place layout 0 0 k) (sym is.1) in
+        subst (λ q. Contains places q) (same_place p (sym at) is.2) (contains_tail shared_place (object_place ∷
+        []) object_place (contains_head object_place []))
 
 -- what the world has: g, and the object
 
-only_names : (maker serial : ℕ) (node : Node) → node_of worked.world (record { maker = maker; serial = serial }) ≡ Some node → (shared_name ≡ record { maker = maker; serial = serial }) ⊎ (object_name ≡ record { maker = maker; serial = serial })
+only_names : (maker serial : ℕ) (node : Node) → node_of worked.world (record { maker = maker; serial = serial }) ≡ Some node →
+    (shared_name ≡ record { maker = maker; serial = serial }) ⊎ (object_name ≡ record { maker = maker; serial = serial })
 only_names zero zero node e = inr refl
 only_names zero (suc serial) node e = absurd (not_known serial node e)
 only_names (suc maker) serial node e = shared_or (suc maker == SHARED_MAKER) (serial == 0) _ _ node _
-    (λ b d. inl (ap (λ (m : ℕ). record { maker = m; serial = 0 }) (sym (eqb-true (suc maker) SHARED_MAKER b)) ∙ ap (λ (s : ℕ). record { maker = suc maker; serial = s }) (sym (eqb-true serial 0 d))))
+    (λ b d. inl (ap (λ (m : ℕ). record { maker = m; serial = 0 }) (sym (eqb-true (suc maker) SHARED_MAKER b)) ∙
+    ap (λ (s : ℕ). record { maker = suc maker; serial = s }) (sym (eqb-true serial 0 d))))
     (λ o. absurd (not_known serial node o)) e
 
-each_name : (P : Name → Node → Type 0) → P shared_name (Arr (replicate 16 Nil)) → P object_name (Con 7 (Number 5 ∷ [])) → (n : Name) (node : Node) → node_of worked.world n ≡ Some node → P n node
+each_name : (P : Name → Node → Type 0) → P shared_name (Arr (replicate 16 Nil)) → P object_name (Con 7 (Number 5 ∷ [])) → (n : Name) (node : Node) →
+    node_of worked.world n ≡ Some node → P n node
 each_name P shared object n node e = elim (only_names n.maker n.serial node e) [
   | inl is ↦
       let there : node_of worked.world shared_name ≡ Some node = ap (λ (m : Name). node_of worked.world m) is ∙ e in
@@ -101,10 +107,12 @@ each_name P shared object n node e = elim (only_names n.maker n.serial node e) [
 ]
 
 shared_fields : HasSlots (Contains places) object_words 3 (map holds (replicate 16 Nil))
-shared_fields = has_slots (Contains places) (0 ∷ 32771 ∷ 32 ∷ []) (replicate 16 1) (replicate 13 0 ++ (2105 ∷ 0 ∷ 13 ∷ replicate 2109 0)) (map holds (replicate 16 Nil)) (fills_nil (Contains places) 16)
+shared_fields = has_slots (Contains places) (0 ∷ 32771 ∷ 32 ∷ []) (replicate 16 1) (replicate 13 0 ++
+    (2105 ∷ 0 ∷ 13 ∷ replicate 2109 0)) (map holds (replicate 16 Nil)) (fills_nil (Contains places) 16)
 
 object_fields : HasSlots (Contains places) object_words 34 (holds (Number 5) ∷ [])
-object_fields = has_slots (Contains places) (0 ∷ 32771 ∷ 32 ∷ (replicate 16 1 ++ (replicate 13 0 ++ (2105 ∷ 0 ∷ [])))) (13 ∷ []) (replicate 2109 0) (holds (Number 5) ∷ []) (refl, tt)
+object_fields = has_slots (Contains places) (0 ∷ 32771 ∷ 32 ∷ (replicate 16 1 ++ (replicate 13 0 ++ (2105 ∷ 0 ∷ [])))) (13 ∷
+    []) (replicate 2109 0) (holds (Number 5) ∷ []) (refl, tt)
 
 makers_differ : object_name ≡ shared_name → ⊥
 makers_differ e = let makers = ap (λ (n : Name). n.maker) e in omega arith
@@ -166,12 +174,14 @@ apart_back (inr e) = absurd (omega (arith, e))
 represents : Represents layout [] NoNode places worked.world object_words
 represents = record {
   total = refl;
-  one = λ p q c d. each_place (λ x. Apart x q) (each_place (λ y. Apart shared_place y) (λ h. refl) apart q d) (each_place (λ y. Apart object_place y) apart_back (λ h. refl) q d) p c;
+  one = λ p q c d. each_place (λ x. Apart x q) (each_place (λ y. Apart shared_place y) (λ h. refl) apart q d) (each_place (λ y.
+      Apart object_place y) apart_back (λ h. refl) q d) p c;
   named = each_place (IsNamed layout worked.world object_words)
       (record { known = refl; valid = (lit≤ tt, lit< tt, λ m. refl); name = refl; lies = inl (refl, refl, lit≤ tt) })
       (record { known = refl; valid = (lit≤ tt, lit< tt, λ m. absurd (omega (arith, m))); name = refl; lies = object_lies 2 (lit≤ tt) });
   tracked = λ n node t e. each_name Placed shared_placed object_placed n node e;
-  born = λ p node c nursery there. absurd (each_place (λ q. InNursery layout q.name.maker q.at → ⊥) (λ n. omega (arith, n.exists)) (λ n. omega (arith, n.from)) p c nursery);
+  born = λ p node c nursery there. absurd (each_place (λ q. InNursery layout q.name.maker q.at →
+      ⊥) (λ n. omega (arith, n.exists)) (λ n. omega (arith, n.from)) p c nursery);
 }
 
 no_weak : (n : Name) (parts : Parts) → IsAlive worked.world n parts → ⊥
@@ -184,7 +194,10 @@ fit number block n node lies there =
     subst (λ k. size_of node ≤ block_size (cells placed k).class) is.0 size
 
 registers_mean : EachMeans (Contains places) object_mutator.registers (state_of worked.world 0).registers
-registers_mean = ((32, refl, contains_tail shared_place (object_place ∷ []) object_place (contains_head object_place [])), (refl, (refl, means_nil (Contains places) 61)))
+registers_mean = (
+  (32, refl, contains_tail shared_place (object_place ∷ []) object_place (contains_head object_place [])),
+  (refl, (refl, means_nil (Contains places) 61)),
+)
 
 held : (m : ℕ) → m < 1 → AllMean (Contains places) object_mutator.registers (REGISTERS * m) (state_of worked.world m).registers
 held zero lt = all_mean (Contains places) object_mutator.registers (state_of worked.world 0).registers registers_mean
@@ -312,7 +325,8 @@ object_is_seen new = (
     bases zero lt = refl
     bases (suc maker) lt = absurd (omega (arith, lt))
 
-    tops : (maker : ℕ) → maker < 1 → ((nursery_at (nurseries_of object_seen) maker).base ≤ (nursery_at (nurseries_of object_seen) maker).top) × ((nursery_at (nurseries_of object_seen) maker).top ≤ (nursery_at (nurseries_of object_seen) maker).base + 64)
+    tops : (maker : ℕ) → maker < 1 → ((nursery_at (nurseries_of object_seen) maker).base ≤ (nursery_at (nurseries_of object_seen) maker).top) ×
+        ((nursery_at (nurseries_of object_seen) maker).top ≤ (nursery_at (nurseries_of object_seen) maker).base + 64)
     tops zero lt = (lit≤ tt, lit≤ tt)
     tops (suc maker) lt = absurd (omega (arith, lt))
 

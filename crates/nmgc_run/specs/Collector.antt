@@ -61,7 +61,9 @@ weak_count snapshot m weaks = count_by (λ (p : Place). (p.name.maker == m) && i
 abbrev pub HasScanned : MarkerSeen → ℕ → Type 0
 HasScanned marker count = marker.marked ≡ count + length marker.queue
 
--- a cycle that is marking: its marker is a core machine's, with the entries, which are places below the nurseries, as what was pushed, and there is room for what the closing needs; its sweeper noted what it is to sweep, and has listed nothing yet
+-- a cycle that is marking: its marker is a core machine's, with the entries, which are places below the nurseries, as
+-- what was pushed, and there is room for what the closing needs; its sweeper noted what it is to sweep, and has
+-- listed nothing yet
 pub record IsMarking (c : Cycle) (s : State) (seen : Seen) (places : List Place) : Type 0 where
   pub core : Core
   pub machine : IsCoreOf c s.world core
@@ -79,7 +81,8 @@ pub record IsPacedAtStop (quota : ℕ) (c : Cycle) (s : State) (seen : Seen) : T
   pub scanned : HasScanned seen.marker ((s.number - c.from) * quota)
   pub not_done : c.from < s.number → seen.marker.queue ≢ []
 
--- the pace after a round: the rounds before scanned their quota, and this one did unless nothing was left; the first round aside, something waited at the stop before, and so something was scanned
+-- the pace after a round: the rounds before scanned their quota, and this one did unless nothing was left; the first
+-- round aside, something waited at the stop before, and so something was scanned
 pub record IsPacedAfterRound (quota : ℕ) (c : Cycle) (t : State) (seen : Seen) : Type 0 where
   pub scanned : HasScanned seen.marker ((t.number - c.from - 1) * quota + seen.work.scanned)
   pub most : seen.work.scanned ≤ quota
@@ -107,7 +110,9 @@ pub record IsAtStop (plan : Plan) (run : Run) (seen : Seen) : Type 0 where
 abbrev pub HasReserve : Layout → Seen → Type 0
 HasReserve layout seen = (reserve_count layout ≤ free_count seen.segments.segments) ⊎ AreEmpty (nurseries_of seen)
 
--- after a round that follows the last stop of a run of the plan, with these replies and this history; what was born lies in the used part of its maker's nursery, in the order of names, and the mutators have left for the stop what its promotion asks
+-- after a round that follows the last stop of a run of the plan, with these replies and this history; what was born
+-- lies in the used part of its maker's nursery, in the order of names, and the mutators have left for the stop what
+-- its promotion asks
 pub record IsAfterRound (plan : Plan) (run : Run) (replies : List (List Reply)) (history : List Row) (t : State) (seen : Seen) : Type 0 where
   pub is_run : IsRun plan run
   pub goes_on : answer_of plan (last_state run) ≡ None
@@ -120,7 +125,8 @@ pub record IsAfterRound (plan : Plan) (run : Run) (replies : List (List Reply)) 
   pub heap : HoldsAfterRound (layout_of plan) (last_state run) t places seen.words seen.segments (ends_of seen) seen.weaks
   pub nurseries : AreNurseries (layout_of plan) places t.world (nurseries_of seen)
   pub ordered : LieInOrder (nursery_place (layout_of plan) 0) places
-  pub left : Remembers (nursery_place (layout_of plan) 0) ((last_state run).world ∷ snapshots t.progress) places t.world (recorded_in seen) (young_weaks_in seen)
+  pub left : Remembers (nursery_place (layout_of plan) 0) ((last_state run).world ∷
+      snapshots t.progress) places t.world (recorded_in seen) (young_weaks_in seen)
   pub reserve : HasReserve (layout_of plan) seen
   pub cycle : HoldsInCycle (λ c. IsPacedAfterRound plan.config.quota c t seen) t.progress t seen places
 

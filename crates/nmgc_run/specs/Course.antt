@@ -41,7 +41,8 @@ RunsAreInCourse = (plan : Plan) (run : Run) → IsRun plan run → IsStateInCour
 
 -- and it stays so over a round and over a promotion
 abbrev pub RoundsStayInCourse : Type 0
-RoundsStayInCourse = (config : Config) (s t : State) (replies : List (List Reply)) (rows : List Row) → IsRound config s replies rows t → IsStateInCourse s → IsStateInCourse t
+RoundsStayInCourse = (config : Config) (s t : State) (replies : List (List Reply)) (rows : List Row) → IsRound config s replies rows t →
+    IsStateInCourse s → IsStateInCourse t
 
 abbrev pub PromotionsStayInCourse : Type 0
 PromotionsStayInCourse = (layout : Layout) (began : World) (s t : State) (count : ℕ) → Promotes layout began s t count → IsStateInCourse s → IsStateInCourse t

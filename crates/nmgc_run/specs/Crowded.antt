@@ -72,7 +72,8 @@ abbrev pub IsHeapFull : End → Type 0
 IsHeapFull Done = ⊥
 IsHeapFull (HeapFull free reserve) = Unit {0}
 
--- a report of a script's run: it is lawful, and its end is heap full exactly where the last stop leaves the heap full. Then the last cycle kept more objects than there are segments above the reserve, and the last stop is crowded
+-- a report of a script's run: it is lawful, and its end is heap full exactly where the last stop leaves the heap
+-- full. Then the last cycle kept more objects than there are segments above the reserve, and the last stop is crowded
 pub record IsRunOf (script : Script) (report : Report) : Type 0 where
   pub lawful : IsLawful script report
   pub full : IsHeapFull report.end ↔ LeavesHeapFull (plan_of script) (last_stop (plan_of script) lawful.run lawful.is_run)

@@ -31,7 +31,8 @@ IsPlaceAtStop layout allocation p = (p ≡ shared_place) ⊎ IsBlockPlace layout
 
 -- the object of each block, tracked or not, is no larger than the block
 abbrev pub FitBlocks : World → AllocState → Type 0
-FitBlocks w allocation = (number block : ℕ) (name : Name) (node : Node) → LiesIn allocation number block name → node_of w name ≡ Some node → size_of node ≤ block_size (cells allocation number).class
+FitBlocks w allocation = (number block : ℕ) (name : Name) (node : Node) → LiesIn allocation number block name → node_of w name ≡ Some node →
+    size_of node ≤ block_size (cells allocation number).class
 
 -- the snapshot of a cycle that is marking: its names are still tracked
 abbrev pub snapshots : Progress → List World
@@ -55,7 +56,8 @@ abbrev pub HasAllRegisters : MutatorEnd → Type 0
 HasAllRegisters m = length m.registers ≡ REGISTERS
 
 -- words, roots and segments stand for a world and an allocation state, where the collector still speaks of these earlier worlds
-pub record HeapStandsFor (layout : Layout) (earlier : List World) (places : List Place) (w : World) (allocation : AllocState) (words : List ℕ) (segments : Segments) (mutators : List MutatorEnd) : Type 0 where
+pub record HeapStandsFor (layout : Layout) (earlier : List World) (places : List Place) (w : World) (allocation : AllocState) (words : List ℕ)
+    (segments : Segments) (mutators : List MutatorEnd) : Type 0 where
   pub fit : FitBlocks w allocation
   pub represents : Represents layout earlier NoNode places w words
   pub registers : All HasAllRegisters mutators
@@ -79,8 +81,10 @@ pub record IsBornPlace (layout : Layout) (began w : World) (p : Place) : Type 0 
 abbrev pub IsPlaceAfterRound : Layout → State → State → Place → Type 0
 IsPlaceAfterRound layout s t p = IsPlaceAtStop layout t.allocation p ⊎ IsBornPlace layout s.world t.world p
 
--- after a round: objects were born in nurseries, each with one place there; the world as the round began is still tracked, and the list of weak pointers is that of the stop before
-pub record HoldsAfterRound (layout : Layout) (s t : State) (places : List Place) (words : List ℕ) (segments : Segments) (mutators : List MutatorEnd) (weaks : List Place) : Type 0 where
+-- after a round: objects were born in nurseries, each with one place there; the world as the round began is still
+-- tracked, and the list of weak pointers is that of the stop before
+pub record HoldsAfterRound (layout : Layout) (s t : State) (places : List Place) (words : List ℕ) (segments : Segments) (mutators : List MutatorEnd)
+    (weaks : List Place) : Type 0 where
   pub sound : (p : Place) → Contains places p → IsPlaceAfterRound layout s t p
   pub old : (p : Place) → IsPlaceAtStop layout t.allocation p → Contains places p
   pub born : (name : Name) → IsYoung s.world t.world name → (at : ℕ) × Contains places (record { at = at; name = name })

@@ -30,11 +30,16 @@ stopped_after s t places seen = record {
 
 -- after a round the collector has what its promotion asks
 abbrev pub RoundIsRemembered : Type 0
-RoundIsRemembered = (plan : Plan) (run : Run) (replies : List (List Reply)) (history : List Row) (t : State) (seen : Seen) → IsRunnable plan → (h : IsAfterRound plan run replies history t seen) → IsSegments seen.segments → IsStopped (stopped_after (last_state run) t h.places seen) seen.segments seen.words (nurseries_of seen) (registers_of (ends_of seen)) (queues_of (ends_of seen)) (recorded_in seen) (young_weaks_in seen)
+RoundIsRemembered = (plan : Plan) (run : Run) (replies : List (List Reply)) (history : List Row) (t : State) (seen : Seen) → IsRunnable plan →
+    (h : IsAfterRound plan run replies history t seen) → IsSegments seen.segments →
+    IsStopped (stopped_after (last_state run) t h.places seen) seen.segments seen.words (nurseries_of seen) (registers_of (ends_of seen))
+    (queues_of (ends_of seen)) (recorded_in seen) (young_weaks_in seen)
 
 -- once the round is forgotten, the collector speaks of the snapshot alone, which has nothing of what was born
 abbrev pub RoundIsForgotten : Type 0
-RoundIsForgotten = (plan : Plan) (run : Run) (replies : List (List Reply)) (history : List Row) (t : State) (seen : Seen) → IsRunnable plan → (h : IsAfterRound plan run replies history t seen) → IsSegments seen.segments → StillSpoken (nursery_place (layout_of plan) 0) (snapshots t.progress) ((last_state run).world ∷ snapshots t.progress) h.places t.world
+RoundIsForgotten = (plan : Plan) (run : Run) (replies : List (List Reply)) (history : List Row) (t : State) (seen : Seen) → IsRunnable plan →
+    (h : IsAfterRound plan run replies history t seen) → IsSegments seen.segments →
+    StillSpoken (nursery_place (layout_of plan) 0) (snapshots t.progress) ((last_state run).world ∷ snapshots t.progress) h.places t.world
 
 -- no command changes the header of an object
 abbrev pub RowsKeepHeaders : Type 0

@@ -76,7 +76,15 @@ segments_of first = record { layout = array_layout; segments = first ∷ replica
 
 -- a mutator with this word in its first register and nil in the others, a next serial, and the end of what is used in its nursery
 abbrev pub hand : ℕ → ℕ → ℕ → MutatorSeen
-hand word serial top = record { registers = word ∷ replicate (REGISTERS - 1) 1; queue = record { words = []; spare = 0 }; serial = serial; nursery = record { base = 320; top = top; end = 336 }; recorded = []; young_weaks = []; entries = [] }
+hand word serial top = record {
+  registers = word ∷ replicate (REGISTERS - 1) 1;
+  queue = record { words = []; spare = 0 };
+  serial = serial;
+  nursery = record { base = 320; top = top; end = 336 };
+  recorded = [];
+  young_weaks = [];
+  entries = [];
+}
 
 abbrev pub array_stop : ℕ → Phase → ℕ → ℕ → ℕ → ℕ → StopRow
 array_stop number phase free filled sweep promoted = record { number = number; phase = phase; free = free; filled = filled; sweep = sweep; promoted = promoted }

@@ -23,7 +23,8 @@ pub record IsWithinLimits (plan : Plan) (s : State) : Type 0 where
   pub world : IsWithin plan.config.words s.world
   pub left : AreFitting plan s.left
 
--- a script within the limits has a layout, and commands that fit; its plan is runnable where its programs are short enough for serials, as any that can be read are
+-- a script within the limits has a layout, and commands that fit; its plan is runnable where its programs are short
+-- enough for serials, as any that can be read are
 pub record HasGoodPlan (script : Script) : Type 0 where
   pub layout : IsLayout (layout_of (plan_of script))
   pub fit : AreFitting (plan_of script) script.threads
@@ -39,4 +40,5 @@ StatesAreWithin = (plan : Plan) (run : Run) → IsRunnable plan → AreFitting p
 
 -- and so is every round from such a state
 abbrev pub RoundsAreWithin : Type 0
-RoundsAreWithin = (plan : Plan) (s t : State) (replies : List (List Reply)) (rows : List Row) → IsSoundState plan s → IsWithinLimits plan s → IsRound plan.config s replies rows t → All (λ (row : Row). Fits plan.config.words row.command) rows × IsWithinLimits plan t
+RoundsAreWithin = (plan : Plan) (s t : State) (replies : List (List Reply)) (rows : List Row) → IsSoundState plan s → IsWithinLimits plan s →
+    IsRound plan.config s replies rows t → All (λ (row : Row). Fits plan.config.words row.command) rows × IsWithinLimits plan t

@@ -40,11 +40,13 @@ pub record AreRemembered (c : Cycle) (places : List Place) (entries : List ℕ) 
 
 -- the block is in the snapshot exactly where it is in use with a name of the snapshot
 abbrev pub IsRightSnapshot : Cycle → AllocState → Segments → Type 0
-IsRightSnapshot c allocation segments = (number block : ℕ) → InSnapshot (nth segments.segments number) block ↔ ((name : Name) × LiesIn allocation number block name × IsSome (node_of c.snapshot name))
+IsRightSnapshot c allocation segments = (number block : ℕ) → InSnapshot (nth segments.segments number) block ↔
+    ((name : Name) × LiesIn allocation number block name × IsSome (node_of c.snapshot name))
 
 -- a block is marked with the epoch exactly where the machine has marked its name
 abbrev pub AreMarked : Core → AllocState → Segments → ℕ → Type 0
-AreMarked core allocation segments epoch = (number block : ℕ) (name : Name) → LiesIn allocation number block name → IsMarked (nth segments.segments number) epoch block ↔ Contains core.marked name
+AreMarked core allocation segments epoch = (number block : ℕ) (name : Name) → LiesIn allocation number block name →
+    IsMarked (nth segments.segments number) epoch block ↔ Contains core.marked name
 
 -- the entry is that of an object of which nothing was read yet
 abbrev pub IsFresh : Entry → Type 0

@@ -22,7 +22,8 @@ IsSettledByte begun byte = (byte ≡ 0) ⊎ ((0 < begun) × (byte ≡ epoch_of b
 
 -- while no cycle is marking, marks are settled in each segment that doesn't wait to be swept; so no byte is the epoch of the next cycle
 abbrev pub AreSettled : ℕ → Segments → Type 0
-AreSettled begun segments = (number block : ℕ) → HasNumber segments number → (nth segments.segments number).state ≢ stands.Sweeping → IsSettledByte begun (mark_of (nth segments.segments number) block)
+AreSettled begun segments = (number block : ℕ) → HasNumber segments number → (nth segments.segments number).state ≢ stands.Sweeping →
+    IsSettledByte begun (mark_of (nth segments.segments number) block)
 
 -- no item stands at two places: of names the same as AreDistinct, said by places, and of a list of anything
 abbrev pub IsWithoutDoubles : {A : Type 0} → List A → Type 0
@@ -39,11 +40,13 @@ HasListedNothing sweeper = (sweeper.had ≡ []) × (sweeper.freed ≡ [])
 
 -- a waiting segment is one that the cycle had, and as it was then
 abbrev pub AreAsNoted : Cycle → AllocState → Type 0
-AreAsNoted c allocation = (number : ℕ) → IsIn stands.Sweeping (cells allocation number) → IsSweptIn c number × ((cells allocation number).names ≡ (cells c.heap number).names)
+AreAsNoted c allocation = (number : ℕ) → IsIn stands.Sweeping (cells allocation number) → IsSweptIn c number ×
+    ((cells allocation number).names ≡ (cells c.heap number).names)
 
 -- in a waiting segment, marked are exactly the blocks whose name is kept
 abbrev pub AreKeptMarked : Cycle → AllocState → Segments → ℕ → Type 0
-AreKeptMarked c allocation segments epoch = (number block : ℕ) (name : Name) → IsIn stands.Sweeping (cells allocation number) → LiesIn allocation number block name → IsMarked (nth segments.segments number) epoch block ↔ IsKeptIn c name
+AreKeptMarked c allocation segments epoch = (number block : ℕ) (name : Name) → IsIn stands.Sweeping (cells allocation number) →
+    LiesIn allocation number block name → IsMarked (nth segments.segments number) epoch block ↔ IsKeptIn c name
 
 -- a name that was listed so far: it lay in a segment that was swept since
 abbrev pub IsHadSoFar : Cycle → AllocState → Name → Type 0
@@ -51,7 +54,8 @@ IsHadSoFar c allocation name = (number block : ℕ) × IsSweptIn c number × (Is
 
 -- a name that was freed so far: it lay in a segment that was swept since, and isn't kept
 abbrev pub IsFreedSoFar : Cycle → AllocState → Name → Type 0
-IsFreedSoFar c allocation name = (number block : ℕ) × IsSweptIn c number × (IsIn stands.Sweeping (cells allocation number) → ⊥) × LiesIn c.heap number block name × (IsKeptIn c name → ⊥)
+IsFreedSoFar c allocation name = (number block : ℕ) × IsSweptIn c number × (IsIn stands.Sweeping (cells allocation number) → ⊥) ×
+    LiesIn c.heap number block name × (IsKeptIn c name → ⊥)
 
 -- a cycle that was closed: what contracts see of it is its census, and the sweeper has listed and freed what it is to, each name once and in any order
 pub record IsSweeping (c : Cycle) (closed : ℕ) (allocation : AllocState) (segments : Segments) (cycle : CycleSeen) (sweeper : SweeperSeen) : Type 0 where

@@ -15,12 +15,18 @@ use Rattle.nmgc_run.specs.Heap.{HoldsAtStop, HoldsAfterRound, FitBlocks, IsPlace
 
 -- at a stop, the places are those of the blocks in use
 abbrev pub BlocksAtStop : Type 0
-BlocksAtStop = (layout : Layout) (s : State) (words : List ℕ) (segments : Segments) (mutators : List MutatorEnd) (weaks : List Place) → (h : HoldsAtStop layout s words segments mutators weaks) → AreBlocks segments (nursery_place layout 0) h.places s.world
+BlocksAtStop = (layout : Layout) (s : State) (words : List ℕ) (segments : Segments) (mutators : List MutatorEnd) (weaks : List Place) →
+    (h : HoldsAtStop layout s words segments mutators weaks) → AreBlocks segments (nursery_place layout 0) h.places s.world
 
 -- so they are after a round, but for what was born in nurseries
 abbrev pub BlocksAfterRound : Type 0
-BlocksAfterRound = (layout : Layout) (s t : State) (places : List Place) (words : List ℕ) (segments : Segments) (mutators : List MutatorEnd) (weaks : List Place) → HoldsAfterRound layout s t places words segments mutators weaks → AreBlocks segments (nursery_place layout 0) places t.world
+BlocksAfterRound = (layout : Layout) (s t : State) (places : List Place) (words : List ℕ) (segments : Segments) (mutators : List MutatorEnd)
+    (weaks : List Place) → HoldsAfterRound layout s t places words segments mutators weaks → AreBlocks segments (nursery_place layout 0) places t.world
 
--- where the places are those of the blocks in use and none lies in a nursery, they are those of g and of the blocks of the allocation state, and its objects fit: what a promotion leaves is what a stop asks
+-- where the places are those of the blocks in use and none lies in a nursery, they are those of g and of the blocks
+-- of the allocation state, and its objects fit: what a promotion leaves is what a stop asks
 abbrev pub BlocksArePlaces : Type 0
-BlocksArePlaces = (layout : Layout) (earlier : List World) (places : List Place) (w : World) (allocation : AllocState) (words : List ℕ) (segments : Segments) → Represents layout earlier NoNode places w words → IsSegments segments → segments.layout ≡ layout → StandsFor segments words allocation → ((p : Place) → Contains places p → p.at < nursery_place layout 0) → AreBlocks segments (nursery_place layout 0) places w → FitBlocks w allocation × ((p : Place) → Contains places p ↔ IsPlaceAtStop layout allocation p)
+BlocksArePlaces = (layout : Layout) (earlier : List World) (places : List Place) (w : World) (allocation : AllocState) (words : List ℕ)
+    (segments : Segments) → Represents layout earlier NoNode places w words → IsSegments segments → segments.layout ≡ layout →
+    StandsFor segments words allocation → ((p : Place) → Contains places p → p.at < nursery_place layout 0) →
+    AreBlocks segments (nursery_place layout 0) places w → FitBlocks w allocation × ((p : Place) → Contains places p ↔ IsPlaceAtStop layout allocation p)

@@ -54,7 +54,8 @@ quiet_stop number free promoted = record { number = number; phase = Idle; free =
 
 -- an object is made, read and shown
 abbrev pub object_program : List Command
-object_program = Num 1 5 ∷ Con 0 7 (Register 1 ∷ []) ∷ Get 2 (Register 0) 0 ∷ Show (Register 2) ∷ Get 2 (Register 0) 1 ∷ Get 2 (Register 1) 0 ∷ Show (Register 0) ∷ []
+object_program = Num 1 5 ∷ Con 0 7 (Register 1 ∷ []) ∷ Get 2 (Register 0) 0 ∷ Show (Register 2) ∷ Get 2 (Register 0) 1 ∷ Get 2 (Register 1) 0 ∷
+    Show (Register 0) ∷ []
 
 abbrev pub object_name : Name
 object_name = record { maker = 0; serial = 0 }
@@ -62,7 +63,8 @@ object_name = record { maker = 0; serial = 0 }
 abbrev pub object_replies : List Reply
 object_replies = Fine ∷ Given (Ref object_name) ∷ Given (Number 5) ∷ Given (Number 5) ∷ NoField ∷ NoPointer ∷ Given (Ref object_name) ∷ []
 
--- the words after it: word 0; g, whose slots are nil, and the unused words up to 31; in the first block of the first segment the object's header, name and field; and nothing else
+-- the words after it: word 0; g, whose slots are nil, and the unused words up to 31; in the first block of the first
+-- segment the object's header, name and field; and nothing else
 abbrev pub object_words : List ℕ
 object_words = 0 ∷ 32771 ∷ SHARED_MAKER ∷ (replicate SHARED_SLOTS 1 ++ (replicate 13 0 ++ (2105 ∷ 0 ∷ 13 ∷ replicate 2109 0)))
 
@@ -103,7 +105,15 @@ object_seen = record {
   cycles = [];
   words = object_words;
   segments = object_segments;
-  mutators = record { registers = object_mutator.registers; queue = record { words = []; spare = 0 }; serial = 1; nursery = record { base = 2080; top = 2080; end = 2144 }; recorded = []; young_weaks = []; entries = [] } ∷ [];
+  mutators = record {
+    registers = object_mutator.registers;
+    queue = record { words = []; spare = 0 };
+    serial = 1;
+    nursery = record { base = 2080; top = 2080; end = 2144 };
+    recorded = [];
+    young_weaks = [];
+    entries = [];
+  } ∷ [];
   weaks = [];
   phase = Idle;
   begun = 0;
@@ -143,11 +153,22 @@ second_replies = Fine ∷ Fine ∷ []
 
 -- the cycle frees the dropped object, and keeps the other
 abbrev pub full_row : CycleRow
-full_row = record { number = 1; from = 2; closed = 2; ended = 2; swept = 0 ∷ []; had = object_name ∷ second_name ∷ []; freed = object_name ∷ []; dead = []; kept = 1 }
+full_row = record {
+  number = 1;
+  from = 2;
+  closed = 2;
+  ended = 2;
+  swept = 0 ∷ [];
+  had = object_name ∷ second_name ∷ [];
+  freed = object_name ∷ [];
+  dead = [];
+  kept = 1;
+}
 
 -- a run of that program is two rounds, and the whole cycle is done at the last stop
 abbrev pub CycleIsTold : Type 0
-CycleIsTold = IsTold (small_plan cycle_program) (record { replies = first_replies ∷ [] } ∷ record { replies = second_replies ∷ [] } ∷ []) (quiet_stop 0 32 0 ∷ quiet_stop 1 31 2 ∷ quiet_stop 2 31 0 ∷ []) (full_row ∷ []) Done
+CycleIsTold = IsTold (small_plan cycle_program) (record { replies = first_replies ∷ [] } ∷ record { replies = second_replies ∷ [] } ∷
+    []) (quiet_stop 0 32 0 ∷ quiet_stop 1 31 2 ∷ quiet_stop 2 31 0 ∷ []) (full_row ∷ []) Done
 
 -- one object is made, and a cycle is asked for
 abbrev pub asking_program : List Command
@@ -166,7 +187,8 @@ asking_replies = Given (Ref object_name) ∷ Fine ∷ []
 
 -- a run of that program begins the cycle at the first stop, and closes and ends it at the next, after a round without commands
 abbrev pub MarkingIsTold : Type 0
-MarkingIsTold = IsTold (small_plan asking_program) (record { replies = asking_replies ∷ [] } ∷ record { replies = [] ∷ [] } ∷ []) (quiet_stop 0 32 0 ∷ marking_stop ∷ quiet_stop 2 31 0 ∷ []) (marked_row ∷ []) Done
+MarkingIsTold = IsTold (small_plan asking_program) (record { replies = asking_replies ∷ [] } ∷ record { replies = [] ∷ [] } ∷
+    []) (quiet_stop 0 32 0 ∷ marking_stop ∷ quiet_stop 2 31 0 ∷ []) (marked_row ∷ []) Done
 
 -- the text of the report of `object_program`
 abbrev pub object_text : List ℕ

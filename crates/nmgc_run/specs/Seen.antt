@@ -13,7 +13,8 @@ use Rattle.nmgc_journal.specs.declared.report.CycleRow.{CycleRow}
 use Rattle.nmgc_journal.specs.declared.report.MutatorEnd.{MutatorEnd}
 use Rattle.nmgc_journal.specs.declared.report.End.{End}
 
--- a mutator: its roots and next serial, its nursery, and what the round left for the stop: places of recorded fields and of young weak pointers, and the remembered entries
+-- a mutator: its roots and next serial, its nursery, and what the round left for the stop: places of recorded fields
+-- and of young weak pointers, and the remembered entries
 pub record MutatorSeen : Type 0 where
   pub registers : List ℕ
   pub queue : FinQueue
@@ -23,7 +24,8 @@ pub record MutatorSeen : Type 0 where
   pub young_weaks : List ℕ
   pub entries : List ℕ
 
--- the marker of a cycle that is marking: its epoch, the places that wait to be scanned, for how many more there is room, how many blocks it marked, and how often the collector passed the gate in the whole run
+-- the marker of a cycle that is marking: its epoch, the places that wait to be scanned, for how many more there is
+-- room, how many blocks it marked, and how often the collector passed the gate in the whole run
 pub record MarkerSeen : Type 0 where
   pub epoch : ℕ
   pub queue : List ℕ

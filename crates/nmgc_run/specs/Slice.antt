@@ -28,7 +28,8 @@ is_next commands words c = nat_lt 0 commands && nat_le (words_made c) words
 -- the slice of a program: up to the first command that ends it, or the first that no longer belongs to it
 abbrev pub slice : ℕ → ℕ → List Command → List Command
 slice commands words [] = []
-slice commands words (c ∷ program) = if is_next commands words c then c ∷ (if ends_slice c then [] else slice (commands - 1) (words - words_made c) program) else []
+slice commands words (c ∷ program) = if is_next commands words c then c ∷
+    (if ends_slice c then [] else slice (commands - 1) (words - words_made c) program) else []
 
 -- what a mutator does of the commands that it has left
 abbrev pub slice_of : Config → List Command → List Command

@@ -43,7 +43,8 @@ IsOfSnapshot c name = IsSome (node_of c.snapshot name)
 
 -- each name in a segment that waits to be swept is one of the snapshot
 abbrev pub WaitKnown : Cycle → AllocState → Type 0
-WaitKnown c allocation = (number block : ℕ) (name : Name) → IsIn stands.Sweeping (cells allocation number) → LiesIn allocation number block name → IsOfSnapshot c name
+WaitKnown c allocation = (number block : ℕ) (name : Name) → IsIn stands.Sweeping (cells allocation number) → LiesIn allocation number block name →
+    IsOfSnapshot c name
 
 -- a cycle that was closed: the world is that of the closing, after some commands
 pub record IsAfterClosing (c : Cycle) (w : World) : Type 0 where
@@ -95,7 +96,8 @@ pub record IsSoundState (plan : Plan) (s : State) : Type 0 where
   pub earlier : AreEarlier s
   pub blocks : HasBlocks s
 
--- what holds once a round led from one state to another: its rows can be replayed, only old names lie in blocks, and each tracked name that isn't young has its block still
+-- what holds once a round led from one state to another: its rows can be replayed, only old names lie in blocks, and
+-- each tracked name that isn't young has its block still
 pub record IsSoundRound (plan : Plan) (s : State) (rows : List Row) (t : State) : Type 0 where
   pub can : CanReplay s.world rows
   pub world : IsWorld t.world
@@ -113,7 +115,8 @@ StatesAreSound = (plan : Plan) (run : Run) → IsRunnable plan → IsRun plan ru
 
 -- and so is every round from a sound state
 abbrev pub RoundsAreSound : Type 0
-RoundsAreSound = (plan : Plan) (s t : State) (replies : List (List Reply)) (rows : List Row) → IsSoundState plan s → IsRound plan.config s replies rows t → IsSoundRound plan s rows t
+RoundsAreSound = (plan : Plan) (s t : State) (replies : List (List Reply)) (rows : List Row) → IsSoundState plan s →
+    IsRound plan.config s replies rows t → IsSoundRound plan s rows t
 
 -- at every stop of a run each tracked name but g has a block
 abbrev pub TrackedHaveBlocks : Type 0

@@ -38,7 +38,9 @@ pub data Progress : Type 0 where
   marking : (c : Cycle) → Progress
   sweeping : (c : Cycle) (closed : ℕ) → Progress
 
--- the number of the stop (after a round that of the stop to come), the world, where its objects lie, what the collector does, how many cycles were begun, whether a cycle or a full cycle is asked for, and what is left of the programs
+-- the number of the stop (after a round that of the stop to come), the world, where its objects lie, what the
+-- collector does, how many cycles were begun, whether a cycle or a full cycle is asked for, and what is left of the
+-- programs
 pub record State : Type 0 where
   pub number : ℕ
   pub world : World

@@ -21,7 +21,8 @@ use Rattle.nmgc_run.specs.Lawful.{IsLawful, IsLawfulFor}
 
 -- the classes of a layout: those of dense blocks, and one more for each doubling of the words of its segments above them
 abbrev pub ClassesAreCounted : Type 0
-ClassesAreCounted = (layout : Layout) (doublings : ℕ) → IsLayout layout → layout.words ≡ DENSE_WORDS * 2 ^ doublings → class_count layout ≡ DENSE_CLASS + 1 + doublings
+ClassesAreCounted = (layout : Layout) (doublings : ℕ) → IsLayout layout → layout.words ≡ DENSE_WORDS * 2 ^ doublings →
+    class_count layout ≡ DENSE_CLASS + 1 + doublings
 
 -- how many commands of a mutator the rounds answered
 abbrev pub answered_count : List RoundRows → ℕ → ℕ
@@ -30,7 +31,8 @@ answered_count (rows ∷ rounds) m = length (slice_index_or rows.replies m []) +
 
 -- what is left of a program are the commands that no round answered: the report determines them
 abbrev pub LeftIsTold : Type 0
-LeftIsTold = (plan : Plan) (run : Run) (rounds : List RoundRows) (stops : List StopRow) (cycles : List CycleRow) → IsRun plan run → Tells run rounds stops cycles → (m : ℕ) → program_of (last_state run).left m ≡ drop (answered_count rounds m) (program_of plan.threads m)
+LeftIsTold = (plan : Plan) (run : Run) (rounds : List RoundRows) (stops : List StopRow) (cycles : List CycleRow) → IsRun plan run →
+    Tells run rounds stops cycles → (m : ℕ) → program_of (last_state run).left m ≡ drop (answered_count rounds m) (program_of plan.threads m)
 
 -- the free segments that the last of the rows tells
 abbrev pub free_told : List StopRow → ℕ
@@ -40,7 +42,8 @@ free_told (row ∷ next ∷ rows) = free_told (next ∷ rows)
 
 -- the row of the last stop counts the free segments that the report's heap has
 abbrev pub FreeIsReal : Type 0
-FreeIsReal = (plan : Plan) (report : Report) → IsLawfulFor plan report → free_told report.stops ≡ count_by (λ (segment : Segment). is segment.state stands.Free) report.segments.segments
+FreeIsReal = (plan : Plan) (report : Report) → IsLawfulFor plan report →
+    free_told report.stops ≡ count_by (λ (segment : Segment). is segment.state stands.Free) report.segments.segments
 
 -- a report is lawful for a script whatever its version: the plan is the same
 abbrev pub VersionIsNothing : Type 0
@@ -52,7 +55,8 @@ UpgradeIsNothing = (script : Script) (report : Report) → IsLawful script repor
 
 -- once a run has ended, there is a row for each cycle that was begun
 abbrev pub EachCycleHasItsRow : Type 0
-EachCycleHasItsRow = (plan : Plan) (run : Run) (rounds : List RoundRows) (stops : List StopRow) (cycles : List CycleRow) (end : End) → IsRun plan run → Tells run rounds stops cycles → answer_of plan (last_state run) ≡ Some end → length cycles ≡ (last_state run).begun
+EachCycleHasItsRow = (plan : Plan) (run : Run) (rounds : List RoundRows) (stops : List StopRow) (cycles : List CycleRow) (end : End) →
+    IsRun plan run → Tells run rounds stops cycles → answer_of plan (last_state run) ≡ Some end → length cycles ≡ (last_state run).begun
 
 -- a run with one turn more at its end is a run
 abbrev pub RunGoesOn : Type 0
@@ -60,7 +64,8 @@ RunGoesOn = (plan : Plan) (run : Run) (turn : Turn) → IsRun plan run → IsTur
 
 -- of it is told what was told before, and what the turn tells
 abbrev pub TellsOneMore : Type 0
-TellsOneMore = (run : Run) (turn : Turn) (rounds : List RoundRows) (stops : List StopRow) (cycles : List CycleRow) → Tells run rounds stops cycles → Tells (with_turn run turn) (rounds ++ turn.replies ∷ []) (stops ++ turn.stop.row ∷ []) (cycles ++ turn.stop.cycles)
+TellsOneMore = (run : Run) (turn : Turn) (rounds : List RoundRows) (stops : List StopRow) (cycles : List CycleRow) → Tells run rounds stops cycles →
+    Tells (with_turn run turn) (rounds ++ turn.replies ∷ []) (stops ++ turn.stop.row ∷ []) (cycles ++ turn.stop.cycles)
 
 -- and its last state is that of the turn
 abbrev pub LastIsOfTurn : Type 0

@@ -26,12 +26,14 @@ pub right_of : (P : Type 0) (c : Command) (r : Result Command Cause) → r ≡ O
 right_of P c r is tells = rw is at tells
 
 -- a command of the verb's name has a number of words that the verb is read with
-pub count_of : (ver : Version) (usable : IsUsable ver) (v : Verb) (c : Command) → HasRegistersBelow ver.registers c → HasNumbers c → first_of (command_words c) ≡ verb_name v → HasCount v (length (command_words c))
+pub count_of : (ver : Version) (usable : IsUsable ver) (v : Verb) (c : Command) → HasRegistersBelow ver.registers c → HasNumbers c →
+    first_of (command_words c) ≡ verb_name v → HasCount v (length (command_words c))
 count_of ver usable v c registers numbers named =
     let r = words_read ver usable c registers numbers in
     let name : verb_name r.0 ≡ verb_name v = sym (ap first_of r.2) ∙ named in
     let same : r.0 ≡ v = ok_is {E = Cause} r.0 v (sym (verb_again r.0) ∙ ap verb_at name ∙ verb_again v) in
-    let count : HasCount r.0 (length (verb_name r.0 ∷ r.1)) = right_of (HasCount r.0 (length (verb_name r.0 ∷ r.1))) c (operands_at ver r.0 r.1) r.3 (operands_tell ver usable r.0 (verb_name r.0) r.1) in
+    let count : HasCount r.0 (length (verb_name r.0 ∷ r.1)) =
+    right_of (HasCount r.0 (length (verb_name r.0 ∷ r.1))) c (operands_at ver r.0 r.1) r.3 (operands_tell ver usable r.0 (verb_name r.0) r.1) in
     subst (λ (n : ℕ). HasCount v n) (sym (ap length r.2)) (subst (λ (k : Verb). HasCount k (length (verb_name r.0 ∷ r.1))) same count)
 
 -- so many operands
@@ -50,10 +52,28 @@ all_shared ver usable zero = tt
 all_shared ver usable (suc n) = (tt, all_shared ver usable n)
 
 con_some : (ver : Version) (usable : IsUsable ver) (m n : ℕ) → n ≡ 3 + m → HasArity ver (codes "con") n
-con_some ver usable m n e = (Con 0 0 (shared m), (omega (arith, usable.some_register), All-from_recursion (IsOperandBelow ver.registers) (shared m) (all_shared ver usable m)), omega arith, refl, omega (arith, e, length-map (shared m) operand_word, length_shared m))
+con_some ver usable m n e = (
+  Con 0 0 (shared m),
+  (
+    omega (arith, usable.some_register),
+    All-from_recursion (IsOperandBelow ver.registers) (shared m) (all_shared ver usable m),
+  ),
+  omega arith,
+  refl,
+  omega (arith, e, length-map (shared m) operand_word, length_shared m),
+)
 
 thunk_some : (ver : Version) (usable : IsUsable ver) (m n : ℕ) → n ≡ 2 + m → n ≤ 10 → HasArity ver (codes "thunk") n
-thunk_some ver usable m n e most = (Thunk 0 (shared m), (omega (arith, usable.some_register), All-from_recursion (IsOperandBelow ver.registers) (shared m) (all_shared ver usable m)), omega (arith, e, most, length_shared m), refl, omega (arith, e, length-map (shared m) operand_word, length_shared m))
+thunk_some ver usable m n e most = (
+  Thunk 0 (shared m),
+  (
+    omega (arith, usable.some_register),
+    All-from_recursion (IsOperandBelow ver.registers) (shared m) (all_shared ver usable m),
+  ),
+  omega (arith, e, most, length_shared m),
+  refl,
+  omega (arith, e, length-map (shared m) operand_word, length_shared m),
+)
 
 -- some command of the verb's name has a number of words that the verb is read with
 pub count_some : (ver : Version) (usable : IsUsable ver) (v : Verb) (n : ℕ) → HasCount v n → HasArity ver (verb_name v) n

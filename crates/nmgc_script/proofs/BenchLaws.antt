@@ -57,13 +57,23 @@ batch_fits mutator h = batch_has (Fits 4096) mutator nil_fits cell_fits (set_fit
 
 -- its registers are below 16
 cell_names : HasRegistersBelow 16 cell
-cell_names = (lit< tt, All-cons (IsOperandBelow 16) (Register 0) (Register 1 ∷ []) (lit< tt) (All-cons (IsOperandBelow 16) (Register 1) [] (lit< tt) (All-nil (IsOperandBelow 16))))
+cell_names = (
+  lit< tt,
+  All-cons (IsOperandBelow 16) (Register 0) (Register 1 ∷
+      []) (lit< tt) (All-cons (IsOperandBelow 16) (Register 1) [] (lit< tt) (All-nil (IsOperandBelow 16))),
+)
 
 program_names : (batches mutator : ℕ) → All (HasRegistersBelow 16) (bench_program batches mutator)
-program_names batches mutator = All-repeated (HasRegistersBelow 16) batches (batch mutator) (batch_has (HasRegistersBelow 16) mutator (lit< tt) cell_names (tt, lit< tt))
+program_names batches mutator =
+    All-repeated (HasRegistersBelow 16) batches (batch mutator) (batch_has (HasRegistersBelow 16) mutator (lit< tt) cell_names (tt, lit< tt))
 
 length-batch : (mutator : ℕ) → length (batch mutator) ≡ 1026
-length-batch mutator = omega (arith, length-append (replicate list_cells cell) (Set Shared mutator (Register 0) ∷ []), length-replicate list_cells cell, cells_are)
+length-batch mutator = omega (
+  arith,
+  length-append (replicate list_cells cell) (Set Shared mutator (Register 0) ∷ []),
+  length-replicate list_cells cell,
+  cells_are,
+)
 
 program_fits : (batches mutator : ℕ) → mutator < 65536 → All (Fits 4096) (bench_program batches mutator)
 program_fits batches mutator h = All-repeated (Fits 4096) batches (batch mutator) (batch_fits mutator h)
@@ -87,7 +97,8 @@ config_fits = record {
 }
 
 -- what holds of the program of each mutator holds of all
-each_program : (P : List Command → Type 0) (batches : ℕ) → ((mutator : ℕ) → mutator < 4 → P (bench_program batches mutator)) → All P (bench_script batches).threads
+each_program : (P : List Command → Type 0) (batches : ℕ) → ((mutator : ℕ) → mutator < 4 → P (bench_program batches mutator)) →
+    All P (bench_script batches).threads
 each_program P batches h =
     let program : ℕ → List Command = bench_program batches in
     All-cons P (program 0) (program 1 ∷ program 2 ∷ program 3 ∷ []) (h 0 (lit< tt))
@@ -112,7 +123,8 @@ pub bench_is_short : (batches : ℕ) → batches ≤ most_batches → HasFewComm
 bench_is_short batches h = each_program (λ program. length program ≤ most_script_bytes) batches (λ mutator _. program_is_short batches mutator h)
 
 -- a batch was appended, command after command
-pub with_batch : (before begun made after : List Command) (mutator cells : ℕ) → list_cells ≡ cells → begun ≡ before ++ Nil 0 ∷ [] → made ≡ begun ++ replicate cells cell → after ≡ made ++ Set Shared mutator (Register 0) ∷ [] → after ≡ before ++ batch mutator
+pub with_batch : (before begun made after : List Command) (mutator cells : ℕ) → list_cells ≡ cells → begun ≡ before ++ Nil 0 ∷ [] →
+    made ≡ begun ++ replicate cells cell → after ≡ made ++ Set Shared mutator (Register 0) ∷ [] → after ≡ before ++ batch mutator
 with_batch before begun made after mutator cells count first more last =
     let all : List Command = replicate list_cells cell in
     let end : List Command = Set Shared mutator (Register 0) ∷ [] in

@@ -64,7 +64,8 @@ sizes_takes x y z n e =
     let aw = (between_reads 1 most_segments (omega arith)).takes x a.0 a.1 in
     let bw = segment_size_reads.takes y b.0 b.1 in
     let cw = (between_reads b.0 most_nursery_words (omega arith)).takes z c.0 c.1 in
-    subst (λ (m : ℕ × ℕ × ℕ). ((x ≡ decimal m.0) × (y ≡ decimal m.1) × (z ≡ decimal m.2)) × FitSizes m) (ok_is {E = Cause} (a.0, b.0, c.0) n c.2) ((aw.0, bw.0, cw.0), record { segments = aw.1; words = bw.1; nursery = cw.1 })
+    subst (λ (m : ℕ × ℕ × ℕ). ((x ≡ decimal m.0) × (y ≡ decimal m.1) × (z ≡ decimal m.2)) ×
+    FitSizes m) (ok_is {E = Cause} (a.0, b.0, c.0) n c.2) ((aw.0, bw.0, cw.0), record { segments = aw.1; words = bw.1; nursery = cw.1 })
 
 -- the limits of three numbers of pace
 record FitPace (n : ℕ × ℕ × ℕ) : Type 0 where
@@ -81,7 +82,8 @@ pace_takes x y z n e =
     let aw = (between_reads 1 most_slice (omega arith)).takes x a.0 a.1 in
     let bw = (between_reads 1 most_quota (omega arith)).takes y b.0 b.1 in
     let cw = (number_reads most_trigger (omega arith)).takes z c.0 c.1 in
-    subst (λ (m : ℕ × ℕ × ℕ). ((x ≡ decimal m.0) × (y ≡ decimal m.1) × (z ≡ decimal m.2)) × FitPace m) (ok_is {E = Cause} (a.0, b.0, c.0) n c.2) ((aw.0, bw.0, cw.0), record { slice = aw.1; quota = bw.1; trigger = cw.1 })
+    subst (λ (m : ℕ × ℕ × ℕ). ((x ≡ decimal m.0) × (y ≡ decimal m.1) × (z ≡ decimal m.2)) ×
+    FitPace m) (ok_is {E = Cause} (a.0, b.0, c.0) n c.2) ((aw.0, bw.0, cw.0), record { slice = aw.1; quota = bw.1; trigger = cw.1 })
 
 abbrev pub Settings : List (List ℕ) → Config → Type 0
 Settings words c = (codes "heap" ∷ words ≡ heap_words c) × FitsConfig c

@@ -17,11 +17,13 @@ pub words_cut : CutsAt 32 words_of
 words_cut = record { more = λ b bytes. refl }
 
 -- the first part ends at the first separator
-pub cut_on : (s : ℕ) (f : List ℕ → List (List ℕ)) (cuts : CutsAt s f) (front back : List ℕ) → AllByRecursion (λ b. b ≢ s) front → f (front ++ s ∷ back) ≡ front ∷ f back
+pub cut_on : (s : ℕ) (f : List ℕ → List (List ℕ)) (cuts : CutsAt s f) (front back : List ℕ) → AllByRecursion (λ b. b ≢ s) front →
+    f (front ++ s ∷ back) ≡ front ∷ f back
 cut_on s f cuts [] back none = rw (cuts.more s back, eq-eqb s s refl) refl
 cut_on s f cuts (b ∷ front) back none = rw (cuts.more b (front ++ s ∷ back), ne_eqb b s none.0, cut_on s f cuts front back none.1) refl
 
-pub cut_first : (s : ℕ) (f : List ℕ → List (List ℕ)) (cuts : CutsAt s f) (bytes front back : List ℕ) → All (λ b. b ≢ s) front → bytes ≡ front ++ s ∷ back → f bytes ≡ front ∷ f back
+pub cut_first : (s : ℕ) (f : List ℕ → List (List ℕ)) (cuts : CutsAt s f) (bytes front back : List ℕ) → All (λ b. b ≢ s) front →
+    bytes ≡ front ++ s ∷ back → f bytes ≡ front ∷ f back
 cut_first s f cuts bytes front back none e = ap f e ∙ cut_on s f cuts front back (recursion_from_All (λ b. b ≢ s) front none)
 
 last_on : (b : ℕ) (bytes : List ℕ) → AllByRecursion (λ b. b ≢ 10) (b ∷ bytes) → lines_of (b ∷ bytes) ≡ (b ∷ bytes) ∷ []

@@ -10,12 +10,14 @@ use Rattle.nmgc_script.specs.declared.fault.LineFault.TheVariants as fault
 abbrev pub with_front : {B E : Type 0} → List B → Result (List B) E → Result (List B) E
 with_front front read = read >>= λ ys. Ok (front ++ ys)
 
-pub regroup : {B E : Type 0} (front : List B) (y : B) (read : Result (List B) E) → with_front front (read >>= λ ys. Ok (y ∷ ys)) ≡ with_front (front ++ y ∷ []) read
+pub regroup : {B E : Type 0} (front : List B) (y : B) (read : Result (List B) E) →
+    with_front front (read >>= λ ys. Ok (y ∷ ys)) ≡ with_front (front ++ y ∷ []) read
 regroup front y (Ok ys) = ap Ok (sym (append_assoc front (y ∷ []) ys))
 regroup front y (Err e) = refl
 
 module _ {V A B E : Type 0} (view : V → A) (f : A → Result B E) (xs : List V) (i : ℕ) (front : List B) (total : Result (List B) E) where
-  pub goes_on : (d : V) (y : B) → i < length xs → f (view (get_or xs i d)) ≡ Ok y → with_front front (each_at f (map view (drop i xs))) ≡ total → with_front (front ++ y ∷ []) (each_at f (map view (drop (i + 1) xs))) ≡ total
+  pub goes_on : (d : V) (y : B) → i < length xs → f (view (get_or xs i d)) ≡ Ok y → with_front front (each_at f (map view (drop i xs))) ≡ total →
+      with_front (front ++ y ∷ []) (each_at f (map view (drop (i + 1) xs))) ≡ total
   unfolding each_at
   goes_on d y lt h so_far =
       let split : drop i xs ≡ get_or xs i d ∷ drop (i + 1) xs = rw add-one (drop-cons xs i d lt) in
@@ -32,7 +34,9 @@ module _ {V A B E : Type 0} (view : V → A) (f : A → Result B E) (xs : List V
   is_done le so_far = sym (rw (drop_all i xs le, append-nil) at so_far)
 
 -- the same at a fault of a line, which may be want of memory
-pub fails : {V A B : Type 0} (view : V → A) (f : A → Result B Cause) (xs : List V) (i : ℕ) (front : List B) (total : Result (List B) Cause) (d : V) (e : LineFault) → i < length xs → Fails e (f (view (get_or xs i d))) → with_front front (each_at f (map view (drop i xs))) ≡ total → Fails e total
+pub fails : {V A B : Type 0} (view : V → A) (f : A →
+    Result B Cause) (xs : List V) (i : ℕ) (front : List B) (total : Result (List B) Cause) (d : V) (e : LineFault) → i < length xs →
+    Fails e (f (view (get_or xs i d))) → with_front front (each_at f (map view (drop i xs))) ≡ total → Fails e total
 fails view f xs i front total d fault.NoMemory lt h so_far = tt
 fails view f xs i front total d (fault.Bad c) lt h so_far = ends view f xs i front total d c lt h so_far
 

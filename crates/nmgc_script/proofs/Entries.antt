@@ -34,20 +34,26 @@ pub starts : (v : Version) (h : Config) (lines : List (ℕ × List ℕ)) → wit
 unfolding programs_at
 starts v h lines = refl
 
-regroup_section : (threads : List (List Command)) (program : List Command) (read : Result (List Command × List (List Command)) (ℕ × Cause)) → with_before threads program (read >>= λ others. Ok (with_entry entry.Section others)) ≡ with_before (threads ++ program ∷ []) [] read
+regroup_section : (threads : List (List Command)) (program : List Command) (read : Result (List Command × List (List Command)) (ℕ × Cause)) →
+    with_before threads program (read >>= λ others. Ok (with_entry entry.Section others)) ≡ with_before (threads ++ program ∷ []) [] read
 regroup_section threads program (Ok p) = ap Ok (rw (append-nil program, append_assoc) refl)
 regroup_section threads program (Err e) = refl
 
-regroup_order : (c : Command) (threads : List (List Command)) (program : List Command) (read : Result (List Command × List (List Command)) (ℕ × Cause)) → with_before threads program (read >>= λ others. Ok (with_entry (entry.Order c) others)) ≡ with_before threads (program ++ c ∷ []) read
+regroup_order : (c : Command) (threads : List (List Command)) (program : List Command) (read : Result (List Command × List (List Command)) (ℕ ×
+    Cause)) → with_before threads program (read >>= λ others. Ok (with_entry (entry.Order c) others)) ≡ with_before threads (program ++ c ∷ []) read
 regroup_order c threads program (Ok p) = ap Ok (rw append_assoc refl)
 regroup_order c threads program (Err e) = refl
 
-module _ (v : Version) (h : Config) (n : ℕ) (threads : List (List Command)) (program : List Command) (before : List (ℕ × List ℕ)) (line : ℕ × List ℕ) (lines : List (ℕ × List ℕ)) (total : Result (List (List Command)) (ℕ × Cause)) (split : before ≡ line ∷ lines) (so_far : with_before threads program (rest_at v h n before) ≡ total) where
-  pub begins : at_line line.0 (entry_at v h n (words_of line.1)) ≡ Ok entry.Section → with_before (threads ++ program ∷ []) [] (rest_at v h (n + 1) lines) ≡ total
+module _ (v : Version) (h : Config) (n : ℕ) (threads : List (List Command)) (program : List Command) (before : List (ℕ × List ℕ)) (line : ℕ ×
+    List ℕ) (lines : List (ℕ × List ℕ)) (total : Result (List (List Command)) (ℕ × Cause)) (split : before ≡ line ∷
+    lines) (so_far : with_before threads program (rest_at v h n before) ≡ total) where
+  pub begins : at_line line.0 (entry_at v h n (words_of line.1)) ≡ Ok entry.Section →
+      with_before (threads ++ program ∷ []) [] (rest_at v h (n + 1) lines) ≡ total
   unfolding rest_at
   begins e = sym (regroup_section threads program (rest_at v h (n + 1) lines)) ∙ (rw (split, e) at so_far)
 
-  pub goes_on : (c : Command) → at_line line.0 (entry_at v h n (words_of line.1)) ≡ Ok (entry.Order c) → with_before threads (program ++ c ∷ []) (rest_at v h n lines) ≡ total
+  pub goes_on : (c : Command) → at_line line.0 (entry_at v h n (words_of line.1)) ≡ Ok (entry.Order c) →
+      with_before threads (program ++ c ∷ []) (rest_at v h n lines) ≡ total
   unfolding rest_at
   goes_on c e = sym (regroup_order c threads program (rest_at v h n lines)) ∙ (rw (split, e) at so_far)
 
@@ -56,18 +62,23 @@ module _ (v : Version) (h : Config) (n : ℕ) (threads : List (List Command)) (p
   fails script_fault.NoMemory f = tt
   fails (script_fault.Bad l c) f = sym (rw (split, f) at so_far)
 
-pub is_done : (v : Version) (h : Config) (n : ℕ) (threads : List (List Command)) (program : List Command) (before : List (ℕ × List ℕ)) (total : Result (List (List Command)) (ℕ × Cause)) → before ≡ [] → with_before threads program (rest_at v h n before) ≡ total → total ≡ Ok (threads ++ program ∷ [])
+pub is_done : (v : Version) (h : Config) (n : ℕ) (threads : List (List Command)) (program : List Command) (before : List (ℕ ×
+    List ℕ)) (total : Result (List (List Command)) (ℕ × Cause)) → before ≡ [] → with_before threads program (rest_at v h n before) ≡ total →
+    total ≡ Ok (threads ++ program ∷ [])
 unfolding rest_at
 is_done v h n threads program before total none so_far = sym (rw (none, append-nil) at so_far)
 
 -- what is read of a line's words, with the line's number
-pub line_read : {X : Type 0} (reads : List (List ℕ) → Result X Cause) (number : ℕ) (line : List ℕ) (words : List (List ℕ)) (given : Result X LineFault) (out : Result X ScriptFault) → words ≡ words_of line → Gives given (reads words) → out ≡ placed number given → GivesAt (λ x. x) out (at_line number (reads (words_of line)))
+pub line_read : {X : Type 0} (reads : List (List ℕ) →
+    Result X Cause) (number : ℕ) (line : List ℕ) (words : List (List ℕ)) (given : Result X LineFault) (out : Result X ScriptFault) →
+    words ≡ words_of line → Gives given (reads words) → out ≡ placed number given → GivesAt (λ x. x) out (at_line number (reads (words_of line)))
 line_read reads number line words given out same gives is = rw (is, ← same) (gives_at number given (reads words) gives)
 
 pub ok_read : {X : Type 0} (out : Result X ScriptFault) (read : Result X (ℕ × Cause)) (x : X) → out ≡ Ok x → GivesAt (λ x. x) out read → read ≡ Ok x
 ok_read out read x is h = rw is at h
 
-pub err_read : {X : Type 0} (out : Result X ScriptFault) (read : Result X (ℕ × Cause)) (e : ScriptFault) → out ≡ Err e → GivesAt (λ x. x) out read → FailsAt e read
+pub err_read : {X : Type 0} (out : Result X ScriptFault) (read : Result X (ℕ × Cause)) (e : ScriptFault) → out ≡ Err e → GivesAt (λ x. x) out read →
+    FailsAt e read
 err_read out read e is h = rw is at h
 
 -- what a line gave, where it is no fault
@@ -77,11 +88,13 @@ placed_ok n (Err fault.NoMemory) x e = absurd cc
 placed_ok n (Err (fault.Bad c)) x e = absurd cc
 
 -- a section began within the number of threads
-pub within : (n number limit : ℕ) (given : Result Entry LineFault) (out : Result Entry ScriptFault) → out ≡ placed number given → out ≡ Ok entry.Section → IfOk given (λ e. e ≡ entry.Section → n < limit) → n < limit
+pub within : (n number limit : ℕ) (given : Result Entry LineFault) (out : Result Entry ScriptFault) → out ≡ placed number given →
+    out ≡ Ok entry.Section → IfOk given (λ e. e ≡ entry.Section → n < limit) → n < limit
 within n number limit given out is ok h = (rw (placed_ok number given entry.Section (sym is ∙ ok)) at h) refl
 
 -- no section line is there
-pub no_section : (end number : ℕ) (v : Version) (h : Config) (before : List (ℕ × List ℕ)) → before ≡ [] → number ≡ end → threads_at v end h before ≡ Err (number, cause.Thread)
+pub no_section : (end number : ℕ) (v : Version) (h : Config) (before : List (ℕ × List ℕ)) → before ≡ [] → number ≡ end →
+    threads_at v end h before ≡ Err (number, cause.Thread)
 unfolding threads_at
 no_section end number v h before none is = rw (none, is) refl
 
@@ -90,6 +103,7 @@ module _ (end : ℕ) (v : Version) (h : Config) (before : List (ℕ × List ℕ)
   unfolding threads_at
   first_fails e f = rw split (fails_at_bind (at_line line.0 (section_at v h 0 (words_of line.1))) _ e f)
 
-  pub first_begins : (x : Entry) (out : Result (List (List Command)) ScriptFault) → at_line line.0 (section_at v h 0 (words_of line.1)) ≡ Ok x → GivesAt (λ t. t) out (programs_at v h lines) → GivesAt (λ t. t) out (threads_at v end h before)
+  pub first_begins : (x : Entry) (out : Result (List (List Command)) ScriptFault) → at_line line.0 (section_at v h 0 (words_of line.1)) ≡ Ok x →
+      GivesAt (λ t. t) out (programs_at v h lines) → GivesAt (λ t. t) out (threads_at v end h before)
   unfolding threads_at
   first_begins x out e g = rw (split, e) g

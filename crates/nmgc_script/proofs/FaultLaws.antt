@@ -58,24 +58,37 @@ unfolding thread_at
 thread_fails ver usable [] = refl
 thread_fails ver usable (name ∷ []) = refl
 thread_fails ver usable (name ∷ number ∷ other ∷ others) = refl
-thread_fails ver usable (name ∷ number ∷ []) = fails_choose cause.Thread (bytes_eq name (codes "thread")) (or_cause cause.Thread _) (Err cause.Thread) (or_cause_fails cause.Thread _) refl
+thread_fails ver usable (name ∷ number ∷ []) =
+    fails_choose cause.Thread (bytes_eq name (codes "thread")) (or_cause cause.Thread _) (Err cause.Thread) (or_cause_fails cause.Thread _) refl
 
 heap_fails : (words : List (List ℕ)) → FailsBy cause.Heap (heap_words_at words)
 unfolding heap_words_at
 heap_fails [] = refl
-heap_fails (name ∷ words) = fails_choose cause.Heap (bytes_eq name (codes "heap")) (or_cause cause.Heap (numbers_at words)) (Err cause.Heap) (or_cause_fails cause.Heap (numbers_at words)) refl
+heap_fails (name ∷ words) =
+    fails_choose cause.Heap (bytes_eq name (codes "heap")) (or_cause cause.Heap (numbers_at words)) (Err cause.Heap)
+    (or_cause_fails cause.Heap (numbers_at words)) refl
 
 -- THE LINE OF A COMMAND
 
 -- words are read as the verb and the words after its name
-read_as : (ver : Version) (usable : IsUsable ver) (size : ℕ) (name : List ℕ) (words : List (List ℕ)) (v : Verb) → verb_at name ≡ Ok v → command_at ver size (name ∷ words) ≡ (operands_at ver v words >>= λ c. sized size c)
+read_as : (ver : Version) (usable : IsUsable ver) (size : ℕ) (name : List ℕ) (words : List (List ℕ)) (v : Verb) → verb_at name ≡ Ok v →
+    command_at ver size (name ∷ words) ≡ (operands_at ver v words >>= λ c. sized size c)
 unfolding command_at
 read_as ver usable size name words v is = rw is refl
 
 -- words that spell a command within the limits of registers and numbers are read as it, before its size is looked at
-read_operands : (ver : Version) (usable : IsUsable ver) (name : List ℕ) (words : List (List ℕ)) (v : Verb) (c : Command) → verb_at name ≡ Ok v → HasRegistersBelow ver.registers c → HasNumbers c → name ∷ words ≡ command_words c → operands_at ver v words ≡ Ok c
+read_operands : (ver : Version) (usable : IsUsable ver) (name : List ℕ) (words : List (List ℕ)) (v : Verb) (c : Command) → verb_at name ≡ Ok v →
+    HasRegistersBelow ver.registers c → HasNumbers c → name ∷ words ≡ command_words c → operands_at ver v words ≡ Ok c
 read_operands ver usable name words v c is registers numbers same =
-    let whole : command_at ver (words_made c) (name ∷ words) ≡ Ok c = ap (command_at ver (words_made c)) same ∙ command_again ver usable (words_made c) c (record { registers = registers_wider ver.registers usable.registers c registers; numbers = numbers; size = omega arith }, registers) in
+    let whole : command_at ver (words_made c) (name ∷ words) ≡ Ok c = ap (command_at ver (words_made c)) same ∙
+    command_again ver usable (words_made c) c (
+      record {
+        registers = registers_wider ver.registers usable.registers c registers;
+        numbers = numbers;
+        size = omega arith;
+      },
+      registers,
+    ) in
     let b = bind_ok (operands_at ver v words) (λ k. sized (words_made c) k) c (sym (read_as ver usable (words_made c) name words v is) ∙ whole) in
     let s = sized_takes (words_made c) b.0 c b.2 in
     b.1 ∙ ap Ok s.0
@@ -102,8 +115,16 @@ module _ (ver : Version) (usable : IsUsable ver) (h : Config) (n : ℕ) where
       before cause.Operand lt f = absurd (omega arith)
       before cause.Size lt f = absurd (omega arith)
 
-  arity_fault : (name : List ℕ) (words : List (List ℕ)) (v : Verb) → (HasToBegin n (name ∷ words) → ⊥) → name ≡ verb_name v → (HasCount v (length (name ∷ words)) → ⊥) → IsFirstFault ver h n (name ∷ words) cause.Arity
-  arity_fault name words v apart is wrong = record { here = (apart, (v, is), λ some. wrong (subst (λ (k : ℕ). HasCount v k) some.4 (count_of ver usable v some.0 some.1 some.2 (some.3 ∙ is)))); none_before = before }
+  arity_fault : (name : List ℕ) (words : List (List ℕ)) (v : Verb) → (HasToBegin n (name ∷ words) → ⊥) → name ≡ verb_name v →
+      (HasCount v (length (name ∷ words)) → ⊥) → IsFirstFault ver h n (name ∷ words) cause.Arity
+  arity_fault name words v apart is wrong = record {
+    here = (
+      apart,
+      (v, is),
+      λ some. wrong (subst (λ (k : ℕ). HasCount v k) some.4 (count_of ver usable v some.0 some.1 some.2 (some.3 ∙ is))),
+    );
+    none_before = before;
+  }
     where
       before : (e : Cause) → order_of e < 5 → HasFault ver h n (name ∷ words) e → ⊥
       before cause.Version lt f = f
@@ -116,11 +137,21 @@ module _ (ver : Version) (usable : IsUsable ver) (h : Config) (n : ℕ) where
       before cause.Size lt f = absurd (omega arith)
 
   -- the number of words is that of a command with the name
-  right_arity : (name : List ℕ) (words : List (List ℕ)) (v : Verb) → verb_at name ≡ Ok v → HasCount v (length (name ∷ words)) → HasArity ver name (length (name ∷ words))
-  right_arity name words v is right = subst (λ (k : List ℕ). HasArity ver k (length (name ∷ words))) (sym (verb_takes name v is)) (count_some ver usable v (length (name ∷ words)) right)
+  right_arity : (name : List ℕ) (words : List (List ℕ)) (v : Verb) → verb_at name ≡ Ok v → HasCount v (length (name ∷ words)) →
+      HasArity ver name (length (name ∷ words))
+  right_arity name words v is right = subst (λ (k : List ℕ). HasArity ver k (length (name ∷
+      words))) (sym (verb_takes name v is)) (count_some ver usable v (length (name ∷ words)) right)
 
-  operand_fault : (name : List ℕ) (words : List (List ℕ)) (v : Verb) → (HasToBegin n (name ∷ words) → ⊥) → verb_at name ≡ Ok v → HasCount v (length (name ∷ words)) → operands_at ver v words ≡ Err cause.Operand → IsFirstFault ver h n (name ∷ words) cause.Operand
-  operand_fault name words v apart is right bad = record { here = (apart, λ c registers numbers same. two_results (operands_at ver v words) c cause.Operand (read_operands ver usable name words v c is registers numbers same) bad); none_before = before }
+  operand_fault : (name : List ℕ) (words : List (List ℕ)) (v : Verb) → (HasToBegin n (name ∷ words) → ⊥) → verb_at name ≡ Ok v →
+      HasCount v (length (name ∷ words)) → operands_at ver v words ≡ Err cause.Operand → IsFirstFault ver h n (name ∷ words) cause.Operand
+  operand_fault name words v apart is right bad = record {
+    here = (
+      apart,
+      λ c registers numbers same.
+          two_results (operands_at ver v words) c cause.Operand (read_operands ver usable name words v c is registers numbers same) bad,
+    );
+    none_before = before;
+  }
     where
       before : (e : Cause) → order_of e < 6 → HasFault ver h n (name ∷ words) e → ⊥
       before cause.Version lt f = f
@@ -132,7 +163,9 @@ module _ (ver : Version) (usable : IsUsable ver) (h : Config) (n : ℕ) where
       before cause.Operand lt f = absurd (omega arith)
       before cause.Size lt f = absurd (omega arith)
 
-  size_fault : (name : List ℕ) (words : List (List ℕ)) (v : Verb) (c : Command) → (HasToBegin n (name ∷ words) → ⊥) → verb_at name ≡ Ok v → HasCount v (length (name ∷ words)) → HasRegistersBelow ver.registers c → HasNumbers c → name ∷ words ≡ command_words c → h.words < words_made c → IsFirstFault ver h n (name ∷ words) cause.Size
+  size_fault : (name : List ℕ) (words : List (List ℕ)) (v : Verb) (c : Command) → (HasToBegin n (name ∷ words) → ⊥) → verb_at name ≡ Ok v →
+      HasCount v (length (name ∷ words)) → HasRegistersBelow ver.registers c → HasNumbers c → name ∷ words ≡ command_words c →
+      h.words < words_made c → IsFirstFault ver h n (name ∷ words) cause.Size
   size_fault name words v c apart is right registers numbers same large = record { here = (apart, (c, registers, numbers, same, large)); none_before = before }
     where
       before : (e : Cause) → order_of e < 7 → HasFault ver h n (name ∷ words) e → ⊥
@@ -145,36 +178,45 @@ module _ (ver : Version) (usable : IsUsable ver) (h : Config) (n : ℕ) where
       before cause.Operand lt f = f.1 c registers numbers same
       before cause.Size lt f = absurd (omega arith)
 
-  arity_or_operand : (name : List ℕ) (words : List (List ℕ)) (v : Verb) (e : Cause) (r : Result Command Cause) → r ≡ operands_at ver v words → (HasToBegin n (name ∷ words) → ⊥) → verb_at name ≡ Ok v → TellsArity r (HasCount v (length (name ∷ words))) → r ≡ Err e → IsFirstFault ver h n (name ∷ words) e
+  arity_or_operand : (name : List ℕ) (words : List (List ℕ)) (v : Verb) (e : Cause) (r : Result Command Cause) → r ≡ operands_at ver v words →
+      (HasToBegin n (name ∷ words) → ⊥) → verb_at name ≡ Ok v → TellsArity r (HasCount v (length (name ∷ words))) → r ≡ Err e →
+      IsFirstFault ver h n (name ∷ words) e
   arity_or_operand name words v e (Ok c) same apart is tells bad = absurd cc
   arity_or_operand name words v e (Err d) same apart is tells bad = elim tells [
     | inl p ↦ subst (IsFirstFault ver h n (name ∷ words)) (sym p.0 ∙ err_is {A = Command} d e bad) (arity_fault name words v apart (verb_takes name v is) p.1)
-    | inr p ↦ subst (IsFirstFault ver h n (name ∷ words)) (sym p.0 ∙ err_is {A = Command} d e bad) (operand_fault name words v apart is p.1 (sym same ∙ ap Err p.0))
+    | inr p ↦ subst (IsFirstFault ver h n (name ∷ words)) (sym p.0 ∙
+        err_is {A = Command} d e bad) (operand_fault name words v apart is p.1 (sym same ∙ ap Err p.0))
   ]
 
   pub command_told : (words : List (List ℕ)) (e : Cause) → (HasToBegin n words → ⊥) → command_at ver h.words words ≡ Err e → IsFirstFault ver h n words e
   unfolding command_at
   command_told [] e apart bad =
-      subst (IsFirstFault ver h n []) (err_is {A = Command} cause.Command e bad) (command_fault [] apart (λ v is. two_results (verb_at []) v cause.Command (ap verb_at is ∙ verb_again v) verb_of_nothing))
+      subst (IsFirstFault ver h n []) (err_is {A = Command} cause.Command e bad) (command_fault [] apart (λ v is.
+      two_results (verb_at []) v cause.Command (ap verb_at is ∙ verb_again v) verb_of_nothing))
   command_told (name ∷ words) e apart bad =
       elim (result_cases (verb_at name)) [
         | inr p ↦
             let is_command : p.0 ≡ cause.Command = fails_is cause.Command p.0 (verb_at name) (verb_fails name) p.1 in
             let stops : command_at ver h.words (name ∷ words) ≡ Err p.0 = stops_at (verb_at name) _ p.0 p.1 in
             let same : p.0 ≡ e = err_is {A = Command} p.0 e (sym stops ∙ bad) in
-            subst (IsFirstFault ver h n (name ∷ words)) (sym is_command ∙ same) (command_fault (name ∷ words) apart (λ v is. two_results (verb_at name) v p.0 (ap verb_at is ∙ verb_again v) p.1))
+            subst (IsFirstFault ver h n (name ∷ words)) (sym is_command ∙
+            same) (command_fault (name ∷ words) apart (λ v is. two_results (verb_at name) v p.0 (ap verb_at is ∙ verb_again v) p.1))
         | inl v ↦
-            let goes : command_at ver h.words (name ∷ words) ≡ (operands_at ver v.0 words >>= λ c. sized h.words c) = read_as ver usable h.words name words v.0 v.1 in
+            let goes : command_at ver h.words (name ∷ words) ≡ (operands_at ver v.0 words >>= λ c. sized h.words c) =
+            read_as ver usable h.words name words v.0 v.1 in
             let tells = operands_tell ver usable v.0 name words in
             elim (result_cases (operands_at ver v.0 words)) [
               | inr p ↦
-                  let same : p.0 ≡ e = err_is {A = Command} p.0 e (sym (stops_at (operands_at ver v.0 words) (λ c. sized h.words c) p.0 p.1) ∙ sym goes ∙ bad) in
+                  let same : p.0 ≡ e = err_is {A = Command} p.0 e (sym (stops_at (operands_at ver v.0 words) (λ c. sized h.words c) p.0 p.1) ∙
+                  sym goes ∙ bad) in
                   subst (IsFirstFault ver h n (name ∷ words)) same (arity_or_operand name words v.0 p.0 (operands_at ver v.0 words) refl apart v.1 tells p.1)
               | inl c ↦
                   let size = sized_fails h.words c.0 e (sym (goes_to (operands_at ver v.0 words) (λ k. sized h.words k) c.0 c.1) ∙ sym goes ∙ bad) in
                   let spelled = operands_spell ver usable v.0 words c.0 c.1 in
                   let same : name ∷ words ≡ command_words c.0 = ap (λ (w : List ℕ). w ∷ words) (verb_takes name v.0 v.1) ∙ spelled.0 in
-                  subst (IsFirstFault ver h n (name ∷ words)) (sym size.0) (size_fault name words v.0 c.0 apart v.1 (right_of (HasCount v.0 (length (name ∷ words))) c.0 (operands_at ver v.0 words) c.1 tells) spelled.1 spelled.2 same size.1)
+                  subst (IsFirstFault ver h n (name ∷
+                  words)) (sym size.0) (size_fault name words v.0 c.0 apart v.1 (right_of (HasCount v.0 (length (name ∷
+                  words))) c.0 (operands_at ver v.0 words) c.1 tells) spelled.1 spelled.2 same size.1)
             ]
       ]
 
@@ -234,7 +276,8 @@ module _ (ver : Version) (usable : IsUsable ver) (h : Config) (n : ℕ) where
       before cause.Operand lt f = absurd (omega arith)
       before cause.Size lt f = absurd (omega arith)
 
-  total_fault : (words : List (List ℕ)) → HasToBegin n words → n < ver.threads → words ≡ section_words n → most_heap_words < total_words h (n + 1) → IsFirstFault ver h n words cause.Total
+  total_fault : (words : List (List ℕ)) → HasToBegin n words → n < ver.threads → words ≡ section_words n → most_heap_words < total_words h (n + 1) →
+      IsFirstFault ver h n words cause.Total
   total_fault words begins few same large = record { here = (begins, large); none_before = before }
     where
       before : (e : Cause) → order_of e < 3 → HasFault ver h n words e → ⊥
@@ -265,7 +308,9 @@ module _ (ver : Version) (usable : IsUsable ver) (h : Config) (n : ℕ) where
             let is_thread : p.0 ≡ cause.Thread = fails_is cause.Thread p.0 (thread_at ver words) (thread_fails ver usable words) p.1 in
             let stops : section_at ver h n words ≡ Err p.0 = stops_at (thread_at ver words) _ p.0 p.1 in
             let same : p.0 ≡ e = err_is {A = Entry} p.0 e (sym stops ∙ bad) in
-            subst (IsFirstFault ver h n words) (sym is_thread ∙ same) (thread_fault words begins (λ few is. two_results (thread_at ver words) n p.0 (ap (thread_at ver) is ∙ (thread_reads ver usable).again n few) p.1))
+            subst (IsFirstFault ver h n words) (sym is_thread ∙
+            same) (thread_fault words begins (λ few is. two_results (thread_at ver words) n p.0 (ap (thread_at ver) is ∙
+            (thread_reads ver usable).again n few) p.1))
         | inl t ↦
             let rest : Result Entry Cause = cond (leb (total_words h (n + 1)) most_heap_words) (Ok entry.Section) (Err cause.Total) in
             let goes : section_at ver h n words ≡ cond (eqb t.0 n) rest (Err cause.Thread) = goes_to (thread_at ver words) _ t.0 t.1 in
@@ -279,7 +324,9 @@ module _ (ver : Version) (usable : IsUsable ver) (h : Config) (n : ℕ) where
                   let takes = (thread_reads ver usable).takes words t.0 t.1 in
                   elim (chosen (leb (total_words h (n + 1)) most_heap_words) (Ok entry.Section) (Err cause.Total) (Err e) p.1) [
                     | inl q ↦ absurd (let never : Ok entry.Section ≡ Err e = q.1 in cc)
-                    | inr q ↦ subst (IsFirstFault ver h n words) (err_is {A = Entry} cause.Total e q.1) (total_fault words begins (subst (λ (k : ℕ). k < ver.threads) same takes.1) (subst (λ (k : ℕ). words ≡ section_words k) same takes.0) (leb-false (total_words h (n + 1)) most_heap_words q.0))
+                    | inr q ↦ subst (IsFirstFault ver h n words) (err_is {A =
+                        Entry} cause.Total e q.1) (total_fault words begins (subst (λ (k : ℕ). k < ver.threads) same takes.1) (subst (λ (k : ℕ).
+                        words ≡ section_words k) same takes.0) (leb-false (total_words h (n + 1)) most_heap_words q.0))
                   ]
             ]
       ]
@@ -307,7 +354,8 @@ module _ (ver : Version) (usable : IsUsable ver) (h : Config) (n : ℕ) where
   begun_is [] b e = rw (← e) refl
   begun_is (name ∷ words) b e = rw e refl
 
-  pub entry_good : (words : List (List ℕ)) (x : Entry) → n ≢ 0 → entry_at ver h n words ≡ Ok x → IsFaultless ver h n words × (begun_with n words ≡ begun_after x n)
+  pub entry_good : (words : List (List ℕ)) (x : Entry) → n ≢ 0 → entry_at ver h n words ≡ Ok x → IsFaultless ver h n words ×
+      (begun_with n words ≡ begun_after x n)
   unfolding entry_at
   entry_good words x some good =
       elim (chosen (is_section words) (section_at ver h n words) (command_at ver h.words words >>= λ c. Ok (entry.Order c)) (Ok x) good) [
@@ -315,17 +363,22 @@ module _ (ver : Version) (usable : IsUsable ver) (h : Config) (n : ℕ) where
             let t = section_takes ver usable h n words x p.1 in
             (section_faultless words (begins_of words p.0) t.0, begun_is words true p.0 ∙ ap (λ (y : Entry). begun_after y n) (sym t.1))
         | inr p ↦
-            let b = bind_ok (command_at ver h.words words) (λ c. Ok (entry.Order c)) x p.1 in
-            (command_faultless words b.0 (apart_of words some p.0) b.1, begun_is words false p.0 ∙ ap (λ (y : Entry). begun_after y n) (ok_is {E = Cause} (entry.Order b.0) x b.2))
+            let b = bind_ok (command_at ver h.words words) (λ c. Ok (entry.Order c)) x p.1 in (
+              command_faultless words b.0 (apart_of words some p.0) b.1,
+              begun_is words false p.0 ∙
+                  ap (λ (y : Entry). begun_after y n) (ok_is {E = Cause} (entry.Order b.0) x b.2),
+            )
       ]
 
 -- WHOLE TEXTS
 
 at_line_err : {A : Type 0} (n : ℕ) (r : Result A Cause) (number : ℕ) (c : Cause) → at_line n r ≡ Err (number, c) → (number ≡ n) × (r ≡ Err c)
 at_line_err {A} n (Ok y) number c e = absurd cc
-at_line_err {A} n (Err d) number c e = let same : ◌≡◌ {A = ℕ × Cause} (n, d) (number, c) = err_is {A = A} (n, d) (number, c) e in (sym (ap (λ (p : ℕ × Cause). p.0) same), ap (λ (p : ℕ × Cause). Err p.1) same)
+at_line_err {A} n (Err d) number c e = let same : ◌≡◌ {A = ℕ × Cause} (n, d) (number, c) = err_is {A = A} (n, d) (number, c) e in
+    (sym (ap (λ (p : ℕ × Cause). p.0) same), ap (λ (p : ℕ × Cause). Err p.1) same)
 
-err_of : {A B : Type 0} (r : Result A (ℕ × Cause)) (f : A → Result B (ℕ × Cause)) (number : ℕ) (c : Cause) → ((a : A) → f a ≡ Err (number, c) → ⊥) → (r >>= f) ≡ Err (number, c) → r ≡ Err (number, c)
+err_of : {A B : Type 0} (r : Result A (ℕ × Cause)) (f : A → Result B (ℕ × Cause)) (number : ℕ) (c : Cause) → ((a : A) → f a ≡ Err (number, c) → ⊥) →
+    (r >>= f) ≡ Err (number, c) → r ≡ Err (number, c)
 err_of {A} {B} (Ok a) f number c never e = absurd (never a e)
 err_of {A} {B} (Err d) f number c never e = ap Err (err_is {A = B} d (number, c) e)
 
@@ -333,7 +386,8 @@ pub some_after : (x : Entry) (n : ℕ) → n ≢ 0 → begun_after x n ≢ 0
 some_after entry.Section n some = λ e. omega arith
 some_after (entry.Order c) n some = some
 
-rest_told : (ver : Version) (usable : IsUsable ver) (h : Config) (end n : ℕ) (lines : List (ℕ × List ℕ)) (number : ℕ) (c : Cause) → n ≢ 0 → rest_at ver h n lines ≡ Err (number, c) → TellsRest ver h n end lines number c
+rest_told : (ver : Version) (usable : IsUsable ver) (h : Config) (end n : ℕ) (lines : List (ℕ × List ℕ)) (number : ℕ) (c : Cause) → n ≢ 0 →
+    rest_at ver h n lines ≡ Err (number, c) → TellsRest ver h n end lines number c
 unfolding rest_at
 rest_told ver usable h end n [] number c some bad = absurd cc
 rest_told ver usable h end n (line ∷ lines) number c some bad =
@@ -346,14 +400,19 @@ rest_told ver usable h end n (line ∷ lines) number c some bad =
           inl (at.0, entry_told ver usable h n words c some at.1)
       | inl x ↦
           let good = entry_good ver usable h n words x.0 some (at_line_ok line.0 (entry_at ver h n words) x.0 x.1) in
-          let goes : rest_at ver h n (line ∷ lines) ≡ (rest_at ver h (begun_after x.0 n) lines >>= λ others. Ok (with_entry x.0 others)) = goes_to (at_line line.0 (entry_at ver h n words)) _ x.0 x.1 in
-          let later = rest_told ver usable h end (begun_after x.0 n) lines number c (some_after x.0 n some) (err_of (rest_at ver h (begun_after x.0 n) lines) _ number c (λ a e. absurd cc) (sym goes ∙ bad)) in
+          let goes : rest_at ver h n (line ∷ lines) ≡ (rest_at ver h (begun_after x.0 n) lines >>= λ others. Ok (with_entry x.0 others)) =
+          goes_to (at_line line.0 (entry_at ver h n words)) _ x.0 x.1 in
+          let later = rest_told ver usable h end (begun_after x.0 n) lines number c (some_after x.0 n some)
+          (err_of (rest_at ver h (begun_after x.0 n) lines) _ number c (λ a e. absurd cc) (sym goes ∙ bad)) in
           inr (good.0, subst (λ (k : ℕ). TellsRest ver h k end lines number c) (sym good.1) later)
     ]
 
-threads_told : (ver : Version) (usable : IsUsable ver) (h : Config) (end : ℕ) (lines : List (ℕ × List ℕ)) (number : ℕ) (c : Cause) → threads_at ver end h lines ≡ Err (number, c) → TellsRest ver h 0 end lines number c
+threads_told : (ver : Version) (usable : IsUsable ver) (h : Config) (end : ℕ) (lines : List (ℕ × List ℕ)) (number : ℕ) (c : Cause) →
+    threads_at ver end h lines ≡ Err (number, c) → TellsRest ver h 0 end lines number c
 unfolding threads_at programs_at
-threads_told ver usable h end [] number c bad = let same : ◌≡◌ {A = ℕ × Cause} (end, cause.Thread) (number, c) = err_is {A = List (List Command)} (end, cause.Thread) (number, c) bad in (refl, sym (ap (λ (p : ℕ × Cause). p.0) same), sym (ap (λ (p : ℕ × Cause). p.1) same))
+threads_told ver usable h end [] number c bad =
+    let same : ◌≡◌ {A = ℕ × Cause} (end, cause.Thread) (number, c) = err_is {A = List (List Command)} (end, cause.Thread) (number, c) bad in
+    (refl, sym (ap (λ (p : ℕ × Cause). p.0) same), sym (ap (λ (p : ℕ × Cause). p.1) same))
 threads_told ver usable h end (line ∷ lines) number c bad =
     let words = words_of line.1 in
     elim (result_cases (at_line line.0 (section_at ver h 0 words))) [
@@ -365,14 +424,18 @@ threads_told ver usable h end (line ∷ lines) number c bad =
       | inl x ↦
           let good = section_takes ver usable h 0 words x.0 (at_line_ok line.0 (section_at ver h 0 words) x.0 x.1) in
           let goes : threads_at ver end h (line ∷ lines) ≡ programs_at ver h lines = goes_to (at_line line.0 (section_at ver h 0 words)) _ x.0 x.1 in
-          let later = rest_told ver usable h end 1 lines number c (λ e. omega arith) (err_of (rest_at ver h 1 lines) _ number c (λ a e. absurd cc) (sym goes ∙ bad)) in
+          let later = rest_told ver usable h end 1 lines number c (λ e.
+          omega arith) (err_of (rest_at ver h 1 lines) _ number c (λ a e. absurd cc) (sym goes ∙ bad)) in
           let begun : 1 ≡ begun_with 0 words = sym (ap (begun_with 0) good.0.0) in
           inr (section_faultless ver usable h 0 words (inr refl) good.0, subst (λ (k : ℕ). TellsRest ver h k end lines number c) begun later)
     ]
 
-heap_told : (ver : Version) (usable : IsUsable ver) (end : ℕ) (lines : List (ℕ × List ℕ)) (number : ℕ) (c : Cause) → (heap_at end lines >>= λ p. threads_at ver end p.0 p.1) ≡ Err (number, c) → TellsHeap ver end lines number c
+heap_told : (ver : Version) (usable : IsUsable ver) (end : ℕ) (lines : List (ℕ × List ℕ)) (number : ℕ) (c : Cause) →
+    (heap_at end lines >>= λ p. threads_at ver end p.0 p.1) ≡ Err (number, c) → TellsHeap ver end lines number c
 unfolding heap_at
-heap_told ver usable end [] number c bad = let same : ◌≡◌ {A = ℕ × Cause} (end, cause.Heap) (number, c) = err_is {A = List (List Command)} (end, cause.Heap) (number, c) bad in (sym (ap (λ (p : ℕ × Cause). p.0) same), sym (ap (λ (p : ℕ × Cause). p.1) same))
+heap_told ver usable end [] number c bad =
+    let same : ◌≡◌ {A = ℕ × Cause} (end, cause.Heap) (number, c) = err_is {A = List (List Command)} (end, cause.Heap) (number, c) bad in
+    (sym (ap (λ (p : ℕ × Cause). p.0) same), sym (ap (λ (p : ℕ × Cause). p.1) same))
 heap_told ver usable end (line ∷ lines) number c bad =
     let words = words_of line.1 in
     elim (result_cases (heap_words_at words)) [
@@ -380,7 +443,12 @@ heap_told ver usable end (line ∷ lines) number c bad =
           let is_heap : p.0 ≡ cause.Heap = fails_is cause.Heap p.0 (heap_words_at words) (heap_fails words) p.1 in
           let stops : (heap_at end (line ∷ lines) >>= λ q. threads_at ver end q.0 q.1) ≡ Err (line.0, p.0) = rw p.1 refl in
           let same : ◌≡◌ {A = ℕ × Cause} (line.0, p.0) (number, c) = err_is {A = List (List Command)} (line.0, p.0) (number, c) (sym stops ∙ bad) in
-          inl (sym (ap (λ (q : ℕ × Cause). q.0) same), sym (ap (λ (q : ℕ × Cause). q.1) same) ∙ is_heap, λ h fits is. two_results (heap_words_at words) h p.0 (ap (λ (l : List ℕ). heap_words_at (words_of l)) is ∙ ap heap_words_at (words_of-line (heap_words h) (heap_line_words h fits)) ∙ heap_again h fits) p.1)
+          inl (
+            sym (ap (λ (q : ℕ × Cause). q.0) same),
+            sym (ap (λ (q : ℕ × Cause). q.1) same) ∙ is_heap,
+            λ h fits is. two_results (heap_words_at words) h p.0 (ap (λ (l : List ℕ). heap_words_at (words_of l)) is ∙
+                ap heap_words_at (words_of-line (heap_words h) (heap_line_words h fits)) ∙ heap_again h fits) p.1,
+          )
       | inl h ↦
           let t = heap_takes words h.0 h.1 in
           let goes : (heap_at end (line ∷ lines) >>= λ q. threads_at ver end q.0 q.1) ≡ threads_at ver end h.0 lines = rw h.1 refl in
@@ -397,25 +465,41 @@ versioned ver lines = Ok (ver, lines)
 
 -- what is read after the line of a version
 abbrev script_after : ℕ → Version × List (ℕ × List ℕ) → Result Script (ℕ × Cause)
-script_after end v = heap_at end v.1 >>= λ heap. threads_at v.0 end heap.0 heap.1 >>= λ threads. Ok (let made : Script = record { version = v.0.number; config = heap.0; threads = threads } in made)
+script_after end v = heap_at end v.1 >>= λ heap. threads_at v.0 end heap.0 heap.1 >>= λ threads.
+    Ok (let made : Script = record { version = v.0.number; config = heap.0; threads = threads } in made)
 
-version_told : (ver : Version) → IsVersion ver → (end : ℕ) (line : ℕ × List ℕ) (lines : List (ℕ × List ℕ)) (number : ℕ) (c : Cause) → line.1 ≡ spaced (version_words ver.number) → script_after end (ver, lines) ≡ Err (number, c) → Tells end (line ∷ lines) number c
-version_told ver known end line lines number c is h = inr (ver, known, is, heap_told ver (usable_version ver known) end lines number c (err_inner (heap_at end lines) (λ heap. threads_at ver end heap.0 heap.1) (λ heap threads. let made : Script = record { version = ver.number; config = heap.0; threads = threads } in made) (number, c) h))
+version_told : (ver : Version) → IsVersion ver → (end : ℕ) (line : ℕ × List ℕ) (lines : List (ℕ × List ℕ)) (number : ℕ) (c : Cause) →
+    line.1 ≡ spaced (version_words ver.number) → script_after end (ver, lines) ≡ Err (number, c) → Tells end (line ∷ lines) number c
+version_told ver known end line lines number c is h = inr (
+  ver,
+  known,
+  is,
+  heap_told ver (usable_version ver known) end lines number c (err_inner (heap_at end lines) (λ heap.
+      threads_at ver end heap.0 heap.1) (λ heap threads. let made : Script = record { version = ver.number; config = heap.0; threads = threads } in
+      made) (number, c) h),
+)
 
 script_told : (end : ℕ) (lines : List (ℕ × List ℕ)) (number : ℕ) (c : Cause) → script_at end lines ≡ Err (number, c) → Tells end lines number c
 unfolding script_at version_at
-script_told end [] number c bad = let same : ◌≡◌ {A = ℕ × Cause} (end, cause.Version) (number, c) = err_is {A = Script} (end, cause.Version) (number, c) bad in (sym (ap (λ (p : ℕ × Cause). p.0) same), sym (ap (λ (p : ℕ × Cause). p.1) same))
+script_told end [] number c bad =
+    let same : ◌≡◌ {A = ℕ × Cause} (end, cause.Version) (number, c) = err_is {A = Script} (end, cause.Version) (number, c) bad in
+    (sym (ap (λ (p : ℕ × Cause). p.0) same), sym (ap (λ (p : ℕ × Cause). p.1) same))
 script_told end (line ∷ lines) number c bad = go (bytes_eq line.1 (codes "nmgc 1")) (bytes_eq line.1 (codes "nmgc 2")) refl refl bad
   where
     -- the line differs from that of a version
     differs : (text : List ℕ) → bytes_eq line.1 text ≡ false → line.1 ≡ text → ⊥
     differs text is other = absurd (let never : false ≡ true = sym is ∙ (bytes_eq-Decides line.1 text).1 other in cc)
 
-    no_version : bytes_eq line.1 (codes "nmgc 1") ≡ false → bytes_eq line.1 (codes "nmgc 2") ≡ false → (v : Version) → IsVersion v → line.1 ≢ spaced (version_words v.number)
+    no_version : bytes_eq line.1 (codes "nmgc 1") ≡ false → bytes_eq line.1 (codes "nmgc 2") ≡ false → (v : Version) → IsVersion v →
+        line.1 ≢ spaced (version_words v.number)
     no_version is also v (inl e) other = differs (codes "nmgc 1") is (other ∙ ap (λ (w : Version). spaced (version_words w.number)) e ∙ first_line)
     no_version is also v (inr e) other = differs (codes "nmgc 2") also (other ∙ ap (λ (w : Version). spaced (version_words w.number)) e ∙ second_line)
 
-    go : (b d : Bool) → bytes_eq line.1 (codes "nmgc 1") ≡ b → bytes_eq line.1 (codes "nmgc 2") ≡ d → (cond b (versioned version_1 lines) (cond d (versioned version_2 lines) (Err (line.0, cause.Version))) >>= script_after end) ≡ Err (number, c) → Tells end (line ∷ lines) number c
+    go : (b d : Bool) → bytes_eq line.1 (codes "nmgc 1") ≡ b → bytes_eq line.1 (codes "nmgc 2") ≡ d →
+        (cond b (versioned version_1 lines) (cond d (versioned version_2 lines) (Err (line.0, cause.Version))) >>= script_after end) ≡ Err (
+          number,
+          c,
+        ) → Tells end (line ∷ lines) number c
     go true d is also h = version_told version_1 (inl refl) end line lines number c ((bytes_eq-Decides line.1 (codes "nmgc 1")).0 is ∙ sym first_line) h
     go false true is also h = version_told version_2 (inr refl) end line lines number c ((bytes_eq-Decides line.1 (codes "nmgc 2")).0 also ∙ sym second_line) h
     go false false is also h =
@@ -423,7 +507,8 @@ script_told end (line ∷ lines) number c bad = go (bytes_eq line.1 (codes "nmgc
         inl (sym (ap (λ (p : ℕ × Cause). p.0) same), sym (ap (λ (p : ℕ × Cause). p.1) same), no_version is also)
 
 -- what is told is the first bad line and its first cause
-pub told : (bytes : List ℕ) (r : Result Script ScriptFault) → GivesAt (λ s. s) r (script_at (end_of bytes) (kept_lines bytes)) → IfErr r (λ fault. IsToldOf bytes fault)
+pub told : (bytes : List ℕ) (r : Result Script ScriptFault) → GivesAt (λ s. s) r (script_at (end_of bytes) (kept_lines bytes)) →
+    IfErr r (λ fault. IsToldOf bytes fault)
 told bytes (Ok s) h = tt
 told bytes (Err script_fault.NoMemory) h = tt
 told bytes (Err (script_fault.Bad line c)) h = script_told (end_of bytes) (kept_lines bytes) line c h

@@ -64,7 +64,8 @@ bare_append [] b h k = k
 bare_append (x ∷ a) b h k = (h.0, bare_append a b h.1 k)
 
 decimal_bare : (n : ℕ) → n < 2 ^ 64 → IsBare (decimal n)
-decimal_bare n fits = decimal_by_steps (λ m ds. IsBare ds) (λ m lt. (omega arith, tt)) (λ m ds le h. bare_append ds ((48 + m % 10) ∷ []) h (omega arith, tt)) n fits
+decimal_bare n fits = decimal_by_steps (λ m ds. IsBare ds) (λ m lt. (omega arith, tt)) (λ m ds le h.
+    bare_append ds ((48 + m % 10) ∷ []) h (omega arith, tt)) n fits
 
 register_bare : (r : ℕ) → IsRegister r → IsBare (register_word r)
 register_bare r h = (omega arith, decimal_bare r (omega arith))
@@ -103,18 +104,51 @@ words_of-line ([] ∷ words) h = absurd h
 words_of-line ((b ∷ word) ∷ words) h = words_of-spaced (b ∷ word) words h.0 h.1
 
 pub command_line_words : (size : ℕ) (c : Command) → Fits size c → MakeLine (command_words c)
-command_line_words size (Num dest number) h = (tested (codes "num") refl, (register_bare dest h.registers, (decimal_bare number (omega (arith, h.numbers)), tt)))
+command_line_words size (Num dest number) h = (
+  tested (codes "num") refl,
+  (register_bare dest h.registers, (decimal_bare number (omega (arith, h.numbers)), tt)),
+)
 command_line_words size (Nil dest) h = (tested (codes "nil") refl, (register_bare dest h.registers, tt))
 command_line_words size (Mov dest value) h = (tested (codes "mov") refl, (register_bare dest h.registers.0, (operand_bare value h.registers.1, tt)))
-command_line_words size (Con dest tag fields) h = (tested (codes "con") refl, (register_bare dest h.registers.0, (decimal_bare tag (omega (arith, h.numbers)), operands_bare fields (recursion_from_All IsOperand fields h.registers.1))))
+command_line_words size (Con dest tag fields) h = (
+  tested (codes "con") refl,
+  (register_bare dest h.registers.0, (decimal_bare tag (omega (arith, h.numbers)), operands_bare fields (recursion_from_All IsOperand fields h.registers.1))),
+)
 command_line_words size (Var dest value) h = (tested (codes "var") refl, (register_bare dest h.registers.0, (operand_bare value h.registers.1, tt)))
-command_line_words size (Arr dest count value) h = (tested (codes "arr") refl, (register_bare dest h.registers.0, (decimal_bare count (omega (arith, h.numbers)), (operand_bare value h.registers.1, tt))))
-command_line_words size (Thunk dest free) h = (tested (codes "thunk") refl, (register_bare dest h.registers.0, operands_bare free (recursion_from_All IsOperand free h.registers.1)))
-command_line_words size (Weak dest key value finaliser) h = (tested (codes "weak") refl, (register_bare dest h.registers.0, (operand_bare key h.registers.1, (operand_bare value h.registers.2, (operand_bare finaliser h.registers.3, tt)))))
-command_line_words size (Stack dest count) h = (tested (codes "stack") refl, (register_bare dest h.registers, (decimal_bare count (omega (arith, h.numbers)), tt)))
-command_line_words size (Get dest object index) h = (tested (codes "get") refl, (register_bare dest h.registers.0, (operand_bare object h.registers.1, (decimal_bare index (omega (arith, h.numbers)), tt))))
-command_line_words size (Set object index value) h = (tested (codes "set") refl, (operand_bare object h.registers.0, (decimal_bare index (omega (arith, h.numbers)), (operand_bare value h.registers.1, tt))))
-command_line_words size (Cas object index expected value) h = (tested (codes "cas") refl, (operand_bare object h.registers.0, (decimal_bare index (omega (arith, h.numbers)), (operand_bare expected h.registers.1, (operand_bare value h.registers.2, tt)))))
+command_line_words size (Arr dest count value) h = (
+  tested (codes "arr") refl,
+  (register_bare dest h.registers.0, (decimal_bare count (omega (arith, h.numbers)), (operand_bare value h.registers.1, tt))),
+)
+command_line_words size (Thunk dest free) h = (
+  tested (codes "thunk") refl,
+  (register_bare dest h.registers.0, operands_bare free (recursion_from_All IsOperand free h.registers.1)),
+)
+command_line_words size (Weak dest key value finaliser) h = (
+  tested (codes "weak") refl,
+  (register_bare dest h.registers.0, (operand_bare key h.registers.1, (operand_bare value h.registers.2, (operand_bare finaliser h.registers.3, tt)))),
+)
+command_line_words size (Stack dest count) h = (
+  tested (codes "stack") refl,
+  (register_bare dest h.registers, (decimal_bare count (omega (arith, h.numbers)), tt)),
+)
+command_line_words size (Get dest object index) h = (
+  tested (codes "get") refl,
+  (register_bare dest h.registers.0, (operand_bare object h.registers.1, (decimal_bare index (omega (arith, h.numbers)), tt))),
+)
+command_line_words size (Set object index value) h = (
+  tested (codes "set") refl,
+  (operand_bare object h.registers.0, (decimal_bare index (omega (arith, h.numbers)), (operand_bare value h.registers.1, tt))),
+)
+command_line_words size (Cas object index expected value) h = (
+  tested (codes "cas") refl,
+  (
+    operand_bare object h.registers.0,
+    (
+      decimal_bare index (omega (arith, h.numbers)),
+      (operand_bare expected h.registers.1, (operand_bare value h.registers.2, tt)),
+    ),
+  ),
+)
 command_line_words size (Update object value) h = (tested (codes "update") refl, (operand_bare object h.registers.0, (operand_bare value h.registers.1, tt)))
 command_line_words size (Force dest object) h = (tested (codes "force") refl, (register_bare dest h.registers.0, (operand_bare object h.registers.1, tt)))
 command_line_words size (Push object value) h = (tested (codes "push") refl, (operand_bare object h.registers.0, (operand_bare value h.registers.1, tt)))
@@ -129,7 +163,25 @@ command_line_words size Collect h = (tested (codes "collect") refl, tt)
 command_line_words size Full h = (tested (codes "full") refl, tt)
 
 pub heap_line_words : (c : Config) → FitsConfig c → MakeLine (heap_words c)
-heap_line_words c h = (tested (codes "heap") refl, (decimal_bare c.segments (omega (arith, h.segments)), (decimal_bare c.words (omega (arith, h.words.most)), (decimal_bare c.nursery (omega (arith, h.nursery)), (decimal_bare c.slice (omega (arith, h.slice)), (decimal_bare c.quota (omega (arith, h.quota)), (decimal_bare c.trigger (omega (arith, h.trigger)), tt)))))))
+heap_line_words c h = (
+  tested (codes "heap") refl,
+  (
+    decimal_bare c.segments (omega (arith, h.segments)),
+    (
+      decimal_bare c.words (omega (arith, h.words.most)),
+      (
+        decimal_bare c.nursery (omega (arith, h.nursery)),
+        (
+          decimal_bare c.slice (omega (arith, h.slice)),
+          (
+            decimal_bare c.quota (omega (arith, h.quota)),
+            (decimal_bare c.trigger (omega (arith, h.trigger)), tt),
+          ),
+        ),
+      ),
+    ),
+  ),
+)
 
 pub section_line_words : (n : ℕ) → n < 2 ^ 64 → MakeLine (section_words n)
 section_line_words n h = (tested (codes "thread") refl, (decimal_bare n h, tt))

@@ -43,7 +43,8 @@ cause_back cause.Operand = refl
 cause_back cause.Size = refl
 
 -- a line has one first fault
-one_first : (ver : Version) (usable : IsUsable ver) (h : Config) (n : ℕ) (words : List (List ℕ)) (c d : Cause) → IsFirstFault ver h n words c → IsFirstFault ver h n words d → c ≡ d
+one_first : (ver : Version) (usable : IsUsable ver) (h : Config) (n : ℕ) (words : List (List ℕ)) (c d : Cause) → IsFirstFault ver h n words c →
+    IsFirstFault ver h n words d → c ≡ d
 one_first ver usable h n words c d p q =
     elim (cases_order (order_of c) (order_of d)) [
       | inl same ↦ sym (cause_back c) ∙ ap cause_of same ∙ cause_back d
@@ -57,7 +58,8 @@ one_first ver usable h n words c d p q =
 abbrev pub Same : ℕ → Cause → ℕ → Cause → Type 0
 Same a c b d = (a ≡ b) × (c ≡ d)
 
-one_rest : (ver : Version) (usable : IsUsable ver) (h : Config) (n end : ℕ) (lines : List (ℕ × List ℕ)) (a : ℕ) (c : Cause) (b : ℕ) (d : Cause) → TellsRest ver h n end lines a c → TellsRest ver h n end lines b d → Same a c b d
+one_rest : (ver : Version) (usable : IsUsable ver) (h : Config) (n end : ℕ) (lines : List (ℕ × List ℕ)) (a : ℕ) (c : Cause) (b : ℕ) (d : Cause) →
+    TellsRest ver h n end lines a c → TellsRest ver h n end lines b d → Same a c b d
 one_rest ver usable h n end [] a c b d p q = (p.1 ∙ sym q.1, p.2 ∙ sym q.2)
 one_rest ver usable h n end (line ∷ lines) a c b d (inl p) (inl q) = (p.0 ∙ sym q.0, one_first ver usable h n (words_of line.1) c d p.1 q.1)
 one_rest ver usable h n end (line ∷ lines) a c b d (inl p) (inr q) = absurd (q.0 c p.1.here)
@@ -67,11 +69,14 @@ one_rest ver usable h n end (line ∷ lines) a c b d (inr p) (inr q) = one_rest 
 -- a heap line has one config
 one_config : (line : List ℕ) (g h : Config) → FitsConfig g → FitsConfig h → line ≡ spaced (heap_words g) → line ≡ spaced (heap_words h) → g ≡ h
 one_config line g h fg fh eg eh =
-    let rg : heap_words_at (words_of line) ≡ Ok g = ap (λ (l : List ℕ). heap_words_at (words_of l)) eg ∙ ap heap_words_at (words_of-line (heap_words g) (heap_line_words g fg)) ∙ heap_again g fg in
-    let rh : heap_words_at (words_of line) ≡ Ok h = ap (λ (l : List ℕ). heap_words_at (words_of l)) eh ∙ ap heap_words_at (words_of-line (heap_words h) (heap_line_words h fh)) ∙ heap_again h fh in
+    let rg : heap_words_at (words_of line) ≡ Ok g = ap (λ (l : List ℕ). heap_words_at (words_of l)) eg ∙
+    ap heap_words_at (words_of-line (heap_words g) (heap_line_words g fg)) ∙ heap_again g fg in
+    let rh : heap_words_at (words_of line) ≡ Ok h = ap (λ (l : List ℕ). heap_words_at (words_of l)) eh ∙
+    ap heap_words_at (words_of-line (heap_words h) (heap_line_words h fh)) ∙ heap_again h fh in
     ok_is {E = Cause} g h (sym rg ∙ rh)
 
-one_heap : (ver : Version) (usable : IsUsable ver) (end : ℕ) (lines : List (ℕ × List ℕ)) (a : ℕ) (c : Cause) (b : ℕ) (d : Cause) → TellsHeap ver end lines a c → TellsHeap ver end lines b d → Same a c b d
+one_heap : (ver : Version) (usable : IsUsable ver) (end : ℕ) (lines : List (ℕ × List ℕ)) (a : ℕ) (c : Cause) (b : ℕ) (d : Cause) →
+    TellsHeap ver end lines a c → TellsHeap ver end lines b d → Same a c b d
 one_heap ver usable end [] a c b d p q = (p.0 ∙ sym q.0, p.1 ∙ sym q.1)
 one_heap ver usable end (line ∷ lines) a c b d (inl p) (inl q) = (p.0 ∙ sym q.0, p.1 ∙ sym q.1)
 one_heap ver usable end (line ∷ lines) a c b d (inl p) (inr q) = absurd (p.2 q.0 q.1 q.2)
@@ -87,7 +92,8 @@ numbers_differ : codes "nmgc 1" ≡ codes "nmgc 2" → ⊥
 numbers_differ e = let last : 49 ≡ 50 = ap (λ (l : List ℕ). get_or l 5 0) e in omega (arith, last)
 
 -- a line has one version
-one_version : (line : List ℕ) (v w : Version) → IsVersion v → IsVersion w → line ≡ spaced (version_words v.number) → line ≡ spaced (version_words w.number) → v ≡ w
+one_version : (line : List ℕ) (v w : Version) → IsVersion v → IsVersion w → line ≡ spaced (version_words v.number) →
+    line ≡ spaced (version_words w.number) → v ≡ w
 one_version line v w (inl a) (inl b) e f = a ∙ sym b
 one_version line v w (inr a) (inr b) e f = a ∙ sym b
 one_version line v w (inl a) (inr b) e f = absurd (numbers_differ (sym (e ∙ ap text_of a ∙ first_line) ∙ f ∙ ap text_of b ∙ second_line))
@@ -104,7 +110,8 @@ one_fault end (line ∷ lines) a c b d (inr p) (inr q) =
 
 -- NEVER BOTH
 
-rest_good : (ver : Version) (usable : IsUsable ver) (h : Config) (n end : ℕ) (lines : List (ℕ × List ℕ)) (p : List Command × List (List Command)) (a : ℕ) (c : Cause) → n ≢ 0 → rest_at ver h n lines ≡ Ok p → TellsRest ver h n end lines a c → ⊥
+rest_good : (ver : Version) (usable : IsUsable ver) (h : Config) (n end : ℕ) (lines : List (ℕ × List ℕ)) (p : List Command ×
+    List (List Command)) (a : ℕ) (c : Cause) → n ≢ 0 → rest_at ver h n lines ≡ Ok p → TellsRest ver h n end lines a c → ⊥
 unfolding rest_at
 rest_good ver usable h n end [] p a c some good t = some t.0
 rest_good ver usable h n end (line ∷ lines) p a c some good t =
@@ -114,10 +121,12 @@ rest_good ver usable h n end (line ∷ lines) p a c some good t =
     let g = entry_good ver usable h n words b.0 some (at_line_ok line.0 (entry_at ver h n words) b.0 b.1) in
     elim t [
       | inl q ↦ g.0 c q.1.here
-      | inr q ↦ rest_good ver usable h (begun_after b.0 n) end lines o.0 a c (some_after b.0 n some) o.1 (subst (λ (k : ℕ). TellsRest ver h k end lines a c) g.1 q.1)
+      | inr q ↦ rest_good ver usable h (begun_after b.0 n) end lines o.0 a c (some_after b.0 n some) o.1 (subst (λ (k : ℕ).
+          TellsRest ver h k end lines a c) g.1 q.1)
     ]
 
-threads_good : (ver : Version) (usable : IsUsable ver) (h : Config) (end : ℕ) (lines : List (ℕ × List ℕ)) (threads : List (List Command)) (a : ℕ) (c : Cause) → threads_at ver end h lines ≡ Ok threads → TellsRest ver h 0 end lines a c → ⊥
+threads_good : (ver : Version) (usable : IsUsable ver) (h : Config) (end : ℕ) (lines : List (ℕ ×
+    List ℕ)) (threads : List (List Command)) (a : ℕ) (c : Cause) → threads_at ver end h lines ≡ Ok threads → TellsRest ver h 0 end lines a c → ⊥
 unfolding threads_at programs_at
 threads_good ver usable h end [] threads a c good t = absurd cc
 threads_good ver usable h end (line ∷ lines) threads a c good t =
@@ -131,7 +140,9 @@ threads_good ver usable h end (line ∷ lines) threads a c good t =
       | inr q ↦ rest_good ver usable h 1 end lines o.0 a c (λ e. omega arith) o.1 (subst (λ (k : ℕ). TellsRest ver h k end lines a c) begun q.1)
     ]
 
-heap_good : (ver : Version) (usable : IsUsable ver) (end : ℕ) (lines : List (ℕ × List ℕ)) (h : Config × List (ℕ × List ℕ)) (threads : List (List Command)) (a : ℕ) (c : Cause) → heap_at end lines ≡ Ok h → threads_at ver end h.0 h.1 ≡ Ok threads → TellsHeap ver end lines a c → ⊥
+heap_good : (ver : Version) (usable : IsUsable ver) (end : ℕ) (lines : List (ℕ × List ℕ)) (h : Config ×
+    List (ℕ × List ℕ)) (threads : List (List Command)) (a : ℕ) (c : Cause) → heap_at end lines ≡ Ok h → threads_at ver end h.0 h.1 ≡ Ok threads →
+    TellsHeap ver end lines a c → ⊥
 unfolding heap_at
 heap_good ver usable end [] h threads a c good more t = absurd cc
 heap_good ver usable end (line ∷ lines) h threads a c good more t =
@@ -142,7 +153,8 @@ heap_good ver usable end (line ∷ lines) h threads a c good more t =
     let later : threads_at ver end b.0 lines ≡ Ok threads = rw (← parts) at more in
     elim t [
       | inl q ↦ q.2 b.0 g.1 is
-      | inr q ↦ threads_good ver usable b.0 end lines threads a c later (subst (λ (k : Config). TellsRest ver k 0 end lines a c) (one_config line.1 q.0 b.0 q.1 g.1 q.2 is) q.3)
+      | inr q ↦ threads_good ver usable b.0 end lines threads a c later (subst (λ (k : Config).
+          TellsRest ver k 0 end lines a c) (one_config line.1 q.0 b.0 q.1 g.1 q.2 is) q.3)
     ]
 
 -- a text without lines names no version
@@ -150,13 +162,16 @@ no_version : (end : ℕ) (p : Version × List (ℕ × List ℕ)) → version_at 
 unfolding version_at
 no_version end p good = absurd cc
 
-version_good : (end : ℕ) (lines : List (ℕ × List ℕ)) (p : Version × List (ℕ × List ℕ)) (h : Config × List (ℕ × List ℕ)) (threads : List (List Command)) (a : ℕ) (c : Cause) → version_at end lines ≡ Ok p → heap_at end p.1 ≡ Ok h → threads_at p.0 end h.0 h.1 ≡ Ok threads → Tells end lines a c → ⊥
+version_good : (end : ℕ) (lines : List (ℕ × List ℕ)) (p : Version × List (ℕ × List ℕ)) (h : Config ×
+    List (ℕ × List ℕ)) (threads : List (List Command)) (a : ℕ) (c : Cause) → version_at end lines ≡ Ok p → heap_at end p.1 ≡ Ok h →
+    threads_at p.0 end h.0 h.1 ≡ Ok threads → Tells end lines a c → ⊥
 version_good end [] p h threads a c good heap more t = no_version end p good
 version_good end (line ∷ lines) p h threads a c good heap more t =
     let f = version_found end line lines p good in
     elim t [
       | inl q ↦ q.2 p.0 f.0 f.1
-      | inr q ↦ heap_good p.0 (usable_version p.0 f.0) end p.1 h threads a c heap more (subst (λ (v : Version). TellsHeap v end p.1 a c) (one_version line.1 q.0 p.0 q.1 f.0 q.2 f.1) (subst (λ (l : List (ℕ × List ℕ)). TellsHeap q.0 end l a c) f.2 q.3))
+      | inr q ↦ heap_good p.0 (usable_version p.0 f.0) end p.1 h threads a c heap more (subst (λ (v : Version).
+          TellsHeap v end p.1 a c) (one_version line.1 q.0 p.0 q.1 f.0 q.2 f.1) (subst (λ (l : List (ℕ × List ℕ)). TellsHeap q.0 end l a c) f.2 q.3))
     ]
 
 -- lines that are read as a script have no fault to tell

@@ -22,11 +22,13 @@ spaced_after word (v ∷ vs) = ap (λ (l : List ℕ). word ++ 32 ∷ l) (spaced_
 
 pub after_append : (xs ys : List (List ℕ)) → after_spaces (xs ++ ys) ≡ after_spaces xs ++ after_spaces ys
 after_append [] ys = refl
-after_append (x ∷ xs) ys = ap (λ (l : List ℕ). 32 ∷ (x ++ l)) (after_append xs ys) ∙ ap (λ (l : List ℕ). 32 ∷ l) (sym (append_assoc x (after_spaces xs) (after_spaces ys)))
+after_append (x ∷ xs) ys = ap (λ (l : List ℕ). 32 ∷ (x ++ l)) (after_append xs ys) ∙
+    ap (λ (l : List ℕ). 32 ∷ l) (sym (append_assoc x (after_spaces xs) (after_spaces ys)))
 
 pub spaced_longer : (word : List ℕ) (xs ys : List (List ℕ)) → spaced (word ∷ xs) ++ after_spaces ys ≡ spaced (word ∷ xs ++ ys)
 spaced_longer word xs ys =
-    ap (λ (l : List ℕ). l ++ after_spaces ys) (spaced_after word xs) ∙ append_assoc word (after_spaces xs) (after_spaces ys) ∙ ap (λ (l : List ℕ). word ++ l) (sym (after_append xs ys)) ∙ sym (spaced_after word (xs ++ ys))
+    ap (λ (l : List ℕ). l ++ after_spaces ys) (spaced_after word xs) ∙ append_assoc word (after_spaces xs) (after_spaces ys) ∙
+    ap (λ (l : List ℕ). word ++ l) (sym (after_append xs ys)) ∙ sym (spaced_after word (xs ++ ys))
 
 pub ended_append : (xs ys : List (List ℕ)) → ended (xs ++ ys) ≡ ended xs ++ ended ys
 ended_append [] ys = refl
@@ -58,7 +60,10 @@ made_kept : (words : List (List ℕ)) → MakeLine words → IsKept (spaced word
 made_kept [] h = absurd h
 made_kept ([] ∷ words) h = absurd h
 made_kept ((b ∷ word) ∷ words) h =
-    rw spaced_after (record { one = line_append (b ∷ word) (after_spaces words) (bare_line (b ∷ word) h.0) (after_line words h.1); kept = ne_eqb b 35 (λ e. omega (arith, h.0.0)) })
+    rw spaced_after (record {
+      one = line_append (b ∷ word) (after_spaces words) (bare_line (b ∷ word) h.0) (after_line words h.1);
+      kept = ne_eqb b 35 (λ e. omega (arith, h.0.0));
+    })
 
 lines_ended : (lines : List (List ℕ)) → AllByRecursion IsKept lines → lines_of (ended lines) ≡ lines
 lines_ended [] h = refl
@@ -78,17 +83,22 @@ program_kept : (size : ℕ) (program : List Command) → AllByRecursion (Fits si
 program_kept size [] h = tt
 program_kept size (c ∷ cs) h = (made_kept (command_words c) (command_line_words size c h.0), program_kept size cs h.1)
 
-sections_kept : (size n : ℕ) (threads : List (List Command)) → n + length threads < 2 ^ 64 → AllByRecursion (All (Fits size)) threads → AllByRecursion IsKept (section_lines n threads)
+sections_kept : (size n : ℕ) (threads : List (List Command)) → n + length threads < 2 ^ 64 → AllByRecursion (All (Fits size)) threads →
+    AllByRecursion IsKept (section_lines n threads)
 sections_kept size n [] few h = tt
-sections_kept size n (program ∷ programs) few h =
-    (made_kept (section_words n) (section_line_words n (omega arith)), kept_append (program_lines program) (section_lines (n + 1) programs) (program_kept size program (recursion_from_All (Fits size) program h.0)) (sections_kept size (n + 1) programs (omega arith) h.1))
+sections_kept size n (program ∷ programs) few h = (
+  made_kept (section_words n) (section_line_words n (omega arith)),
+  kept_append (program_lines program) (section_lines (n + 1) programs)
+      (program_kept size program (recursion_from_All (Fits size) program h.0)) (sections_kept size (n + 1) programs (omega arith) h.1),
+)
 
 script_kept : (s : Script) → FitsScript s → AllByRecursion IsKept (script_lines s)
 script_kept s fits = (
   made_kept (version_words s.version) (version_line_words s.version (let usable = usable_number s.version in omega (arith, fits.version, usable.number))),
   (
     made_kept (heap_words s.config) (heap_line_words s.config fits.config),
-    sections_kept s.config.words 0 s.threads (omega (arith, threads_few s fits)) (recursion_from_All (λ program. All (Fits s.config.words) program) s.threads fits.commands),
+    sections_kept s.config.words 0 s.threads (omega (arith, threads_few s fits)) (recursion_from_All (λ program.
+        All (Fits s.config.words) program) s.threads fits.commands),
   ),
 )
 

@@ -37,14 +37,16 @@ all_of {X} P Q f xss h = All-from_recursion (λ xs. All Q xs) xss (each xss h)
     each [] h = tt
     each (xs ∷ xss) h = (All-weaker P Q f xs (All-from_recursion P xs h.0), each xss h.1)
 
-both_to : {X : Type 0} (P Q : X → Type 0) (xss : List (List X)) → All (λ xs. All P xs) xss → All (λ xs. All Q xs) xss → AllByRecursion (AllByRecursion (λ x. P x × Q x)) xss
+both_to : {X : Type 0} (P Q : X → Type 0) (xss : List (List X)) → All (λ xs. All P xs) xss → All (λ xs. All Q xs) xss →
+    AllByRecursion (AllByRecursion (λ x. P x × Q x)) xss
 both_to {X} P Q xss h k = each xss (recursion_from_All (λ xs. All P xs) xss h) (recursion_from_All (λ xs. All Q xs) xss k)
   where
     both : (xs : List X) → AllByRecursion P xs → AllByRecursion Q xs → AllByRecursion (λ x. P x × Q x) xs
     both [] h k = tt
     both (x ∷ xs) h k = ((h.0, k.0), both xs h.1 k.1)
 
-    each : (xss : List (List X)) → AllByRecursion (λ xs. All P xs) xss → AllByRecursion (λ xs. All Q xs) xss → AllByRecursion (AllByRecursion (λ x. P x × Q x)) xss
+    each : (xss : List (List X)) → AllByRecursion (λ xs. All P xs) xss → AllByRecursion (λ xs. All Q xs) xss →
+        AllByRecursion (AllByRecursion (λ x. P x × Q x)) xss
     each [] h k = tt
     each (xs ∷ xss) h k = (both xs (recursion_from_All P xs h.0) (recursion_from_All Q xs k.0), each xss h.1 k.1)
 
@@ -58,10 +60,14 @@ unfolding version_at
 nothing end p e = absurd cc
 
 -- a line that is read as one of a version is its line
-pub version_found : (end : ℕ) (line : ℕ × List ℕ) (lines : List (ℕ × List ℕ)) (p : Version × List (ℕ × List ℕ)) → version_at end (line ∷ lines) ≡ Ok p → IsVersion p.0 × (line.1 ≡ spaced (version_words p.0.number)) × (lines ≡ p.1)
+pub version_found : (end : ℕ) (line : ℕ × List ℕ) (lines : List (ℕ × List ℕ)) (p : Version × List (ℕ × List ℕ)) →
+    version_at end (line ∷ lines) ≡ Ok p → IsVersion p.0 × (line.1 ≡ spaced (version_words p.0.number)) × (lines ≡ p.1)
 unfolding version_at
 version_found end line lines p e =
-    elim (chosen (bytes_eq line.1 (codes "nmgc 1")) (Ok (version_1, lines)) (cond (bytes_eq line.1 (codes "nmgc 2")) (Ok (version_2, lines)) (Err (line.0, cause.Version))) (Ok p) e) [
+    elim (chosen (bytes_eq line.1 (codes "nmgc 1")) (Ok (
+      version_1,
+      lines,
+    )) (cond (bytes_eq line.1 (codes "nmgc 2")) (Ok (version_2, lines)) (Err (line.0, cause.Version))) (Ok p) e) [
       | inl q ↦
           let here : line.1 ≡ codes "nmgc 1" = (bytes_eq-Decides line.1 (codes "nmgc 1")).0 q.0 in
           subst Found (ok_is {E = ℕ × Cause} (version_1, lines) p q.1) (inl refl, here ∙ sym first_line, refl)
@@ -74,14 +80,16 @@ version_found end line lines p e =
     Found : Version × List (ℕ × List ℕ) → Type 0
     Found r = IsVersion r.0 × (line.1 ≡ spaced (version_words r.0.number)) × (lines ≡ r.1)
 
-version_takes : (end : ℕ) (lines : List (ℕ × List ℕ)) (p : Version × List (ℕ × List ℕ)) → version_at end lines ≡ Ok p → (map text lines ≡ spaced (version_words p.0.number) ∷ map text p.1) × IsVersion p.0
+version_takes : (end : ℕ) (lines : List (ℕ × List ℕ)) (p : Version × List (ℕ × List ℕ)) → version_at end lines ≡ Ok p →
+    (map text lines ≡ spaced (version_words p.0.number) ∷ map text p.1) × IsVersion p.0
 version_takes end [] p e = absurd (nothing end p e)
 version_takes end (line ∷ lines) p e =
     let f = version_found end line lines p e in
     (cc (f.1, f.2), f.0)
 
 -- the line of a version is read as it
-version_again : (end : ℕ) (line : ℕ × List ℕ) (lines : List (ℕ × List ℕ)) (n : ℕ) → n ≡ (version_of n).number → line.1 ≡ spaced (version_words n) → version_at end (line ∷ lines) ≡ Ok (version_of n, lines)
+version_again : (end : ℕ) (line : ℕ × List ℕ) (lines : List (ℕ × List ℕ)) (n : ℕ) → n ≡ (version_of n).number → line.1 ≡ spaced (version_words n) →
+    version_at end (line ∷ lines) ≡ Ok (version_of n, lines)
 unfolding version_at
 version_again end line lines n is e = elim (eqb_tells n 1) [
   | inl p ↦
@@ -94,14 +102,16 @@ version_again end line lines n is e = elim (eqb_tells n 1) [
       rw (p.0, other, (bytes_eq-Decides line.1 (codes "nmgc 2")).1 here) refl
 ]
 
-heap_at_takes : (end : ℕ) (lines : List (ℕ × List ℕ)) (p : Config × List (ℕ × List ℕ)) → heap_at end lines ≡ Ok p → (map text lines ≡ spaced (heap_words p.0) ∷ map text p.1) × FitsConfig p.0
+heap_at_takes : (end : ℕ) (lines : List (ℕ × List ℕ)) (p : Config × List (ℕ × List ℕ)) → heap_at end lines ≡ Ok p →
+    (map text lines ≡ spaced (heap_words p.0) ∷ map text p.1) × FitsConfig p.0
 unfolding heap_at
 heap_at_takes end [] p e = absurd cc
 heap_at_takes end (line ∷ lines) p e =
     let b = bind_ok (at_line line.0 (heap_words_at (words_of line.1))) (λ config. Ok (config, lines)) p e in
     let t = heap_takes (words_of line.1) b.0 (at_line_ok line.0 (heap_words_at (words_of line.1)) b.0 b.1) in
     let here : line.1 ≡ spaced (heap_words b.0) = sym (spaced-words_of line.1) ∙ ap spaced t.0 in
-    subst (λ (q : Config × List (ℕ × List ℕ)). (map text (line ∷ lines) ≡ spaced (heap_words q.0) ∷ map text q.1) × FitsConfig q.0) (ok_is {E = ℕ × Cause} (b.0, lines) p b.2) (ap (λ (l : List ℕ). l ∷ map text lines) here, t.1)
+    subst (λ (q : Config × List (ℕ × List ℕ)). (map text (line ∷ lines) ≡ spaced (heap_words q.0) ∷ map text q.1) ×
+    FitsConfig q.0) (ok_is {E = ℕ × Cause} (b.0, lines) p b.2) (ap (λ (l : List ℕ). l ∷ map text lines) here, t.1)
 
 -- the lines spell the programs, which are within the limits
 record ThreadsSpelled (ver : Version) (h : Config) (lines : List (ℕ × List ℕ)) (threads : List (List Command)) : Type 0 where
@@ -111,7 +121,8 @@ record ThreadsSpelled (ver : Version) (h : Config) (lines : List (ℕ × List �
   total : total_words h (length threads) ≤ most_heap_words
   fit : AllByRecursion (AllByRecursion (Fit ver h.words)) threads
 
-threads_takes : (ver : Version) (usable : IsUsable ver) (end : ℕ) (h : Config) (lines : List (ℕ × List ℕ)) (threads : List (List Command)) → threads_at ver end h lines ≡ Ok threads → ThreadsSpelled ver h lines threads
+threads_takes : (ver : Version) (usable : IsUsable ver) (end : ℕ) (h : Config) (lines : List (ℕ × List ℕ)) (threads : List (List Command)) →
+    threads_at ver end h lines ≡ Ok threads → ThreadsSpelled ver h lines threads
 unfolding threads_at programs_at
 threads_takes ver usable end h [] threads e = absurd cc
 threads_takes ver usable end h (line ∷ lines) threads e =
@@ -148,11 +159,15 @@ script_takes end lines s e =
       threads = subst (λ (v : Version). length t.0 ≤ v.threads) same third.few;
       total = third.total;
       commands = all_of (Fit b.0.0 h.0.0.words) (Fits h.0.0.words) (λ c fit. fit.0) t.0 third.fit;
-      registers = subst (λ (v : Version). All (λ program. All (HasRegistersBelow v.registers) program) t.0) same (all_of (Fit b.0.0 h.0.0.words) (HasRegistersBelow b.0.0.registers) (λ c fit. fit.1) t.0 third.fit);
+      registers = subst (λ (v : Version).
+          All (λ program. All (HasRegistersBelow v.registers) program) t.0) same
+          (all_of (Fit b.0.0 h.0.0.words) (HasRegistersBelow b.0.0.registers) (λ c fit. fit.1) t.0 third.fit);
     } in
     subst (λ (k : Script). (map text lines ≡ script_lines k) × FitsScript k) (ok_is {E = ℕ × Cause} made s t.2) (cc (first.0, second.0, third.lines_are), fits)
 
-threads_again : (ver : Version) (usable : IsUsable ver) (end : ℕ) (h : Config) (lines : List (ℕ × List ℕ)) (threads : List (List Command)) → 1 ≤ length threads → length threads ≤ ver.threads → total_words h (length threads) ≤ most_heap_words → AllByRecursion (AllByRecursion (Fit ver h.words)) threads → map text lines ≡ section_lines 0 threads → threads_at ver end h lines ≡ Ok threads
+threads_again : (ver : Version) (usable : IsUsable ver) (end : ℕ) (h : Config) (lines : List (ℕ × List ℕ)) (threads : List (List Command)) →
+    1 ≤ length threads → length threads ≤ ver.threads → total_words h (length threads) ≤ most_heap_words →
+    AllByRecursion (AllByRecursion (Fit ver h.words)) threads → map text lines ≡ section_lines 0 threads → threads_at ver end h lines ≡ Ok threads
 unfolding threads_at programs_at
 threads_again ver usable end h lines [] some few total fit e = absurd (omega arith)
 threads_again ver usable end h [] (program ∷ programs) some few total fit e = absurd cc
@@ -161,9 +176,17 @@ threads_again ver usable end h (line ∷ lines) (program ∷ programs) some few 
     let here : line.1 ≡ spaced (section_words 0) = cc in
     let words : words_of line.1 ≡ section_words 0 = ap words_of here ∙ words_of-line (section_words 0) (section_line_words 0 (omega arith)) in
     let room : total_words h 1 ≤ most_heap_words = fewer h 1 (length (program ∷ programs)) most_heap_words (omega (arith, more)) total in
-    let read : section_at ver h 0 (words_of line.1) ≡ Ok entry.Section = ap (section_at ver h 0) words ∙ section_again ver usable h 0 (omega (arith, usable.some_thread)) room in
+    let read : section_at ver h 0 (words_of line.1) ≡ Ok entry.Section = ap (section_at ver h 0) words ∙
+    section_again ver usable h 0 (omega (arith, usable.some_thread)) room in
     let after : map text lines ≡ program_lines program ++ section_lines 1 programs = cc in
-    rw (read, rest_again ver usable h 1 lines program programs fit.0 fit.1 (omega (arith, few, more)) (subst (λ (k : ℕ). total_words h k ≤ most_heap_words) (sym more) total) after) refl
+    rw (
+      read,
+      rest_again ver usable h 1 lines program programs fit.0 fit.1 (omega (
+        arith,
+        few,
+        more,
+      )) (subst (λ (k : ℕ). total_words h k ≤ most_heap_words) (sym more) total) after,
+    ) refl
 
 pub script_again : (end : ℕ) (lines : List (ℕ × List ℕ)) (s : Script) → FitsScript s → map text lines ≡ script_lines s → script_at end lines ≡ Ok s
 unfolding script_at heap_at
@@ -175,9 +198,12 @@ script_again end (first ∷ second ∷ lines) s fits e =
     let is_second : second.1 ≡ spaced (heap_words s.config) = cc in
     let after : map text lines ≡ section_lines 0 s.threads = cc in
     let words : words_of second.1 ≡ heap_words s.config = ap words_of is_second ∙ words_of-line (heap_words s.config) (heap_line_words s.config fits.config) in
-    let version : version_at end (first ∷ second ∷ lines) ≡ Ok (ver, second ∷ lines) = version_again end first (second ∷ lines) s.version fits.version is_first in
+    let version : version_at end (first ∷ second ∷ lines) ≡ Ok (ver, second ∷ lines) =
+    version_again end first (second ∷ lines) s.version fits.version is_first in
     let config : heap_words_at (words_of second.1) ≡ Ok s.config = ap heap_words_at words ∙ heap_again s.config fits.config in
-    let threads : threads_at ver end s.config lines ≡ Ok s.threads = threads_again ver (usable_number s.version) end s.config lines s.threads fits.some_thread fits.threads fits.total (both_to (Fits s.config.words) (HasRegistersBelow ver.registers) s.threads fits.commands fits.registers) after in
+    let threads : threads_at ver end s.config lines ≡ Ok s.threads =
+    threads_again ver (usable_number s.version) end s.config lines s.threads fits.some_thread fits.threads fits.total
+    (both_to (Fits s.config.words) (HasRegistersBelow ver.registers) s.threads fits.commands fits.registers) after in
     let read : script_at end (first ∷ second ∷ lines) ≡ Ok (numbered ver.number s) = rw (version, config, threads) refl in
     read ∙ ap (λ (n : ℕ). Ok (numbered n s)) (sym fits.version)
 
@@ -187,10 +213,12 @@ found bytes (Err e) h = tt
 found bytes (Ok s) h = let t = script_takes (end_of bytes) (kept_lines bytes) s h in record { lines = t.0; fits = t.1 }
 
 -- what is spelled so is read, unless memory runs out
-pub only : (bytes : List ℕ) (r : Result Script ScriptFault) (s : Script) → Spells bytes s → GivesAt (λ s. s) r (script_at (end_of bytes) (kept_lines bytes)) → MatchResult r (λ read. s ≡ read) (λ fault. fault ≡ script_fault.NoMemory)
+pub only : (bytes : List ℕ) (r : Result Script ScriptFault) (s : Script) → Spells bytes s →
+    GivesAt (λ s. s) r (script_at (end_of bytes) (kept_lines bytes)) → MatchResult r (λ read. s ≡ read) (λ fault. fault ≡ script_fault.NoMemory)
 only bytes (Ok read) s h g = ok_is {E = ℕ × Cause} s read (sym (script_again (end_of bytes) (kept_lines bytes) s h.fits h.lines) ∙ g)
 only bytes (Err script_fault.NoMemory) s h g = refl
-only bytes (Err (script_fault.Bad line c)) s h g = let read : script_at (end_of bytes) (kept_lines bytes) ≡ Ok s = script_again (end_of bytes) (kept_lines bytes) s h.fits h.lines in cc
+only bytes (Err (script_fault.Bad line c)) s h g =
+    let read : script_at (end_of bytes) (kept_lines bytes) ≡ Ok s = script_again (end_of bytes) (kept_lines bytes) s h.fits h.lines in cc
 
 -- bytes spell at most one script
 pub one_script : (bytes : List ℕ) (a b : Script) → Spells bytes a → Spells bytes b → a ≡ b
@@ -227,7 +255,12 @@ few_commands : (n : ℕ) (threads : List (List Command)) → sum_by (λ program.
 few_commands n [] = omega arith
 few_commands n (program ∷ programs) =
     let others = few_commands (n + 1) programs in
-    omega (arith, sum_by-cons (λ (p : List Command). length p) program programs, length-append (program_lines program) (section_lines (n + 1) programs), length-map program (λ (c : Command). spaced (command_words c)))
+    omega (
+      arith,
+      sum_by-cons (λ (p : List Command). length p) program programs,
+      length-append (program_lines program) (section_lines (n + 1) programs),
+      length-map program (λ (c : Command). spaced (command_words c)),
+    )
 
 -- a script has no more commands than its bytes
 pub few_of : (bytes : List ℕ) (s : Script) → Spells bytes s → sum_by (λ program. length program) s.threads ≤ length bytes
@@ -235,6 +268,7 @@ few_of bytes s h =
     let texts : length (map text (kept_lines bytes)) ≡ length (kept_lines bytes) = length-map (kept_lines bytes) text in
     omega (arith, few_lines bytes, few_kept 1 (lines_of bytes), few_commands 0 s.threads, texts, ap length h.lines)
 
-pub few : (bytes : List ℕ) (r : Result Script ScriptFault) → GivesAt (λ s. s) r (script_at (end_of bytes) (kept_lines bytes)) → IfOk r (λ s. sum_by (λ program. length program) s.threads ≤ length bytes)
+pub few : (bytes : List ℕ) (r : Result Script ScriptFault) → GivesAt (λ s. s) r (script_at (end_of bytes) (kept_lines bytes)) →
+    IfOk r (λ s. sum_by (λ program. length program) s.threads ≤ length bytes)
 few bytes (Err e) h = tt
 few bytes (Ok s) h = few_of bytes s (found bytes (Ok s) h)

@@ -43,7 +43,10 @@ thread_reads ver usable = record { takes = takes; again = again }
     takes (name ∷ number ∷ []) n e =
         elim (chosen (bytes_eq name (codes "thread")) (or_cause cause.Thread (number_at (ver.threads - 1) number)) (Err cause.Thread) (Ok n) e) [
           | inl p ↦
-              let t = (number_reads (ver.threads - 1) (omega (arith, usable.threads))).takes number n (or_cause_ok cause.Thread (number_at (ver.threads - 1) number) n p.1) in
+              let t = (number_reads (ver.threads - 1) (omega (
+                arith,
+                usable.threads,
+              ))).takes number n (or_cause_ok cause.Thread (number_at (ver.threads - 1) number) n p.1) in
               let first : name ≡ codes "thread" = (bytes_eq-Decides name (codes "thread")).0 p.0 in
               (cc (first, t.0), omega (arith, t.1, usable.some_thread))
           | inr p ↦ absurd (let never : Err cause.Thread ≡ Ok n = p.1 in cc)
@@ -56,7 +59,8 @@ thread_reads ver usable = record { takes = takes; again = again }
 abbrev pub Begins : Version → Config → ℕ → List (List ℕ) → Type 0
 Begins ver h n words = (words ≡ section_words n) × (n < ver.threads) × (total_words h (n + 1) ≤ most_heap_words)
 
-pub section_takes : (ver : Version) (usable : IsUsable ver) (h : Config) (n : ℕ) (words : List (List ℕ)) (e : Entry) → section_at ver h n words ≡ Ok e → Begins ver h n words × (e ≡ entry.Section)
+pub section_takes : (ver : Version) (usable : IsUsable ver) (h : Config) (n : ℕ) (words : List (List ℕ)) (e : Entry) →
+    section_at ver h n words ≡ Ok e → Begins ver h n words × (e ≡ entry.Section)
 unfolding section_at
 section_takes ver usable h n words e read =
     let b = bind_ok (thread_at ver words) _ e read in
@@ -64,12 +68,19 @@ section_takes ver usable h n words e read =
     elim (chosen (eqb b.0 n) _ (Err cause.Thread) (Ok e) b.2) [
       | inl p ↦
           let g = guard_ok (leb (total_words h (n + 1)) most_heap_words) cause.Total entry.Section e p.1 in
-          let same : b.0 ≡ n = eqb-true b.0 n p.0 in
-          ((subst (λ (k : ℕ). words ≡ section_words k) same t.0, subst (λ (k : ℕ). k < ver.threads) same t.1, leb-true (total_words h (n + 1)) most_heap_words g.0), sym g.1)
+          let same : b.0 ≡ n = eqb-true b.0 n p.0 in (
+            (
+              subst (λ (k : ℕ). words ≡ section_words k) same t.0,
+              subst (λ (k : ℕ). k < ver.threads) same t.1,
+              leb-true (total_words h (n + 1)) most_heap_words g.0,
+            ),
+            sym g.1,
+          )
       | inr p ↦ absurd (let never : Err cause.Thread ≡ Ok e = p.1 in cc)
     ]
 
-pub section_again : (ver : Version) (usable : IsUsable ver) (h : Config) (n : ℕ) → n < ver.threads → total_words h (n + 1) ≤ most_heap_words → section_at ver h n (section_words n) ≡ Ok entry.Section
+pub section_again : (ver : Version) (usable : IsUsable ver) (h : Config) (n : ℕ) → n < ver.threads → total_words h (n + 1) ≤ most_heap_words →
+    section_at ver h n (section_words n) ≡ Ok entry.Section
 unfolding section_at
 section_again ver usable h n few total = rw ((thread_reads ver usable).again n few, eq-eqb n n refl, le-leb (total_words h (n + 1)) most_heap_words total) refl
 
@@ -78,7 +89,8 @@ abbrev EntrySpelled : Version → Config → ℕ → List (List ℕ) → Entry �
 EntrySpelled ver h n words entry.Section = Begins ver h n words
 EntrySpelled ver h n words (entry.Order c) = (words ≡ command_words c) × Fit ver h.words c
 
-entry_takes : (ver : Version) (usable : IsUsable ver) (h : Config) (n : ℕ) (words : List (List ℕ)) (e : Entry) → entry_at ver h n words ≡ Ok e → EntrySpelled ver h n words e
+entry_takes : (ver : Version) (usable : IsUsable ver) (h : Config) (n : ℕ) (words : List (List ℕ)) (e : Entry) → entry_at ver h n words ≡ Ok e →
+    EntrySpelled ver h n words e
 unfolding entry_at
 entry_takes ver usable h n words e read =
     elim (chosen (is_section words) (section_at ver h n words) (command_at ver h.words words >>= λ c. Ok (entry.Order c)) (Ok e) read) [
@@ -118,11 +130,13 @@ verb_apart verb.Full = refl
 not_section : (ver : Version) (usable : IsUsable ver) (size : ℕ) (c : Command) → Fit ver size c → is_section (command_words c) ≡ false
 not_section ver usable size c fits = let r = words_read ver usable c fits.1 fits.0.numbers in ap is_section r.2 ∙ verb_apart r.0
 
-order_again : (ver : Version) (usable : IsUsable ver) (h : Config) (n : ℕ) (c : Command) → Fit ver h.words c → entry_at ver h n (command_words c) ≡ Ok (entry.Order c)
+order_again : (ver : Version) (usable : IsUsable ver) (h : Config) (n : ℕ) (c : Command) → Fit ver h.words c →
+    entry_at ver h n (command_words c) ≡ Ok (entry.Order c)
 unfolding entry_at
 order_again ver usable h n c fits = rw (not_section ver usable h.words c fits, (command_reads ver usable h.words).again c fits) refl
 
-begin_again : (ver : Version) (usable : IsUsable ver) (h : Config) (n : ℕ) → n < ver.threads → total_words h (n + 1) ≤ most_heap_words → entry_at ver h n (section_words n) ≡ Ok entry.Section
+begin_again : (ver : Version) (usable : IsUsable ver) (h : Config) (n : ℕ) → n < ver.threads → total_words h (n + 1) ≤ most_heap_words →
+    entry_at ver h n (section_words n) ≡ Ok entry.Section
 unfolding entry_at
 begin_again ver usable h n few total = section_again ver usable h n few total
 
@@ -138,7 +152,9 @@ pub record RestSpelled (ver : Version) (h : Config) (n : ℕ) (lines : List (ℕ
   pub few : n + length p.1 ≤ ver.threads
   pub total : total_words h (n + length p.1) ≤ most_heap_words
 
-entry_more : (ver : Version) (usable : IsUsable ver) (h : Config) (n : ℕ) (line : ℕ × List ℕ) (lines : List (ℕ × List ℕ)) (e : Entry) (p : List Command × List (List Command)) → EntrySpelled ver h n (words_of line.1) e → RestSpelled ver h (begun_after e n) lines p → RestSpelled ver h n (line ∷ lines) (with_entry e p)
+entry_more : (ver : Version) (usable : IsUsable ver) (h : Config) (n : ℕ) (line : ℕ ×
+    List ℕ) (lines : List (ℕ × List ℕ)) (e : Entry) (p : List Command × List (List Command)) → EntrySpelled ver h n (words_of line.1) e →
+    RestSpelled ver h (begun_after e n) lines p → RestSpelled ver h n (line ∷ lines) (with_entry e p)
 entry_more ver usable h n line lines entry.Section p s r =
     let more : (n + 1) + length p.1 ≡ n + length (p.0 ∷ p.1) = omega arith in
     let here : line.1 ≡ spaced (section_words n) = sym (spaced-words_of line.1) ∙ ap spaced s.0 in
@@ -160,14 +176,22 @@ entry_more ver usable h n line lines (entry.Order c) p s r =
     }
 
 -- after an entry there is still room
-room_after : (ver : Version) (usable : IsUsable ver) (h : Config) (n : ℕ) (words : List (List ℕ)) (e : Entry) → EntrySpelled ver h n words e → n ≤ ver.threads → total_words h n ≤ most_heap_words → (begun_after e n ≤ ver.threads) × (total_words h (begun_after e n) ≤ most_heap_words)
+room_after : (ver : Version) (usable : IsUsable ver) (h : Config) (n : ℕ) (words : List (List ℕ)) (e : Entry) → EntrySpelled ver h n words e →
+    n ≤ ver.threads → total_words h n ≤ most_heap_words → (begun_after e n ≤ ver.threads) × (total_words h (begun_after e n) ≤ most_heap_words)
 room_after ver usable h n words entry.Section s few total = (omega (arith, s.1), s.2)
 room_after ver usable h n words (entry.Order c) s few total = (few, total)
 
-pub rest_takes : (ver : Version) (usable : IsUsable ver) (h : Config) (n : ℕ) (lines : List (ℕ × List ℕ)) (p : List Command × List (List Command)) → n ≤ ver.threads → total_words h n ≤ most_heap_words → rest_at ver h n lines ≡ Ok p → RestSpelled ver h n lines p
+pub rest_takes : (ver : Version) (usable : IsUsable ver) (h : Config) (n : ℕ) (lines : List (ℕ × List ℕ)) (p : List Command × List (List Command)) →
+    n ≤ ver.threads → total_words h n ≤ most_heap_words → rest_at ver h n lines ≡ Ok p → RestSpelled ver h n lines p
 unfolding rest_at
 rest_takes ver usable h n [] p few total e =
-    let none : RestSpelled ver h n [] ([], []) = record { lines_are = refl; first = tt; others = tt; few = omega arith; total = let same : n ≡ n + 0 = omega arith in subst (λ (k : ℕ). total_words h k ≤ most_heap_words) same total } in
+    let none : RestSpelled ver h n [] ([], []) = record {
+      lines_are = refl;
+      first = tt;
+      others = tt;
+      few = omega arith;
+      total = let same : n ≡ n + 0 = omega arith in subst (λ (k : ℕ). total_words h k ≤ most_heap_words) same total;
+    } in
     subst (RestSpelled ver h n []) (ok_is {E = ℕ × Cause} ([], []) p e) none
 rest_takes ver usable h n (line ∷ lines) p few total e =
     let b = bind_ok (at_line line.0 (entry_at ver h n (words_of line.1))) _ p e in
@@ -182,7 +206,9 @@ pub fewer : (h : Config) (n m limit : ℕ) → n ≤ m → total_words h m ≤ l
 fewer h n m limit le total = omega (arith, mul-le-mul_right h.nursery le)
 
 module _ (ver : Version) (usable : IsUsable ver) (h : Config) where
-  pub rest_again : (n : ℕ) (lines : List (ℕ × List ℕ)) (cs : List Command) (ts : List (List Command)) → AllByRecursion (Fit ver h.words) cs → AllByRecursion (AllByRecursion (Fit ver h.words)) ts → n + length ts ≤ ver.threads → total_words h (n + length ts) ≤ most_heap_words → map text lines ≡ program_lines cs ++ section_lines n ts → rest_at ver h n lines ≡ Ok (cs, ts)
+  pub rest_again : (n : ℕ) (lines : List (ℕ × List ℕ)) (cs : List Command) (ts : List (List Command)) → AllByRecursion (Fit ver h.words) cs →
+      AllByRecursion (AllByRecursion (Fit ver h.words)) ts → n + length ts ≤ ver.threads → total_words h (n + length ts) ≤ most_heap_words →
+      map text lines ≡ program_lines cs ++ section_lines n ts → rest_at ver h n lines ≡ Ok (cs, ts)
   unfolding rest_at
   rest_again n [] [] [] fit fits few total e = refl
   rest_again n [] [] (t ∷ ts) fit fits few total e = absurd cc
@@ -198,8 +224,16 @@ module _ (ver : Version) (usable : IsUsable ver) (h : Config) where
       let more : (n + 1) + length ts ≡ n + length (t ∷ ts) = omega arith in
       let here : line.1 ≡ spaced (section_words n) = cc in
       let lt : n < ver.threads = omega (arith, few, more) in
-      let words : words_of line.1 ≡ section_words n = ap words_of here ∙ words_of-line (section_words n) (section_line_words n (omega (arith, lt, usable.threads))) in
+      let words : words_of line.1 ≡ section_words n = ap words_of here ∙
+      words_of-line (section_words n) (section_line_words n (omega (arith, lt, usable.threads))) in
       let room : total_words h (n + 1) ≤ most_heap_words = fewer h (n + 1) (n + length (t ∷ ts)) most_heap_words (omega arith) total in
       let read : entry_at ver h n (words_of line.1) ≡ Ok entry.Section = ap (entry_at ver h n) words ∙ begin_again ver usable h n lt room in
       let after : map text lines ≡ program_lines t ++ section_lines (n + 1) ts = cc in
-      rw (read, rest_again (n + 1) lines t ts fits.0 fits.1 (omega (arith, few, more)) (subst (λ (k : ℕ). total_words h k ≤ most_heap_words) (sym more) total) after) refl
+      rw (
+        read,
+        rest_again (n + 1) lines t ts fits.0 fits.1 (omega (
+          arith,
+          few,
+          more,
+        )) (subst (λ (k : ℕ). total_words h k ≤ most_heap_words) (sym more) total) after,
+      ) refl

@@ -81,7 +81,8 @@ register_reads ver usable = record { takes = takes; again = again }
     takes [] r e = absurd cc
     takes (b ∷ digits) r e =
         elim (chosen (eqb b 114) (number_at (ver.registers - 1) digits) (Err cause.Operand) (Ok r) e) [
-          | inl p ↦ let t = number_takes (ver.registers - 1) digits r p.1 in let first : b ≡ 114 = eqb-true b 114 p.0 in (cc (first, t.0), omega (arith, t.1, usable.some_register))
+          | inl p ↦ let t = number_takes (ver.registers - 1) digits r p.1 in let first : b ≡ 114 = eqb-true b 114 p.0 in
+              (cc (first, t.0), omega (arith, t.1, usable.some_register))
           | inr p ↦ absurd (let never : Err cause.Operand ≡ Ok r = p.1 in cc)
         ]
 
@@ -95,7 +96,8 @@ operand_reads ver usable = record { takes = takes; again = again }
     takes : (x : List ℕ) (o : Operand) → operand_at ver x ≡ Ok o → (x ≡ operand_word o) × IsOperandBelow ver.registers o
     takes x o e =
         elim (chosen (bytes_eq x (codes "g")) (Ok Shared) (register_at ver x >>= λ r. Ok (Register r)) (Ok o) e) [
-          | inl p ↦ subst (λ (k : Operand). (x ≡ operand_word k) × IsOperandBelow ver.registers k) (ok_is {E = Cause} Shared o p.1) ((bytes_eq-Decides x (codes "g")).0 p.0, tt)
+          | inl p ↦ subst (λ (k : Operand). (x ≡ operand_word k) ×
+              IsOperandBelow ver.registers k) (ok_is {E = Cause} Shared o p.1) ((bytes_eq-Decides x (codes "g")).0 p.0, tt)
           | inr p ↦
               let b = bind_ok (register_at ver x) (λ r. Ok (Register r)) o p.1 in
               let t = (register_reads ver usable).takes x b.0 b.1 in

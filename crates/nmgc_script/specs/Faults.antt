@@ -37,9 +37,11 @@ HasFault v h n words cause.Heap = ⊥
 HasFault v h n words cause.Thread = HasToBegin n words × (n < v.threads → words ≢ section_words n)
 HasFault v h n words cause.Total = HasToBegin n words × (most_heap_words < total_words h (n + 1))
 HasFault v h n words cause.Command = (HasToBegin n words → ⊥) × ((name : Verb) → first_of words ≢ verb_name name)
-HasFault v h n words cause.Arity = (HasToBegin n words → ⊥) × ((name : Verb) × (first_of words ≡ verb_name name)) × (HasArity v (first_of words) (length words) → ⊥)
+HasFault v h n words cause.Arity = (HasToBegin n words → ⊥) × ((name : Verb) × (first_of words ≡ verb_name name)) ×
+    (HasArity v (first_of words) (length words) → ⊥)
 HasFault v h n words cause.Operand = (HasToBegin n words → ⊥) × ((c : Command) → HasRegistersBelow v.registers c → HasNumbers c → words ≢ command_words c)
-HasFault v h n words cause.Size = (HasToBegin n words → ⊥) × ((c : Command) × HasRegistersBelow v.registers c × HasNumbers c × (words ≡ command_words c) × (h.words < words_made c))
+HasFault v h n words cause.Size = (HasToBegin n words → ⊥) × ((c : Command) × HasRegistersBelow v.registers c × HasNumbers c ×
+    (words ≡ command_words c) × (h.words < words_made c))
 
 -- the place of a cause in the order in which causes are tried
 abbrev pub order_of : Cause → ℕ
@@ -70,19 +72,22 @@ begun_with n words = if bytes_eq (first_of words) (codes "thread") then n + 1 el
 abbrev pub TellsRest : Version → Config → ℕ → ℕ → List (ℕ × List ℕ) → ℕ → Cause → Type 0
 TellsRest v h n end [] number c = (n ≡ 0) × (number ≡ end) × (c ≡ cause.Thread)
 TellsRest v h n end (line ∷ lines) number c =
-    ((number ≡ line.0) × IsFirstFault v h n (words_of line.1) c) ⊎ (IsFaultless v h n (words_of line.1) × TellsRest v h (begun_with n (words_of line.1)) end lines number c)
+    ((number ≡ line.0) × IsFirstFault v h n (words_of line.1) c) ⊎
+    (IsFaultless v h n (words_of line.1) × TellsRest v h (begun_with n (words_of line.1)) end lines number c)
 
 -- the same, from the heap line on
 abbrev pub TellsHeap : Version → ℕ → List (ℕ × List ℕ) → ℕ → Cause → Type 0
 TellsHeap v end [] number c = (number ≡ end) × (c ≡ cause.Heap)
 TellsHeap v end (line ∷ lines) number c =
-    ((number ≡ line.0) × (c ≡ cause.Heap) × ((h : Config) → FitsConfig h → line.1 ≢ spaced (heap_words h))) ⊎ ((h : Config) × FitsConfig h × (line.1 ≡ spaced (heap_words h)) × TellsRest v h 0 end lines number c)
+    ((number ≡ line.0) × (c ≡ cause.Heap) × ((h : Config) → FitsConfig h → line.1 ≢ spaced (heap_words h))) ⊎
+    ((h : Config) × FitsConfig h × (line.1 ≡ spaced (heap_words h)) × TellsRest v h 0 end lines number c)
 
 -- the same, of a whole text
 abbrev pub Tells : ℕ → List (ℕ × List ℕ) → ℕ → Cause → Type 0
 Tells end [] number c = (number ≡ end) × (c ≡ cause.Version)
 Tells end (line ∷ lines) number c =
-    ((number ≡ line.0) × (c ≡ cause.Version) × ((v : Version) → IsVersion v → line.1 ≢ spaced (version_words v.number))) ⊎ ((v : Version) × IsVersion v × (line.1 ≡ spaced (version_words v.number)) × TellsHeap v end lines number c)
+    ((number ≡ line.0) × (c ≡ cause.Version) × ((v : Version) → IsVersion v → line.1 ≢ spaced (version_words v.number))) ⊎
+    ((v : Version) × IsVersion v × (line.1 ≡ spaced (version_words v.number)) × TellsHeap v end lines number c)
 
 -- what is told of bytes that spell no script: the first bad line and its first cause
 abbrev pub IsToldOf : List ℕ → ScriptFault → Type 0

@@ -56,7 +56,8 @@ Gives (Err e) read = Fails e read
 
 -- the number that a word is the decimal text of, up to a limit
 unfoldable pub number_at : ℕ → List ℕ → Result ℕ Cause
-number_at limit word = if bytes_eq word (decimal (digits_value 10 word)) && nat_le (digits_value 10 word) limit then Ok (digits_value 10 word) else Err cause.Operand
+number_at limit word =
+    if bytes_eq word (decimal (digits_value 10 word)) && nat_le (digits_value 10 word) limit then Ok (digits_value 10 word) else Err cause.Operand
 
 -- an 'r' and the number of a register of the version
 unfoldable pub register_at : Version → List ℕ → Result ℕ Cause
@@ -96,7 +97,8 @@ two_at f g (x ∷ y ∷ []) = do
   Ok (a, b)
 two_at f g words = Err cause.Arity
 
-unfoldable pub three_at : {A B C : Type 0} → (List ℕ → Result A Cause) → (List ℕ → Result B Cause) → (List ℕ → Result C Cause) → List (List ℕ) → Result (A × B × C) Cause
+unfoldable pub three_at : {A B C : Type 0} → (List ℕ → Result A Cause) → (List ℕ → Result B Cause) → (List ℕ → Result C Cause) → List (List ℕ) →
+    Result (A × B × C) Cause
 three_at f g h (x ∷ y ∷ z ∷ []) = do
   a ← f x
   b ← g y
@@ -104,7 +106,8 @@ three_at f g h (x ∷ y ∷ z ∷ []) = do
   Ok (a, b, c)
 three_at f g h words = Err cause.Arity
 
-unfoldable pub four_at : {A B C D : Type 0} → (List ℕ → Result A Cause) → (List ℕ → Result B Cause) → (List ℕ → Result C Cause) → (List ℕ → Result D Cause) → List (List ℕ) → Result (A × B × C × D) Cause
+unfoldable pub four_at : {A B C D : Type 0} → (List ℕ → Result A Cause) → (List ℕ → Result B Cause) → (List ℕ → Result C Cause) →
+    (List ℕ → Result D Cause) → List (List ℕ) → Result (A × B × C × D) Cause
 four_at f g h i (x ∷ y ∷ z ∷ w ∷ []) = do
   front ← two_at f g (x ∷ y ∷ [])
   back ← two_at h i (z ∷ w ∷ [])
@@ -227,7 +230,8 @@ heap_words_at (name ∷ words) = if bytes_eq name (codes "heap") then or_cause c
 
 -- the number of the thread whose section begins
 unfoldable pub thread_at : Version → List (List ℕ) → Result ℕ Cause
-thread_at version (name ∷ number ∷ []) = if bytes_eq name (codes "thread") then or_cause cause.Thread (number_at (version.threads - 1) number) else Err cause.Thread
+thread_at version (name ∷ number ∷ []) =
+    if bytes_eq name (codes "thread") then or_cause cause.Thread (number_at (version.threads - 1) number) else Err cause.Thread
 thread_at version words = Err cause.Thread
 
 -- the section of thread n, of which the total has room
@@ -284,7 +288,9 @@ threads_at v end h (line ∷ lines) = at_line line.0 (section_at v h 0 (words_of
 -- the version that its line names, and what comes after it
 unfoldable pub version_at : ℕ → List (ℕ × List ℕ) → Result (Version × List (ℕ × List ℕ)) (ℕ × Cause)
 version_at end [] = Err (end, cause.Version)
-version_at end (line ∷ lines) = if bytes_eq line.1 (codes "nmgc 1") then Ok (version_1, lines) else (if bytes_eq line.1 (codes "nmgc 2") then Ok (version_2, lines) else Err (line.0, cause.Version))
+version_at end (line ∷ lines) =
+    if bytes_eq line.1 (codes "nmgc 1") then Ok (version_1, lines) else
+    (if bytes_eq line.1 (codes "nmgc 2") then Ok (version_2, lines) else Err (line.0, cause.Version))
 
 -- the heap line, and what comes after it
 unfoldable pub heap_at : ℕ → List (ℕ × List ℕ) → Result (Config × List (ℕ × List ℕ)) (ℕ × Cause)

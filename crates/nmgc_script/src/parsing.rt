@@ -50,7 +50,8 @@ pub fn parse(alloc: Global, bytes: &[u8]) -> Result<Script, ScriptFault>
 /// both. It does nothing: its contract is the law.
 pub fn spells_one_script(bytes: &[u8])
     ensures script { (one other : Spelled) → Spells bytes.now one → Spells bytes.now other → one ≡ other }
-    ensures fault { (m n : ℕ) (c d : Why) → Tells (end_of bytes.now) (kept_lines bytes.now) m c → Tells (end_of bytes.now) (kept_lines bytes.now) n d → (m ≡ n) × (c ≡ d) }
+    ensures fault { (m n : ℕ) (c d : Why) → Tells (end_of bytes.now) (kept_lines bytes.now) m c →
+        Tells (end_of bytes.now) (kept_lines bytes.now) n d → (m ≡ n) × (c ≡ d) }
     ensures never_both { (one : Spelled) (n : ℕ) (c : Why) → Spells bytes.now one → Tells (end_of bytes.now) (kept_lines bytes.now) n c → ⊥ }
 {}
 
@@ -75,7 +76,11 @@ fn script(alloc: Global, bytes: &[u8]) -> Result<Script, ScriptFault>
 // Reads the version line.
 #[tactic(auto, unfolding(crate::specs::Reading::version_at))]
 fn version_line(lines: &mut Lines) -> Result<Version, ScriptFault>
-    ensures gives { GivesAt (λ v. (v, kept_after lines.new.number lines.new.rest.now)) result (version_at (end_after lines.old.number lines.old.rest.now) (kept_after lines.old.number lines.old.rest.now)) }
+    ensures gives { GivesAt (λ v. (
+      v,
+      kept_after lines.new.number lines.new.rest.now,
+    )) result
+        (version_at (end_after lines.old.number lines.old.rest.now) (kept_after lines.old.number lines.old.rest.now)) }
     ensures end { end_after lines.new.number lines.new.rest.now ≡ end_after lines.old.number lines.old.rest.now }
 {
     let Some((number, line)) = lines.next() else {
@@ -99,7 +104,11 @@ fn version_line(lines: &mut Lines) -> Result<Version, ScriptFault>
 // Reads the heap line.
 #[tactic(auto, unfolding(crate::specs::Reading::heap_at))]
 fn heap_line<'a>(lines: &mut Lines<'a>, words: &mut Vec<&'a [u8]>) -> Result<Config, ScriptFault>
-    ensures gives { GivesAt (λ c. (c, kept_after lines.new.number lines.new.rest.now)) result (heap_at (end_after lines.old.number lines.old.rest.now) (kept_after lines.old.number lines.old.rest.now)) }
+    ensures gives { GivesAt (λ c. (
+      c,
+      kept_after lines.new.number lines.new.rest.now,
+    )) result
+        (heap_at (end_after lines.old.number lines.old.rest.now) (kept_after lines.old.number lines.old.rest.now)) }
     ensures end { end_after lines.new.number lines.new.rest.now ≡ end_after lines.old.number lines.old.rest.now }
     ensures fits { IfOk result (λ c. FitsConfig c) }
 {
@@ -136,7 +145,8 @@ fn threads<'a>(
     words: &mut Vec<&'a [u8]>,
 ) -> Result<List<List<Command>>, ScriptFault>
     requires { FitsConfig config.now }
-    ensures { GivesAt (λ t. t) result (threads_at version (end_after lines.old.number lines.old.rest.now) config.now (kept_after lines.old.number lines.old.rest.now)) }
+    ensures { GivesAt (λ t.
+        t) result (threads_at version (end_after lines.old.number lines.old.rest.now) config.now (kept_after lines.old.number lines.old.rest.now)) }
 {
     let Some((number, line)) = lines.next() else {
         return Err(ScriptFault::Bad {

@@ -39,7 +39,8 @@ impl<'a> Lines<'a> {
 
     /// The next line that isn't passed over, with its number. After `None` the text is at its end.
     pub fn next(&mut self) -> Option<(u32, &'a [u8])>
-        ensures line { IfSome result (λ line. kept_after self.old.number self.old.rest.now ≡ (line.0, line.1.now) ∷ kept_after self.new.number self.new.rest.now) }
+        ensures line { IfSome result (λ line. kept_after self.old.number self.old.rest.now ≡ (line.0, line.1.now) ∷
+            kept_after self.new.number self.new.rest.now) }
         ensures none { IfNone result (kept_after self.old.number self.old.rest.now ≡ []) }
         ensures last { IfNone result (self.new.number ≡ end_after self.old.number self.old.rest.now) }
         ensures end { end_after self.new.number self.new.rest.now ≡ end_after self.old.number self.old.rest.now }

@@ -23,7 +23,8 @@ reciprocal class = get_or RECIPROCALS class 0
 -- every number of the table
 reciprocal_of : (class : ℕ) → class ≤ 20 → IsReciprocal (block_size class) (reciprocal class)
 reciprocal_of class le =
-    let holds : is_reciprocal (block_size class) (reciprocal class) ≡ true = agree_below_at (λ c. is_reciprocal (block_size c) (reciprocal c)) (λ c. true) 21 class refl (omega arith) in
+    let holds : is_reciprocal (block_size class) (reciprocal class) ≡ true =
+    agree_below_at (λ c. is_reciprocal (block_size c) (reciprocal c)) (λ c. true) 21 class refl (omega arith) in
     let parts = and_parts _ _ holds in
     let rest = and_parts _ _ parts.1 in
     record { up = leb-true _ _ parts.0; close = ltb-true _ _ rest.0; small = leb-true _ _ rest.1 }

@@ -34,14 +34,16 @@ in_state s state h free = record {
 }
 
 -- the same, where what is required is said of the segment as a caller sees it
-pub in_state_from : (s now : Segment) (state : State) → s ≡ now → IsSegment s → (state ≡ Free → (b : ℕ) → InUse now b → ⊥) → IsSegment (record s { state = state })
+pub in_state_from : (s now : Segment) (state : State) → s ≡ now → IsSegment s → (state ≡ Free → (b : ℕ) → InUse now b → ⊥) →
+    IsSegment (record s { state = state })
 in_state_from s now state e h none = in_state s state h (λ f. unused_from s (subst (λ (t : Segment). (b : ℕ) → InUse t b → ⊥) (sym e) (none f)))
 
 pub has_blocks : (s : Segment) (blocks : ℕ) → blocks ≡ block_count s → HasBlocks s blocks
 has_blocks s blocks is = record { count = is; marked = omega (arith, few_blocks s) }
 
 -- the first use of a segment
-pub begun : (s : Segment) (mutator class : ℕ) → IsSegment s → s.state ≡ Free → block_size class ≤ segment_words s → IsSegment (record s { class = class; state = Current mutator })
+pub begun : (s : Segment) (mutator class : ℕ) → IsSegment s → s.state ≡ Free → block_size class ≤ segment_words s →
+    IsSegment (record s { class = class; state = Current mutator })
 begun s mutator class h is fits =
     let unused = h.free is in
     record {
@@ -56,16 +58,20 @@ begun s mutator class h is fits =
       free = λ e. absurd (cc);
     }
 
-pub begun_from : (s now : Segment) (mutator class : ℕ) → s ≡ now → IsSegment s → now.state ≡ Free → block_size class ≤ segment_words now → IsSegment (record s { class = class; state = Current mutator })
-begun_from s now mutator class e h is fits = begun s mutator class h (ap (λ (t : Segment). t.state) e ∙ is) (subst (λ (t : Segment). block_size class ≤ segment_words t) (sym e) fits)
+pub begun_from : (s now : Segment) (mutator class : ℕ) → s ≡ now → IsSegment s → now.state ≡ Free → block_size class ≤ segment_words now →
+    IsSegment (record s { class = class; state = Current mutator })
+begun_from s now mutator class e h is fits = begun s mutator class h (ap (λ (t : Segment). t.state) e ∙
+    is) (subst (λ (t : Segment). block_size class ≤ segment_words t) (sym e) fits)
 
 -- the mark bytes after a function changed each of them in place
-pub remarked : (items slice new : List ℕ) (len : ℕ) (f : ℕ → ℕ) → slice ≡ items → length slice ≡ len → new ≡ map f slice → map f items ≡ take len (new ++ drop (length new) items)
+pub remarked : (items slice new : List ℕ) (len : ℕ) (f : ℕ → ℕ) → slice ≡ items → length slice ≡ len → new ≡ map f slice →
+    map f items ≡ take len (new ++ drop (length new) items)
 remarked items slice new len f same size is =
     let length_is : length new ≡ len = ap length is ∙ length-map slice f ∙ size in
     sym (take_at new (drop (length new) items) len length_is ∙ is ∙ ap (map f) same)
 
-pub carried_to : (s : Segment) (blocks epoch : ℕ) (marks : List ℕ) → IsEpoch epoch → IsSegment s × HasBlocks s blocks → map (carried epoch) s.marks ≡ marks → IsSegment (record s { marks = marks }) × HasBlocks (record s { marks = marks }) blocks
+pub carried_to : (s : Segment) (blocks epoch : ℕ) (marks : List ℕ) → IsEpoch epoch → IsSegment s × HasBlocks s blocks →
+    map (carried epoch) s.marks ≡ marks → IsSegment (record s { marks = marks }) × HasBlocks (record s { marks = marks }) blocks
 carried_to s blocks epoch marks e h is =
     let P : List ℕ → Type 0 = λ ms. IsSegment (record s { marks = ms }) × HasBlocks (record s { marks = ms }) blocks in
     subst P is (all_carried s epoch e h.0, record { count = rw length-map h.1.count; marked = rw length-map h.1.marked })
@@ -73,17 +79,20 @@ carried_to s blocks epoch marks e h is =
 -- a byte is nonzero after a sweep where it was of the epoch
 kept_byte : (s : Segment) (epoch : ℕ) → IsEpoch epoch → IsSegment s → (b : ℕ) → (slice_index (map (swept epoch) s.marks) b ≢ 0) ↔ (mark_of s b ≡ epoch)
 kept_byte s epoch e h b =
-    subst (λ (m : ℕ). (m ≢ 0) ↔ (mark_of s b ≡ epoch)) (sym (mark-map (swept epoch) s.marks b (zero_swept epoch e))) (swept_bounds epoch (mark_of s b) e (h.bytes b)).2
+    subst (λ (m : ℕ). (m ≢ 0) ↔
+    (mark_of s b ≡ epoch)) (sym (mark-map (swept epoch) s.marks b (zero_swept epoch e))) (swept_bounds epoch (mark_of s b) e (h.bytes b)).2
 
 -- which blocks a sweep leaves in use
-swept_use : (s : Segment) (blocks epoch at : ℕ) → IsEpoch epoch → IsSegment s → IsFirstUnmarked (map (swept epoch) s.marks) 0 blocks at → (b : ℕ) → InUse (record s { marks = map (swept epoch) s.marks; next_free = at; snap = 0 }) b ↔ (mark_of s b ≡ epoch)
+swept_use : (s : Segment) (blocks epoch at : ℕ) → IsEpoch epoch → IsSegment s → IsFirstUnmarked (map (swept epoch) s.marks) 0 blocks at → (b : ℕ) →
+    InUse (record s { marks = map (swept epoch) s.marks; next_free = at; snap = 0 }) b ↔ (mark_of s b ≡ epoch)
 swept_use s blocks epoch at e h first b = (
   (λ used. elim used [ inl below ↦ (kept_byte s epoch e h b).0 (first.before b (omega arith) below) | inr marked ↦ (kept_byte s epoch e h b).0 marked ]),
   (λ marked. inr ((kept_byte s epoch e h b).1 marked)),
 )
 
 -- a segment that was swept
-all_swept : (s : Segment) (blocks epoch at : ℕ) → IsEpoch epoch → IsSegment s → HasBlocks s blocks → IsFirstUnmarked (map (swept epoch) s.marks) 0 blocks at → IsSegment (record s { marks = map (swept epoch) s.marks; next_free = at; snap = 0 })
+all_swept : (s : Segment) (blocks epoch at : ℕ) → IsEpoch epoch → IsSegment s → HasBlocks s blocks →
+    IsFirstUnmarked (map (swept epoch) s.marks) 0 blocks at → IsSegment (record s { marks = map (swept epoch) s.marks; next_free = at; snap = 0 })
 all_swept s blocks epoch at e h n first =
     let is = λ (b : ℕ). mark-map (swept epoch) s.marks b (zero_swept epoch e) in
     let bounds = λ (b : ℕ). swept_bounds epoch (mark_of s b) e (h.bytes b) in
@@ -104,13 +113,18 @@ all_swept s blocks epoch at e h n first =
     }
 
 -- the same, of what the code has
-pub swept_to : (s : Segment) (blocks epoch at : ℕ) (marks slice : List ℕ) → IsEpoch epoch → IsSegment s × HasBlocks s blocks → map (swept epoch) s.marks ≡ marks → slice ≡ marks → IsFirstUnmarked slice 0 blocks at → IsSegment (record s { marks = marks; next_free = at; snap = 0 }) × HasBlocks (record s { marks = marks; next_free = at; snap = 0 }) blocks
+pub swept_to : (s : Segment) (blocks epoch at : ℕ) (marks slice : List ℕ) → IsEpoch epoch → IsSegment s × HasBlocks s blocks →
+    map (swept epoch) s.marks ≡ marks → slice ≡ marks → IsFirstUnmarked slice 0 blocks at →
+    IsSegment (record s { marks = marks; next_free = at; snap = 0 }) × HasBlocks (record s { marks = marks; next_free = at; snap = 0 }) blocks
 swept_to s blocks epoch at marks slice e h is same first =
-    let P : List ℕ → Type 0 = λ ms. IsSegment (record s { marks = ms; next_free = at; snap = 0 }) × HasBlocks (record s { marks = ms; next_free = at; snap = 0 }) blocks in
+    let P : List ℕ → Type 0 = λ ms. IsSegment (record s { marks = ms; next_free = at; snap = 0 }) ×
+    HasBlocks (record s { marks = ms; next_free = at; snap = 0 }) blocks in
     let here = subst (λ (ms : List ℕ). IsFirstUnmarked ms 0 blocks at) (same ∙ sym is) first in
     subst P is (all_swept s blocks epoch at e h.0 h.1 here, record { count = rw length-map h.1.count; marked = rw length-map h.1.marked })
 
-pub swept_use_to : (s now : Segment) (blocks epoch at : ℕ) (marks slice : List ℕ) → s ≡ now → IsEpoch epoch → IsSegment s → map (swept epoch) s.marks ≡ marks → slice ≡ marks → IsFirstUnmarked slice 0 blocks at → (b : ℕ) → InUse (record s { marks = marks; next_free = at; snap = 0 }) b ↔ IsMarked now epoch b
+pub swept_use_to : (s now : Segment) (blocks epoch at : ℕ) (marks slice : List ℕ) → s ≡ now → IsEpoch epoch → IsSegment s →
+    map (swept epoch) s.marks ≡ marks → slice ≡ marks → IsFirstUnmarked slice 0 blocks at → (b : ℕ) →
+    InUse (record s { marks = marks; next_free = at; snap = 0 }) b ↔ IsMarked now epoch b
 swept_use_to s now blocks epoch at marks slice seen e h is same first =
     let P : List ℕ → Segment → Type 0 = λ ms t. (b : ℕ) → InUse (record s { marks = ms; next_free = at; snap = 0 }) b ↔ IsMarked t epoch b in
     let here = subst (λ (ms : List ℕ). IsFirstUnmarked ms 0 blocks at) (same ∙ sym is) first in
@@ -128,7 +142,8 @@ within : (marks : List ℕ) (b : ℕ) → slice_index marks b ≢ 0 → b < leng
 within marks b nz = elim (cases_lt b (length marks)) [ inl lt ↦ lt | inr ge ↦ absurd (nz (get_or-eq_default marks 0 ge)) ]
 
 -- a sweep finds nothing exactly where no mark byte was of the epoch
-pub finds_none : (now : Segment) (epoch : ℕ) (any : Bool) → IsEpoch epoch → IsTrue any ↔ HasMark now.marks epoch → ¬ IsTrue any ↔ ((b : ℕ) → IsMarked now epoch b → ⊥)
+pub finds_none : (now : Segment) (epoch : ℕ) (any : Bool) → IsEpoch epoch → IsTrue any ↔ HasMark now.marks epoch → ¬ IsTrue any ↔
+    ((b : ℕ) → IsMarked now epoch b → ⊥)
 finds_none now epoch any e found = (
   (λ none b marked. none (found.1 (b, within now.marks b (λ z. omega arith), marked))),
   (λ none is. let w = found.0 is in none w.0 w.2),
@@ -141,7 +156,9 @@ some_block s h =
     (le-div_iff_mul-le pos).1 (omega (arith, h.fits))
 
 -- a sweep finds all exactly where every block was of the epoch
-pub finds_all : (s : Segment) (blocks epoch at : ℕ) (any : Bool) → IsEpoch epoch → IsSegment s → HasBlocks s blocks → IsTrue any ↔ HasMark s.marks epoch → IsFirstUnmarked (map (swept epoch) s.marks) 0 blocks at → (IsTrue any × (at ≡ blocks)) ↔ ((b : ℕ) → b < block_count s → IsMarked s epoch b)
+pub finds_all : (s : Segment) (blocks epoch at : ℕ) (any : Bool) → IsEpoch epoch → IsSegment s → HasBlocks s blocks → IsTrue any ↔
+    HasMark s.marks epoch → IsFirstUnmarked (map (swept epoch) s.marks) 0 blocks at → (IsTrue any × (at ≡ blocks)) ↔
+    ((b : ℕ) → b < block_count s → IsMarked s epoch b)
 finds_all s blocks epoch at any e h n found first = (
   (λ all b inside. (kept_byte s epoch e h b).0 (first.before b (omega arith) (omega (arith, all.1, n.count)))),
   (λ all.
@@ -155,26 +172,33 @@ finds_all s blocks epoch at any e h n found first = (
 )
 
 -- both, of what the code has
-pub free_from : (s now : Segment) (epoch : ℕ) (any : Bool) (slice : List ℕ) (P : Type 0) → s ≡ now → IsEpoch epoch → slice ≡ s.marks → IsTrue any ↔ HasMark slice epoch → P ↔ (¬ IsTrue any) → P ↔ ((b : ℕ) → IsMarked now epoch b → ⊥)
+pub free_from : (s now : Segment) (epoch : ℕ) (any : Bool) (slice : List ℕ) (P : Type 0) → s ≡ now → IsEpoch epoch → slice ≡ s.marks → IsTrue any ↔
+    HasMark slice epoch → P ↔ (¬ IsTrue any) → P ↔ ((b : ℕ) → IsMarked now epoch b → ⊥)
 free_from s now epoch any slice P seen e is found answer =
     let marks : slice ≡ now.marks = is ∙ ap (λ (t : Segment). t.marks) seen in
     let here = subst (λ (ms : List ℕ). IsTrue any ↔ HasMark ms epoch) marks found in
     through answer (finds_none now epoch any e here)
 
-pub filled_from : (s now : Segment) (blocks epoch at : ℕ) (any : Bool) (slice marks slice_after : List ℕ) (P : Type 0) → s ≡ now → IsEpoch epoch → IsSegment s × HasBlocks s blocks → slice ≡ s.marks → IsTrue any ↔ HasMark slice epoch → map (swept epoch) s.marks ≡ marks → slice_after ≡ marks → IsFirstUnmarked slice_after 0 blocks at → P ↔ (IsTrue any × (at ≡ blocks)) → P ↔ ((b : ℕ) → b < block_count now → IsMarked now epoch b)
+pub filled_from : (s now : Segment) (blocks epoch at : ℕ) (any : Bool) (slice marks slice_after : List ℕ) (P : Type 0) → s ≡ now → IsEpoch epoch →
+    IsSegment s × HasBlocks s blocks → slice ≡ s.marks → IsTrue any ↔ HasMark slice epoch → map (swept epoch) s.marks ≡ marks →
+    slice_after ≡ marks → IsFirstUnmarked slice_after 0 blocks at → P ↔ (IsTrue any × (at ≡ blocks)) → P ↔
+    ((b : ℕ) → b < block_count now → IsMarked now epoch b)
 filled_from s now blocks epoch at any slice marks slice_after P seen e h is found swept_is same first answer =
     let here = subst (λ (ms : List ℕ). IsTrue any ↔ HasMark ms epoch) is found in
     let first_here = subst (λ (ms : List ℕ). IsFirstUnmarked ms 0 blocks at) (same ∙ sym swept_is) first in
-    subst (λ (t : Segment). P ↔ ((b : ℕ) → b < block_count t → IsMarked t epoch b)) seen (through answer (finds_all s blocks epoch at any e h.0 h.1 here first_here))
+    subst (λ (t : Segment). P ↔ ((b : ℕ) → b < block_count t →
+    IsMarked t epoch b)) seen (through answer (finds_all s blocks epoch at any e h.0 h.1 here first_here))
 
 -- where the blocks in use are those of the epoch, none and all are told by the mark bytes too
-pub unused_as : (now : Segment) (epoch : ℕ) (P : Type 0) → ((b : ℕ) → InUse now b ↔ IsMarked now epoch b) → P ↔ ((b : ℕ) → IsMarked now epoch b → ⊥) → P ↔ ((b : ℕ) → InUse now b → ⊥)
+pub unused_as : (now : Segment) (epoch : ℕ) (P : Type 0) → ((b : ℕ) → InUse now b ↔ IsMarked now epoch b) → P ↔
+    ((b : ℕ) → IsMarked now epoch b → ⊥) → P ↔ ((b : ℕ) → InUse now b → ⊥)
 unused_as now epoch P same answer = (
   (λ p b used. answer.0 p b ((same b).0 used)),
   (λ none. answer.1 (λ b marked. none b ((same b).1 marked))),
 )
 
-all_used : (s : Segment) (blocks epoch : ℕ) (any : Bool) → IsSegment s → HasBlocks s blocks → IsTrue any ↔ HasMark s.marks epoch → ((b : ℕ) → InUse s b ↔ IsMarked s epoch b) → (IsTrue any × (s.next_free ≡ blocks)) ↔ ((b : ℕ) → b < block_count s → InUse s b)
+all_used : (s : Segment) (blocks epoch : ℕ) (any : Bool) → IsSegment s → HasBlocks s blocks → IsTrue any ↔ HasMark s.marks epoch →
+    ((b : ℕ) → InUse s b ↔ IsMarked s epoch b) → (IsTrue any × (s.next_free ≡ blocks)) ↔ ((b : ℕ) → b < block_count s → InUse s b)
 all_used s blocks epoch any h n found same = (
   (λ all b inside. inl (omega (arith, all.1, n.count, inside))),
   (λ all.
@@ -190,7 +214,9 @@ all_used s blocks epoch any h n found same = (
       )),
 )
 
-pub used_from : (s now : Segment) (blocks epoch : ℕ) (any : Bool) (slice : List ℕ) (P : Type 0) → s ≡ now → IsSegment s × HasBlocks s blocks → slice ≡ s.marks → IsTrue any ↔ HasMark slice epoch → ((b : ℕ) → InUse now b ↔ IsMarked now epoch b) → P ↔ (IsTrue any × (s.next_free ≡ blocks)) → P ↔ ((b : ℕ) → b < block_count now → InUse now b)
+pub used_from : (s now : Segment) (blocks epoch : ℕ) (any : Bool) (slice : List ℕ) (P : Type 0) → s ≡ now → IsSegment s × HasBlocks s blocks →
+    slice ≡ s.marks → IsTrue any ↔ HasMark slice epoch → ((b : ℕ) → InUse now b ↔ IsMarked now epoch b) → P ↔
+    (IsTrue any × (s.next_free ≡ blocks)) → P ↔ ((b : ℕ) → b < block_count now → InUse now b)
 used_from s now blocks epoch any slice P seen h is found same answer =
     let here = subst (λ (ms : List ℕ). IsTrue any ↔ HasMark ms epoch) is found in
     let same_here = subst (λ (t : Segment). (b : ℕ) → InUse t b ↔ IsMarked t epoch b) (sym seen) same in

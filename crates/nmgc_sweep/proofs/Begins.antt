@@ -165,7 +165,8 @@ abbrev waits_one : Segment → ℕ
 waits_one s = cond (is s.state Sweeping) 1 0
 
 -- as many wait as are listed
-pub counted : (s : Segments) (left : List ℕ) (xs : List Segment) → ListsNumbers (λ n. (nth xs n).state ≡ Sweeping) left → count_by (λ (t : Segment). is t.state Sweeping) xs ≡ length left
+pub counted : (s : Segments) (left : List ℕ) (xs : List Segment) → ListsNumbers (λ n. (nth xs n).state ≡ Sweeping) left →
+    count_by (λ (t : Segment). is t.state Sweeping) xs ≡ length left
 counted s [] xs h = sweeping_none (record s { segments = xs }) (λ i low is. let c = h.complete i is in omega (arith, c.1))
 counted s (n ∷ rest) xs h =
     let waits : (nth xs n).state ≡ Sweeping = h.sound n (contains_head n rest) in
@@ -194,4 +195,5 @@ counted s (n ∷ rest) xs h =
     goal ∙ omega arith
 
 pub left_is_counted : LeftIsCounted
-left_is_counted words a segments sweeper stands h = sym (counts_stand segments words a Sweeping stands) ∙ counted segments sweeper.left segments.segments h.numbers
+left_is_counted words a segments sweeper stands h = sym (counts_stand segments words a Sweeping stands) ∙
+    counted segments sweeper.left segments.segments h.numbers

@@ -40,7 +40,8 @@ module _ (c : Cycle) (closed : ℕ) (words after : List ℕ) (a b : AllocState) 
       noted = work.sweeping.noted;
       as_noted = λ n is. let was = work.sweeping.as_noted n (waited n is) in (was.0, k.names n (waited n is) ∙ was.1);
       marked = λ n block name is lies.
-          let lay : LiesIn a n block name = ap (λ (names : List (Option Name)). name_in (record (cells a n) { names = names }) block) (sym (k.names n (waited n is))) ∙ lies in
+          let lay : LiesIn a n block name = ap (λ (names : List (Option Name)).
+          name_in (record (cells a n) { names = names }) block) (sym (k.names n (waited n is))) ∙ lies in
           subst (λ (m : ℕ). (m ≡ sweeper.seen.epoch) ↔ IsKeptIn c name) (sym (k.marks n block)) (work.sweeping.marked n block name (waited n is) lay);
       had = λ n. (
         (λ has. let f = (work.sweeping.had n).0 has in (f.0, f.1, f.2, (λ w. f.3 (waited f.0 w)), f.4)),
@@ -61,7 +62,8 @@ module _ (c : Cycle) (closed : ℕ) (words after : List ℕ) (a b : AllocState) 
   }
 
 pub work_goes_on : WorkGoesOn
-work_goes_on c closed words after a b old new cycle sweeper work left stands k = (goes_on c closed words after a b old new cycle sweeper work stands k, left_stays old new sweeper k.waits k.layout left)
+work_goes_on c closed words after a b old new cycle sweeper work left stands k =
+    (goes_on c closed words after a b old new cycle sweeper work stands k, left_stays old new sweeper k.waits k.layout left)
 
 -- the segment for the next name doesn't wait
 chosen_not : (s : Segments) (m class n : ℕ) → IsChosen s m class n → IsWaiting s n → ⊥
@@ -77,7 +79,8 @@ target_not a m class n (inr (none, inr (no_active, next))) is = let f = sym next
 pub placing_keeps_waiting : PlacingKeepsWaiting
 placing_keeps_waiting layout old new a b mutator class at name h p =
     let n = h.number in
-    let other : (i : ℕ) → i ≢ h.number → nth new.segments i ≡ nth old.segments i = λ i ne. ap (λ (l : List Segment). nth l i) h.others ∙ nth-set_other old.segments h.number i (nth new.segments h.number) ne in
+    let other : (i : ℕ) → i ≢ h.number → nth new.segments i ≡ nth old.segments i = λ i ne. ap (λ (l : List Segment). nth l i) h.others ∙
+    nth-set_other old.segments h.number i (nth new.segments h.number) ne in
     let not_now : IsWaiting new h.number → ⊥ = λ is. elim h.takes.state [
       | inl room ↦ let f = sym room.1 ∙ is in cc
       | inr full ↦ let f = sym full.1 ∙ is in cc
@@ -95,7 +98,8 @@ placing_keeps_waiting layout old new a b mutator class at name h p =
         )
       ];
       marks = λ i block. elim (cases_eq i h.number) [
-        | inl e ↦ ap (λ (j : ℕ). mark_of (nth new.segments j) block) e ∙ ap (λ (s : Segment). mark_of s block) h.takes.rest ∙ ap (λ (j : ℕ). mark_of (nth old.segments j) block) (sym e)
+        | inl e ↦ ap (λ (j : ℕ). mark_of (nth new.segments j) block) e ∙ ap (λ (s : Segment). mark_of s block) h.takes.rest ∙
+            ap (λ (j : ℕ). mark_of (nth old.segments j) block) (sym e)
         | inr ne ↦ ap (λ (s : Segment). mark_of s block) (other i ne)
       ];
       names = λ i is.

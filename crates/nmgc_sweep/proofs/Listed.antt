@@ -37,7 +37,8 @@ none_listed P name xs = record {
 }
 
 -- one block more that doesn't pass
-pub one_passed_over : (P : ℕ → Type 0) (name : ℕ → Option Name) (block : ℕ) (xs ys : List Name) → (P block → ⊥) → ListsBlocks P name block xs ys → ListsBlocks P name (block + 1) xs ys
+pub one_passed_over : (P : ℕ → Type 0) (name : ℕ → Option Name) (block : ℕ) (xs ys : List Name) → (P block → ⊥) → ListsBlocks P name block xs ys →
+    ListsBlocks P name (block + 1) xs ys
 one_passed_over P name block xs ys fails h = record {
   added = h.added;
   is = h.is;
@@ -50,7 +51,8 @@ one_passed_over P name block xs ys fails h = record {
 }
 
 -- one block more that does
-pub one_listed : (P : ℕ → Type 0) (name : ℕ → Option Name) (block : ℕ) (n : Name) (xs ys zs : List Name) → P block → name block ≡ Some n → zs ≡ ys ++ n ∷ [] → ListsBlocks P name block xs ys → ListsBlocks P name (block + 1) xs zs
+pub one_listed : (P : ℕ → Type 0) (name : ℕ → Option Name) (block : ℕ) (n : Name) (xs ys zs : List Name) → P block → name block ≡ Some n →
+    zs ≡ ys ++ n ∷ [] → ListsBlocks P name block xs ys → ListsBlocks P name (block + 1) xs zs
 one_listed P name block n xs ys zs passes is more h = record {
   added = h.added ++ n ∷ [];
   is = more ∙ ap (λ (l : List Name). l ++ n ∷ []) h.is ∙ append_two xs h.added (n ∷ []);
@@ -80,33 +82,50 @@ one_listed P name block n xs ys zs passes is more h = record {
     append_two (a ∷ xs) bs cs = ap (λ (l : List Name). a ∷ l) (append_two xs bs cs)
 
 -- the place of a block that waits, from that of its segment and the words of a block
-pub placed_at : (layout told : Layout) (number class given block base size : ℕ) → told ≡ layout → given ≡ class → base ≡ segment_place told number → size ≡ block_size given → base + block * size ≡ block_place layout number class block
+pub placed_at : (layout told : Layout) (number class given block base size : ℕ) → told ≡ layout → given ≡ class → base ≡ segment_place told number →
+    size ≡ block_size given → base + block * size ≡ block_place layout number class block
 placed_at layout told number class given block base size e f b s =
     ap (λ (x : ℕ). x + block * size) b ∙ ap (λ (x : ℕ). segment_place told number + block * x) s
     ∙ ap (λ (l : Layout). segment_place l number + block * block_size given) e ∙ ap (λ (k : ℕ). block_place layout number k block) f
 
 -- it lies below the nurseries
-pub place_low : (s : Segments) (number block : ℕ) → IsSegments s → HasNumber s number → IsWaiting s number → block < block_count (nth s.segments number) → block_place s.layout number (nth s.segments number).class block < FIRST_PLACE + s.layout.segments * s.layout.words
+pub place_low : (s : Segments) (number block : ℕ) → IsSegments s → HasNumber s number → IsWaiting s number →
+    block < block_count (nth s.segments number) →
+    block_place s.layout number (nth s.segments number).class block < FIRST_PLACE + s.layout.segments * s.layout.words
 place_low s number block sound there waits within =
     let at = block_place s.layout number (nth s.segments number).class block in
-    let begins : IsBlockAt s number block at = record { exists = there; used = (λ free. let f : Sweeping ≡ Free = sym waits ∙ free in cc); within = within; place = refl } in
+    let begins : IsBlockAt s number block at = record {
+      exists = there;
+      used = (λ free. let f : Sweeping ≡ Free = sym waits ∙ free in cc);
+      within = within;
+      place = refl;
+    } in
     let four = large (nth s.segments number).class in
     let i = lies_in s number block at at sound begins (omega arith) (omega (arith, four)) in
     let exists = i.exists in
     let before = i.before in
-    let up : (number + 1) * s.layout.words ≤ s.layout.segments * s.layout.words = let e : number + 1 ≤ s.layout.segments = omega (arith, exists) in mul-le-mul_right s.layout.words e in
+    let up : (number + 1) * s.layout.words ≤ s.layout.segments * s.layout.words = let e : number + 1 ≤ s.layout.segments = omega (arith, exists) in
+    mul-le-mul_right s.layout.words e in
     omega (arith, before, up)
 
 -- so it has an entry
-pub place_named : (s : Segments) (names : List Name) (number block : ℕ) → IsSegments s → HasNumber s number → IsWaiting s number → block < block_count (nth s.segments number) → HaveEntries s.layout names → entry_of (block_place s.layout number (nth s.segments number).class block) < length names
+pub place_named : (s : Segments) (names : List Name) (number block : ℕ) → IsSegments s → HasNumber s number → IsWaiting s number →
+    block < block_count (nth s.segments number) → HaveEntries s.layout names →
+    entry_of (block_place s.layout number (nth s.segments number).class block) < length names
 place_named s names number block sound there waits within enough =
     let at = block_place s.layout number (nth s.segments number).class block in
-    let begins : IsBlockAt s number block at = record { exists = there; used = (λ free. let f : Sweeping ≡ Free = sym waits ∙ free in cc); within = within; place = refl } in
+    let begins : IsBlockAt s number block at = record {
+      exists = there;
+      used = (λ free. let f : Sweeping ≡ Free = sym waits ∙ free in cc);
+      within = within;
+      place = refl;
+    } in
     let low = place_low s number block sound there waits within in
     entry_there at (length names) (place_above s number block at sound begins) (omega (arith, low, enough))
 
 -- and fits into a place's 32 bits
-pub place_fits : (s : Segments) (number block : ℕ) → IsSegments s → HasNumber s number → IsWaiting s number → block < block_count (nth s.segments number) → block_place s.layout number (nth s.segments number).class block < 2 ^ 32
+pub place_fits : (s : Segments) (number block : ℕ) → IsSegments s → HasNumber s number → IsWaiting s number →
+    block < block_count (nth s.segments number) → block_place s.layout number (nth s.segments number).class block < 2 ^ 32
 place_fits s number block sound there waits within =
     let low = place_low s number block sound there waits within in
     let heap = sound.layout.heap in
@@ -136,10 +155,12 @@ few_in_segment s number sound there =
 
 -- the first that is left, and the others
 
-drop_first : (numbers : List ℕ) (done number : ℕ) → done < length numbers → number ≡ slice_index_or numbers done number → drop done numbers ≡ number ∷ drop (done + 1) numbers
+drop_first : (numbers : List ℕ) (done number : ℕ) → done < length numbers → number ≡ slice_index_or numbers done number →
+    drop done numbers ≡ number ∷ drop (done + 1) numbers
 drop_first [] done number low e = absurd (omega (arith, low))
 drop_first (x ∷ xs) zero number low e = ap (λ (n : ℕ). n ∷ xs) (sym e)
-drop_first (x ∷ xs) (suc done) number low e = drop_first xs done number (omega (arith, low)) e ∙ ap (λ (k : ℕ). number ∷ drop k (x ∷ xs)) (let f : suc (done + 1) ≡ suc done + 1 = omega arith in f)
+drop_first (x ∷ xs) (suc done) number low e = drop_first xs done number (omega (arith, low)) e ∙
+    ap (λ (k : ℕ). number ∷ drop k (x ∷ xs)) (let f : suc (done + 1) ≡ suc done + 1 = omega arith in f)
 
 drop_past : (numbers : List ℕ) (done : ℕ) → length numbers ≤ done → drop done numbers ≡ []
 drop_past [] zero past = refl
@@ -155,11 +176,13 @@ left_some [] done low e = omega (arith, low)
 left_some (x ∷ xs) zero low e = cc
 left_some (x ∷ xs) (suc done) low e = left_some xs done (omega (arith, low)) e
 
-pub taken : (numbers : List ℕ) (done number : ℕ) (left : List ℕ) → drop done numbers ≡ left → left ≢ [] → number ≡ slice_index_or numbers done number → drop done numbers ≡ number ∷ drop (done + 1) numbers
+pub taken : (numbers : List ℕ) (done number : ℕ) (left : List ℕ) → drop done numbers ≡ left → left ≢ [] →
+    number ≡ slice_index_or numbers done number → drop done numbers ≡ number ∷ drop (done + 1) numbers
 taken numbers done number left e some is = drop_first numbers done number (some_left numbers done (λ none. some (sym e ∙ none))) is
 
 -- it waits
-pub first_waits : (s : Segments) (x : Sweeper) (numbers : List ℕ) (done first : ℕ) → drop done numbers ≡ x.left → CanList s x → x.left ≢ [] → first ≡ slice_index_or numbers done first → IsWaiting s first
+pub first_waits : (s : Segments) (x : Sweeper) (numbers : List ℕ) (done first : ℕ) → drop done numbers ≡ x.left → CanList s x → x.left ≢ [] →
+    first ≡ slice_index_or numbers done first → IsWaiting s first
 first_waits s x numbers done first is can some at =
     let rest : List ℕ = drop (done + 1) numbers in
     let split : x.left ≡ first ∷ rest = sym is ∙ taken numbers done first x.left is some at in
@@ -167,13 +190,16 @@ first_waits s x numbers done first is can some at =
 
 -- there is room for what is in one segment more, and afterwards for that of the others
 
-pub room_for_one : (count done most words len capacity : ℕ) → done < count → words ≤ MIN_BLOCK_WORDS * most → len + (count - done) * most ≤ capacity → MIN_BLOCK_WORDS * len + words ≤ MIN_BLOCK_WORDS * capacity
+pub room_for_one : (count done most words len capacity : ℕ) → done < count → words ≤ MIN_BLOCK_WORDS * most →
+    len + (count - done) * most ≤ capacity → MIN_BLOCK_WORDS * len + words ≤ MIN_BLOCK_WORDS * capacity
 room_for_one count done most words len capacity low few room =
     let one : 1 * most ≤ (count - done) * most = let some : 1 ≤ count - done = omega (arith, low) in mul-le-mul_right most some in
     let same : 1 * most ≡ most = omega arith in
     omega (arith, one, same, few, room)
 
-pub room_for_others : (count done most words len after capacity capacity_after : ℕ) → done < count → words ≤ MIN_BLOCK_WORDS * most → len + (count - done) * most ≤ capacity → MIN_BLOCK_WORDS * after ≤ MIN_BLOCK_WORDS * len + words → capacity_after ≡ capacity → after + (count - (done + 1)) * most ≤ capacity_after
+pub room_for_others : (count done most words len after capacity capacity_after : ℕ) → done < count → words ≤ MIN_BLOCK_WORDS * most →
+    len + (count - done) * most ≤ capacity → MIN_BLOCK_WORDS * after ≤ MIN_BLOCK_WORDS * len + words → capacity_after ≡ capacity →
+    after + (count - (done + 1)) * most ≤ capacity_after
 room_for_others count done most words len after capacity capacity_after low few room more same =
     let rest = count - (done + 1) in
     let whole : count - done ≡ rest + 1 = omega (arith, low) in
@@ -186,7 +212,8 @@ room_for_others count done most words len after capacity capacity_after low few 
 pub none_below : (s : Segments) → ListsNumbers (λ n. (n < 0) × IsWaiting s n) []
 none_below s = record { ordered = tt; sound = λ n c. absurd (omega (arith, c.1)); complete = λ n h. let low = h.0 in absurd (omega (arith, low)) }
 
-pub below_skip : (s : Segments) (number : ℕ) (numbers : List ℕ) → (IsWaiting s number → ⊥) → ListsNumbers (λ n. (n < number) × IsWaiting s n) numbers → ListsNumbers (λ n. (n < number + 1) × IsWaiting s n) numbers
+pub below_skip : (s : Segments) (number : ℕ) (numbers : List ℕ) → (IsWaiting s number → ⊥) →
+    ListsNumbers (λ n. (n < number) × IsWaiting s n) numbers → ListsNumbers (λ n. (n < number + 1) × IsWaiting s n) numbers
 below_skip s number numbers not_waiting h = record {
   ordered = h.ordered;
   sound = λ n c. let was = h.sound n c in let low = was.0 in (omega (arith, low), was.1);
@@ -196,7 +223,8 @@ below_skip s number numbers not_waiting h = record {
   ];
 }
 
-pub below_more : (s : Segments) (number : ℕ) (numbers : List ℕ) → IsWaiting s number → ListsNumbers (λ n. (n < number) × IsWaiting s n) numbers → ListsNumbers (λ n. (n < number + 1) × IsWaiting s n) (numbers ++ number ∷ [])
+pub below_more : (s : Segments) (number : ℕ) (numbers : List ℕ) → IsWaiting s number → ListsNumbers (λ n. (n < number) × IsWaiting s n) numbers →
+    ListsNumbers (λ n. (n < number + 1) × IsWaiting s n) (numbers ++ number ∷ [])
 below_more s number numbers waits h = record {
   ordered = ascends_push numbers number h.ordered (λ n c. (h.sound n c).0);
   sound = λ n c. elim (Contains-push_cases numbers number n c) [
@@ -209,7 +237,8 @@ below_more s number numbers waits h = record {
   ];
 }
 
-pub below_all : (s : Segments) (number : ℕ) (numbers : List ℕ) → length s.segments ≤ number → ListsNumbers (λ n. (n < number) × IsWaiting s n) numbers → ListsNumbers (IsWaiting s) numbers
+pub below_all : (s : Segments) (number : ℕ) (numbers : List ℕ) → length s.segments ≤ number →
+    ListsNumbers (λ n. (n < number) × IsWaiting s n) numbers → ListsNumbers (IsWaiting s) numbers
 below_all s number numbers past h = record {
   ordered = h.ordered;
   sound = λ n c. (h.sound n c).1;

@@ -50,13 +50,20 @@ swept_byte begun epoch mark some e = elim (cases_eq mark epoch) [
 
 -- a sweeper by its parts
 abbrev pub made : ℕ → ℕ → ℕ → List ℕ → List Name → List Name → List ℕ → ℕ → Sweeper
-made turns upper epoch numbers had freed left most = record { seen = record { epoch = epoch; swept = numbers; had = had; freed = freed }; left = left; most = most; turns = turns; upper_turns = upper }
+made turns upper epoch numbers had freed left most = record {
+  seen = record { epoch = epoch; swept = numbers; had = had; freed = freed };
+  left = left;
+  most = most;
+  turns = turns;
+  upper_turns = upper;
+}
 
 -- a name in a segment that was swept, with Q
 abbrev SoFar : (Name → Type 0) → Cycle → AllocState → Name → Type 0
 SoFar Q c a name = (number block : ℕ) × IsSweptIn c number × (IsIn Sweeping (cells a number) → ⊥) × LiesIn c.heap number block name × Q name
 
-module _ (old new : Segments) (epoch number : ℕ) (first : ℕ) (rest : List ℕ) (left : ListsNumbers (IsWaiting old) (first ∷ rest)) (next : SweepsNext old new epoch number) where
+module _ (old new : Segments) (epoch number : ℕ) (first : ℕ) (rest : List ℕ) (left : ListsNumbers (IsWaiting old) (first ∷
+    rest)) (next : SweepsNext old new epoch number) where
   -- the segment that was swept is the first that was left
   pub first_is : first ≡ number
   first_is = elim (contains_cases first rest number (left.complete number next.least.is)) [
@@ -94,7 +101,8 @@ module _ (old new : Segments) (epoch number : ℕ) (first : ℕ) (rest : List �
   }
 
   -- the names of the segment, before the sweep
-  module _ (e : IsEpoch epoch) (c : Cycle) (words : List ℕ) (a : AllocState) (names : List Name) (stands : StandsFor old words a) (named : AreNamed old.layout names a) (once : LieOnce c.heap) (as_noted : AreAsNoted c a) where
+  module _ (e : IsEpoch epoch) (c : Cycle) (words : List ℕ) (a : AllocState) (names : List Name) (stands : StandsFor old words a)
+      (named : AreNamed old.layout names a) (once : LieOnce c.heap) (as_noted : AreAsNoted c a) where
     pub stood : (b : AllocState) × Sweeps a b number (IsMarked (nth old.segments number) epoch) × StandsFor new words b
     stood = swept_stands old new words a epoch number e stands next
 
@@ -105,7 +113,8 @@ module _ (old new : Segments) (epoch number : ℕ) (first : ℕ) (rest : List �
     other_cells i other = swept_other a stood.0 number (IsMarked (nth old.segments number) epoch) stood.1 i other
 
     pub is_other : (i : ℕ) → IsIn Sweeping (cells stood.0 i) → i ≢ number
-    is_other i is same = swept_done a stood.0 number (IsMarked (nth old.segments number) epoch) stood.1 (subst (λ (k : ℕ). IsIn Sweeping (cells stood.0 k)) same is)
+    is_other i is same = swept_done a stood.0 number (IsMarked (nth old.segments number) epoch) stood.1 (subst (λ (k : ℕ).
+        IsIn Sweeping (cells stood.0 k)) same is)
 
     pub waited : (i : ℕ) → IsIn Sweeping (cells stood.0 i) → IsIn Sweeping (cells a i)
     waited i is = swept_state a stood.0 number (IsMarked (nth old.segments number) epoch) stood.1 i is
@@ -116,7 +125,8 @@ module _ (old new : Segments) (epoch number : ℕ) (first : ℕ) (rest : List �
     -- a name lies where it lay as the cycle began
     lies_then : (block : ℕ) (n : Name) → LiesIn a number block n ↔ LiesIn c.heap number block n
     lies_then block n =
-        let same : name_in (cells a number) block ≡ name_in (cells c.heap number) block = ap (λ (names : List (Option Name)). name_in (record (cells a number) { names = names }) block) (as_noted number waits).1 in
+        let same : name_in (cells a number) block ≡ name_in (cells c.heap number) block =
+        ap (λ (names : List (Option Name)). name_in (record (cells a number) { names = names }) block) (as_noted number waits).1 in
         ((λ lies. sym same ∙ lies), (λ lies. same ∙ lies))
 
     shows : Shows old words number (cells a number)
@@ -124,10 +134,12 @@ module _ (old new : Segments) (epoch number : ℕ) (first : ℕ) (rest : List �
 
     -- its entry has the name
     entry_is : (block : ℕ) (n : Name) → LiesIn a number block n → named_at old.layout names number (nth old.segments number).class block ≡ Some n
-    entry_is block n lies = ap (λ (k : ℕ). named_at old.layout names number k block) (sym (lies_class old words a stands number block n lies)) ∙ named number block n lies
+    entry_is block n lies = ap (λ (k : ℕ). named_at old.layout names number k block) (sym (lies_class old words a stands number block n lies)) ∙
+        named number block n lies
 
     -- and where a block is in use, what its entry has is the name in it
-    entry_lies : (block : ℕ) (n : Name) → InUse (nth old.segments number) block → named_at old.layout names number (nth old.segments number).class block ≡ Some n → LiesIn a number block n
+    entry_lies : (block : ℕ) (n : Name) → InUse (nth old.segments number) block →
+        named_at old.layout names number (nth old.segments number).class block ≡ Some n → LiesIn a number block n
     entry_lies block n used is =
         let m = some_of (name_in (cells a number) block) ((shows.used block).1 used) in
         let same : Some m.0 ≡ Some n = sym (entry_is block m.0 m.1) ∙ is in
@@ -144,8 +156,10 @@ module _ (old new : Segments) (epoch number : ℕ) (first : ℕ) (rest : List �
         is_some n = refl
 
     -- names with Q are listed, where those of this segment that pass have Q
-    module _ (P : ℕ → Type 0) (Q : Name → Type 0) (uses : (block : ℕ) → P block → InUse (nth old.segments number) block) (fits : (block : ℕ) (n : Name) → LiesIn a number block n → P block ↔ Q n)
-        (before after : List Name) (lists : ListsBlocks P (named_at old.layout names number (nth old.segments number).class) (block_count (nth old.segments number)) before after)
+    module _ (P : ℕ → Type 0) (Q : Name → Type 0) (uses : (block : ℕ) → P block →
+        InUse (nth old.segments number) block) (fits : (block : ℕ) (n : Name) → LiesIn a number block n → P block ↔ Q n)
+        (before after : List Name) (lists : ListsBlocks P (named_at old.layout names number (nth old.segments number).class)
+        (block_count (nth old.segments number)) before after)
         (was : (n : Name) → Contains before n ↔ SoFar Q c a n) (was_once : IsWithoutDoubles before) where
       listed_lies : (n : Name) → Contains lists.added n → (block : ℕ) × P block × LiesIn a number block n
       listed_lies n has = let f = lists.from n has in (f.0, f.2, entry_lies f.0 n (uses f.0 f.2) f.3)
@@ -162,7 +176,8 @@ module _ (old new : Segments) (epoch number : ℕ) (first : ℕ) (rest : List �
       names_complete n f = subst (λ (l : List Name). Contains l n) (sym lists.is) (elim (cases_eq f.0 number) [
         | inl same ↦
             let lies : LiesIn a number f.1 n = (lies_then f.1 n).1 (subst (λ (k : ℕ). LiesIn c.heap k f.1 n) same f.4) in
-            Contains-append_right before lists.added n (lists.all f.1 n (inside old words number (cells a number) f.1 n shows lies) ((fits f.1 n lies).1 f.5) (entry_is f.1 n lies))
+            Contains-append_right before lists.added n (lists.all f.1 n (inside old words number (cells a number) f.1 n shows lies)
+            ((fits f.1 n lies).1 f.5) (entry_is f.1 n lies))
         | inr other ↦
             Contains-append_left before lists.added n
             ((was n).1 (f.0, f.1, f.2, (λ w. f.3 (ap (λ (k : Cells). k.state) (other_cells f.0 other) ∙ w)), f.4, f.5))
@@ -183,8 +198,10 @@ module _ (old new : Segments) (epoch number : ℕ) (first : ℕ) (rest : List �
 
   -- what was listed of it and freed, and the sweeper with it
   module _ (e : IsEpoch epoch) (names : List Name) (turns upper most : ℕ) (numbers : List ℕ) (had had_after freed freed_after : List Name)
-      (all_listed : ListsBlocks (InUse (nth old.segments number)) (named_at old.layout names number (nth old.segments number).class) (block_count (nth old.segments number)) had had_after)
-      (lost_listed : ListsBlocks (IsLost (nth old.segments number) epoch) (named_at old.layout names number (nth old.segments number).class) (block_count (nth old.segments number)) freed freed_after)
+      (all_listed : ListsBlocks (InUse (nth old.segments number)) (named_at old.layout names number (nth old.segments number).class)
+      (block_count (nth old.segments number)) had had_after)
+      (lost_listed : ListsBlocks (IsLost (nth old.segments number) epoch) (named_at old.layout names number (nth old.segments number).class)
+      (block_count (nth old.segments number)) freed freed_after)
       (c : Cycle) (closed : ℕ) (words : List ℕ) (a : AllocState) (cycle : CycleSeen) (named : AreNamed old.layout names a)
       (work : IsAtWork c closed words a old cycle (made turns upper epoch numbers had freed (first ∷ rest) most)) where
     abbrev b : AllocState
@@ -192,7 +209,9 @@ module _ (old new : Segments) (epoch number : ℕ) (first : ℕ) (rest : List �
 
     -- the blocks that are kept are those of kept names
     by_names : Sweeps a b number (HoldsKept (IsKeptIn c) a number)
-    by_names = swept_by_names a b number (IsMarked (nth old.segments number) epoch) (IsKeptIn c) (λ block name lies. work.sweeping.marked number block name (waits e c words a names work.stands named work.notes.once work.sweeping.as_noted) lies) (stood e c words a names work.stands named work.notes.once work.sweeping.as_noted).1
+    by_names = swept_by_names a b number (IsMarked (nth old.segments number) epoch) (IsKeptIn c) (λ block name lies.
+        work.sweeping.marked number block name (waits e c words a names work.stands named work.notes.once work.sweeping.as_noted) lies)
+        (stood e c words a names work.stands named work.notes.once work.sweeping.as_noted).1
 
     used_fits : (block : ℕ) (n : Name) → LiesIn a number block n → InUse (nth old.segments number) block ↔ Unit {0}
     used_fits block n lies = ((λ u. tt), (λ u. lies_used e c words a names work.stands named work.notes.once work.sweeping.as_noted block n lies))
@@ -201,7 +220,10 @@ module _ (old new : Segments) (epoch number : ℕ) (first : ℕ) (rest : List �
     lost_fits block n lies =
         let marks = work.sweeping.marked number block n (waits e c words a names work.stands named work.notes.once work.sweeping.as_noted) lies in (
           (λ lost kept. lost.1 (marks.1 kept)),
-          (λ not_kept. (lies_used e c words a names work.stands named work.notes.once work.sweeping.as_noted block n lies, (λ marked. not_kept (marks.0 marked)))),
+          (λ not_kept. (
+            lies_used e c words a names work.stands named work.notes.once work.sweeping.as_noted block n lies,
+            (λ marked. not_kept (marks.0 marked)),
+          )),
         )
 
     had_was : (n : Name) → Contains had n ↔ SoFar (λ m. Unit {0}) c a n
@@ -216,10 +238,12 @@ module _ (old new : Segments) (epoch number : ℕ) (first : ℕ) (rest : List �
           let byte : mark_of (nth new.segments number) block ≡ swept epoch (mark_of (nth old.segments number) block) =
           ap (λ (s : Segment). mark_of s block) next.sweeps.rest ∙ mark-map (swept epoch) (nth old.segments number).marks block (zero_swept epoch e) in
           subst (λ (k : ℕ). IsSettledByte c.number (mark_of (nth new.segments k) block)) (sym same)
-          (subst (λ (m : ℕ). IsSettledByte c.number m) (sym byte) (swept_byte c.number epoch (mark_of (nth old.segments number) block) work.begun work.notes.noted.epoch))
+          (subst (λ (m : ℕ). IsSettledByte c.number m) (sym byte)
+          (swept_byte c.number epoch (mark_of (nth old.segments number) block) work.begun work.notes.noted.epoch))
       | inr other ↦
           let stays = others_stay i other in
-          let size : length new.segments ≡ length old.segments = ap (λ (t : Segments). length t.segments) next.others ∙ length-set old.segments number (nth new.segments number) in
+          let size : length new.segments ≡ length old.segments = ap (λ (t : Segments). length t.segments) next.others ∙
+          length-set old.segments number (nth new.segments number) in
           let there_before : HasNumber old i = omega (arith, there, size) in
           subst (λ (s : Segment). IsSettledByte c.number (mark_of s block)) (sym stays)
           (work.settled i block there_before (λ is. not_waiting (ap (λ (s : Segment). s.state) stays ∙ is)))
@@ -236,41 +260,62 @@ module _ (old new : Segments) (epoch number : ℕ) (first : ℕ) (rest : List �
         kept = work.sweeping.kept;
         noted = record { epoch = work.sweeping.noted.epoch; swept = work.sweeping.noted.swept };
         as_noted = λ i is.
-            let was = work.sweeping.as_noted i (waited e c words a names work.stands named work.notes.once work.sweeping.as_noted i is) in
-            (was.0, ap (λ (k : Cells). k.names) (other_cells e c words a names work.stands named work.notes.once work.sweeping.as_noted i (is_other e c words a names work.stands named work.notes.once work.sweeping.as_noted i is)) ∙ was.1);
+            let was = work.sweeping.as_noted i (waited e c words a names work.stands named work.notes.once work.sweeping.as_noted i is) in (
+              was.0,
+              ap (λ (k : Cells).
+                  k.names) (other_cells e c words a names work.stands named work.notes.once work.sweeping.as_noted i
+                  (is_other e c words a names work.stands named work.notes.once work.sweeping.as_noted i is)) ∙ was.1,
+            );
         marked = λ i block n is lies.
             let other = is_other e c words a names work.stands named work.notes.once work.sweeping.as_noted i is in
-            let lay : LiesIn a i block n = ap (λ (k : Cells). name_in k block) (sym (other_cells e c words a names work.stands named work.notes.once work.sweeping.as_noted i other)) ∙ lies in
-            subst (λ (s : Segment). IsMarked s epoch block ↔ IsKeptIn c n) (sym (others_stay i other)) (work.sweeping.marked i block n (waited e c words a names work.stands named work.notes.once work.sweeping.as_noted i is) lay);
+            let lay : LiesIn a i block n = ap (λ (k : Cells).
+            name_in k block) (sym (other_cells e c words a names work.stands named work.notes.once work.sweeping.as_noted i other)) ∙ lies in
+            subst (λ (s : Segment). IsMarked s epoch block ↔
+            IsKeptIn c n) (sym (others_stay i other)) (work.sweeping.marked i block n
+            (waited e c words a names work.stands named work.notes.once work.sweeping.as_noted i is) lay);
         had = λ n. (
-          (λ has. let f = names_sound e c words a names work.stands named work.notes.once work.sweeping.as_noted (InUse (nth old.segments number)) (λ m. Unit {0}) (λ block used. used) used_fits had had_after all_listed had_was work.sweeping.had_once n has in (f.0, f.1, f.2, f.3, f.4)),
-          (λ f. names_complete e c words a names work.stands named work.notes.once work.sweeping.as_noted (InUse (nth old.segments number)) (λ m. Unit {0}) (λ block used. used) used_fits had had_after all_listed had_was work.sweeping.had_once n (f.0, f.1, f.2, f.3, f.4, tt)),
+          (λ has. let f = names_sound e c words a names work.stands named work.notes.once work.sweeping.as_noted (InUse (nth old.segments number)) (λ m. Unit {0}) (λ block used. used) used_fits had had_after all_listed had_was work.sweeping.had_once n has in
+              (f.0, f.1, f.2, f.3, f.4)),
+          (λ f. names_complete e c words a names work.stands named work.notes.once work.sweeping.as_noted (InUse (nth old.segments number)) (λ m.
+              Unit {0}) (λ block used. used) used_fits had had_after all_listed had_was work.sweeping.had_once n (f.0, f.1, f.2, f.3, f.4, tt)),
         );
-        had_once = names_once e c words a names work.stands named work.notes.once work.sweeping.as_noted (InUse (nth old.segments number)) (λ m. Unit {0}) (λ block used. used) used_fits had had_after all_listed had_was work.sweeping.had_once;
+        had_once = names_once e c words a names work.stands named work.notes.once work.sweeping.as_noted (InUse (nth old.segments number)) (λ m.
+            Unit {0}) (λ block used. used) used_fits had had_after all_listed had_was work.sweeping.had_once;
         freed = λ n. (
-          (λ has. names_sound e c words a names work.stands named work.notes.once work.sweeping.as_noted (IsLost (nth old.segments number) epoch) (λ m. IsKeptIn c m → ⊥) (λ block lost. lost.0) lost_fits freed freed_after lost_listed work.sweeping.freed work.sweeping.freed_once n has),
-          (λ f. names_complete e c words a names work.stands named work.notes.once work.sweeping.as_noted (IsLost (nth old.segments number) epoch) (λ m. IsKeptIn c m → ⊥) (λ block lost. lost.0) lost_fits freed freed_after lost_listed work.sweeping.freed work.sweeping.freed_once n f),
+          (λ has. names_sound e c words a names work.stands named work.notes.once work.sweeping.as_noted (IsLost (nth old.segments number) epoch)
+              (λ m. IsKeptIn c m → ⊥) (λ block lost. lost.0) lost_fits freed freed_after lost_listed work.sweeping.freed work.sweeping.freed_once n has),
+          (λ f. names_complete e c words a names work.stands named work.notes.once work.sweeping.as_noted (IsLost (nth old.segments number) epoch)
+              (λ m. IsKeptIn c m → ⊥) (λ block lost. lost.0) lost_fits freed freed_after lost_listed work.sweeping.freed work.sweeping.freed_once n f),
         );
-        freed_once = names_once e c words a names work.stands named work.notes.once work.sweeping.as_noted (IsLost (nth old.segments number) epoch) (λ m. IsKeptIn c m → ⊥) (λ block lost. lost.0) lost_fits freed freed_after lost_listed work.sweeping.freed work.sweeping.freed_once;
+        freed_once = names_once e c words a names work.stands named work.notes.once work.sweeping.as_noted (IsLost (nth old.segments number) epoch)
+            (λ m. IsKeptIn c m → ⊥) (λ block lost. lost.0) lost_fits freed freed_after lost_listed work.sweeping.freed work.sweeping.freed_once;
       };
       settled = settled;
       begun = work.begun;
     }
 
-    pub one_works : (b : AllocState) × SweepsSome (IsKeptIn c) 1 a b × IsAtWork c closed words b new cycle (made turns upper epoch numbers had_after freed_after rest most)
+    pub one_works : (b : AllocState) × SweepsSome (IsKeptIn c) 1 a b ×
+        IsAtWork c closed words b new cycle (made turns upper epoch numbers had_after freed_after rest most)
     one_works = (b, record { numbers = number ∷ []; sweeps = (b, by_names, refl); many = refl }, works_still)
 
 -- one segment was swept
-pub one_swept : (old new : Segments) (epoch number first : ℕ) (rest : List ℕ) (names : List Name) (turns upper most : ℕ) (numbers : List ℕ) (had had_after freed freed_after : List Name)
+pub one_swept : (old new : Segments) (epoch number first : ℕ) (rest : List ℕ) (names : List Name) (turns upper most : ℕ) (numbers : List ℕ)
+    (had had_after freed freed_after : List Name)
     → AreLeft old (made turns upper epoch numbers had freed (first ∷ rest) most) → SweepsNext old new epoch number → IsEpoch epoch
-    → ListsBlocks (InUse (nth old.segments first)) (named_at old.layout names first (nth old.segments first).class) (block_count (nth old.segments first)) had had_after
-    → ListsBlocks (IsLost (nth old.segments first) epoch) (named_at old.layout names first (nth old.segments first).class) (block_count (nth old.segments first)) freed freed_after
+    → ListsBlocks (InUse (nth old.segments first)) (named_at old.layout names first (nth old.segments first).class)
+    (block_count (nth old.segments first)) had had_after
+    → ListsBlocks (IsLost (nth old.segments first) epoch) (named_at old.layout names first (nth old.segments first).class)
+    (block_count (nth old.segments first)) freed freed_after
     → HasSwept old new names (made turns upper epoch numbers had freed (first ∷ rest) most) (made turns upper epoch numbers had_after freed_after rest most) 1
 one_swept old new epoch number first rest names turns upper most numbers had had_after freed freed_after left next e all_listed lost_listed =
     let same : first ≡ number = first_is old new epoch number first rest left.numbers next in
     let layout : new.layout ≡ old.layout = ap (λ (t : Segments). t.layout) next.others in
-    let all_here = subst (λ (k : ℕ). ListsBlocks (InUse (nth old.segments k)) (named_at old.layout names k (nth old.segments k).class) (block_count (nth old.segments k)) had had_after) same all_listed in
-    let lost_here = subst (λ (k : ℕ). ListsBlocks (IsLost (nth old.segments k) epoch) (named_at old.layout names k (nth old.segments k).class) (block_count (nth old.segments k)) freed freed_after) same lost_listed in
+    let all_here = subst (λ (k : ℕ).
+    ListsBlocks (InUse (nth old.segments k)) (named_at old.layout names k (nth old.segments k).class) (block_count (nth old.segments k)) had
+    had_after) same all_listed in
+    let lost_here = subst (λ (k : ℕ).
+    ListsBlocks (IsLost (nth old.segments k) epoch) (named_at old.layout names k (nth old.segments k).class)
+    (block_count (nth old.segments k)) freed freed_after) same lost_listed in
     record {
       left = record {
         numbers = others_left old new epoch number first rest left.numbers next;
@@ -280,12 +325,15 @@ one_swept old new epoch number first rest names turns upper most numbers had had
       layout = layout;
       epoch = refl;
       swept = refl;
-      sweeps = λ c closed words a cycle named work. one_works old new epoch number first rest left.numbers next e names turns upper most numbers had had_after freed freed_after all_here lost_here c closed words a cycle named work;
+      sweeps = λ c closed words a cycle named work.
+          one_works old new epoch number first rest left.numbers next e names turns upper most numbers had had_after freed freed_after all_here
+          lost_here c closed words a cycle named work;
     }
 
 -- only the counts of the gate's passes changed
 
-works_counted : (c : Cycle) (closed : ℕ) (words : List ℕ) (a : AllocState) (s : Segments) (cycle : CycleSeen) (sweeper : Sweeper) (turns upper : ℕ) → IsAtWork c closed words a s cycle sweeper → IsAtWork c closed words a s cycle (record sweeper { turns = turns; upper_turns = upper })
+works_counted : (c : Cycle) (closed : ℕ) (words : List ℕ) (a : AllocState) (s : Segments) (cycle : CycleSeen) (sweeper : Sweeper)
+    (turns upper : ℕ) → IsAtWork c closed words a s cycle sweeper → IsAtWork c closed words a s cycle (record sweeper { turns = turns; upper_turns = upper })
 works_counted c closed words a s cycle sweeper turns upper h = record {
   stands = h.stands;
   notes = record { noted = h.notes.noted; once = h.notes.once };
@@ -294,14 +342,16 @@ works_counted c closed words a s cycle sweeper turns upper h = record {
   begun = h.begun;
 }
 
-pub swept_counted : (s t : Segments) (names : List Name) (x y : Sweeper) (turns upper n : ℕ) → HasSwept s t names x y n → HasSwept s t names x (record y { turns = turns; upper_turns = upper }) n
+pub swept_counted : (s t : Segments) (names : List Name) (x y : Sweeper) (turns upper n : ℕ) → HasSwept s t names x y n →
+    HasSwept s t names x (record y { turns = turns; upper_turns = upper }) n
 swept_counted s t names x y turns upper n h = record {
   left = record { numbers = h.left.numbers; room = h.left.room };
   fewer = h.fewer;
   layout = h.layout;
   epoch = h.epoch;
   swept = h.swept;
-  sweeps = λ c closed words a cycle named work. let f = h.sweeps c closed words a cycle named work in (f.0, f.1, works_counted c closed words f.0 t cycle y turns upper f.2);
+  sweeps = λ c closed words a cycle named work. let f = h.sweeps c closed words a cycle named work in
+      (f.0, f.1, works_counted c closed words f.0 t cycle y turns upper f.2);
 }
 
 -- so many passes more
@@ -328,7 +378,8 @@ each_joined : (K : Name → Type 0) (a b c : AllocState) (xs ys : List ℕ) → 
 each_joined K a b c [] ys e s = subst (λ (x : AllocState). SweepsEach K x ys c) e s
 each_joined K a b c (x ∷ xs) ys h s = (h.0, h.1, each_joined K h.0 b c xs ys h.2 s)
 
-pub more_swept : (s t u : Segments) (names : List Name) (x y z : Sweeper) (m n : ℕ) → HasSwept s t names x y m → HasSwept t u names y z n → HasSwept s u names x z (m + n)
+pub more_swept : (s t u : Segments) (names : List Name) (x y z : Sweeper) (m n : ℕ) → HasSwept s t names x y m → HasSwept t u names y z n →
+    HasSwept s u names x z (m + n)
 more_swept s t u names x y z m n h k = record {
   left = k.left;
   fewer = let f = h.fewer in let g = k.fewer in omega (arith, f, g);
@@ -337,13 +388,15 @@ more_swept s t u names x y z m n h k = record {
   swept = k.swept ∙ h.swept;
   sweeps = λ c closed words a cycle named work.
       let first = h.sweeps c closed words a cycle named work in
-      let still : AreNamed t.layout names first.0 = subst (λ (l : Layout). AreNamed l names first.0) (sym h.layout) (named_swept s.layout names (IsKeptIn c) m a first.0 first.1 named) in
+      let still : AreNamed t.layout names first.0 = subst (λ (l : Layout).
+      AreNamed l names first.0) (sym h.layout) (named_swept s.layout names (IsKeptIn c) m a first.0 first.1 named) in
       let second = k.sweeps c closed words first.0 cycle still first.2 in (
         second.0,
         record {
           numbers = first.1.numbers ++ second.1.numbers;
           sweeps = each_joined (IsKeptIn c) a first.0 second.0 first.1.numbers second.1.numbers first.1.sweeps second.1.sweeps;
-          many = length-append first.1.numbers second.1.numbers ∙ ap (λ (k : ℕ). k + length second.1.numbers) first.1.many ∙ ap (λ (k : ℕ). m + k) second.1.many;
+          many = length-append first.1.numbers second.1.numbers ∙ ap (λ (k : ℕ). k + length second.1.numbers) first.1.many ∙
+              ap (λ (k : ℕ). m + k) second.1.many;
         },
         second.2,
       );
@@ -364,7 +417,8 @@ pub listed_fewer : (s : Segments) (names : List Name) (x y : Sweeper) → HasLis
 listed_fewer s names x y h = let e : length x.left ≡ suc (length y.left) = ap (λ (l : List ℕ). length l) h.left in omega (arith, e)
 
 -- one more
-pub listed_more : (s : Segments) (names : List Name) (n : ℕ) (x y z : Sweeper) → HaveListed s names n x y → HasListed s names y z → HaveListed s names (n + 1) x z
+pub listed_more : (s : Segments) (names : List Name) (n : ℕ) (x y z : Sweeper) → HaveListed s names n x y → HasListed s names y z →
+    HaveListed s names (n + 1) x z
 listed_more s names n x y z h l = let e : suc n ≡ n + 1 = omega arith in subst (λ (k : ℕ). HaveListed s names k x z) e (listed_suc n x h)
   where
     listed_suc : (n : ℕ) (x : Sweeper) → HaveListed s names n x y → HaveListed s names (suc n) x z
@@ -372,7 +426,8 @@ listed_more s names n x y z h l = let e : suc n ≡ n + 1 = omega arith in subst
     listed_suc (suc n) x h = (h.0, h.1, listed_suc n h.0 h.2)
 
 -- what was listed stays so
-pub listed_keeps : (s : Segments) (names : List Name) (n : ℕ) (x y : Sweeper) → HaveListed s names n x y → (y.seen.epoch ≡ x.seen.epoch) × (y.turns ≡ x.turns) × (y.upper_turns ≡ x.upper_turns)
+pub listed_keeps : (s : Segments) (names : List Name) (n : ℕ) (x y : Sweeper) → HaveListed s names n x y → (y.seen.epoch ≡ x.seen.epoch) ×
+    (y.turns ≡ x.turns) × (y.upper_turns ≡ x.upper_turns)
 listed_keeps s names zero x y h = (ap (λ (w : Sweeper). w.seen.epoch) h, ap (λ (w : Sweeper). w.turns) h, ap (λ (w : Sweeper). w.upper_turns) h)
 listed_keeps s names (suc n) x y h =
     let rest = listed_keeps s names n h.0 y h.2 in
@@ -383,22 +438,31 @@ listed_keeps s names (suc n) x y h =
     )
 
 -- one segment that was listed before was swept
-listed_swept : (listed s t : Segments) (names : List Name) (number : ℕ) (x y : Sweeper) → IsEpoch x.seen.epoch → AreLeft s x → s.layout ≡ listed.layout → ((n : ℕ) → Contains x.left n → nth s.segments n ≡ nth listed.segments n) → HasListed listed names x y → SweepsNext s t x.seen.epoch number → HasSwept s t names x y 1
+listed_swept : (listed s t : Segments) (names : List Name) (number : ℕ) (x y : Sweeper) → IsEpoch x.seen.epoch → AreLeft s x →
+    s.layout ≡ listed.layout → ((n : ℕ) → Contains x.left n → nth s.segments n ≡ nth listed.segments n) → HasListed listed names x y →
+    SweepsNext s t x.seen.epoch number → HasSwept s t names x y 1
 listed_swept listed s t names number x y sound left layout same h next =
-    let at : nth s.segments h.first ≡ nth listed.segments h.first = same h.first (subst (λ (l : List ℕ). Contains l h.first) (sym h.left) (contains_head h.first y.left)) in
-    let before : made x.turns x.upper_turns x.seen.epoch x.seen.swept x.seen.had x.seen.freed (h.first ∷ y.left) x.most ≡ x = ap (λ (l : List ℕ). made x.turns x.upper_turns x.seen.epoch x.seen.swept x.seen.had x.seen.freed l x.most) (sym h.left) in
-    let had_here = subst (λ (k : Segment). ListsBlocks (InUse k) (named_at listed.layout names h.first k.class) (block_count k) x.seen.had y.seen.had) (sym at) h.had in
-    let freed_here = subst (λ (k : Segment). ListsBlocks (IsLost k x.seen.epoch) (named_at listed.layout names h.first k.class) (block_count k) x.seen.freed y.seen.freed) (sym at) h.freed in
+    let at : nth s.segments h.first ≡ nth listed.segments h.first =
+    same h.first (subst (λ (l : List ℕ). Contains l h.first) (sym h.left) (contains_head h.first y.left)) in
+    let before : made x.turns x.upper_turns x.seen.epoch x.seen.swept x.seen.had x.seen.freed (h.first ∷ y.left) x.most ≡ x =
+    ap (λ (l : List ℕ). made x.turns x.upper_turns x.seen.epoch x.seen.swept x.seen.had x.seen.freed l x.most) (sym h.left) in
+    let had_here = subst (λ (k : Segment).
+    ListsBlocks (InUse k) (named_at listed.layout names h.first k.class) (block_count k) x.seen.had y.seen.had) (sym at) h.had in
+    let freed_here = subst (λ (k : Segment).
+    ListsBlocks (IsLost k x.seen.epoch) (named_at listed.layout names h.first k.class) (block_count k) x.seen.freed y.seen.freed) (sym at) h.freed in
     let here : Segment = nth s.segments h.first in
     let swept = one_swept s t x.seen.epoch number h.first y.left names x.turns x.upper_turns x.most x.seen.swept x.seen.had y.seen.had x.seen.freed y.seen.freed
     (subst (λ (w : Sweeper). AreLeft s w) (sym before) left) next sound
     (subst (λ (l : Layout). ListsBlocks (InUse here) (named_at l names h.first here.class) (block_count here) x.seen.had y.seen.had) (sym layout) had_here)
-    (subst (λ (l : Layout). ListsBlocks (IsLost here x.seen.epoch) (named_at l names h.first here.class) (block_count here) x.seen.freed y.seen.freed) (sym layout) freed_here) in
+    (subst (λ (l : Layout).
+    ListsBlocks (IsLost here x.seen.epoch) (named_at l names h.first here.class) (block_count here) x.seen.freed y.seen.freed) (sym layout) freed_here) in
     subst (λ (w : Sweeper). HasSwept s t names x w 1) (sym h.rest)
     (subst (λ (w : Sweeper). HasSwept s t names w (made x.turns x.upper_turns x.seen.epoch x.seen.swept y.seen.had y.seen.freed y.left x.most) 1) before swept)
 
 -- the others are as they were
-listed_others : (listed s t : Segments) (names : List Name) (number : ℕ) (x y : Sweeper) → AreLeft s x → ((n : ℕ) → Contains x.left n → nth s.segments n ≡ nth listed.segments n) → HasListed listed names x y → SweepsNext s t x.seen.epoch number → (n : ℕ) → Contains y.left n → nth t.segments n ≡ nth listed.segments n
+listed_others : (listed s t : Segments) (names : List Name) (number : ℕ) (x y : Sweeper) → AreLeft s x →
+    ((n : ℕ) → Contains x.left n → nth s.segments n ≡ nth listed.segments n) → HasListed listed names x y → SweepsNext s t x.seen.epoch number →
+    (n : ℕ) → Contains y.left n → nth t.segments n ≡ nth listed.segments n
 listed_others listed s t names number x y left same h next n has =
     let numbers : ListsNumbers (IsWaiting s) (h.first ∷ y.left) = subst (λ (l : List ℕ). ListsNumbers (IsWaiting s) l) h.left left.numbers in
     let above : h.first < n = ascends_first h.first y.left numbers.ordered n has in
@@ -407,7 +471,9 @@ listed_others listed s t names number x y left same h next n has =
     ∙ same n (subst (λ (l : List ℕ). Contains l n) (sym h.left) (contains_tail h.first y.left n has))
 
 -- so with all that were listed
-pub all_swept : (listed s t : Segments) (names : List Name) (count : ℕ) (x y : Sweeper) → IsEpoch x.seen.epoch → AreLeft s x → s.layout ≡ listed.layout → ((n : ℕ) → Contains x.left n → nth s.segments n ≡ nth listed.segments n) → HaveListed listed names count x y → SweepsMany x.seen.epoch count s t → HasSwept s t names x y count
+pub all_swept : (listed s t : Segments) (names : List Name) (count : ℕ) (x y : Sweeper) → IsEpoch x.seen.epoch → AreLeft s x →
+    s.layout ≡ listed.layout → ((n : ℕ) → Contains x.left n → nth s.segments n ≡ nth listed.segments n) → HaveListed listed names count x y →
+    SweepsMany x.seen.epoch count s t → HasSwept s t names x y count
 all_swept listed s t names zero x y sound left layout same h m =
     subst (λ (u : Segments). HasSwept s u names x y 0) (sym m) (subst (λ (w : Sweeper). HasSwept s s names x w 0) (sym h) (none_swept s names x left))
 all_swept listed s t names (suc count) x y sound left layout same h m =
@@ -415,7 +481,8 @@ all_swept listed s t names (suc count) x y sound left layout same h m =
     let epoch : z.seen.epoch ≡ x.seen.epoch = ap (λ (w : Sweeper). w.seen.epoch) h.1.rest in
     let one : HasSwept s m.0 names x z 1 = listed_swept listed s m.0 names m.1 x z sound left layout same h.1 m.2 in
     let others : HasSwept m.0 t names z y count =
-    all_swept listed m.0 t names count z y (subst (λ (k : ℕ). IsEpoch k) (sym epoch) sound) one.left (one.layout ∙ layout) (listed_others listed s m.0 names m.1 x z left same h.1 m.2) h.2
+    all_swept listed m.0 t names count z y (subst (λ (k : ℕ). IsEpoch k) (sym epoch) sound) one.left (one.layout ∙
+    layout) (listed_others listed s m.0 names m.1 x z left same h.1 m.2) h.2
     (subst (λ (k : ℕ). SweepsMany k count m.0 t) (sym epoch) m.3) in
     let e : 1 + count ≡ suc count = omega arith in
     subst (λ (k : ℕ). HasSwept s t names x y k) e (more_swept s m.0 t names x z y 1 count one others)

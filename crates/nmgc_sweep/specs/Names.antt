@@ -22,9 +22,11 @@ named_at layout names number class block = slice_get names (entry_of (block_plac
 
 -- the entry of each block with a name is that name; others may be any
 abbrev pub AreNamed : Layout → List Name → AllocState → Type 0
-AreNamed layout names allocation = (number block : ℕ) (name : Name) → LiesIn allocation number block name → named_at layout names number (cells allocation number).class block ≡ Some name
+AreNamed layout names allocation = (number block : ℕ) (name : Name) → LiesIn allocation number block name →
+    named_at layout names number (cells allocation number).class block ≡ Some name
 
 -- for each move the entry of the new place has the name, and the other entries are as they were
 pub record HaveNoted (moves : List Moved) (old new : List Name) : Type 0 where
   pub count : length new ≡ length old
-  pub entry : (i : ℕ) → ((m : Moved) × Contains moves m × (entry_of m.to ≡ i) × (slice_get new i ≡ Some m.name)) ⊎ (((m : Moved) → Contains moves m → entry_of m.to ≢ i) × (slice_get new i ≡ slice_get old i))
+  pub entry : (i : ℕ) → ((m : Moved) × Contains moves m × (entry_of m.to ≡ i) × (slice_get new i ≡ Some m.name)) ⊎
+      (((m : Moved) → Contains moves m → entry_of m.to ≢ i) × (slice_get new i ≡ slice_get old i))

@@ -19,11 +19,13 @@ use Rattle.nmgc_sweep.specs.Work.{HasBegun, IsAtWork}
 
 -- a sweeper that starts as a cycle begins is the cycle's
 abbrev pub StartIsNoted : Type 0
-StartIsNoted = (c : Cycle) (words : List ℕ) (segments : Segments) (epoch : ℕ) (sweeper : Sweeper) → StandsFor segments words (cycle_begun c.heap) → NoneIs (IsIn stands.Sweeping) c.heap → LieOnce c.heap → epoch ≡ epoch_of c.number → HasBegun segments epoch sweeper → HasNotes c sweeper
+StartIsNoted = (c : Cycle) (words : List ℕ) (segments : Segments) (epoch : ℕ) (sweeper : Sweeper) → StandsFor segments words (cycle_begun c.heap) →
+    NoneIs (IsIn stands.Sweeping) c.heap → LieOnce c.heap → epoch ≡ epoch_of c.number → HasBegun segments epoch sweeper → HasNotes c sweeper
 
 -- what is left stays while the same segments wait
 abbrev pub LeftStays : Type 0
-LeftStays = (old new : Segments) (sweeper : Sweeper) → ((number : ℕ) → IsWaiting new number ↔ IsWaiting old number) → new.layout ≡ old.layout → AreLeft old sweeper → AreLeft new sweeper
+LeftStays = (old new : Segments) (sweeper : Sweeper) → ((number : ℕ) → IsWaiting new number ↔ IsWaiting old number) → new.layout ≡ old.layout →
+    AreLeft old sweeper → AreLeft new sweeper
 
 -- what the closing knows of the marks and of what it counted
 pub record IsClosedNow (c : Cycle) (closed : ℕ) (a : AllocState) (segments : Segments) (cycle : CycleSeen) (epoch : ℕ) : Type 0 where
@@ -38,7 +40,9 @@ pub record IsClosedNow (c : Cycle) (closed : ℕ) (a : AllocState) (segments : S
 
 -- at the closing nothing was swept yet: then the sweeper is at work
 abbrev pub ClosingBeginsWork : Type 0
-ClosingBeginsWork = (c : Cycle) (closed : ℕ) (words : List ℕ) (a : AllocState) (segments : Segments) (cycle : CycleSeen) (sweeper : Sweeper) → StandsFor segments words a → HasNotes c sweeper → AreLeft segments sweeper → sweeper.seen.swept ≡ sweeper.left → sweeper.seen.had ≡ [] → sweeper.seen.freed ≡ [] → IsClosedNow c closed a segments cycle sweeper.seen.epoch → IsAtWork c closed words a segments cycle sweeper
+ClosingBeginsWork = (c : Cycle) (closed : ℕ) (words : List ℕ) (a : AllocState) (segments : Segments) (cycle : CycleSeen) (sweeper : Sweeper) →
+    StandsFor segments words a → HasNotes c sweeper → AreLeft segments sweeper → sweeper.seen.swept ≡ sweeper.left → sweeper.seen.had ≡ [] →
+    sweeper.seen.freed ≡ [] → IsClosedNow c closed a segments cycle sweeper.seen.epoch → IsAtWork c closed words a segments cycle sweeper
 
 -- what the sweeper has once nothing waits is the census of its cycle, with the names put in order
 pub record TellsCensus (c : Cycle) (sweeper : Sweeper) : Type 0 where
@@ -48,11 +52,13 @@ pub record TellsCensus (c : Cycle) (sweeper : Sweeper) : Type 0 where
 
 -- so it is with a sweeper at work, once no segment waits
 abbrev pub EndTellsCensus : Type 0
-EndTellsCensus = (c : Cycle) (closed : ℕ) (words : List ℕ) (a : AllocState) (segments : Segments) (cycle : CycleSeen) (sweeper : Sweeper) → IsAtWork c closed words a segments cycle sweeper → NoneIs (IsIn stands.Sweeping) a → TellsCensus c sweeper
+EndTellsCensus = (c : Cycle) (closed : ℕ) (words : List ℕ) (a : AllocState) (segments : Segments) (cycle : CycleSeen) (sweeper : Sweeper) →
+    IsAtWork c closed words a segments cycle sweeper → NoneIs (IsIn stands.Sweeping) a → TellsCensus c sweeper
 
 -- as many wait as are left
 abbrev pub LeftIsCounted : Type 0
-LeftIsCounted = (words : List ℕ) (a : AllocState) (segments : Segments) (sweeper : Sweeper) → StandsFor segments words a → AreLeft segments sweeper → count_in stands.Sweeping a ≡ length sweeper.left
+LeftIsCounted = (words : List ℕ) (a : AllocState) (segments : Segments) (sweeper : Sweeper) → StandsFor segments words a →
+    AreLeft segments sweeper → count_in stands.Sweeping a ≡ length sweeper.left
 
 -- segments and blocks changed, but neither what waits and its names, nor a mark
 pub record KeepsWaiting (old new : Segments) (a b : AllocState) : Type 0 where
@@ -68,12 +74,16 @@ StartIsAsNoted = (c : Cycle) → NoneIs (IsIn stands.Sweeping) c.heap → AreAsN
 
 -- and it stays so while neither what waits nor its names change
 abbrev pub StaysAsNoted : Type 0
-StaysAsNoted = (c : Cycle) (words after : List ℕ) (a b : AllocState) (old new : Segments) → StandsFor old words a → StandsFor new after b → KeepsWaiting old new a b → AreAsNoted c a → AreAsNoted c b
+StaysAsNoted = (c : Cycle) (words after : List ℕ) (a b : AllocState) (old new : Segments) → StandsFor old words a → StandsFor new after b →
+    KeepsWaiting old new a b → AreAsNoted c a → AreAsNoted c b
 
 -- then a sweeper at work is at work still, and its segments are left
 abbrev pub WorkGoesOn : Type 0
-WorkGoesOn = (c : Cycle) (closed : ℕ) (words after : List ℕ) (a b : AllocState) (old new : Segments) (cycle : CycleSeen) (sweeper : Sweeper) → IsAtWork c closed words a old cycle sweeper → AreLeft old sweeper → StandsFor new after b → KeepsWaiting old new a b → IsAtWork c closed after b new cycle sweeper × AreLeft new sweeper
+WorkGoesOn = (c : Cycle) (closed : ℕ) (words after : List ℕ) (a b : AllocState) (old new : Segments) (cycle : CycleSeen) (sweeper : Sweeper) →
+    IsAtWork c closed words a old cycle sweeper → AreLeft old sweeper → StandsFor new after b → KeepsWaiting old new a b →
+    IsAtWork c closed after b new cycle sweeper × AreLeft new sweeper
 
 -- a placing is such a change
 abbrev pub PlacingKeepsWaiting : Type 0
-PlacingKeepsWaiting = (layout : Layout) (old new : Segments) (a b : AllocState) (mutator class at : ℕ) (name : Name) → Allocates old new mutator class at → Places layout a b mutator class name → KeepsWaiting old new a b
+PlacingKeepsWaiting = (layout : Layout) (old new : Segments) (a b : AllocState) (mutator class at : ℕ) (name : Name) →
+    Allocates old new mutator class at → Places layout a b mutator class name → KeepsWaiting old new a b

@@ -11,7 +11,9 @@ use Rattle.nmgc_run.specs.Marks.{HasNoted}
 use Rattle.nmgc_run.specs.Seen.{SweeperSeen}
 use Rattle.nmgc_run.specs.State.{Cycle}
 
--- what every collector's sweeper shows, the segments that it hasn't swept, in order, for how many names of each of them it has room, and how often the collector passed the gate in the whole run, for the upper halves of its sweeps and for all else
+-- what every collector's sweeper shows, the segments that it hasn't swept, in order, for how many names of each of
+-- them it has room, and how often the collector passed the gate in the whole run, for the upper halves of its sweeps
+-- and for all else
 pub record Sweeper : Type 0 where
   pub seen : SweeperSeen
   pub left : List ℕ

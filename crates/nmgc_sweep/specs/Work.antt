@@ -21,7 +21,8 @@ pub record HasBegun (segments : Segments) (epoch : ℕ) (sweeper : Sweeper) : Ty
   pub freed : sweeper.seen.freed ≡ []
   pub left : AreLeft segments sweeper
 
--- a closed cycle that this sweeper sweeps: the segments stand for the allocation state, the sweeper is the cycle's, and its lists and the marks are what they are to be
+-- a closed cycle that this sweeper sweeps: the segments stand for the allocation state, the sweeper is the cycle's,
+-- and its lists and the marks are what they are to be
 pub record IsAtWork (c : Cycle) (closed : ℕ) (words : List ℕ) (a : AllocState) (segments : Segments) (cycle : CycleSeen) (sweeper : Sweeper) : Type 0 where
   pub stands : StandsFor segments words a
   pub notes : HasNotes c sweeper
@@ -33,8 +34,10 @@ pub record IsAtWork (c : Cycle) (closed : ℕ) (words : List ℕ) (a : AllocStat
 pub record HasListed (segments : Segments) (names : List Name) (before after : Sweeper) : Type 0 where
   pub first : ℕ
   pub left : before.left ≡ first ∷ after.left
-  pub had : ListsBlocks (InUse (nth segments.segments first)) (named_at segments.layout names first (nth segments.segments first).class) (block_count (nth segments.segments first)) before.seen.had after.seen.had
-  pub freed : ListsBlocks (IsLost (nth segments.segments first) before.seen.epoch) (named_at segments.layout names first (nth segments.segments first).class) (block_count (nth segments.segments first)) before.seen.freed after.seen.freed
+  pub had : ListsBlocks (InUse (nth segments.segments first)) (named_at segments.layout names first (nth segments.segments first).class)
+      (block_count (nth segments.segments first)) before.seen.had after.seen.had
+  pub freed : ListsBlocks (IsLost (nth segments.segments first) before.seen.epoch)
+      (named_at segments.layout names first (nth segments.segments first).class) (block_count (nth segments.segments first)) before.seen.freed after.seen.freed
   pub rest : after ≡ record before { seen = record before.seen { had = after.seen.had; freed = after.seen.freed }; left = after.left }
 
 -- so with so many of them, one after the other
@@ -49,4 +52,5 @@ pub record HasSwept (old new : Segments) (names : List Name) (before after : Swe
   pub layout : new.layout ≡ old.layout
   pub epoch : after.seen.epoch ≡ before.seen.epoch
   pub swept : after.seen.swept ≡ before.seen.swept
-  pub sweeps : (c : Cycle) (closed : ℕ) (words : List ℕ) (a : AllocState) (cycle : CycleSeen) → AreNamed old.layout names a → IsAtWork c closed words a old cycle before → (b : AllocState) × SweepsSome (IsKeptIn c) count a b × IsAtWork c closed words b new cycle after
+  pub sweeps : (c : Cycle) (closed : ℕ) (words : List ℕ) (a : AllocState) (cycle : CycleSeen) → AreNamed old.layout names a →
+      IsAtWork c closed words a old cycle before → (b : AllocState) × SweepsSome (IsKeptIn c) count a b × IsAtWork c closed words b new cycle after

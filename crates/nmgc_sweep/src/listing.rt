@@ -32,10 +32,14 @@ pub(crate) fn list_segment(
     requires entries { HaveEntries segments.now.layout names.now }
     requires had { LEAST * vec_len had.old + segments.now.layout.words ≤ LEAST * vec_capacity had.old }
     requires freed { LEAST * vec_len freed.old + segments.now.layout.words ≤ LEAST * vec_capacity freed.old }
-    ensures had { ListsBlocks (InUse (nth segments.now.segments number)) (named_at segments.now.layout names.now number (nth segments.now.segments number).class) (block_count (nth segments.now.segments number)) had.old.items had.new.items }
+    ensures had { ListsBlocks (InUse (nth segments.now.segments number))
+        (named_at segments.now.layout names.now number (nth segments.now.segments number).class) (block_count (nth segments.now.segments number))
+        had.old.items had.new.items }
     ensures had_room { vec_capacity had.new ≡ vec_capacity had.old }
     ensures had_few { LEAST * vec_len had.new ≤ LEAST * vec_len had.old + segments.now.layout.words }
-    ensures freed { ListsBlocks (IsLost (nth segments.now.segments number) epoch) (named_at segments.now.layout names.now number (nth segments.now.segments number).class) (block_count (nth segments.now.segments number)) freed.old.items freed.new.items }
+    ensures freed { ListsBlocks (IsLost (nth segments.now.segments number) epoch)
+        (named_at segments.now.layout names.now number (nth segments.now.segments number).class) (block_count (nth segments.now.segments number))
+        freed.old.items freed.new.items }
     ensures freed_room { vec_capacity freed.new ≡ vec_capacity freed.old }
     ensures freed_few { LEAST * vec_len freed.new ≤ LEAST * vec_len freed.old + segments.now.layout.words }
 {

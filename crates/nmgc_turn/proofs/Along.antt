@@ -54,16 +54,28 @@ module _ (P : Place → Type 0) (m : ℕ) where
   Along w h own [] = own ≡ []
   Along w h own (row ∷ rows) =
       ((row.mutator ≢ m) × Along (step w row.mutator row.command).0 h own rows)
-      ⊎ ((r : OwnRow) × (rest : List OwnRow) × (own ≡ r ∷ rest) × IsOwn w h r row × Along (step w row.mutator row.command).0 (leaves h r.command r.answer) rest rows)
+      ⊎ ((r : OwnRow) × (rest : List OwnRow) × (own ≡ r ∷ rest) × IsOwn w h r row ×
+      Along (step w row.mutator row.command).0 (leaves h r.command r.answer) rest rows)
 
   -- whatever hand means its registers there and lists the depths of its stacks, and whatever rows say what it did from there on
   abbrev Goes : World → List Done → List Row → Type 0
-  Goes w done rows = (h : Hand) (own : List OwnRow) → AllAnswer P own done → ArePlain own → ListMeans P h.registers (state_of w m).registers → Depths P m w h → Along w h own rows
+  Goes w done rows = (h : Hand) (own : List OwnRow) → AllAnswer P own done → ArePlain own → ListMeans P h.registers (state_of w m).registers →
+      Depths P m w h → Along w h own rows
 
-  module _ (one : (p q : Place) → P p → P q → (p.name ≡ q.name) ⊎ (p.at ≡ q.at) → p ≡ q) (mine : m ≢ SHARED_MAKER) (shared : P (record { at = SHARED_PLACE; name = shared_name })) (w : World) (k : ℕ) (c : Command) (r : Reply) (is : IsWorld w) (can : CanApply w k c) (done : List Done) (rows : List Row) (go : Goes (step w k c).0 done rows) where
+  module _ (one : (p q : Place) → P p → P q → (p.name ≡ q.name) ⊎ (p.at ≡ q.at) →
+      p ≡ q) (mine : m ≢ SHARED_MAKER) (shared : P (record {
+        at = SHARED_PLACE;
+        name = shared_name;
+      })) (w : World) (k : ℕ) (c : Command) (r : Reply) (is : IsWorld w) (can : CanApply w k c) (done : List Done)
+      (rows : List Row) (go : Goes (step w k c).0 done rows) where
     -- over a command of another
     goes_by : k ≢ m → Goes w done (record { mutator = k; command = c; reply = r } ∷ rows)
-    goes_by ne h own says told means d = inl (ne, go h own says told (subst (λ (l : List Value). ListMeans P h.registers l) (sym (step_leaves_others w k c is can m (λ e. ne (sym e))).registers) means) (depths_other P one m w mine h d k c can.mutator (not_shared w k is can.mutator) ne))
+    goes_by ne h own says told means d = inl (
+      ne,
+      go h own says told (subst (λ (l : List Value).
+          ListMeans P h.registers l) (sym (step_leaves_others w k c is can m (λ e.
+          ne (sym e))).registers) means) (depths_other P one m w mine h d k c can.mutator (not_shared w k is can.mutator) ne),
+    )
 
     -- over a command of its own
     goes_on : k ≡ m → (step w k c).1 ≡ r → Goes w ((c, r) ∷ done) (record { mutator = k; command = c; reply = r } ∷ rows)
@@ -83,21 +95,28 @@ module _ (P : Place → Type 0) (m : ℕ) where
           go (leaves h x.command x.answer) rest says.1 (All-tail (λ (r : OwnRow). IsPlain r.answer) x rest told)
               (subst (λ d. ListMeans P (leaves h x.command x.answer).registers (state_of (step w k d).0 m).registers) says.0.0
               (subst (λ j. ListMeans P (leaves h x.command x.answer).registers (state_of (step w j x.command).0 m).registers) (sym e) left))
-              (subst (λ c. Depths P m (step w k c).0 (leaves h x.command x.answer)) says.0.0 (subst (λ j. Depths P m (step w j x.command).0 (leaves h x.command x.answer)) (sym e) deep)),
+              (subst (λ c. Depths P m (step w k c).0 (leaves h x.command x.answer)) says.0.0 (subst (λ j.
+              Depths P m (step w j x.command).0 (leaves h x.command x.answer)) (sym e) deep)),
         )
 
   -- the rows of a part go along the events of the round
-  pub along : ((p q : Place) → P p → P q → (p.name ≡ q.name) ⊎ (p.at ≡ q.at) → p ≡ q) → m ≢ SHARED_MAKER → P (record { at = SHARED_PLACE; name = shared_name }) → (s : State) (hs : List Happening) → IsWorld s.world → IsLegal s hs → Goes s.world (done_by m hs) (rows_in hs)
+  pub along : ((p q : Place) → P p → P q → (p.name ≡ q.name) ⊎ (p.at ≡ q.at) → p ≡ q) → m ≢ SHARED_MAKER →
+      P (record { at = SHARED_PLACE; name = shared_name }) → (s : State) (hs : List Happening) → IsWorld s.world → IsLegal s hs →
+      Goes s.world (done_by m hs) (rows_in hs)
   along one mine g s [] is legal h [] says told means d = refl
   along one mine g s [] is legal h (x ∷ own) says told means d = absurd says
   along one mine g s (scanned entry v ∷ hs) is legal h own says told means d =
       let e : (after_scan s s.queue).world ≡ s.world = world_scanned s s.queue in
       subst (λ (w : World). Along w h own (rows_in hs)) e
-      (along one mine g (after_scan s s.queue) hs (subst IsWorld (sym e) is) legal.1 h own says told (subst (λ (w : World). ListMeans P h.registers (state_of w m).registers) (sym e) means) (subst (λ (w : World). Depths P m w h) (sym e) d))
+      (along one mine g (after_scan s s.queue) hs (subst IsWorld (sym e) is) legal.1 h own says told (subst (λ (w : World).
+      ListMeans P h.registers (state_of w m).registers) (sym e) means) (subst (λ (w : World). Depths P m w h) (sym e) d))
   along one mine g s (did k c r ∷ hs) is legal h own says told means d =
       let can : CanApply s.world k c = legal.0.0.1 in
-      let go : Goes (step s.world k c).0 (done_by m hs) (rows_in hs) = along one mine g (after_command s k c) hs (step_keeps_world s.world k c is can) legal.1 in
+      let go : Goes (step s.world k c).0 (done_by m hs) (rows_in hs) =
+      along one mine g (after_command s k c) hs (step_keeps_world s.world k c is can) legal.1 in
       elim (eqb_tells k m) [
-        | inl t ↦ goes_on one mine g s.world k c r is can (done_by m hs) (rows_in hs) go t.1 legal.0.0.2 h own (subst (λ (b : Bool). AllAnswer P own (cond b ((c, r) ∷ done_by m hs) (done_by m hs))) t.0 says) told means d
-        | inr t ↦ goes_by one mine g s.world k c r is can (done_by m hs) (rows_in hs) go t.1 h own (subst (λ (b : Bool). AllAnswer P own (cond b ((c, r) ∷ done_by m hs) (done_by m hs))) t.0 says) told means d
+        | inl t ↦ goes_on one mine g s.world k c r is can (done_by m hs) (rows_in hs) go t.1 legal.0.0.2 h own (subst (λ (b : Bool).
+            AllAnswer P own (cond b ((c, r) ∷ done_by m hs) (done_by m hs))) t.0 says) told means d
+        | inr t ↦ goes_by one mine g s.world k c r is can (done_by m hs) (rows_in hs) go t.1 h own (subst (λ (b : Bool).
+            AllAnswer P own (cond b ((c, r) ∷ done_by m hs) (done_by m hs))) t.0 says) told means d
       ]

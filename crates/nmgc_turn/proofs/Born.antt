@@ -41,7 +41,8 @@ use Rattle.nmgc_turn.specs.laws.Workers.{Worker, worker_at}
 -- objects that commands made lie one after another from a place on, with names from a serial on
 abbrev pub MadeFrom : (Place → Type 0) → ℕ → ℕ → ℕ → List Done → Type 0
 MadeFrom P m at serial [] = Unit {0}
-MadeFrom P m at serial (d ∷ ds) = (IsMaking d.0 → P (record { at = at; name = record { maker = m; serial = serial } })) × MadeFrom P m (at + words_made d.0) (serial + made_count d.0) ds
+MadeFrom P m at serial (d ∷ ds) = (IsMaking d.0 → P (record { at = at; name = record { maker = m; serial = serial } })) ×
+    MadeFrom P m (at + words_made d.0) (serial + made_count d.0) ds
 
 -- a pointer that a reply gives goes to the place of its name
 given_at : (P : Place → Type 0) (at : ℕ) (name : Name) → Answers P (word (2 * at)) (Given (Ref name)) → P (record { at = at; name = name })
@@ -52,11 +53,16 @@ given_at P at name h =
     subst (λ a. P (record { at = a; name = name })) same m.2
 
 -- rows say where, and replies which
-made_from : (P : Place → Type 0) (m at serial : ℕ) (rows : List Row) (ds : List Done) → AllAnswer P rows ds → LieFrom at rows → NamedFrom m serial ds → MadeFrom P m at serial ds
+made_from : (P : Place → Type 0) (m at serial : ℕ) (rows : List Row) (ds : List Done) → AllAnswer P rows ds → LieFrom at rows →
+    NamedFrom m serial ds → MadeFrom P m at serial ds
 made_from P m at serial [] [] a l n = tt
 made_from P m at serial [] (d ∷ ds) a l n = absurd a
 made_from P m at serial (r ∷ rs) [] a l n = absurd a
-made_from P m at serial (r ∷ rs) (d ∷ ds) a l n = (here, made_from P m (at + words_made d.0) (serial + made_count d.0) rs ds a.1 (subst (λ c. LieFrom (at + words_made c) rs) a.0.0 l.1) n.1)
+made_from P m at serial (r ∷ rs) (d ∷ ds) a l n = (
+  here,
+  made_from P m (at + words_made d.0) (serial + made_count d.0) rs ds a.1 (subst (λ c.
+      LieFrom (at + words_made c) rs) a.0.0 l.1) n.1,
+)
   where
     here : IsMaking d.0 → P (record { at = at; name = record { maker = m; serial = serial } })
     here is =
@@ -79,10 +85,12 @@ module _ (P : Place → Type 0) (one : (p q : Place) → P p → P q → p.name 
       | inl e ↦ let same : at ≡ a = same_at at a serial k (h.0 is.0) p e in omega arith
       | inr ne ↦ let one = is.1 in let rest = not_below (at + words_made d.0) (serial + made_count d.0) ds h.1 a k p (omega arith) (omega arith) in omega arith
     ]
-    | inr none ↦ let zero = none.0 in let rest = not_below (at + words_made d.0) (serial + made_count d.0) ds h.1 a k p (omega arith) (omega arith) in omega arith
+    | inr none ↦ let zero = none.0 in
+        let rest = not_below (at + words_made d.0) (serial + made_count d.0) ds h.1 a k p (omega arith) (omega arith) in omega arith
   ]
 
-  later : (at serial : ℕ) (ds : List Done) → MadeFrom P m at serial ds → (a b j k : ℕ) → IsAt a j → IsAt b k → serial ≤ j → j < serial + all_made ds → serial ≤ k → k < serial + all_made ds → a < b → j < k
+  later : (at serial : ℕ) (ds : List Done) → MadeFrom P m at serial ds → (a b j k : ℕ) → IsAt a j → IsAt b k → serial ≤ j →
+      j < serial + all_made ds → serial ≤ k → k < serial + all_made ds → a < b → j < k
   later at serial [] h a b j k p q from to from' to' lt = absurd (omega arith)
   later at serial (d ∷ ds) h a b j k p q from to from' to' lt = elim (makes_or_not d.0) [
     | inl is ↦ elim (cases_eq serial j) [
@@ -100,14 +108,16 @@ module _ (P : Place → Type 0) (one : (p q : Place) → P p → P q → p.name 
             | inr nf ↦ later (at + words_made d.0) (serial + made_count d.0) ds h.1 a b j k p q (omega arith) (omega arith) (omega arith) (omega arith) lt
           ]
     ]
-    | inr none ↦ let zero = none.0 in later (at + words_made d.0) (serial + made_count d.0) ds h.1 a b j k p q (omega arith) (omega arith) (omega arith) (omega arith) lt
+    | inr none ↦ let zero = none.0 in
+        later (at + words_made d.0) (serial + made_count d.0) ds h.1 a b j k p q (omega arith) (omega arith) (omega arith) (omega arith) lt
   ]
 
 -- nurseries lie in the order of their makers
 nurseries_lie : (layout : Layout) (a b : ℕ) → a < b → nursery_place layout a + layout.nursery ≤ nursery_place layout b
 nurseries_lie layout a b lt = let le = mul-le-mul_right layout.nursery lt in omega arith
 
-module _ (o : Opening) (before words : List ℕ) (v : Seen) (mutators : List Mutator) (done : List (List Done)) (can : CanOpen o before) (h : IsFinished o words v) (worked : HaveWorked o v.parts mutators done) where
+module _ (o : Opening) (before words : List ℕ) (v : Seen) (mutators : List Mutator) (done : List (List Done)) (can : CanOpen o before)
+    (h : IsFinished o words v) (worked : HaveWorked o v.parts mutators done) where
   abbrev P : Place → Type 0
   P = IsIn o h.born
 
@@ -134,10 +144,12 @@ module _ (o : Opening) (before words : List ℕ) (v : Seen) (mutators : List Mut
       let own = not_shared o.core.world x.name.maker can.world (let lt = (h.new x c).maker in omega (arith, h.is.mutators)) in
       let known : IsSome (node_of W x.name) = (h.stands.named (place_of x) (inr (x, c, refl))).known in
       let there : IsSome (slice_get (state_of W x.name.maker).nodes x.name.serial) = subst (λ y. IsSome y) (own_node W x.name.maker own x.name refl) known in
-      let unknown : slice_get (state_of o.core.world x.name.maker).nodes x.name.serial ≡ None = sym (own_node o.core.world x.name.maker own x.name refl) ∙ (h.new x c).unknown in
+      let unknown : slice_get (state_of o.core.world x.name.maker).nodes x.name.serial ≡ None =
+      sym (own_node o.core.world x.name.maker own x.name refl) ∙ (h.new x c).unknown in
       record {
         from = elim (cases_lt x.name.serial (serial_of o.core.world x.name.maker)) [
-          | inl lt ↦ let bad : IsSome {T = Node} None = subst (λ y. IsSome y) unknown (is_some_get (state_of o.core.world x.name.maker).nodes x.name.serial lt) in absurd cc
+          | inl lt ↦ let bad : IsSome {T = Node} None = subst (λ y. IsSome y) unknown (is_some_get (state_of o.core.world x.name.maker).nodes x.name.serial lt) in
+              absurd cc
           | inr le ↦ le
         ];
         to = get_is_some (state_of W x.name.maker).nodes x.name.serial there;
@@ -147,7 +159,8 @@ module _ (o : Opening) (before words : List ℕ) (v : Seen) (mutators : List Mut
   worker_of m lt = worker_at o v.parts mutators done worked m lt
 
   base_is : (m : ℕ) (t : Worker o v.parts mutators done m) → t.mutator.nursery.base ≡ nursery_place o.layout m
-  base_is m t = t.worked.nursery.base ∙ ap (λ (l : Layout). nursery_place l t.mutator.number) t.worked.layout ∙ ap (λ n. nursery_place o.layout n) (sym t.worked.number ∙ t.number)
+  base_is m t = t.worked.nursery.base ∙ ap (λ (l : Layout). nursery_place l t.mutator.number) t.worked.layout ∙
+      ap (λ n. nursery_place o.layout n) (sym t.worked.number ∙ t.number)
 
   -- a maker's objects lie one after another from its nursery's base on, in the order of their serials
   lie : (m : ℕ) → m < o.layout.mutators → MadeFrom P m (nursery_place o.layout m) (serial_of o.core.world m) (done_by m h.events)
@@ -170,8 +183,13 @@ module _ (o : Opening) (before words : List ℕ) (v : Seen) (mutators : List Mut
           let to : y.name.serial < serial_of W m = subst (λ k. y.name.serial < serial_of W k) e (given y cy).to in
           let count = (gives o.core h.events m h.legal).serial in
           let a = given x cx in
-          let py : P (record { at = y.at; name = record { maker = m; serial = y.name.serial } }) = subst (λ k. P (record { at = y.at; name = record { maker = k; serial = y.name.serial } })) e (y.node, inr cy) in
-          inr (sym e, later P one m (nursery_place o.layout m) (serial_of o.core.world m) (done_by m h.events) (lie m (h.new x cx).maker) x.at y.at x.name.serial y.name.serial (x.node, inr cx) py a.from (let b = a.to in omega arith) from (omega arith) lt)
+          let py : P (record { at = y.at; name = record { maker = m; serial = y.name.serial } }) =
+          subst (λ k. P (record { at = y.at; name = record { maker = k; serial = y.name.serial } })) e (y.node, inr cy) in
+          inr (
+            sym e,
+            later P one m (nursery_place o.layout m) (serial_of o.core.world m) (done_by m h.events) (lie m (h.new x cx).maker) x.at y.at
+                x.name.serial y.name.serial (x.node, inr cx) py a.from (let b = a.to in omega arith) from (omega arith) lt,
+          )
       | inr ne ↦
           let apart = nurseries_lie o.layout y.name.maker x.name.maker (omega arith) in
           let a = (h.new x cx).from in
@@ -188,10 +206,15 @@ module _ (o : Opening) (before words : List ℕ) (v : Seen) (mutators : List Mut
       subst (λ (q : Place). IsBefore a.name q.name) (sym y.2) (subst (λ (p : Place). IsBefore p.name y.0.name) (sym x.2) (in_order x.0 y.0 x.1 y.1 at))
 
   nursery_is : (m : ℕ) (t : Worker o v.parts mutators done m) → nursery_at (nurseries_of mutators) m ≡ t.mutator.nursery
-  nursery_is m t = get_or_from_slice_get (nurseries_of mutators) m t.mutator.nursery (record { base = 0; top = 0; end = 0 }) (item_map (λ (n : Mutator). n.nursery) mutators m t.mutator t.mutator_there)
+  nursery_is m t = get_or_from_slice_get (nurseries_of mutators) m t.mutator.nursery (record {
+    base = 0;
+    top = 0;
+    end = 0;
+  }) (item_map (λ (n : Mutator). n.nursery) mutators m t.mutator t.mutator_there)
 
   -- an object that was born ends below the top of its maker's nursery
-  below_top : (x : Object) (node : Node) → Contains h.born x → node_of W x.name ≡ Some node → x.at + size_of node ≤ (nursery_at (nurseries_of mutators) x.name.maker).top
+  below_top : (x : Object) (node : Node) → Contains h.born x → node_of W x.name ≡ Some node →
+      x.at + size_of node ≤ (nursery_at (nurseries_of mutators) x.name.maker).top
   below_top x node c there =
       let st = h.stands.objects x (inr c) in
       let both : Some st.node ≡ Some node = sym st.there ∙ there in
@@ -211,13 +234,17 @@ module _ (o : Opening) (before words : List ℕ) (v : Seen) (mutators : List Mut
     count = length-map mutators (λ (n : Mutator). n.nursery) ∙ worked.mutators_are;
     places_are = λ m lt. let t = worker_of m lt in ap (λ (n : Nursery). n.base) (nursery_is m t) ∙ base_is m t;
     tops = λ m lt. let t = worker_of m lt in subst (λ (n : Nursery). (n.base ≤ n.top) × (n.top ≤ n.base + o.layout.nursery)) (sym (nursery_is m t)) (within t);
-    used = λ p node c up there. let x = born_there p c up in subst (λ (q : Place). q.at + size_of node ≤ (nursery_at (nurseries_of mutators) q.name.maker).top) (sym x.2) (below_top x.0 node x.1 (subst (λ (q : Place). node_of W q.name ≡ Some node) x.2 there));
+    used = λ p node c up there. let x = born_there p c up in subst (λ (q : Place).
+        q.at + size_of node ≤ (nursery_at (nurseries_of mutators) q.name.maker).top) (sym x.2) (below_top x.0 node x.1 (subst (λ (q : Place).
+        node_of W q.name ≡ Some node) x.2 there));
   }
     where
-      within : {m : ℕ} (t : Worker o v.parts mutators done m) → (t.mutator.nursery.base ≤ t.mutator.nursery.top) × (t.mutator.nursery.top ≤ t.mutator.nursery.base + o.layout.nursery)
+      within : {m : ℕ} (t : Worker o v.parts mutators done m) → (t.mutator.nursery.base ≤ t.mutator.nursery.top) ×
+          (t.mutator.nursery.top ≤ t.mutator.nursery.base + o.layout.nursery)
       within t =
           let n = t.worked.nursery in
           let top = n.top in
-          let end : t.mutator.nursery.end ≡ t.mutator.nursery.base + o.layout.nursery = n.end ∙ ap (λ (l : Layout). t.mutator.nursery.base + l.nursery) t.worked.layout in
+          let end : t.mutator.nursery.end ≡ t.mutator.nursery.base + o.layout.nursery = n.end ∙
+          ap (λ (l : Layout). t.mutator.nursery.base + l.nursery) t.worked.layout in
           let fits = n.within in
           (omega arith, omega arith)

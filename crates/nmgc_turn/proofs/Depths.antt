@@ -52,8 +52,15 @@ still_stack : (ch : Change) (maker size : ℕ) (values : List Value) → NotOwn 
 still_stack (change.Set index v) maker size values n = refl
 still_stack (change.Exchange index expected v) maker size values n = refl
 still_stack (change.Update v) maker size values n = refl
-still_stack (change.Push k v) maker size values n = ap (λ b. (cond {A = Node × Reply} b (cond {A = Node × Reply} (ltb (length values) size) (Stack size (values ++ v ∷ []), reply.Fine) (Stack size values, reply.StackFull)) (Stack size values, reply.NotOwner)).0) (ne_eqb maker k n)
-still_stack (change.Pop k) maker size values n = ap (λ b. (cond {A = Node × Reply} b (Stack size (without_last values), given_or reply.StackEmpty (last_of values)) (Stack size values, reply.NotOwner)).0) (ne_eqb maker k n)
+still_stack (change.Push k v) maker size values n = ap (λ b. (cond {A = Node ×
+    Reply} b (cond {A = Node × Reply} (ltb (length values) size) (Stack size (values ++ v ∷ []), reply.Fine) (
+      Stack size values,
+      reply.StackFull,
+    )) (Stack size values, reply.NotOwner)).0) (ne_eqb maker k n)
+still_stack (change.Pop k) maker size values n = ap (λ b. (cond {A = Node × Reply} b (
+  Stack size (without_last values),
+  given_or reply.StackEmpty (last_of values),
+) (Stack size values, reply.NotOwner)).0) (ne_eqb maker k n)
 still_stack change.Finalise maker size values n = refl
 
 stack_kind : (n : Node) → kind_of n ≡ kind.Stack → (size : ℕ) × (values : List Value) × (n ≡ Stack size values)
@@ -64,7 +71,8 @@ stack_kind (Thunk free result) e = absurd cc
 stack_kind (Weak parts) e = absurd cc
 stack_kind (Stack size values) e = (size, values, refl)
 
-before_stack : (ch : Change) (maker : ℕ) (found : Node) (size : ℕ) (values : List Value) → NotOwn ch maker → (changed ch maker found).0 ≡ Stack size values → found ≡ Stack size values
+before_stack : (ch : Change) (maker : ℕ) (found : Node) (size : ℕ) (values : List Value) → NotOwn ch maker →
+    (changed ch maker found).0 ≡ Stack size values → found ≡ Stack size values
 before_stack ch maker found size values n e =
     let k : kind_of found ≡ kind.Stack = sym (changed_shape ch maker found).kind ∙ ap kind_of e in
     let t = stack_kind found k in
@@ -88,7 +96,8 @@ stack_before w k c lt own name size values asks makes e =
           | inr b ↦ sym b ∙ now
         ]
     by_object v (Object.write at found ch there_at asks_it q is) there =
-        let now : node_of (with_node w at (changed ch at.maker found).0) name ≡ Some (Stack size values) = ap (λ (u : World). node_of u name) (sym is) ∙ there in
+        let now : node_of (with_node w at (changed ch at.maker found).0) name ≡ Some (Stack size values) =
+        ap (λ (u : World). node_of u name) (sym is) ∙ there in
         elim (node_cases w at found (changed ch at.maker found).0 there_at name) [
           | inl b ↦
               let same : (changed ch at.maker found).0 ≡ Stack size values = same_Some _ _ (sym b.1 ∙ now) in
@@ -163,7 +172,8 @@ same_stacks h command.Collect a l = refl
 same_stacks h command.Full a l = refl
 
 -- the node that is written again changes nothing
-again : (w : World) (name : Name) (found made : Node) → node_of w name ≡ Some found → made ≡ found → (n : Name) → node_of (with_node w name made) n ≡ node_of w n
+again : (w : World) (name : Name) (found made : Node) → node_of w name ≡ Some found → made ≡ found → (n : Name) →
+    node_of (with_node w name made) n ≡ node_of w n
 again w name found made there is n = elim (node_cases w name found made there n) [
   | inl b ↦ b.1 ∙ ap (λ (x : Node). Some x) is ∙ sym there ∙ ap (λ y. node_of w y) (sym b.0)
   | inr b ↦ b.1
@@ -189,7 +199,8 @@ push_cases w m value.Nil x = inr (λ e. cc, λ n. refl)
 push_cases w m (value.Number k) x = inr (λ e. cc, λ n. refl)
 push_cases w m (value.Ref name) x = by_node (node_of w name) refl
   where
-    kept : (found : Node) → node_of w name ≡ Some found → (stack_pushed (eqb name.maker m) found x).0 ≡ found → ((stack_pushed (eqb name.maker m) found x).1 ≡ reply.Fine → ⊥) → PushCases w m (value.Ref name) x (change_node w name (Some found) (change.Push m x))
+    kept : (found : Node) → node_of w name ≡ Some found → (stack_pushed (eqb name.maker m) found x).0 ≡ found →
+        ((stack_pushed (eqb name.maker m) found x).1 ≡ reply.Fine → ⊥) → PushCases w m (value.Ref name) x (change_node w name (Some found) (change.Push m x))
     kept found there same ne = inr (ne, λ n. again w name found (stack_pushed (eqb name.maker m) found x).0 there same n)
 
     by_node : (o : Option Node) → node_of w name ≡ o → PushCases w m (value.Ref name) x (change_node w name o (change.Push m x))
@@ -207,15 +218,29 @@ push_cases w m (value.Ref name) x = by_node (node_of w name) refl
         elim (eqb_tells name.maker m) [
           | inl t ↦ elim (cases_lt (length values) size) [
             | inl lt ↦
-                let is : stack_pushed (eqb name.maker m) (Stack size values) x ≡ (made, reply.Fine) = ap (λ a. F a (ltb (length values) size)) t.0 ∙ ap (λ b. F true b) (lt-ltb (length values) size lt) in
-                inl (record { name = name; refers = refl; size = size; values = values; there = there; mine = t.1; room = lt; gives = ap (λ o. (change_node w name o (change.Push m x)).1) there ∙ ap (λ (y : Node × Reply). y.1) is; after = ap (λ o. (change_node w name o (change.Push m x)).0) there ∙ ap (λ (y : Node × Reply). with_node w name y.0) is })
+                let is : stack_pushed (eqb name.maker m) (Stack size values) x ≡ (made, reply.Fine) = ap (λ a. F a (ltb (length values) size)) t.0 ∙
+                ap (λ b. F true b) (lt-ltb (length values) size lt) in
+                inl (record {
+                  name = name;
+                  refers = refl;
+                  size = size;
+                  values = values;
+                  there = there;
+                  mine = t.1;
+                  room = lt;
+                  gives = ap (λ o. (change_node w name o (change.Push m x)).1) there ∙ ap (λ (y : Node × Reply). y.1) is;
+                  after = ap (λ o. (change_node w name o (change.Push m x)).0) there ∙ ap (λ (y : Node × Reply). with_node w name y.0) is;
+                })
             | inr le ↦
-                let is : stack_pushed (eqb name.maker m) (Stack size values) x ≡ full = ap (λ a. F a (ltb (length values) size)) t.0 ∙ ap (λ b. F true b) (le-ltb (length values) size le) in
-                kept (Stack size values) there (ap (λ (y : Node × Reply). y.0) is) (λ e. let bad : reply.StackFull ≡ reply.Fine = sym (ap (λ (y : Node × Reply). y.1) is) ∙ e in cc)
+                let is : stack_pushed (eqb name.maker m) (Stack size values) x ≡ full = ap (λ a. F a (ltb (length values) size)) t.0 ∙
+                ap (λ b. F true b) (le-ltb (length values) size le) in
+                kept (Stack size values) there (ap (λ (y : Node × Reply). y.0) is) (λ e.
+                let bad : reply.StackFull ≡ reply.Fine = sym (ap (λ (y : Node × Reply). y.1) is) ∙ e in cc)
           ]
           | inr t ↦
               let is : stack_pushed (eqb name.maker m) (Stack size values) x ≡ other = ap (λ a. F a (ltb (length values) size)) t.0 in
-              kept (Stack size values) there (ap (λ (y : Node × Reply). y.0) is) (λ e. let bad : reply.NotOwner ≡ reply.Fine = sym (ap (λ (y : Node × Reply). y.1) is) ∙ e in cc)
+              kept (Stack size values) there (ap (λ (y : Node × Reply). y.0) is) (λ e.
+              let bad : reply.NotOwner ≡ reply.Fine = sym (ap (λ (y : Node × Reply). y.1) is) ∙ e in cc)
         ]
 
 -- a pop that was done
@@ -233,7 +258,8 @@ record PopDone (w : World) (m : ℕ) (object : Value) : Type 0 where
 abbrev PopCases : World → ℕ → Value → World × Reply → Type 0
 PopCases w m object r = PopDone w m object ⊎ ((given r.1 ≡ None) × ((n : Name) → node_of r.0 n ≡ node_of w n))
 
-pop_kept : (w : World) (m : ℕ) (name : Name) (found : Node) → node_of w name ≡ Some found → (stack_popped (eqb name.maker m) found).0 ≡ found → given (stack_popped (eqb name.maker m) found).1 ≡ None → PopCases w m (value.Ref name) (change_node w name (Some found) (change.Pop m))
+pop_kept : (w : World) (m : ℕ) (name : Name) (found : Node) → node_of w name ≡ Some found → (stack_popped (eqb name.maker m) found).0 ≡ found →
+    given (stack_popped (eqb name.maker m) found).1 ≡ None → PopCases w m (value.Ref name) (change_node w name (Some found) (change.Pop m))
 pop_kept w m name found there same none = inr (none, λ n. again w name found (stack_popped (eqb name.maker m) found).0 there same n)
 
 empty_last : (values : List Value) → last_of values ≡ None → without_last values ≡ values
@@ -241,16 +267,22 @@ empty_last [] e = refl
 empty_last (v ∷ values) e = absurd (none-some _ (sym e ∙ slice_get-get_or (v ∷ values) (length (v ∷ values) - 1) value.Nil (omega arith)))
 
 abbrev popped_as : ℕ → List Value → Bool → Node × Reply
-popped_as size values a = cond {A = Node × Reply} a (Stack size (without_last values), given_or reply.StackEmpty (last_of values)) (Stack size values, reply.NotOwner)
+popped_as size values a = cond {A = Node × Reply} a (
+  Stack size (without_last values),
+  given_or reply.StackEmpty (last_of values),
+) (Stack size values, reply.NotOwner)
 
-pop_stack : (w : World) (m : ℕ) (name : Name) (size : ℕ) (values : List Value) → node_of w name ≡ Some (Stack size values) → PopCases w m (value.Ref name) (change_node w name (Some (Stack size values)) (change.Pop m))
+pop_stack : (w : World) (m : ℕ) (name : Name) (size : ℕ) (values : List Value) → node_of w name ≡ Some (Stack size values) →
+    PopCases w m (value.Ref name) (change_node w name (Some (Stack size values)) (change.Pop m))
 pop_stack w m name size values there = elim (eqb_tells name.maker m) [ inl t ↦ by_last t.0 t.1 (last_of values) refl | inr t ↦ foreign t.0 ]
   where
     foreign : eqb name.maker m ≡ false → PopCases w m (value.Ref name) (change_node w name (Some (Stack size values)) (change.Pop m))
     foreign off = pop_kept w m name (Stack size values) there (ap (λ a. (popped_as size values a).0) off) (ap (λ a. given (popped_as size values a).1) off)
 
-    by_last : eqb name.maker m ≡ true → name.maker ≡ m → (o : Option Value) → last_of values ≡ o → PopCases w m (value.Ref name) (change_node w name (Some (Stack size values)) (change.Pop m))
-    by_last on mine None e = pop_kept w m name (Stack size values) there (ap (λ a. (popped_as size values a).0) on ∙ ap (λ l. Stack size l) (empty_last values e)) (ap (λ a. given (popped_as size values a).1) on ∙ ap (λ o. given (given_or reply.StackEmpty o)) e)
+    by_last : eqb name.maker m ≡ true → name.maker ≡ m → (o : Option Value) → last_of values ≡ o →
+        PopCases w m (value.Ref name) (change_node w name (Some (Stack size values)) (change.Pop m))
+    by_last on mine None e = pop_kept w m name (Stack size values) there (ap (λ a. (popped_as size values a).0) on ∙
+        ap (λ l. Stack size l) (empty_last values e)) (ap (λ a. given (popped_as size values a).1) on ∙ ap (λ o. given (given_or reply.StackEmpty o)) e)
     by_last on mine (Some top) e = inl (record {
       name = name;
       refers = refl;
@@ -291,21 +323,30 @@ plain_is P (word w) r none h = let bad = ap given h.1 ∙ none in absurd cc
 keeping_nodes : (u : World) (m dest : ℕ) (v : Value) → m < length u.mutators → (n : Name) → node_of (with_register u m dest v) n ≡ node_of u n
 keeping_nodes u m dest v lt n = nodes_kept u m (world_holding (state_of u m) dest v) lt refl n
 
-module _ (P : Place → Type 0) (one : (p q : Place) → P p → P q → (p.name ≡ q.name) ⊎ (p.at ≡ q.at) → p ≡ q) (m : ℕ) (w : World) (own : m ≢ SHARED_MAKER) (h : Hand) (d : Depths P m w h) where
+module _ (P : Place → Type 0) (one : (p q : Place) → P p → P q → (p.name ≡ q.name) ⊎ (p.at ≡ q.at) →
+    p ≡ q) (m : ℕ) (w : World) (own : m ≢ SHARED_MAKER) (h : Hand) (d : Depths P m w h) where
   -- a command of another
   pub depths_other : (k : ℕ) (c : Command) → k < length w.mutators → k ≢ SHARED_MAKER → k ≢ m → Depths P m (step w k c).0 h
   depths_other k c lt theirs ne p size values here mine there = d p size values here mine
-      (stack_before w k c lt theirs p.name size values (λ ch e. asked_other w k c (value.Ref p.name) ch p.name.maker e (λ same. ne (sym same ∙ mine))) (λ made is. ne (sym (ap (λ (n : Name). n.maker) is) ∙ mine)) there)
+      (stack_before w k c lt theirs p.name size values (λ ch e.
+      asked_other w k c (value.Ref p.name) ch p.name.maker e (λ same. ne (sym same ∙ mine))) (λ made is.
+      ne (sym (ap (λ (n : Name). n.maker) is) ∙ mine)) there)
 
-  module _ (lt : m < length w.mutators) (shared : P (record { at = SHARED_PLACE; name = shared_name })) (means : ListMeans P h.registers (state_of w m).registers) where
+  module _ (lt : m < length w.mutators) (shared : P (record {
+    at = SHARED_PLACE;
+    name = shared_name;
+  })) (means : ListMeans P h.registers (state_of w m).registers) where
     plain_left : (c : Command) (a : Answer) → LeavesStacks c → Depths P m (step w m c).0 (leaves h c a)
     plain_left c a l p size values here mine there =
-        let r = d p size values here mine (stack_before w m c lt own p.name size values (λ ch e. asked_none w m c (value.Ref p.name) ch p.name.maker l e) (λ made is. made_none w m c size values l made) there) in
+        let r = d p size values here mine (stack_before w m c lt own p.name size values (λ ch e.
+        asked_none w m c (value.Ref p.name) ch p.name.maker l e) (λ made is. made_none w m c size values l made) there) in
         (r.0, ap (λ k. slots_at k p.at) (same_stacks h c a l) ∙ r.1, r.2)
 
     -- a stack more
-    stack_left : (dest n : ℕ) (a : Answer) → Answers P a (born w m dest (Stack n [])).1 → IsPlain a → Depths P m (born w m dest (Stack n [])).0 (leaves h (command.Stack dest n) a)
-    stack_left dest n (plain x) e none p size values here mine there = let bad : given x ≡ Some (value.Ref (next_name (state_of w m) m)) = ap given e in absurd cc
+    stack_left : (dest n : ℕ) (a : Answer) → Answers P a (born w m dest (Stack n [])).1 → IsPlain a →
+        Depths P m (born w m dest (Stack n [])).0 (leaves h (command.Stack dest n) a)
+    stack_left dest n (plain x) e none p size values here mine there =
+        let bad : given x ≡ Some (value.Ref (next_name (state_of w m) m)) = ap given e in absurd cc
     stack_left dest n (word wd) (v, e, k) none p size values here mine there =
         let next : Name = next_name (state_of w m) m in
         let is : v ≡ value.Ref next = cc in
@@ -332,7 +373,9 @@ module _ (P : Place → Type 0) (one : (p q : Place) → P p → P q → (p.name
     pointed object name is = subst (Means P (word_of h.registers object)) is (operand_means P shared h.registers (state_of w m).registers object means)
 
     -- a stack changes, and the hand with it
-    changed_left : (object : Operand) (name : Name) (n : ℕ) (old new : List Value) (g : List ℕ → List ℕ) (u : World) → value_for w m object ≡ value.Ref name → name.maker ≡ m → node_of w name ≡ Some (Stack n old) → u ≡ with_node w name (Stack n new) → ((ws : List ℕ) → length ws ≡ length old → length (g ws) ≡ length new)
+    changed_left : (object : Operand) (name : Name) (n : ℕ) (old new : List Value) (g : List ℕ → List ℕ) (u : World) →
+        value_for w m object ≡ value.Ref name → name.maker ≡ m → node_of w name ≡ Some (Stack n old) → u ≡ with_node w name (Stack n new) →
+        ((ws : List ℕ) → length ws ≡ length old → length (g ws) ≡ length new)
         → Depths P m u (record h { stacks = with_slots h.stacks (word_of h.registers object / 2) g })
     changed_left object name n old new g u is maker was after long p size values here mine there =
         let t = pointed object name is in
@@ -344,20 +387,26 @@ module _ (P : Place → Type 0) (one : (p q : Place) → P p → P q → (p.name
               let both : Some (Stack n new) ≡ Some (Stack size values) = sym b.1 ∙ now in
               let held : new ≡ values = cc in
               let at : word_of h.registers object / 2 ≡ p.at = half ∙ sym (ap (λ (y : Place). y.at) (one p q here t.2 (inl b.0))) in
-              let r = d p n old here mine (ap (λ k. node_of w k) b.0 ∙ was) in
-              (g r.0, ap (λ y. slots_at (with_slots h.stacks y g) p.at) at ∙ slots_same h.stacks p.at g r.0 r.1, long r.0 r.2 ∙ ap (λ (l : List Value). length l) held)
+              let r = d p n old here mine (ap (λ k. node_of w k) b.0 ∙ was) in (
+                g r.0,
+                ap (λ y. slots_at (with_slots h.stacks y g) p.at) at ∙ slots_same h.stacks p.at g r.0 r.1,
+                long r.0 r.2 ∙
+                    ap (λ (l : List Value). length l) held,
+              )
           | inr b ↦
               let r = d p size values here mine (sym b.1 ∙ now) in
               let apart : p.at ≢ word_of h.registers object / 2 = λ at. b.0 (ap (λ (y : Place). y.name) (one p q here t.2 (inr (at ∙ half)))) in
               (r.0, slots_other h.stacks (word_of h.registers object / 2) p.at g apart ∙ r.1, r.2)
         ]
 
-    push_left : (object v : Operand) (a : Answer) → Answers P a (step w m (command.Push object v)).1 → Depths P m (step w m (command.Push object v)).0 (leaves h (command.Push object v) a)
+    push_left : (object v : Operand) (a : Answer) → Answers P a (step w m (command.Push object v)).1 →
+        Depths P m (step w m (command.Push object v)).0 (leaves h (command.Push object v) a)
     push_left object v a e = elim (push_cases w m (value_for w m object) (value_for w m v)) [
       | inl f ↦
           let is : a ≡ plain reply.Fine = plain_is P a reply.Fine refl (subst (λ (r : Reply). Answers P a r) f.gives e) in
           subst (λ (b : Answer). Depths P m (step w m (command.Push object v)).0 (pushed h (word_of h.registers object) (word_of h.registers v) b)) (sym is)
-          (changed_left object f.name f.size f.values (f.values ++ value_for w m v ∷ []) (λ ws. ws ++ word_of h.registers v ∷ []) (step w m (command.Push object v)).0 f.refers f.mine f.there f.after
+          (changed_left object f.name f.size f.values (f.values ++ value_for w m v ∷ []) (λ ws. ws ++ word_of h.registers v ∷
+          []) (step w m (command.Push object v)).0 f.refers f.mine f.there f.after
           (λ ws long. length-append ws (word_of h.registers v ∷ []) ∙ ap (λ k. k + 1) long ∙ sym (length-append f.values (value_for w m v ∷ []))))
       | inr f ↦ λ p size values here mine there.
           let r = d p size values here mine (sym (f.1 p.name) ∙ there) in
@@ -365,7 +414,8 @@ module _ (P : Place → Type 0) (one : (p q : Place) → P p → P q → (p.name
           (r.0, ap (λ k. slots_at k p.at) (pushed_not h (word_of h.registers object) (word_of h.registers v) a ne) ∙ r.1, r.2)
     ]
 
-    pop_left : (dest : ℕ) (object : Operand) (a : Answer) → Answers P a (step w m (command.Pop dest object)).1 → IsPlain a → Depths P m (step w m (command.Pop dest object)).0 (leaves h (command.Pop dest object) a)
+    pop_left : (dest : ℕ) (object : Operand) (a : Answer) → Answers P a (step w m (command.Pop dest object)).1 → IsPlain a →
+        Depths P m (step w m (command.Pop dest object)).0 (leaves h (command.Pop dest object) a)
     pop_left dest object (plain x) e none = elim (pop_cases w m (value_for w m object)) [
       | inl f ↦ absurd (let bad = sym (ap given (e ∙ f.gives)) ∙ none in let no_value : Some f.top ≡ None = bad in cc)
       | inr f ↦ λ p size values here mine there.
@@ -375,10 +425,12 @@ module _ (P : Place → Type 0) (one : (p q : Place) → P p → P q → (p.name
     pop_left dest object (word wd) (v, e, k) none = elim (pop_cases w m (value_for w m object)) [
       | inl f ↦
           let r : World × Reply = change_object w (value_for w m object) (change.Pop m) in
-          let exists : m < length r.0.mutators = subst (λ j. m < j) (sym (ap (λ (y : World). length y.mutators) f.after ∙ as_many w f.name (Stack f.size f.values) (Stack f.size (without_last f.values)) f.there)) lt in
+          let exists : m < length r.0.mutators = subst (λ j. m < j) (sym (ap (λ (y : World). length y.mutators) f.after ∙
+          as_many w f.name (Stack f.size f.values) (Stack f.size (without_last f.values)) f.there)) lt in
           let t = changed_left object f.name f.size f.values (without_last f.values) (λ ws. take (length ws - 1) ws) r.0 f.refers f.mine f.there f.after
           (λ ws long. length-take (length ws - 1) ws ∙ ap (λ j. min (j - 1) j) long ∙ sym (length-take (length f.values - 1) f.values)) in
-          λ p size values here mine there. t p size values here mine (sym (keeping_nodes r.0 m dest f.top exists p.name) ∙ ap (λ (y : Reply). node_of (keeping r.0 m dest y) p.name) (sym f.gives) ∙ there)
+          λ p size values here mine there. t p size values here mine (sym (keeping_nodes r.0 m dest f.top exists p.name) ∙
+          ap (λ (y : Reply). node_of (keeping r.0 m dest y) p.name) (sym f.gives) ∙ there)
       | inr f ↦ absurd (let bad = ap given e ∙ f.0 in let some_ : Some v ≡ None = bad in cc)
     ]
 

@@ -27,7 +27,8 @@ abbrev pub HistoriesHaveRows : Type 0
 HistoriesHaveRows = (m : ℕ) (events : List Happening) → map (λ (row : Row). (row.command, row.reply)) (rows_of m (rows_in events)) ≡ done_by m events
 
 abbrev pub RepliesAreNamed : Type 0
-RepliesAreNamed = (o : Opening) (words : List ℕ) (v : Seen) (h : IsFinished o words v) (k : ℕ) (p : Part) → get_elem? v.parts k ≡ some p → (replies : List (Command × Reply)) → AllReply p.fixed p.rows replies → done_by p.number h.events ≡ replies
+RepliesAreNamed = (o : Opening) (words : List ℕ) (v : Seen) (h : IsFinished o words v) (k : ℕ) (p : Part) → get_elem? v.parts k ≡ some p →
+    (replies : List (Command × Reply)) → AllReply p.fixed p.rows replies → done_by p.number h.events ≡ replies
 
 -- no event is of a mutator that isn't there
 none_done : (s : State) (hs : List Happening) (m : ℕ) → IsLegal s hs → length s.world.mutators ≤ m → done_by m hs ≡ []
@@ -42,11 +43,13 @@ none_done s (scanned entry v ∷ hs) m legal le =
 
 module _ (history : EventsAreHistory) (rows : HistoriesHaveRows) (named : RepliesAreNamed) where
   -- what a mutator did is what the events have of it
-  own_done : (o : Opening) (words : List ℕ) (v : Seen) (mutators : List Mutator) (done : List (List Done)) (h : IsFinished o words v) → HaveWorked o v.parts mutators done → (m : ℕ) → done_by m h.events ≡ get_or done m []
+  own_done : (o : Opening) (words : List ℕ) (v : Seen) (mutators : List Mutator) (done : List (List Done)) (h : IsFinished o words v) →
+      HaveWorked o v.parts mutators done → (m : ℕ) → done_by m h.events ≡ get_or done m []
   own_done o words v mutators done h all m = elim (cases_lt m o.layout.mutators) [
     | inl lt ↦
         let w = worker_at o v.parts mutators done all m lt in
-        ap (λ (k : ℕ). done_by k h.events) (sym w.number) ∙ named o words v h m w.part w.part_there w.own w.worked.replied ∙ sym (get_or_from_slice_get done m w.own [] w.own_there)
+        ap (λ (k : ℕ). done_by k h.events) (sym w.number) ∙ named o words v h m w.part w.part_there w.own w.worked.replied ∙
+        sym (get_or_from_slice_get done m w.own [] w.own_there)
     | inr le ↦
         let lists = all.done_are in let many = h.is.mutators in
         none_done o.core h.events m h.legal (omega arith) ∙ sym (get_or_past done m [] (omega arith))

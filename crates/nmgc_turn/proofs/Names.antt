@@ -56,7 +56,8 @@ NamedFrom m serial [] = Unit {0}
 NamedFrom m serial (d ∷ ds) = (IsMaking d.0 → d.1 ≡ Given (value.Ref (record { maker = m; serial = serial }))) × NamedFrom m (serial + made_count d.0) ds
 
 -- another state of a mutator, with as many objects
-kept_serial : (w : World) (m : ℕ) (q : MutatorState) → m < length w.mutators → length q.nodes ≡ serial_of w m → (k : ℕ) → serial_of (with_state w m q) k ≡ serial_of w k
+kept_serial : (w : World) (m : ℕ) (q : MutatorState) → m < length w.mutators → length q.nodes ≡ serial_of w m → (k : ℕ) →
+    serial_of (with_state w m q) k ≡ serial_of w k
 kept_serial w m q lt e k = elim (cases_eq k m) [
   | inl same ↦ rw (same, state_same w m q lt) e
   | inr other ↦ ap (λ (s : MutatorState). length s.nodes) (state_other w m q lt k other)
@@ -66,7 +67,8 @@ kept_serial w m q lt e k = elim (cases_eq k m) [
 write_serial : (w : World) (name : Name) (found made : Node) → node_of w name ≡ Some found → (k : ℕ) → serial_of (with_node w name made) k ≡ serial_of w k
 write_serial w name found made there k = elim (eqb_tells name.maker SHARED_MAKER) [
   | inl p ↦ rw p.0 refl
-  | inr p ↦ rw p.0 (kept_serial w name.maker (with_nth (state_of w name.maker) name.serial made) (maker_there w name found made there p.1) (length-set (state_of w name.maker).nodes name.serial made) k)
+  | inr p ↦ rw p.0 (kept_serial w name.maker (with_nth (state_of w name.maker) name.serial made) (maker_there w name found made there p.1)
+      (length-set (state_of w name.maker).nodes name.serial made) k)
 ]
 
 -- a command that makes no object leaves serials
@@ -74,14 +76,17 @@ module _ (w : World) (m : ℕ) (c : Command) (none : made_by w m c ≡ None) (lt
   object_serial : (v : World) → Object Any w m c v → (k : ℕ) → serial_of v k ≡ serial_of w k
   object_serial v (Object.same e) k = ap (λ (u : World). serial_of u k) e
   object_serial v (Object.birth register made is e) k = let bad : Some made ≡ None = sym is ∙ none in absurd cc
-  object_serial v (Object.write name found ch there asks q e) k = ap (λ (u : World). serial_of u k) e ∙ write_serial w name found (changed ch name.maker found).0 there k
+  object_serial v (Object.write name found ch there asks q e) k = ap (λ (u : World). serial_of u k) e ∙
+      write_serial w name found (changed ch name.maker found).0 there k
 
   hand_serial : (v u : World) → m < length v.mutators → Hand Any v m u → (k : ℕ) → serial_of u k ≡ serial_of v k
   hand_serial v u there (Hand.same e) k = ap (λ (x : World). serial_of x k) e
-  hand_serial v u there (Hand.other registers queue e hr hq) k = ap (λ (x : World). serial_of x k) e ∙ kept_serial v m (record { registers = registers; queue = queue; nodes = (state_of v m).nodes }) there refl k
+  hand_serial v u there (Hand.other registers queue e hr hq) k = ap (λ (x : World). serial_of x k) e ∙
+      kept_serial v m (record { registers = registers; queue = queue; nodes = (state_of v m).nodes }) there refl k
 
   same_serial : (k : ℕ) → serial_of (step w m c).0 k ≡ serial_of w k
-  same_serial k = let s = stepped w m c in hand_serial s.between (step w m c).0 (still_there Any w m c (step w m c).0 lt s) s.hand k ∙ object_serial s.between s.object k
+  same_serial k = let s = stepped w m c in hand_serial s.between (step w m c).0 (still_there Any w m c (step w m c).0 lt s) s.hand k ∙
+      object_serial s.between s.object k
 
 -- what a command of a mutator does to serials, and the name that it gives
 pub record Names (w : World) (m : ℕ) (c : Command) (v : World) (r : Reply) : Type 0 where
@@ -89,15 +94,18 @@ pub record Names (w : World) (m : ℕ) (c : Command) (v : World) (r : Reply) : T
   pub others : (k : ℕ) → k ≢ m → serial_of v k ≡ serial_of w k
   pub gives : IsMaking c → r ≡ Given (value.Ref (record { maker = m; serial = serial_of w m }))
 
-born_names : (w : World) (m register : ℕ) (made : Node) (c : Command) → m < length w.mutators → made_count c ≡ 1 → Names w m c (born w m register made).0 (born w m register made).1
+born_names : (w : World) (m register : ℕ) (made : Node) (c : Command) → m < length w.mutators → made_count c ≡ 1 →
+    Names w m c (born w m register made).0 (born w m register made).1
 born_names w m register made c lt one =
     let q : MutatorState = with_new (state_of w m) m register made in record {
-      own = ap (λ (s : MutatorState). length s.nodes) (state_same w m q lt) ∙ length-append (state_of w m).nodes (made ∷ []) ∙ ap (λ n. serial_of w m + n) (sym one);
+      own = ap (λ (s : MutatorState). length s.nodes) (state_same w m q lt) ∙ length-append (state_of w m).nodes (made ∷ []) ∙
+          ap (λ n. serial_of w m + n) (sym one);
       others = λ k other. ap (λ (s : MutatorState). length s.nodes) (state_other w m q lt k other);
       gives = λ is. refl;
     }
 
-plain_names : (w : World) (m : ℕ) (c : Command) → m < length w.mutators → made_by w m c ≡ None → made_count c ≡ 0 → (IsMaking c → ⊥) → Names w m c (step w m c).0 (step w m c).1
+plain_names : (w : World) (m : ℕ) (c : Command) → m < length w.mutators → made_by w m c ≡ None → made_count c ≡ 0 → (IsMaking c → ⊥) →
+    Names w m c (step w m c).0 (step w m c).1
 plain_names w m c lt none zero not = record {
   own = let e = same_serial w m c none lt m in omega arith;
   others = λ k other. same_serial w m c none lt k;
@@ -144,4 +152,5 @@ gives s (did k c r ∷ hs) m legal =
       | inr ne ↦ rw ne.0 (gives_other s.world u v m (done_by m hs) (n.others m (λ e. ne.1 (sym e))) rest)
     ]
 gives s (scanned entry v ∷ hs) m legal =
-    gives_other s.world (after_scan s s.queue).world (replay (after_scan s s.queue) hs).world m (done_by m hs) (ap (λ (w : World). serial_of w m) (world_scanned s s.queue)) (gives (after_scan s s.queue) hs m legal.1)
+    gives_other s.world (after_scan s s.queue).world (replay (after_scan s s.queue) hs).world m (done_by m hs) (ap (λ (w : World).
+    serial_of w m) (world_scanned s s.queue)) (gives (after_scan s s.queue) hs m legal.1)

@@ -34,17 +34,23 @@ old_word : (layout : Layout) (at : ℕ) → FIRST_PLACE ≤ at → at < nursery_
 old_word layout at above low =
     let half : 2 * at / 2 ≡ at = omega arith in
     and_from (eqb (2 * at % 2) 0) (leb FIRST_PLACE (2 * at / 2) && leb (2 * at / 2 + 1) (nursery_place layout 0)) (eq-eqb (2 * at % 2) 0 (omega arith))
-    (and_from (leb FIRST_PLACE (2 * at / 2)) (leb (2 * at / 2 + 1) (nursery_place layout 0)) (le-leb FIRST_PLACE (2 * at / 2) (omega arith)) (le-leb (2 * at / 2 + 1) (nursery_place layout 0) (omega arith)))
+    (and_from (leb FIRST_PLACE (2 * at / 2)) (leb (2 * at / 2 + 1) (nursery_place layout 0)) (le-leb FIRST_PLACE (2 * at / 2) (omega arith))
+    (le-leb (2 * at / 2 + 1) (nursery_place layout 0) (omega arith)))
 
 young_word : (layout : Layout) (at : ℕ) → nursery_place layout 0 ≤ at → is_young layout (2 * at) ≡ true
-young_word layout at high = and_from (eqb (2 * at % 2) 0) (leb (nursery_place layout 0) (2 * at / 2)) (eq-eqb (2 * at % 2) 0 (omega arith)) (le-leb (nursery_place layout 0) (2 * at / 2) (omega arith))
+young_word layout at high =
+    and_from (eqb (2 * at % 2) 0) (leb (nursery_place layout 0) (2 * at / 2)) (eq-eqb (2 * at % 2) 0 (omega arith))
+    (le-leb (nursery_place layout 0) (2 * at / 2) (omega arith))
 
-recorded_old : (layout : Layout) (at index to : ℕ) → FIRST_PLACE ≤ at → at < nursery_place layout 0 → nursery_place layout 0 ≤ to → Contains (recorded_at layout (2 * at) index (2 * to)) (at + HEADER_WORDS + index)
+recorded_old : (layout : Layout) (at index to : ℕ) → FIRST_PLACE ≤ at → at < nursery_place layout 0 → nursery_place layout 0 ≤ to →
+    Contains (recorded_at layout (2 * at) index (2 * to)) (at + HEADER_WORDS + index)
 recorded_old layout at index to above low high =
     let place : ℕ = 2 * at / 2 + HEADER_WORDS + index in
     let is : place ≡ at + HEADER_WORDS + index = omega arith in
-    let both : is_old layout (2 * at) && is_young layout (2 * to) ≡ true = and_from (is_old layout (2 * at)) (is_young layout (2 * to)) (old_word layout at above low) (young_word layout to high) in
-    subst (λ (b : Bool). Contains (cond b (place ∷ []) []) (at + HEADER_WORDS + index)) (sym both) (subst (λ j. Contains (place ∷ []) j) is (contains_one place))
+    let both : is_old layout (2 * at) && is_young layout (2 * to) ≡ true =
+    and_from (is_old layout (2 * at)) (is_young layout (2 * to)) (old_word layout at above low) (young_word layout to high) in
+    subst (λ (b : Bool). Contains (cond b (place ∷ []) []) (at + HEADER_WORDS + index)) (sym both) (subst (λ j.
+    Contains (place ∷ []) j) is (contains_one place))
 
 -- an older object and a young one, each with one place
 pub record AreApart (P : Place → Type 0) (layout : Layout) (p q : Place) : Type 0 where
@@ -54,13 +60,19 @@ pub record AreApart (P : Place → Type 0) (layout : Layout) (p q : Place) : Typ
   pub one_old : (at : ℕ) → P (record { at = at; name = p.name }) → at ≡ p.at
   pub one_young : (at : ℕ) → P (record { at = at; name = q.name }) → at ≡ q.at
 
-module _ (P : Place → Type 0) (layout : Layout) (p q : Place) (apart : AreApart P layout p q) (m : ℕ) (shared : P (record { at = SHARED_PLACE; name = shared_name })) (i : ℕ) where
-  recorded_put : (w : World) (row : Row) (h : Hand) (r : OwnRow) → (step w row.mutator row.command).1 ≡ row.reply → IsOwn P m w h r row → Puts w row.mutator row.command p.name i (value.Ref q.name) → Contains (noted_by layout h r.command r.answer) (p.at + HEADER_WORDS + i)
+module _ (P : Place → Type 0) (layout : Layout) (p q : Place) (apart : AreApart P layout p q) (m : ℕ) (shared : P (record {
+  at = SHARED_PLACE;
+  name = shared_name;
+})) (i : ℕ) where
+  recorded_put : (w : World) (row : Row) (h : Hand) (r : OwnRow) → (step w row.mutator row.command).1 ≡ row.reply → IsOwn P m w h r row →
+      Puts w row.mutator row.command p.name i (value.Ref q.name) → Contains (noted_by layout h r.command r.answer) (p.at + HEADER_WORDS + i)
   recorded_put w row h r gives own puts =
-      let done : r.answer ≡ plain puts.reply = plain_answer P r.answer puts.reply puts.plainly (subst (λ (y : Reply). Answers P r.answer y) (sym gives ∙ puts.gives) own.answers) in
+      let done : r.answer ≡ plain puts.reply = plain_answer P r.answer puts.reply puts.plainly (subst (λ (y : Reply).
+      Answers P r.answer y) (sym gives ∙ puts.gives) own.answers) in
       let refers : value_for w m puts.object ≡ value.Ref p.name = ap (λ j. value_for w j puts.object) (sym own.number) ∙ puts.refers in
       let value : value_for w m puts.v ≡ value.Ref q.name = ap (λ j. value_for w j puts.v) (sym own.number) ∙ puts.value in
-      let object = subst (Means P (word_of h.registers puts.object)) refers (operand_means P shared h.registers (state_of w m).registers puts.object own.registers) in
+      let object = subst (Means P (word_of h.registers puts.object)) refers
+      (operand_means P shared h.registers (state_of w m).registers puts.object own.registers) in
       let target = subst (Means P (word_of h.registers puts.v)) value (operand_means P shared h.registers (state_of w m).registers puts.v own.registers) in
       let object_is : word_of h.registers puts.object ≡ 2 * p.at = object.1 ∙ ap (λ a. 2 * a) (apart.one_old object.0 object.2) in
       let target_is : word_of h.registers puts.v ≡ 2 * q.at = target.1 ∙ ap (λ a. 2 * a) (apart.one_young target.0 target.2) in
@@ -75,13 +87,17 @@ module _ (P : Place → Type 0) (layout : Layout) (p q : Place) (apart : AreApar
       (rw (object_is, target_is) (recorded_old layout p.at i q.at apart.above apart.low apart.high))))
 
   -- the place is recorded among the rows of the mutator that did it
-  pub recorded_then : (w : World) (before : List Row) (row : Row) (after : List Row) (h : Hand) (own : List OwnRow) → row.mutator ≡ m → IsLegal w (before ++ row ∷ after) → Along P m w h own (before ++ row ∷ after) → Puts (replayed w before) row.mutator row.command p.name i (value.Ref q.name) → Contains (all_recorded layout h own) (p.at + HEADER_WORDS + i)
+  pub recorded_then : (w : World) (before : List Row) (row : Row) (after : List Row) (h : Hand) (own : List OwnRow) → row.mutator ≡ m →
+      IsLegal w (before ++ row ∷ after) → Along P m w h own (before ++ row ∷ after) →
+      Puts (replayed w before) row.mutator row.command p.name i (value.Ref q.name) → Contains (all_recorded layout h own) (p.at + HEADER_WORDS + i)
   recorded_then w [] row after h own is legal (inl other) puts = absurd (other.0 is)
   recorded_then w [] row after h own is legal (inr mine) puts =
       let r : OwnRow = mine.0 in
       subst (λ (l : List OwnRow). Contains (all_recorded layout h l) (p.at + HEADER_WORDS + i)) (sym mine.2)
-      (Contains-append_left (noted_by layout h r.command r.answer) (all_recorded layout (leaves h r.command r.answer) mine.1) (p.at + HEADER_WORDS + i) (recorded_put w row h r legal.0 mine.3 puts))
-  recorded_then w (first ∷ before) row after h own is legal (inl other) puts = recorded_then (step w first.mutator first.command).0 before row after h own is legal.1 other.1 puts
+      (Contains-append_left (noted_by layout h r.command r.answer) (all_recorded layout (leaves h r.command r.answer) mine.1)
+      (p.at + HEADER_WORDS + i) (recorded_put w row h r legal.0 mine.3 puts))
+  recorded_then w (first ∷ before) row after h own is legal (inl other) puts =
+      recorded_then (step w first.mutator first.command).0 before row after h own is legal.1 other.1 puts
   recorded_then w (first ∷ before) row after h own is legal (inr mine) puts =
       let r : OwnRow = mine.0 in
       subst (λ (l : List OwnRow). Contains (all_recorded layout h l) (p.at + HEADER_WORDS + i)) (sym mine.2)

@@ -56,7 +56,8 @@ module _ (s : Segments) (places : List Place) (w : World) (words : List ℕ) (mu
   hand_at m lt =
       let many = h.count in
       let n = item mutators m (omega arith) in
-      let is : get_or o.hands m no_hand ≡ hand_of w places n.0 = get_or_from_slice_get o.hands m (hand_of w places n.0) no_hand (item_map (hand_of w places) mutators m n.0 n.1) in
+      let is : get_or o.hands m no_hand ≡ hand_of w places n.0 =
+      get_or_from_slice_get o.hands m (hand_of w places n.0) no_hand (item_map (hand_of w places) mutators m n.0 n.1) in
       let exists : m < length w.mutators = subst (λ (k : ℕ). m < k) (sym as_many) lt in
       subst (λ (x : Hand). HandStands o m x) (sym is) (record {
         registers = own_mean (Contains places) mutators all_whole m n.0 n.1 (state_of w m).registers (h.world.registers m exists) (h.roots.held m exists);

@@ -66,7 +66,10 @@ pub record IsField (node : Node) (index : ℕ) : Type 0 where
   pub within : index < part_count node
 
 field_later : (before after : Node) (index : ℕ) → SameShape before after → IsField before index → IsField after index
-field_later before after index same f = record { written = subst (λ (k : Kind). IsWritten k index) (sym same.kind) f.written; within = (let a = f.within in let b = same.parts in omega arith) }
+field_later before after index same f = record {
+  written = subst (λ (k : Kind). IsWritten k index) (sym same.kind) f.written;
+  within = (let a = f.within in let b = same.parts in omega arith);
+}
 
 fine_in : (found : Node) (index : ℕ) (v : Value) → (field_set found index v).1 ≡ Fine → IsField found index
 fine_in (Con tag values) index v e = absurd cc
@@ -76,7 +79,8 @@ fine_in (Var old) index v e = elim (eqb_tells index 0) [
 ]
 fine_in (Arr values) index v e = elim (cases_lt index (length values)) [
   | inl lt ↦ record { written = tt; within = lt }
-  | inr le ↦ let bad : NoField ≡ Fine = subst (λ (b : Bool). (cond {A = Node × Reply} b (Arr (set values index v), Fine) (Arr values, NoField)).1 ≡ Fine) (le-ltb index (length values) le) e in absurd cc
+  | inr le ↦ let bad : NoField ≡ Fine = subst (λ (b : Bool). (cond {A = Node × Reply} b (Arr (set values index v), Fine) (Arr values, NoField)).1 ≡ Fine) (le-ltb index (length values) le) e in
+      absurd cc
 ]
 fine_in (Thunk free result) index v e = absurd cc
 fine_in (Weak parts) index v e = absurd cc
@@ -87,10 +91,12 @@ yes_in : (b : Bool) (written kept : Node) → (cond {A = Node × Reply} b (writt
 yes_in true written kept e = refl
 yes_in false written kept e = absurd cc
 
-there_in : (values : List Value) (index : ℕ) (expected : Value) (kept written : Node) → (exchanged_at (slice_get values index) expected kept written).1 ≡ Yes → index < length values
+there_in : (values : List Value) (index : ℕ) (expected : Value) (kept written : Node) →
+    (exchanged_at (slice_get values index) expected kept written).1 ≡ Yes → index < length values
 there_in values index expected kept written e = elim (cases_lt index (length values)) [
   | inl lt ↦ lt
-  | inr le ↦ let bad : NoField ≡ Yes = subst (λ (o : Option Value). (exchanged_at o expected kept written).1 ≡ Yes) (slice_get_past values index le) e in absurd cc
+  | inr le ↦ let bad : NoField ≡ Yes = subst (λ (o : Option Value). (exchanged_at o expected kept written).1 ≡ Yes) (slice_get_past values index le) e in
+      absurd cc
 ]
 
 exchanged_in : (found : Node) (index : ℕ) (expected v : Value) → (field_exchanged found index expected v).1 ≡ Yes → IsField found index
@@ -115,15 +121,21 @@ updated_in (Stack size values) v e = absurd cc
 abbrev Writes : World → Name → ℕ → Type 0
 Writes w name index = (found : Node) × (node_of w name ≡ Some found) × IsField found index
 
-done_at : (w : World) (name : Name) (index : ℕ) (c : Change) (done : Reply) → (NoPointer ≡ done → ⊥) → ((maker : ℕ) (found : Node) → (changed c maker found).1 ≡ done → IsField found index) → (o : Option Node) → node_of w name ≡ o → (change_node w name o c).1 ≡ done → Writes w name index
+done_at : (w : World) (name : Name) (index : ℕ) (c : Change) (done : Reply) → (NoPointer ≡ done → ⊥) →
+    ((maker : ℕ) (found : Node) → (changed c maker found).1 ≡ done → IsField found index) → (o : Option Node) → node_of w name ≡ o →
+    (change_node w name o c).1 ≡ done → Writes w name index
 done_at w name index c done ne field None there e = absurd (ne e)
 done_at w name index c done ne field (Some found) there e = (found, there, field name.maker found e)
 
-done_field : (w : World) (v : Value) (index : ℕ) (c : Change) (done : Reply) → (NoPointer ≡ done → ⊥) → ((maker : ℕ) (found : Node) → (changed c maker found).1 ≡ done → IsField found index) → (name : Name) → v ≡ value.Ref name → (change_object w v c).1 ≡ done → Writes w name index
+done_field : (w : World) (v : Value) (index : ℕ) (c : Change) (done : Reply) → (NoPointer ≡ done → ⊥) →
+    ((maker : ℕ) (found : Node) → (changed c maker found).1 ≡ done → IsField found index) → (name : Name) → v ≡ value.Ref name →
+    (change_object w v c).1 ≡ done → Writes w name index
 done_field w v index c done ne field name is e = done_at w name index c done ne field (node_of w name) refl (subst (λ x. (change_object w x c).1 ≡ done) is e)
 
 -- a push that was done wrote the slot at the depth
-push_field : (w : World) (m : ℕ) (object x : Value) (name : Name) (index : ℕ) → object ≡ value.Ref name → (change_object w object (change.Push m x)).1 ≡ Fine → ((size : ℕ) (values : List Value) → node_of w name ≡ Some (Stack size values) → name.maker ≡ m → index ≡ length values) → Writes w name index
+push_field : (w : World) (m : ℕ) (object x : Value) (name : Name) (index : ℕ) → object ≡ value.Ref name →
+    (change_object w object (change.Push m x)).1 ≡ Fine → ((size : ℕ) (values : List Value) → node_of w name ≡ Some (Stack size values) →
+    name.maker ≡ m → index ≡ length values) → Writes w name index
 push_field w m object x name index is e deep = elim (push_cases w m object x) [
   | inl f ↦
       let same : f.name ≡ name = let e = sym f.refers ∙ is in cc in
@@ -137,7 +149,8 @@ push_field w m object x name index is e deep = elim (push_cases w m object x) [
 -- what an operand refers to is in the wide reach
 operand_wide : (w : World) (m : ℕ) (o : Operand) (name : Name) → value_for w m o ≡ value.Ref name → IsWide w name
 operand_wide w m (Register r) name e = elim (cases_lt r (length (state_of w m).registers)) [
-  | inl lt ↦ root_wide w m name (Contains-append_left (state_of w m).registers (state_of w m).queue (value.Ref name) (subst (λ (v : Value). Contains (state_of w m).registers v) e (Contains-get_or (state_of w m).registers r value.Nil lt)))
+  | inl lt ↦ root_wide w m name (Contains-append_left (state_of w m).registers (state_of w m).queue (value.Ref name) (subst (λ (v : Value).
+      Contains (state_of w m).registers v) e (Contains-get_or (state_of w m).registers r value.Nil lt)))
   | inr le ↦ let none : value.Nil ≡ value.Ref name = sym (get_or_past (state_of w m).registers r value.Nil le) ∙ e in absurd cc
 ]
 operand_wide w m Shared name e = let same : name ≡ shared_name = cc in start name (inl (inl same))
@@ -159,7 +172,13 @@ pointer_old P layout w v old m =
     by_value : (v : Value) → w % 2 ≡ 0 → w / 2 < nursery_place layout 0 → Means P w v → IsPointer P layout w v
     by_value value.Nil even low m = absurd (omega arith)
     by_value (value.Number n) even low m = absurd (omega arith)
-    by_value (value.Ref name) even low m = record { place = record { at = m.0; name = name }; refers = refl; word_is = m.1; there = m.2; low = (let e = m.1 in omega arith) }
+    by_value (value.Ref name) even low m = record {
+      place = record { at = m.0; name = name };
+      refers = refl;
+      word_is = m.1;
+      there = m.2;
+      low = (let e = m.1 in omega arith);
+    }
 
 -- a command records a place: it wrote that field, with this reply
 record IsRecording (layout : Layout) (h : Hand) (c : Command) (a : Answer) (at : ℕ) : Type 0 where
@@ -169,13 +188,16 @@ record IsRecording (layout : Layout) (h : Hand) (c : Command) (a : Answer) (at :
   done : a ≡ plain reply
   old : is_old layout (word_of h.registers object) ≡ true
   at_is : word_of h.registers object / 2 + HEADER_WORDS + index ≡ at
-  writes : (w : World) (m : ℕ) (name : Name) → value_for w m object ≡ value.Ref name → (step w m c).1 ≡ reply → TellsDepth w m name h object → Writes w name index
+  writes : (w : World) (m : ℕ) (name : Name) → value_for w m object ≡ value.Ref name → (step w m c).1 ≡ reply → TellsDepth w m name h object →
+      Writes w name index
 
 one_if : (b : Bool) (x at : ℕ) → Contains (cond b (x ∷ []) []) at → (b ≡ true) × (x ≡ at)
 one_if true x at h = (refl, one_is x at h)
 one_if false x at h = absurd (nothing_in at h)
 
-recording_at : (layout : Layout) (h : Hand) (object v : Operand) (index at : ℕ) → Contains (recorded_at layout (word_of h.registers object) index (word_of h.registers v)) at → (is_old layout (word_of h.registers object) ≡ true) × (word_of h.registers object / 2 + HEADER_WORDS + index ≡ at)
+recording_at : (layout : Layout) (h : Hand) (object v : Operand) (index at : ℕ) →
+    Contains (recorded_at layout (word_of h.registers object) index (word_of h.registers v)) at →
+    (is_old layout (word_of h.registers object) ≡ true) × (word_of h.registers object / 2 + HEADER_WORDS + index ≡ at)
 recording_at layout h object v index at c =
     let old : Bool = is_old layout (word_of h.registers object) in
     let young : Bool = is_young layout (word_of h.registers v) in
@@ -185,23 +207,59 @@ recording_at layout h object v index at c =
 recording : (layout : Layout) (h : Hand) (c : Command) (a : Answer) (at : ℕ) → Contains (noted_by layout h c a) at → IsRecording layout h c a at
 recording layout h (Set object index v) (plain Fine) at c =
     let t = recording_at layout h object v index at c in
-    record { object = object; index = index; reply = Fine; done = refl; old = t.0; at_is = t.1; writes = λ w m name is e deep. done_field w (value_for w m object) index (change.Set index (value_for w m v)) Fine (λ x. cc) (λ maker found. fine_in found index (value_for w m v)) name is e }
+    record {
+      object = object;
+      index = index;
+      reply = Fine;
+      done = refl;
+      old = t.0;
+      at_is = t.1;
+      writes = λ w m name is e deep. done_field w (value_for w m object) index (change.Set index (value_for w m v)) Fine (λ x. cc) (λ maker found.
+          fine_in found index (value_for w m v)) name is e;
+    }
 recording layout h (Set object index v) (plain _) at c = absurd (nothing_in at c)
 recording layout h (Set object index v) (word w) at c = absurd (nothing_in at c)
 recording layout h (Cas object index expected v) (plain Yes) at c =
     let t = recording_at layout h object v index at c in
-    record { object = object; index = index; reply = Yes; done = refl; old = t.0; at_is = t.1; writes = λ w m name is e deep. done_field w (value_for w m object) index (change.Exchange index (value_for w m expected) (value_for w m v)) Yes (λ x. cc) (λ maker found. exchanged_in found index (value_for w m expected) (value_for w m v)) name is e }
+    record {
+      object = object;
+      index = index;
+      reply = Yes;
+      done = refl;
+      old = t.0;
+      at_is = t.1;
+      writes = λ w m name is e deep.
+          done_field w (value_for w m object) index (change.Exchange index (value_for w m expected) (value_for w m v)) Yes (λ x. cc) (λ maker found.
+          exchanged_in found index (value_for w m expected) (value_for w m v)) name is e;
+    }
 recording layout h (Cas object index expected v) (plain _) at c = absurd (nothing_in at c)
 recording layout h (Cas object index expected v) (word w) at c = absurd (nothing_in at c)
 recording layout h (Update object v) (plain Updated) at c =
     let t = recording_at layout h object v 0 at c in
-    record { object = object; index = 0; reply = Updated; done = refl; old = t.0; at_is = t.1; writes = λ w m name is e deep. done_field w (value_for w m object) 0 (change.Update (value_for w m v)) Updated (λ x. cc) (λ maker found. updated_in found (value_for w m v)) name is e }
+    record {
+      object = object;
+      index = 0;
+      reply = Updated;
+      done = refl;
+      old = t.0;
+      at_is = t.1;
+      writes = λ w m name is e deep. done_field w (value_for w m object) 0 (change.Update (value_for w m v)) Updated (λ x. cc) (λ maker found.
+          updated_in found (value_for w m v)) name is e;
+    }
 recording layout h (Update object v) (plain _) at c = absurd (nothing_in at c)
 recording layout h (Update object v) (word w) at c = absurd (nothing_in at c)
 recording layout h (Push object v) (plain Fine) at c =
     let deep_at : ℕ = depth_of (slots_at h.stacks (word_of h.registers object / 2)) in
     let t = recording_at layout h object v deep_at at c in
-    record { object = object; index = deep_at; reply = Fine; done = refl; old = t.0; at_is = t.1; writes = λ w m name is e deep. push_field w m (value_for w m object) (value_for w m v) name deep_at is e deep }
+    record {
+      object = object;
+      index = deep_at;
+      reply = Fine;
+      done = refl;
+      old = t.0;
+      at_is = t.1;
+      writes = λ w m name is e deep. push_field w m (value_for w m object) (value_for w m v) name deep_at is e deep;
+    }
 recording layout h (Push object v) (plain _) at c = absurd (nothing_in at c)
 recording layout h (Push object v) (word w) at c = absurd (nothing_in at c)
 recording layout h _ a at c = absurd (nothing_in at c)
@@ -239,15 +297,20 @@ module _ (P : Place → Type 0) (layout : Layout) (began : World) where
     pub field : IsField node index
 
   module _ (m : ℕ) (shared : P (record { at = SHARED_PLACE; name = shared_name })) where
-    done_own : (w : World) (row : Row) (h : Hand) (r : OwnRow) (reply : Reply) → (step w row.mutator row.command).1 ≡ row.reply → IsOwn P m w h r row → r.answer ≡ plain reply → (step w m r.command).1 ≡ reply
+    done_own : (w : World) (row : Row) (h : Hand) (r : OwnRow) (reply : Reply) → (step w row.mutator row.command).1 ≡ row.reply →
+        IsOwn P m w h r row → r.answer ≡ plain reply → (step w m r.command).1 ≡ reply
     done_own w row h r reply gives own is =
         let same : reply ≡ row.reply = subst (λ (a : Answer). Answers P a row.reply) is own.answers in
         subst (λ c. (step w m c).1 ≡ reply) (sym own.command) (subst (λ j. (step w j row.command).1 ≡ reply) own.number (gives ∙ sym same))
 
-    recorded_here : (w : World) (row : Row) (rows : List Row) (h : Hand) (r : OwnRow) → IsSince began w → IsWorld w → CanReplay w (row ∷ rows) → (step w row.mutator row.command).1 ≡ row.reply → IsOwn P m w h r row → (at : ℕ) → Contains (noted_by layout h r.command r.answer) at → IsFieldOf (replayed w (row ∷ rows)) at
+    recorded_here : (w : World) (row : Row) (rows : List Row) (h : Hand) (r : OwnRow) → IsSince began w → IsWorld w → CanReplay w (row ∷ rows) →
+        (step w row.mutator row.command).1 ≡ row.reply → IsOwn P m w h r row → (at : ℕ) → Contains (noted_by layout h r.command r.answer) at →
+        IsFieldOf (replayed w (row ∷ rows)) at
     recorded_here w row rows h r since is can gives own at c =
         let k : IsRecording layout h r.command r.answer at = recording layout h r.command r.answer at c in
-        let p : IsPointer P layout (word_of h.registers k.object) (value_for w m k.object) = pointer_old P layout (word_of h.registers k.object) (value_for w m k.object) k.old (operand_means P shared h.registers (state_of w m).registers k.object own.registers) in
+        let p : IsPointer P layout (word_of h.registers k.object) (value_for w m k.object) =
+        pointer_old P layout (word_of h.registers k.object) (value_for w m k.object) k.old
+        (operand_means P shared h.registers (state_of w m).registers k.object own.registers) in
         let deep : TellsDepth w m p.place.name h k.object = λ size values there mine.
         let t = own.depths p.place size values p.there mine there in
         let word = p.word_is in
@@ -268,7 +331,8 @@ module _ (P : Place → Type 0) (layout : Layout) (began : World) where
         }
 
     -- so is every place that rows of the round recorded
-    pub recorded_is : (w : World) (rows : List Row) (h : Hand) (own : List OwnRow) → IsSince began w → IsWorld w → CanReplay w rows → IsLegal w rows → Along P m w h own rows → (at : ℕ) → Contains (all_recorded layout h own) at → IsFieldOf (replayed w rows) at
+    pub recorded_is : (w : World) (rows : List Row) (h : Hand) (own : List OwnRow) → IsSince began w → IsWorld w → CanReplay w rows →
+        IsLegal w rows → Along P m w h own rows → (at : ℕ) → Contains (all_recorded layout h own) at → IsFieldOf (replayed w rows) at
     recorded_is w [] h own since is can legal along at c = absurd (nothing_in at (subst (λ (l : List OwnRow). Contains (all_recorded layout h l) at) along c))
     recorded_is w (row ∷ rows) h own since is can legal along at c =
         let v : World = (step w row.mutator row.command).0 in
@@ -279,7 +343,8 @@ module _ (P : Place → Type 0) (layout : Layout) (began : World) where
           | inr mine ↦
               let r : OwnRow = mine.0 in
               let here : List ℕ = noted_by layout h r.command r.answer in
-              elim (Contains-append_cases here (all_recorded layout (leaves h r.command r.answer) mine.1) at (subst (λ (l : List OwnRow). Contains (all_recorded layout h l) at) mine.2 c)) [
+              elim (Contains-append_cases here (all_recorded layout (leaves h r.command r.answer) mine.1) at (subst (λ (l : List OwnRow).
+              Contains (all_recorded layout h l) at) mine.2 c)) [
                 | inl a ↦ recorded_here w row rows h r since is can legal.0 mine.3 at a
                 | inr a ↦ recorded_is v rows (leaves h r.command r.answer) mine.1 later next can.1 legal.1 mine.4 at a
               ]

@@ -60,7 +60,8 @@ use Rattle.nmgc_turn.proofs.Weaks.{IsMade, IsNewWeak, rows_made, weak_then, weak
 use Rattle.std.proofs.lemmas.Bool.{cases_lt}
 
 -- a list stands for the same values by more places
-list_in : (P Q : Place → Type 0) (ws : List ℕ) (vs : List Value) → ((n : Name) (at : ℕ) → Contains vs (Ref n) → P (record { at = at; name = n }) → Q (record { at = at; name = n })) → ListMeans P ws vs → ListMeans Q ws vs
+list_in : (P Q : Place → Type 0) (ws : List ℕ) (vs : List Value) →
+    ((n : Name) (at : ℕ) → Contains vs (Ref n) → P (record { at = at; name = n }) → Q (record { at = at; name = n })) → ListMeans P ws vs → ListMeans Q ws vs
 list_in P Q [] [] more h = tt
 list_in P Q [] (v ∷ vs) more h = absurd h
 list_in P Q (w ∷ ws) [] more h = absurd h
@@ -72,7 +73,9 @@ list_in P Q (w ∷ ws) (v ∷ vs) more h = (
 -- whoever did a command of a history is there as it begins
 maker_there : (w : World) (before : List Row) (row : Row) (after : List Row) → CanReplay w (before ++ row ∷ after) → row.mutator < length w.mutators
 maker_there w [] row after can = can.0.mutator
-maker_there w (first ∷ before) row after can = subst (λ n. row.mutator < n) (step_grows w first.mutator first.command can.0.mutator).mutators (maker_there (step w first.mutator first.command).0 before row after can.1)
+maker_there w (first ∷ before) row after can =
+    subst (λ n. row.mutator < n) (step_grows w first.mutator first.command can.0.mutator).mutators
+    (maker_there (step w first.mutator first.command).0 before row after can.1)
 
 -- a place of an object but g is above g's words
 above_shared : (layout : Layout) (p : Place) (size : ℕ) → p.name.maker ≢ SHARED_MAKER → 1 ≤ size → LiesWell layout p size → FIRST_PLACE ≤ p.at
@@ -84,7 +87,8 @@ above_shared layout p size own more (inr (_, inr n)) = let h = (n.1 p.at (omega 
 abbrev pub StacksAreListed : Type 0
 StacksAreListed = (o : Opening) (words : List ℕ) → CanOpen o words → (m : ℕ) → m < o.layout.mutators → OwnSlots o [] o.core.world m (hand_of o.hands m)
 
-module _ (history : EventsAreHistory) (listed : StacksAreListed) (o : Opening) (before words : List ℕ) (v : Seen) (mutators : List Mutator) (done : List (List Done)) (can : CanOpen o before) (h : IsFinished o words v) (work : HaveWorked o v.parts mutators done) where
+module _ (history : EventsAreHistory) (listed : StacksAreListed) (o : Opening) (before words : List ℕ) (v : Seen) (mutators : List Mutator)
+    (done : List (List Done)) (can : CanOpen o before) (h : IsFinished o words v) (work : HaveWorked o v.parts mutators done) where
   abbrev B : World
   B = o.core.world
 
@@ -123,7 +127,8 @@ module _ (history : EventsAreHistory) (listed : StacksAreListed) (o : Opening) (
   first_means : (k : ℕ) → k < o.layout.mutators → ListMeans P (hand_of o.hands k).registers (state_of B k).registers
   first_means k lt = list_in (Contains o.places) P (hand_of o.hands k).registers (state_of B k).registers
       (λ n at c here.
-      let tracked : IsTracked B (earlier o) n = wide_tracked B (earlier o) n (root_wide B k n (Contains-append_left (state_of B k).registers (state_of B k).queue (Ref n) c)) in
+      let tracked : IsTracked B (earlier o) n =
+      wide_tracked B (earlier o) n (root_wide B k n (Contains-append_left (state_of B k).registers (state_of B k).queue (Ref n) c)) in
       let node = is_some_of (node_of B n) (can.represents.named (record { at = at; name = n }) here).known in
       (node.0, inl (record { there = here; tracked = tracked; node = node.1 })))
       (can.hands k lt).registers
@@ -133,7 +138,8 @@ module _ (history : EventsAreHistory) (listed : StacksAreListed) (o : Opening) (
   first_depths k lt p size values (node, inl old) maker there =
       let t = listed o before can k lt (record { at = p.at; name = p.name; node = node }) size values (inl old) maker there in
       (t.0, t.1, list_long (IsIn o []) t.0 values t.2)
-  first_depths k lt p size values (node, inr new) maker there = absurd (let none : Some (Stack size values) ≡ None = sym there ∙ (h.new (record { at = p.at; name = p.name; node = node }) new).unknown in cc)
+  first_depths k lt p size values (node, inr new) maker there =
+      absurd (let none : Some (Stack size values) ≡ None = sym there ∙ (h.new (record { at = p.at; name = p.name; node = node }) new).unknown in cc)
 
   one : (p q : Place) → P p → P q → (p.name ≡ q.name) ⊎ (p.at ≡ q.at) → p ≡ q
   one p q hp hq e = h.stands.one p q (is_place o h.born p hp) (is_place o h.born q hq) e
@@ -143,12 +149,15 @@ module _ (history : EventsAreHistory) (listed : StacksAreListed) (o : Opening) (
 
   follows : (k : ℕ) (lt : k < o.layout.mutators) (t : IsThere k) → Along P k B (hand_of o.hands k) t.part.rows rows
   follows k lt t =
-      let says : AllAnswer P t.part.rows (done_by k h.events) = subst (λ j. AllAnswer P t.part.rows (done_by j h.events)) t.number (h.parts k t.part t.part_there).0.rows in
-      along P k one (not_g k lt) h.shared o.core h.events can.world h.legal (hand_of o.hands k) t.part.rows says (all_plain t.part.fixed t.part.rows t.own t.worked.replied) (first_means k lt) (first_depths k lt)
+      let says : AllAnswer P t.part.rows (done_by k h.events) =
+      subst (λ j. AllAnswer P t.part.rows (done_by j h.events)) t.number (h.parts k t.part t.part_there).0.rows in
+      along P k one (not_g k lt) h.shared o.core h.events can.world h.legal (hand_of o.hands k) t.part.rows says
+      (all_plain t.part.fixed t.part.rows t.own t.worked.replied) (first_means k lt) (first_depths k lt)
 
   -- what it recorded
   recorded_are : (k : ℕ) (t : IsThere k) → numbers t.mutator.recorded.items ≡ all_recorded o.layout (hand_of o.hands k) t.part.rows
-  recorded_are k t = t.worked.recorded ∙ ap (λ l. all_recorded l (hand_of o.hands t.part.number) t.part.rows) t.worked.layout ∙ ap (λ j. all_recorded o.layout (hand_of o.hands j) t.part.rows) t.number
+  recorded_are k t = t.worked.recorded ∙ ap (λ l. all_recorded l (hand_of o.hands t.part.number) t.part.rows) t.worked.layout ∙
+      ap (λ j. all_recorded o.layout (hand_of o.hands j) t.part.rows) t.number
 
   -- what was born lies in the nurseries, and its name is new
   born_high : (x : Object) → Contains h.born x → base ≤ x.at
@@ -175,26 +184,36 @@ module _ (history : EventsAreHistory) (listed : StacksAreListed) (o : Opening) (
 
   -- a name has one place
   one_place : (p : Place) → Contains places p → (at : ℕ) → P (record { at = at; name = p.name }) → at ≡ p.at
-  one_place p c at here = ap (λ (q : Place). q.at) (h.stands.one (record { at = at; name = p.name }) p (is_place o h.born (record { at = at; name = p.name }) here) (in_use p c) (inl refl))
+  one_place p c at here = ap (λ (q : Place). q.at) (h.stands.one (record {
+    at = at;
+    name = p.name;
+  }) p (is_place o h.born (record { at = at; name = p.name }) here) (in_use p c) (inl refl))
 
   -- a recorded place is one of a mutator that is there
-  maker_recorded : (at : ℕ) → Contains (recorded_of mutators) at → (k : ℕ) × (lt : k < o.layout.mutators) × Contains (all_recorded o.layout (hand_of o.hands k) (there k lt).part.rows) at
+  maker_recorded : (at : ℕ) → Contains (recorded_of mutators) at → (k : ℕ) × (lt : k < o.layout.mutators) ×
+      Contains (all_recorded o.layout (hand_of o.hands k) (there k lt).part.rows) at
   maker_recorded at c =
       let found = flat_contains (λ (m : Mutator). numbers m.recorded.items) mutators at c in
       let index = index_of mutators found.0 found.1 in
       let lt : index.0 < o.layout.mutators = (let a = slice_get_within mutators index.0 found.0 index.1 in let b = work.mutators_are in omega arith) in
       (index.0, lt, of (there index.0 lt) found.0 index.1 found.2)
     where
-      of : {k : ℕ} (t : IsThere k) (m : Mutator) → slice_get mutators k ≡ Some m → Contains (numbers m.recorded.items) at → Contains (all_recorded o.layout (hand_of o.hands k) t.part.rows) at
+      of : {k : ℕ} (t : IsThere k) (m : Mutator) → slice_get mutators k ≡ Some m → Contains (numbers m.recorded.items) at →
+          Contains (all_recorded o.layout (hand_of o.hands k) t.part.rows) at
       of {k} t m e c =
-          let same : numbers m.recorded.items ≡ numbers t.mutator.recorded.items = ap (λ (x : Mutator). numbers x.recorded.items) (same_Some m t.mutator (sym e ∙ t.mutator_there)) in
+          let same : numbers m.recorded.items ≡ numbers t.mutator.recorded.items =
+          ap (λ (x : Mutator). numbers x.recorded.items) (same_Some m t.mutator (sym e ∙ t.mutator_there)) in
           subst (λ (l : List ℕ). Contains l at) (same ∙ recorded_are k t) c
 
   -- recorded places are of told fields of tracked objects in segments
-  recorded_told : (at : ℕ) → Contains (recorded_of mutators) at → (p : Place) × (node : Node) × (i : ℕ) × (slot : Slot) × Contains places p × IsTracked W (B ∷ earlier o) p.name × (node_of W p.name ≡ Some node) × (slice_get (slots_of node) i ≡ Some slot) × (slot ≢ untold) × (at ≡ p.at + HEADER_WORDS + i) × (p.at < base)
+  recorded_told : (at : ℕ) → Contains (recorded_of mutators) at → (p : Place) × (node : Node) × (i : ℕ) × (slot : Slot) × Contains places p ×
+      IsTracked W (B ∷ earlier o) p.name × (node_of W p.name ≡ Some node) × (slice_get (slots_of node) i ≡ Some slot) × (slot ≢ untold) ×
+      (at ≡ p.at + HEADER_WORDS + i) × (p.at < base)
   recorded_told at c =
       let (k, lt, its) = maker_recorded at c in
-      let f : IsFieldOf P o.layout B (replayed B rows) at = recorded_is P o.layout B k h.shared B rows (hand_of o.hands k) (there k lt).part.rows (since_itself B) can.world takes legal (follows k lt (there k lt)) at its in
+      let f : IsFieldOf P o.layout B (replayed B rows) at =
+      recorded_is P o.layout B k h.shared B rows (hand_of o.hands k) (there k lt).part.rows (since_itself B) can.world takes legal
+      (follows k lt (there k lt)) at its in
       let old = in_old f.place f.there f.low in
       let slot = told_slot f.node f.index f.field in (
         f.place,
@@ -221,25 +240,36 @@ module _ (history : EventsAreHistory) (listed : StacksAreListed) (o : Opening) (
   }
 
   -- what a row put there is recorded
-  put_recorded : (p q : Place) (i : ℕ) → AreApart P o.layout p q → IsPut B rows p.name i (Ref q.name) → Contains (recorded_of mutators) (p.at + HEADER_WORDS + i)
+  put_recorded : (p q : Place) (i : ℕ) → AreApart P o.layout p q → IsPut B rows p.name i (Ref q.name) →
+      Contains (recorded_of mutators) (p.at + HEADER_WORDS + i)
   put_recorded p q i a put =
       let k : ℕ = put.row.mutator in
-      let lt : k < o.layout.mutators = (let e = can.is.mutators in let l = maker_there B put.before put.row put.after (subst (CanReplay B) put.rows_are takes) in omega arith) in
+      let lt : k < o.layout.mutators = (let e = can.is.mutators in
+      let l = maker_there B put.before put.row put.after (subst (CanReplay B) put.rows_are takes) in omega arith) in
       let t : IsThere k = there k lt in
       contains_flat (λ (m : Mutator). numbers m.recorded.items) mutators t.mutator (p.at + HEADER_WORDS + i) (contains_at mutators k t.mutator t.mutator_there)
       (subst (λ (l : List ℕ). Contains l (p.at + HEADER_WORDS + i)) (sym (recorded_are k t))
-      (recorded_then P o.layout p q a k h.shared i B put.before put.row put.after (hand_of o.hands k) t.part.rows refl (subst (IsLegalHistory B) put.rows_are legal)
+      (recorded_then P o.layout p q a k h.shared i B put.before put.row put.after (hand_of o.hands k) t.part.rows refl
+      (subst (IsLegalHistory B) put.rows_are legal)
       (subst (λ (l : List Row). Along P k B (hand_of o.hands k) t.part.rows l) put.rows_are (follows k lt t)) put.puts))
 
   -- what an object that was there held then was there too
   strong_known : (p : Place) (i : ℕ) (target : Name) → HasStrongField B p.name i (Ref target) → IsSome (node_of B target)
-  strong_known p i target s = (world_holds B can.world).fields p.name target (some_of (node_of B p.name) s.node s.node_is) (s.node, s.node_is, field_at_place s.node i (Ref target) s.field)
+  strong_known p i target s = (world_holds B can.world).fields p.name target (some_of (node_of B p.name) s.node s.node_is) (
+    s.node,
+    s.node_is,
+    field_at_place s.node i (Ref target) s.field,
+  )
 
   part_known : (name target : Name) (parts : Parts) → IsAlive B name parts → Contains (held_by (Weak (Some parts))) (Ref target) → IsSome (node_of B target)
-  part_known name target parts alive c = All-contains (IsKnown B) (held_by (Weak (Some parts))) (Ref target) (at_some (node_of B name) (Weak (Some parts)) (IsNodeOf B) alive (can.world.nodes name)).known c
+  part_known name target parts alive c =
+      All-contains (IsKnown B) (held_by (Weak (Some parts))) (Ref target)
+      (at_some (node_of B name) (Weak (Some parts)) (IsNodeOf B) alive (can.world.nodes name)).known c
 
   -- each reference from an older object to a young one is recorded
-  young_recorded : (p q : Place) (node : Node) (i : ℕ) → Contains places p → p.at < base → p.name.maker ≢ SHARED_MAKER → node_of W p.name ≡ Some node → slice_get (slots_of node) i ≡ Some (holds (Ref q.name)) → Contains places q → base ≤ q.at → Contains (recorded_of mutators) (p.at + HEADER_WORDS + i)
+  young_recorded : (p q : Place) (node : Node) (i : ℕ) → Contains places p → p.at < base → p.name.maker ≢ SHARED_MAKER →
+      node_of W p.name ≡ Some node → slice_get (slots_of node) i ≡ Some (holds (Ref q.name)) → Contains places q → base ≤ q.at →
+      Contains (recorded_of mutators) (p.at + HEADER_WORDS + i)
   young_recorded p q node i c low own is slot d high =
       let old : IsSome (node_of B p.name) = (can.represents.named p (old_place p c low)).known in
       let new : IsSome (node_of B q.name) → ⊥ = absent (node_of B q.name) (young_name q d high) in
@@ -265,16 +295,20 @@ module _ (history : EventsAreHistory) (listed : StacksAreListed) (o : Opening) (
       let lt : index.0 < o.layout.mutators = (let a = slice_get_within mutators index.0 found.0 index.1 in let b = work.mutators_are in omega arith) in
       (index.0, lt, of (there index.0 lt) found.0 index.1 found.2)
     where
-      of : {k : ℕ} (t : IsThere k) (m : Mutator) → slice_get mutators k ≡ Some m → Contains (numbers m.young_weaks.items) at → Contains (all_weaks t.part.rows) at
+      of : {k : ℕ} (t : IsThere k) (m : Mutator) → slice_get mutators k ≡ Some m → Contains (numbers m.young_weaks.items) at →
+          Contains (all_weaks t.part.rows) at
       of {k} t m e c =
-          let same : numbers m.young_weaks.items ≡ numbers t.mutator.young_weaks.items = ap (λ (x : Mutator). numbers x.young_weaks.items) (same_Some m t.mutator (sym e ∙ t.mutator_there)) in
+          let same : numbers m.young_weaks.items ≡ numbers t.mutator.young_weaks.items =
+          ap (λ (x : Mutator). numbers x.young_weaks.items) (same_Some m t.mutator (sym e ∙ t.mutator_there)) in
           subst (λ (l : List ℕ). Contains l at) (same ∙ weaks_are k t) c
 
   -- noted places are of young weak pointers
-  weak_told : (at : ℕ) → Contains (weaks_of mutators) at → (name : Name) × (parts : Option Parts) × Contains places (record { at = at; name = name }) × (base ≤ at) × (node_of W name ≡ Some (Weak parts))
+  weak_told : (at : ℕ) → Contains (weaks_of mutators) at → (name : Name) × (parts : Option Parts) ×
+      Contains places (record { at = at; name = name }) × (base ≤ at) × (node_of W name ≡ Some (Weak parts))
   weak_told at c =
       let (k, lt, its) = maker_noted at c in
-      let t : IsNewWeak P B (replayed B rows) at = weak_is P B k B rows (hand_of o.hands k) (there k lt).part.rows (since_itself B) can.world takes legal (follows k lt (there k lt)) at its in
+      let t : IsNewWeak P B (replayed B rows) at =
+      weak_is P B k B rows (hand_of o.hands k) (there k lt).part.rows (since_itself B) can.world takes legal (follows k lt (there k lt)) at its in
       let high : base ≤ at = elim (cases_lt at base) [
         | inl low ↦ absurd (absent (node_of B t.name) t.new (in_old (record { at = at; name = t.name }) t.there low).1)
         | inr le ↦ le
@@ -287,7 +321,8 @@ module _ (history : EventsAreHistory) (listed : StacksAreListed) (o : Opening) (
       let after : node_of (replayed B rows) p.name ≡ Some (Weak (Some parts)) = ap (λ (w : World). node_of w p.name) (sym then) ∙ alive in
       let made : IsMade B rows p.name = rows_made B rows can.world takes p.name (Weak (Some parts)) (young_name p c high) after refl in
       let k : ℕ = made.row.mutator in
-      let lt : k < o.layout.mutators = (let e = can.is.mutators in let l = maker_there B made.before made.row made.after (subst (CanReplay B) made.rows_are takes) in omega arith) in
+      let lt : k < o.layout.mutators = (let e = can.is.mutators in
+      let l = maker_there B made.before made.row made.after (subst (CanReplay B) made.rows_are takes) in omega arith) in
       let t : IsThere k = there k lt in
       contains_flat (λ (m : Mutator). numbers m.young_weaks.items) mutators t.mutator p.at (contains_at mutators k t.mutator t.mutator_there)
       (subst (λ (l : List ℕ). Contains l p.at) (sym (weaks_are k t))

@@ -26,7 +26,8 @@ use Rattle.nmgc_turn.specs.laws.Registers.{HaveAll, registers_count, all_mean}
 abbrev roots_in : Mutator → Hand
 roots_in m = record { registers = m.registers; queue = m.queue.words; serial = m.serial; stacks = [] }
 
-module _ (o : Opening) (words : List ℕ) (v : Seen) (mutators : List Mutator) (done : List (List Done)) (h : IsFinished o words v) (all : HaveWorked o v.parts mutators done) where
+module _ (o : Opening) (words : List ℕ) (v : Seen) (mutators : List Mutator) (done : List (List Done)) (h : IsFinished o words v)
+    (all : HaveWorked o v.parts mutators done) where
   abbrev W : World
   W = (now o h.events).world
 
@@ -45,7 +46,8 @@ module _ (o : Opening) (words : List ℕ) (v : Seen) (mutators : List Mutator) (
       let same : Some w.mutator ≡ Some m = sym w.mutator_there ∙ e in
       let is : w.mutator ≡ m = cc in
       let holds = w.worked.holds in
-      let left : IsHand o h.born W k (hand_now o w.part) = subst (λ (n : ℕ). IsHand o h.born W n (hand_now o w.part)) w.number (h.parts k w.part w.part_there).0.hand in
+      let left : IsHand o h.born W k (hand_now o w.part) = subst (λ (n : ℕ).
+      IsHand o h.born W n (hand_now o w.part)) w.number (h.parts k w.part w.part_there).0.hand in
       subst (λ (x : Mutator). IsOwn k x) is (record {
         size = w.worked.size;
         hand = record {
@@ -63,7 +65,8 @@ module _ (o : Opening) (words : List ℕ) (v : Seen) (mutators : List Mutator) (
       let many = as_many in
       let m = item mutators k (omega arith) in
       let own = (own_at k m.0 m.1).hand in
-      all_mean (Contains (places_then o h.born)) mutators all_whole k m.0 m.1 (state_of W k).registers (list_more (IsIn o h.born) (Contains (places_then o h.born)) (in_place o h.born) m.0.registers (state_of W k).registers own.registers)
+      all_mean (Contains (places_then o h.born)) mutators all_whole k m.0 m.1 (state_of W k).registers
+      (list_more (IsIn o h.born) (Contains (places_then o h.born)) (in_place o h.born) m.0.registers (state_of W k).registers own.registers)
 
   queued : (k : ℕ) (own : List ℕ) → slice_get (queues_of mutators) k ≡ Some own → ListMeans (Contains (places_then o h.born)) own (state_of W k).queue
   queued k own e =

@@ -17,17 +17,23 @@ use Rattle.nmgc_heap.specs.laws.Kinds.{item_map, map_item, item_left, item_right
 use Rattle.nmgc_turn.proofs.Recorded.{IsField}
 
 -- each slot of a stack is told
-stack_slot : (values : List Value) (size index : ℕ) → index < size → (slot : Slot) × (slice_get (map holds values ++ replicate (size - length values) unset) index ≡ Some slot) × (slot ≢ untold)
+stack_slot : (values : List Value) (size index : ℕ) → index < size → (slot : Slot) ×
+    (slice_get (map holds values ++ replicate (size - length values) unset) index ≡ Some slot) × (slot ≢ untold)
 stack_slot values size index lt =
     let n : ℕ = size - length values in
     let front : List Slot = map holds values in
     let long = length-map values holds in
     elim (cases_lt index (length values)) [
-      | inl l ↦ let v : Value = get_or values index value.Nil in (holds v, item_left front (replicate n unset) index (holds v) (item_map holds values index v (slice_get-get_or values index value.Nil l)), λ e. cc)
+      | inl l ↦ let v : Value = get_or values index value.Nil in
+          (holds v, item_left front (replicate n unset) index (holds v) (item_map holds values index v (slice_get-get_or values index value.Nil l)), λ e. cc)
       | inr le ↦
           let j : ℕ = index - length values in
-          let place : length front + j ≡ index = omega arith in
-          (unset, subst (λ k. slice_get (front ++ replicate n unset) k ≡ Some unset) place (item_right front (replicate n unset) j unset (item_all n j unset (omega arith))), λ e. cc)
+          let place : length front + j ≡ index = omega arith in (
+            unset,
+            subst (λ k. slice_get (front ++ replicate n unset) k ≡
+                Some unset) place (item_right front (replicate n unset) j unset (item_all n j unset (omega arith))),
+            λ e. cc,
+          )
     ]
 
 -- a field that a command writes is told
@@ -35,7 +41,8 @@ pub told_slot : (node : Node) (index : ℕ) → IsField node index → (slot : S
 told_slot (Con tag values) index f = absurd f.written
 told_slot (Var old) zero f = (holds old, refl, λ e. cc)
 told_slot (Var old) (suc index) f = absurd (let lt = f.within in omega arith)
-told_slot (Arr values) index f = let v : Value = get_or values index value.Nil in (holds v, item_map holds values index v (slice_get-get_or values index value.Nil f.within), λ e. cc)
+told_slot (Arr values) index f = let v : Value = get_or values index value.Nil in
+    (holds v, item_map holds values index v (slice_get-get_or values index value.Nil f.within), λ e. cc)
 told_slot (Thunk free None) zero f = (unset, refl, λ e. cc)
 told_slot (Thunk free (Some result)) zero f = (holds result, refl, λ e. cc)
 told_slot (Thunk free result) (suc index) f = absurd (let z = f.written in omega arith)
@@ -56,7 +63,8 @@ stack_item (x ∷ values) n zero v h = cc
 stack_item (x ∷ values) n (suc i) v h = stack_item values n i v h
 
 -- a value that a field holds is that of a strong field, or a part of an alive weak pointer
-pub held_at : (node : Node) (i : ℕ) (v : Value) → slice_get (slots_of node) i ≡ Some (holds v) → (strong_at node i ≡ Some v) ⊎ ((parts : Parts) × (node ≡ Weak (Some parts)) × Contains (held_by (Weak (Some parts))) v)
+pub held_at : (node : Node) (i : ℕ) (v : Value) → slice_get (slots_of node) i ≡ Some (holds v) → (strong_at node i ≡ Some v) ⊎
+    ((parts : Parts) × (node ≡ Weak (Some parts)) × Contains (held_by (Weak (Some parts))) v)
 held_at (Con tag values) i v h = inl (held_item values i v h)
 held_at (Var old) i v h = inl (held_item (old ∷ []) i v h)
 held_at (Arr values) i v h = inl (held_item values i v h)
@@ -68,5 +76,6 @@ held_at (Weak None) zero v h = absurd cc
 held_at (Weak None) (suc zero) v h = absurd cc
 held_at (Weak None) (suc (suc zero)) v h = absurd cc
 held_at (Weak None) (suc (suc (suc i))) v h = absurd cc
-held_at (Weak (Some parts)) i v h = let all : List Value = parts.key ∷ parts.value ∷ parts.finaliser ∷ [] in inr (parts, refl, contains_at all i v (held_item all i v h))
+held_at (Weak (Some parts)) i v h = let all : List Value = parts.key ∷ parts.value ∷ parts.finaliser ∷ [] in
+    inr (parts, refl, contains_at all i v (held_item all i v h))
 held_at (Stack size values) i v h = inl (stack_item values (size - length values) i v h)

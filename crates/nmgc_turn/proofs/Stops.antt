@@ -48,7 +48,8 @@ one_earlier : (marking : Bool) (snapshot e : World) → Contains (cond marking (
 one_earlier true snapshot e c = one_is snapshot e c
 one_earlier false snapshot e c = absurd (nothing_in e c)
 
-module _ (history : EventsAreHistory) (o : Opening) (before words : List ℕ) (v : Seen) (mutators : List Mutator) (can : CanOpen o before) (past : AreEarlier (earlier o) o.core.world) (h : IsFinished o words v) where
+module _ (history : EventsAreHistory) (o : Opening) (before words : List ℕ) (v : Seen) (mutators : List Mutator) (can : CanOpen o before)
+    (past : AreEarlier (earlier o) o.core.world) (h : IsFinished o words v) where
   low : (p : Place) → Contains o.places p → p.at < nursery_place o.layout 0
   low = opened_below o before can
 
@@ -86,21 +87,28 @@ module _ (history : EventsAreHistory) (o : Opening) (before words : List ℕ) (v
     | inl d ↦ low p d
     | inr (x, d, is) ↦
         let same : o.core.snapshot ≡ e = one_earlier o.marking o.core.snapshot e in_ in
-        absurd (absent (node_of o.core.snapshot x.name) (h.new x d).no_snapshot (subst (λ (w : World). IsSome (node_of w x.name)) (sym same) (subst (λ (q : Place). IsSome (node_of e q.name)) is known)))
+        absurd (absent (node_of o.core.snapshot x.name) (h.new x d).no_snapshot (subst (λ (w : World).
+        IsSome (node_of w x.name)) (sym same) (subst (λ (q : Place). IsSome (node_of e q.name)) is known)))
   ]
 
   young : (p : Place) → Contains places p → (nursery_place o.layout 0 ≤ p.at) ↔ (node_of o.core.world p.name ≡ None)
   young p c = elim (place_cases o h.born p c) [
     | inl d ↦ (λ up. absurd (let lt = low p d in omega arith), λ none. absurd (absent (node_of o.core.world p.name) none (can.represents.named p d).known))
-    | inr (x, d, is) ↦ (λ up. subst (λ (q : Place). node_of o.core.world q.name ≡ None) (sym is) (h.new x d).unknown, λ none. subst (λ (q : Place). nursery_place o.layout 0 ≤ q.at) (sym is) (born_up x d))
+    | inr (x, d, is) ↦ (
+      λ up. subst (λ (q : Place). node_of o.core.world q.name ≡ None) (sym is) (h.new x d).unknown,
+      λ none. subst (λ (q : Place). nursery_place o.layout 0 ≤ q.at) (sym is) (born_up x d),
+    )
   ]
 
   -- an older object that refers to a young one was reached by the command that stored it
-  changed : (holder name : Name) → IsSome (node_of o.core.world holder) → node_of o.core.world name ≡ None → RefersTo W holder name → IsTracked W (o.core.world ∷ earlier o) holder
+  changed : (holder name : Name) → IsSome (node_of o.core.world holder) → node_of o.core.world name ≡ None → RefersTo W holder name →
+      IsTracked W (o.core.world ∷ earlier o) holder
   changed holder name there new refers =
       let at = place_of_field refers.0 (Ref name) refers.2 in
       let stands : HasStrongField W holder at.0 (Ref name) = record { node = refers.0; node_is = refers.1; field = at.1 } in
-      let stored = old_refers_to_young o.core.world rows can.world (can_replay o.core h.events h.legal) holder name at.0 there (λ known. absent (node_of o.core.world name) new known) (subst (λ (w : World). HasStrongField w holder at.0 (Ref name)) (history o.core h.events h.legal).1 stands) in
+      let stored = old_refers_to_young o.core.world rows can.world (can_replay o.core h.events h.legal) holder name at.0 there (λ known.
+      absent (node_of o.core.world name) new known) (subst (λ (w : World).
+      HasStrongField w holder at.0 (Ref name)) (history o.core h.events h.legal).1 stands) in
       past_tracked W (o.core.world ∷ earlier o) o.core.world holder (contains_head o.core.world (earlier o)) stored.wide
 
   pub round_of : IsRoundOf (nursery_place o.layout 0) t
@@ -109,7 +117,9 @@ module _ (history : EventsAreHistory) (o : Opening) (before words : List ℕ) (v
     outside = outside;
     young = young;
     changed = changed;
-    parts = λ weak parts there alive. old_weaks_stay o.core.world rows can.world (can_replay o.core h.events h.legal) weak parts there (subst (λ (w : World). IsAlive w weak parts) (history o.core h.events h.legal).1 alive);
+    parts = λ weak parts there alive.
+        old_weaks_stay o.core.world rows can.world (can_replay o.core h.events h.legal) weak parts there (subst (λ (w : World).
+        IsAlive w weak parts) (history o.core h.events h.legal).1 alive);
   }
 
   -- blocks in use have the objects that they had, of the same sizes
@@ -123,11 +133,17 @@ module _ (history : EventsAreHistory) (o : Opening) (before words : List ℕ) (v
           (block.0, block.1, let fits = block.2 in omega arith)
       | inr (x, d, is) ↦ absurd (let up = born_up x d in let at : p.at ≡ x.at = ap (λ (q : Place). q.at) is in omega arith)
     ];
-    filled = λ at size occupied. let name = blocks.filled at size occupied in (name.0, Contains-append_left o.places (map place_of h.born) (record { at = at; name = name.0 }) name.1);
+    filled = λ at size occupied. let name = blocks.filled at size occupied in
+        (name.0, Contains-append_left o.places (map place_of h.born) (record { at = at; name = name.0 }) name.1);
   }
 
-  pub no_nodes : Represents o.layout (o.core.world ∷ earlier o) (IsKeptThen o h.born) places W words → Represents o.layout (o.core.world ∷ earlier o) NoNode places W words
-  no_nodes r = remembered o.layout (o.core.world ∷ earlier o) (o.core.world ∷ earlier o) (IsKeptThen o h.born) NoNode places W words (record { worlds = λ e c. contains_tail W (o.core.world ∷ earlier o) e c; nodes = λ name node none. absurd none }) r
+  pub no_nodes : Represents o.layout (o.core.world ∷ earlier o) (IsKeptThen o h.born) places W words →
+      Represents o.layout (o.core.world ∷ earlier o) NoNode places W words
+  no_nodes r = remembered o.layout (o.core.world ∷ earlier o) (o.core.world ∷
+      earlier o) (IsKeptThen o h.born) NoNode places W words (record {
+        worlds = λ e c. contains_tail W (o.core.world ∷ earlier o) e c;
+        nodes = λ name node none. absurd none;
+      }) r
 
 pub stopped : EventsAreHistory → RootsAreLeft → BirthsAreInOrder → RoundIsRemembered → RoundIsStopped
 stopped history roots births remembers o before words v mutators done s can past same segments blocks left worked reserve =
@@ -138,12 +154,15 @@ stopped history roots births remembers o before words v mutators done s can past
     record {
       world = world history o before words v mutators can past h;
       round = subst (λ n. IsRoundOf n (stop_after o words v h mutators)) (sym base) (round_of history o before words v mutators can past h);
-      represents = subst (λ (l : Layout). Represents l (o.core.world ∷ earlier o) NoNode (places_then o h.born) w words) (sym same) (no_nodes history o before words v mutators can past h left.1);
+      represents = subst (λ (l : Layout). Represents l (o.core.world ∷
+          earlier o) NoNode (places_then o h.born) w words) (sym same) (no_nodes history o before words v mutators can past h left.1);
       roots = roots o words v mutators done h worked;
       segments = segments;
-      blocks = subst (λ n. AreBlocks s n (places_then o h.born) w) (sym base) (blocks_then history o before words v mutators can past h s (subst (λ n. AreBlocks s n o.places o.core.world) base blocks));
+      blocks = subst (λ n. AreBlocks s n (places_then o h.born) w) (sym base)
+          (blocks_then history o before words v mutators can past h s (subst (λ n. AreBlocks s n o.places o.core.world) base blocks));
       used = subst (λ (l : Layout). AreUsed l (nursery_place l 0) (places_then o h.born) w (nurseries_of mutators)) (sym same) in_order.1;
       order = subst (λ n. LieInOrder n (places_then o h.born)) (sym base) in_order.0;
-      left = subst (λ n. Remembers n (o.core.world ∷ earlier o) (places_then o h.born) w (recorded_of mutators) (weaks_of mutators)) (sym base) (remembers o before words v mutators done can h worked);
+      left = subst (λ n. Remembers n (o.core.world ∷
+          earlier o) (places_then o h.born) w (recorded_of mutators) (weaks_of mutators)) (sym base) (remembers o before words v mutators done can h worked);
       reserve = reserve;
     }

@@ -59,7 +59,8 @@ pub record MadeWeak (w : World) (k : ℕ) (c : Command) (name : Name) : Type 0 w
   pub weak : IsWeak c
   pub new : name ≡ next_name (state_of w k) k
 
-weak_made : (w : World) (k : ℕ) (c : Command) → k < length w.mutators → k ≢ SHARED_MAKER → (name : Name) (found : Node) → node_of w name ≡ None → node_of (step w k c).0 name ≡ Some found → kind_of found ≡ kind.Weak → MadeWeak w k c name
+weak_made : (w : World) (k : ℕ) (c : Command) → k < length w.mutators → k ≢ SHARED_MAKER → (name : Name) (found : Node) → node_of w name ≡ None →
+    node_of (step w k c).0 name ≡ Some found → kind_of found ≡ kind.Weak → MadeWeak w k c name
 weak_made w k c lt own name found none e is_kind =
     let s : Stepped Any w k c (step w k c).0 = stepped w k c in
     by_object s.between s.object (sym (hand_nodes Any s.between k (step w k c).0 (still_there Any w k c (step w k c).0 lt s) s.hand name) ∙ e)
@@ -88,21 +89,29 @@ pub record IsMade (w : World) (rows : List Row) (name : Name) : Type 0 where
   pub made : MadeWeak (replayed w before) row.mutator row.command name
 
 -- a weak pointer that is there and wasn't as the rows began was made by one of them
-pub rows_made : (w : World) (rows : List Row) → IsWorld w → CanReplay w rows → (name : Name) (found : Node) → node_of w name ≡ None → node_of (replayed w rows) name ≡ Some found → kind_of found ≡ kind.Weak → IsMade w rows name
+pub rows_made : (w : World) (rows : List Row) → IsWorld w → CanReplay w rows → (name : Name) (found : Node) → node_of w name ≡ None →
+    node_of (replayed w rows) name ≡ Some found → kind_of found ≡ kind.Weak → IsMade w rows name
 rows_made w [] is can name found none there k = absurd (none-some found (sym none ∙ there))
 rows_made w (row ∷ rows) is can name found none there k =
     let v : World = (step w row.mutator row.command).0 in
     let next : IsWorld v = step_keeps_world w row.mutator row.command is can.0 in
     by_next (node_of v name) refl (λ e. rows_made v rows next can.1 name found e there k)
   where
-    by_next : (o : Option Node) → node_of (step w row.mutator row.command).0 name ≡ o → (node_of (step w row.mutator row.command).0 name ≡ None → IsMade (step w row.mutator row.command).0 rows name) → IsMade w (row ∷ rows) name
+    by_next : (o : Option Node) → node_of (step w row.mutator row.command).0 name ≡ o →
+        (node_of (step w row.mutator row.command).0 name ≡ None → IsMade (step w row.mutator row.command).0 rows name) → IsMade w (row ∷ rows) name
     by_next None e more =
         let t = more e in
         record { before = row ∷ t.before; row = t.row; after = t.after; rows_are = ap (λ (xs : List Row). row ∷ xs) t.rows_are; made = t.made }
     by_next (Some first) e more =
         let later = rows_keep_shapes (step w row.mutator row.command).0 rows (step_keeps_world w row.mutator row.command is can.0) can.1 name first e in
         let first_kind : kind_of first ≡ kind.Weak = sym later.2.kind ∙ ap kind_of (same_Some later.0 found (sym later.1 ∙ there)) ∙ k in
-        record { before = []; row = row; after = rows; rows_are = refl; made = weak_made w row.mutator row.command can.0.mutator (not_shared w row.mutator is can.0.mutator) name first none e first_kind }
+        record {
+          before = [];
+          row = row;
+          after = rows;
+          rows_are = refl;
+          made = weak_made w row.mutator row.command can.0.mutator (not_shared w row.mutator is can.0.mutator) name first none e first_kind;
+        }
 
 -- the place in an answer that gives a name
 record IsNamed (P : Place → Type 0) (a : Answer) (name : Name) : Type 0 where
@@ -124,10 +133,12 @@ gave_name : (w : World) (k : ℕ) (c : Command) (r : Reply) → (step w k c).1 �
 gave_name w k c r gives weak = sym gives ∙ ap (λ (d : Command). (step w k d).1) weak.is
 
 module _ (P : Place → Type 0) (p : Place) (one : (at : ℕ) → P (record { at = at; name = p.name }) → at ≡ p.at) (m : ℕ) where
-  weak_put : (w : World) (row : Row) (h : Hand) (r : OwnRow) → (step w row.mutator row.command).1 ≡ row.reply → IsOwn P m w h r row → MadeWeak w row.mutator row.command p.name → Contains (weaks_by r.command r.answer) p.at
+  weak_put : (w : World) (row : Row) (h : Hand) (r : OwnRow) → (step w row.mutator row.command).1 ≡ row.reply → IsOwn P m w h r row →
+      MadeWeak w row.mutator row.command p.name → Contains (weaks_by r.command r.answer) p.at
   weak_put w row h r gives own made =
       let k = row.mutator in
-      let t : IsNamed P r.answer p.name = named P r.answer p.name row.reply (gave_name w k row.command row.reply gives made.weak ∙ ap (λ n. reply.Given (value.Ref n)) (sym made.new)) own.answers own.plain in
+      let t : IsNamed P r.answer p.name = named P r.answer p.name row.reply (gave_name w k row.command row.reply gives made.weak ∙
+      ap (λ n. reply.Given (value.Ref n)) (sym made.new)) own.answers own.plain in
       let at : t.at ≡ p.at = one t.at t.there in
       let half : t.w / 2 ≡ p.at = let e = t.word_is in omega arith in
       let weak = made.weak in
@@ -136,13 +147,16 @@ module _ (P : Place → Type 0) (p : Place) (one : (at : ℕ) → P (record { at
       (subst (λ j. Contains (t.w / 2 ∷ []) j) half (contains_one (t.w / 2))))
 
   -- its place is noted by the mutator that made it
-  pub weak_then : (w : World) (before : List Row) (row : Row) (after : List Row) (h : Hand) (own : List OwnRow) → row.mutator ≡ m → IsLegal w (before ++ row ∷ after) → Along P m w h own (before ++ row ∷ after) → MadeWeak (replayed w before) row.mutator row.command p.name → Contains (all_weaks own) p.at
+  pub weak_then : (w : World) (before : List Row) (row : Row) (after : List Row) (h : Hand) (own : List OwnRow) → row.mutator ≡ m →
+      IsLegal w (before ++ row ∷ after) → Along P m w h own (before ++ row ∷ after) → MadeWeak (replayed w before) row.mutator row.command p.name →
+      Contains (all_weaks own) p.at
   weak_then w [] row after h own is legal (inl other) made = absurd (other.0 is)
   weak_then w [] row after h own is legal (inr mine) made =
       let r : OwnRow = mine.0 in
       subst (λ (l : List OwnRow). Contains (all_weaks l) p.at) (sym mine.2)
       (Contains-append_left (weaks_by r.command r.answer) (all_weaks mine.1) p.at (weak_put w row h r legal.0 mine.3 made))
-  weak_then w (first ∷ before) row after h own is legal (inl other) made = weak_then (step w first.mutator first.command).0 before row after h own is legal.1 other.1 made
+  weak_then w (first ∷ before) row after h own is legal (inl other) made =
+      weak_then (step w first.mutator first.command).0 before row after h own is legal.1 other.1 made
   weak_then w (first ∷ before) row after h own is legal (inr mine) made =
       let r : OwnRow = mine.0 in
       subst (λ (l : List OwnRow). Contains (all_weaks l) p.at) (sym mine.2)
@@ -157,7 +171,18 @@ record IsNoting (c : Command) (a : Answer) (at : ℕ) : Type 0 where
   half : w / 2 ≡ at
 
 noting : (c : Command) (a : Answer) (at : ℕ) → Contains (weaks_by c a) at → IsNoting c a at
-noting (command.Weak dest key v finaliser) (word w) at c = record { weak = record { dest = dest; key = key; v = v; finaliser = finaliser; is = refl }; w = w; is = refl; half = one_is (w / 2) at c }
+noting (command.Weak dest key v finaliser) (word w) at c = record {
+  weak = record {
+    dest = dest;
+    key = key;
+    v = v;
+    finaliser = finaliser;
+    is = refl;
+  };
+  w = w;
+  is = refl;
+  half = one_is (w / 2) at c;
+}
 noting (command.Weak dest key v finaliser) (plain x) at c = absurd (nothing_in at c)
 noting _ a at c = absurd (nothing_in at c)
 
@@ -166,11 +191,15 @@ last_there [] x = refl
 last_there (y ∷ xs) x = last_there xs x
 
 -- the object of the next name, once it is born
-born_there : (w : World) (m register : ℕ) (made : Node) → m < length w.mutators → m ≢ SHARED_MAKER → node_of (born w m register made).0 (next_name (state_of w m) m) ≡ Some made
-born_there w m register made lt own = node_same w m (with_new (state_of w m) m register made) lt own (next_name (state_of w m) m) refl ∙ last_there (state_of w m).nodes made
+born_there : (w : World) (m register : ℕ) (made : Node) → m < length w.mutators → m ≢ SHARED_MAKER →
+    node_of (born w m register made).0 (next_name (state_of w m) m) ≡ Some made
+born_there w m register made lt own = node_same w m (with_new (state_of w m) m register made) lt own (next_name (state_of w m) m) refl ∙
+    last_there (state_of w m).nodes made
 
-weak_there : (w : World) (k : ℕ) (c : Command) → k < length w.mutators → k ≢ SHARED_MAKER → IsWeak c → (parts : Option Parts) × (node_of (step w k c).0 (next_name (state_of w k) k) ≡ Some (Weak parts))
-weak_there w k c lt own weak = subst (λ (d : Command). (parts : Option Parts) × (node_of (step w k d).0 (next_name (state_of w k) k) ≡ Some (Weak parts))) (sym weak.is) (_, born_there w k weak.dest _ lt own)
+weak_there : (w : World) (k : ℕ) (c : Command) → k < length w.mutators → k ≢ SHARED_MAKER → IsWeak c → (parts : Option Parts) ×
+    (node_of (step w k c).0 (next_name (state_of w k) k) ≡ Some (Weak parts))
+weak_there w k c lt own weak = subst (λ (d : Command). (parts : Option Parts) ×
+    (node_of (step w k d).0 (next_name (state_of w k) k) ≡ Some (Weak parts))) (sym weak.is) (_, born_there w k weak.dest _ lt own)
 
 weak_kind : (n : Node) → kind_of n ≡ kind.Weak → (parts : Option Parts) × (n ≡ Weak parts)
 weak_kind (Con tag values) e = absurd cc
@@ -197,7 +226,9 @@ module _ (P : Place → Type 0) (began : World) where
       by_node (Some n) e = absurd (absent (node_of w name) none (since.names name (some_of (node_of began name) n e)))
 
   module _ (m : ℕ) where
-    noted_here : (w : World) (row : Row) (rows : List Row) (h : Hand) (r : OwnRow) → IsSince began w → IsWorld w → CanReplay w (row ∷ rows) → (step w row.mutator row.command).1 ≡ row.reply → IsOwn P m w h r row → (at : ℕ) → Contains (weaks_by r.command r.answer) at → IsNewWeak (replayed w (row ∷ rows)) at
+    noted_here : (w : World) (row : Row) (rows : List Row) (h : Hand) (r : OwnRow) → IsSince began w → IsWorld w → CanReplay w (row ∷ rows) →
+        (step w row.mutator row.command).1 ≡ row.reply → IsOwn P m w h r row → (at : ℕ) → Contains (weaks_by r.command r.answer) at →
+        IsNewWeak (replayed w (row ∷ rows)) at
     noted_here w row rows h r since is can gives own at c =
         let k = row.mutator in
         let lt = can.0.mutator in
@@ -221,7 +252,8 @@ module _ (P : Place → Type 0) (began : World) where
         }
 
     -- so is every place of a weak pointer that its rows noted
-    pub weak_is : (w : World) (rows : List Row) (h : Hand) (own : List OwnRow) → IsSince began w → IsWorld w → CanReplay w rows → IsLegal w rows → Along P m w h own rows → (at : ℕ) → Contains (all_weaks own) at → IsNewWeak (replayed w rows) at
+    pub weak_is : (w : World) (rows : List Row) (h : Hand) (own : List OwnRow) → IsSince began w → IsWorld w → CanReplay w rows → IsLegal w rows →
+        Along P m w h own rows → (at : ℕ) → Contains (all_weaks own) at → IsNewWeak (replayed w rows) at
     weak_is w [] h own since is can legal along at c = absurd (nothing_in at (subst (λ (l : List OwnRow). Contains (all_weaks l) at) along c))
     weak_is w (row ∷ rows) h own since is can legal along at c =
         let v : World = (step w row.mutator row.command).0 in
@@ -231,7 +263,8 @@ module _ (P : Place → Type 0) (began : World) where
           | inl other ↦ weak_is v rows h own later next can.1 legal.1 other.1 at c
           | inr mine ↦
               let r : OwnRow = mine.0 in
-              elim (Contains-append_cases (weaks_by r.command r.answer) (all_weaks mine.1) at (subst (λ (l : List OwnRow). Contains (all_weaks l) at) mine.2 c)) [
+              elim (Contains-append_cases (weaks_by r.command r.answer) (all_weaks mine.1) at (subst (λ (l : List OwnRow).
+              Contains (all_weaks l) at) mine.2 c)) [
                 | inl a ↦ noted_here w row rows h r since is can legal.0 mine.3 at a
                 | inr a ↦ weak_is v rows (leaves h r.command r.answer) mine.1 later next can.1 legal.1 mine.4 at a
               ]

@@ -37,7 +37,8 @@ pub record HaveWorked (o : Opening) (parts : List Part) (mutators : List Mutator
   pub mutators_are : length mutators ≡ o.layout.mutators
   pub done_are : length done ≡ o.layout.mutators
   pub numbers_are : (k : ℕ) (m : Mutator) → slice_get mutators k ≡ Some m → m.number ≡ k
-  pub each : (k : ℕ) (p : Part) (m : Mutator) (d : List Done) → slice_get parts k ≡ Some p → slice_get mutators k ≡ Some m → slice_get done k ≡ Some d → HasWorked o p m d
+  pub each : (k : ℕ) (p : Part) (m : Mutator) (d : List Done) → slice_get parts k ≡ Some p → slice_get mutators k ≡ Some m →
+      slice_get done k ≡ Some d → HasWorked o p m d
 
 -- the registers of all mutators, one after another, their queues and serials, and their nurseries
 abbrev pub registers_of : List Mutator → List ℕ

@@ -203,7 +203,8 @@ fn receive(consumer: &mut Consumer<UpdBlock>, entries: &mut Vec<Address>)
     requires known { 0 < length (known_items consumer.old) }
     requires room { vec_len entries.old + BLOCK_ENTRIES ≤ vec_capacity entries.old }
     ensures ring { SameConsumer consumer.old consumer.new }
-    ensures taken { (block : List Address) × (length block ≡ BLOCK_ENTRIES) × (received consumer.new ≡ received consumer.old ++ block ∷ []) × (entries.new.items ≡ entries.old.items ++ block) }
+    ensures taken { (block : List Address) × (length block ≡ BLOCK_ENTRIES) × (received consumer.new ≡ received consumer.old ++ block ∷ []) ×
+        (entries.new.items ≡ entries.old.items ++ block) }
     ensures capacity { vec_capacity entries.old ≤ vec_capacity entries.new }
 {
     let block = consumer.pop_known();

@@ -38,17 +38,21 @@ set_leaves index v (Con tag values) i x ne h = h
 set_leaves zero v (Var old) zero x ne h = absurd (ne refl)
 set_leaves zero v (Var old) (suc i) x ne h = absurd cc
 set_leaves (suc index) v (Var old) i x ne h = let e : eqb (suc index) 0 ≡ false = ne_eqb (suc index) 0 (λ z. absurd (omega arith)) in rw e h
-set_leaves index v (Arr values) i x ne h = two_nodes (λ n. Stays n i x) (ltb index (length values)) (Arr (set values index v)) (Arr values) Fine NoField (slice_get-set_other values index i v ne ∙ h) h
+set_leaves index v (Arr values) i x ne h =
+    two_nodes (λ n. Stays n i x) (ltb index (length values)) (Arr (set values index v)) (Arr values) Fine NoField
+    (slice_get-set_other values index i v ne ∙ h) h
 set_leaves index v (Thunk free result) i x ne h = h
 set_leaves index v (Weak parts) i x ne h = h
 set_leaves index v (Stack size values) i x ne h = h
 
-exchange_leaves : (index : ℕ) (expected v : Value) (node : Node) (i : ℕ) (x : Value) → i ≢ index → Stays node i x → Stays (field_exchanged node index expected v).0 i x
+exchange_leaves : (index : ℕ) (expected v : Value) (node : Node) (i : ℕ) (x : Value) → i ≢ index → Stays node i x →
+    Stays (field_exchanged node index expected v).0 i x
 exchange_leaves index expected v (Con tag values) i x ne h = h
 exchange_leaves zero expected v (Var old) zero x ne h = absurd (ne refl)
 exchange_leaves zero expected v (Var old) (suc i) x ne h = absurd cc
 exchange_leaves (suc index) expected v (Var old) i x ne h = h
-exchange_leaves index expected v (Arr values) i x ne h = exchanged_node (λ n. Stays n i x) (slice_get values index) expected (Arr values) (Arr (set values index v)) (slice_get-set_other values index i v ne ∙ h) h
+exchange_leaves index expected v (Arr values) i x ne h = exchanged_node (λ n.
+    Stays n i x) (slice_get values index) expected (Arr values) (Arr (set values index v)) (slice_get-set_other values index i v ne ∙ h) h
 exchange_leaves index expected v (Thunk free result) i x ne h = h
 exchange_leaves index expected v (Weak parts) i x ne h = h
 exchange_leaves index expected v (Stack size values) i x ne h = h
@@ -82,7 +86,8 @@ place_moves (change.Push m v) maker (Weak parts) i x h = inl h
 place_moves (change.Push m v) maker (Stack size values) i x h = inl (pushed (eqb maker m))
   where
     pushed : (own : Bool) → Stays (stack_pushed own (Stack size values) v).0 i x
-    pushed true = two_nodes (λ n. Stays n i x) (ltb (length values) size) (Stack size (values ++ v ∷ [])) (Stack size values) Fine StackFull (slice_get-append values (v ∷ []) i x h) h
+    pushed true = two_nodes (λ n. Stays n i x) (ltb (length values) size) (Stack size (values ++ v ∷
+        [])) (Stack size values) Fine StackFull (slice_get-append values (v ∷ []) i x h) h
     pushed false = h
 place_moves (change.Pop m) maker (Con tag values) i x h = inl h
 place_moves (change.Pop m) maker (Var old) i x h = inl h
@@ -115,7 +120,8 @@ pub record BrokenAt (w : World) (m : ℕ) (c : Command) (name : Name) (place : �
   pub first : first_place change node ≤ place
   pub before : place < end_place change node
 
-module _ (snapshot w : World) (m : ℕ) (c : Command) (lt : m < length w.mutators) (own : m ≢ SHARED_MAKER) (target : Name) (b : IsBroken snapshot w (step w m c).0 target) where
+module _ (snapshot w : World) (m : ℕ) (c : Command) (lt : m < length w.mutators) (own : m ≢ SHARED_MAKER) (target : Name)
+    (b : IsBroken snapshot w (step w m c).0 target) where
   between : World
   between = (stepped w m c).between
 
@@ -139,7 +145,12 @@ module _ (snapshot w : World) (m : ℕ) (c : Command) (lt : m < length w.mutator
         let is : found ≡ b.stood.node = cc in
         let field : Stays found b.place (value.Ref target) = subst (λ (n : Node). Stays n b.place (value.Ref target)) (sym is) b.stood.field in
         elim (place_moves ch at.maker found b.place (value.Ref target) field) [
-          | inl stays ↦ absurd (b.gone (record { node = (changed ch at.maker found).0; node_is = k ∙ (ap (λ (x : World). node_of x b.name) e ∙ here.1); field = stays }))
+          | inl stays ↦ absurd (b.gone (record {
+            node = (changed ch at.maker found).0;
+            node_is = k ∙
+                (ap (λ (x : World). node_of x b.name) e ∙ here.1);
+            field = stays;
+          }))
           | inr range ↦ record {
             change = ch;
             node = found;

@@ -28,9 +28,17 @@ module _ (w : World) (a b : List Name) (same : (n : Name) → IsSome (node_of w 
   live_alike n (reach.plain_key weak target parts alive plain kept) = reach.plain_key weak target parts alive plain kept
   live_alike n (reach.live_key weak target key parts alive is l kept) = reach.live_key weak target key parts alive is (live_alike key l) kept
 
-module _ (w : World) (a b finalised : List Name) (ab : (n : Name) → IsSome (node_of w n) → Contains a n → Contains b n) (ba : (n : Name) → IsSome (node_of w n) → Contains b n → Contains a n) where
+module _ (w : World) (a b finalised : List Name) (ab : (n : Name) → IsSome (node_of w n) → Contains a n → Contains b n) (ba : (n : Name) →
+    IsSome (node_of w n) → Contains b n → Contains a n) where
   abbrev pub dead_alike : (weak : Name) → IsDead w a finalised weak → IsDead w b finalised weak
-  dead_alike weak d = record { parts = d.parts; alive = d.alive; not_finalised = d.not_finalised; key = d.key; key_is = d.key_is; lost = λ l. d.lost (live_alike w b a ba d.key l) }
+  dead_alike weak d = record {
+    parts = d.parts;
+    alive = d.alive;
+    not_finalised = d.not_finalised;
+    key = d.key;
+    key_is = d.key_is;
+    lost = λ l. d.lost (live_alike w b a ba d.key l);
+  }
 
   pub kept_alike : (n : Name) → IsKept w a finalised n → IsKept w b finalised n
   kept_alike n (IsKept.live n' l) = IsKept.live n' (live_alike w a b ab n' l)
@@ -54,13 +62,18 @@ module _ (w : World) (xs : List Name) where
   all_there k d lt = (filter_contains (in_snapshot w) xs (get_or ys k d) (Contains-get_or ys k d lt)).1
 
   pub kept_lists : (finalised names : List Name) → Lists (IsKept w ys finalised) names → Lists (IsKept w xs finalised) names
-  kept_lists finalised names l = lists_alike (IsKept w ys finalised) (IsKept w xs finalised) names (kept_alike w ys xs finalised fewer as_many) (kept_alike w xs ys finalised as_many fewer) l
+  kept_lists finalised names l =
+      lists_alike (IsKept w ys finalised) (IsKept w xs finalised) names (kept_alike w ys xs finalised fewer as_many)
+      (kept_alike w xs ys finalised as_many fewer) l
 
   pub dead_lists : (finalised names : List Name) → Lists (IsDead w ys finalised) names → Lists (IsDead w xs finalised) names
-  dead_lists finalised names l = lists_alike (IsDead w ys finalised) (IsDead w xs finalised) names (dead_alike w ys xs finalised fewer as_many) (dead_alike w xs ys finalised as_many fewer) l
+  dead_lists finalised names l =
+      lists_alike (IsDead w ys finalised) (IsDead w xs finalised) names (dead_alike w ys xs finalised fewer as_many)
+      (dead_alike w xs ys finalised as_many fewer) l
 
 -- what dies is alive so far
-pub dying_alive : (marks : List (List Bool)) (debts : List Debt) (w s : World) (remembered finalised extra dead : List Name) → IsCycle marks debts w s remembered finalised → Lists (IsDead s extra finalised) dead → All (IsAliveWeak w) dead
+pub dying_alive : (marks : List (List Bool)) (debts : List Debt) (w s : World) (remembered finalised extra dead : List Name) →
+    IsCycle marks debts w s remembered finalised → Lists (IsDead s extra finalised) dead → All (IsAliveWeak w) dead
 dying_alive marks debts w s remembered finalised extra dead k l i d lt =
     let x : IsDead s extra finalised (get_or dead i d) = l.sound (get_or dead i d) (Contains-get_or dead i d lt) in
     (x.parts, k.alive (get_or dead i d) x.parts x.alive x.not_finalised)
@@ -83,15 +96,20 @@ dead_there : (w : World) (extra finalised : List Name) (weak : Name) → IsDead 
 dead_there w extra finalised weak d = subst (λ (o : Option Node). IsSome o) (sym d.alive) refl
 
 -- those that are told, in the order of names
-pub told_lists : (w : World) (extra finalised told dead : List Name) (marks : List (List Bool)) → IsSetOf w told marks → ((weak : Name) → Contains told weak → IsDead w extra finalised weak) → Lists (IsMarked marks) dead → Lists (Contains told) dead
-told_lists w extra finalised told dead marks set may l = lists_alike (IsMarked marks) (Contains told) dead set.sound (λ n c. set.complete n c (dead_there w extra finalised n (may n c))) l
+pub told_lists : (w : World) (extra finalised told dead : List Name) (marks : List (List Bool)) → IsSetOf w told marks →
+    ((weak : Name) → Contains told weak → IsDead w extra finalised weak) → Lists (IsMarked marks) dead → Lists (Contains told) dead
+told_lists w extra finalised told dead marks set may l = lists_alike (IsMarked marks) (Contains told) dead set.sound (λ n c.
+    set.complete n c (dead_there w extra finalised n (may n c))) l
 
-pub told_alive : (marks : List (List Bool)) (debts : List Debt) (w s : World) (remembered finalised extra told dead : List Name) → IsCycle marks debts w s remembered finalised → ((weak : Name) → Contains told weak → IsDead s extra finalised weak) → Lists (Contains told) dead → All (IsAliveWeak w) dead
+pub told_alive : (marks : List (List Bool)) (debts : List Debt) (w s : World) (remembered finalised extra told dead : List Name) →
+    IsCycle marks debts w s remembered finalised → ((weak : Name) → Contains told weak → IsDead s extra finalised weak) →
+    Lists (Contains told) dead → All (IsAliveWeak w) dead
 told_alive marks debts w s remembered finalised extra told dead k may l i d lt =
     let x : IsDead s extra finalised (get_or dead i d) = may (get_or dead i d) (l.sound (get_or dead i d) (Contains-get_or dead i d lt)) in
     (x.parts, k.alive (get_or dead i d) x.parts x.alive x.not_finalised)
 
 -- whether those that are told are dead
-pub dead_if : (h : Cycle) (told dead : List Name) (o : Option Name) → Lists (IsDead h.snapshot (filter (in_snapshot h.snapshot) h.opened) h.finalised) dead → IsMissingIf dead told o → IsDeadIf h told o
+pub dead_if : (h : Cycle) (told dead : List Name) (o : Option Name) →
+    Lists (IsDead h.snapshot (filter (in_snapshot h.snapshot) h.opened) h.finalised) dead → IsMissingIf dead told o → IsDeadIf h told o
 dead_if h told dead None l m = λ weak c. (dead_lists h.snapshot h.opened h.finalised dead l).sound weak (m weak c)
 dead_if h told dead (Some weak) l m = (m.0, λ d. m.1 ((dead_lists h.snapshot h.opened h.finalised dead l).complete weak d))

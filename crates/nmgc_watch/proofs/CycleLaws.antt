@@ -49,7 +49,9 @@ new_cycle w marks h places none = record {
 }
 
 -- with more debts
-cycle_owing : (marks : List (List Bool)) (debts : List Debt) (w snapshot : World) (remembered finalised : List Name) → IsCycle marks debts w snapshot remembered finalised → (more : List Debt) → ((d : Debt) → Contains more d → IsSome (node_of snapshot d.name)) → IsCycle marks (debts ++ more) w snapshot remembered finalised
+cycle_owing : (marks : List (List Bool)) (debts : List Debt) (w snapshot : World) (remembered finalised : List Name) →
+    IsCycle marks debts w snapshot remembered finalised → (more : List Debt) → ((d : Debt) → Contains more d → IsSome (node_of snapshot d.name)) →
+    IsCycle marks (debts ++ more) w snapshot remembered finalised
 cycle_owing marks debts w snapshot remembered finalised k more there = record {
   places = k.places;
   sound = k.sound;
@@ -60,7 +62,8 @@ cycle_owing marks debts w snapshot remembered finalised k more there = record {
   world = k.world;
 }
 
-module _ (marks : List (List Bool)) (debts : List Debt) (w snapshot : World) (remembered finalised : List Name) (k : IsCycle marks debts w snapshot remembered finalised) where
+module _ (marks : List (List Bool)) (debts : List Debt) (w snapshot : World) (remembered finalised : List Name)
+    (k : IsCycle marks debts w snapshot remembered finalised) where
   -- with fewer debts
   pub cycle_fewer : (debts' : List Debt) → ((d : Debt) → Contains debts' d → Contains debts d) → IsCycle marks debts' w snapshot remembered finalised
   cycle_fewer debts' fewer = record {
@@ -94,14 +97,17 @@ module _ (marks : List (List Bool)) (debts : List Debt) (w snapshot : World) (re
   all_plain values i d lt = plain (get_or values i d)
 
   -- with a world that took a command, and what this finalised
-  pub cycle_stepped : (m : ℕ) (c : Command) (v : World) → m < length w.mutators → v ≡ (step w m c).0 → IsWorld v → IsCycle marks debts v snapshot remembered (finalised ++ finalised_by w m c)
+  pub cycle_stepped : (m : ℕ) (c : Command) (v : World) → m < length w.mutators → v ≡ (step w m c).0 → IsWorld v →
+      IsCycle marks debts v snapshot remembered (finalised ++ finalised_by w m c)
   cycle_stepped m c v lt e is = record {
     places = k.places;
     sound = k.sound;
     complete = k.complete;
     there = k.there;
     alive = λ weak parts a not.
-        elim (step_alive (λ n. Unit {0}) w m lt (not_shared w m k.world lt) tt (all_plain (state_of w m).registers) c weak parts (k.alive weak parts a (λ f. not (Contains-append_left finalised (finalised_by w m c) weak f)))) [
+        elim (step_alive (λ n.
+        Unit {0}) w m lt (not_shared w m k.world lt) tt (all_plain (state_of w m).registers) c weak parts (k.alive weak parts a (λ f.
+        not (Contains-append_left finalised (finalised_by w m c) weak f)))) [
           | inl b ↦ subst (λ (u : World). IsAlive u weak parts) (sym e) b
           | inr d ↦ absurd (not (Contains-append_right finalised (finalised_by w m c) weak d))
         ];
@@ -119,7 +125,11 @@ module _ (marks : List (List Bool)) (debts : List Debt) (w snapshot : World) (re
 
     pub cycle_pushed : IsCycle (with_mark marks name) debts w snapshot (remembered ++ name ∷ []) finalised
     cycle_pushed = record {
-      places = record { makers = makers_kept marks name placed ∙ k.places.makers; counts = λ maker. places_kept marks name placed maker ∙ k.places.counts maker };
+      places = record {
+        makers = makers_kept marks name placed ∙ k.places.makers;
+        counts = λ maker. places_kept marks name placed maker ∙
+            k.places.counts maker;
+      };
       sound = λ n m. elim (name_cases n name) [
         | inl e ↦ Contains-append_right remembered (name ∷ []) n (subst (λ (x : Name). Contains (name ∷ []) x) (sym e) (contains_one name))
         | inr ne ↦ Contains-append_left remembered (name ∷ []) n (k.sound n (sym (kept_others marks name placed n ne) ∙ m))
@@ -136,15 +146,31 @@ module _ (marks : List (List Bool)) (debts : List Debt) (w snapshot : World) (re
 
     pushed_debts : (d : Debt) → Contains (unpaid (with_mark marks name) debts) d ↔ (Contains (unpaid marks debts) d × (d.name ≡ name → ⊥))
     pushed_debts d = (
-      λ c. let p : Contains debts d × (is_unpaid (with_mark marks name) d ≡ true) = in_kept (is_unpaid (with_mark marks name)) debts d c in elim (name_cases d.name name) [
-        | inl e ↦ absurd (not_both (mark_of (with_mark marks name) d.name) (rw e (added marks name placed)) p.1)
-        | inr ne ↦ (kept_in (is_unpaid marks) debts d p.0 (subst (λ (b : Bool). not b ≡ true) (kept_others marks name placed d.name ne) p.1), ne)
-      ],
+      λ c. let p : Contains debts d × (is_unpaid (with_mark marks name) d ≡ true) = in_kept (is_unpaid (with_mark marks name)) debts d c in
+          elim (name_cases d.name name) [
+            | inl e ↦ absurd (not_both (mark_of (with_mark marks name) d.name) (rw e (added marks name placed)) p.1)
+            | inr ne ↦ (kept_in (is_unpaid marks) debts d p.0 (subst (λ (b : Bool). not b ≡ true) (kept_others marks name placed d.name ne) p.1), ne)
+          ],
       λ c. let p : Contains debts d × (is_unpaid marks d ≡ true) = in_kept (is_unpaid marks) debts d c.0 in
           kept_in (is_unpaid (with_mark marks name)) debts d p.0 (subst (λ (b : Bool). not b ≡ true) (sym (kept_others marks name placed d.name c.1)) p.1),
     )
 
-    pub pushed_then : IsSome (node_of w name) → (opened : List Name) → IsPushed (record { world = w; snapshot = snapshot; remembered = remembered; debts = unpaid marks debts; opened = opened; finalised = finalised }) name (record { world = w; snapshot = snapshot; remembered = remembered ++ name ∷ []; debts = unpaid (with_mark marks name) debts; opened = opened; finalised = finalised })
+    pub pushed_then : IsSome (node_of w name) → (opened : List Name) →
+        IsPushed (record {
+          world = w;
+          snapshot = snapshot;
+          remembered = remembered;
+          debts = unpaid marks debts;
+          opened = opened;
+          finalised = finalised;
+        }) name (record {
+          world = w;
+          snapshot = snapshot;
+          remembered = remembered ++ name ∷ [];
+          debts = unpaid (with_mark marks name) debts;
+          opened = opened;
+          finalised = finalised;
+        })
     pushed_then known opened = record { there = known; rest = refl; debts = pushed_debts }
 
   -- after a push of any other name
@@ -172,7 +198,22 @@ module _ (marks : List (List Bool)) (debts : List Debt) (w snapshot : World) (re
       λ c. c.0,
     )
 
-    pub listed_then : IsSome (node_of w name) → (opened : List Name) → IsPushed (record { world = w; snapshot = snapshot; remembered = remembered; debts = unpaid marks debts; opened = opened; finalised = finalised }) name (record { world = w; snapshot = snapshot; remembered = remembered ++ name ∷ []; debts = unpaid marks debts; opened = opened; finalised = finalised })
+    pub listed_then : IsSome (node_of w name) → (opened : List Name) →
+        IsPushed (record {
+          world = w;
+          snapshot = snapshot;
+          remembered = remembered;
+          debts = unpaid marks debts;
+          opened = opened;
+          finalised = finalised;
+        }) name (record {
+          world = w;
+          snapshot = snapshot;
+          remembered = remembered ++ name ∷ [];
+          debts = unpaid marks debts;
+          opened = opened;
+          finalised = finalised;
+        })
     listed_then known opened = record { there = known; rest = refl; debts = listed_debts }
 
   -- a command: what is found due is owed from then on
@@ -189,8 +230,13 @@ module _ (marks : List (List Bool)) (debts : List Debt) (w snapshot : World) (re
     more_due : (d : Debt) → Contains more d → (d.line ≡ line) × (d.mutator ≡ m) × IsDue snapshot w m c d.name
     more_due d x = by_name (in_mapped (debt_of line m) (filter (is_owable snapshot) found) d x)
       where
-        by_name : ((n : Name) × Contains (filter (is_owable snapshot) found) n × (debt_of line m n ≡ d)) → (d.line ≡ line) × (d.mutator ≡ m) × IsDue snapshot w m c d.name
-        by_name (n, h, e) = (sym (ap (λ (y : Debt). y.line) e), sym (ap (λ (y : Debt). y.mutator) e), subst (λ (y : Debt). IsDue snapshot w m c y.name) e (found_due snapshot w m c can.mutator own fields f n h))
+        by_name : ((n : Name) × Contains (filter (is_owable snapshot) found) n × (debt_of line m n ≡ d)) → (d.line ≡ line) × (d.mutator ≡ m) ×
+            IsDue snapshot w m c d.name
+        by_name (n, h, e) = (
+          sym (ap (λ (y : Debt). y.line) e),
+          sym (ap (λ (y : Debt). y.mutator) e),
+          subst (λ (y : Debt). IsDue snapshot w m c y.name) e (found_due snapshot w m c can.mutator own fields f n h),
+        )
 
     pub more_there : (d : Debt) → Contains more d → IsSome (node_of snapshot d.name)
     more_there d x = (more_due d x).2.there
@@ -199,36 +245,66 @@ module _ (marks : List (List Bool)) (debts : List Debt) (w snapshot : World) (re
     before = record { world = w; snapshot = snapshot; remembered = remembered; debts = unpaid marks debts; opened = opened; finalised = finalised }
 
     abbrev after : Cycle
-    after = record { world = (step w m c).0; snapshot = snapshot; remembered = remembered; debts = unpaid marks (debts ++ more); opened = opened ++ opened_by w m c; finalised = finalised ++ finalised_by w m c }
+    after = record {
+      world = (step w m c).0;
+      snapshot = snapshot;
+      remembered = remembered;
+      debts = unpaid marks (debts ++ more);
+      opened = opened ++ opened_by w m c;
+      finalised = finalised ++ finalised_by w m c;
+    }
 
     pub watched : IsTaken line m c before after
     watched = record {
       can = can;
       says = refl;
       rest = refl;
-      old = λ d x. let p : Contains debts d × (is_unpaid marks d ≡ true) = in_kept (is_unpaid marks) debts d x in kept_in (is_unpaid marks) (debts ++ more) d (Contains-append_left debts more d p.0) p.1;
-      new = λ d x. let p : Contains (debts ++ more) d × (is_unpaid marks d ≡ true) = in_kept (is_unpaid marks) (debts ++ more) d x in elim (Contains-append_cases debts more d p.0) [
-        | inl old ↦ inl (kept_in (is_unpaid marks) debts d old p.1)
-        | inr new ↦ let q = more_due d new in inr (q.0, q.1, q.2, λ r. not_both (mark_of marks d.name) (k.complete d.name r q.2.there) p.1)
-      ];
+      old = λ d x. let p : Contains debts d × (is_unpaid marks d ≡ true) = in_kept (is_unpaid marks) debts d x in
+          kept_in (is_unpaid marks) (debts ++ more) d (Contains-append_left debts more d p.0) p.1;
+      new = λ d x. let p : Contains (debts ++ more) d × (is_unpaid marks d ≡ true) = in_kept (is_unpaid marks) (debts ++ more) d x in
+          elim (Contains-append_cases debts more d p.0) [
+            | inl old ↦ inl (kept_in (is_unpaid marks) debts d old p.1)
+            | inr new ↦ let q = more_due d new in inr (q.0, q.1, q.2, λ r. not_both (mark_of marks d.name) (k.complete d.name r q.2.there) p.1)
+          ];
       due = λ n d. elim (cases_Bool (mark_of marks n)) [
         | inl marked ↦ inl (k.sound n marked)
-        | inr free ↦ inr (debt_of line m n, kept_in (is_unpaid marks) (debts ++ more) (debt_of line m n) (Contains-append_right debts more (debt_of line m n) (mapped_in (debt_of line m) (filter (is_owable snapshot) found) n (due_found snapshot w m c can.mutator own fields f n d))) (ap not free), refl)
+        | inr free ↦ inr (
+          debt_of line m n,
+          kept_in (is_unpaid marks) (debts ++
+              more) (debt_of line m n) (Contains-append_right debts more (debt_of line m n)
+              (mapped_in (debt_of line m) (filter (is_owable snapshot) found) n (due_found snapshot w m c can.mutator own fields f n d))) (ap not free),
+          refl,
+        )
       ];
     }
 
-    pub taken : (v : World) (debts' : List Debt) (opened' finalised' : List Name) → v ≡ (step w m c).0 → opened' ≡ opened ++ opened_by w m c → finalised' ≡ finalised ++ finalised_by w m c → debts' ≡ debts ++ more → IsTaken line m c before (record { world = v; snapshot = snapshot; remembered = remembered; debts = unpaid marks debts'; opened = opened'; finalised = finalised' })
+    pub taken : (v : World) (debts' : List Debt) (opened' finalised' : List Name) → v ≡ (step w m c).0 → opened' ≡ opened ++ opened_by w m c →
+        finalised' ≡ finalised ++ finalised_by w m c → debts' ≡ debts ++ more →
+        IsTaken line m c before (record {
+          world = v;
+          snapshot = snapshot;
+          remembered = remembered;
+          debts = unpaid marks debts';
+          opened = opened';
+          finalised = finalised';
+        })
     taken v debts' opened' finalised' e o g d = rw (e, o, g, d) watched
 
-    pub taken_cycle : (v : World) (debts' : List Debt) (finalised' : List Name) → v ≡ (step w m c).0 → IsWorld v → finalised' ≡ finalised ++ finalised_by w m c → debts' ≡ debts ++ more → IsCycle marks debts' v snapshot remembered finalised'
-    taken_cycle v debts' finalised' e is g d = rw (g, d) (cycle_owing marks debts v snapshot remembered (finalised ++ finalised_by w m c) (cycle_stepped m c v can.mutator e is) more more_there)
+    pub taken_cycle : (v : World) (debts' : List Debt) (finalised' : List Name) → v ≡ (step w m c).0 → IsWorld v →
+        finalised' ≡ finalised ++ finalised_by w m c → debts' ≡ debts ++ more → IsCycle marks debts' v snapshot remembered finalised'
+    taken_cycle v debts' finalised' e is g d = rw (g, d) (cycle_owing marks debts v snapshot remembered (finalised ++
+        finalised_by w m c) (cycle_stepped m c v can.mutator e is) more more_there)
 
 -- the same as its parts were made
-pub stepped_cycle : (marks : List (List Bool)) (debts : List Debt) (w snapshot : World) (remembered finalised : List Name) → IsCycle marks debts w snapshot remembered finalised → (m : ℕ) (c : Command) (v : World) (reply : Reply) (ends finalised' : List Name) → m < length w.mutators → step w m c ≡ (v, reply) → IsWorld v → ends ≡ finalised_by w m c → finalised' ≡ finalised ++ ends → IsCycle marks debts v snapshot remembered finalised'
+pub stepped_cycle : (marks : List (List Bool)) (debts : List Debt) (w snapshot : World) (remembered finalised : List Name) →
+    IsCycle marks debts w snapshot remembered finalised → (m : ℕ) (c : Command) (v : World) (reply : Reply) (ends finalised' : List Name) →
+    m < length w.mutators → step w m c ≡ (v, reply) → IsWorld v → ends ≡ finalised_by w m c → finalised' ≡ finalised ++ ends →
+    IsCycle marks debts v snapshot remembered finalised'
 stepped_cycle marks debts w snapshot remembered finalised k m c v reply ends finalised' lt e is f g =
     rw (g, f) (cycle_stepped marks debts w snapshot remembered finalised k m c v lt (ap (λ (p : World × Reply). p.0) (sym e)) is)
 
-pub ended_cycle : (marks : List (List Bool)) (debts : List Debt) (w v snapshot : World) (remembered finalised finalised' ends : List Name) → IsCycle marks debts w snapshot remembered finalised → v ≡ w → finalised' ≡ finalised ++ ends → IsCycle marks debts v snapshot remembered finalised'
+pub ended_cycle : (marks : List (List Bool)) (debts : List Debt) (w v snapshot : World) (remembered finalised finalised' ends : List Name) →
+    IsCycle marks debts w snapshot remembered finalised → v ≡ w → finalised' ≡ finalised ++ ends → IsCycle marks debts v snapshot remembered finalised'
 ended_cycle marks debts w v snapshot remembered finalised finalised' ends k e f = rw (e, f) (cycle_ended marks debts w snapshot remembered finalised k ends)
 
 -- a reference is there exactly where what it points to is
@@ -245,7 +321,8 @@ none_first [] h = refl
 none_first (x ∷ xs) h = absurd cc
 
 -- debts at the front that no longer count leave
-pub forget_same : (marks : List (List Bool)) (debts : List Debt) (d : Debt) → slice_get debts 0 ≡ Some d → mark_of marks d.name ≡ true → unpaid marks (drop 1 debts) ≡ unpaid marks debts
+pub forget_same : (marks : List (List Bool)) (debts : List Debt) (d : Debt) → slice_get debts 0 ≡ Some d → mark_of marks d.name ≡ true →
+    unpaid marks (drop 1 debts) ≡ unpaid marks debts
 forget_same marks [] d e t = absurd cc
 forget_same marks (x ∷ debts) d e t = let same : x ≡ d = cc in rw (same, t) refl
 
@@ -253,7 +330,8 @@ pub forget_fewer : (debts : List Debt) (d : Debt) → Contains (drop 1 debts) d 
 forget_fewer [] d c = c
 forget_fewer (x ∷ debts) d c = contains_tail x debts d c
 
-pub paid_up : (marks : List (List Bool)) (debts : List Debt) (o : Option Debt) → o ≡ slice_get debts 0 → IfSome o (λ d. mark_of marks d.name ≡ false) → IsPaidUp marks debts
+pub paid_up : (marks : List (List Bool)) (debts : List Debt) (o : Option Debt) → o ≡ slice_get debts 0 →
+    IfSome o (λ d. mark_of marks d.name ≡ false) → IsPaidUp marks debts
 paid_up marks debts o e h = subst (λ (x : Option Debt). IfSome x (λ d. mark_of marks d.name ≡ false)) e h
 
 -- where the first debt counts, it is the first of those that count
@@ -263,20 +341,26 @@ first_counts marks (x ∷ debts) h = let e : mark_of marks x.name ≡ false = h 
 
 -- a debt that counts, and whose it is
 module _ (marks : List (List Bool)) (debts : List Debt) (m i : ℕ) (blank : Debt) where
-  pub owed_some : i < length debts → (get_or debts i blank).mutator ≡ m → mark_of marks (get_or debts i blank).name ≡ false → (d : Debt) → Some (get_or debts i blank) ≡ Some d → Contains (unpaid marks debts) d × (d.mutator ≡ m)
+  pub owed_some : i < length debts → (get_or debts i blank).mutator ≡ m → mark_of marks (get_or debts i blank).name ≡ false → (d : Debt) →
+      Some (get_or debts i blank) ≡ Some d → Contains (unpaid marks debts) d × (d.mutator ≡ m)
   owed_some lt own free d e =
       let is : get_or debts i blank ≡ d = cc in (
-        kept_in (is_unpaid marks) debts d (subst (λ (x : Debt). Contains debts x) is (Contains-get_or debts i blank lt)) (subst (λ (x : Debt). not (mark_of marks x.name) ≡ true) is (ap not free)),
+        kept_in (is_unpaid marks) debts d (subst (λ (x : Debt). Contains debts x) is (Contains-get_or debts i blank lt)) (subst (λ (x : Debt).
+            not (mark_of marks x.name) ≡ true) is (ap not free)),
         subst (λ (x : Debt). x.mutator ≡ m) is own,
       )
 
-  pub owed_more : i < length debts → ((d : Debt) → Contains (take i debts) d → d.mutator ≡ m → mark_of marks d.name ≡ true) → ((get_or debts i blank).mutator ≡ m → mark_of marks (get_or debts i blank).name ≡ true) → (d : Debt) → Contains (take (i + 1) debts) d → d.mutator ≡ m → mark_of marks d.name ≡ true
+  pub owed_more : i < length debts → ((d : Debt) → Contains (take i debts) d → d.mutator ≡ m → mark_of marks d.name ≡ true) →
+      ((get_or debts i blank).mutator ≡ m → mark_of marks (get_or debts i blank).name ≡ true) → (d : Debt) → Contains (take (i + 1) debts) d →
+      d.mutator ≡ m → mark_of marks d.name ≡ true
   owed_more lt before now d c own = elim (Contains-append_cases (take i debts) (get_or debts i blank ∷ []) d (rw (take_more debts i blank lt) at c)) [
     | inl old ↦ before d old own
-    | inr new ↦ let is : get_or debts i blank ≡ d = one_is (get_or debts i blank) d new in subst (λ (x : Debt). mark_of marks x.name ≡ true) is (now (subst (λ (x : Debt). x.mutator ≡ m) (sym is) own))
+    | inr new ↦ let is : get_or debts i blank ≡ d = one_is (get_or debts i blank) d new in
+        subst (λ (x : Debt). mark_of marks x.name ≡ true) is (now (subst (λ (x : Debt). x.mutator ≡ m) (sym is) own))
   ]
 
-  pub owed_none : length debts ≤ i → ((d : Debt) → Contains (take i debts) d → d.mutator ≡ m → mark_of marks d.name ≡ true) → (d : Debt) → Contains (unpaid marks debts) d → d.mutator ≡ m → ⊥
+  pub owed_none : length debts ≤ i → ((d : Debt) → Contains (take i debts) d → d.mutator ≡ m → mark_of marks d.name ≡ true) → (d : Debt) →
+      Contains (unpaid marks debts) d → d.mutator ≡ m → ⊥
   owed_none le before d c own =
       let p : Contains debts d × (is_unpaid marks d ≡ true) = in_kept (is_unpaid marks) debts d c in
       not_both (mark_of marks d.name) (before d (subst (λ (l : List Debt). Contains l d) (sym (take_all i debts le)) p.0) own) p.1

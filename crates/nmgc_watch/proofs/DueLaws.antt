@@ -32,11 +32,17 @@ use Rattle.nmgc_watch.proofs.Broken.{BrokenAt, broken_at}
 pub stands_is : (w : World) (f : Field) → stands_in w f ≡ true → HasStrongField w f.name f.place (value.Ref f.target)
 stands_is w f h = by_node (node_of w f.name) refl h
   where
-    by_value : (node : Node) (o : Option Value) → node_of w f.name ≡ Some node → strong_at node f.place ≡ o → is_ref_to f.target o ≡ true → HasStrongField w f.name f.place (value.Ref f.target)
+    by_value : (node : Node) (o : Option Value) → node_of w f.name ≡ Some node → strong_at node f.place ≡ o → is_ref_to f.target o ≡ true →
+        HasStrongField w f.name f.place (value.Ref f.target)
     by_value node None e is k = absurd cc
     by_value node (Some value.Nil) e is k = absurd cc
     by_value node (Some (value.Number n)) e is k = absurd cc
-    by_value node (Some (value.Ref n)) e is k = record { node = node; node_is = e; field = is ∙ ap (λ (x : Name). Some (value.Ref x)) (tested_same n f.target k) }
+    by_value node (Some (value.Ref n)) e is k = record {
+      node = node;
+      node_is = e;
+      field = is ∙
+          ap (λ (x : Name). Some (value.Ref x)) (tested_same n f.target k);
+    }
 
     by_node : (o : Option Node) → node_of w f.name ≡ o → is_ref_to f.target (strong_in o f.place) ≡ true → HasStrongField w f.name f.place (value.Ref f.target)
     by_node None e k = absurd cc
@@ -70,21 +76,26 @@ ref_is a b e = cc
 
 -- what the parts of a weak pointer keep
 kept_is : (weak : Name) (parts : Parts) (t : Name) → Contains (kept_of weak (Some parts)) t → IsKeptBy weak parts t
-kept_is weak parts t c = elim (contains_cases (value.Ref weak) (parts.value ∷ parts.finaliser ∷ []) (value.Ref t) (among_ref (value.Ref weak ∷ parts.value ∷ parts.finaliser ∷ []) t c)) [
-  | inl e ↦ inl (sym (ref_is weak t e))
-  | inr r ↦ elim (contains_cases parts.value (parts.finaliser ∷ []) (value.Ref t) r) [
-    | inl e ↦ inr (inl e)
-    | inr q ↦ inr (inr (one_is parts.finaliser (value.Ref t) q))
-  ]
-]
+kept_is weak parts t c = elim (contains_cases (value.Ref weak) (parts.value ∷ parts.finaliser ∷
+    []) (value.Ref t) (among_ref (value.Ref weak ∷ parts.value ∷ parts.finaliser ∷ []) t c)) [
+      | inl e ↦ inl (sym (ref_is weak t e))
+      | inr r ↦ elim (contains_cases parts.value (parts.finaliser ∷ []) (value.Ref t) r) [
+        | inl e ↦ inr (inl e)
+        | inr q ↦ inr (inr (one_is parts.finaliser (value.Ref t) q))
+      ]
+    ]
 
 is_kept : (weak : Name) (parts : Parts) (t : Name) → IsKeptBy weak parts t → Contains (kept_of weak (Some parts)) t
 is_kept weak parts t k = name_among (value.Ref weak ∷ parts.value ∷ parts.finaliser ∷ []) t (by_part k)
   where
     by_part : IsKeptBy weak parts t → Contains (value.Ref weak ∷ parts.value ∷ parts.finaliser ∷ []) (value.Ref t)
-    by_part (inl e) = subst (λ (n : Name). Contains (value.Ref weak ∷ parts.value ∷ parts.finaliser ∷ []) (value.Ref n)) (sym e) (contains_head (value.Ref weak) (parts.value ∷ parts.finaliser ∷ []))
-    by_part (inr (inl e)) = subst (λ (v : Value). Contains (value.Ref weak ∷ parts.value ∷ parts.finaliser ∷ []) v) e (contains_tail (value.Ref weak) (parts.value ∷ parts.finaliser ∷ []) parts.value (contains_head parts.value (parts.finaliser ∷ [])))
-    by_part (inr (inr e)) = subst (λ (v : Value). Contains (value.Ref weak ∷ parts.value ∷ parts.finaliser ∷ []) v) e (contains_tail (value.Ref weak) (parts.value ∷ parts.finaliser ∷ []) parts.finaliser (contains_tail parts.value (parts.finaliser ∷ []) parts.finaliser (contains_head parts.finaliser [])))
+    by_part (inl e) = subst (λ (n : Name). Contains (value.Ref weak ∷ parts.value ∷ parts.finaliser ∷
+        []) (value.Ref n)) (sym e) (contains_head (value.Ref weak) (parts.value ∷ parts.finaliser ∷ []))
+    by_part (inr (inl e)) = subst (λ (v : Value). Contains (value.Ref weak ∷ parts.value ∷ parts.finaliser ∷
+        []) v) e (contains_tail (value.Ref weak) (parts.value ∷ parts.finaliser ∷ []) parts.value (contains_head parts.value (parts.finaliser ∷ [])))
+    by_part (inr (inr e)) = subst (λ (v : Value). Contains (value.Ref weak ∷ parts.value ∷ parts.finaliser ∷
+        []) v) e (contains_tail (value.Ref weak) (parts.value ∷ parts.finaliser ∷
+        []) parts.finaliser (contains_tail parts.value (parts.finaliser ∷ []) parts.finaliser (contains_head parts.finaliser [])))
 
 -- the parts that are read are those of an alive weak pointer
 alive_parts : (w : World) (weak : Name) (parts : Parts) → parts_of w weak ≡ Some parts → IsAlive w weak parts
@@ -99,7 +110,8 @@ alive_parts w weak parts h = by_node (node_of w weak) refl
     in_node (Stack size values) e k = absurd cc
 
     by_node : (o : Option Node) → node_of w weak ≡ o → IsAlive w weak parts
-    by_node None e = absurd (let k : None ≡ Some parts = subst (λ (o : Option Node). Rattle.std.specs.Prelude.option_and_then parts_in o ≡ Some parts) e h in cc)
+    by_node None e = absurd
+        (let k : None ≡ Some parts = subst (λ (o : Option Node). Rattle.std.specs.Prelude.option_and_then parts_in o ≡ Some parts) e h in cc)
     by_node (Some node) e = in_node node e (subst (λ (o : Option Node). Rattle.std.specs.Prelude.option_and_then parts_in o ≡ Some parts) e h)
 
 parts_alive : (w : World) (weak : Name) (parts : Parts) → IsAlive w weak parts → parts_of w weak ≡ Some parts
@@ -109,8 +121,12 @@ parts_alive w weak parts a = subst (λ (o : Option Node). Rattle.std.specs.Prelu
 owable_is : (snapshot : World) (t : Name) → is_owable snapshot t ≡ true → IsSome (node_of snapshot t) × (t ≢ shared_name)
 owable_is snapshot t h = by_tests (is_some (node_of snapshot t)) (is_same_name t shared_name) refl refl h
   where
-    by_tests : (a b : Bool) → is_some (node_of snapshot t) ≡ a → is_same_name t shared_name ≡ b → (a && not b) ≡ true → IsSome (node_of snapshot t) × (t ≢ shared_name)
-    by_tests true false e f k = (e, λ same. let bad : true ≡ false = sym (is_same_name-refl shared_name) ∙ (ap (λ (n : Name). is_same_name n shared_name) (sym same) ∙ f) in absurd cc)
+    by_tests : (a b : Bool) → is_some (node_of snapshot t) ≡ a → is_same_name t shared_name ≡ b → (a && not b) ≡ true →
+        IsSome (node_of snapshot t) × (t ≢ shared_name)
+    by_tests true false e f k = (
+      e,
+      λ same. let bad : true ≡ false = sym (is_same_name-refl shared_name) ∙ (ap (λ (n : Name). is_same_name n shared_name) (sym same) ∙ f) in absurd cc,
+    )
     by_tests true true e f k = absurd cc
     by_tests false b e f k = absurd cc
 
@@ -122,7 +138,8 @@ is_owable_by snapshot t there own = by_tests (is_some (node_of snapshot t)) (is_
     by_tests true true e f = absurd (own (tested_same t shared_name f))
     by_tests false b e f = absurd (let k : is_some (node_of snapshot t) ≡ true = there in let bad : true ≡ false = sym k ∙ e in cc)
 
-module _ (snapshot w : World) (m : ℕ) (c : Command) (lt : m < length w.mutators) (own : m ≢ SHARED_MAKER) (fields : List Field) (f : IsStanding snapshot w m c fields) where
+module _ (snapshot w : World) (m : ℕ) (c : Command) (lt : m < length w.mutators) (own : m ≢ SHARED_MAKER) (fields : List Field)
+    (f : IsStanding snapshot w m c fields) where
   abbrev after : World
   after = (step w m c).0
 
@@ -161,9 +178,16 @@ module _ (snapshot w : World) (m : ℕ) (c : Command) (lt : m < length w.mutator
   from_kept : (t : Name) → Contains (kept_then snapshot (finalised_by w m c)) t → IsEnded snapshot w m c t
   from_kept t k = by_weak (flat_contains (λ weak. kept_of weak (parts_of snapshot weak)) (finalised_by w m c) t k)
     where
-      by_parts : (weak : Name) (o : Option Parts) → parts_of snapshot weak ≡ o → Contains (finalised_by w m c) weak → Contains (kept_of weak o) t → IsEnded snapshot w m c t
+      by_parts : (weak : Name) (o : Option Parts) → parts_of snapshot weak ≡ o → Contains (finalised_by w m c) weak → Contains (kept_of weak o) t →
+          IsEnded snapshot w m c t
       by_parts weak None e ends h = absurd (nothing_in t h)
-      by_parts weak (Some parts) e ends h = record { weak = weak; parts = parts; ended = ends; alive = alive_parts snapshot weak parts e; kept = kept_is weak parts t h }
+      by_parts weak (Some parts) e ends h = record {
+        weak = weak;
+        parts = parts;
+        ended = ends;
+        alive = alive_parts snapshot weak parts e;
+        kept = kept_is weak parts t h;
+      }
 
       by_weak : ((weak : Name) × Contains (finalised_by w m c) weak × Contains (kept_of weak (parts_of snapshot weak)) t) → IsEnded snapshot w m c t
       by_weak (weak, ends, h) = by_parts weak (parts_of snapshot weak) refl ends h
@@ -193,5 +217,7 @@ module _ (snapshot w : World) (m : ℕ) (c : Command) (lt : m < length w.mutator
     where
       by_why : IsBroken snapshot w after t ⊎ (Contains (opened_by w m c) t ⊎ IsEnded snapshot w m c t) → Contains found t
       by_why (inl b) = Contains-append_left (targets lost) (opened_by w m c ++ kept_then snapshot (finalised_by w m c)) t (to_lost t b)
-      by_why (inr (inl o)) = Contains-append_right (targets lost) (opened_by w m c ++ kept_then snapshot (finalised_by w m c)) t (Contains-append_left (opened_by w m c) (kept_then snapshot (finalised_by w m c)) t o)
-      by_why (inr (inr e)) = Contains-append_right (targets lost) (opened_by w m c ++ kept_then snapshot (finalised_by w m c)) t (Contains-append_right (opened_by w m c) (kept_then snapshot (finalised_by w m c)) t (to_kept t e))
+      by_why (inr (inl o)) = Contains-append_right (targets lost) (opened_by w m c ++
+          kept_then snapshot (finalised_by w m c)) t (Contains-append_left (opened_by w m c) (kept_then snapshot (finalised_by w m c)) t o)
+      by_why (inr (inr e)) = Contains-append_right (targets lost) (opened_by w m c ++
+          kept_then snapshot (finalised_by w m c)) t (Contains-append_right (opened_by w m c) (kept_then snapshot (finalised_by w m c)) t (to_kept t e))

@@ -47,7 +47,8 @@ module _ {A B : Type 0} (f : A → B) where
 
 -- a fact of each item so far
 module _ {A : Type 0} (P : A → Type 0) where
-  pub each_more : (xs : List A) (i : ℕ) (d : A) → i < length xs → ((x : A) → Contains (take i xs) x → P x) → P (get_or xs i d) → (x : A) → Contains (take (i + 1) xs) x → P x
+  pub each_more : (xs : List A) (i : ℕ) (d : A) → i < length xs → ((x : A) → Contains (take i xs) x → P x) → P (get_or xs i d) → (x : A) →
+      Contains (take (i + 1) xs) x → P x
   each_more xs i d lt before now x c = elim (Contains-append_cases (take i xs) (get_or xs i d ∷ []) x (rw (take_more xs i d lt) at c)) [
     | inl old ↦ before x old
     | inr new ↦ subst P (one_is (get_or xs i d) x new) now

@@ -20,13 +20,15 @@ module _ (snapshot w : World) (name : Name) (first place : ℕ) (fields : List F
   abbrev IsAll : ℕ → List Field → Type 0
   IsAll n l = (f : Field) → f.name ≡ name → first ≤ f.place → f.place < n → stands_in snapshot f ≡ true → stands_in w f ≡ true → Contains l f
 
-  pub noted_sound : IsSound fields → ((f : Field) → found ≡ Some f → (f.name ≡ name) × (f.place ≡ place) × (stands_in snapshot f ≡ true) × (stands_in w f ≡ true)) → IsSound (fields ++ option_to_list found)
+  pub noted_sound : IsSound fields → ((f : Field) → found ≡ Some f → (f.name ≡ name) × (f.place ≡ place) × (stands_in snapshot f ≡ true) ×
+      (stands_in w f ≡ true)) → IsSound (fields ++ option_to_list found)
   noted_sound s some f c = elim (Contains-append_cases fields (option_to_list found) f c) [
     | inl old ↦ s f old
     | inr new ↦ let k = some f (option_is found f new) in (k.2, k.3)
   ]
 
-  pub noted_all : IsAll place fields → ((f : Field) → f.name ≡ name → f.place ≡ place → stands_in snapshot f ≡ true → stands_in w f ≡ true → found ≡ Some f) → IsAll (place + 1) (fields ++ option_to_list found)
+  pub noted_all : IsAll place fields → ((f : Field) → f.name ≡ name → f.place ≡ place → stands_in snapshot f ≡ true → stands_in w f ≡ true →
+      found ≡ Some f) → IsAll (place + 1) (fields ++ option_to_list found)
   noted_all a all f e le lt then now = elim (cases_eq f.place place) [
     | inl same ↦ Contains-append_right fields (option_to_list found) f (contains_option found f (all f e same then now))
     | inr other ↦ Contains-append_left fields (option_to_list found) f (a f e le (omega (arith, other)) then now)

@@ -33,7 +33,8 @@ debt_of line m name = record { name = name; line = line; mutator = m }
 abbrev pub in_snapshot : World → Name → Bool
 in_snapshot w name = is_some (node_of w name)
 
--- the set has a place for each name of the snapshot, and has exactly those that were pushed; debts are of the snapshot; a weak pointer of the snapshot that wasn't finalised is as it was there; and both worlds are closed
+-- the set has a place for each name of the snapshot, and has exactly those that were pushed; debts are of the
+-- snapshot; a weak pointer of the snapshot that wasn't finalised is as it was there; and both worlds are closed
 pub record IsCycle (marks : List (List Bool)) (debts : List Debt) (w s : World) (remembered finalised : List Name) : Type 0 where
   pub places : HasPlaces s marks
   pub sound : (name : Name) → IsMarked marks name → Contains remembered name

@@ -69,7 +69,8 @@ end_place change.Finalise node = 0
 -- the fields stand in the snapshot and in the world, and they are all that stand in both where the command may write or take away
 pub record IsStanding (snapshot w : World) (m : ℕ) (c : Command) (fields : List Field) : Type 0 where
   pub sound : (f : Field) → Contains fields f → (stands_in snapshot f ≡ true) × (stands_in w f ≡ true)
-  pub all : (f : Field) (ch : Change) (node : Node) → asked w m c ≡ Some (value.Ref f.name, ch) → node_of w f.name ≡ Some node → first_place ch node ≤ f.place → f.place < end_place ch node → stands_in snapshot f ≡ true → stands_in w f ≡ true → Contains fields f
+  pub all : (f : Field) (ch : Change) (node : Node) → asked w m c ≡ Some (value.Ref f.name, ch) → node_of w f.name ≡ Some node →
+      first_place ch node ≤ f.place → f.place < end_place ch node → stands_in snapshot f ≡ true → stands_in w f ≡ true → Contains fields f
 
 -- the targets of fields
 abbrev pub targets : List Field → List Name

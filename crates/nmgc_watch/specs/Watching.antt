@@ -96,7 +96,8 @@ WhyTake name (watch.Marking h) y = (y ≡ why.NotPushed name) × (Contains h.rem
 WhyTake name (watch.Ended left) y = y ≡ why.Misplaced
 WhyTake name watch.Stopped y = y ≡ why.Misplaced
 
--- what a cycle without debts leaves: the world without what nothing keeps, the names that the commands and the pushes keep, and those that the commands alone need
+-- what a cycle without debts leaves: the world without what nothing keeps, the names that the commands and the pushes
+-- keep, and those that the commands alone need
 pub record IsLeft (h : Cycle) (left : Left) : Type 0 where
   pub dead : List Name
   pub ends : IsEnd h dead left.world
@@ -177,20 +178,23 @@ IsMissingIf names others (Some name) = IsMissing names others name
 abbrev pub WhyMarked : List Name → Watch → Why → Type 0
 WhyMarked names (watch.Between w) y = y ≡ why.Misplaced
 WhyMarked names (watch.Marking h) y = y ≡ why.Misplaced
-WhyMarked names (watch.Ended left) y = ((name : Name) × (y ≡ why.NotTold name) × IsMissing names left.kept name) ⊎ ((name : Name) × (y ≡ why.NotMarked name) × IsMissing left.kept names name)
+WhyMarked names (watch.Ended left) y = ((name : Name) × (y ≡ why.NotTold name) × IsMissing names left.kept name) ⊎
+    ((name : Name) × (y ≡ why.NotMarked name) × IsMissing left.kept names name)
 WhyMarked names watch.Stopped y = y ≡ why.Misplaced
 
 -- after a cycle: the runtime freed names of the heap that the commands don't need
 abbrev pub CanFreed : List Name → Watch → Watch → Type 0
 CanFreed names (watch.Between w) next = ⊥
 CanFreed names (watch.Marking h) next = ⊥
-CanFreed names (watch.Ended left) next = ((name : Name) → Contains names name → IsSome (node_of left.world name) × (Contains left.needed name → ⊥)) × (next ≡ watch.Ended left)
+CanFreed names (watch.Ended left) next = ((name : Name) → Contains names name → IsSome (node_of left.world name) ×
+    (Contains left.needed name → ⊥)) × (next ≡ watch.Ended left)
 CanFreed names watch.Stopped next = ⊥
 
 abbrev pub WhyFreed : List Name → Watch → Why → Type 0
 WhyFreed names (watch.Between w) y = y ≡ why.Misplaced
 WhyFreed names (watch.Marking h) y = y ≡ why.Misplaced
-WhyFreed names (watch.Ended left) y = ((name : Name) × (y ≡ why.NoSuchName name) × Contains names name × (IsSome (node_of left.world name) → ⊥)) ⊎ ((name : Name) × (y ≡ why.Needed name) × Contains names name × Contains left.needed name)
+WhyFreed names (watch.Ended left) y = ((name : Name) × (y ≡ why.NoSuchName name) × Contains names name × (IsSome (node_of left.world name) → ⊥)) ⊎
+    ((name : Name) × (y ≡ why.Needed name) × Contains names name × Contains left.needed name)
 WhyFreed names watch.Stopped y = y ≡ why.Misplaced
 
 -- the same two, as tests tell them
@@ -250,6 +254,8 @@ IsStep line p e (Some y) next = (next ≡ p) × IsWhy p e y
 abbrev pub ReasonsRefuse : Type 0
 ReasonsRefuse = (line : ℕ) (p : Watch) (e : Event) (y : Why) (next : Watch) → IsWhy p e y → Can line p e next → ⊥
 
--- a cycle that closes without debts marked what it had to, and so does one of which it is told what dies: whatever marker ran beside it, and whenever it took and read what, exactly what is told as kept is marked at its end
+-- a cycle that closes without debts marked what it had to, and so does one of which it is told what dies: whatever
+-- marker ran beside it, and whenever it took and read what, exactly what is told as kept is marked at its end
 abbrev pub ClosedIsExact : Type 0
-ClosedIsExact = (h : Cycle) (left : Left) → IsLeft h left → (w : World) → IsWorld w → (s next : State) → Beside w h s → IsPossible s core.Close → IsClosing s next → (name : Name) → Contains next.marked name ↔ Contains left.kept name
+ClosedIsExact = (h : Cycle) (left : Left) → IsLeft h left → (w : World) → IsWorld w → (s next : State) → Beside w h s → IsPossible s core.Close →
+    IsClosing s next → (name : Name) → Contains next.marked name ↔ Contains left.kept name

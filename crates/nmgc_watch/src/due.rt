@@ -171,7 +171,8 @@ fn fields_at(
     end: usize,
 ) -> Result<List<Field>, NoMemory>
     ensures sound { IfOk result (λ fields. (f : FieldAt) → Contains fields f → (stands_in snapshot.now f ≡ true) × (stands_in world.now f ≡ true)) }
-    ensures all { IfOk result (λ fields. (f : FieldAt) → f.name ≡ name → first ≤ f.place → f.place < end → stands_in snapshot.now f ≡ true → stands_in world.now f ≡ true → Contains fields f) }
+    ensures all { IfOk result (λ fields. (f : FieldAt) → f.name ≡ name → first ≤ f.place → f.place < end → stands_in snapshot.now f ≡ true →
+        stands_in world.now f ≡ true → Contains fields f) }
 {
     let mut fields = List::new(world.alloc());
     for place in first..end {

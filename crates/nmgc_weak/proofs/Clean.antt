@@ -25,7 +25,8 @@ use Rattle.nmgc_mark.specs.Stopped.{AreScans}
 new_there : (s : State) (name : Name) → is_new s name ≡ true → IsSome (node_of s.snapshot name)
 new_there s name e = (and_parts (is_some (node_of s.snapshot name)) (not (is_listed name s.marked)) e).0
 
-module _ (P : Name → Type 0) (w snapshot : World) (hands_on : (name target : Name) → P name → RefersTo w name target → IsSome (node_of snapshot target) → P target) where
+module _ (P : Name → Type 0) (w snapshot : World) (hands_on : (name target : Name) → P name → RefersTo w name target →
+    IsSome (node_of snapshot target) → P target) where
   -- an entry of such a name; past a thunk's result only where there is none
   pub record IsClean (entry : Entry) : Type 0 where
     pub name : P entry.name
@@ -53,14 +54,16 @@ module _ (P : Name → Type 0) (w snapshot : World) (hands_on : (name target : N
       })
       (λ e. h)
 
-  read_clean : (s : State) (x : Option Value) → AreClean s → ((target : Name) → x ≡ Some (value.Ref target) → IsSome (node_of snapshot target) → P target) → AreClean (mark_read s x)
+  read_clean : (s : State) (x : Option Value) → AreClean s → ((target : Name) → x ≡ Some (value.Ref target) → IsSome (node_of snapshot target) →
+      P target) → AreClean (mark_read s x)
   read_clean s None h may = h
   read_clean s (Some value.Nil) h may = h
   read_clean s (Some (value.Number n)) h may = h
   read_clean s (Some (value.Ref name)) h may = name_clean s name h (may name refl)
 
   -- what the first entry reads
-  reads : (entry : Entry) (node : Option Node) (position : ℕ) (target : Name) → IsClean entry → node_of w entry.name ≡ node → entry.position ≡ position → read_at node position ≡ Some (value.Ref target) → IsSome (node_of snapshot target) → P target
+  reads : (entry : Entry) (node : Option Node) (position : ℕ) (target : Name) → IsClean entry → node_of w entry.name ≡ node →
+      entry.position ≡ position → read_at node position ≡ Some (value.Ref target) → IsSome (node_of snapshot target) → P target
   reads entry None position target c e at h there = absurd cc
   reads entry (Some node) zero target c e at h there = absurd cc
   reads entry (Some node) (suc i) target c e at h there = elim (read_cases node i (value.Ref target) h) [
@@ -82,15 +85,18 @@ module _ (P : Name → Type 0) (w snapshot : World) (hands_on : (name target : N
           | inr none ↦ inr none
           | inl small ↦ elim (cases_eq entry.position 1) [
             | inr ne ↦ inl (let n : entry.position ≡ 1 → ⊥ = ne in omega (arith, n))
-            | inl one ↦ elim (and_cases (eqb entry.position 1) (has_result node) (or_parts (leb (fields_of node) entry.position) (eqb entry.position 1 && has_result node) last).1) [
-              | inl differs ↦ let same : eqb entry.position 1 ≡ true = eq-eqb entry.position 1 one in absurd cc
-              | inr none ↦ inr (λ other o. let both : Some node ≡ Some other = sym is ∙ o in let eq : node ≡ other = cc in subst (λ (n : Node). has_result n ≡ false) eq none)
-            ]
+            | inl one ↦ elim (and_cases (eqb entry.position 1) (has_result node)
+                (or_parts (leb (fields_of node) entry.position) (eqb entry.position 1 && has_result node) last).1) [
+                  | inl differs ↦ let same : eqb entry.position 1 ≡ true = eq-eqb entry.position 1 one in absurd cc
+                  | inr none ↦ inr (λ other o. let both : Some node ≡ Some other = sym is ∙ o in let eq : node ≡ other = cc in
+                      subst (λ (n : Node). has_result n ≡ false) eq none)
+                ]
           ]
         ];
       }
 
-      by_test : (b : Bool) → is_last node entry.position ≡ b → Contains (cond b [] ((record { name = entry.name; position = entry.position + 1 }) ∷ [])) e → IsClean e
+      by_test : (b : Bool) → is_last node entry.position ≡ b →
+          Contains (cond b [] ((record { name = entry.name; position = entry.position + 1 }) ∷ [])) e → IsClean e
       by_test true last d = absurd (nothing_in e d)
       by_test false last d = subst IsClean (one_is (record { name = entry.name; position = entry.position + 1 }) e d) (further_on last)
 
@@ -101,7 +107,8 @@ module _ (P : Name → Type 0) (w snapshot : World) (hands_on : (name target : N
     snapshot_is = h.snapshot_is;
     marked = h.marked;
     queued = λ other c. elim (Contains-append_cases (moved_on (node_of s.world entry.name) entry) rest other c) [
-      | inl mine ↦ moved entry other (node_of s.world entry.name) (ap (λ (x : World). node_of x entry.name) (sym h.world)) (h.queued entry (subst (λ (q : List Entry). Contains q entry) (sym e) (contains_head entry rest))) mine
+      | inl mine ↦ moved entry other (node_of s.world entry.name) (ap (λ (x : World).
+          node_of x entry.name) (sym h.world)) (h.queued entry (subst (λ (q : List Entry). Contains q entry) (sym e) (contains_head entry rest))) mine
       | inr old ↦ h.queued other (subst (λ (q : List Entry). Contains q other) (sym e) (contains_tail entry rest other old))
     ];
   }
@@ -112,7 +119,8 @@ module _ (P : Name → Type 0) (w snapshot : World) (hands_on : (name target : N
       let read : Option Value = read_at (node_of s.world entry.name) entry.position in
       let t : State = mark_read s read in
       let c : IsClean entry = h.queued entry (subst (λ (q : List Entry). Contains q entry) (sym e) (contains_head entry rest)) in
-      advanced_clean t t.queue refl (read_clean s read h (λ target is there. reads entry (node_of s.world entry.name) entry.position target c (ap (λ (x : World). node_of x entry.name) (sym h.world)) refl is there))
+      advanced_clean t t.queue refl (read_clean s read h (λ target is there.
+      reads entry (node_of s.world entry.name) entry.position target c (ap (λ (x : World). node_of x entry.name) (sym h.world)) refl is there))
 
   pub scans_clean : (s : State) (es : List Happening) → AreScans es → AreClean s → AreClean (replay s es)
   scans_clean s [] h c = c
@@ -120,8 +128,15 @@ module _ (P : Name → Type 0) (w snapshot : World) (hands_on : (name target : N
   scans_clean s (scanned entry v ∷ es) h c = scans_clean (after_scan s s.queue) es h (scan_clean s s.queue refl c)
 
   -- where all that waits has the fact, and nothing was read of it
-  pub clean_from : (s : State) → s.world ≡ w → s.snapshot ≡ snapshot → ((name : Name) → Contains s.marked name → P name) → ((entry : Entry) → Contains s.queue entry → P entry.name × (entry.position ≤ 1)) → AreClean s
-  clean_from s world is marked queued = record { world = world; snapshot_is = is; marked = marked; queued = λ entry c. let q = queued entry c in record { name = q.0; passed = inl q.1 } }
+  pub clean_from : (s : State) → s.world ≡ w → s.snapshot ≡ snapshot → ((name : Name) → Contains s.marked name → P name) →
+      ((entry : Entry) → Contains s.queue entry → P entry.name × (entry.position ≤ 1)) → AreClean s
+  clean_from s world is marked queued = record {
+    world = world;
+    snapshot_is = is;
+    marked = marked;
+    queued = λ entry c. let q = queued entry c in
+        record { name = q.0; passed = inl q.1 };
+  }
 
   pub all_have : (s : State) → AreClean s → (name : Name) → Contains s.marked name → P name
   all_have s c name k = c.marked name k

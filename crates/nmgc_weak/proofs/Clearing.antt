@@ -9,7 +9,8 @@ pub cleared_length : (words : List ℕ) (dying : List OldWeak) → length (witho
 cleared_length words [] = refl
 cleared_length words (w ∷ ws) = cleared_length (set words (value_place w.at.0) 0) ws ∙ length-set words (value_place w.at.0) 0
 
-pub cleared_more : (words : List ℕ) (dying : List OldWeak) (i : ℕ) (d : OldWeak) → i < length dying → without_values words (take (i + 1) dying) ≡ set (without_values words (take i dying)) (value_place (get_or dying i d).at.0) 0
+pub cleared_more : (words : List ℕ) (dying : List OldWeak) (i : ℕ) (d : OldWeak) → i < length dying →
+    without_values words (take (i + 1) dying) ≡ set (without_values words (take i dying)) (value_place (get_or dying i d).at.0) 0
 cleared_more words [] i d lt = absurd (omega arith)
 cleared_more words (x ∷ xs) zero d lt = refl
 cleared_more words (x ∷ xs) (suc i) d lt =
@@ -20,7 +21,8 @@ cleared_more words (x ∷ xs) (suc i) d lt =
 abbrev pub death_of : List ℕ → OldWeak → Death
 death_of words weak = record { weak = weak.weak; finaliser = slice_index words (finaliser_place weak.at.0) }
 
-pub deaths_more : (words : List ℕ) (dying : List OldWeak) (i : ℕ) (d : OldWeak) → i < length dying → deaths_of words (take (i + 1) dying) ≡ deaths_of words (take i dying) ++ death_of words (get_or dying i d) ∷ []
+pub deaths_more : (words : List ℕ) (dying : List OldWeak) (i : ℕ) (d : OldWeak) → i < length dying →
+    deaths_of words (take (i + 1) dying) ≡ deaths_of words (take i dying) ++ death_of words (get_or dying i d) ∷ []
 deaths_more words [] i d lt = absurd (omega arith)
 deaths_more words (x ∷ xs) zero d lt = refl
 deaths_more words (x ∷ xs) (suc i) d lt =

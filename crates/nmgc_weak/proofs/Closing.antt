@@ -45,8 +45,10 @@ module _ (s : State) (f : Facts s) (queue : s.queue ≡ []) (owed : AreEmpty s.o
       ]
 
   -- every waiting weak pointer whose key is marked has marked its parts: then what is live is marked
-  module _ (full : (weak target : Name) (parts : Parts) → IsWaiting s weak parts → IsKeyMarked s.marked parts.key → IsKeptBy weak parts target → Contains s.marked target) where
-    by_weak : (weak target : Name) (parts : Parts) → IsAlive s.snapshot weak parts → IsKeyMarked s.marked parts.key → IsKeptBy weak parts target → Contains s.marked target
+  module _ (full : (weak target : Name) (parts : Parts) → IsWaiting s weak parts → IsKeyMarked s.marked parts.key → IsKeptBy weak parts target →
+      Contains s.marked target) where
+    by_weak : (weak target : Name) (parts : Parts) → IsAlive s.snapshot weak parts → IsKeyMarked s.marked parts.key → IsKeptBy weak parts target →
+        Contains s.marked target
     by_weak weak target parts alive shown kept = by_test (is_listed weak s.finalised) refl
       where
         by_test : (b : Bool) → is_listed weak s.finalised ≡ b → Contains s.marked target
@@ -63,7 +65,8 @@ module _ (s : State) (f : Facts s) (queue : s.queue ≡ []) (owed : AreEmpty s.o
     live_marked name (reach.further n c there) = safe_marked n (f.opened n c there)
     live_marked name (reach.field n target l r) = field_marked n target (live_marked n l) r
     live_marked name (reach.plain_key weak target parts alive plain kept) = by_weak weak target parts alive (plain_shown parts.key plain) kept
-    live_marked name (reach.live_key weak target key parts alive is l kept) = by_weak weak target parts alive (subst (IsKeyMarked s.marked) (sym is) (live_marked key l)) kept
+    live_marked name (reach.live_key weak target key parts alive is l kept) =
+        by_weak weak target parts alive (subst (IsKeyMarked s.marked) (sym is) (live_marked key l)) kept
 
     -- a lost weak pointer is one that dies
     pub lost_dead : (weak : Name) → IsLost s weak → IsDead s.snapshot s.opened s.finalised weak
@@ -72,24 +75,54 @@ module _ (s : State) (f : Facts s) (queue : s.queue ≡ []) (owed : AreEmpty s.o
         by_key : (v : Value) → l.parts.key ≡ v → IsDead s.snapshot s.opened s.finalised weak
         by_key value.Nil e = absurd (l.lost (subst (IsKeyMarked s.marked) (sym e) tt))
         by_key (value.Number n) e = absurd (l.lost (subst (IsKeyMarked s.marked) (sym e) tt))
-        by_key (value.Ref key) e = record { parts = l.parts; alive = l.waiting.alive; not_finalised = l.waiting.not_finalised; key = key; key_is = e; lost = λ live. l.lost (subst (IsKeyMarked s.marked) (sym e) (live_marked key live)) }
+        by_key (value.Ref key) e = record {
+          parts = l.parts;
+          alive = l.waiting.alive;
+          not_finalised = l.waiting.not_finalised;
+          key = key;
+          key_is = e;
+          lost = λ live. l.lost (subst (IsKeyMarked s.marked) (sym e) (live_marked key live));
+        }
 
     pub dead_lost : (weak : Name) → IsDead s.snapshot s.opened s.finalised weak → IsLost s weak
-    dead_lost weak d = record { parts = d.parts; waiting = record { alive = d.alive; not_finalised = d.not_finalised }; lost = λ shown. d.lost (f.base.live d.key (let c : IsKeyMarked s.marked (value.Ref d.key) = subst (IsKeyMarked s.marked) d.key_is shown in c)) }
+    dead_lost weak d = record {
+      parts = d.parts;
+      waiting = record { alive = d.alive; not_finalised = d.not_finalised };
+      lost = λ shown. d.lost (f.base.live d.key (let c : IsKeyMarked s.marked (value.Ref d.key) = subst (IsKeyMarked s.marked) d.key_is shown in c));
+    }
 
 -- a state that may close, whose end is told by live and kept names alone
 module _ (s : State) (f : Facts s) (queue : s.queue ≡ []) (owed : AreEmpty s.owed) (pushed : AreEmpty s.pushed) where
   dead_dying : (weak : Name) → IsDead s.snapshot s.opened s.finalised weak → IsDying s weak
-  dead_dying weak d = record { parts = d.parts; waiting = record { alive = d.alive; not_finalised = d.not_finalised }; key = d.key; key_is = d.key_is; lost = λ c. d.lost (first_live s f queue owed pushed d.key c) }
+  dead_dying weak d = record {
+    parts = d.parts;
+    waiting = record { alive = d.alive; not_finalised = d.not_finalised };
+    key = d.key;
+    key_is = d.key_is;
+    lost = λ c. d.lost (first_live s f queue owed pushed d.key c);
+  }
 
   dying_dead : (weak : Name) → IsDying s weak → IsDead s.snapshot s.opened s.finalised weak
-  dying_dead weak d = record { parts = d.parts; alive = d.waiting.alive; not_finalised = d.waiting.not_finalised; key = d.key; key_is = d.key_is; lost = λ l. d.lost (live_first s f queue owed pushed d.key l) }
+  dying_dead weak d = record {
+    parts = d.parts;
+    alive = d.waiting.alive;
+    not_finalised = d.waiting.not_finalised;
+    key = d.key;
+    key_is = d.key_is;
+    lost = λ l. d.lost (live_first s f queue owed pushed d.key l);
+  }
 
-  pub closes : (dead marked : List Name) → Lists (IsDead s.snapshot s.opened s.finalised) dead → ((name : Name) → Contains marked name ↔ IsKept s.snapshot s.opened s.finalised name) → (c : IsClosing s (record s { world = closed s.world dead; marked = marked; is_closed = true })) × (c.dead ≡ dead)
+  pub closes : (dead marked : List Name) → Lists (IsDead s.snapshot s.opened s.finalised) dead →
+      ((name : Name) → Contains marked name ↔ IsKept s.snapshot s.opened s.finalised name) →
+      (c : IsClosing s (record s { world = closed s.world dead; marked = marked; is_closed = true })) × (c.dead ≡ dead)
   closes dead marked lists kept = (
     record {
       dead = dead;
-      lists = record { ordered = lists.ordered; sound = λ name c. dead_dying name (lists.sound name c); complete = λ name d. lists.complete name (dying_dead name d) };
+      lists = record {
+        ordered = lists.ordered;
+        sound = λ name c. dead_dying name (lists.sound name c);
+        complete = λ name d. lists.complete name (dying_dead name d);
+      };
       marked = λ name. (λ c. kept_last s f queue owed pushed name ((kept name).0 c), λ l. (kept name).1 (last_kept s f queue owed pushed name l));
       rest = refl;
     },

@@ -6,7 +6,12 @@ use Rattle.nmgc_run.specs.Marker.{HasRoomToMark}
 use Rattle.nmgc_mark.specs.Marker.{HasMarked}
 
 pub marked_none : (s : Segments) (m : MarkerSeen) → HasRoomToMark s m → HasMarked s s m m 0
-marked_none s m room = record { room = room; scanned = record { epoch = refl; grows = omega arith; pace = omega arith; room = refl }; layout = refl; stands = λ words a h. h }
+marked_none s m room = record {
+  room = room;
+  scanned = record { epoch = refl; grows = omega arith; pace = omega arith; room = refl };
+  layout = refl;
+  stands = λ words a h. h;
+}
 
 pub marked_then : (s t u : Segments) (a b c : MarkerSeen) (i j : ℕ) → HasMarked s t a b i → HasMarked t u b c j → HasMarked s u a c (i + j)
 marked_then s t u a b c i j x y =

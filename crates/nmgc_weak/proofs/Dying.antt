@@ -36,7 +36,8 @@ alive_tracked w earlier weak parts alive = IsReached.start weak (w, contains_hea
 dead_at : (parts : Parts) → ChangesAt 1 (Weak (Some parts)) (Weak None)
 dead_at parts = record { header = refl; within = omega arith; may = refl; rest = other }
   where
-    other : (j : ℕ) (slot : Slot) → j ≢ 1 → slice_get (slots_of (Weak None)) j ≡ Some slot → (slice_get (slots_of (Weak (Some parts))) j ≡ Some slot) ⊎ (slot ≡ untold)
+    other : (j : ℕ) (slot : Slot) → j ≢ 1 → slice_get (slots_of (Weak None)) j ≡ Some slot →
+        (slice_get (slots_of (Weak (Some parts))) j ≡ Some slot) ⊎ (slot ≡ untold)
     other zero slot ne e = inr (let z : Some untold ≡ Some slot = e in let q : untold ≡ slot = cc in sym q)
     other (suc zero) slot ne e = absurd (ne refl)
     other (suc (suc zero)) slot ne e = inr (let z : Some untold ≡ Some slot = e in let q : untold ≡ slot = cc in sym q)
@@ -56,7 +57,9 @@ module _ (w : World) (world : IsWorld w) (d : Name) (parts : Parts) (alive : IsA
   pub others_stay : (n : Name) → n ≢ d → node_of v n ≡ node_of w n
   others_stay n ne = elim (dies.nodes n) [ inl same ↦ same | inr gone ↦ absurd (ne gone.0) ]
 
-  pub one_dies : (layout : Layout) (earlier : List World) (places : List Place) (words : List ℕ) (at : ℕ) → AreEarlier earlier w → Contains places (record { at = at; name = d }) → Represents layout earlier NoNode places w words → Represents layout earlier NoNode places v (set words (value_place at) 0)
+  pub one_dies : (layout : Layout) (earlier : List World) (places : List Place) (words : List ℕ) (at : ℕ) → AreEarlier earlier w →
+      Contains places (record { at = at; name = d }) → Represents layout earlier NoNode places w words →
+      Represents layout earlier NoNode places v (set words (value_place at) 0)
   one_dies layout earlier places words at past c r =
       let p : Place = record { at = at; name = d } in
       let z : at + HEADER_WORDS + 1 ≡ value_place at = omega arith in
@@ -103,13 +106,16 @@ lies_above layout p (inr (ne, inl segment)) = let l = segment.1 p.at (omega arit
 lies_above layout p (inr (ne, inr nursery)) = let l = nursery.1 p.at (omega arith) (omega arith) in let f = l.from in omega arith
 
 -- all of them die, one after another
-pub all_die : (layout : Layout) (earlier : List World) (places : List Place) (w : World) (words : List ℕ) (dying : List OldWeak) → IsWorld w → AreEarlier earlier w → IsInOrder (names_of dying) → AreAlive places w dying → Represents layout earlier NoNode places w words → Represents layout earlier NoNode places (closed w (names_of dying)) (without_values words dying)
+pub all_die : (layout : Layout) (earlier : List World) (places : List Place) (w : World) (words : List ℕ) (dying : List OldWeak) → IsWorld w →
+    AreEarlier earlier w → IsInOrder (names_of dying) → AreAlive places w dying → Represents layout earlier NoNode places w words →
+    Represents layout earlier NoNode places (closed w (names_of dying)) (without_values words dying)
 all_die layout earlier places w words [] world past o alive r = r
 all_die layout earlier places w words (x ∷ xs) world past o alive r =
     let a = alive x (contains_head x xs) in
     let parts : Parts = a.1.0 in
     let v : World = closed_by w x.weak (node_of w x.weak) in
-    all_die layout earlier places v (set words (value_place x.at.0) 0) xs (world_then w world x.weak parts a.1.1) (past_then w world x.weak parts a.1.1 earlier past) (in_order_rest x.weak (names_of xs) o)
+    all_die layout earlier places v (set words (value_place x.at.0) 0) xs (world_then w world x.weak parts a.1.1)
+    (past_then w world x.weak parts a.1.1 earlier past) (in_order_rest x.weak (names_of xs) o)
     (λ y c.
     let b = alive y (contains_tail x xs y c) in
     let before = in_order_first x.weak (names_of xs) o y.weak (name_in xs y c) in
@@ -118,7 +124,8 @@ all_die layout earlier places w words (x ∷ xs) world past o alive r =
     (one_dies w world x.weak parts a.1.1 layout earlier places words x.at.0 past a.0 r)
 
 -- the node of a name in the closed world
-pub closed_node : (w : World) (dead : List Name) → IsWorld w → (n : Name) → (node_of (closed w dead) n ≡ node_of w n) ⊎ (Contains dead n × (node_of (closed w dead) n ≡ Some (Weak None)))
+pub closed_node : (w : World) (dead : List Name) → IsWorld w → (n : Name) → (node_of (closed w dead) n ≡ node_of w n) ⊎
+    (Contains dead n × (node_of (closed w dead) n ≡ Some (Weak None)))
 closed_node w [] world n = inl refl
 closed_node w (d ∷ dead) world n =
     let v : World = closed_by w d (node_of w d) in
@@ -138,7 +145,8 @@ set_zero (w ∷ ws) zero = refl
 set_zero (w ∷ ws) (suc i) = set_zero ws i
 
 -- a value word of these is 0, and any other as it was
-cleared_or : (words : List ℕ) (dying : List OldWeak) (j : ℕ) → (slice_index (without_values words dying) j ≡ slice_index words j) ⊎ (slice_index (without_values words dying) j ≡ 0)
+cleared_or : (words : List ℕ) (dying : List OldWeak) (j : ℕ) → (slice_index (without_values words dying) j ≡ slice_index words j) ⊎
+    (slice_index (without_values words dying) j ≡ 0)
 cleared_or words [] j = inl refl
 cleared_or words (x ∷ xs) j = elim (cleared_or (set words (value_place x.at.0) 0) xs j) [
   | inr none ↦ inr none
@@ -190,10 +198,12 @@ pub alive_word : (words : List ℕ) (x : OldWeak) → slice_index words (value_p
 alive_word words x ne = let e : eqb (slice_index words (value_place x.at.0)) 0 ≡ false = ne_eqb (slice_index words (value_place x.at.0)) 0 ne in rw e refl
 
 pub word_alive : (words : List ℕ) (x : OldWeak) → is_alive words x ≡ true → slice_index words (value_place x.at.0) ≡ 0 → ⊥
-word_alive words x e z = let f : eqb (slice_index words (value_place x.at.0)) 0 ≡ true = eq-eqb (slice_index words (value_place x.at.0)) 0 z in let g : not true ≡ true = rw f at e in cc
+word_alive words x e z = let f : eqb (slice_index words (value_place x.at.0)) 0 ≡ true = eq-eqb (slice_index words (value_place x.at.0)) 0 z in
+    let g : not true ≡ true = rw f at e in cc
 
 -- a word with a meaning isn't 0
-pub set_word : (layout : Layout) (places : List Place) (w : World) (earlier : List World) (words : List ℕ) (word : ℕ) (v : Value) → Represents layout earlier NoNode places w words → Means (Contains places) word v → word ≢ 0
+pub set_word : (layout : Layout) (places : List Place) (w : World) (earlier : List World) (words : List ℕ) (word : ℕ) (v : Value) →
+    Represents layout earlier NoNode places w words → Means (Contains places) word v → word ≢ 0
 set_word layout places w earlier words word value.Nil r m e = omega arith
 set_word layout places w earlier words word (value.Number n) r m e = omega arith
 set_word layout places w earlier words word (value.Ref name) r m e =
@@ -203,7 +213,9 @@ set_word layout places w earlier words word (value.Ref name) r m e =
     omega arith
 
 -- the list without the dead is that of the closed world
-module _ (layout : Layout) (earlier : List World) (places : List Place) (w : World) (words : List ℕ) (list dying : List OldWeak) (world : IsWorld w) (past : AreEarlier earlier w) (listed : ListsWeaks layout places w (places_of list)) (o : IsInOrder (names_of dying)) (alive : AreAlive places w dying) (r : Represents layout earlier NoNode places w words) where
+module _ (layout : Layout) (earlier : List World) (places : List Place) (w : World) (words : List ℕ) (list dying : List OldWeak) (world : IsWorld w)
+    (past : AreEarlier earlier w) (listed : ListsWeaks layout places w (places_of list)) (o : IsInOrder (names_of dying))
+    (alive : AreAlive places w dying) (r : Represents layout earlier NoNode places w words) where
   abbrev end : World
   end = closed w (names_of dying)
 
@@ -246,7 +258,9 @@ module _ (layout : Layout) (earlier : List World) (places : List Place) (w : Wor
         let same = stands.one (record { at = placed.at; name = p.name }) p placed.there l.0 (inl refl) in
         let at : placed.at ≡ x.0.at.0 = ap (λ (q : Place). q.at) same ∙ sym (ap (λ (q : Place). q.at) x.2) in
         let z : placed.at + HEADER_WORDS + 1 ≡ value_place x.0.at.0 = omega arith in
-        let means : Means (Contains places) (slice_index us (value_place x.0.at.0)) parts.value = subst (λ (i : ℕ). Means (Contains places) (slice_index us i) parts.value) z (placed.fields 1 (holds parts.value) refl) in
-        let kept = filter_keeps (is_alive us) list x.0 x.1 (alive_word us x.0 (set_word layout places end earlier us (slice_index us (value_place x.0.at.0)) parts.value stands means)) in
+        let means : Means (Contains places) (slice_index us (value_place x.0.at.0)) parts.value =
+        subst (λ (i : ℕ). Means (Contains places) (slice_index us i) parts.value) z (placed.fields 1 (holds parts.value) refl) in
+        let kept = filter_keeps (is_alive us) list x.0 x.1 (alive_word us x.0
+        (set_word layout places end earlier us (slice_index us (value_place x.0.at.0)) parts.value stands means)) in
         subst (λ (q : Place). Contains (places_of (alive_of us list)) q) x.2 (has_place (alive_of us list) x.0 kept);
   }

@@ -40,7 +40,8 @@ before_all (x ∷ xs) y ys n c = elim (contains_cases x (xs ++ ys) n c) [
 
 pub in_order_without : (xs : List Name) (y : Name) (ys : List Name) → IsInOrder (xs ++ y ∷ ys) → IsInOrder (xs ++ ys)
 in_order_without [] y ys o = in_order_rest y ys o
-in_order_without (x ∷ xs) y ys o = in_order_cons x (xs ++ ys) (in_order_without xs y ys (in_order_rest x (xs ++ y ∷ ys) o)) (λ n c. in_order_first x (xs ++ y ∷ ys) o n (before_all xs y ys n c))
+in_order_without (x ∷ xs) y ys o = in_order_cons x (xs ++ ys) (in_order_without xs y ys (in_order_rest x (xs ++ y ∷ ys) o)) (λ n c.
+    in_order_first x (xs ++ y ∷ ys) o n (before_all xs y ys n c))
 
 -- so far: the lost ones among the first so many, with the rest in order
 pub record IsFinding (o : Opening) (list dying : List OldWeak) (i : ℕ) : Type 0 where
@@ -48,7 +49,8 @@ pub record IsFinding (o : Opening) (list dying : List OldWeak) (i : ℕ) : Type 
   pub sound : (p : Place) → Contains (places_of dying) p → Contains (places_of list) p × IsLost o.core p.name
   pub complete : (p : Place) → Contains (places_of (take i list)) p → IsLost o.core p.name → Contains (places_of dying) p
 
-pub finding_begins : (o : Opening) (words : List ℕ) (s : Segments) (k : MarkerSeen) (list : List OldWeak) → CanResolve o words s k (places_of list) → IsFinding o list [] 0
+pub finding_begins : (o : Opening) (words : List ℕ) (s : Segments) (k : MarkerSeen) (list : List OldWeak) →
+    CanResolve o words s k (places_of list) → IsFinding o list [] 0
 finding_begins o words s k list h = record {
   ordered = subst IsInOrder (names_same list) h.listed.ordered;
   sound = λ p c. absurd (omega (arith, c.1));
@@ -74,12 +76,15 @@ at_contains [] i d lt = absurd (omega arith)
 at_contains (x ∷ xs) zero d lt = contains_head x xs
 at_contains (x ∷ xs) (suc i) d lt = contains_tail x xs (get_or xs i d) (at_contains xs i d (omega arith))
 
-passed_more : (list : List OldWeak) (i : ℕ) (d : OldWeak) (p : Place) → i < length list → Contains (places_of (take (i + 1) list)) p → Contains (places_of (take i list)) p ⊎ (place_of (get_or list i d) ≡ p)
+passed_more : (list : List OldWeak) (i : ℕ) (d : OldWeak) (p : Place) → i < length list → Contains (places_of (take (i + 1) list)) p →
+    Contains (places_of (take i list)) p ⊎ (place_of (get_or list i d) ≡ p)
 passed_more list i d p lt c =
-    let e : places_of (take (i + 1) list) ≡ places_of (take i list) ++ place_of (get_or list i d) ∷ [] = ap places_of (take_at list i d lt) ∙ places_append (take i list) (get_or list i d ∷ []) in
+    let e : places_of (take (i + 1) list) ≡ places_of (take i list) ++ place_of (get_or list i d) ∷ [] = ap places_of (take_at list i d lt) ∙
+    places_append (take i list) (get_or list i d ∷ []) in
     Contains-push_cases (places_of (take i list)) (place_of (get_or list i d)) p (subst (λ (l : List Place). Contains l p) e c)
 
-module _ (o : Opening) (words : List ℕ) (s : Segments) (k : MarkerSeen) (list dying : List OldWeak) (i : ℕ) (d : OldWeak) (can : CanResolve o words s k (places_of list)) (lt : i < length list) (epoch : IsEpoch k.epoch) (h : IsFinding o list dying i) where
+module _ (o : Opening) (words : List ℕ) (s : Segments) (k : MarkerSeen) (list dying : List OldWeak) (i : ℕ) (d : OldWeak)
+    (can : CanResolve o words s k (places_of list)) (lt : i < length list) (epoch : IsEpoch k.epoch) (h : IsFinding o list dying i) where
   abbrev x : OldWeak
   x = get_or list i d
 
@@ -92,7 +97,9 @@ module _ (o : Opening) (words : List ℕ) (s : Segments) (k : MarkerSeen) (list 
   pub found_one : IsLostAt s k.epoch x.at.0 (slice_index words (key_place x.at.0)) → IsFinding o list (dying ++ x ∷ []) (i + 1)
   found_one lost =
       let is : IsLost o.core x.weak = (lost_is o words s k (places_of list) can epoch x.at.0 x.weak here).0 lost in
-      let names : names_of (dying ++ x ∷ []) ++ names_of (drop (i + 1) list) ≡ names_of dying ++ names_of (drop i list) = ap (λ (l : List Name). l ++ names_of (drop (i + 1) list)) (names_append dying (x ∷ [])) ∙ append_assoc (names_of dying) (x.weak ∷ []) (names_of (drop (i + 1) list)) ∙ ap (λ (l : List Name). names_of dying ++ l) (sym rest_is) in
+      let names : names_of (dying ++ x ∷ []) ++ names_of (drop (i + 1) list) ≡ names_of dying ++ names_of (drop i list) =
+      ap (λ (l : List Name). l ++ names_of (drop (i + 1) list)) (names_append dying (x ∷ [])) ∙
+      append_assoc (names_of dying) (x.weak ∷ []) (names_of (drop (i + 1) list)) ∙ ap (λ (l : List Name). names_of dying ++ l) (sym rest_is) in
       let places : places_of (dying ++ x ∷ []) ≡ places_of dying ++ place_of x ∷ [] = places_append dying (x ∷ []) in
       record {
         ordered = subst IsInOrder (sym names) h.ordered;
@@ -108,16 +115,19 @@ module _ (o : Opening) (words : List ℕ) (s : Segments) (k : MarkerSeen) (list 
 
   pub found_none : (IsLostAt s k.epoch x.at.0 (slice_index words (key_place x.at.0)) → ⊥) → IsFinding o list dying (i + 1)
   found_none not_ = record {
-    ordered = in_order_without (names_of dying) x.weak (names_of (drop (i + 1) list)) (subst (λ (l : List Name). IsInOrder (names_of dying ++ l)) rest_is h.ordered);
+    ordered = in_order_without (names_of dying) x.weak (names_of (drop (i + 1) list)) (subst (λ (l : List Name).
+        IsInOrder (names_of dying ++ l)) rest_is h.ordered);
     sound = h.sound;
     complete = λ p c l. elim (passed_more list i d p lt c) [
       | inl old ↦ h.complete p old l
-      | inr same ↦ absurd (not_ ((lost_is o words s k (places_of list) can epoch x.at.0 x.weak here).1 (subst (λ (q : Place). IsLost o.core q.name) (sym same) l)))
+      | inr same ↦ absurd (not_ ((lost_is o words s k (places_of list) can epoch x.at.0 x.weak here).1 (subst (λ (q : Place).
+          IsLost o.core q.name) (sym same) l)))
     ];
   }
 
 -- all were looked at
-pub found_all : (o : Opening) (list dying : List OldWeak) (i : ℕ) → take i list ≡ list → drop i list ≡ [] → IsFinding o list dying i → AreLost o (places_of list) dying
+pub found_all : (o : Opening) (list dying : List OldWeak) (i : ℕ) → take i list ≡ list → drop i list ≡ [] → IsFinding o list dying i →
+    AreLost o (places_of list) dying
 found_all o list dying i all none h = record {
   ordered = subst IsInOrder (append-nil (names_of dying)) (subst (λ (l : List OldWeak). IsInOrder (names_of dying ++ names_of l)) none h.ordered);
   sound = h.sound;

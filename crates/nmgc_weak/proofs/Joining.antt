@@ -15,19 +15,25 @@ one_of maker death = cond (joins maker death) (death.finaliser ∷ []) []
 pub joined_cons : (maker : ℕ) (d : Death) (ds : List Death) → joined maker (d ∷ ds) ≡ one_of maker d ++ joined maker ds
 joined_cons maker d ds = by_test (joins maker d)
   where
-    by_test : (b : Bool) → map (λ (death : Death). death.finaliser) (cond b (d ∷ filter (joins maker) ds) (filter (joins maker) ds)) ≡ cond b (d.finaliser ∷ []) [] ++ joined maker ds
+    by_test : (b : Bool) → map (λ (death : Death). death.finaliser) (cond b (d ∷ filter (joins maker) ds) (filter (joins maker) ds)) ≡
+        cond b (d.finaliser ∷ []) [] ++ joined maker ds
     by_test true = refl
     by_test false = refl
 
-pub joined_more : (maker : ℕ) (ds : List Death) (i : ℕ) (e : Death) → i < length ds → joined maker (take (i + 1) ds) ≡ joined maker (take i ds) ++ one_of maker (get_or ds i e)
+pub joined_more : (maker : ℕ) (ds : List Death) (i : ℕ) (e : Death) → i < length ds →
+    joined maker (take (i + 1) ds) ≡ joined maker (take i ds) ++ one_of maker (get_or ds i e)
 joined_more maker [] i e lt = absurd (omega arith)
 joined_more maker (d ∷ ds) zero e lt = joined_cons maker d [] ∙ append-nil (one_of maker d)
 joined_more maker (d ∷ ds) (suc i) e lt =
     let z : suc i + 1 ≡ suc (i + 1) = omega arith in
-    ap (λ n. joined maker (take n (d ∷ ds))) z ∙ joined_cons maker d (take (i + 1) ds) ∙ ap (λ (l : List ℕ). one_of maker d ++ l) (joined_more maker ds i e (omega arith)) ∙ sym (append_assoc (one_of maker d) (joined maker (take i ds)) (one_of maker (get_or ds i e))) ∙ ap (λ (l : List ℕ). l ++ one_of maker (get_or ds i e)) (sym (joined_cons maker d (take i ds)))
+    ap (λ n. joined maker (take n (d ∷ ds))) z ∙ joined_cons maker d (take (i + 1) ds) ∙
+    ap (λ (l : List ℕ). one_of maker d ++ l) (joined_more maker ds i e (omega arith)) ∙
+    sym (append_assoc (one_of maker d) (joined maker (take i ds)) (one_of maker (get_or ds i e))) ∙
+    ap (λ (l : List ℕ). l ++ one_of maker (get_or ds i e)) (sym (joined_cons maker d (take i ds)))
 
 -- no more join of the first so many than in all
-pub joined_part : (maker : ℕ) (ds : List Death) (i : ℕ) (e : Death) → i < length ds → length (joined maker (take i ds)) + length (one_of maker (get_or ds i e)) ≤ length (joined maker ds)
+pub joined_part : (maker : ℕ) (ds : List Death) (i : ℕ) (e : Death) → i < length ds →
+    length (joined maker (take i ds)) + length (one_of maker (get_or ds i e)) ≤ length (joined maker ds)
 joined_part maker [] i e lt = absurd (omega arith)
 joined_part maker (d ∷ ds) zero e lt =
     let l = ap length (joined_cons maker d ds) ∙ length-append (one_of maker d) (joined maker ds) in
@@ -67,14 +73,19 @@ nil_none maker d e = elim (eqb_tells d.weak.maker maker) [
 more_words : (before after : FinQueue) (words more all : List ℕ) → Joins before after words → more ≡ [] → all ≡ words ++ more → Joins before after all
 more_words before after words more all h none is =
     let same : all ≡ words = is ∙ ap (λ (l : List ℕ). words ++ l) none ∙ append-nil words in
-    record { words_are = h.words_are ∙ ap (λ (l : List ℕ). before.words ++ l) (sym same); spare = subst (λ (l : List ℕ). after.spare + length l ≡ before.spare) (sym same) h.spare }
+    record {
+      words_are = h.words_are ∙ ap (λ (l : List ℕ). before.words ++ l) (sym same);
+      spare = subst (λ (l : List ℕ). after.spare + length l ≡ before.spare) (sym same) h.spare;
+    }
 
-one_word : (before between after : FinQueue) (words all : List ℕ) (w : ℕ) → Joins before between words → all ≡ words ++ w ∷ [] → after.words ≡ between.words ++ w ∷ [] → after.spare + 1 ≡ between.spare → Joins before after all
+one_word : (before between after : FinQueue) (words all : List ℕ) (w : ℕ) → Joins before between words → all ≡ words ++ w ∷ [] →
+    after.words ≡ between.words ++ w ∷ [] → after.spare + 1 ≡ between.spare → Joins before after all
 one_word before between after words all w h is added spare =
     let l = ap length is ∙ length-append words (w ∷ []) in
     let s = h.spare in
     record {
-      words_are = added ∙ ap (λ (x : List ℕ). x ++ w ∷ []) h.words_are ∙ append_assoc before.words words (w ∷ []) ∙ ap (λ (x : List ℕ). before.words ++ x) (sym is);
+      words_are = added ∙ ap (λ (x : List ℕ). x ++ w ∷ []) h.words_are ∙ append_assoc before.words words (w ∷ []) ∙
+          ap (λ (x : List ℕ). before.words ++ x) (sym is);
       spare = omega (arith, l, s);
     }
 
@@ -100,21 +111,42 @@ module _ (ds : List Death) (i : ℕ) (e : Death) (old now : List FinQueue) (lt :
 
   -- nil joins no queue
   pub nil_joins : d.finaliser ≡ 1 → AllJoin (take (i + 1) ds) old now
-  nil_joins nil = (h.0, λ maker before is. let a = h.1 maker before is in (a.0, a.1, more_words before a.0 (joined maker (take i ds)) (one_of maker d) (joined maker (take (i + 1) ds)) a.2 (nil_none maker d nil) (joined_more maker ds i e lt)))
+  nil_joins nil = (
+    h.0,
+    λ maker before is. let a = h.1 maker before is in (
+      a.0,
+      a.1,
+      more_words before a.0 (joined maker (take i ds)) (one_of maker d) (joined maker (take (i + 1) ds)) a.2 (nil_none maker d nil)
+          (joined_more maker ds i e lt),
+    ),
+  )
 
   -- any other its maker's
-  pub one_joins : (q r : FinQueue) → d.finaliser ≢ 1 → slice_get now d.weak.maker ≡ Some q → r.words ≡ q.words ++ d.finaliser ∷ [] → r.spare + 1 ≡ q.spare → AllJoin (take (i + 1) ds) old (set now d.weak.maker r)
+  pub one_joins : (q r : FinQueue) → d.finaliser ≢ 1 → slice_get now d.weak.maker ≡ Some q → r.words ≡ q.words ++ d.finaliser ∷ [] →
+      r.spare + 1 ≡ q.spare → AllJoin (take (i + 1) ds) old (set now d.weak.maker r)
   one_joins q r ne here words spare = (length-set now d.weak.maker r ∙ h.0, λ maker before is. by_maker maker before is (h.1 maker before is))
     where
-      by_maker : (maker : ℕ) (before : FinQueue) → slice_get old maker ≡ Some before → (after : FinQueue) × (slice_get now maker ≡ Some after) × Joins before after (joined maker (take i ds)) → (after : FinQueue) × (slice_get (set now d.weak.maker r) maker ≡ Some after) × Joins before after (joined maker (take (i + 1) ds))
+      by_maker : (maker : ℕ) (before : FinQueue) → slice_get old maker ≡ Some before → (after : FinQueue) × (slice_get now maker ≡ Some after) ×
+          Joins before after (joined maker (take i ds)) → (after : FinQueue) × (slice_get (set now d.weak.maker r) maker ≡ Some after) ×
+          Joins before after (joined maker (take (i + 1) ds))
       by_maker maker before is a = elim (cases_eq maker d.weak.maker) [
         | inl same ↦
             let both : Some a.0 ≡ Some q = sym a.1 ∙ ap (λ (m : ℕ). slice_get now m) same ∙ here in
             let eq : a.0 ≡ q = cc in
-            let all : joined maker (take (i + 1) ds) ≡ joined maker (take i ds) ++ d.finaliser ∷ [] = joined_more maker ds i e lt ∙ ap (λ (l : List ℕ). joined maker (take i ds) ++ l) (ap (λ (m : ℕ). one_of m d) same ∙ own_joins d ne) in
-            let within : d.weak.maker < length now = get_within now d.weak.maker q here in
-            (r, ap (λ (m : ℕ). slice_get (set now d.weak.maker r) m) same ∙ slice_get-set_same now d.weak.maker r within, one_word before a.0 r (joined maker (take i ds)) (joined maker (take (i + 1) ds)) d.finaliser a.2 all (words ∙ ap (λ (x : FinQueue). x.words ++ d.finaliser ∷ []) (sym eq)) (spare ∙ ap (λ (x : FinQueue). x.spare) (sym eq)))
-        | inr other ↦ (a.0, slice_get-set_other now d.weak.maker maker r other ∙ a.1, more_words before a.0 (joined maker (take i ds)) (one_of maker d) (joined maker (take (i + 1) ds)) a.2 (others_none maker d (λ x. other (sym x))) (joined_more maker ds i e lt))
+            let all : joined maker (take (i + 1) ds) ≡ joined maker (take i ds) ++ d.finaliser ∷ [] = joined_more maker ds i e lt ∙
+            ap (λ (l : List ℕ). joined maker (take i ds) ++ l) (ap (λ (m : ℕ). one_of m d) same ∙ own_joins d ne) in
+            let within : d.weak.maker < length now = get_within now d.weak.maker q here in (
+              r,
+              ap (λ (m : ℕ). slice_get (set now d.weak.maker r) m) same ∙ slice_get-set_same now d.weak.maker r within,
+              one_word before a.0 r (joined maker (take i ds)) (joined maker (take (i + 1) ds)) d.finaliser a.2 all (words ∙
+                  ap (λ (x : FinQueue). x.words ++ d.finaliser ∷ []) (sym eq)) (spare ∙ ap (λ (x : FinQueue). x.spare) (sym eq)),
+            )
+        | inr other ↦ (
+          a.0,
+          slice_get-set_other now d.weak.maker maker r other ∙ a.1,
+          more_words before a.0 (joined maker (take i ds)) (one_of maker d) (joined maker (take (i + 1) ds)) a.2 (others_none maker d (λ x.
+              other (sym x))) (joined_more maker ds i e lt),
+        )
       ]
 
   -- there is room for it

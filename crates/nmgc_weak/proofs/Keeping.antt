@@ -26,7 +26,8 @@ use Rattle.nmgc_weak.proofs.Parts.{ref_in, named_at, meant, HasParts, has_parts,
 use Rattle.nmgc_weak.proofs.Stages.{with_marks, done_marks, Stage, CanMark, stage_mark, marked_there, marked_still, stage_ready, stage_begins, stage_done, done_goes}
 
 -- where the key of a weak pointer of the snapshot is marked, what it keeps is live
-kept_live : (s : State) → Facts s → (weak target : Name) (parts : Parts) → IsAlive s.snapshot weak parts → (key : Value) → parts.key ≡ key → IsKeyMarked s.marked key → IsKeptBy weak parts target → IsLive s.snapshot s.opened target
+kept_live : (s : State) → Facts s → (weak target : Name) (parts : Parts) → IsAlive s.snapshot weak parts → (key : Value) → parts.key ≡ key →
+    IsKeyMarked s.marked key → IsKeptBy weak parts target → IsLive s.snapshot s.opened target
 kept_live s f weak target parts alive value.Nil e shown kept = plain_key weak target parts alive (subst IsPlain (sym e) tt) kept
 kept_live s f weak target parts alive (value.Number n) e shown kept = plain_key weak target parts alive (subst IsPlain (sym e) tt) kept
 kept_live s f weak target parts alive (value.Ref key) e shown kept = live_key weak target key parts alive e (f.base.live key shown) kept
@@ -41,7 +42,8 @@ of_weak weak target parts (inl e) = inl e
 of_weak weak target parts (inr (inl e)) = inr (inr (inl e))
 of_weak weak target parts (inr (inr e)) = inr (inr (inr e))
 
-module _ (o : Opening) (words : List ℕ) (s : Segments) (marker : MarkerSeen) (weaks : List Place) (at : ℕ) (weak : Name) (h : CanKeep o words s marker weaks at weak) where
+module _ (o : Opening) (words : List ℕ) (s : Segments) (marker : MarkerSeen) (weaks : List Place) (at : ℕ) (weak : Name)
+    (h : CanKeep o words s marker weaks at weak) where
   abbrev listed : Contains o.places (record { at = at; name = weak })
   listed = (h.can.listed.sound (record { at = at; name = weak }) h.listed).0
 
@@ -57,8 +59,10 @@ module _ (o : Opening) (words : List ℕ) (s : Segments) (marker : MarkerSeen) (
   -- each of the three may be marked
   can_mark : (target : Name) → IsKeptBy weak parts target → CanMark o o.core.opened (Some target)
   can_mark target kept = (
-    λ there. kept_live o.core h.can.facts weak target parts ((h.can.facts.base.weaks weak parts alive).old h.known) parts.key refl (h.key_marked parts alive) kept,
-    λ there. may_queue o words target h.can.marking h.can.ready.opens h.can.earlier_are (of_weak_tracked o weak target parts alive (of_weak weak target parts kept)) there,
+    λ there. kept_live o.core h.can.facts weak target parts ((h.can.facts.base.weaks weak parts alive).old h.known) parts.key refl
+        (h.key_marked parts alive) kept,
+    λ there. may_queue o words target h.can.marking h.can.ready.opens h.can.earlier_are
+        (of_weak_tracked o weak target parts alive (of_weak weak target parts kept)) there,
   )
 
   value_marks : (v : Value) → ((target : Name) → v ≡ value.Ref target → IsKeptBy weak parts target) → CanMark o o.core.opened (ref_in v)
@@ -66,7 +70,8 @@ module _ (o : Opening) (words : List ℕ) (s : Segments) (marker : MarkerSeen) (
   value_marks (value.Number n) k = tt
   value_marks (value.Ref target) k = can_mark target (k target refl)
 
-  word_marks : (w : ℕ) (v : Value) → Means (Contains o.places) w v → ((target : Name) → v ≡ value.Ref target → IsKeptBy weak parts target) → CanMark o o.core.opened (name_meant o.places w)
+  word_marks : (w : ℕ) (v : Value) → Means (Contains o.places) w v → ((target : Name) → v ≡ value.Ref target → IsKeptBy weak parts target) →
+      CanMark o o.core.opened (name_meant o.places w)
   word_marks w v means k = subst (CanMark o o.core.opened) (sym (meant o w v apart means)) (value_marks v k)
 
   pub word_parts : HasParts o words at parts
@@ -83,34 +88,52 @@ module _ (o : Opening) (words : List ℕ) (s : Segments) (marker : MarkerSeen) (
   third = with_name o.core.snapshot second (name_meant o.places (slice_index words (finaliser_place at)))
 
   -- they are marked one after another
-  pub three : (s1 s2 s3 : Segments) (k1 k2 k3 : MarkerSeen) → ((m : Marks) → IsTied o m s marker → IsTied o (with_name o.core.snapshot m (name_at o.places at)) s1 k1) → ((m : Marks) → IsTied o m s1 k1 → IsTied o (with_name o.core.snapshot m (name_meant o.places (slice_index words (value_place at)))) s2 k2) → ((m : Marks) → IsTied o m s2 k2 → IsTied o (with_name o.core.snapshot m (name_meant o.places (slice_index words (finaliser_place at)))) s3 k3) → Stage o o.core.opened third s3 k3
+  pub three : (s1 s2 s3 : Segments) (k1 k2 k3 : MarkerSeen) →
+      ((m : Marks) → IsTied o m s marker → IsTied o (with_name o.core.snapshot m (name_at o.places at)) s1 k1) →
+      ((m : Marks) → IsTied o m s1 k1 → IsTied o (with_name o.core.snapshot m (name_meant o.places (slice_index words (value_place at)))) s2 k2) →
+      ((m : Marks) → IsTied o m s2 k2 →
+      IsTied o (with_name o.core.snapshot m (name_meant o.places (slice_index words (finaliser_place at)))) s3 k3) → Stage o o.core.opened third s3 k3
   three s1 s2 s3 k1 k2 k3 t1 t2 t3 =
       let st0 : Stage o o.core.opened (marks_of o.core) s marker = stage_begins o words s marker weaks h.can in
-      let st1 : Stage o o.core.opened first s1 k1 = stage_mark o o.core.opened (marks_of o.core) s s1 marker k1 (name_at o.places at) st0 (subst (CanMark o o.core.opened) (sym (named_at o at weak apart listed)) (can_mark weak (inl refl))) (t1 (marks_of o.core) st0.tied) in
-      let st2 : Stage o o.core.opened second s2 k2 = stage_mark o o.core.opened first s1 s2 k1 k2 (name_meant o.places (slice_index words (value_place at))) st1 (word_marks (slice_index words (value_place at)) parts.value word_parts.value (λ target e. inr (inl e))) (t2 first st1.tied) in
-      stage_mark o o.core.opened second s2 s3 k2 k3 (name_meant o.places (slice_index words (finaliser_place at))) st2 (word_marks (slice_index words (finaliser_place at)) parts.finaliser word_parts.finaliser (λ target e. inr (inr e))) (t3 second st2.tied)
+      let st1 : Stage o o.core.opened first s1 k1 =
+      stage_mark o o.core.opened (marks_of o.core) s s1 marker k1 (name_at o.places at) st0
+      (subst (CanMark o o.core.opened) (sym (named_at o at weak apart listed)) (can_mark weak (inl refl))) (t1 (marks_of o.core) st0.tied) in
+      let st2 : Stage o o.core.opened second s2 k2 =
+      stage_mark o o.core.opened first s1 s2 k1 k2 (name_meant o.places (slice_index words (value_place at))) st1
+      (word_marks (slice_index words (value_place at)) parts.value word_parts.value (λ target e. inr (inl e))) (t2 first st1.tied) in
+      stage_mark o o.core.opened second s2 s3 k2 k3 (name_meant o.places (slice_index words (finaliser_place at))) st2
+      (word_marks (slice_index words (finaliser_place at)) parts.finaliser word_parts.finaliser (λ target e. inr (inr e))) (t3 second st2.tied)
 
   -- the names of the three are names of the snapshot
   in_snapshot : (target : Name) → IsKeptBy weak parts target → IsSome (node_of o.core.snapshot target)
   in_snapshot target kept = part_there o.core.snapshot h.can.facts.base.snapshot weak target parts ((h.can.facts.base.weaks weak parts alive).old h.known) kept
 
   -- so each is marked
-  one_marked : (m : Marks) (name : Option Name) (target : Name) → name ≡ Some target → IsSome (node_of o.core.snapshot target) → Contains (with_name o.core.snapshot m name).marked target
-  one_marked m name target e there = subst (λ (n : Option Name). Contains (with_name o.core.snapshot m n).marked target) (sym e) (marked_there o.core.snapshot m target there)
+  one_marked : (m : Marks) (name : Option Name) (target : Name) → name ≡ Some target → IsSome (node_of o.core.snapshot target) →
+      Contains (with_name o.core.snapshot m name).marked target
+  one_marked m name target e there = subst (λ (n : Option Name).
+      Contains (with_name o.core.snapshot m n).marked target) (sym e) (marked_there o.core.snapshot m target there)
 
   third_has : (target : Name) → IsKeptBy weak parts target → Contains third.marked target
   third_has target (inl e) =
       let there : IsSome (node_of o.core.snapshot weak) = h.known in
       let c : Contains first.marked weak = one_marked (marks_of o.core) (name_at o.places at) weak (named_at o at weak apart listed) there in
-      let d : Contains third.marked weak = marked_still o.core.snapshot second (name_meant o.places (slice_index words (finaliser_place at))) weak (marked_still o.core.snapshot first (name_meant o.places (slice_index words (value_place at))) weak c) in
+      let d : Contains third.marked weak =
+      marked_still o.core.snapshot second (name_meant o.places (slice_index words (finaliser_place at))) weak
+      (marked_still o.core.snapshot first (name_meant o.places (slice_index words (value_place at))) weak c) in
       subst (λ (n : Name). Contains third.marked n) (sym e) d
   third_has target (inr (inl e)) =
-      let c : Contains second.marked target = one_marked first (name_meant o.places (slice_index words (value_place at))) target (meant o (slice_index words (value_place at)) parts.value apart word_parts.value ∙ ap ref_in e) (in_snapshot target (inr (inl e))) in
+      let c : Contains second.marked target =
+      one_marked first (name_meant o.places (slice_index words (value_place at))) target
+      (meant o (slice_index words (value_place at)) parts.value apart word_parts.value ∙ ap ref_in e) (in_snapshot target (inr (inl e))) in
       marked_still o.core.snapshot second (name_meant o.places (slice_index words (finaliser_place at))) target c
-  third_has target (inr (inr e)) = one_marked second (name_meant o.places (slice_index words (finaliser_place at))) target (meant o (slice_index words (finaliser_place at)) parts.finaliser apart word_parts.finaliser ∙ ap ref_in e) (in_snapshot target (inr (inr e)))
+  third_has target (inr (inr e)) =
+      one_marked second (name_meant o.places (slice_index words (finaliser_place at))) target
+      (meant o (slice_index words (finaliser_place at)) parts.finaliser apart word_parts.finaliser ∙ ap ref_in e) (in_snapshot target (inr (inr e)))
 
   -- and all that they reach once the marker has finished
-  pub kept : (s3 s4 : Segments) (k3 k4 : MarkerSeen) → Stage o o.core.opened third s3 k3 → ((p : Opening) → IsReady p words s3 k3 → HasFinished p s4 k4) → HasKept o words s4 k4 weaks weak
+  pub kept : (s3 s4 : Segments) (k3 k4 : MarkerSeen) → Stage o o.core.opened third s3 k3 →
+      ((p : Opening) → IsReady p words s3 k3 → HasFinished p s4 k4) → HasKept o words s4 k4 weaks weak
   kept s3 s4 k3 k4 st fin =
       let ready = stage_ready o o.core.opened third words s3 k3 h.can.marking h.can.ready.opens st in
       let f : HasFinished (with_marks o third) s4 k4 = fin (with_marks o third) ready in

@@ -47,11 +47,14 @@ drop_next xs ys i e = drop_one xs i ∙ ap (λ l. drop 1 l) e ∙ sym (drop_one 
     drop_one (x ∷ l) (suc i) = let z : suc i + 1 ≡ suc (i + 1) = omega arith in ap (λ n. drop n (x ∷ l)) z ∙ drop_one l i
 
 -- those that are alive, one more
-pub alive_more : (words : List ℕ) (list : List OldWeak) (i : ℕ) (d : OldWeak) → i < length list → alive_of words (take (i + 1) list) ≡ alive_of words (take i list) ++ cond (is_alive words (get_or list i d)) (get_or list i d ∷ []) []
-alive_more words list i d lt = ap (λ (l : List OldWeak). alive_of words l) (take_at list i d lt) ∙ filter-append (is_alive words) (take i list) (get_or list i d ∷ [])
+pub alive_more : (words : List ℕ) (list : List OldWeak) (i : ℕ) (d : OldWeak) → i < length list →
+    alive_of words (take (i + 1) list) ≡ alive_of words (take i list) ++ cond (is_alive words (get_or list i d)) (get_or list i d ∷ []) []
+alive_more words list i d lt = ap (λ (l : List OldWeak). alive_of words l) (take_at list i d lt) ∙
+    filter-append (is_alive words) (take i list) (get_or list i d ∷ [])
 
 -- a part of a list in order
-in_kept : (b : Bool) (w : OldWeak) (kept ws : List OldWeak) (n : Name) → (Contains (names_of kept) n → Contains (names_of ws) n) → Contains (names_of (cond b (w ∷ kept) kept)) n → Contains (names_of (w ∷ ws)) n
+in_kept : (b : Bool) (w : OldWeak) (kept ws : List OldWeak) (n : Name) → (Contains (names_of kept) n → Contains (names_of ws) n) →
+    Contains (names_of (cond b (w ∷ kept) kept)) n → Contains (names_of (w ∷ ws)) n
 in_kept true w kept ws n h d = elim (contains_cases w.weak (names_of kept) n d) [
   | inl e ↦ subst (λ (m : Name). Contains (names_of (w ∷ ws)) m) e (contains_head w.weak (names_of ws))
   | inr k ↦ contains_tail w.weak (names_of ws) n (h k)
@@ -62,13 +65,15 @@ filter_in : (test : OldWeak → Bool) (list : List OldWeak) (n : Name) → Conta
 filter_in test [] n c = c
 filter_in test (w ∷ ws) n c = in_kept (test w) w (filter test ws) ws n (filter_in test ws n) c
 
-kept_ordered : (b : Bool) (w : OldWeak) (kept : List OldWeak) → IsInOrder (names_of kept) → ((n : Name) → Contains (names_of kept) n → IsBefore w.weak n) → IsInOrder (names_of (cond b (w ∷ kept) kept))
+kept_ordered : (b : Bool) (w : OldWeak) (kept : List OldWeak) → IsInOrder (names_of kept) →
+    ((n : Name) → Contains (names_of kept) n → IsBefore w.weak n) → IsInOrder (names_of (cond b (w ∷ kept) kept))
 kept_ordered true w kept o before = in_order_cons w.weak (names_of kept) o before
 kept_ordered false w kept o before = o
 
 pub filter_ordered : (test : OldWeak → Bool) (list : List OldWeak) → IsInOrder (names_of list) → IsInOrder (names_of (filter test list))
 filter_ordered test [] o = tt
-filter_ordered test (w ∷ ws) o = kept_ordered (test w) w (filter test ws) (filter_ordered test ws (in_order_rest w.weak (names_of ws) o)) (λ n c. in_order_first w.weak (names_of ws) o n (filter_in test ws n c))
+filter_ordered test (w ∷ ws) o = kept_ordered (test w) w (filter test ws) (filter_ordered test ws (in_order_rest w.weak (names_of ws) o)) (λ n c.
+    in_order_first w.weak (names_of ws) o n (filter_in test ws n c))
 
 -- of two names one is before the other
 pub before_or : (a b : Name) → a ≢ b → (IsBefore a b → ⊥) → IsBefore b a
@@ -87,7 +92,8 @@ before_or a b ne not_ = elim (cases_lt a.maker b.maker) [
 ]
 
 -- a name joins between those before it and those after it
-join_ordered : (xs : List Name) (y : Name) (ys : List Name) → IsInOrder (xs ++ ys) → ((n : Name) → Contains xs n → IsBefore n y) → ((n : Name) → Contains ys n → IsBefore y n) → IsInOrder (xs ++ y ∷ ys)
+join_ordered : (xs : List Name) (y : Name) (ys : List Name) → IsInOrder (xs ++ ys) → ((n : Name) → Contains xs n → IsBefore n y) →
+    ((n : Name) → Contains ys n → IsBefore y n) → IsInOrder (xs ++ y ∷ ys)
 join_ordered [] y ys o before after = in_order_cons y ys o after
 join_ordered (x ∷ xs) y ys o before after =
     in_order_cons x (xs ++ y ∷ ys) (join_ordered xs y ys (in_order_rest x (xs ++ ys) o) (λ n c. before n (contains_tail x xs n c)) after)
@@ -104,7 +110,8 @@ take_drop zero xs = refl
 take_drop (suc i) [] = refl
 take_drop {A} (suc i) (x ∷ xs) = ap (λ (l : List A). x ∷ l) (take_drop i xs)
 
-in_drop : (i : ℕ) (list : List OldWeak) (n : Name) → Contains (names_of (drop i list)) n → (j : ℕ) × (w : OldWeak) × (slice_get list j ≡ Some w) × (i ≤ j) × (w.weak ≡ n)
+in_drop : (i : ℕ) (list : List OldWeak) (n : Name) → Contains (names_of (drop i list)) n → (j : ℕ) × (w : OldWeak) × (slice_get list j ≡ Some w) ×
+    (i ≤ j) × (w.weak ≡ n)
 in_drop i [] n c = absurd (let d : Contains [] n = subst (λ (l : List OldWeak). Contains (names_of l) n) (drop_nil i) c in omega (arith, d.1))
 in_drop zero (w ∷ ws) n c = elim (contains_cases w.weak (names_of ws) n c) [
   | inl e ↦ (0, w, refl, omega arith, e)
@@ -113,7 +120,8 @@ in_drop zero (w ∷ ws) n c = elim (contains_cases w.weak (names_of ws) n c) [
 in_drop (suc i) (w ∷ ws) n c = let r = in_drop i ws n c in (suc r.0, r.1, r.2, let le = r.3 in omega arith, r.4)
 
 -- all that stand before a place are no later than the one just before it
-in_take : (i : ℕ) (list : List OldWeak) (n : Name) → IsInOrder (names_of list) → Contains (names_of (take (i + 1) list)) n → (w : OldWeak) → slice_get list i ≡ Some w → (n ≡ w.weak) ⊎ IsBefore n w.weak
+in_take : (i : ℕ) (list : List OldWeak) (n : Name) → IsInOrder (names_of list) → Contains (names_of (take (i + 1) list)) n → (w : OldWeak) →
+    slice_get list i ≡ Some w → (n ≡ w.weak) ⊎ IsBefore n w.weak
 in_take i [] n o c w e = absurd cc
 in_take zero (x ∷ xs) n o c w e = elim (contains_cases x.weak [] n c) [
   | inl same ↦ let both : Some x ≡ Some w = e in let eq : x ≡ w = cc in inl (sym same ∙ ap (λ (y : OldWeak). y.weak) eq)
@@ -129,13 +137,18 @@ in_take (suc i) (x ∷ xs) n o c w e =
   where
     name_in : (list : List OldWeak) (i : ℕ) (w : OldWeak) → slice_get list i ≡ Some w → Contains (names_of list) w.weak
     name_in [] i w e = absurd cc
-    name_in (y ∷ ys) zero w e = let both : Some y ≡ Some w = e in let eq : y ≡ w = cc in subst (λ (v : OldWeak). Contains (names_of (y ∷ ys)) v.weak) eq (contains_head y.weak (names_of ys))
+    name_in (y ∷ ys) zero w e = let both : Some y ≡ Some w = e in let eq : y ≡ w = cc in
+        subst (λ (v : OldWeak). Contains (names_of (y ∷ ys)) v.weak) eq (contains_head y.weak (names_of ys))
     name_in (y ∷ ys) (suc i) w e = contains_tail y.weak (names_of ys) w.weak (name_in ys i w e)
 
 -- the list with one more, at its place
-pub added_ordered : (list : List OldWeak) (x : OldWeak) (place : ℕ) → IsInOrder (names_of list) → ((j : ℕ) (w : OldWeak) → slice_get list j ≡ Some w → place ≤ j → IsBefore x.weak w.weak) → ((place ≡ 0) ⊎ ((i : ℕ) × (w : OldWeak) × (place ≡ i + 1) × (slice_get list i ≡ Some w) × IsBefore w.weak x.weak)) → IsInOrder (names_of (take place list ++ x ∷ drop place list))
+pub added_ordered : (list : List OldWeak) (x : OldWeak) (place : ℕ) → IsInOrder (names_of list) →
+    ((j : ℕ) (w : OldWeak) → slice_get list j ≡ Some w → place ≤ j → IsBefore x.weak w.weak) →
+    ((place ≡ 0) ⊎ ((i : ℕ) × (w : OldWeak) × (place ≡ i + 1) × (slice_get list i ≡ Some w) × IsBefore w.weak x.weak)) →
+    IsInOrder (names_of (take place list ++ x ∷ drop place list))
 added_ordered list x place o after below =
-    let whole : names_of (take place list) ++ names_of (drop place list) ≡ names_of list = sym (names_append (take place list) (drop place list)) ∙ ap names_of (take_drop place list) in
+    let whole : names_of (take place list) ++ names_of (drop place list) ≡ names_of list = sym (names_append (take place list) (drop place list)) ∙
+    ap names_of (take_drop place list) in
     subst IsInOrder (sym (names_append (take place list) (x ∷ drop place list)))
     (join_ordered (names_of (take place list)) x.weak (names_of (drop place list)) (subst IsInOrder (sym whole) o)
     (λ n c. elim below [
@@ -149,7 +162,8 @@ added_ordered list x place o after below =
     ])
     (λ n c. let r = in_drop place list n c in subst (λ (m : Name). IsBefore x.weak m) r.4 (after r.0 r.1 r.2 r.3)))
 
-pub added_contains : (list : List OldWeak) (x other : OldWeak) (place : ℕ) → Contains (take place list ++ x ∷ drop place list) other ↔ (Contains list other ⊎ (other ≡ x))
+pub added_contains : (list : List OldWeak) (x other : OldWeak) (place : ℕ) → Contains (take place list ++ x ∷ drop place list) other ↔
+    (Contains list other ⊎ (other ≡ x))
 added_contains list x other place = (
   λ c. elim (Contains-append_cases (take place list) (x ∷ drop place list) other c) [
     | inl a ↦ inl (subst (λ (l : List OldWeak). Contains l other) (take_drop place list) (Contains-append_left (take place list) (drop place list) other a))
@@ -159,10 +173,12 @@ added_contains list x other place = (
     ]
   ],
   λ h. elim h [
-    | inl c ↦ elim (Contains-append_cases (take place list) (drop place list) other (subst (λ (l : List OldWeak). Contains l other) (sym (take_drop place list)) c)) [
-      | inl a ↦ Contains-append_left (take place list) (x ∷ drop place list) other a
-      | inr b ↦ Contains-append_right (take place list) (x ∷ drop place list) other (contains_tail x (drop place list) other b)
-    ]
-    | inr e ↦ subst (λ (y : OldWeak). Contains (take place list ++ x ∷ drop place list) y) (sym e) (Contains-append_right (take place list) (x ∷ drop place list) x (contains_head x (drop place list)))
+    | inl c ↦ elim (Contains-append_cases (take place list) (drop place list) other (subst (λ (l : List OldWeak).
+        Contains l other) (sym (take_drop place list)) c)) [
+          | inl a ↦ Contains-append_left (take place list) (x ∷ drop place list) other a
+          | inr b ↦ Contains-append_right (take place list) (x ∷ drop place list) other (contains_tail x (drop place list) other b)
+        ]
+    | inr e ↦ subst (λ (y : OldWeak). Contains (take place list ++ x ∷ drop place list) y) (sym e) (Contains-append_right (take place list) (x ∷
+        drop place list) x (contains_head x (drop place list)))
   ],
 )

@@ -22,13 +22,20 @@ use Rattle.nmgc_weak.proofs.Finding.{names_same}
 use Rattle.nmgc_weak.proofs.Leaving.{filter_ordered}
 use Rattle.nmgc_weak.proofs.Saving.{has_place, of_place}
 
-module _ (layout : Layout) (past : List World) (places : List Place) (began w : World) (words : List ℕ) (list : List OldWeak) (r : Represents layout (began ∷ past) NoNode places w words) (listed : ListsWeaks layout places began (places_of list)) (old : KeepsOldWeaks layout places began w) where
+module _ (layout : Layout) (past : List World) (places : List Place) (began w : World) (words : List ℕ) (list : List OldWeak)
+    (r : Represents layout (began ∷
+    past) NoNode places w words) (listed : ListsWeaks layout places began (places_of list)) (old : KeepsOldWeaks layout places began w) where
   -- a weak pointer that was alive as the round began is tracked
   was_tracked : (weak : Name) (parts : Parts) → IsAlive began weak parts → IsTracked w (began ∷ past) weak
-  was_tracked weak parts alive = IsReached.start weak (began, contains_tail w (began ∷ past) began (contains_head began past), IsReached.start weak (inr (weak, parts, alive, inl refl)))
+  was_tracked weak parts alive = IsReached.start weak (
+    began,
+    contains_tail w (began ∷ past) began (contains_head began past),
+    IsReached.start weak (inr (weak, parts, alive, inl refl)),
+  )
 
   -- where it lies, by its name
-  same_at : (at other : ℕ) (weak : Name) → Contains places (record { at = at; name = weak }) → Contains places (record { at = other; name = weak }) → at + HEADER_WORDS + 1 ≡ value_place other
+  same_at : (at other : ℕ) (weak : Name) → Contains places (record { at = at; name = weak }) →
+      Contains places (record { at = other; name = weak }) → at + HEADER_WORDS + 1 ≡ value_place other
   same_at at other weak c d =
       let same = r.one (record { at = at; name = weak }) (record { at = other; name = weak }) c d (inl refl) in
       let e : at ≡ other = ap (λ (p : Place). p.at) same in
@@ -50,7 +57,8 @@ module _ (layout : Layout) (past : List World) (places : List Place) (began w : 
 
   pub left_listed : ListsWeaks layout places w (places_of (alive_of words list))
   left_listed = record {
-    ordered = subst IsInOrder (sym (names_same (alive_of words list))) (filter_ordered (is_alive words) list (subst IsInOrder (names_same list) listed.ordered));
+    ordered = subst IsInOrder (sym (names_same (alive_of words list)))
+        (filter_ordered (is_alive words) list (subst IsInOrder (names_same list) listed.ordered));
     sound = λ p c.
         let x = of_place (alive_of words list) p c in
         let k = filter_had (is_alive words) list x.0 x.1 in
@@ -63,8 +71,10 @@ module _ (layout : Layout) (past : List World) (places : List Place) (began w : 
         let placed = r.tracked p.name (Weak (Some parts)) (was_tracked p.name parts before) l.1.1 in
         let at : p.at ≡ x.0.at.0 = sym (ap (λ (q : Place). q.at) x.2) in
         let z : placed.at + HEADER_WORDS + 1 ≡ value_place x.0.at.0 = same_at placed.at p.at p.name placed.there l.0 ∙ ap value_place at in
-        let means : Means (Contains places) (slice_index words (value_place x.0.at.0)) parts.value = subst (λ (i : ℕ). Means (Contains places) (slice_index words i) parts.value) z (placed.fields 1 (holds parts.value) refl) in
-        let kept = filter_keeps (is_alive words) list x.0 x.1 (alive_word words x.0 (set_word layout places w (began ∷ past) words (slice_index words (value_place x.0.at.0)) parts.value r means)) in
+        let means : Means (Contains places) (slice_index words (value_place x.0.at.0)) parts.value =
+        subst (λ (i : ℕ). Means (Contains places) (slice_index words i) parts.value) z (placed.fields 1 (holds parts.value) refl) in
+        let kept = filter_keeps (is_alive words) list x.0 x.1 (alive_word words x.0 (set_word layout places w (began ∷
+        past) words (slice_index words (value_place x.0.at.0)) parts.value r means)) in
         subst (λ (q : Place). Contains (places_of (alive_of words list)) q) x.2 (has_place (alive_of words list) x.0 kept);
   }
 

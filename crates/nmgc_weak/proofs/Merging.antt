@@ -29,13 +29,16 @@ order_rest (x ∷ xs) zero o = o
 order_rest (x ∷ xs) (suc i) o = order_rest xs i (in_order_rest x.weak (names_of xs) o)
 
 -- those behind one of the list come after it
-behind : (xs : List OldWeak) (i : ℕ) (x : OldWeak) → IsInOrder (names_of xs) → slice_get xs i ≡ Some x → (b : OldWeak) → Contains (drop (i + 1) xs) b → IsBefore x.weak b.weak
+behind : (xs : List OldWeak) (i : ℕ) (x : OldWeak) → IsInOrder (names_of xs) → slice_get xs i ≡ Some x → (b : OldWeak) →
+    Contains (drop (i + 1) xs) b → IsBefore x.weak b.weak
 behind xs i x o e b c =
     let rest : List OldWeak = drop (i + 1) xs in
-    in_order_first x.weak (names_of rest) (subst (λ (l : List OldWeak). IsInOrder (names_of l)) (rest_at xs i x e) (order_rest xs i o)) b.weak (name_in rest b c)
+    in_order_first x.weak (names_of rest) (subst (λ (l : List OldWeak).
+    IsInOrder (names_of l)) (rest_at xs i x e) (order_rest xs i o)) b.weak (name_in rest b c)
 
 -- where the one at a place comes after a name, so do all from there on
-all_after : (xs : List OldWeak) (i : ℕ) (n : Name) → IsInOrder (names_of xs) → ((y : OldWeak) → slice_get xs i ≡ Some y → IsBefore n y.weak) → (b : OldWeak) → Contains (drop i xs) b → IsBefore n b.weak
+all_after : (xs : List OldWeak) (i : ℕ) (n : Name) → IsInOrder (names_of xs) → ((y : OldWeak) → slice_get xs i ≡ Some y → IsBefore n y.weak) →
+    (b : OldWeak) → Contains (drop i xs) b → IsBefore n b.weak
 all_after [] zero n o after b c = absurd (nothing_in b c)
 all_after [] (suc i) n o after b c = absurd (nothing_in b c)
 all_after (x ∷ xs) zero n o after b c = elim (contains_cases x xs b c) [
@@ -55,7 +58,9 @@ pub record IsMerging (all rest whole : List OldWeak) : Type 0 where
   pub both : (x : OldWeak) → (Contains all x ⊎ Contains rest x) ↔ Contains whole x
 
 -- one that is before all others of the rest is taken
-take_one : (all rest fewer whole : List OldWeak) (x : OldWeak) → IsMerging all rest whole → Contains rest x → ((b : OldWeak) → Contains rest b → (x ≡ b) ⊎ Contains fewer b) → ((b : OldWeak) → Contains fewer b → Contains rest b × IsBefore x.weak b.weak) → IsMerging (all ++ x ∷ []) fewer whole
+take_one : (all rest fewer whole : List OldWeak) (x : OldWeak) → IsMerging all rest whole → Contains rest x →
+    ((b : OldWeak) → Contains rest b → (x ≡ b) ⊎ Contains fewer b) → ((b : OldWeak) → Contains fewer b → Contains rest b × IsBefore x.weak b.weak) →
+    IsMerging (all ++ x ∷ []) fewer whole
 take_one all rest fewer whole x m there split back = record {
   ordered = subst IsInOrder (sym (names_push all x)) (in_order_push (names_of all) x.weak m.ordered (λ n c.
       let a = name_there all n c in
@@ -100,7 +105,9 @@ none_merged list fresh = record {
 
 module _ (list fresh : List OldWeak) (old : IsInOrder (names_of list)) (new : IsInOrder (names_of fresh)) where
   -- the one of the list is taken
-  pub takes_old : (all whole : List OldWeak) (i j : ℕ) (x : OldWeak) → IsMerging all (drop i list ++ drop j fresh) whole → slice_get list i ≡ Some x → ((y : OldWeak) → slice_get fresh j ≡ Some y → IsBefore x.weak y.weak) → IsMerging (all ++ x ∷ []) (drop (i + 1) list ++ drop j fresh) whole
+  pub takes_old : (all whole : List OldWeak) (i j : ℕ) (x : OldWeak) → IsMerging all (drop i list ++ drop j fresh) whole →
+      slice_get list i ≡ Some x → ((y : OldWeak) → slice_get fresh j ≡ Some y → IsBefore x.weak y.weak) →
+      IsMerging (all ++ x ∷ []) (drop (i + 1) list ++ drop j fresh) whole
   takes_old all whole i j x m e before =
       let xs : List OldWeak = drop (i + 1) list in
       let ys : List OldWeak = drop j fresh in
@@ -115,7 +122,9 @@ module _ (list fresh : List OldWeak) (old : IsInOrder (names_of list)) (new : Is
       ))
 
   -- or the one that joins
-  pub takes_new : (all whole : List OldWeak) (i j : ℕ) (y : OldWeak) → IsMerging all (drop i list ++ drop j fresh) whole → slice_get fresh j ≡ Some y → ((x : OldWeak) → slice_get list i ≡ Some x → IsBefore y.weak x.weak) → IsMerging (all ++ y ∷ []) (drop i list ++ drop (j + 1) fresh) whole
+  pub takes_new : (all whole : List OldWeak) (i j : ℕ) (y : OldWeak) → IsMerging all (drop i list ++ drop j fresh) whole →
+      slice_get fresh j ≡ Some y → ((x : OldWeak) → slice_get list i ≡ Some x → IsBefore y.weak x.weak) →
+      IsMerging (all ++ y ∷ []) (drop i list ++ drop (j + 1) fresh) whole
   takes_new all whole i j y m e before =
       let xs : List OldWeak = drop i list in
       let ys : List OldWeak = drop (j + 1) fresh in
@@ -132,11 +141,14 @@ module _ (list fresh : List OldWeak) (old : IsInOrder (names_of list)) (new : Is
       ])
 
 -- of two names that differ the one that isn't before the other comes after it
-pub new_before : (list fresh : List OldWeak) → ((one other : OldWeak) → Contains fresh one → Contains list other → other.weak ≢ one.weak) → (i j : ℕ) (x y : OldWeak) → slice_get list i ≡ Some x → slice_get fresh j ≡ Some y → (IsBefore x.weak y.weak → ⊥) → IsBefore y.weak x.weak
+pub new_before : (list fresh : List OldWeak) → ((one other : OldWeak) → Contains fresh one → Contains list other → other.weak ≢ one.weak) →
+    (i j : ℕ) (x y : OldWeak) → slice_get list i ≡ Some x → slice_get fresh j ≡ Some y → (IsBefore x.weak y.weak → ⊥) → IsBefore y.weak x.weak
 new_before list fresh apart i j x y e f not_ = before_or x.weak y.weak (apart y x (contains_at fresh j y f) (contains_at list i x e)) not_
 
 -- once both are used up, all is there in order
-pub all_merged : (all list fresh : List OldWeak) (i j : ℕ) → length list ≤ i → length fresh ≤ j → IsMerging all (drop i list ++ drop j fresh) (list ++ fresh) → IsInOrder (names_of all) × ((x : OldWeak) → Contains all x ↔ (Contains list x ⊎ Contains fresh x))
+pub all_merged : (all list fresh : List OldWeak) (i j : ℕ) → length list ≤ i → length fresh ≤ j →
+    IsMerging all (drop i list ++ drop j fresh) (list ++ fresh) → IsInOrder (names_of all) ×
+    ((x : OldWeak) → Contains all x ↔ (Contains list x ⊎ Contains fresh x))
 all_merged all list fresh i j le more m =
     let none : drop i list ++ drop j fresh ≡ [] = ap (λ (l : List OldWeak). l ++ drop j fresh) (drop_all i list le) ∙ drop_all j fresh more in (
       m.ordered,

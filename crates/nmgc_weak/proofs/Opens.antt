@@ -98,13 +98,15 @@ module _ (s : State) (f : Facts s) (added : Name) (there : IsSome (node_of s.sna
   opened_facts = record {
     base = mark_base wider added wider_base (λ t. further added (Contains-push s.opened added) t);
     roots = λ name r. still_marked wider added name (f.roots name (of_snapshot (λ w. IsRoot w name) r));
-    kept = λ name i target h. kept_then wider added name i target (kept_wider name i target (f.kept name i target (of_snapshot (λ w. HasStrongField w name i (value.Ref target)) h)));
+    kept = λ name i target h. kept_then wider added name i target (kept_wider name i target (f.kept name i target (of_snapshot (λ w.
+        HasStrongField w name i (value.Ref target)) h)));
     opened = λ name c t. elim (Contains-push_cases s.opened added name (opened_is name c)) [
       | inl old ↦ safe_then name (f.opened name old (of_snapshot (λ w. IsSome (node_of w name)) t))
       | inr same ↦ subst (λ (n : Name). IsSafe (mark_name wider added) n) same is_marked
     ];
     ended = λ weak c t. safe_then weak (f.ended weak (finalised_is weak c) (of_snapshot (λ w. IsSome (node_of w weak)) t));
-    finalised = λ weak target parts c alive kept. safe_then target (f.finalised weak target parts (finalised_is weak c) (of_snapshot (λ w. IsAlive w weak parts) alive) kept);
+    finalised = λ weak target parts c alive kept. safe_then target (f.finalised weak target parts (finalised_is weak c) (of_snapshot (λ w.
+        IsAlive w weak parts) alive) kept);
   }
     where
       opened_is : (name : Name) → Contains (mark_name wider added).opened name → Contains (s.opened ++ added ∷ []) name

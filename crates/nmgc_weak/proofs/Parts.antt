@@ -32,7 +32,8 @@ ref_in value.Nil = None
 ref_in (value.Number n) = None
 ref_in (value.Ref name) = Some name
 
-some_at : (places : List Place) (at : ℕ) (name : Name) → Contains places (record { at = at; name = name }) → (n : Name) × (name_at places at ≡ Some n) × Contains places (record { at = at; name = n })
+some_at : (places : List Place) (at : ℕ) (name : Name) → Contains places (record { at = at; name = name }) → (n : Name) ×
+    (name_at places at ≡ Some n) × Contains places (record { at = at; name = n })
 some_at [] at name c = absurd (let lt = c.1 in omega arith)
 some_at (p ∷ ps) at name c = elim (eqb_tells p.at at) [
   | inl e ↦ (p.name, rw e.0 refl, subst (λ (a : ℕ). Contains (p ∷ ps) (record { at = a; name = p.name })) e.1 (contains_head p ps))
@@ -43,7 +44,8 @@ some_at (p ∷ ps) at name c = elim (eqb_tells p.at at) [
 ]
 
 -- the name at a place, where places are apart
-pub named_at : (o : Opening) (at : ℕ) (name : Name) → AreApart o.layout o.places → Contains o.places (record { at = at; name = name }) → name_at o.places at ≡ Some name
+pub named_at : (o : Opening) (at : ℕ) (name : Name) → AreApart o.layout o.places → Contains o.places (record { at = at; name = name }) →
+    name_at o.places at ≡ Some name
 named_at o at name h c =
     let r = some_at o.places at name c in
     let same = h.one (record { at = at; name = r.0 }) (record { at = at; name = name }) r.2 c (inr refl) in
@@ -75,15 +77,18 @@ pub record HasParts (o : Opening) (words : List ℕ) (at : ℕ) (parts : Parts) 
 pub wide_tracked : (o : Opening) (name : Name) → IsWide o.core.world name → IsTracked o.core.world (earlier o) name
 wide_tracked o name wide = IsReached.start name (o.core.world, contains_head o.core.world (earlier o), wide)
 
-pub of_weak_tracked : (o : Opening) (weak target : Name) (parts : Parts) → IsAlive o.core.world weak parts → IsOfWeak weak parts target → IsTracked o.core.world (earlier o) target
+pub of_weak_tracked : (o : Opening) (weak target : Name) (parts : Parts) → IsAlive o.core.world weak parts → IsOfWeak weak parts target →
+    IsTracked o.core.world (earlier o) target
 of_weak_tracked o weak target parts alive of = wide_tracked o target (IsReached.start target (inr (weak, parts, alive, of)))
 
-pub has_parts : (o : Opening) (words : List ℕ) (at : ℕ) (weak : Name) (parts : Parts) → CanOpen o words → Contains o.places (record { at = at; name = weak }) → IsAlive o.core.world weak parts → HasParts o words at parts
+pub has_parts : (o : Opening) (words : List ℕ) (at : ℕ) (weak : Name) (parts : Parts) → CanOpen o words →
+    Contains o.places (record { at = at; name = weak }) → IsAlive o.core.world weak parts → HasParts o words at parts
 has_parts o words at weak parts h c alive =
     let placed = h.represents.tracked weak (Weak (Some parts)) (of_weak_tracked o weak weak parts alive (inl refl)) alive in
     let same = h.represents.one (record { at = placed.at; name = weak }) (record { at = at; name = weak }) placed.there c (inl refl) in
     let at_is : placed.at ≡ at = ap (λ (p : Place). p.at) same in
-    let field : (i : ℕ) (v : Value) (k : ℕ) → slice_get (slots_of (Weak (Some parts))) i ≡ Some (holds v) → placed.at + HEADER_WORDS + i ≡ k → Means (Contains o.places) (slice_index words k) v
+    let field : (i : ℕ) (v : Value) (k : ℕ) → slice_get (slots_of (Weak (Some parts))) i ≡ Some (holds v) → placed.at + HEADER_WORDS + i ≡ k →
+    Means (Contains o.places) (slice_index words k) v
     = λ i v k e is. subst (λ (j : ℕ). Means (Contains o.places) (slice_index words j) v) is (placed.fields i (holds v) e) in
     record {
       key = field 0 parts.key (key_place at) refl (omega arith);
@@ -92,7 +97,8 @@ has_parts o words at weak parts h c alive =
     }
 
 -- a tracked name of the snapshot may be queued
-pub may_queue : (o : Opening) (words : List ℕ) (target : Name) → o.marking ≡ true → CanOpen o words → AreEarlier (earlier o) o.core.world → IsTracked o.core.world (earlier o) target → IsSome (node_of o.core.snapshot target) → IsQueued o (entry_of target)
+pub may_queue : (o : Opening) (words : List ℕ) (target : Name) → o.marking ≡ true → CanOpen o words → AreEarlier (earlier o) o.core.world →
+    IsTracked o.core.world (earlier o) target → IsSome (node_of o.core.snapshot target) → IsQueued o (entry_of target)
 may_queue o words target marking h spoken tracked there =
     let e : earlier o ≡ o.core.snapshot ∷ [] = rw marking refl in
     let was = spoken o.core.snapshot (subst (λ (l : List World). Contains l o.core.snapshot) (sym e) (contains_head o.core.snapshot [])) in

@@ -52,25 +52,34 @@ pub waiting_on : (o p : Opening) → MarksOn o p → (weak : Name) (parts : Part
 waiting_on o p m weak parts h =
     let back : o.core.snapshot ≡ p.core.snapshot = sym (ap (λ (x : Opening). x.core.snapshot) m.rest) in
     let fin : o.core.finalised ≡ p.core.finalised = sym (ap (λ (x : Opening). x.core.finalised) m.rest) in
-    record { alive = subst (λ w. IsAlive w weak parts) back h.alive; not_finalised = λ c. h.not_finalised (subst (λ (l : List Name). Contains l weak) (sym fin) c) }
+    record {
+      alive = subst (λ w. IsAlive w weak parts) back h.alive;
+      not_finalised = λ c. h.not_finalised (subst (λ (l : List Name). Contains l weak) (sym fin) c);
+    }
 
 pub waiting_back : (o p : Opening) → MarksOn o p → (weak : Name) (parts : Parts) → IsWaiting p.core weak parts → IsWaiting o.core weak parts
 waiting_back o p m weak parts h =
     let back : p.core.snapshot ≡ o.core.snapshot = ap (λ (x : Opening). x.core.snapshot) m.rest in
     let fin : p.core.finalised ≡ o.core.finalised = ap (λ (x : Opening). x.core.finalised) m.rest in
-    record { alive = subst (λ w. IsAlive w weak parts) back h.alive; not_finalised = λ c. h.not_finalised (subst (λ (l : List Name). Contains l weak) (sym fin) c) }
+    record {
+      alive = subst (λ w. IsAlive w weak parts) back h.alive;
+      not_finalised = λ c. h.not_finalised (subst (λ (l : List Name). Contains l weak) (sym fin) c);
+    }
 
 alive_on : (o p : Opening) → MarksOn o p → (weak : Name) (parts : Parts) → IsAlive o.core.world weak parts → IsAlive p.core.world weak parts
 alive_on o p m weak parts h = subst (λ w. IsAlive w weak parts) (sym (ap (λ (x : Opening). x.core.world) m.rest)) h
 
-pub then_goes : (o p q : Opening) (words : List ℕ) (s t : Segments) (k l : MarkerSeen) (weaks : List Place) → GoesTo o p words s k weaks → GoesTo p q words t l weaks → GoesTo o q words t l weaks
+pub then_goes : (o p q : Opening) (words : List ℕ) (s t : Segments) (k l : MarkerSeen) (weaks : List Place) → GoesTo o p words s k weaks →
+    GoesTo p q words t l weaks → GoesTo o q words t l weaks
 then_goes o p q words s t k l weaks a b = record { later = then_marks o p q a.later b.later; can = b.can }
 
 pub stays : (o : Opening) (words : List ℕ) (s : Segments) (k : MarkerSeen) (weaks : List Place) → CanResolve o words s k weaks → GoesTo o o words s k weaks
 stays o words s k weaks h = record { later = same_marks o; can = h }
 
 -- one weak pointer of the snapshot whose key's word tells that the key is marked
-pub can_keep : (o : Opening) (words : List ℕ) (s : Segments) (k : MarkerSeen) (weaks : List Place) (weak : OldWeak) → CanResolve o words s k weaks → Contains weaks (place_of weak) → IsEpoch k.epoch → IsSnapshotAt s weak.at.0 → IsKeyMarkedWord s k.epoch (slice_index words (key_place weak.at.0)) → CanKeep o words s k weaks weak.at.0 weak.weak
+pub can_keep : (o : Opening) (words : List ℕ) (s : Segments) (k : MarkerSeen) (weaks : List Place) (weak : OldWeak) → CanResolve o words s k weaks →
+    Contains weaks (place_of weak) → IsEpoch k.epoch → IsSnapshotAt s weak.at.0 →
+    IsKeyMarkedWord s k.epoch (slice_index words (key_place weak.at.0)) → CanKeep o words s k weaks weak.at.0 weak.weak
 can_keep o words s k weaks weak h c epoch snap shown = record {
   can = h;
   listed = c;
@@ -79,7 +88,8 @@ can_keep o words s k weaks weak h c epoch snap shown = record {
 }
 
 -- it has kept its parts
-pub one_kept : (o : Opening) (words : List ℕ) (t : Segments) (l : MarkerSeen) (weaks : List Place) (weak : Name) (s : Segments) (k : MarkerSeen) → CanResolve o words s k weaks → HasKept o words t l weaks weak → HasPassed o words t l weaks (weak ∷ [])
+pub one_kept : (o : Opening) (words : List ℕ) (t : Segments) (l : MarkerSeen) (weaks : List Place) (weak : Name) (s : Segments) (k : MarkerSeen) →
+    CanResolve o words s k weaks → HasKept o words t l weaks weak → HasPassed o words t l weaks (weak ∷ [])
 one_kept o words t l weaks weak s k can h = record {
   next = h.next;
   goes = h.goes;
@@ -90,7 +100,10 @@ one_kept o words t l weaks weak s k can h = record {
 }
 
 -- one that isn't of the snapshot, or is lost, keeps nothing
-pub none_kept : (o : Opening) (words : List ℕ) (s : Segments) (k : MarkerSeen) (weaks : List Place) (weak : OldWeak) → CanResolve o words s k weaks → Contains weaks (place_of weak) → (IsEpoch k.epoch × IsLostAt s k.epoch weak.at.0 (slice_index words (key_place weak.at.0))) ⊎ (IsSnapshotAt s weak.at.0 → ⊥) → HasPassed o words s k weaks (weak.weak ∷ [])
+pub none_kept : (o : Opening) (words : List ℕ) (s : Segments) (k : MarkerSeen) (weaks : List Place) (weak : OldWeak) →
+    CanResolve o words s k weaks → Contains weaks (place_of weak) →
+    (IsEpoch k.epoch × IsLostAt s k.epoch weak.at.0 (slice_index words (key_place weak.at.0))) ⊎ (IsSnapshotAt s weak.at.0 → ⊥) →
+    HasPassed o words s k weaks (weak.weak ∷ [])
 none_kept o words s k weaks weak h c why = record {
   next = o;
   goes = stays o words s k weaks h;
@@ -117,21 +130,30 @@ none_kept o words s k weaks weak h c why = record {
     ]
 
 -- one after another
-pub pass_more : (o : Opening) (words : List ℕ) (s t : Segments) (k l : MarkerSeen) (weaks : List Place) (passed : List Name) (weak : Name) → (p : HasPassed o words s k weaks passed) → HasPassed p.next words t l weaks (weak ∷ []) → HasPassed o words t l weaks (passed ++ weak ∷ [])
+pub pass_more : (o : Opening) (words : List ℕ) (s t : Segments) (k l : MarkerSeen) (weaks : List Place) (passed : List Name) (weak : Name) →
+    (p : HasPassed o words s k weaks passed) → HasPassed p.next words t l weaks (weak ∷ []) → HasPassed o words t l weaks (passed ++ weak ∷ [])
 pass_more o words s t k l weaks passed weak p q = record {
   next = q.next;
   goes = then_goes o p.next q.next words s t k l weaks p.goes q.goes;
   kept = λ name target parts c waiting shown kept. elim (Contains-push_cases passed weak name c) [
     | inl old ↦ still_marked p.next q.next q.goes.later target (p.kept name target parts old waiting shown kept)
-    | inr same ↦ q.kept name target parts (subst (λ (n : Name). Contains (weak ∷ []) n) same (contains_head weak [])) (waiting_on o p.next p.goes.later name parts waiting) (still_shown o p.next p.goes.later parts.key shown) kept
+    | inr same ↦ q.kept name target parts (subst (λ (n : Name).
+        Contains (weak ∷ []) n) same (contains_head weak [])) (waiting_on o p.next p.goes.later name parts waiting)
+        (still_shown o p.next p.goes.later parts.key shown) kept
   ];
 }
 
-pub pass_none : (o : Opening) (words : List ℕ) (s : Segments) (k : MarkerSeen) (weaks : List Place) → CanResolve o words s k weaks → HasPassed o words s k weaks []
-pass_none o words s k weaks h = record { next = o; goes = stays o words s k weaks h; kept = λ name target parts c waiting shown kept. absurd (omega (arith, c.1)) }
+pub pass_none : (o : Opening) (words : List ℕ) (s : Segments) (k : MarkerSeen) (weaks : List Place) → CanResolve o words s k weaks →
+    HasPassed o words s k weaks []
+pass_none o words s k weaks h = record {
+  next = o;
+  goes = stays o words s k weaks h;
+  kept = λ name target parts c waiting shown kept. absurd (omega (arith, c.1));
+}
 
 -- the names of one more
-pub names_more : (list : List OldWeak) (i : ℕ) (d : OldWeak) → i < length list → names_of (take (i + 1) list) ≡ names_of (take i list) ++ (get_or list i d).weak ∷ []
+pub names_more : (list : List OldWeak) (i : ℕ) (d : OldWeak) → i < length list →
+    names_of (take (i + 1) list) ≡ names_of (take i list) ++ (get_or list i d).weak ∷ []
 names_more [] i d lt = absurd (omega arith)
 names_more (x ∷ xs) zero d lt = refl
 names_more (x ∷ xs) (suc i) d lt =
@@ -143,7 +165,8 @@ no_more : {A : Type 0} (xs ys : List A) → length (xs ++ ys) ≡ length xs → 
 no_more xs [] e = refl
 no_more xs (y ∷ ys) e = let l = length-append xs (y ∷ ys) in absurd (omega arith)
 
-pub saturated : (o : Opening) (words : List ℕ) (s t : Segments) (k l : MarkerSeen) (list : List OldWeak) → CanResolve o words s k (places_of list) → l.marked ≡ k.marked → HasPassed o words t l (places_of list) (names_of list) → HasRevived o words t l (places_of list)
+pub saturated : (o : Opening) (words : List ℕ) (s t : Segments) (k l : MarkerSeen) (list : List OldWeak) → CanResolve o words s k (places_of list) →
+    l.marked ≡ k.marked → HasPassed o words t l (places_of list) (names_of list) → HasRevived o words t l (places_of list)
 saturated o words s t k l list h count p =
     let n : Opening = p.next in
     let a = h.ready.tied.count in
@@ -162,5 +185,6 @@ saturated o words s t k l list h count p =
     }
 
 -- from one round of passes to the next
-pub revived_then : (o p : Opening) (words : List ℕ) (s t : Segments) (k l : MarkerSeen) (weaks : List Place) → GoesTo o p words s k weaks → HasRevived p words t l weaks → HasRevived o words t l weaks
+pub revived_then : (o p : Opening) (words : List ℕ) (s t : Segments) (k l : MarkerSeen) (weaks : List Place) → GoesTo o p words s k weaks →
+    HasRevived p words t l weaks → HasRevived o words t l weaks
 revived_then o p words s t k l weaks a b = record { next = b.next; goes = then_goes o p b.next words s t k l weaks a b.goes; saturated = b.saturated }

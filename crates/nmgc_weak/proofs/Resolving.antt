@@ -50,7 +50,8 @@ lies_within layout p size pos (inr (ne, inr nursery)) =
     omega arith
 
 -- a pointer is no larger than a place may be
-small_word : (o : Opening) (words : List ℕ) (s : Segments) (k : MarkerSeen) (weaks : List Place) (w : ℕ) (v : Value) → CanResolve o words s k weaks → Means (Contains o.places) w v → (to : ℕ) → w ≡ 2 * to → to < 2 ^ 32
+small_word : (o : Opening) (words : List ℕ) (s : Segments) (k : MarkerSeen) (weaks : List Place) (w : ℕ) (v : Value) →
+    CanResolve o words s k weaks → Means (Contains o.places) w v → (to : ℕ) → w ≡ 2 * to → to < 2 ^ 32
 small_word o words s k weaks w value.Nil h m to e = absurd (omega arith)
 small_word o words s k weaks w (value.Number n) h m to e = absurd (omega arith)
 small_word o words s k weaks w (value.Ref name) h m to e =
@@ -60,7 +61,8 @@ small_word o words s k weaks w (value.Ref name) h m to e =
     let heap = l.heap in
     omega arith
 
-pub can_within : (o : Opening) (words : List ℕ) (s : Segments) (k : MarkerSeen) (list : List OldWeak) → CanResolve o words s k (places_of list) → AreWithin words list
+pub can_within : (o : Opening) (words : List ℕ) (s : Segments) (k : MarkerSeen) (list : List OldWeak) → CanResolve o words s k (places_of list) →
+    AreWithin words list
 can_within o words s k list h x c =
     let l = h.listed.sound (place_of x) (has_place list x c) in
     let parts : Parts = l.1.0 in
@@ -74,7 +76,8 @@ can_within o words s k list h x c =
     record { inside = omega arith; small = small has }
   where
     at_place : (i j : ℕ) (v : Value) → i ≡ j → Means (Contains o.places) (slice_index words i) v → (to : ℕ) → slice_index words j ≡ 2 * to → to < 2 ^ 32
-    at_place i j v e m to f = small_word o words s k (places_of list) (slice_index words j) v h (subst (λ (n : ℕ). Means (Contains o.places) (slice_index words n) v) e m) to f
+    at_place i j v e m to f = small_word o words s k (places_of list) (slice_index words j) v h (subst (λ (n : ℕ).
+        Means (Contains o.places) (slice_index words n) v) e m) to f
 
     small : {parts : Parts} → HasParts o words x.at.0 parts → (i to : ℕ) → i < 3 → slice_index words (x.at.0 + HEADER_WORDS + i) ≡ 2 * to → to < 2 ^ 32
     small {parts} m zero to lt e = at_place (x.at.0 + 2) (x.at.0 + HEADER_WORDS + 0) parts.key (omega arith) m.key to e
@@ -101,7 +104,8 @@ death_names words [] = refl
 death_names words (x ∷ xs) = ap (λ (l : List Name). x.weak ∷ l) (death_names words xs)
 
 -- the lost ones are of the list, and lose their values
-pub lost_values : (o : Opening) (words now : List ℕ) (list dying : List OldWeak) (deaths : List Death) → AreLost o (places_of list) dying → deaths ≡ deaths_of words dying → now ≡ without_values words dying → HaveLostValues list deaths words now
+pub lost_values : (o : Opening) (words now : List ℕ) (list dying : List OldWeak) (deaths : List Death) → AreLost o (places_of list) dying →
+    deaths ≡ deaths_of words dying → now ≡ without_values words dying → HaveLostValues list deaths words now
 lost_values o words now list dying deaths l d e = record {
   dying = dying;
   listed = λ x c. at_place list x (l.sound (place_of x) (has_place dying x c)).0;
@@ -114,7 +118,9 @@ abbrev marking : Opening → List Name → Opening
 marking o marked = record o { core = record o.core { marked = marked } }
 
 -- a closing from more marks is one from fewer, where both could close: what is live and kept is the same
-closing_back : (o : Opening) (m : List Name) (words : List ℕ) (s t : Segments) (k l : MarkerSeen) (weaks : List Place) → CanResolve o words s k weaks → CanResolve (marking o m) words t l weaks → (next : State) → (c : IsClosing (marking o m).core next) → (d : IsClosing o.core next) × (d.dead ≡ c.dead)
+closing_back : (o : Opening) (m : List Name) (words : List ℕ) (s t : Segments) (k l : MarkerSeen) (weaks : List Place) →
+    CanResolve o words s k weaks → CanResolve (marking o m) words t l weaks → (next : State) → (c : IsClosing (marking o m).core next) →
+    (d : IsClosing o.core next) × (d.dead ≡ c.dead)
 closing_back o m words s t k l weaks h g next c =
     let lists = closed_dead (marking o m).core g.facts g.can_close.1 g.can_close.2 g.can_close.3 next c in
     let kept = closed_kept (marking o m).core g.facts g.can_close.1 g.can_close.2 g.can_close.3 next c in
@@ -123,7 +129,8 @@ closing_back o m words s t k l weaks h g next c =
     subst (λ (x : State). (y : IsClosing o.core x) × (y.dead ≡ c.dead)) same d
 
 -- the deaths of the dead
-deaths_told : (o : Opening) (words : List ℕ) (s : Segments) (k : MarkerSeen) (list dying : List OldWeak) → CanResolve o words s k (places_of list) → ((x : OldWeak) → Contains dying x → Contains (places_of list) (place_of x)) → AreDeaths o (names_of dying) (deaths_of words dying)
+deaths_told : (o : Opening) (words : List ℕ) (s : Segments) (k : MarkerSeen) (list dying : List OldWeak) → CanResolve o words s k (places_of list) →
+    ((x : OldWeak) → Contains dying x → Contains (places_of list) (place_of x)) → AreDeaths o (names_of dying) (deaths_of words dying)
 deaths_told o words s k list [] h sub = tt
 deaths_told o words s k list (x ∷ xs) h sub =
     let l = h.listed.sound (place_of x) (sub x (contains_head x xs)) in
@@ -133,21 +140,26 @@ deaths_told o words s k list (x ∷ xs) h sub =
 -- all steps
 module _ (o : Opening) (words : List ℕ) (s t u : Segments) (k l n : MarkerSeen) (list dying : List OldWeak) (h : CanResolve o words s k (places_of list)) where
   -- from the marks of the revived on
-  from_marks : (m : List Name) → CanResolve (marking o m) words t l (places_of list) → AreLost (marking o m) (places_of list) dying → HasRescued (marking o m) u n dying → HasResolved o (without_values words dying) u n (alive_of (without_values words dying) list) (deaths_of words dying)
+  from_marks : (m : List Name) → CanResolve (marking o m) words t l (places_of list) → AreLost (marking o m) (places_of list) dying →
+      HasRescued (marking o m) u n dying → HasResolved o (without_values words dying) u n (alive_of (without_values words dying) list) (deaths_of words dying)
   from_marks m g lost saved =
       let c = closing_back o m words s t k l (places_of list) h g saved.next saved.closing in
       let dead : c.0.dead ≡ names_of dying = c.1 ∙ saved.dead in
-      let world : saved.next.world ≡ closed o.core.world (names_of dying) = ap (λ (x : State). x.world) c.0.rest ∙ ap (λ (x : List Name). closed o.core.world x) dead in
+      let world : saved.next.world ≡ closed o.core.world (names_of dying) = ap (λ (x : State). x.world) c.0.rest ∙
+      ap (λ (x : List Name). closed o.core.world x) dead in
       let opens = h.ready.opens in
-      let alive : AreAlive o.places o.core.world dying = λ x d. let y = h.listed.sound (place_of x) (lost.sound (place_of x) (has_place dying x d)).0 in (y.0, y.1) in
+      let alive : AreAlive o.places o.core.world dying = λ x d.
+      let y = h.listed.sound (place_of x) (lost.sound (place_of x) (has_place dying x d)).0 in (y.0, y.1) in
       let repr = all_die o.layout (earlier o) o.places o.core.world words dying opens.world h.earlier_are lost.ordered alive opens.represents in
-      let lists = lists_closed o.layout (earlier o) o.places o.core.world words list dying opens.world h.earlier_are h.listed lost.ordered alive opens.represents in
+      let lists = lists_closed o.layout (earlier o) o.places o.core.world words list dying opens.world h.earlier_are h.listed lost.ordered alive
+      opens.represents in
       record {
         next = saved.next;
         closing = c.0;
         once = saved.once;
         tied = tied_back m (marks_of saved.next) saved.tied;
-        deaths_are = subst (λ (x : List Name). AreDeaths o x (deaths_of words dying)) (sym dead) (deaths_told o words s k list dying h (λ x d. (lost.sound (place_of x) (has_place dying x d)).0));
+        deaths_are = subst (λ (x : List Name). AreDeaths o x (deaths_of words dying)) (sym dead) (deaths_told o words s k list dying h (λ x d.
+            (lost.sound (place_of x) (has_place dying x d)).0));
         represents = subst (λ (w : World). Represents o.layout (earlier o) NoNode o.places w (without_values words dying)) (sym world) repr;
         listed = subst (λ (w : World). ListsWeaks o.layout o.places w (places_of (alive_of (without_values words dying) list))) (sym world) lists;
       }
@@ -161,7 +173,9 @@ module _ (o : Opening) (words : List ℕ) (s t u : Segments) (k l n : MarkerSeen
         count = x.count;
       }
 
-  pub resolved : (p : Opening) → MarksOn o p → CanResolve p words t l (places_of list) → AreLost p (places_of list) dying → HasRescued p u n dying → HasResolved o (without_values words dying) u n (alive_of (without_values words dying) list) (deaths_of words dying)
+  pub resolved : (p : Opening) → MarksOn o p → CanResolve p words t l (places_of list) → AreLost p (places_of list) dying → HasRescued p u n dying →
+      HasResolved o (without_values words dying) u n (alive_of (without_values words dying) list) (deaths_of words dying)
   resolved p on =
-      let P : Opening → Type 0 = λ x. CanResolve x words t l (places_of list) → AreLost x (places_of list) dying → HasRescued x u n dying → HasResolved o (without_values words dying) u n (alive_of (without_values words dying) list) (deaths_of words dying) in
+      let P : Opening → Type 0 = λ x. CanResolve x words t l (places_of list) → AreLost x (places_of list) dying → HasRescued x u n dying →
+      HasResolved o (without_values words dying) u n (alive_of (without_values words dying) list) (deaths_of words dying) in
       subst P (sym on.rest) (from_marks p.core.marked)

@@ -33,12 +33,14 @@ pub count_cons : {A : Type 0} (f : A → Bool) (x : A) (xs : List A) → count_b
 count_cons f x xs = sum_by-cons (λ y. cond (f y) 1 0) x xs ∙ ap (λ (n : ℕ). n + count_by f xs) (sym (one_same (f x)))
 
 -- of names in order, a part has no more that pass a test
-pub part_counts : (f : Name → Bool) (xs ys : List Name) → IsInOrder xs → IsInOrder ys → ((n : Name) → Contains xs n → Contains ys n) → count_by f xs ≤ count_by f ys
+pub part_counts : (f : Name → Bool) (xs ys : List Name) → IsInOrder xs → IsInOrder ys → ((n : Name) → Contains xs n → Contains ys n) →
+    count_by f xs ≤ count_by f ys
 part_counts f [] ys o p sub = omega arith
 part_counts f (x ∷ xs) [] o p sub = absurd (let c = sub x (contains_head x xs) in omega (arith, c.1))
 part_counts f (x ∷ xs) (y ∷ ys) o p sub = elim (name_cases x y) [
   | inl same ↦
-      let rest : count_by f xs ≤ count_by f ys = part_counts f xs ys (in_order_rest x xs o) (in_order_rest y ys p) (λ n c. elim (contains_cases y ys n (sub n (contains_tail x xs n c))) [
+      let rest : count_by f xs ≤ count_by f ys = part_counts f xs ys (in_order_rest x xs o) (in_order_rest y ys p) (λ n c.
+      elim (contains_cases y ys n (sub n (contains_tail x xs n c))) [
         | inl e ↦ absurd (not_before_itself x (subst (λ (m : Name). IsBefore x m) (sym e ∙ sym same) (in_order_first x xs o n c)))
         | inr d ↦ d
       ]) in
@@ -65,13 +67,15 @@ part_counts f (x ∷ xs) (y ∷ ys) o p sub = elim (name_cases x y) [
 -- a count over places is one over their names
 names_count : (g : Name → Bool) (weaks : List Place) → count_by g (map (λ (p : Place). p.name) weaks) ≡ count_by (λ (p : Place). g p.name) weaks
 names_count g [] = refl
-names_count g (p ∷ ps) = count_cons g p.name (map (λ (q : Place). q.name) ps) ∙ ap (λ (n : ℕ). one_if (g p.name) + n) (names_count g ps) ∙ sym (count_cons (λ (q : Place). g q.name) p ps)
+names_count g (p ∷ ps) = count_cons g p.name (map (λ (q : Place). q.name) ps) ∙ ap (λ (n : ℕ). one_if (g p.name) + n) (names_count g ps) ∙
+    sym (count_cons (λ (q : Place). g q.name) p ps)
 
 -- the test of a queue
 abbrev of_queue : World → ℕ → Name → Bool
 of_queue snapshot m n = (n.maker == m) && is_some (node_of snapshot n)
 
-one_counts : (snapshot : World) (m : ℕ) (d : Name) (x : Death) → x.weak ≡ d → is_some (node_of snapshot d) ≡ true → length (one_of m x) ≤ one_if (of_queue snapshot m d)
+one_counts : (snapshot : World) (m : ℕ) (d : Name) (x : Death) → x.weak ≡ d → is_some (node_of snapshot d) ≡ true →
+    length (one_of m x) ≤ one_if (of_queue snapshot m d)
 one_counts snapshot m d x same there = elim (eqb_tells x.weak.maker m) [
   | inl a ↦
       let k : eqb d.maker m ≡ true = subst (λ (n : Name). eqb n.maker m ≡ true) same a.0 in
@@ -87,7 +91,8 @@ one_counts snapshot m d x same there = elim (eqb_tells x.weak.maker m) [
     at_most true x = omega arith
     at_most false x = omega arith
 
-joined_counts : (o : Opening) (m : ℕ) (dead : List Name) (deaths : List Death) → AreDeaths o dead deaths → ((n : Name) → Contains dead n → is_some (node_of o.core.snapshot n) ≡ true) → length (joined m deaths) ≤ count_by (of_queue o.core.snapshot m) dead
+joined_counts : (o : Opening) (m : ℕ) (dead : List Name) (deaths : List Death) → AreDeaths o dead deaths →
+    ((n : Name) → Contains dead n → is_some (node_of o.core.snapshot n) ≡ true) → length (joined m deaths) ≤ count_by (of_queue o.core.snapshot m) dead
 joined_counts o m [] [] h there = omega arith
 joined_counts o m [] (x ∷ xs) h there = absurd h
 joined_counts o m (d ∷ ds) [] h there = absurd h
@@ -98,12 +103,14 @@ joined_counts o m (d ∷ ds) (x ∷ xs) h there =
     omega (arith, rest, one, all, count_cons (of_queue o.core.snapshot m) d ds)
 
 -- the maker of each is a mutator
-makers_there : (o : Opening) (dead : List Name) (deaths : List Death) → ((n : Name) → Contains dead n → n.maker < length o.core.world.mutators) → AreDeaths o dead deaths → (x : Death) → Contains deaths x → x.weak.maker < length o.core.world.mutators
+makers_there : (o : Opening) (dead : List Name) (deaths : List Death) → ((n : Name) → Contains dead n → n.maker < length o.core.world.mutators) →
+    AreDeaths o dead deaths → (x : Death) → Contains deaths x → x.weak.maker < length o.core.world.mutators
 makers_there o [] [] h a x c = absurd (omega (arith, c.1))
 makers_there o [] (y ∷ ys) h a x c = absurd a
 makers_there o (d ∷ ds) [] h a x c = absurd a
 makers_there o (d ∷ ds) (y ∷ ys) h a x c = elim (contains_cases y ys x c) [
-  | inl same ↦ subst (λ (z : Death). z.weak.maker < length o.core.world.mutators) same (subst (λ (n : Name). n.maker < length o.core.world.mutators) (sym a.0.0) (h d (contains_head d ds)))
+  | inl same ↦ subst (λ (z : Death). z.weak.maker < length o.core.world.mutators) same (subst (λ (n : Name).
+      n.maker < length o.core.world.mutators) (sym a.0.0) (h d (contains_head d ds)))
   | inr e ↦ makers_there o ds ys (λ n k. h n (contains_tail d ds n k)) a.1 x e
 ]
 
@@ -117,7 +124,8 @@ place_name (q ∷ qs) p c = elim (contains_cases q qs p c) [
 pub deaths_have_room : DeathsHaveRoom
 deaths_have_room o words before s t marker after weaks list deaths queues can r many spare =
     let dying : (n : Name) → Contains r.closing.dead n → IsDying o.core n = λ n c. r.closing.lists.sound n c in
-    let there : (n : Name) → Contains r.closing.dead n → is_some (node_of o.core.snapshot n) ≡ true = λ n c. ap (λ (x : Option Node). is_some x) (dying n c).waiting.alive in
+    let there : (n : Name) → Contains r.closing.dead n → is_some (node_of o.core.snapshot n) ≡ true = λ n c.
+    ap (λ (x : Option Node). is_some x) (dying n c).waiting.alive in
     let listed : (n : Name) → Contains r.closing.dead n → Contains (map (λ (p : Place). p.name) weaks) n = λ n c.
     let d = dying n c in
     let p = listed_place o before s marker weaks can n d.parts d.waiting in
@@ -129,7 +137,8 @@ deaths_have_room o words before s t marker after weaks list deaths queues can r 
       makers = λ x c. subst (λ (k : ℕ). x.weak.maker < k) (sym many) (makers_there o r.closing.dead deaths maker r.deaths_are x c);
       room = λ m queue e.
           let a = joined_counts o m r.closing.dead deaths r.deaths_are there in
-          let b = part_counts (of_queue o.core.snapshot m) r.closing.dead (map (λ (p : Place). p.name) weaks) r.closing.lists.ordered can.listed.ordered listed in
+          let b = part_counts (of_queue o.core.snapshot m) r.closing.dead (map (λ (p : Place).
+          p.name) weaks) r.closing.lists.ordered can.listed.ordered listed in
           let k = names_count (of_queue o.core.snapshot m) weaks in
           let l = spare m queue e in
           omega (arith, a, b, k, l);

@@ -69,7 +69,8 @@ of_place (x ∷ xs) p c = elim (contains_cases (place_at x) (places_of xs) p c) 
 ]
 
 -- a weak pointer that waits is in the list, since it has its place
-pub listed_place : (o : Opening) (words : List ℕ) (s : Segments) (marker : MarkerSeen) (weaks : List Place) → CanResolve o words s marker weaks → (weak : Name) (parts : Parts) → IsWaiting o.core weak parts → (p : Place) × Contains weaks p × (p.name ≡ weak)
+pub listed_place : (o : Opening) (words : List ℕ) (s : Segments) (marker : MarkerSeen) (weaks : List Place) → CanResolve o words s marker weaks →
+    (weak : Name) (parts : Parts) → IsWaiting o.core weak parts → (p : Place) × Contains weaks p × (p.name ≡ weak)
 listed_place o words s marker weaks h weak parts waiting =
     let alive : IsAlive o.core.world weak parts = h.facts.base.alive weak parts waiting.alive waiting.not_finalised in
     let opens = h.ready.opens in
@@ -94,7 +95,8 @@ listed_place o words s marker weaks h weak parts waiting =
     (p, h.listed.complete p (placed.there, (parts, alive), in_segment), refl)
 
 -- nothing was read of what waits
-fresh : (places : List Place) (ats : List ℕ) (entries : List Entry) → AreQueued places ats entries → (entry : Entry) → Contains entries entry → entry.position ≤ 1
+fresh : (places : List Place) (ats : List ℕ) (entries : List Entry) → AreQueued places ats entries → (entry : Entry) → Contains entries entry →
+    entry.position ≤ 1
 fresh places [] [] q entry c = absurd (omega (arith, c.1))
 fresh places (at ∷ ats) (e ∷ es) q entry c = elim (contains_cases e es entry c) [
   | inl same ↦ subst (λ (x : Entry). x.position ≤ 1) same (let z = q.0.1 in omega arith)
@@ -103,7 +105,8 @@ fresh places (at ∷ ats) (e ∷ es) q entry c = elim (contains_cases e es entry
 fresh places [] (e ∷ es) q entry c = absurd q
 fresh places (at ∷ ats) [] q entry c = absurd q
 
-module _ (o : Opening) (words : List ℕ) (s0 : Segments) (marker0 : MarkerSeen) (weaks : List Place) (dying : List OldWeak) (h : CanRescue o words s0 marker0 weaks dying) where
+module _ (o : Opening) (words : List ℕ) (s0 : Segments) (marker0 : MarkerSeen) (weaks : List Place) (dying : List OldWeak)
+    (h : CanRescue o words s0 marker0 weaks dying) where
   abbrev f : Facts o.core
   f = h.can.facts
 
@@ -116,7 +119,8 @@ module _ (o : Opening) (words : List ℕ) (s0 : Segments) (marker0 : MarkerSeen)
     pub m : Marks
     pub stage : Stage o opened m s marker
     pub sound : (name : Name) → Contains m.marked name → IsKept o.core.snapshot o.core.opened o.core.finalised name
-    pub saved : (j : ℕ) (w : OldWeak) → j < count → slice_get dying j ≡ Some w → (parts : Parts) → IsAlive o.core.world w.weak parts → (target : Name) → parts.finaliser ≡ value.Ref target → Contains m.marked target
+    pub saved : (j : ℕ) (w : OldWeak) → j < count → slice_get dying j ≡ Some w → (parts : Parts) → IsAlive o.core.world w.weak parts →
+        (target : Name) → parts.finaliser ≡ value.Ref target → Contains m.marked target
 
   pub saving_begins : IsSaving s0 marker0 0
   saving_begins = record {
@@ -132,7 +136,9 @@ module _ (o : Opening) (words : List ℕ) (s0 : Segments) (marker0 : MarkerSeen)
   dead_of w c = lost_dead o.core f empty h.can.can_close.2 h.can.can_close.3 h.saturated w.weak (h.lost.sound (place_at w) (has_place dying w c)).1
 
   -- its finaliser is opened and marked
-  open_stage : (s t : Segments) (k l : MarkerSeen) (opened : List Name) (m : Marks) (target : Name) → Stage o opened m s k → IsSome (node_of o.core.snapshot target) → IsQueued o (entry_of target) → IsTied o (with_name o.core.snapshot m (Some target)) t l → Stage o (opened ++ target ∷ []) (with_name o.core.snapshot m (Some target)) t l
+  open_stage : (s t : Segments) (k l : MarkerSeen) (opened : List Name) (m : Marks) (target : Name) → Stage o opened m s k →
+      IsSome (node_of o.core.snapshot target) → IsQueued o (entry_of target) → IsTied o (with_name o.core.snapshot m (Some target)) t l →
+      Stage o (opened ++ target ∷ []) (with_name o.core.snapshot m (Some target)) t l
   open_stage s t k l opened m target st there may tied =
       let core : State = (remade o (opened ++ target ∷ []) m).core in
       let facts : Facts (mark_name core target) = opened_facts (remade o opened m).core st.facts target there in
@@ -148,12 +154,23 @@ module _ (o : Opening) (words : List ℕ) (s0 : Segments) (marker0 : MarkerSeen)
           | inr same ↦ subst (IsQueued o) same may
         ];
       })
-      (λ e g. record { more = st.more; marked = st.marked; tied = g; facts = subst Facts (ap (λ (b : Bool). cond b (with_mark core target) core) e) facts; once = st.once; queued = st.queued })
+      (λ e g. record {
+        more = st.more;
+        marked = st.marked;
+        tied = g;
+        facts = subst Facts (ap (λ (b : Bool). cond b (with_mark core target) core) e) facts;
+        once = st.once;
+        queued = st.queued;
+      })
       tied
 
-  saved_more : (m x : Marks) (count : ℕ) (w : OldWeak) → ((name : Name) → Contains m.marked name → Contains x.marked name) → slice_get dying count ≡ Some w → ((parts : Parts) → IsAlive o.core.world w.weak parts → (target : Name) → parts.finaliser ≡ value.Ref target → Contains x.marked target)
-      → ((j : ℕ) (v : OldWeak) → j < count → slice_get dying j ≡ Some v → (parts : Parts) → IsAlive o.core.world v.weak parts → (target : Name) → parts.finaliser ≡ value.Ref target → Contains m.marked target)
-      → (j : ℕ) (v : OldWeak) → j < count + 1 → slice_get dying j ≡ Some v → (parts : Parts) → IsAlive o.core.world v.weak parts → (target : Name) → parts.finaliser ≡ value.Ref target → Contains x.marked target
+  saved_more : (m x : Marks) (count : ℕ) (w : OldWeak) → ((name : Name) → Contains m.marked name → Contains x.marked name) →
+      slice_get dying count ≡ Some w → ((parts : Parts) → IsAlive o.core.world w.weak parts → (target : Name) → parts.finaliser ≡ value.Ref target →
+      Contains x.marked target)
+      → ((j : ℕ) (v : OldWeak) → j < count → slice_get dying j ≡ Some v → (parts : Parts) → IsAlive o.core.world v.weak parts → (target : Name) →
+      parts.finaliser ≡ value.Ref target → Contains m.marked target)
+      → (j : ℕ) (v : OldWeak) → j < count + 1 → slice_get dying j ≡ Some v → (parts : Parts) → IsAlive o.core.world v.weak parts → (target : Name) →
+      parts.finaliser ≡ value.Ref target → Contains x.marked target
   saved_more m x count w keeps is this before j v lt e parts alive target fin = elim (cases_lt j count) [
     | inl less ↦ keeps target (before j v less e parts alive target fin)
     | inr same ↦
@@ -163,40 +180,52 @@ module _ (o : Opening) (words : List ℕ) (s0 : Segments) (marker0 : MarkerSeen)
         this parts (subst (λ (y : OldWeak). IsAlive o.core.world y.weak parts) eq alive) target fin
   ]
 
-  pub saving_more : (s t : Segments) (k l : MarkerSeen) (count : ℕ) (w : OldWeak) (word : ℕ) → IsSaving s k count → slice_get dying count ≡ Some w → word ≡ slice_index words (finaliser_place w.at.0) → ((m : Marks) → IsTied o m s k → IsTied o (with_name o.core.snapshot m (name_meant o.places word)) t l) → IsSaving t l (count + 1)
+  pub saving_more : (s t : Segments) (k l : MarkerSeen) (count : ℕ) (w : OldWeak) (word : ℕ) → IsSaving s k count → slice_get dying count ≡ Some w →
+      word ≡ slice_index words (finaliser_place w.at.0) → ((m : Marks) → IsTied o m s k →
+      IsTied o (with_name o.core.snapshot m (name_meant o.places word)) t l) → IsSaving t l (count + 1)
   saving_more s t k l count w word b is word_is mark =
       let c : Contains dying w = contains_at dying count w is in
       let dead = dead_of w c in
       let alive : IsAlive o.core.world w.weak dead.parts = f.base.alive w.weak dead.parts dead.alive dead.not_finalised in
       let listed = (h.can.listed.sound (place_at w) (h.lost.sound (place_at w) (has_place dying w c)).0).0 in
-      let means : Means (Contains o.places) word dead.parts.finaliser = subst (λ (x : ℕ). Means (Contains o.places) x dead.parts.finaliser) (sym word_is) (has_parts o words w.at.0 w.weak dead.parts h.can.ready.opens listed alive).finaliser in
-      let tied = subst (λ (x : Option Name). IsTied o (with_name o.core.snapshot b.m x) t l) (meant o word dead.parts.finaliser h.can.ready.tied.snapshot.apart means) (mark b.m b.stage.tied) in
+      let means : Means (Contains o.places) word dead.parts.finaliser =
+      subst (λ (x : ℕ). Means (Contains o.places) x dead.parts.finaliser) (sym word_is)
+      (has_parts o words w.at.0 w.weak dead.parts h.can.ready.opens listed alive).finaliser in
+      let tied = subst (λ (x : Option Name).
+      IsTied o (with_name o.core.snapshot b.m x) t l) (meant o word dead.parts.finaliser h.can.ready.tied.snapshot.apart means) (mark b.m b.stage.tied) in
       by_value dead alive dead.parts.finaliser refl tied
     where
-      only : (dead : IsDead o.core.snapshot o.core.opened o.core.finalised w.weak) → IsAlive o.core.world w.weak dead.parts → (parts : Parts) → IsAlive o.core.world w.weak parts → dead.parts ≡ parts
+      only : (dead : IsDead o.core.snapshot o.core.opened o.core.finalised w.weak) → IsAlive o.core.world w.weak dead.parts → (parts : Parts) →
+          IsAlive o.core.world w.weak parts → dead.parts ≡ parts
       only dead alive parts a = one_parts o.core.world w.weak dead.parts parts alive a
 
-      plain : (dead : IsDead o.core.snapshot o.core.opened o.core.finalised w.weak) → IsAlive o.core.world w.weak dead.parts → ((target : Name) → dead.parts.finaliser ≡ value.Ref target → ⊥) → IsTied o b.m t l → IsSaving t l (count + 1)
+      plain : (dead : IsDead o.core.snapshot o.core.opened o.core.finalised w.weak) → IsAlive o.core.world w.weak dead.parts →
+          ((target : Name) → dead.parts.finaliser ≡ value.Ref target → ⊥) → IsTied o b.m t l → IsSaving t l (count + 1)
       plain dead alive none tied = record {
         opened = b.opened;
         m = b.m;
         stage = stage_mark o b.opened b.m s t k l None b.stage tt tied;
         sound = b.sound;
-        saved = saved_more b.m b.m count w (λ name c. c) is (λ parts a target e. absurd (none target (ap (λ (p : Parts). p.finaliser) (only dead alive parts a) ∙ e))) b.saved;
+        saved = saved_more b.m b.m count w (λ name c. c) is (λ parts a target e.
+            absurd (none target (ap (λ (p : Parts). p.finaliser) (only dead alive parts a) ∙ e))) b.saved;
       }
 
-      by_value : (dead : IsDead o.core.snapshot o.core.opened o.core.finalised w.weak) → IsAlive o.core.world w.weak dead.parts → (v : Value) → dead.parts.finaliser ≡ v → IsTied o (with_name o.core.snapshot b.m (ref_in v)) t l → IsSaving t l (count + 1)
+      by_value : (dead : IsDead o.core.snapshot o.core.opened o.core.finalised w.weak) → IsAlive o.core.world w.weak dead.parts → (v : Value) →
+          dead.parts.finaliser ≡ v → IsTied o (with_name o.core.snapshot b.m (ref_in v)) t l → IsSaving t l (count + 1)
       by_value dead alive value.Nil e tied = plain dead alive (λ target x. let bad : value.Nil ≡ value.Ref target = sym e ∙ x in cc) tied
       by_value dead alive (value.Number n) e tied = plain dead alive (λ target x. let bad : value.Number n ≡ value.Ref target = sym e ∙ x in cc) tied
       by_value dead alive (value.Ref target) e tied =
           let there : IsSome (node_of o.core.snapshot target) = part_there o.core.snapshot f.base.snapshot w.weak target dead.parts dead.alive (inr (inr e)) in
-          let may : IsQueued o (entry_of target) = may_queue o words target h.can.marking h.can.ready.opens h.can.earlier_are (of_weak_tracked o w.weak target dead.parts alive (inr (inr (inr e)))) there in
+          let may : IsQueued o (entry_of target) =
+          may_queue o words target h.can.marking h.can.ready.opens h.can.earlier_are
+          (of_weak_tracked o w.weak target dead.parts alive (inr (inr (inr e)))) there in
           let x : Marks = with_name o.core.snapshot b.m (Some target) in
           record {
             opened = b.opened ++ target ∷ [];
             m = with_name o.core.snapshot b.m (Some target);
             stage = open_stage s t k l b.opened b.m target b.stage there may tied;
-            sound = name_cases (λ y. (name : Name) → Contains y.marked name → IsKept o.core.snapshot o.core.opened o.core.finalised name) o.core.snapshot b.m target
+            sound = name_cases (λ y. (name : Name) → Contains y.marked name →
+                IsKept o.core.snapshot o.core.opened o.core.finalised name) o.core.snapshot b.m target
                 (λ _ name c. elim (Contains-push_cases b.m.marked target name c) [
                   | inl old ↦ b.sound name old
                   | inr same ↦ subst (λ (n : Name). IsKept o.core.snapshot o.core.opened o.core.finalised n) same (IsKept.finaliser w.weak target dead e)
@@ -211,7 +240,8 @@ module _ (o : Opening) (words : List ℕ) (s0 : Segments) (marker0 : MarkerSeen)
           }
 
   -- what strong fields of the world hand on
-  hands_on : (name target : Name) → IsKept o.core.snapshot o.core.opened o.core.finalised name → RefersTo o.core.world name target → IsSome (node_of o.core.snapshot target) → IsKept o.core.snapshot o.core.opened o.core.finalised target
+  hands_on : (name target : Name) → IsKept o.core.snapshot o.core.opened o.core.finalised name → RefersTo o.core.world name target →
+      IsSome (node_of o.core.snapshot target) → IsKept o.core.snapshot o.core.opened o.core.finalised target
   hands_on name target k r there = elim (f.base.fields name target r) [
     | inl may ↦ IsKept.live target (may there)
     | inr old ↦ IsKept.field name target k old
@@ -222,7 +252,9 @@ module _ (o : Opening) (words : List ℕ) (s0 : Segments) (marker0 : MarkerSeen)
       let cc_ = h.can.can_close in
       record {
         ordered = h.lost.ordered;
-        sound = λ name c. let p = name_of_place dying name c in subst (λ (n : Name). IsDead o.core.snapshot o.core.opened o.core.finalised n) p.2 (lost_dead o.core f empty cc_.2 cc_.3 h.saturated p.0.name (h.lost.sound p.0 p.1).1);
+        sound = λ name c. let p = name_of_place dying name c in
+            subst (λ (n : Name). IsDead o.core.snapshot o.core.opened o.core.finalised n) p.2
+            (lost_dead o.core f empty cc_.2 cc_.3 h.saturated p.0.name (h.lost.sound p.0 p.1).1);
         complete = λ name d. listed_dead name d;
       }
     where
@@ -233,16 +265,24 @@ module _ (o : Opening) (words : List ℕ) (s0 : Segments) (marker0 : MarkerSeen)
           let c = h.lost.complete p.0 p.1 (subst (IsLost o.core) (sym p.2) lost) in
           subst (λ (n : Name). Contains (names_of dying) n) p.2 (place_has_name dying p.0 c)
 
-  pub saving_done : (s t : Segments) (k l : MarkerSeen) → IsSaving s k (length dying) → ((p : Opening) → IsReady p words s k → HasFinished p t l) → HasRescued o t l dying
+  pub saving_done : (s t : Segments) (k l : MarkerSeen) → IsSaving s k (length dying) → ((p : Opening) → IsReady p words s k → HasFinished p t l) →
+      HasRescued o t l dying
   saving_done s t k l b fin =
       let ready = stage_ready o b.opened b.m words s k h.can.marking h.can.ready.opens b.stage in
       let x : HasFinished (remade o b.opened b.m) t l = fin (remade o b.opened b.m) ready in
       let end : State = now (remade o b.opened b.m) x.events in
       let done = stage_done o b.opened b.m s t k l h.can.ready.opens.world b.stage x in
-      let clean = clean_from (λ name. IsKept o.core.snapshot o.core.opened o.core.finalised name) o.core.world o.core.snapshot hands_on (remade o b.opened b.m).core refl refl b.sound (queued_clean b) in
-      let ends = scans_clean (λ name. IsKept o.core.snapshot o.core.opened o.core.finalised name) o.core.world o.core.snapshot hands_on (remade o b.opened b.m).core x.events x.scans clean in
+      let clean = clean_from (λ name.
+      IsKept o.core.snapshot o.core.opened o.core.finalised name) o.core.world o.core.snapshot hands_on (remade o b.opened b.m).core refl refl
+      b.sound (queued_clean b) in
+      let ends = scans_clean (λ name.
+      IsKept o.core.snapshot o.core.opened o.core.finalised name) o.core.world o.core.snapshot hands_on (remade o b.opened b.m).core x.events
+      x.scans clean in
       let sound : (name : Name) → Contains end.marked name → IsKept o.core.snapshot o.core.opened o.core.finalised name = λ name c. ends.marked name c in
-      let closing = closes o.core f empty h.can.can_close.2 h.can.can_close.3 (names_of dying) end.marked dead_lists (λ name. (sound name, all_kept b end.marked done name)) in
+      let closing = closes o.core f empty h.can.can_close.2 h.can.can_close.3 (names_of dying) end.marked dead_lists (λ name. (
+        sound name,
+        all_kept b end.marked done name,
+      )) in
       record {
         next = record o.core { world = closed o.core.world (names_of dying); marked = end.marked; is_closed = true };
         closing = closing.0;
@@ -251,10 +291,12 @@ module _ (o : Opening) (words : List ℕ) (s0 : Segments) (marker0 : MarkerSeen)
         tied = subst (λ (q : List Entry). IsTied o (record { marked = end.marked; queue = q }) t l) (sym empty) done.stage.tied;
       }
     where
-      queued_clean : (b : IsSaving s k (length dying)) → (entry : Entry) → Contains b.m.queue entry → IsKept o.core.snapshot o.core.opened o.core.finalised entry.name × (entry.position ≤ 1)
+      queued_clean : (b : IsSaving s k (length dying)) → (entry : Entry) → Contains b.m.queue entry →
+          IsKept o.core.snapshot o.core.opened o.core.finalised entry.name × (entry.position ≤ 1)
       queued_clean b entry c = (b.sound entry.name (b.stage.facts.base.queued entry c), fresh o.places k.queue b.m.queue b.stage.tied.queue entry c)
 
-      all_kept : (b : IsSaving s k (length dying)) (marked : List Name) → IsDone o b.opened b.m t l marked → (name : Name) → IsKept o.core.snapshot o.core.opened o.core.finalised name → Contains marked name
+      all_kept : (b : IsSaving s k (length dying)) (marked : List Name) → IsDone o b.opened b.m t l marked → (name : Name) →
+          IsKept o.core.snapshot o.core.opened o.core.finalised name → Contains marked name
       all_kept b marked done name (IsKept.live n live) =
           let c : Contains o.core.marked n = live_marked o.core f empty h.can.can_close.2 h.can.can_close.3 h.saturated n live in
           subst (λ (x : List Name). Contains x n) (sym done.stage.marked) (Contains-append_left o.core.marked done.stage.more n c)
@@ -267,4 +309,6 @@ module _ (o : Opening) (words : List ℕ) (s0 : Segments) (marker0 : MarkerSeen)
           let alive : IsAlive o.core.world weak dead.parts = f.base.alive weak dead.parts dead.alive dead.not_finalised in
           let same : w.0.weak ≡ weak = ap (λ (q : Place). q.name) w.2 ∙ p.2 in
           done.kept target (b.saved j.0 w.0 lt j.1 dead.parts (subst (λ (n : Name). IsAlive o.core.world n dead.parts) (sym same) alive) target e)
-      all_kept b marked done name (IsKept.field n target kept r) = field_marked (remade o b.opened (done_marks marked)).core done.stage.facts refl h.can.can_close.2 h.can.can_close.3 n target (all_kept b marked done n kept) r
+      all_kept b marked done name (IsKept.field n target kept r) =
+          field_marked (remade o b.opened (done_marks marked)).core done.stage.facts refl h.can.can_close.2 h.can.can_close.3 n target
+          (all_kept b marked done n kept) r

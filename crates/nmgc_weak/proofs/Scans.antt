@@ -38,7 +38,13 @@ then_marks s t u a b = record {
 }
 
 pub name_marks : (s : State) (name : Name) → MarksMore s (mark_name s name)
-name_marks s name = mark_cases (MarksMore s) s name (λ e. record { more = name ∷ []; marked = refl; rest = refl; once = λ o. distinct_push s.marked name o (not_listed name s.marked (not-true (is_listed name s.marked) (and_parts (is_some (node_of s.snapshot name)) (not (is_listed name s.marked)) e).1)) }) (λ e. same_marks s)
+name_marks s name = mark_cases (MarksMore s) s name (λ e. record {
+  more = name ∷ [];
+  marked = refl;
+  rest = refl;
+  once = λ o. distinct_push s.marked name o (not_listed name s.marked
+      (not-true (is_listed name s.marked) (and_parts (is_some (node_of s.snapshot name)) (not (is_listed name s.marked)) e).1));
+}) (λ e. same_marks s)
 
 value_marks : (s : State) (v : Value) → MarksMore s (mark_value s v)
 value_marks s value.Nil = same_marks s
@@ -62,7 +68,8 @@ scan_marks s (entry ∷ rest) =
 pub scans_mark : (s : State) (es : List Happening) → AreScans es → MarksMore s (replay s es)
 scans_mark s [] h = same_marks s
 scans_mark s (did m c r ∷ es) h = absurd h
-scans_mark s (scanned entry v ∷ es) h = then_marks s (after_scan s s.queue) (replay (after_scan s s.queue) es) (scan_marks s s.queue) (scans_mark (after_scan s s.queue) es h)
+scans_mark s (scanned entry v ∷ es) h =
+    then_marks s (after_scan s s.queue) (replay (after_scan s s.queue) es) (scan_marks s s.queue) (scans_mark (after_scan s s.queue) es h)
 
 same_world : (s t : State) → MarksMore s t → IsWorld s.world → IsWorld t.world
 same_world s t m w = subst IsWorld (sym (ap (λ (x : State). x.world) m.rest)) w
@@ -70,4 +77,5 @@ same_world s t m w = subst IsWorld (sym (ap (λ (x : State). x.world) m.rest)) w
 pub scans_facts : (s : State) (es : List Happening) → AreScans es → Facts s → IsWorld s.world → Facts (replay s es)
 scans_facts s [] h f w = f
 scans_facts s (did m c r ∷ es) h f w = absurd h
-scans_facts s (scanned entry v ∷ es) h f w = scans_facts (after_scan s s.queue) es h (scan_facts s f w s.queue refl) (same_world s (after_scan s s.queue) (scan_marks s s.queue) w)
+scans_facts s (scanned entry v ∷ es) h f w =
+    scans_facts (after_scan s s.queue) es h (scan_facts s f w s.queue refl) (same_world s (after_scan s s.queue) (scan_marks s s.queue) w)

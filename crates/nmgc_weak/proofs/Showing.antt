@@ -32,13 +32,15 @@ marked_is : (s : Segments) (epoch at : ℕ) → IsEpoch epoch → IsMarkedAt s e
 marked_is s epoch at e h = (h.0, h.1, h.2, inr (λ z. let m = h.3 in omega arith))
 
 -- g lies at its place, and nothing else does
-at_one : (o : Opening) (at : ℕ) (name : Name) → LiesWell o.layout (record { at = at; name = name }) HEADER_WORDS → (name.maker ≡ SHARED_MAKER → at ≡ SHARED_PLACE) × (at ≡ SHARED_PLACE → name.maker ≡ SHARED_MAKER)
+at_one : (o : Opening) (at : ℕ) (name : Name) → LiesWell o.layout (record { at = at; name = name }) HEADER_WORDS →
+    (name.maker ≡ SHARED_MAKER → at ≡ SHARED_PLACE) × (at ≡ SHARED_PLACE → name.maker ≡ SHARED_MAKER)
 at_one o at name (inl g) = (λ e. g.1, λ e. g.0)
 at_one o at name (inr (ne, inl segment)) = (λ e. absurd (ne e), λ e. let l = segment.1 at (omega arith) (omega arith) in let f = l.from in absurd (omega arith))
 at_one o at name (inr (ne, inr nursery)) = (λ e. absurd (ne e), λ e. let l = nursery.1 at (omega arith) (omega arith) in let f = l.from in absurd (omega arith))
 
 -- one of the list that is of the snapshot has its block there
-pub snapshot_back : (o : Opening) (words : List ℕ) (s : Segments) (marker : MarkerSeen) (weaks : List Place) → CanResolve o words s marker weaks → (at : ℕ) (weak : Name) → Contains weaks (record { at = at; name = weak }) → IsSome (node_of o.core.snapshot weak) → IsSnapshotAt s at
+pub snapshot_back : (o : Opening) (words : List ℕ) (s : Segments) (marker : MarkerSeen) (weaks : List Place) → CanResolve o words s marker weaks →
+    (at : ℕ) (weak : Name) → Contains weaks (record { at = at; name = weak }) → IsSome (node_of o.core.snapshot weak) → IsSnapshotAt s at
 snapshot_back o words s marker weaks h at weak c there =
     let p : Place = record { at = at; name = weak } in
     let l = h.listed.sound p c in
@@ -53,8 +55,10 @@ snapshot_back o words s marker weaks h at weak c there =
       | inr snap ↦ snap
     ]
 
-module _ (o : Opening) (words : List ℕ) (s : Segments) (marker : MarkerSeen) (weaks : List Place) (h : CanResolve o words s marker weaks) (epoch : IsEpoch marker.epoch) where
-  name_shown : (at : ℕ) (name : Name) → Contains o.places (record { at = at; name = name }) → IsSome (node_of o.core.snapshot name) → ((at ≡ SHARED_PLACE) ⊎ IsMarkedAt s marker.epoch at) ↔ Contains o.core.marked name
+module _ (o : Opening) (words : List ℕ) (s : Segments) (marker : MarkerSeen) (weaks : List Place) (h : CanResolve o words s marker weaks)
+    (epoch : IsEpoch marker.epoch) where
+  name_shown : (at : ℕ) (name : Name) → Contains o.places (record { at = at; name = name }) → IsSome (node_of o.core.snapshot name) →
+      ((at ≡ SHARED_PLACE) ⊎ IsMarkedAt s marker.epoch at) ↔ Contains o.core.marked name
   name_shown at name c there =
       let tied = h.ready.tied in
       let p : Place = record { at = at; name = name } in
@@ -74,7 +78,8 @@ module _ (o : Opening) (words : List ℕ) (s : Segments) (marker : MarkerSeen) (
       )
 
   -- a word that stands for a key shows what the key does
-  pub word_shown : (w : ℕ) (v : Value) → Means (Contains o.places) w v → ((name : Name) → v ≡ value.Ref name → IsSome (node_of o.core.snapshot name)) → IsKeyMarkedWord s marker.epoch w ↔ IsKeyMarked o.core.marked v
+  pub word_shown : (w : ℕ) (v : Value) → Means (Contains o.places) w v →
+      ((name : Name) → v ≡ value.Ref name → IsSome (node_of o.core.snapshot name)) → IsKeyMarkedWord s marker.epoch w ↔ IsKeyMarked o.core.marked v
   word_shown w value.Nil means there = (λ x. tt, λ x. inl (λ e. omega arith))
   word_shown w (value.Number n) means there = (λ x. tt, λ x. inl (λ e. omega arith))
   word_shown w (value.Ref name) means there =
@@ -111,15 +116,18 @@ module _ (o : Opening) (words : List ℕ) (s : Segments) (marker : MarkerSeen) (
       )
 
   -- a listed weak pointer of the snapshot waits
-  pub waits : (at : ℕ) (weak : Name) (parts : Parts) → Contains weaks (record { at = at; name = weak }) → IsSome (node_of o.core.snapshot weak) → IsAlive o.core.world weak parts → IsWaiting o.core weak parts
+  pub waits : (at : ℕ) (weak : Name) (parts : Parts) → Contains weaks (record { at = at; name = weak }) → IsSome (node_of o.core.snapshot weak) →
+      IsAlive o.core.world weak parts → IsWaiting o.core weak parts
   waits at weak parts c there alive = record { alive = (h.facts.base.weaks weak parts alive).old there; not_finalised = λ f. h.gone weak parts f alive }
 
   -- what a key of the snapshot refers to is of the snapshot
-  key_known : (weak : Name) (parts : Parts) → IsAlive o.core.snapshot weak parts → (name : Name) → parts.key ≡ value.Ref name → IsSome (node_of o.core.snapshot name)
+  key_known : (weak : Name) (parts : Parts) → IsAlive o.core.snapshot weak parts → (name : Name) → parts.key ≡ value.Ref name →
+      IsSome (node_of o.core.snapshot name)
   key_known weak parts alive name e = wide_known o.core.snapshot h.facts.base.snapshot name (IsReached.start name (inr (weak, parts, alive, inr (inl e))))
 
   -- the tests of the words find the lost ones
-  pub lost_is : (at : ℕ) (weak : Name) → Contains weaks (record { at = at; name = weak }) → IsLostAt s marker.epoch at (slice_index words (key_place at)) ↔ IsLost o.core weak
+  pub lost_is : (at : ℕ) (weak : Name) → Contains weaks (record { at = at; name = weak }) →
+      IsLostAt s marker.epoch at (slice_index words (key_place at)) ↔ IsLost o.core weak
   lost_is at weak c =
       let l = h.listed.sound (record { at = at; name = weak }) c in
       let parts : Parts = l.1.0 in
@@ -128,16 +136,27 @@ module _ (o : Opening) (words : List ℕ) (s : Segments) (marker : MarkerSeen) (
         λ lost.
             let there = snap.0 lost.0 in
             let w : IsWaiting o.core weak parts = waits at weak parts c there l.1.1 in
-            record { parts = parts; waiting = w; lost = λ shown. lost.1 ((word_shown (slice_index words (key_place at)) parts.key means (key_known weak parts w.alive)).1 shown) },
+            record {
+              parts = parts;
+              waiting = w;
+              lost = λ shown.
+                  lost.1 ((word_shown (slice_index words (key_place at)) parts.key means (key_known weak parts w.alive)).1 shown);
+            },
         λ lost.
             let alive = h.facts.base.alive weak lost.parts lost.waiting.alive lost.waiting.not_finalised in
             let same : lost.parts ≡ parts = one_parts o.core.world weak lost.parts parts alive l.1.1 in
-            let there : IsSome (node_of o.core.snapshot weak) = subst (λ o. IsSome o) (sym lost.waiting.alive) refl in
-            (snap.1 there, λ shown. lost.lost (subst (λ (p : Parts). IsKeyMarked o.core.marked p.key) (sym same) ((word_shown (slice_index words (key_place at)) parts.key means (key_known weak parts (subst (λ (p : Parts). IsAlive o.core.snapshot weak p) same lost.waiting.alive))).0 shown))),
+            let there : IsSome (node_of o.core.snapshot weak) = subst (λ o. IsSome o) (sym lost.waiting.alive) refl in (
+              snap.1 there,
+              λ shown. lost.lost (subst (λ (p : Parts).
+                  IsKeyMarked o.core.marked p.key) (sym same) ((word_shown (slice_index words (key_place at)) parts.key means
+                  (key_known weak parts (subst (λ (p : Parts). IsAlive o.core.snapshot weak p) same lost.waiting.alive))).0 shown)),
+            ),
       )
 
   -- one of the snapshot whose key's word tells that the key is marked has a key that is marked
-  pub shown_is : (at : ℕ) (weak : Name) → Contains weaks (record { at = at; name = weak }) → IsSnapshotAt s at → IsKeyMarkedWord s marker.epoch (slice_index words (key_place at)) → (parts : Parts) → IsAlive o.core.world weak parts → IsKeyMarked o.core.marked parts.key
+  pub shown_is : (at : ℕ) (weak : Name) → Contains weaks (record { at = at; name = weak }) → IsSnapshotAt s at →
+      IsKeyMarkedWord s marker.epoch (slice_index words (key_place at)) → (parts : Parts) → IsAlive o.core.world weak parts →
+      IsKeyMarked o.core.marked parts.key
   shown_is at weak c snap shown parts alive =
       let l = h.listed.sound (record { at = at; name = weak }) c in
       let there = (snapshot_is at weak c).0 snap in

@@ -43,7 +43,16 @@ old_back : (o : Opening) (opened : List Name) (m : Marks) (x : Object) → IsOld
 old_back o opened m x h = record { there = h.there; tracked = h.tracked; node = h.node }
 
 queued_still : (o : Opening) (opened : List Name) (m : Marks) (entry : Entry) → IsQueued o entry → IsQueued (remade o opened m) entry
-queued_still o opened m entry h = record { marking = h.marking; object = h.object; here = old_still o opened m h.object h.here; name = h.name; node = h.node; there = h.there; within = h.within; passed = h.passed }
+queued_still o opened m entry h = record {
+  marking = h.marking;
+  object = h.object;
+  here = old_still o opened m h.object h.here;
+  name = h.name;
+  node = h.node;
+  there = h.there;
+  within = h.within;
+  passed = h.passed;
+}
 
 opening_still : (o : Opening) (opened : List Name) (m : Marks) → IsOpening o → IsOpening (remade o opened m)
 opening_still o opened m h = record {
@@ -59,7 +68,8 @@ opening_still o opened m h = record {
 hand_still : (o : Opening) (opened : List Name) (m : Marks) (k : ℕ) (h : Hand) → HandStands o k h → HandStands (remade o opened m) k h
 hand_still o opened m k h s = record { registers = s.registers; queue = s.queue; serial = s.serial; stacks = s.stacks }
 
-open_still : (o : Opening) (opened : List Name) (m : Marks) (words : List ℕ) → o.marking ≡ true → CanOpen o words → ((entry : Entry) → Contains m.queue entry → IsQueued o entry) → CanOpen (remade o opened m) words
+open_still : (o : Opening) (opened : List Name) (m : Marks) (words : List ℕ) → o.marking ≡ true → CanOpen o words →
+    ((entry : Entry) → Contains m.queue entry → IsQueued o entry) → CanOpen (remade o opened m) words
 open_still o opened m words marking h q = record {
   is = opening_still o opened m h.is;
   world = h.world;
@@ -82,7 +92,8 @@ retied o opened k m s marker h = record {
   count = h.count;
 }
 
-pub tied_back : (o : Opening) (opened : List Name) (k m : Marks) (s : Segments) (marker : MarkerSeen) → IsTied (remade o opened k) m s marker → IsTied o m s marker
+pub tied_back : (o : Opening) (opened : List Name) (k m : Marks) (s : Segments) (marker : MarkerSeen) → IsTied (remade o opened k) m s marker →
+    IsTied o m s marker
 tied_back o opened k m s marker h = record {
   snapshot = record { layout = h.snapshot.layout; apart = h.snapshot.apart; sound = h.snapshot.sound; complete = h.snapshot.complete };
   shared = h.shared;
@@ -103,19 +114,26 @@ pub record Stage (o : Opening) (opened : List Name) (m : Marks) (s : Segments) (
 -- a name that may be marked: it is live or new, and one of the snapshot has its object
 abbrev pub CanMark : Opening → List Name → Option Name → Type 0
 CanMark o opened None = Unit {0}
-CanMark o opened (Some name) = (IsSome (node_of o.core.snapshot name) → IsLive o.core.snapshot opened name) × (IsSome (node_of o.core.snapshot name) → IsQueued o (entry_of name))
+CanMark o opened (Some name) = (IsSome (node_of o.core.snapshot name) → IsLive o.core.snapshot opened name) ×
+    (IsSome (node_of o.core.snapshot name) → IsQueued o (entry_of name))
 
 abbrev pub more_marks : Marks → Name → Marks
 more_marks m name = record { marked = m.marked ++ name ∷ []; queue = m.queue ++ entry_of name ∷ [] }
 
-pub name_cases : (R : Marks → Type 0) (snapshot : World) (m : Marks) (name : Name) → ((is_some (node_of snapshot name) && not (is_listed name m.marked)) ≡ true → R (more_marks m name)) → ((is_some (node_of snapshot name) && not (is_listed name m.marked)) ≡ false → R m) → R (with_name snapshot m (Some name))
+pub name_cases : (R : Marks → Type 0) (snapshot : World) (m : Marks) (name : Name) →
+    ((is_some (node_of snapshot name) && not (is_listed name m.marked)) ≡ true → R (more_marks m name)) →
+    ((is_some (node_of snapshot name) && not (is_listed name m.marked)) ≡ false → R m) → R (with_name snapshot m (Some name))
 name_cases R snapshot m name new old = cond_both (is_some (node_of snapshot name) && not (is_listed name m.marked)) (more_marks m name) m R new old
 
-pub push_once : (snapshot : World) (m : Marks) (name : Name) → AreDistinct m.marked → (is_some (node_of snapshot name) && not (is_listed name m.marked)) ≡ true → AreDistinct (m.marked ++ name ∷ [])
-push_once snapshot m name o e = distinct_push m.marked name o (not_listed name m.marked (not-true (is_listed name m.marked) (and_parts (is_some (node_of snapshot name)) (not (is_listed name m.marked)) e).1))
+pub push_once : (snapshot : World) (m : Marks) (name : Name) → AreDistinct m.marked →
+    (is_some (node_of snapshot name) && not (is_listed name m.marked)) ≡ true → AreDistinct (m.marked ++ name ∷ [])
+push_once snapshot m name o e =
+    distinct_push m.marked name o (not_listed name m.marked (not-true (is_listed name m.marked)
+    (and_parts (is_some (node_of snapshot name)) (not (is_listed name m.marked)) e).1))
 
 -- a name is marked
-stage_name : (o : Opening) (opened : List Name) (m : Marks) (s t : Segments) (marker later : MarkerSeen) (name : Name) → Stage o opened m s marker → CanMark o opened (Some name) → IsTied o (with_name o.core.snapshot m (Some name)) t later → Stage o opened (with_name o.core.snapshot m (Some name)) t later
+stage_name : (o : Opening) (opened : List Name) (m : Marks) (s t : Segments) (marker later : MarkerSeen) (name : Name) → Stage o opened m s marker →
+    CanMark o opened (Some name) → IsTied o (with_name o.core.snapshot m (Some name)) t later → Stage o opened (with_name o.core.snapshot m (Some name)) t later
 stage_name o opened m s t marker later name h can tied =
     name_cases (λ k. IsTied o k t later → Stage o opened k t later) o.core.snapshot m name
     (λ e g. record {
@@ -134,8 +152,17 @@ stage_name o opened m s t marker later name h can tied =
     (λ e g. record { more = h.more; marked = h.marked; tied = g; facts = h.facts; once = h.once; queued = h.queued })
     tied
 
-pub stage_mark : (o : Opening) (opened : List Name) (m : Marks) (s t : Segments) (marker later : MarkerSeen) (name : Option Name) → Stage o opened m s marker → CanMark o opened name → IsTied o (with_name o.core.snapshot m name) t later → Stage o opened (with_name o.core.snapshot m name) t later
-stage_mark o opened m s t marker later None h can tied = record { more = h.more; marked = h.marked; tied = tied; facts = h.facts; once = h.once; queued = h.queued }
+pub stage_mark : (o : Opening) (opened : List Name) (m : Marks) (s t : Segments) (marker later : MarkerSeen) (name : Option Name) →
+    Stage o opened m s marker → CanMark o opened name → IsTied o (with_name o.core.snapshot m name) t later →
+    Stage o opened (with_name o.core.snapshot m name) t later
+stage_mark o opened m s t marker later None h can tied = record {
+  more = h.more;
+  marked = h.marked;
+  tied = tied;
+  facts = h.facts;
+  once = h.once;
+  queued = h.queued;
+}
 stage_mark o opened m s t marker later (Some name) h can tied = stage_name o opened m s t marker later name h can tied
 
 -- a name of the snapshot is marked then, and what was marked stays so
@@ -144,16 +171,23 @@ marked_there snapshot m name there = name_cases (λ k. Contains k.marked name) s
     (λ e. Contains-push m.marked name)
     (λ e. contains_listed name m.marked (let k : is_some (node_of snapshot name) ≡ true = there in grind (arith, k, e)))
 
-pub marked_still : (snapshot : World) (m : Marks) (name : Option Name) (other : Name) → Contains m.marked other → Contains (with_name snapshot m name).marked other
+pub marked_still : (snapshot : World) (m : Marks) (name : Option Name) (other : Name) → Contains m.marked other →
+    Contains (with_name snapshot m name).marked other
 marked_still snapshot m None other c = c
-marked_still snapshot m (Some name) other c = name_cases (λ k. Contains k.marked other) snapshot m name (λ e. Contains-append_left m.marked (name ∷ []) other c) (λ e. c)
+marked_still snapshot m (Some name) other c = name_cases (λ k. Contains k.marked other) snapshot m name (λ e.
+    Contains-append_left m.marked (name ∷ []) other c) (λ e. c)
 
 -- the marker is ready to scan
-pub stage_ready : (o : Opening) (opened : List Name) (m : Marks) (words : List ℕ) (s : Segments) (marker : MarkerSeen) → o.marking ≡ true → CanOpen o words → Stage o opened m s marker → IsReady (remade o opened m) words s marker
-stage_ready o opened m words s marker marking opens h = record { opens = open_still o opened m words marking opens h.queued; tied = retied o opened m m s marker h.tied }
+pub stage_ready : (o : Opening) (opened : List Name) (m : Marks) (words : List ℕ) (s : Segments) (marker : MarkerSeen) → o.marking ≡ true →
+    CanOpen o words → Stage o opened m s marker → IsReady (remade o opened m) words s marker
+stage_ready o opened m words s marker marking opens h = record {
+  opens = open_still o opened m words marking opens h.queued;
+  tied = retied o opened m m s marker h.tied;
+}
 
 -- as it begins
-pub stage_begins : (o : Opening) (words : List ℕ) (s : Segments) (marker : MarkerSeen) (weaks : List Place) → CanResolve o words s marker weaks → Stage o o.core.opened (marks_of o.core) s marker
+pub stage_begins : (o : Opening) (words : List ℕ) (s : Segments) (marker : MarkerSeen) (weaks : List Place) → CanResolve o words s marker weaks →
+    Stage o o.core.opened (marks_of o.core) s marker
 stage_begins o words s marker weaks h = record {
   more = [];
   marked = sym (append-nil o.core.marked);
@@ -172,7 +206,8 @@ pub record IsDone (o : Opening) (opened : List Name) (m : Marks) (s : Segments) 
   pub stage : Stage o opened (done_marks marked) s marker
   pub kept : (name : Name) → Contains m.marked name → Contains marked name
 
-pub stage_done : (o : Opening) (opened : List Name) (m : Marks) (s t : Segments) (marker later : MarkerSeen) → IsWorld o.core.world → Stage o opened m s marker → (f : HasFinished (remade o opened m) t later) → IsDone o opened m t later (now (remade o opened m) f.events).marked
+pub stage_done : (o : Opening) (opened : List Name) (m : Marks) (s t : Segments) (marker later : MarkerSeen) → IsWorld o.core.world →
+    Stage o opened m s marker → (f : HasFinished (remade o opened m) t later) → IsDone o opened m t later (now (remade o opened m) f.events).marked
 stage_done o opened m s t marker later world h f =
     let end : State = now (remade o opened m) f.events in
     let mm : MarksMore (remade o opened m).core end = scans_mark (remade o opened m).core f.events f.scans in
@@ -191,7 +226,8 @@ stage_done o opened m s t marker later world h f =
     }
 
 -- and the state may close again
-pub done_goes : (o : Opening) (words : List ℕ) (s t : Segments) (marker later : MarkerSeen) (weaks : List Place) (marked : List Name) → CanResolve o words s marker weaks → Stage o o.core.opened (done_marks marked) t later → GoesTo o (with_marks o (done_marks marked)) words t later weaks
+pub done_goes : (o : Opening) (words : List ℕ) (s t : Segments) (marker later : MarkerSeen) (weaks : List Place) (marked : List Name) →
+    CanResolve o words s marker weaks → Stage o o.core.opened (done_marks marked) t later → GoesTo o (with_marks o (done_marks marked)) words t later weaks
 done_goes o words s t marker later weaks marked can h =
     let c = can.can_close in
     record {

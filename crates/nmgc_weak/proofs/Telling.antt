@@ -12,7 +12,8 @@ use Rattle.nmgc_run.specs.Seen.{MarkerSeen}
 use Rattle.nmgc_mark.specs.Tie.{IsTied}
 
 -- a test of the block that begins at a place
-pub block_told : (Such : Segment → ℕ → Type 0) (s : Segments) (number block at : ℕ) (segment : Segment) (t : Bool) → IsSegments s → IsBlockAt s number block at → segment ≡ nth s.segments number → IsTrue t ↔ Such segment block → IsTrue t ↔ HasAt Such s at
+pub block_told : (Such : Segment → ℕ → Type 0) (s : Segments) (number block at : ℕ) (segment : Segment) (t : Bool) → IsSegments s →
+    IsBlockAt s number block at → segment ≡ nth s.segments number → IsTrue t ↔ Such segment block → IsTrue t ↔ HasAt Such s at
 block_told Such s number block at segment t sound begins is told = (
   λ h. (number, block, begins, subst (λ (x : Segment). Such x block) is (told.0 h)),
   λ h.
@@ -22,10 +23,12 @@ block_told Such s number block at segment t sound begins is told = (
 )
 
 -- a word that is no pointer marks nothing
-pub unset_marks : (o : Opening) (m : Marks) (s : Segments) (marker : MarkerSeen) (w : ℕ) → w ≡ 0 → IsTied o m s marker → IsTied o (with_name o.core.snapshot m (name_meant o.places w)) s marker
+pub unset_marks : (o : Opening) (m : Marks) (s : Segments) (marker : MarkerSeen) (w : ℕ) → w ≡ 0 → IsTied o m s marker →
+    IsTied o (with_name o.core.snapshot m (name_meant o.places w)) s marker
 unset_marks o m s marker w e h = let a : eqb w 0 ≡ true = eq-eqb w 0 e in rw a h
 
-pub odd_marks : (o : Opening) (m : Marks) (s : Segments) (marker : MarkerSeen) (w : ℕ) → (w % 2 ≡ 0 → ⊥) → IsTied o m s marker → IsTied o (with_name o.core.snapshot m (name_meant o.places w)) s marker
+pub odd_marks : (o : Opening) (m : Marks) (s : Segments) (marker : MarkerSeen) (w : ℕ) → (w % 2 ≡ 0 → ⊥) → IsTied o m s marker →
+    IsTied o (with_name o.core.snapshot m (name_meant o.places w)) s marker
 odd_marks o m s marker w ne h =
     let z : w ≢ 0 = λ e. ne (omega arith) in
     let a : eqb w 0 ≡ false = ne_eqb w 0 z in
@@ -33,7 +36,8 @@ odd_marks o m s marker w ne h =
     rw (a, b) h
 
 -- and a pointer what lies there
-pub pointer_marks : (o : Opening) (m : Marks) (s : Segments) (marker : MarkerSeen) (w : ℕ) → w ≢ 0 → w % 2 ≡ 0 → IsTied o (with_name o.core.snapshot m (name_at o.places (w / 2))) s marker → IsTied o (with_name o.core.snapshot m (name_meant o.places w)) s marker
+pub pointer_marks : (o : Opening) (m : Marks) (s : Segments) (marker : MarkerSeen) (w : ℕ) → w ≢ 0 → w % 2 ≡ 0 →
+    IsTied o (with_name o.core.snapshot m (name_at o.places (w / 2))) s marker → IsTied o (with_name o.core.snapshot m (name_meant o.places w)) s marker
 pointer_marks o m s marker w some_ even h =
     let a : eqb w 0 ≡ false = ne_eqb w 0 some_ in
     let b : eqb (w % 2) 0 ≡ true = eq-eqb (w % 2) 0 even in

@@ -38,26 +38,39 @@ use Rattle.nmgc_weak.specs.Weaks.{places_of, alive_of}
 
 -- at a stop of a cycle where nothing waits, is owed or is pushed, with a marker that is ready and the list of weak pointers, the closing may resolve it
 abbrev pub CycleMayResolve : Type 0
-CycleMayResolve = (c : Cycle) (o : Opening) (words : List ℕ) (s : Segments) (marker : MarkerSeen) (weaks : List Place) → IsSound (interval_of c) → IsCoreOf c o.core.world o.core → AreEmpty o.core.pushed → o.core.queue ≡ [] → o.marking ≡ true → AreEarlier (earlier o) o.core.world → IsReady o words s marker → ListsWeaks o.layout o.places o.core.world weaks → CanResolve o words s marker weaks
+CycleMayResolve = (c : Cycle) (o : Opening) (words : List ℕ) (s : Segments) (marker : MarkerSeen) (weaks : List Place) → IsSound (interval_of c) →
+    IsCoreOf c o.core.world o.core → AreEmpty o.core.pushed → o.core.queue ≡ [] → o.marking ≡ true → AreEarlier (earlier o) o.core.world →
+    IsReady o words s marker → ListsWeaks o.layout o.places o.core.world weaks → CanResolve o words s marker weaks
 
--- the cycle is closed at this stop: these weak pointers die; of the names in blocks exactly those are marked that the cycle keeps, and the marker has counted them
+-- the cycle is closed at this stop: these weak pointers die; of the names in blocks exactly those are marked that the
+-- cycle keeps, and the marker has counted them
 pub record HasClosed (c : Cycle) (s : State) (dead : List Name) (segments : Segments) (marker : MarkerSeen) : Type 0 where
   pub lists : Lists (IsDeadIn c) dead
   pub closes : Closes c s (record s { world = closed s.world dead; progress = sweeping c s.number })
   pub kept : Counts (IsKeptObject c) marker.marked
-  pub exact : (number block : ℕ) (name : Name) → LiesIn s.allocation number block name → IsMarked (nth segments.segments number) marker.epoch block ↔ IsKeptIn c name
+  pub exact : (number block : ℕ) (name : Name) → LiesIn s.allocation number block name →
+      IsMarked (nth segments.segments number) marker.epoch block ↔ IsKeptIn c name
 
 -- once its weak pointers are resolved, it closes so
 abbrev pub CycleCloses : Type 0
-CycleCloses = (c : Cycle) (s : State) (o : Opening) (before words : List ℕ) (segments : Segments) (marker : MarkerSeen) (list : List OldWeak) (deaths : List Death) → IsSound (interval_of c) → IsCoreOf c s.world o.core → AreEmpty o.core.pushed → o.core.queue ≡ [] → AreOfBlocks o c segments before s.allocation o.core → marker.epoch ≡ epoch_of c.number → (r : HasResolved o words segments marker list deaths) → HasClosed c s r.closing.dead segments marker
+CycleCloses = (c : Cycle) (s : State) (o : Opening) (before words : List ℕ) (segments : Segments) (marker : MarkerSeen) (list : List OldWeak)
+    (deaths : List Death) → IsSound (interval_of c) → IsCoreOf c s.world o.core → AreEmpty o.core.pushed → o.core.queue ≡ [] →
+    AreOfBlocks o c segments before s.allocation o.core → marker.epoch ≡ epoch_of c.number → (r : HasResolved o words segments marker list deaths) →
+    HasClosed c s r.closing.dead segments marker
 
 -- the deaths have room in the queues of their makers, where each queue has room for the listed weak pointers of the snapshot that its mutator made
 abbrev pub DeathsHaveRoom : Type 0
-DeathsHaveRoom = (o : Opening) (words before : List ℕ) (s t : Segments) (marker after : MarkerSeen) (weaks : List Place) (list : List OldWeak) (deaths : List Death) (queues : List FinQueue) → CanResolve o before s marker weaks → HasResolved o words t after list deaths → length queues ≡ length o.core.world.mutators → ((m : ℕ) (queue : FinQueue) → slice_get queues m ≡ Some queue → weak_count o.core.snapshot m weaks ≤ queue.spare) → HaveRoom deaths queues
+DeathsHaveRoom = (o : Opening) (words before : List ℕ) (s t : Segments) (marker after : MarkerSeen) (weaks : List Place) (list : List OldWeak)
+    (deaths : List Death) (queues : List FinQueue) → CanResolve o before s marker weaks → HasResolved o words t after list deaths →
+    length queues ≡ length o.core.world.mutators → ((m : ℕ) (queue : FinQueue) → slice_get queues m ≡ Some queue →
+    weak_count o.core.snapshot m weaks ≤ queue.spare) → HaveRoom deaths queues
 
 -- once they have joined, registers and queues stand for the closed world
 abbrev pub QueuesClose : Type 0
-QueuesClose = (o : Opening) (dead : List Name) (deaths : List Death) (registers : List ℕ) (old new : List FinQueue) (serials : List ℕ) → IsWorld o.core.world → AreDeaths o dead deaths → IsInOrder dead → RepresentsRoots o.places o.core.world registers (map (λ (q : FinQueue). q.words) old) serials → AllJoin deaths old new → RepresentsRoots o.places (closed o.core.world dead) registers (map (λ (q : FinQueue). q.words) new) serials
+QueuesClose = (o : Opening) (dead : List Name) (deaths : List Death) (registers : List ℕ) (old new : List FinQueue) (serials : List ℕ) →
+    IsWorld o.core.world → AreDeaths o dead deaths → IsInOrder dead →
+    RepresentsRoots o.places o.core.world registers (map (λ (q : FinQueue). q.words) old) serials → AllJoin deaths old new →
+    RepresentsRoots o.places (closed o.core.world dead) registers (map (λ (q : FinQueue). q.words) new) serials
 
 -- what has a block was there before, and a weak pointer that is alive was alive with the same parts; one that was alive has its header still
 pub record KeepsOldWeaks (layout : Layout) (places : List Place) (began w : World) : Type 0 where
@@ -67,4 +80,6 @@ pub record KeepsOldWeaks (layout : Layout) (places : List Place) (began w : Worl
 
 -- what is left of the list once those with no value have left: the weak pointers alive after a round that have a block
 abbrev pub LeavingLists : Type 0
-LeavingLists = (layout : Layout) (past : List World) (places : List Place) (began w : World) (words : List ℕ) (list : List OldWeak) → IsWorld began → IsWorld w → Represents layout (began ∷ past) NoNode places w words → ListsWeaks layout places began (places_of list) → KeepsOldWeaks layout places began w → ListsWeaks layout places w (places_of (alive_of words list))
+LeavingLists = (layout : Layout) (past : List World) (places : List Place) (began w : World) (words : List ℕ) (list : List OldWeak) →
+    IsWorld began → IsWorld w → Represents layout (began ∷ past) NoNode places w words → ListsWeaks layout places began (places_of list) →
+    KeepsOldWeaks layout places began w → ListsWeaks layout places w (places_of (alive_of words list))

@@ -24,4 +24,5 @@ pub record Joins (old new : FinQueue) (words : List ℕ) : Type 0 where
 
 -- every queue
 abbrev pub AllJoin : List Death → List FinQueue → List FinQueue → Type 0
-AllJoin deaths old new = (length new ≡ length old) × ((maker : ℕ) (before : FinQueue) → slice_get old maker ≡ Some before → (after : FinQueue) × (slice_get new maker ≡ Some after) × Joins before after (joined maker deaths))
+AllJoin deaths old new = (length new ≡ length old) × ((maker : ℕ) (before : FinQueue) → slice_get old maker ≡ Some before → (after : FinQueue) ×
+    (slice_get new maker ≡ Some after) × Joins before after (joined maker deaths))

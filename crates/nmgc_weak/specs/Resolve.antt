@@ -24,7 +24,9 @@ use Rattle.nmgc_weak.specs.declared.weaks.OldWeak.{OldWeak}
 use Rattle.nmgc_weak.specs.declared.weaks.Death.{Death}
 use Rattle.nmgc_weak.specs.Weaks.{places_of}
 
--- the words represent the world of a core state that could open a round, and marks are that state's; it has the facts, has marked each name once and may close, and these are the weak pointers alive in its world that have a block. A weak pointer that was finalised since the snapshot is dead in that world
+-- the words represent the world of a core state that could open a round, and marks are that state's; it has the
+-- facts, has marked each name once and may close, and these are the weak pointers alive in its world that have a
+-- block. A weak pointer that was finalised since the snapshot is dead in that world
 pub record CanResolve (o : Opening) (words : List ℕ) (s : Segments) (marker : MarkerSeen) (weaks : List Place) : Type 0 where
   pub ready : IsReady o words s marker
   pub marking : o.marking ≡ true
@@ -38,10 +40,12 @@ pub record CanResolve (o : Opening) (words : List ℕ) (s : Segments) (marker : 
 -- each of the dead with the word of its finaliser, in order
 abbrev pub AreDeaths : Opening → List Name → List Death → Type 0
 AreDeaths o [] [] = Unit {0}
-AreDeaths o (weak ∷ weaks) (death ∷ deaths) = ((death.weak ≡ weak) × ((parts : Parts) × IsAlive o.core.world weak parts × Means (Contains o.places) death.finaliser parts.finaliser)) × AreDeaths o weaks deaths
+AreDeaths o (weak ∷ weaks) (death ∷ deaths) = ((death.weak ≡ weak) ×
+    ((parts : Parts) × IsAlive o.core.world weak parts × Means (Contains o.places) death.finaliser parts.finaliser)) × AreDeaths o weaks deaths
 AreDeaths o _ _ = ⊥
 
--- the core machine has closed: the marker has the marks of the state after it, the deaths are the weak pointers that die there, and words and list stand for the closed world
+-- the core machine has closed: the marker has the marks of the state after it, the deaths are the weak pointers that
+-- die there, and words and list stand for the closed world
 pub record HasResolved (o : Opening) (words : List ℕ) (s : Segments) (marker : MarkerSeen) (list : List OldWeak) (deaths : List Death) : Type 0 where
   pub next : Core
   pub closing : IsClosing o.core next

@@ -43,7 +43,8 @@ pub record IsLost (core : Core) (weak : Name) : Type 0 where
 
 -- the parts of each waiting weak pointer of these whose key is marked in some marks are marked in others
 abbrev pub AreKept : Core → List Name → List Name → List Name → Type 0
-AreKept core weaks shown marked = (weak target : Name) (parts : Parts) → Contains weaks weak → IsWaiting core weak parts → IsKeyMarked shown parts.key → IsKeptBy weak parts target → Contains marked target
+AreKept core weaks shown marked = (weak target : Name) (parts : Parts) → Contains weaks weak → IsWaiting core weak parts →
+    IsKeyMarked shown parts.key → IsKeptBy weak parts target → Contains marked target
 
 -- the same opening, where more is marked
 pub record MarksOn (o next : Opening) : Type 0 where
@@ -58,7 +59,8 @@ pub record GoesTo (o next : Opening) (words : List ℕ) (s : Segments) (marker :
 
 -- every waiting weak pointer whose key is marked has its parts marked
 abbrev pub IsSaturated : Opening → List Place → Type 0
-IsSaturated o weaks = (weak target : Name) (parts : Parts) → IsWaiting o.core weak parts → IsKeyMarked o.core.marked parts.key → IsKeptBy weak parts target → Contains o.core.marked target
+IsSaturated o weaks = (weak target : Name) (parts : Parts) → IsWaiting o.core weak parts → IsKeyMarked o.core.marked parts.key →
+    IsKeptBy weak parts target → Contains o.core.marked target
 
 -- these are exactly the lost ones of the list, in order of names
 pub record AreLost (o : Opening) (weaks : List Place) (dying : List OldWeak) : Type 0 where

@@ -56,7 +56,8 @@ alive_of words list = filter (is_alive words) list
 
 -- the deaths of these, with the words of their finalisers
 abbrev pub deaths_of : List ℕ → List OldWeak → List Death
-deaths_of words dying = map (λ (weak : OldWeak). let death : Death = record { weak = weak.weak; finaliser = slice_index words (finaliser_place weak.at.0) } in death) dying
+deaths_of words dying =
+    map (λ (weak : OldWeak). let death : Death = record { weak = weak.weak; finaliser = slice_index words (finaliser_place weak.at.0) } in death) dying
 
 -- the words where the value words of these are 0
 abbrev pub without_values : List ℕ → List OldWeak → List ℕ

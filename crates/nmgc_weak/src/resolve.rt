@@ -98,7 +98,8 @@ fn keep<W: HeapWords>(marker: &mut Marker, words: &mut W, segments: &mut Segment
     ensures words { W.words words.new ≡ W.words words.old }
     ensures marked { (count : ℕ) × HasMarked segments.old segments.new marker.old marker.new count }
     ensures turns { marker.new.turns ≡ marker.old.turns }
-    ensures kept { (o : Opening) (weaks : List Place) (weak : Name) → CanKeep o (W.words words.old) segments.old marker.old weaks at.0 weak → HasKept o (W.words words.old) segments.new marker.new weaks weak }
+    ensures kept { (o : Opening) (weaks : List Place) (weak : Name) → CanKeep o (W.words words.old) segments.old marker.old weaks at.0 weak →
+        HasKept o (W.words words.old) segments.new marker.new weaks weak }
 {
     let first = at.0 as usize;
     let value = words.load(first + VALUE);
@@ -122,7 +123,8 @@ fn keep_if_key_marked<W: HeapWords>(
     ensures words { W.words words.new ≡ W.words words.old }
     ensures marked { (count : ℕ) × HasMarked segments.old segments.new marker.old marker.new count }
     ensures turns { marker.new.turns ≡ marker.old.turns }
-    ensures passed { (o : Opening) (weaks : List Place) → CanResolve o (W.words words.old) segments.old marker.old weaks → Contains weaks (place_of weak) → HasPassed o (W.words words.old) segments.new marker.new weaks (weak.weak ∷ []) }
+    ensures passed { (o : Opening) (weaks : List Place) → CanResolve o (W.words words.old) segments.old marker.old weaks →
+        Contains weaks (place_of weak) → HasPassed o (W.words words.old) segments.new marker.new weaks (weak.weak ∷ []) }
 {
     if !is_of_snapshot(segments, weak.at) {
         return;
@@ -141,7 +143,8 @@ fn pass<W: HeapWords>(list: &[OldWeak], marker: &mut Marker, words: &mut W, segm
     ensures words { W.words words.new ≡ W.words words.old }
     ensures marked { (count : ℕ) × HasMarked segments.old segments.new marker.old marker.new count }
     ensures turns { marker.new.turns ≡ marker.old.turns }
-    ensures passed { (o : Opening) → CanResolve o (W.words words.old) segments.old marker.old (places_of list.now) → HasPassed o (W.words words.old) segments.new marker.new (places_of list.now) (names_of list.now) }
+    ensures passed { (o : Opening) → CanResolve o (W.words words.old) segments.old marker.old (places_of list.now) →
+        HasPassed o (W.words words.old) segments.new marker.new (places_of list.now) (names_of list.now) }
 {
     for weak in list {
         keep_if_key_marked(marker, words, segments, *weak);
@@ -162,7 +165,8 @@ pub(crate) fn revive<W: HeapWords>(
     ensures words { W.words words.new ≡ W.words words.old }
     ensures marked { (count : ℕ) × HasMarked segments.old segments.new marker.old marker.new count }
     ensures turns { marker.new.turns ≡ marker.old.turns }
-    ensures revived { (o : Opening) → CanResolve o (W.words words.old) segments.old marker.old (places_of list.now) → HasRevived o (W.words words.old) segments.new marker.new (places_of list.now) }
+    ensures revived { (o : Opening) → CanResolve o (W.words words.old) segments.old marker.old (places_of list.now) →
+        HasRevived o (W.words words.old) segments.new marker.new (places_of list.now) }
 {
     loop {
         let before = marker.marked();
@@ -186,7 +190,8 @@ pub(crate) fn find_dying<W: HeapWords>(
     requires room { length list.now ≤ vec_capacity dying.old }
     requires within { AreWithin (W.words words.old) list.now }
     ensures words { W.words words.new ≡ W.words words.old }
-    ensures found { (o : Opening) → CanResolve o (W.words words.old) segments.now marker.now (places_of list.now) → AreLost o (places_of list.now) dying.new.items }
+    ensures found { (o : Opening) → CanResolve o (W.words words.old) segments.now marker.now (places_of list.now) →
+        AreLost o (places_of list.now) dying.new.items }
     ensures capacity { vec_capacity dying.new ≡ vec_capacity dying.old }
     ensures few { vec_len dying.new ≤ length list.now }
 {
@@ -216,7 +221,8 @@ pub(crate) fn save_finalisers<W: HeapWords>(
     ensures marked { (count : ℕ) × HasMarked segments.old segments.new marker.old marker.new count }
     ensures turns { marker.new.turns ≡ marker.old.turns }
     ensures empty { marker.new.queue ≡ [] }
-    ensures saved { (o : Opening) (weaks : List Place) → CanRescue o (W.words words.old) segments.old marker.old weaks dying.now → HasRescued o segments.new marker.new dying.now }
+    ensures saved { (o : Opening) (weaks : List Place) → CanRescue o (W.words words.old) segments.old marker.old weaks dying.now →
+        HasRescued o segments.new marker.new dying.now }
 {
     for weak in dying {
         let finaliser = words.load(weak.at.0 as usize + FINALISER);

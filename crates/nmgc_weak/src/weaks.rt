@@ -104,8 +104,10 @@ fn gather_alive<W: HeapWords>(list: &[OldWeak], kept: &mut Vec<OldWeak>, words: 
 fn is_old_next(list: &[OldWeak], place: usize, fresh: &[OldWeak], next: usize) -> bool
     requires some { (place < length list.now) ⊎ (next < length fresh.now) }
     requires within { next ≤ length fresh.now }
-    ensures old { IsTrue result → (place < length list.now) × ((one other : Old) → slice_get list.now place ≡ Some one → slice_get fresh.now next ≡ Some other → IsBefore one.weak other.weak) }
-    ensures new { IsFalse result → (next < length fresh.now) × ((one other : Old) → slice_get list.now place ≡ Some one → slice_get fresh.now next ≡ Some other → IsBefore one.weak other.weak → ⊥) }
+    ensures old { IsTrue result → (place < length list.now) ×
+        ((one other : Old) → slice_get list.now place ≡ Some one → slice_get fresh.now next ≡ Some other → IsBefore one.weak other.weak) }
+    ensures new { IsFalse result → (next < length fresh.now) ×
+        ((one other : Old) → slice_get list.now place ≡ Some one → slice_get fresh.now next ≡ Some other → IsBefore one.weak other.weak → ⊥) }
 {
     if next == fresh.len() {
         return true;
@@ -282,7 +284,8 @@ impl Weaks {
         ensures empty { marker.new.queue ≡ [] }
         ensures spare { self.new.spare + length self.new.list ≡ self.old.spare + length self.old.list }
         ensures values { HaveLostValues self.old.list self.new.deaths (W.words words.old) (W.words words.new) }
-        ensures resolved { (o : Opening) → CanResolve o (W.words words.old) segments.old marker.old (places_of self.old.list) → HasResolved o (W.words words.new) segments.new marker.new self.new.list self.new.deaths }
+        ensures resolved { (o : Opening) → CanResolve o (W.words words.old) segments.old marker.old (places_of self.old.list) →
+            HasResolved o (W.words words.new) segments.new marker.new self.new.list self.new.deaths }
     {
         self.dying.clear();
         self.deaths.clear();

@@ -22,7 +22,8 @@ use Rattle.nmgc_alloc.specs.laws.Counts.{one_counted, is_free}
 use Rattle.nmgc_alloc.specs.laws.Placing.{step}
 
 -- taking the first unused block of a segment without marks moves the index on by one
-took_next : (old new : Segment) (block : ℕ) → TakesBlock old new block → ((b : ℕ) → mark_of old b ≡ 0) → (new.next_free ≡ old.next_free + 1) × ((b : ℕ) → mark_of new b ≡ 0)
+took_next : (old new : Segment) (block : ℕ) → TakesBlock old new block → ((b : ℕ) → mark_of old b ≡ 0) → (new.next_free ≡ old.next_free + 1) ×
+    ((b : ℕ) → mark_of new b ≡ 0)
 took_next old new block t none =
     let marks : new.marks ≡ old.marks = ap (λ (x : Segment). x.marks) t.rest in
     let clear : (b : ℕ) → mark_of new b ≡ 0 = λ b. ap (λ (xs : List ℕ). slice_index xs b) marks ∙ none b in
@@ -85,17 +86,24 @@ module _ (layout : Layout) (size : IsSegmentSize layout.words) where
       let sums = sum_by-set (λ (k : ℕ). k) r.left p v 0 inside in
       let frees = sum_by-set (λ (segment : Segment). cond (is segment.state Free) 1 0) xs n y (free_segment 0) in' in
       let w = layout.words in
-      let scaled : w * free_count (set xs n y) + w * cond (is (nth xs n).state Free) 1 0 ≡ w * free_count xs + w * cond (is y.state Free) 1 0 = let e = ap (λ (k : ℕ). w * k) frees in omega (arith, e) in
+      let scaled : w * free_count (set xs n y) + w * cond (is (nth xs n).state Free) 1 0 ≡ w * free_count xs + w * cond (is y.state Free) 1 0 =
+      let e = ap (λ (k : ℕ). w * k) frees in omega (arith, e) in
       record {
         left = set r.left p v;
         pairs = length-set r.left p v ∙ r.pairs;
         most = All-set (λ k. k ≤ w) r.left p v most r.most;
         begun = λ a b la lb.
-            let other : ((a ≡ m) × (b ≡ c) → ⊥) → (slice_index (set r.left p v) (pair layout a b) ≡ 0) ⊎ ((k : ℕ) × HasLeft layout (set xs n y) a b (slice_index (set r.left p v) (pair layout a b)) k) = λ ne.
-            let e : slice_index (set r.left p v) (pair layout a b) ≡ slice_index r.left (pair layout a b) = at_or r.left p (pair layout a b) v (λ s. ne (same_pair (class_count layout) a b m c lb small s)) in
+            let other : ((a ≡ m) × (b ≡ c) → ⊥) → (slice_index (set r.left p v) (pair layout a b) ≡ 0) ⊎
+            ((k : ℕ) × HasLeft layout (set xs n y) a b (slice_index (set r.left p v) (pair layout a b)) k) = λ ne.
+            let e : slice_index (set r.left p v) (pair layout a b) ≡ slice_index r.left (pair layout a b) =
+            at_or r.left p (pair layout a b) v (λ s. ne (same_pair (class_count layout) a b m c lb small s)) in
             rw e (elim (r.begun a b la lb) [
               | inl z ↦ inl z
-              | inr h ↦ inr (h.0, untouched xs n y a b (slice_index r.left (pair layout a b)) h.0 (λ s. ne (mine a b (subst (λ (k : ℕ). IsCurrent a b (nth xs k)) s h.1.current))) h.1)
+              | inr h ↦ inr (
+                h.0,
+                untouched xs n y a b (slice_index r.left (pair layout a b)) h.0 (λ s.
+                    ne (mine a b (subst (λ (k : ℕ). IsCurrent a b (nth xs k)) s h.1.current))) h.1,
+              )
             ]) in
             elim (cases_eq a m) [
               | inl s ↦ elim (cases_eq b c) [
@@ -136,8 +144,10 @@ module _ (layout : Layout) (size : IsSegmentSize layout.words) where
       let same_words : segment_words y ≡ layout.words = ap (λ (b : List ℕ). 4 * length b) marks ∙ words in
       let q : ℕ = layout.words / block_size c in
       let whole : q * block_size c + left_over layout c ≡ layout.words = div-add-mod' layout.words (block_size c) in
-      let blocks : block_count y ≡ q = subst (λ (k : ℕ). segment_words y / block_size k ≡ layout.words / block_size c) (sym same_class) (ap (λ (k : ℕ). k / block_size c) same_words) in
-      let grown : y.next_free * block_size c ≡ was.next_free * block_size c + block_size c = let e = ap (λ (k : ℕ). k * block_size c) next.0 in omega (arith, e) in
+      let blocks : block_count y ≡ q = subst (λ (k : ℕ). segment_words y / block_size k ≡
+      layout.words / block_size c) (sym same_class) (ap (λ (k : ℕ). k / block_size c) same_words) in
+      let grown : y.next_free * block_size c ≡ was.next_free * block_size c + block_size c = let e = ap (λ (k : ℕ). k * block_size c) next.0 in
+      omega (arith, e) in
       elim (cases_eq v 0) [
         | inl z ↦ inl z
         | inr more ↦
@@ -175,10 +185,13 @@ module _ (layout : Layout) (size : IsSegmentSize layout.words) where
   ]
 
   -- placing an object that has at least half the words of its block and of what is left over keeps the reserve
-  step_keeps : (xs : List Segment) (n : ℕ) (y : Segment) (m c block placed words : ℕ) → n < length xs → m < layout.mutators → c < class_count layout → block_size c ≤ layout.words → left_over layout c + block_size c ≤ 2 * words
+  step_keeps : (xs : List Segment) (n : ℕ) (y : Segment) (m c block placed words : ℕ) → n < length xs → m < layout.mutators →
+      c < class_count layout → block_size c ≤ layout.words → left_over layout c + block_size c ≤ 2 * words
       → segment_words (nth xs n) ≡ layout.words
       → TakesBlock (as_current m c (nth xs n)) y block
-      → (IsCurrent m c (nth xs n)) ⊎ ((((k : ℕ) → k < length xs → IsCurrent m c (nth xs k) → ⊥) × ((nth xs n).state ≡ Active)) ⊎ (((k : ℕ) → k < length xs → IsCurrent m c (nth xs k) → ⊥) × ((nth xs n).state ≡ Free) × (((b : ℕ) → mark_of (nth xs n) b ≡ 0) × ((nth xs n).next_free ≡ 0))))
+      → (IsCurrent m c (nth xs n)) ⊎ ((((k : ℕ) → k < length xs → IsCurrent m c (nth xs k) → ⊥) × ((nth xs n).state ≡ Active)) ⊎
+      (((k : ℕ) → k < length xs → IsCurrent m c (nth xs k) → ⊥) × ((nth xs n).state ≡ Free) ×
+      (((b : ℕ) → mark_of (nth xs n) b ≡ 0) × ((nth xs n).next_free ≡ 0))))
       → KeepsReserve layout xs placed → KeepsReserve layout (set xs n y) (placed + words)
   step_keeps xs n y m c block placed words in' low small fits half same_words t chosen r =
       let w = layout.words in
@@ -189,7 +202,8 @@ module _ (layout : Layout) (size : IsSegmentSize layout.words) where
       let gone = taken_not_free w m c block (as_current m c (nth xs n)) y refl t in
       elim chosen [
         | inl own ↦
-            let mine : (a b : ℕ) → IsCurrent a b (nth xs n) → (a ≡ m) × (b ≡ c) = λ a b h. let e : Current a ≡ Current m = sym h.0 ∙ own.0 in ((cc), sym h.1 ∙ own.1) in
+            let mine : (a b : ℕ) → IsCurrent a b (nth xs n) → (a ≡ m) × (b ≡ c) = λ a b h. let e : Current a ≡ Current m = sym h.0 ∙ own.0 in
+            ((cc), sym h.1 ∙ own.1) in
             let was = not_free w (nth xs n).state (Current m) own.0 refl in
             elim (r.begun m c low small) [
               | inl z ↦ changed xs n y m c 0 placed words in' low small mine (omega arith) (inl refl) r (omega (arith, was, gone, z))
@@ -197,9 +211,13 @@ module _ (layout : Layout) (size : IsSegmentSize layout.words) where
                 | inl s ↦
                     let here = subst (λ (k : ℕ). HasLeft layout xs m c left k) s h.1 in
                     changed xs n y m c (left - block_size c) placed words in' low small mine (omega (arith, most))
-                    (next_left xs n (as_current m c (nth xs n)) y m c left (left - block_size c) block in' refl refl same_words fits t here.unmarked here.fits refl)
+                    (next_left xs n (as_current m c (nth xs n)) y m c left (left - block_size c) block in' refl refl same_words fits t here.unmarked
+                    here.fits refl)
                     r (omega (arith, was, gone, half))
-                | inr ne ↦ changed xs n y m c left placed words in' low small mine most (inr (h.0, untouched xs n y m c left h.0 ne h.1)) r (omega (arith, was, gone))
+                | inr ne ↦ changed xs n y m c left placed words in' low small mine most (inr (
+                  h.0,
+                  untouched xs n y m c left h.0 ne h.1,
+                )) r (omega (arith, was, gone))
               ]
             ]
         | inr (inl active) ↦
@@ -209,7 +227,8 @@ module _ (layout : Layout) (size : IsSegmentSize layout.words) where
             changed xs n y m c 0 placed words in' low small mine (omega arith) (inl refl) r (omega (arith, was, gone, z))
         | inr (inr free) ↦
             let mine : (a b : ℕ) → IsCurrent a b (nth xs n) → (a ≡ m) × (b ≡ c) = λ a b h. let e : Current a ≡ Free = sym h.0 ∙ free.1 in absurd cc in
-            let was : w * cond (is (nth xs n).state Free) 1 0 ≡ w = let e : is (nth xs n).state Free ≡ true = ap (λ (x : State). is x Free) free.1 in rw e (omega arith) in
+            let was : w * cond (is (nth xs n).state Free) 1 0 ≡ w =
+            let e : is (nth xs n).state Free ≡ true = ap (λ (x : State). is x Free) free.1 in rw e (omega arith) in
             let z : left ≡ 0 = elim (r.begun m c low small) [ inl z ↦ z | inr h ↦ absurd (free.0 h.0 h.1.exists h.1.current) ] in
             let over = left_over layout c in
             let whole : w / block_size c * block_size c + over ≡ w = div-add-mod' w (block_size c) in
@@ -221,7 +240,8 @@ module _ (layout : Layout) (size : IsSegmentSize layout.words) where
       ]
 
   -- the words that free segments make up for are those of all nurseries twice, and a segment for each pair
-  reserve_is : 0 < layout.words → 2 * layout.mutators * layout.nursery + layout.words * (layout.mutators * class_count layout) < layout.words * reserve_count layout + layout.words
+  reserve_is : 0 < layout.words →
+      2 * layout.mutators * layout.nursery + layout.words * (layout.mutators * class_count layout) < layout.words * reserve_count layout + layout.words
   reserve_is positive =
       let all : ℕ = 2 * layout.mutators * layout.nursery in
       let w = layout.words in
@@ -230,7 +250,8 @@ module _ (layout : Layout) (size : IsSegmentSize layout.words) where
       omega (arith, rest, split)
 
   -- with the reserve kept, and no more placed than the nurseries hold, there is a free segment or one that the mutator began
-  room : (xs : List Segment) (m c placed : ℕ) → m < layout.mutators → c < class_count layout → placed ≤ layout.mutators * layout.nursery → KeepsReserve layout xs placed
+  room : (xs : List Segment) (m c placed : ℕ) → m < layout.mutators → c < class_count layout → placed ≤ layout.mutators * layout.nursery →
+      KeepsReserve layout xs placed
       → ((k : ℕ) × (k < length xs) × IsCurrent m c (nth xs k)) ⊎ ((k : ℕ) × (k < length xs) × ((nth xs k).state ≡ Free))
   room xs m c placed low small few r = elim (r.begun m c low small) [
     | inr h ↦ inl (h.0, h.1.exists, h.1.current)
@@ -244,7 +265,8 @@ module _ (layout : Layout) (size : IsSegmentSize layout.words) where
           let inside : p < length r.left = let l = pair_in (class_count layout) m c layout.mutators small low in omega (arith, l, r.pairs) in
           let sums = sum_by-set (λ (k : ℕ). k) r.left p w 0 inside in
           let bound = sum_by-le (λ (k : ℕ). k) w (set r.left p w) (All-set (λ k. k ≤ w) r.left p w (omega arith) r.most) in
-          let count : length (set r.left p w) * w ≡ w * (layout.mutators * class_count layout) = let e = ap (λ (k : ℕ). k * w) (length-set r.left p w ∙ r.pairs) in omega (arith, e) in
+          let count : length (set r.left p w) * w ≡ w * (layout.mutators * class_count layout) =
+          let e = ap (λ (k : ℕ). k * w) (length-set r.left p w ∙ r.pairs) in omega (arith, e) in
           let zero_free : w * free_count xs ≡ 0 = let e : free_count xs ≡ 0 = omega arith in rw e (omega arith) in
           let enough = reserve_is (omega (arith, size.least)) in
           absurd (omega (arith, r.enough, sums, bound, count, zero_free, enough, z, few))
@@ -252,7 +274,8 @@ module _ (layout : Layout) (size : IsSegmentSize layout.words) where
   ]
 
 -- each placing keeps the reserve
-pub placing_keeps : (s new : Segments) (m c at placed words : ℕ) → IsSegments s → Allocates s new m c at → m < s.layout.mutators → c < class_count s.layout → 2 ≤ words → words ≤ s.layout.words → IsClassOf words c
+pub placing_keeps : (s new : Segments) (m c at placed words : ℕ) → IsSegments s → Allocates s new m c at → m < s.layout.mutators →
+    c < class_count s.layout → 2 ≤ words → words ≤ s.layout.words → IsClassOf words c
     → KeepsReserve s.layout s.segments placed → KeepsReserve s.layout new.segments (placed + words)
 placing_keeps s new m c at placed words h a low small two most is r =
     let fits = class_fits s.layout.words c words h.layout.words most is.least in
@@ -269,7 +292,8 @@ placing_keeps s new m c at placed words h a low small two most is r =
     subst (λ (xs : List Segment). KeepsReserve s.layout xs (placed + words)) (sym a.others) kept
 
 -- and gives room
-pub reserve_has_room : (s : Segments) (m c placed : ℕ) → IsSegments s → m < s.layout.mutators → c < class_count s.layout → placed ≤ s.layout.mutators * s.layout.nursery → KeepsReserve s.layout s.segments placed → HasRoom s m c
+pub reserve_has_room : (s : Segments) (m c placed : ℕ) → IsSegments s → m < s.layout.mutators → c < class_count s.layout →
+    placed ≤ s.layout.mutators * s.layout.nursery → KeepsReserve s.layout s.segments placed → HasRoom s m c
 reserve_has_room s m c placed h low small few r = elim (room s.layout h.layout.words s.segments m c placed low small few r) [
   | inl own ↦ (own.0, own.1, inl (own.2, (h.members own.0 own.1).current_room m own.2.0))
   | inr free ↦ (free.0, free.1, inr (inr free.2))

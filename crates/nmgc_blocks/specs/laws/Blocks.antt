@@ -16,7 +16,8 @@ occupied_in s p size sound o i low high =
     let member = sound.members o.number o.begins.exists in
     let class = (nth s.segments o.number).class in
     let positive : 0 < block_size class = let l = large class in omega (arith, l) in
-    let count : o.block < s.layout.words / block_size class = let e = ap (λ (k : ℕ). k / block_size class) member.words in let b = o.begins.within in omega (arith, e, b) in
+    let count : o.block < s.layout.words / block_size class = let e = ap (λ (k : ℕ). k / block_size class) member.words in
+    let b = o.begins.within in omega (arith, e, b) in
     let room = fits s.layout.words (block_size class) o.block positive count in
     let e = o.begins.place in
     let w = o.words in
@@ -41,7 +42,8 @@ occupied_apart s p a q b sound o u = elim (cases_eq p q) [
   | inl e ↦ inl e
   | inr ne ↦ elim (blocks_lie_apart s o.number o.block p u.number u.block q sound o.begins u.begins) [
     | inl same ↦
-        let e : p ≡ q = o.begins.place ∙ ap (λ (k : ℕ). block_place s.layout k (nth s.segments k).class o.block) same.0 ∙ ap (λ (k : ℕ). block_place s.layout u.number (nth s.segments u.number).class k) same.1 ∙ sym u.begins.place in
+        let e : p ≡ q = o.begins.place ∙ ap (λ (k : ℕ). block_place s.layout k (nth s.segments k).class o.block) same.0 ∙
+        ap (λ (k : ℕ). block_place s.layout u.number (nth s.segments u.number).class k) same.1 ∙ sym u.begins.place in
         inl e
     | inr (inl l) ↦ let w = o.words in inr (inl (omega (arith, w, l)))
     | inr (inr l) ↦ let w = u.words in inr (inr (omega (arith, w, l)))
@@ -59,7 +61,8 @@ is_block s base p size sound emptied o =
     let four : 4 ≤ size = let l = large (nth s.segments o.number).class in let w = o.words in omega (arith, l, w) in
     let first = occupied_in s p size sound o p (omega arith) (omega arith) in
     let last = occupied_in s p size sound o (p + size - 1) (omega arith) (omega arith) in
-    let up : (o.number + 1) * s.layout.words ≤ s.layout.segments * s.layout.words = let e : o.number + 1 ≤ s.layout.segments = let x = last.exists in omega (arith, x) in mul-le-mul_right s.layout.words e in
+    let up : (o.number + 1) * s.layout.words ≤ s.layout.segments * s.layout.words =
+    let e : o.number + 1 ≤ s.layout.segments = let x = last.exists in omega (arith, x) in mul-le-mul_right s.layout.words e in
     let low = first.from in
     let high = last.before in
     record {

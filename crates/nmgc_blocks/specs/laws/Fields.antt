@@ -25,13 +25,17 @@ use Rattle.nmgc_blocks.specs.Strong.{strong_part, HasStrong}
 
 -- a slot that holds a strong field, or is unset
 abbrev IsStrongAt : Node → ℕ → Type 0
-IsStrongAt node i = ((v : Value) × (slice_get (slots_of node) i ≡ Some (holds v)) × Contains (strong_fields node) v) ⊎ (slice_get (slots_of node) i ≡ Some unset)
+IsStrongAt node i = ((v : Value) × (slice_get (slots_of node) i ≡ Some (holds v)) × Contains (strong_fields node) v) ⊎
+    (slice_get (slots_of node) i ≡ Some unset)
 
 held_at : (values : List Value) (i : ℕ) → i < length values → (v : Value) × (slice_get (map holds values) i ≡ Some (holds v)) × Contains values v
 held_at values i lt =
     let v = get_or values i value.Nil in
-    let in' : i < length (map holds values) = let e = length-map values holds in omega (arith, e) in
-    (v, slice_get-get_or (map holds values) i (holds value.Nil) in' ∙ ap Some (get_or-map holds values i value.Nil (holds value.Nil) lt), Contains-get_or values i value.Nil lt)
+    let in' : i < length (map holds values) = let e = length-map values holds in omega (arith, e) in (
+      v,
+      slice_get-get_or (map holds values) i (holds value.Nil) in' ∙ ap Some (get_or-map holds values i value.Nil (holds value.Nil) lt),
+      Contains-get_or values i value.Nil lt,
+    )
 
 pub held_where : (values : List Value) (v : Value) → Contains values v → (i : ℕ) × (i < length values) × (slice_get (map holds values) i ≡ Some (holds v))
 held_where values v c =
@@ -56,7 +60,8 @@ Agrees (Thunk free None) b = b ≡ true
 Agrees (Thunk free (Some result)) b = b ≡ false
 Agrees _ b = Unit {0}
 
-strong_in : (node : Node) (b : Bool) (i : ℕ) → IsSized node → Agrees node b → (strong_part (header_of node).kind (header_of node).fields b).0 ≤ i → i < (strong_part (header_of node).kind (header_of node).fields b).1 → IsStrongAt node i
+strong_in : (node : Node) (b : Bool) (i : ℕ) → IsSized node → Agrees node b → (strong_part (header_of node).kind (header_of node).fields b).0 ≤ i →
+    i < (strong_part (header_of node).kind (header_of node).fields b).1 → IsStrongAt node i
 strong_in (Con tag values) b i s a low high = inl (held_at values i high)
 strong_in (Var v) b i s a low high = inl (held_at (v ∷ []) i high)
 strong_in (Arr values) b i s a low high = inl (held_at values i high)
@@ -71,7 +76,8 @@ strong_in (Stack size values) b i s a low high = elim (cases_lt i (length values
   | inl lt ↦ let h = held_at values i lt in inl (h.0, left_at (map holds values) (replicate (size - length values) unset) i (holds h.0) h.1, h.2)
   | inr ge ↦
       let e : i ≡ length (map holds values) + (i - length values) = let l = length-map values holds in omega (arith, l) in
-      let r = right_at (map holds values) (replicate (size - length values) unset) (i - length values) unset (all_at (size - length values) (i - length values) unset (omega arith)) in
+      let r = right_at (map holds values) (replicate (size - length values) unset) (i - length values) unset
+      (all_at (size - length values) (i - length values) unset (omega arith)) in
       inr (subst (λ (k : ℕ). slice_get (map holds values ++ replicate (size - length values) unset) k ≡ Some unset) (sym e) r)
 ]
 
@@ -96,7 +102,12 @@ strong_out (Thunk free (Some result)) false v s a c =
 strong_out (Weak parts) b v s a c = absurd (omega (arith, c.1))
 strong_out (Stack size values) b v s a c =
     let h = held_where values v c in
-    record { index = h.0; from = omega arith; before = omega (arith, h.1, s); is = left_at (map holds values) (replicate (size - length values) unset) h.0 (holds v) h.2 }
+    record {
+      index = h.0;
+      from = omega arith;
+      before = omega (arith, h.1, s);
+      is = left_at (map holds values) (replicate (size - length values) unset) h.0 (holds v) h.2;
+    }
 
 -- a strong field has its slot
 pub strong_slot : (node : Node) (v : Value) → Contains (strong_fields node) v → (i : ℕ) × (slice_get (slots_of node) i ≡ Some (holds v))
@@ -104,9 +115,11 @@ strong_slot (Con tag values) v c = let h = held_where values v c in (h.0, h.2)
 strong_slot (Var x) v c = let h = held_where (x ∷ []) v c in (h.0, h.2)
 strong_slot (Arr values) v c = let h = held_where values v c in (h.0, h.2)
 strong_slot (Thunk free None) v c = let h = held_where free v c in (suc h.0, h.2)
-strong_slot (Thunk free (Some result)) v c = let h = held_where (result ∷ []) v c in (h.0, left_at (map holds (result ∷ [])) (replicate (length free) untold) h.0 (holds v) h.2)
+strong_slot (Thunk free (Some result)) v c = let h = held_where (result ∷ []) v c in
+    (h.0, left_at (map holds (result ∷ [])) (replicate (length free) untold) h.0 (holds v) h.2)
 strong_slot (Weak parts) v c = absurd (omega (arith, c.1))
-strong_slot (Stack size values) v c = let h = held_where values v c in (h.0, left_at (map holds values) (replicate (size - length values) unset) h.0 (holds v) h.2)
+strong_slot (Stack size values) v c = let h = held_where values v c in
+    (h.0, left_at (map holds values) (replicate (size - length values) unset) h.0 (holds v) h.2)
 
 module _ (layout : Layout) (earlier : List World) (K : Name → Node → Type 0) (places : List Place) (w : World) (words : List ℕ)
     (differ : (a b : Header) → IsHeader a → IsHeader b → header_word a ≡ header_word b → a ≡ b)
@@ -117,7 +130,8 @@ module _ (layout : Layout) (earlier : List World) (K : Name → Node → Type 0)
     pub object : IsObject layout places words (record { at = at; name = name }) node
     pub fields : HasSlots (Contains places) words (at + HEADER_WORDS) (slots_of node)
 
-  pub stands : (name : Name) (node : Node) (at : ℕ) → IsTracked w earlier name → node_of w name ≡ Some node → Contains places (record { at = at; name = name }) → Stands name node at
+  pub stands : (name : Name) (node : Node) (at : ℕ) → IsTracked w earlier name → node_of w name ≡ Some node →
+      Contains places (record { at = at; name = name }) → Stands name node at
   stands name node at t e c =
       let p = r.tracked name node t e in
       let same : p.at ≡ at = ap (λ (x : Place). x.at) (r.one (record { at = p.at; name = name }) (record { at = at; name = name }) p.there c (inl refl)) in
@@ -143,15 +157,18 @@ module _ (layout : Layout) (earlier : List World) (K : Name → Node → Type 0)
   not_zero (value.Ref n) word f = ne_eqb word 0 (λ z. let l = positive (record { at = f.0; name = n }) f.2 in omega (arith, f.1, z, l))
 
   -- the first field shows whether a thunk has a result
-  agrees : (name : Name) (node : Node) (at : ℕ) → IsTracked w earlier name → node_of w name ≡ Some node → HasSlots (Contains places) words (at + HEADER_WORDS) (slots_of node) → Agrees node (eqb (slice_index words (at + HEADER_WORDS)) 0)
+  agrees : (name : Name) (node : Node) (at : ℕ) → IsTracked w earlier name → node_of w name ≡ Some node →
+      HasSlots (Contains places) words (at + HEADER_WORDS) (slots_of node) → Agrees node (eqb (slice_index words (at + HEADER_WORDS)) 0)
   agrees name (Con tag values) at t e f = tt
   agrees name (Var v) at t e f = tt
   agrees name (Arr values) at t e f = tt
   agrees name (Thunk free None) at t e f =
-      let first : slice_index words (at + HEADER_WORDS) ≡ 0 = subst (λ (k : ℕ). slice_index words k ≡ 0) (let z : at + 2 + 0 ≡ at + 2 = omega arith in z) (f 0 unset refl) in
+      let first : slice_index words (at + HEADER_WORDS) ≡ 0 =
+      subst (λ (k : ℕ). slice_index words k ≡ 0) (let z : at + 2 + 0 ≡ at + 2 = omega arith in z) (f 0 unset refl) in
       eq-eqb (slice_index words (at + HEADER_WORDS)) 0 first
   agrees name (Thunk free (Some result)) at t e f =
-      let first = subst (λ (k : ℕ). Means (Contains places) (slice_index words k) result) (let z : at + 2 + 0 ≡ at + 2 = omega arith in z) (f 0 (holds result) refl) in
+      let first = subst (λ (k : ℕ). Means (Contains places) (slice_index words k) result) (let z : at + 2 + 0 ≡ at + 2 = omega arith in
+      z) (f 0 (holds result) refl) in
       not_zero result (slice_index words (at + HEADER_WORDS)) first
   agrees name (Weak parts) at t e f = tt
   agrees name (Stack size values) at t e f = tt
@@ -160,7 +177,9 @@ module _ (layout : Layout) (earlier : List World) (K : Name → Node → Type 0)
   sized name node e = let of = at_some (node_of w name) node (IsNodeOf w) e (world.nodes name) in of.sized
 
   -- a strong field's word that points somewhere points to the place of a name that the node refers to
-  pub field_in : (name : Name) (node : Node) (at b : ℕ) → IsTracked w earlier name → node_of w name ≡ Some node → Contains places (record { at = at; name = name }) → 1 ≤ b → HasStrong words at (2 * b) → (n : Name) × Contains places (record { at = b; name = n }) × RefersTo w name n
+  pub field_in : (name : Name) (node : Node) (at b : ℕ) → IsTracked w earlier name → node_of w name ≡ Some node →
+      Contains places (record { at = at; name = name }) → 1 ≤ b → HasStrong words at (2 * b) → (n : Name) ×
+      Contains places (record { at = b; name = n }) × RefersTo w name n
   field_in name node at b t e c low h =
       let o = stands name node at t e c in
       let same : h.header ≡ header_of node = differ h.header (header_of node) h.valid o.object.valid (sym h.read ∙ o.object.header) in
@@ -170,11 +189,13 @@ module _ (layout : Layout) (earlier : List World) (K : Name → Node → Type 0)
       let before = subst (λ (x : Header). h.index < (strong_part x.kind x.fields bit).1) same h.before in
       let word = h.is in
       elim (strong_in node bit h.index (sized name node e) a from before) [
-        | inl s ↦ pointed (2 * b) b refl low s.0 (subst (λ (k : ℕ). Means (Contains places) k s.0) word (o.fields h.index (holds s.0) s.1)) (λ n d. (node, e, subst (λ (x : Value). Contains (strong_fields node) x) d s.2))
+        | inl s ↦ pointed (2 * b) b refl low s.0 (subst (λ (k : ℕ). Means (Contains places) k s.0) word (o.fields h.index (holds s.0) s.1)) (λ n d.
+            (node, e, subst (λ (x : Value). Contains (strong_fields node) x) d s.2))
         | inr z ↦ absurd (let zero : slice_index words (at + HEADER_WORDS + h.index) ≡ 0 = o.fields h.index unset z in omega (arith, zero, word, low))
       ]
     where
-      pointed : (word b : ℕ) → word ≡ 2 * b → 1 ≤ b → (v : Value) → Means (Contains places) word v → ((n : Name) → v ≡ value.Ref n → RefersTo w name n) → (n : Name) × Contains places (record { at = b; name = n }) × RefersTo w name n
+      pointed : (word b : ℕ) → word ≡ 2 * b → 1 ≤ b → (v : Value) → Means (Contains places) word v →
+          ((n : Name) → v ≡ value.Ref n → RefersTo w name n) → (n : Name) × Contains places (record { at = b; name = n }) × RefersTo w name n
       pointed word b e low value.Nil m f = absurd (omega (arith, m, e))
       pointed word b e low (value.Number n) m f = absurd (omega (arith, m, e))
       pointed word b e low (value.Ref n) m f =
@@ -182,7 +203,9 @@ module _ (layout : Layout) (earlier : List World) (K : Name → Node → Type 0)
           (n, subst (λ (k : ℕ). Contains places (record { at = k; name = n })) there m.2, f n refl)
 
   -- and each name that the node refers to has its pointer there
-  pub field_out : (name : Name) (node : Node) (at : ℕ) (n : Name) (b : ℕ) → IsTracked w earlier name → node_of w name ≡ Some node → Contains places (record { at = at; name = name }) → Contains (strong_fields node) (value.Ref n) → Contains places (record { at = b; name = n }) → HasStrong words at (2 * b)
+  pub field_out : (name : Name) (node : Node) (at : ℕ) (n : Name) (b : ℕ) → IsTracked w earlier name → node_of w name ≡ Some node →
+      Contains places (record { at = at; name = name }) → Contains (strong_fields node) (value.Ref n) →
+      Contains places (record { at = b; name = n }) → HasStrong words at (2 * b)
   field_out name node at n b t e c s d =
       let o = stands name node at t e c in
       let a = agrees name node at t e o.fields in

@@ -53,7 +53,8 @@ module _ (s new : Segments) (m c at : ℕ) (sound : IsSegments s) (after : IsSeg
       exists = omega (arith, within, count);
       used = not_free;
       within = let e = a.takes.first.exists in omega (arith, e, blocks_are);
-      place = a.place ∙ ap (λ (l : Layout). block_place l a.number c a.block) (sym a.layout) ∙ ap (λ (k : ℕ). block_place new.layout a.number k a.block) (sym class_is);
+      place = a.place ∙ ap (λ (l : Layout). block_place l a.number c a.block) (sym a.layout) ∙
+          ap (λ (k : ℕ). block_place new.layout a.number k a.block) (sym class_is);
     };
     used = (a.takes.used a.block).1 (inr refl);
     words = ap block_size (sym class_is);
@@ -72,7 +73,8 @@ module _ (s new : Segments) (m c at : ℕ) (sound : IsSegments s) (after : IsSeg
               exists = omega (arith, count, o.begins.exists);
               used = subst (λ (x : Segment). x.state ≢ Free) (sym same) o.begins.used;
               within = subst (λ (x : Segment). o.block < block_count x) (sym same) o.begins.within;
-              place = o.begins.place ∙ ap (λ (l : Layout). block_place l o.number (nth s.segments o.number).class o.block) (sym a.layout) ∙ ap (λ (x : Segment). block_place new.layout o.number x.class o.block) (sym same);
+              place = o.begins.place ∙ ap (λ (l : Layout). block_place l o.number (nth s.segments o.number).class o.block) (sym a.layout) ∙
+                  ap (λ (x : Segment). block_place new.layout o.number x.class o.block) (sym same);
             };
             used = subst (λ (x : Segment). InUse x o.block) (sym same) o.used;
             words = o.words ∙ ap (λ (x : Segment). block_size x.class) (sym same);
@@ -84,7 +86,8 @@ module _ (s new : Segments) (m c at : ℕ) (sound : IsSegments s) (after : IsSeg
         let state = subst (λ (k : ℕ). (nth s.segments k).state ≢ Free) e o.begins.used in
         let inside = subst (λ (k : ℕ). o.block < block_count (nth s.segments k)) e o.begins.within in
         let was = class_was state in
-        let blocks : block_count (nth s.segments a.number) ≡ 4 * length (nth s.segments a.number).marks / block_size c = ap (λ (k : ℕ). segment_words (nth s.segments a.number) / block_size k) was in
+        let blocks : block_count (nth s.segments a.number) ≡ 4 * length (nth s.segments a.number).marks / block_size c =
+        ap (λ (k : ℕ). segment_words (nth s.segments a.number) / block_size k) was in
         let class : (nth s.segments o.number).class ≡ (nth new.segments a.number).class = ap (λ (k : ℕ). (nth s.segments k).class) e ∙ was ∙ sym class_is in (
           record {
             number = a.number;
@@ -93,7 +96,9 @@ module _ (s new : Segments) (m c at : ℕ) (sound : IsSegments s) (after : IsSeg
               exists = omega (arith, within, count);
               used = not_free;
               within = omega (arith, inside, blocks, blocks_are);
-              place = o.begins.place ∙ ap (λ (l : Layout). block_place l o.number (nth s.segments o.number).class o.block) (sym a.layout) ∙ ap (λ (k : ℕ). block_place new.layout k (nth s.segments o.number).class o.block) e ∙ ap (λ (k : ℕ). block_place new.layout a.number k o.block) class;
+              place = o.begins.place ∙ ap (λ (l : Layout). block_place l o.number (nth s.segments o.number).class o.block) (sym a.layout) ∙
+                  ap (λ (k : ℕ). block_place new.layout k (nth s.segments o.number).class o.block) e ∙
+                  ap (λ (k : ℕ). block_place new.layout a.number k o.block) class;
             };
             used = (a.takes.used o.block).1 (inl used);
             words = o.words ∙ ap block_size class;
@@ -114,7 +119,8 @@ module _ (s new : Segments) (m c at : ℕ) (sound : IsSegments s) (after : IsSeg
             exists = omega (arith, count, o.begins.exists);
             used = subst (λ (x : Segment). x.state ≢ Free) same o.begins.used;
             within = subst (λ (x : Segment). o.block < block_count x) same o.begins.within;
-            place = o.begins.place ∙ ap (λ (l : Layout). block_place l o.number (nth new.segments o.number).class o.block) a.layout ∙ ap (λ (x : Segment). block_place s.layout o.number x.class o.block) same;
+            place = o.begins.place ∙ ap (λ (l : Layout). block_place l o.number (nth new.segments o.number).class o.block) a.layout ∙
+                ap (λ (x : Segment). block_place s.layout o.number x.class o.block) same;
           };
           used = subst (λ (x : Segment). InUse x o.block) same o.used;
           words = o.words ∙ ap (λ (x : Segment). block_size x.class) same;
@@ -122,7 +128,9 @@ module _ (s new : Segments) (m c at : ℕ) (sound : IsSegments s) (after : IsSeg
     | inl e ↦
         let used = subst (λ (k : ℕ). InUse (nth new.segments k) o.block) e o.used in
         let inside = subst (λ (k : ℕ). o.block < block_count (nth new.segments k)) e o.begins.within in
-        let place : p ≡ block_place s.layout a.number c o.block = o.begins.place ∙ ap (λ (l : Layout). block_place l o.number (nth new.segments o.number).class o.block) a.layout ∙ ap (λ (k : ℕ). block_place s.layout k (nth new.segments k).class o.block) e ∙ ap (λ (k : ℕ). block_place s.layout a.number k o.block) class_is in
+        let place : p ≡ block_place s.layout a.number c o.block = o.begins.place ∙
+        ap (λ (l : Layout). block_place l o.number (nth new.segments o.number).class o.block) a.layout ∙
+        ap (λ (k : ℕ). block_place s.layout k (nth new.segments k).class o.block) e ∙ ap (λ (k : ℕ). block_place s.layout a.number k o.block) class_is in
         let words : size ≡ block_size c = o.words ∙ ap (λ (k : ℕ). block_size (nth new.segments k).class) e ∙ ap block_size class_is in
         elim ((a.takes.used o.block).0 used) [
           | inr here ↦ inr (place ∙ ap (λ (k : ℕ). block_place s.layout a.number c k) here ∙ sym a.place)
@@ -133,7 +141,8 @@ module _ (s new : Segments) (m c at : ℕ) (sound : IsSegments s) (after : IsSeg
                 | inr marked ↦ marked (unused.unmarked o.block)
               ] in
               let class = class_was state in
-              let blocks : block_count (nth s.segments a.number) ≡ 4 * length (nth s.segments a.number).marks / block_size c = ap (λ (k : ℕ). segment_words (nth s.segments a.number) / block_size k) class in
+              let blocks : block_count (nth s.segments a.number) ≡ 4 * length (nth s.segments a.number).marks / block_size c =
+              ap (λ (k : ℕ). segment_words (nth s.segments a.number) / block_size k) class in
               inl (record {
                 number = a.number;
                 block = o.block;

@@ -44,7 +44,8 @@ holds_shared s there = root shared_name (inl refl)
 pub next_absent : (s : State) (m : ℕ) → Base s → m ≢ SHARED_MAKER → IsSome (node_of s.snapshot (next_name (state_of s.world m) m)) → ⊥
 next_absent s m b own there =
     let le : serial_of s.snapshot m ≤ serial_of s.world m = b.serials m in
-    let none : node_of s.snapshot (next_name (state_of s.world m) m) ≡ None = own_node s.snapshot m own (next_name (state_of s.world m) m) refl ∙ slice_get_past (state_of s.snapshot m).nodes (length (state_of s.world m).nodes) le in
+    let none : node_of s.snapshot (next_name (state_of s.world m) m) ≡ None = own_node s.snapshot m own (next_name (state_of s.world m) m) refl ∙
+    slice_get_past (state_of s.snapshot m).nodes (length (state_of s.world m).nodes) le in
     let bad : IsSome {T = Node} None = rw none at there in
     cc
 
@@ -153,17 +154,21 @@ module _ (s : State) (f : Facts s) (w : IsWorld s.world) (m : ℕ) (c : Command)
   command_base = record {
     snapshot = f.base.snapshot;
     mutators = moves.mutators ∙ f.base.mutators;
-    serials = λ k. let a : serial_of s.snapshot k ≤ serial_of s.world k = f.base.serials k in let b : serial_of s.world k ≤ serial_of (step s.world m c).0 k = grows.serials k in omega arith;
+    serials = λ k. let a : serial_of s.snapshot k ≤ serial_of s.world k = f.base.serials k in
+        let b : serial_of s.world k ≤ serial_of (step s.world m c).0 k = grows.serials k in omega arith;
     owed_lists = length-set s.owed m _ ∙ f.base.owed_lists ∙ sym moves.mutators;
     pushed_lists = f.base.pushed_lists ∙ sym moves.mutators;
     holds = moves.holds;
     fields = next_fields;
     weaks = next_weaks;
     alive = next_alive;
-    owed = each_names (All (MayHold next)) s.owed m _ owed_place (All-append (MayHold next) (names_of s.owed m) (owed_by s.world m c) (more_names (names_of s.owed m) (f.base.owed m)) (names_among_have (MayHold next) (values_owed s.world m c) moves.owes)) (λ k. more_names (names_of s.owed k) (f.base.owed k));
+    owed = each_names (All (MayHold next)) s.owed m _ owed_place
+        (All-append (MayHold next) (names_of s.owed m) (owed_by s.world m c) (more_names (names_of s.owed m) (f.base.owed m))
+        (names_among_have (MayHold next) (values_owed s.world m c) moves.owes)) (λ k. more_names (names_of s.owed k) (f.base.owed k));
     pushed = λ k. more_names (names_of s.pushed k) (f.base.pushed k);
     others = λ name there dead.
-        let old : node_of s.world name ≡ node_of s.snapshot name = f.base.others name there (λ l. dead (live_more s.snapshot s.opened (opened_by s.world m c) name l)) in
+        let old : node_of s.world name ≡ node_of s.snapshot name =
+        f.base.others name there (λ l. dead (live_more s.snapshot s.opened (opened_by s.world m c) name l)) in
         moves.others name (λ may. dead (may there)) (subst (λ o. IsSome o) (sym old) there) ∙ old;
     later = λ name before e.
         let t : StillThere s.world name before = f.base.later name before e in
@@ -192,7 +197,8 @@ module _ (s : State) (f : Facts s) (w : IsWorld s.world) (m : ℕ) (c : Command)
 
   -- what the command owes is safe
   owed_safe : (name : Name) → Contains (owed_by s.world m c) name → IsSafe next name
-  owed_safe name h = owed m (rw (names_same s.owed m (names_of s.owed m ++ owed_by s.world m c) owed_place) (Contains-append_right (names_of s.owed m) (owed_by s.world m c) name h))
+  owed_safe name h = owed m (rw (names_same s.owed m (names_of s.owed m ++
+      owed_by s.world m c) owed_place) (Contains-append_right (names_of s.owed m) (owed_by s.world m c) name h))
 
   command_kept : (name : Name) (i : ℕ) (target : Name) → Kept s name i target → Kept next name i target
   command_kept name i target (inl safe) = inl (still_safe target safe)
@@ -216,7 +222,8 @@ module _ (s : State) (f : Facts s) (w : IsWorld s.world) (m : ℕ) (c : Command)
   ]
 
   -- and so is what a weak pointer kept that it finalised, since that is what it kept in the snapshot
-  command_finalised : (weak target : Name) (parts : Parts) → Contains next.finalised weak → IsAlive s.snapshot weak parts → IsKeptBy weak parts target → IsSafe next target
+  command_finalised : (weak target : Name) (parts : Parts) → Contains next.finalised weak → IsAlive s.snapshot weak parts →
+      IsKeptBy weak parts target → IsSafe next target
   command_finalised weak target parts h a kept = elim (Contains-append_cases s.finalised (finalised_by s.world m c) weak h) [
     | inl old ↦ still_safe target (f.finalised weak target parts old a kept)
     | inr new ↦

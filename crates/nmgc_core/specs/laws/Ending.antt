@@ -45,7 +45,8 @@ module _ (s : State) (f : Facts s) (queue : s.queue ≡ []) (owed : AreEmpty s.o
       by_test false e = new (record { there = there; unmarked = not_listed name s.marked e })
 
   -- what a field of the snapshot refers to is marked, or the field still stands, and then its object isn't marked
-  marked_or_stands : (name target : Name) → RefersTo s.snapshot name target → Contains s.marked target ⊎ (RefersTo s.world name target × (Contains s.marked name → ⊥))
+  marked_or_stands : (name target : Name) → RefersTo s.snapshot name target → Contains s.marked target ⊎
+      (RefersTo s.world name target × (Contains s.marked name → ⊥))
   marked_or_stands name target r =
       let p : (i : ℕ) × HasStrongField s.snapshot name i (value.Ref target) = stands s.snapshot name target r in
       elim (f.kept name p.0 target p.1) [
@@ -66,19 +67,24 @@ module _ (s : State) (f : Facts s) (queue : s.queue ≡ []) (owed : AreEmpty s.o
   ]
 
   -- what a weak pointer of the snapshot keeps was owed when it was finalised, or it waits
-  first_part : (weak target : Name) (parts : Parts) → IsAlive s.snapshot weak parts → IsKeptBy weak parts target → (IsWaiting s weak parts → IsUnmarked s target → IsRevived s target) → IsMarkedFirst s target
+  first_part : (weak target : Name) (parts : Parts) → IsAlive s.snapshot weak parts → IsKeptBy weak parts target →
+      (IsWaiting s weak parts → IsUnmarked s target → IsRevived s target) → IsMarkedFirst s target
   first_part weak target parts alive kept h = by_test (is_listed weak s.finalised) refl
     where
       by_test : (b : Bool) → is_listed weak s.finalised ≡ b → IsMarkedFirst s target
       by_test true e = inl (safe_marked target (f.finalised weak target parts (contains_listed weak s.finalised e) alive kept))
-      by_test false e = first_from target (part_there s.snapshot f.base.snapshot weak target parts alive kept) (h (record { alive = alive; not_finalised = not_listed weak s.finalised e }))
+      by_test false e = first_from target (part_there s.snapshot f.base.snapshot weak target parts alive kept) (h (record {
+        alive = alive;
+        not_finalised = not_listed weak s.finalised e;
+      }))
 
   -- all that is live is marked first
   pub live_first : (name : Name) → IsLiveIn s name → IsMarkedFirst s name
   live_first name (reach.root n r) = inl (f.roots n r)
   live_first name (reach.further n c there) = inl (safe_marked n (f.opened n c there))
   live_first name (reach.field n target l r) = first_field n target (live_first n l) r
-  live_first name (reach.plain_key weak target parts alive plain kept) = first_part weak target parts alive kept (λ w u. IsRevived.plain_key weak target parts w plain kept u)
+  live_first name (reach.plain_key weak target parts alive plain kept) =
+      first_part weak target parts alive kept (λ w u. IsRevived.plain_key weak target parts w plain kept u)
   live_first name (reach.live_key weak target key parts alive is l kept) = elim (live_first key l) [
     | inl c ↦ first_part weak target parts alive kept (λ w u. IsRevived.marked_key weak target key parts w is c kept u)
     | inr v ↦ first_part weak target parts alive kept (λ w u. IsRevived.revived_key weak target key parts w is v kept u)
@@ -100,13 +106,30 @@ module _ (s : State) (f : Facts s) (queue : s.queue ≡ []) (owed : AreEmpty s.o
 
   -- what dies is what is dead
   abbrev dying_dead : (weak : Name) → IsDying s weak → IsDead s.snapshot s.opened s.finalised weak
-  dying_dead weak d = record { parts = d.parts; alive = d.waiting.alive; not_finalised = d.waiting.not_finalised; key = d.key; key_is = d.key_is; lost = λ l. d.lost (live_first d.key l) }
+  dying_dead weak d = record {
+    parts = d.parts;
+    alive = d.waiting.alive;
+    not_finalised = d.waiting.not_finalised;
+    key = d.key;
+    key_is = d.key_is;
+    lost = λ l. d.lost (live_first d.key l);
+  }
 
   abbrev dead_dying : (weak : Name) → IsDead s.snapshot s.opened s.finalised weak → IsDying s weak
-  dead_dying weak d = record { parts = d.parts; waiting = record { alive = d.alive; not_finalised = d.not_finalised }; key = d.key; key_is = d.key_is; lost = λ c. d.lost (first_live d.key c) }
+  dead_dying weak d = record {
+    parts = d.parts;
+    waiting = record { alive = d.alive; not_finalised = d.not_finalised };
+    key = d.key;
+    key_is = d.key_is;
+    lost = λ c. d.lost (first_live d.key c);
+  }
 
   pub dying_lists : (dead : List Name) → Lists (IsDying s) dead → Lists (IsDead s.snapshot s.opened s.finalised) dead
-  dying_lists dead l = record { ordered = l.ordered; sound = λ name c. dying_dead name (l.sound name c); complete = λ name d. l.complete name (dead_dying name d) }
+  dying_lists dead l = record {
+    ordered = l.ordered;
+    sound = λ name c. dying_dead name (l.sound name c);
+    complete = λ name d. l.complete name (dead_dying name d);
+  }
 
   -- what is marked last is what is kept
   rescued_kept : (name : Name) → IsRescued s name → IsKept s.snapshot s.opened s.finalised name
@@ -132,5 +155,7 @@ module _ (s : State) (f : Facts s) (queue : s.queue ≡ []) (owed : AreEmpty s.o
 
   pub kept_last : (name : Name) → IsKept s.snapshot s.opened s.finalised name → IsMarkedLast s name
   kept_last name (IsKept.live n l) = inl (live_first n l)
-  kept_last name (IsKept.finaliser weak target d is) = last_from target (part_there s.snapshot f.base.snapshot weak target d.parts d.alive (inr (inr is))) (λ u. IsRescued.finaliser weak target (dead_dying weak d) is u)
+  kept_last name (IsKept.finaliser weak target d is) =
+      last_from target (part_there s.snapshot f.base.snapshot weak target d.parts d.alive (inr (inr is))) (λ u.
+      IsRescued.finaliser weak target (dead_dying weak d) is u)
   kept_last name (IsKept.field n target k r) = last_field n target (kept_last n k) r

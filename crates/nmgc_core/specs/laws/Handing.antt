@@ -20,7 +20,8 @@ use Rattle.nmgc_core.specs.Facts.{MayHold, IsSafe, IsAhead, Kept, Base, Facts, o
 push_cases : (s : State) (name : Name) → IsSome (node_of s.snapshot name) → Contains (pushed_of s name) name ⊎ (name ≡ shared_name)
 push_cases s name there = by_test (is_some (node_of s.snapshot name) && not (is_same_name name shared_name)) refl
   where
-    by_test : (b : Bool) → (is_some (node_of s.snapshot name) && not (is_same_name name shared_name)) ≡ b → Contains (cond b (name ∷ []) []) name ⊎ (name ≡ shared_name)
+    by_test : (b : Bool) → (is_some (node_of s.snapshot name) && not (is_same_name name shared_name)) ≡ b → Contains (cond b (name ∷ []) []) name ⊎
+        (name ≡ shared_name)
     by_test true e = inl (contains_one name)
     by_test false e = elim (and_cases (is_some (node_of s.snapshot name)) (not (is_same_name name shared_name)) e) [
       | inl a ↦ absurd (let k : is_some (node_of s.snapshot name) ≡ true = there in cc)
@@ -32,7 +33,8 @@ module _ (s : State) (f : Facts s) (m : ℕ) (name : Name) (rest : List Name) (f
   owed_place = has_place s.owed m name rest first
 
   pushed_place : m < length s.pushed
-  pushed_place = let a : length s.owed ≡ length s.world.mutators = f.base.owed_lists in let b : length s.pushed ≡ length s.world.mutators = f.base.pushed_lists in let c = owed_place in omega arith
+  pushed_place = let a : length s.owed ≡ length s.world.mutators = f.base.owed_lists in
+      let b : length s.pushed ≡ length s.world.mutators = f.base.pushed_lists in let c = owed_place in omega arith
 
   may : All (MayHold s) (name ∷ rest)
   may = subst (All (MayHold s)) first (f.base.owed m)
@@ -51,7 +53,8 @@ module _ (s : State) (f : Facts s) (m : ℕ) (name : Name) (rest : List Name) (f
     owed = each_names (All (MayHold s)) s.owed m rest owed_place (All-tail (MayHold s) name rest may) f.base.owed;
     pushed = each_names (All (MayHold s)) s.pushed m (names_of s.pushed m ++ pushed_of s name) pushed_place
         (All-append (MayHold s) (names_of s.pushed m) (pushed_of s name) (f.base.pushed m)
-        (cond_both (is_some (node_of s.snapshot name) && not (is_same_name name shared_name)) (name ∷ []) [] (All (MayHold s)) (λ e. All-cons (MayHold s) name [] (All-head (MayHold s) name rest may) (All-nil (MayHold s))) (λ e. All-nil (MayHold s))))
+        (cond_both (is_some (node_of s.snapshot name) && not (is_same_name name shared_name)) (name ∷ []) [] (All (MayHold s)) (λ e.
+        All-cons (MayHold s) name [] (All-head (MayHold s) name rest may) (All-nil (MayHold s))) (λ e. All-nil (MayHold s))))
         f.base.pushed;
     others = f.base.others;
     later = f.base.later;
@@ -63,13 +66,18 @@ module _ (s : State) (f : Facts s) (m : ℕ) (name : Name) (rest : List Name) (f
   -- what was pushed stays pushed
   more_pushed : (k : ℕ) (target : Name) → Contains (names_of s.pushed k) target → Contains (names_of (after_push s m (name ∷ rest)).pushed k) target
   more_pushed k target h = elim (cases_eq k m) [
-    | inl e ↦ rw (e, names_same s.pushed m (names_of s.pushed m ++ pushed_of s name) pushed_place) (Contains-append_left (names_of s.pushed m) (pushed_of s name) target (rw e at h))
+    | inl e ↦ rw (
+      e,
+      names_same s.pushed m (names_of s.pushed m ++
+          pushed_of s name) pushed_place,
+    ) (Contains-append_left (names_of s.pushed m) (pushed_of s name) target (rw e at h))
     | inr ne ↦ rw (names_other s.pushed m k (names_of s.pushed m ++ pushed_of s name) ne) h
   ]
 
   first_safe : IsSome (node_of s.snapshot name) → IsSafe (after_push s m (name ∷ rest)) name
   first_safe there = elim (push_cases s name there) [
-    | inl c ↦ pushed m (rw (names_same s.pushed m (names_of s.pushed m ++ pushed_of s name) pushed_place) (Contains-append_right (names_of s.pushed m) (pushed_of s name) name c))
+    | inl c ↦ pushed m (rw (names_same s.pushed m (names_of s.pushed m ++
+        pushed_of s name) pushed_place) (Contains-append_right (names_of s.pushed m) (pushed_of s name) name c))
     | inr g ↦ marked (f.roots name (inl g))
   ]
 
@@ -99,7 +107,8 @@ module _ (s : State) (f : Facts s) (m : ℕ) (name : Name) (rest : List Name) (f
     kept = λ n i target h. push_kept n i target (target_there s.snapshot f.base.snapshot n target (refers s.snapshot n target i h)) (f.kept n i target h);
     opened = λ n c there. push_safe n there (f.opened n c there);
     ended = λ weak c there. push_safe weak there (f.ended weak c there);
-    finalised = λ weak target parts c alive kept. push_safe target (part_there s.snapshot f.base.snapshot weak target parts alive kept) (f.finalised weak target parts c alive kept);
+    finalised = λ weak target parts c alive kept.
+        push_safe target (part_there s.snapshot f.base.snapshot weak target parts alive kept) (f.finalised weak target parts c alive kept);
   }
 
 pub push_facts : (s : State) → Facts s → (m : ℕ) (names : List Name) → names_of s.owed m ≡ names → Facts (after_push s m names)
@@ -110,7 +119,8 @@ push_facts s f m (name ∷ rest) first = push_first s f m name rest first
 abbrev dropped : State → ℕ → List Name → State
 dropped s m rest = record s { pushed = set s.pushed m rest }
 
-module _ (s : State) (f : Facts s) (m : ℕ) (name : Name) (rest : List Name) (first : names_of s.pushed m ≡ name ∷ rest) (done : IsSome (node_of s.snapshot name) → Contains s.marked name) where
+module _ (s : State) (f : Facts s) (m : ℕ) (name : Name) (rest : List Name) (first : names_of s.pushed m ≡ name ∷
+    rest) (done : IsSome (node_of s.snapshot name) → Contains s.marked name) where
   place : m < length s.pushed
   place = has_place s.pushed m name rest first
 
@@ -126,7 +136,8 @@ module _ (s : State) (f : Facts s) (m : ℕ) (name : Name) (rest : List Name) (f
     weaks = f.base.weaks;
     alive = f.base.alive;
     owed = f.base.owed;
-    pushed = each_names (All (MayHold s)) s.pushed m rest place (All-tail (MayHold s) name rest (subst (All (MayHold s)) first (f.base.pushed m))) f.base.pushed;
+    pushed = each_names (All (MayHold s)) s.pushed m rest place (All-tail (MayHold s) name rest (subst (All (MayHold s)) first (f.base.pushed m)))
+        f.base.pushed;
     others = f.base.others;
     later = f.base.later;
     live = f.base.live;
@@ -160,7 +171,8 @@ module _ (s : State) (f : Facts s) (m : ℕ) (name : Name) (rest : List Name) (f
     kept = λ n i target h. drop_kept n i target (target_there s.snapshot f.base.snapshot n target (refers s.snapshot n target i h)) (f.kept n i target h);
     opened = λ n c there. drop_safe n there (f.opened n c there);
     ended = λ weak c there. drop_safe weak there (f.ended weak c there);
-    finalised = λ weak target parts c alive kept. drop_safe target (part_there s.snapshot f.base.snapshot weak target parts alive kept) (f.finalised weak target parts c alive kept);
+    finalised = λ weak target parts c alive kept.
+        drop_safe target (part_there s.snapshot f.base.snapshot weak target parts alive kept) (f.finalised weak target parts c alive kept);
   }
 
 take_first : (s : State) → Facts s → (m : ℕ) (name : Name) (rest : List Name) → names_of s.pushed m ≡ name ∷ rest → Facts (mark_name (dropped s m rest) name)
@@ -168,7 +180,9 @@ take_first s f m name rest first =
     let may : MayHold s name = All-head (MayHold s) name rest (subst (All (MayHold s)) first (f.base.pushed m)) in
     by_test (is_new s name) refl (mark_facts s name f may) (marked_then s name)
   where
-    by_test : (b : Bool) → is_new s name ≡ b → Facts (cond b (with_mark s name) s) → (IsSome (node_of s.snapshot name) → Contains (cond b (with_mark s name) s).marked name) → Facts (cond b (with_mark (dropped s m rest) name) (dropped s m rest))
+    by_test : (b : Bool) → is_new s name ≡ b → Facts (cond b (with_mark s name) s) →
+        (IsSome (node_of s.snapshot name) → Contains (cond b (with_mark s name) s).marked name) →
+        Facts (cond b (with_mark (dropped s m rest) name) (dropped s m rest))
     by_test true e g done = drop_facts (with_mark s name) g m name rest first done
     by_test false e g done = drop_facts s g m name rest first done
 

@@ -16,7 +16,8 @@ use Rattle.nmgc_graph.specs.laws.Orders.{same_name, contains_cases, contains_hea
 use Rattle.nmgc_reach.specs.Holds.{Names}
 
 pub tested_same : (a b : Name) → is_same_name a b ≡ true → a ≡ b
-tested_same a b h = let p : (eqb a.maker b.maker ≡ true) × (eqb a.serial b.serial ≡ true) = and_parts (eqb a.maker b.maker) (eqb a.serial b.serial) h in same_name a b (eqb-true a.maker b.maker p.0) (eqb-true a.serial b.serial p.1)
+tested_same a b h = let p : (eqb a.maker b.maker ≡ true) × (eqb a.serial b.serial ≡ true) = and_parts (eqb a.maker b.maker) (eqb a.serial b.serial) h in
+    same_name a b (eqb-true a.maker b.maker p.0) (eqb-true a.serial b.serial p.1)
 
 pub is_same_name-refl : (a : Name) → is_same_name a a ≡ true
 is_same_name-refl a = and_from (eqb a.maker a.maker) (eqb a.serial a.serial) (eq-eqb a.maker a.maker refl) (eq-eqb a.serial a.serial refl)
@@ -60,7 +61,8 @@ has_place lists m x xs e = elim (cases_lt m (length lists)) [
 ]
 
 -- what the new list has and the old ones have, each list has
-pub each_names : (R : List Name → Type 0) (lists : List (List Name)) (m : ℕ) (xs : List Name) → m < length lists → R xs → ((k : ℕ) → R (names_of lists k)) → (k : ℕ) → R (names_of (set lists m xs) k)
+pub each_names : (R : List Name → Type 0) (lists : List (List Name)) (m : ℕ) (xs : List Name) → m < length lists → R xs →
+    ((k : ℕ) → R (names_of lists k)) → (k : ℕ) → R (names_of (set lists m xs) k)
 each_names R lists m xs lt new old k = elim (cases_eq k m) [
   | inl e ↦ subst (λ (j : ℕ). R (names_of (set lists m xs) j)) (sym e) (subst R (sym (names_same lists m xs lt)) new)
   | inr ne ↦ subst R (sym (names_other lists m k xs ne)) (old k)
@@ -71,7 +73,9 @@ pub names_among_have : (P : Name → Type 0) (values : List Value) → All (Name
 names_among_have P [] h = All-nil P
 names_among_have P (value.Nil ∷ values) h = names_among_have P values (All-tail (Names P) value.Nil values h)
 names_among_have P (value.Number n ∷ values) h = names_among_have P values (All-tail (Names P) (value.Number n) values h)
-names_among_have P (value.Ref name ∷ values) h = All-cons P name (names_among values) (All-head (Names P) (value.Ref name) values h) (names_among_have P values (All-tail (Names P) (value.Ref name) values h))
+names_among_have P (value.Ref name ∷ values) h =
+    All-cons P name (names_among values) (All-head (Names P) (value.Ref name) values h)
+    (names_among_have P values (All-tail (Names P) (value.Ref name) values h))
 
 -- a reference among values is among their names
 pub name_among : (values : List Value) (name : Name) → Contains values (value.Ref name) → Contains (names_among values) name

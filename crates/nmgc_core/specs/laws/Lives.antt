@@ -37,13 +37,16 @@ pub refers : (w : World) (name target : Name) (i : ℕ) → HasStrongField w nam
 refers w name target i s = (s.node, s.node_is, field_at_place s.node i (value.Ref target) s.field)
 
 pub stands : (w : World) (name target : Name) → RefersTo w name target → (i : ℕ) × HasStrongField w name i (value.Ref target)
-stands w name target (node, is, c) = let p : (i : ℕ) × (strong_at node i ≡ Some (value.Ref target)) = place_of_field node (value.Ref target) c in (p.0, record { node = node; node_is = is; field = p.1 })
+stands w name target (node, is, c) = let p : (i : ℕ) × (strong_at node i ≡ Some (value.Ref target)) = place_of_field node (value.Ref target) c in
+    (p.0, record { node = node; node_is = is; field = p.1 })
 
 pub root_there : (w : World) → IsWorld w → (name : Name) → IsRoot w name → IsSome (node_of w name)
 root_there w h name (inl g) = subst (λ n. IsSome (node_of w n)) (sym g) refl
 root_there w h name (inr held) =
     let P : Value → Type 0 = IsKnown w in
-    All-contains P ((state_of w held.0).registers ++ (state_of w held.0).queue) (value.Ref name) (All-append P (state_of w held.0).registers (state_of w held.0).queue (h.known_registers held.0) (h.known_queue held.0)) held.1
+    All-contains P ((state_of w held.0).registers ++
+    (state_of w held.0).queue) (value.Ref name) (All-append P (state_of w held.0).registers (state_of w held.0).queue (h.known_registers held.0)
+    (h.known_queue held.0)) held.1
 
 -- what an alive weak pointer keeps is in the map
 pub part_there : (w : World) → IsWorld w → (weak target : Name) (parts : Parts) → IsAlive w weak parts → IsKeptBy weak parts target → IsSome (node_of w target)
@@ -53,12 +56,15 @@ part_there w h weak target parts alive kept = by_part kept
     node = at_some (node_of w weak) (Weak (Some parts)) (IsNodeOf w) alive (h.nodes weak)
 
     held : (v : Value) → Contains (parts.key ∷ parts.value ∷ parts.finaliser ∷ []) v → v ≡ value.Ref target → IsSome (node_of w target)
-    held v c e = All-contains (IsKnown w) (parts.key ∷ parts.value ∷ parts.finaliser ∷ []) (value.Ref target) node.known (subst (λ (x : Value). Contains (parts.key ∷ parts.value ∷ parts.finaliser ∷ []) x) e c)
+    held v c e = All-contains (IsKnown w) (parts.key ∷ parts.value ∷ parts.finaliser ∷
+        []) (value.Ref target) node.known (subst (λ (x : Value). Contains (parts.key ∷ parts.value ∷ parts.finaliser ∷ []) x) e c)
 
     by_part : IsKeptBy weak parts target → IsSome (node_of w target)
     by_part (inl e) = subst (λ (n : Name). IsSome (node_of w n)) (sym e) (subst (λ (o : Option Node). IsSome o) (sym alive) refl)
-    by_part (inr (inl e)) = held parts.value (contains_tail parts.key (parts.value ∷ parts.finaliser ∷ []) parts.value (contains_head parts.value (parts.finaliser ∷ []))) e
-    by_part (inr (inr e)) = held parts.finaliser (contains_tail parts.key (parts.value ∷ parts.finaliser ∷ []) parts.finaliser (contains_tail parts.value (parts.finaliser ∷ []) parts.finaliser (contains_head parts.finaliser []))) e
+    by_part (inr (inl e)) = held parts.value (contains_tail parts.key (parts.value ∷ parts.finaliser ∷
+        []) parts.value (contains_head parts.value (parts.finaliser ∷ []))) e
+    by_part (inr (inr e)) = held parts.finaliser (contains_tail parts.key (parts.value ∷ parts.finaliser ∷
+        []) parts.finaliser (contains_tail parts.value (parts.finaliser ∷ []) parts.finaliser (contains_head parts.finaliser []))) e
 
 pub live_there : (w : World) (extra : List Name) → IsWorld w → (name : Name) → IsLive w extra name → IsSome (node_of w name)
 live_there w extra h name (root n r) = root_there w h n r

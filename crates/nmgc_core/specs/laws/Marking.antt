@@ -16,7 +16,8 @@ use Rattle.nmgc_reach.specs.Holds.{HasStrongField}
 use Rattle.nmgc_core.specs.Facts.{MayHold, IsLiveIn, IsSafe, IsAhead, Kept, Base, Facts, owed, pushed, queued, marked, unmarked}
 
 -- a name that is new is marked, and any other is left
-pub mark_cases : (R : State → Type 0) (s : State) (name : Name) → (is_new s name ≡ true → R (with_mark s name)) → (is_new s name ≡ false → R s) → R (mark_name s name)
+pub mark_cases : (R : State → Type 0) (s : State) (name : Name) → (is_new s name ≡ true → R (with_mark s name)) → (is_new s name ≡ false → R s) →
+    R (mark_name s name)
 mark_cases R s name new old = cond_both (is_new s name) (with_mark s name) s R new old
 
 new_there : (s : State) (name : Name) → is_new s name ≡ true → IsSome (node_of s.snapshot name)
@@ -24,10 +25,11 @@ new_there s name e = (and_parts (is_some (node_of s.snapshot name)) (not (is_lis
 
 -- a name of the snapshot is marked afterwards
 pub marked_then : (s : State) (name : Name) → IsSome (node_of s.snapshot name) → Contains (mark_name s name).marked name
-marked_then s name there = mark_cases (λ t. Contains t.marked name) s name (λ e. Contains-push s.marked name) (λ e. elim (and_cases (is_some (node_of s.snapshot name)) (not (is_listed name s.marked)) e) [
-  | inl a ↦ absurd (let k : is_some (node_of s.snapshot name) ≡ true = there in cc)
-  | inr b ↦ contains_listed name s.marked (not-false (is_listed name s.marked) b)
-])
+marked_then s name there = mark_cases (λ t. Contains t.marked name) s name (λ e. Contains-push s.marked name) (λ e.
+    elim (and_cases (is_some (node_of s.snapshot name)) (not (is_listed name s.marked)) e) [
+      | inl a ↦ absurd (let k : is_some (node_of s.snapshot name) ≡ true = there in cc)
+      | inr b ↦ contains_listed name s.marked (not-false (is_listed name s.marked) b)
+    ])
 
 -- a marked name stays marked
 pub still_marked : (s : State) (name other : Name) → Contains s.marked other → Contains (mark_name s name).marked other
@@ -84,15 +86,18 @@ mark_base s name b may = mark_cases Base s name (λ e. record {
 pub mark_facts : (s : State) (name : Name) → Facts s → MayHold s name → Facts (mark_name s name)
 mark_facts s name f may = record {
   base = mark_base s name f.base may;
-  roots = mark_cases (λ t. (n : Name) → IsRoot t.snapshot n → Contains t.marked n) s name (λ e n r. Contains-append_left s.marked (name ∷ []) n (f.roots n r)) (λ e n r. f.roots n r);
+  roots = mark_cases (λ t. (n : Name) → IsRoot t.snapshot n →
+      Contains t.marked n) s name (λ e n r. Contains-append_left s.marked (name ∷ []) n (f.roots n r)) (λ e n r. f.roots n r);
   kept = mark_cases (λ t. (n : Name) (i : ℕ) (target : Name) → HasStrongField t.snapshot n i (value.Ref target) → Kept t n i target) s name
       (λ e n i target h. elim (f.kept n i target h) [ inl a ↦ inl (safe_then s name target a) | inr b ↦ inr (b.0, ahead_then s name n i b.1) ])
       (λ e n i target h. f.kept n i target h);
-  opened = mark_cases (λ t. (n : Name) → Contains t.opened n → IsSome (node_of t.snapshot n) → IsSafe t n) s name (λ e n c there. safe_then s name n (f.opened n c there)) (λ e n c there. f.opened n c there);
+  opened = mark_cases (λ t. (n : Name) → Contains t.opened n → IsSome (node_of t.snapshot n) →
+      IsSafe t n) s name (λ e n c there. safe_then s name n (f.opened n c there)) (λ e n c there. f.opened n c there);
   ended = mark_cases (λ t. (weak : Name) → Contains t.finalised weak → IsSome (node_of t.snapshot weak) → IsSafe t weak) s name
       (λ e weak c there. safe_then s name weak (f.ended weak c there))
       (λ e weak c there. f.ended weak c there);
-  finalised = mark_cases (λ t. (weak target : Name) (parts : Parts) → Contains t.finalised weak → IsAlive t.snapshot weak parts → IsKeptBy weak parts target → IsSafe t target) s name
+  finalised = mark_cases (λ t. (weak target : Name) (parts : Parts) → Contains t.finalised weak → IsAlive t.snapshot weak parts →
+      IsKeptBy weak parts target → IsSafe t target) s name
       (λ e weak target parts c alive kept. safe_then s name target (f.finalised weak target parts c alive kept))
       (λ e weak target parts c alive kept. f.finalised weak target parts c alive kept);
 }

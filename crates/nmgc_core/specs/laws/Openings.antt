@@ -37,7 +37,8 @@ module _ (w : World) (h : IsWorld w) where
   start = unmarked w
 
   of_fields : (node : Node) (name : Name) → MayHold start name → node_of w name ≡ Some node → Fields (Names (MayHold start)) node
-  of_fields node name may is = all_from_contains (MayHold start) (strong_fields node) (λ target c there. field name target (may (subst (λ o. IsSome o) (sym is) refl)) (node, is, c))
+  of_fields node name may is = all_from_contains (MayHold start) (strong_fields node) (λ target c there.
+      field name target (may (subst (λ o. IsSome o) (sym is) refl)) (node, is, c))
 
   start_base : Base start
   start_base = record {
@@ -47,8 +48,10 @@ module _ (w : World) (h : IsWorld w) where
     owed_lists = length-replicate (length w.mutators) [];
     pushed_lists = length-replicate (length w.mutators) [];
     holds = record {
-      registers = λ k. all_from_contains (MayHold start) (state_of w k).registers (λ name c there. root name (inr (k, Contains-append_left (state_of w k).registers (state_of w k).queue (value.Ref name) c)));
-      queues = λ k. all_from_contains (MayHold start) (state_of w k).queue (λ name c there. root name (inr (k, Contains-append_right (state_of w k).registers (state_of w k).queue (value.Ref name) c)));
+      registers = λ k. all_from_contains (MayHold start) (state_of w k).registers (λ name c there.
+          root name (inr (k, Contains-append_left (state_of w k).registers (state_of w k).queue (value.Ref name) c)));
+      queues = λ k. all_from_contains (MayHold start) (state_of w k).queue (λ name c there.
+          root name (inr (k, Contains-append_right (state_of w k).registers (state_of w k).queue (value.Ref name) c)));
       fields = λ name may. by_node name may (node_of w name) refl;
     };
     fields = λ name target r. inr r;
@@ -74,14 +77,16 @@ values_base s (value.Nil ∷ values) b h = values_base s values b (All-tail (Nam
 values_base s (value.Number n ∷ values) b h = values_base s values b (All-tail (Names (MayHold s)) (value.Number n) values h)
 values_base s (value.Ref name ∷ values) b h =
     values_base (mark_name s name) values (mark_base s name b (All-head (Names (MayHold s)) (value.Ref name) values h))
-    (mark_cases (λ t. All (Names (MayHold t)) values) s name (λ e. All-tail (Names (MayHold s)) (value.Ref name) values h) (λ e. All-tail (Names (MayHold s)) (value.Ref name) values h))
+    (mark_cases (λ t. All (Names (MayHold t)) values) s name (λ e. All-tail (Names (MayHold s)) (value.Ref name) values h) (λ e.
+    All-tail (Names (MayHold s)) (value.Ref name) values h))
 
 -- the snapshot stays
 values_snapshot : (s : State) (values : List Value) → (mark_values s values).snapshot ≡ s.snapshot
 values_snapshot s [] = refl
 values_snapshot s (value.Nil ∷ values) = values_snapshot s values
 values_snapshot s (value.Number n ∷ values) = values_snapshot s values
-values_snapshot s (value.Ref name ∷ values) = values_snapshot (mark_name s name) values ∙ mark_cases (λ t. t.snapshot ≡ s.snapshot) s name (λ e. refl) (λ e. refl)
+values_snapshot s (value.Ref name ∷ values) = values_snapshot (mark_name s name) values ∙
+    mark_cases (λ t. t.snapshot ≡ s.snapshot) s name (λ e. refl) (λ e. refl)
 
 -- and so does what was opened and finalised
 values_lists : (s : State) (values : List Value) → ((mark_values s values).opened ≡ s.opened) × ((mark_values s values).finalised ≡ s.finalised)
@@ -89,8 +94,11 @@ values_lists s [] = (refl, refl)
 values_lists s (value.Nil ∷ values) = values_lists s values
 values_lists s (value.Number n ∷ values) = values_lists s values
 values_lists s (value.Ref name ∷ values) =
-    let rest = values_lists (mark_name s name) values in
-    (rest.0 ∙ mark_cases (λ t. t.opened ≡ s.opened) s name (λ e. refl) (λ e. refl), rest.1 ∙ mark_cases (λ t. t.finalised ≡ s.finalised) s name (λ e. refl) (λ e. refl))
+    let rest = values_lists (mark_name s name) values in (
+      rest.0 ∙ mark_cases (λ t. t.opened ≡ s.opened) s name (λ e. refl) (λ e. refl),
+      rest.1 ∙
+          mark_cases (λ t. t.finalised ≡ s.finalised) s name (λ e. refl) (λ e. refl),
+    )
 
 values_still : (s : State) (values : List Value) (name : Name) → Contains s.marked name → Contains (mark_values s values).marked name
 values_still s [] name c = c
@@ -98,12 +106,21 @@ values_still s (value.Nil ∷ values) name c = values_still s values name c
 values_still s (value.Number n ∷ values) name c = values_still s values name c
 values_still s (value.Ref other ∷ values) name c = values_still (mark_name s other) values name (still_marked s other name c)
 
-values_marked : (s : State) (values : List Value) (name : Name) → IsSome (node_of s.snapshot name) → Contains values (value.Ref name) → Contains (mark_values s values).marked name
+values_marked : (s : State) (values : List Value) (name : Name) → IsSome (node_of s.snapshot name) → Contains values (value.Ref name) →
+    Contains (mark_values s values).marked name
 values_marked s [] name there c = absurd (nothing_in (value.Ref name) c)
-values_marked s (value.Nil ∷ values) name there c = elim (contains_cases value.Nil values (value.Ref name) c) [ inl e ↦ absurd cc | inr r ↦ values_marked s values name there r ]
-values_marked s (value.Number n ∷ values) name there c = elim (contains_cases (value.Number n) values (value.Ref name) c) [ inl e ↦ absurd cc | inr r ↦ values_marked s values name there r ]
+values_marked s (value.Nil ∷ values) name there c = elim (contains_cases value.Nil values (value.Ref name) c) [
+  | inl e ↦ absurd cc
+  | inr r ↦
+      values_marked s values name there r
+]
+values_marked s (value.Number n ∷ values) name there c = elim (contains_cases (value.Number n) values (value.Ref name) c) [
+  | inl e ↦ absurd cc
+  | inr r ↦ values_marked s values name there r
+]
 values_marked s (value.Ref other ∷ values) name there c = elim (contains_cases (value.Ref other) values (value.Ref name) c) [
-  | inl e ↦ let same : other ≡ name = cc in values_still (mark_name s other) values name (subst (λ (n : Name). Contains (mark_name s n).marked name) (sym same) (marked_then s name there))
+  | inl e ↦ let same : other ≡ name = cc in values_still (mark_name s other) values name (subst (λ (n : Name).
+      Contains (mark_name s n).marked name) (sym same) (marked_then s name there))
   | inr r ↦ values_marked (mark_name s other) values name (mark_cases (λ t. IsSome (node_of t.snapshot name)) s other (λ e. there) (λ e. there)) r
 ]
 
@@ -121,29 +138,42 @@ module _ (w : World) (h : IsWorld w) where
   held_is_root : (name : Name) → IsRoot w name → (name ≡ shared_name) ⊎ Contains (root_values w) (value.Ref name)
   held_is_root name (inl g) = inl g
   held_is_root name (inr (k, c)) = elim (state_there k) [
-    | inr past ↦ let empty : Contains ((no_mutator).registers ++ (no_mutator).queue) (value.Ref name) = rw past at c in absurd (nothing_in (value.Ref name) empty)
+    | inr past ↦ let empty : Contains ((no_mutator).registers ++ (no_mutator).queue) (value.Ref name) = rw past at c in
+        absurd (nothing_in (value.Ref name) empty)
     | inl lt ↦ inr (elim (Contains-append_cases (state_of w k).registers (state_of w k).queue (value.Ref name) c) [
-      | inl r ↦ Contains-append_left (flat_map (λ (s : MutatorState). s.registers) w.mutators) _ (value.Ref name) (contains_flat (λ (s : MutatorState). s.registers) w.mutators (state_of w k) (value.Ref name) (Contains-get_or w.mutators k no_mutator lt) r)
-      | inr q ↦ Contains-append_right (flat_map (λ (s : MutatorState). s.registers) w.mutators) _ (value.Ref name) (Contains-append_left (flat_map (λ (s : MutatorState). s.queue) w.mutators) (strong_fields w.shared) (value.Ref name) (contains_flat (λ (s : MutatorState). s.queue) w.mutators (state_of w k) (value.Ref name) (Contains-get_or w.mutators k no_mutator lt) q))
+      | inl r ↦ Contains-append_left (flat_map (λ (s : MutatorState).
+          s.registers) w.mutators) _ (value.Ref name) (contains_flat (λ (s : MutatorState).
+          s.registers) w.mutators (state_of w k) (value.Ref name) (Contains-get_or w.mutators k no_mutator lt) r)
+      | inr q ↦ Contains-append_right (flat_map (λ (s : MutatorState).
+          s.registers) w.mutators) _ (value.Ref name) (Contains-append_left (flat_map (λ (s : MutatorState).
+          s.queue) w.mutators) (strong_fields w.shared) (value.Ref name) (contains_flat (λ (s : MutatorState).
+          s.queue) w.mutators (state_of w k) (value.Ref name) (Contains-get_or w.mutators k no_mutator lt) q))
     ])
   ]
 
   slot_is_root : (v : Value) → Contains (strong_fields w.shared) v → Contains (root_values w) v
-  slot_is_root v c = Contains-append_right (flat_map (λ (s : MutatorState). s.registers) w.mutators) _ v (Contains-append_right (flat_map (λ (s : MutatorState). s.queue) w.mutators) (strong_fields w.shared) v c)
+  slot_is_root v c = Contains-append_right (flat_map (λ (s : MutatorState).
+      s.registers) w.mutators) _ v (Contains-append_right (flat_map (λ (s : MutatorState). s.queue) w.mutators) (strong_fields w.shared) v c)
 
   -- the roots' values are live
-  each_flat : (P : Name → Type 0) (f : MutatorState → List Value) (states : List MutatorState) → ((s : MutatorState) → Contains states s → All (Names P) (f s)) → All (Names P) (flat_map f states)
+  each_flat : (P : Name → Type 0) (f : MutatorState → List Value) (states : List MutatorState) →
+      ((s : MutatorState) → Contains states s → All (Names P) (f s)) → All (Names P) (flat_map f states)
   each_flat P f [] g = All-nil (Names P)
-  each_flat P f (s ∷ states) g = All-append (Names P) (f s) (flat_map f states) (g s (contains_head s states)) (each_flat P f states (λ t c. g t (contains_tail s states t c)))
+  each_flat P f (s ∷ states) g = All-append (Names P) (f s) (flat_map f states) (g s (contains_head s states)) (each_flat P f states (λ t c.
+      g t (contains_tail s states t c)))
 
   roots_held : All (Names (MayHold (unmarked w))) (root_values w)
   roots_held =
       let P : Name → Type 0 = MayHold (unmarked w) in
       let b : Base (unmarked w) = start_base w h in
       All-append (Names P) (flat_map (λ (s : MutatorState). s.registers) w.mutators) _
-      (each_flat P (λ (s : MutatorState). s.registers) w.mutators (λ s c. let p : (i : ℕ) × (slice_get w.mutators i ≡ Some s) = place_of w.mutators s c in subst (λ (t : MutatorState). All (Names P) t.registers) (get_or_from_slice_get w.mutators p.0 s no_mutator p.1) (b.holds.registers p.0)))
+      (each_flat P (λ (s : MutatorState). s.registers) w.mutators (λ s c.
+      let p : (i : ℕ) × (slice_get w.mutators i ≡ Some s) = place_of w.mutators s c in
+      subst (λ (t : MutatorState). All (Names P) t.registers) (get_or_from_slice_get w.mutators p.0 s no_mutator p.1) (b.holds.registers p.0)))
       (All-append (Names P) (flat_map (λ (s : MutatorState). s.queue) w.mutators) (strong_fields w.shared)
-      (each_flat P (λ (s : MutatorState). s.queue) w.mutators (λ s c. let p : (i : ℕ) × (slice_get w.mutators i ≡ Some s) = place_of w.mutators s c in subst (λ (t : MutatorState). All (Names P) t.queue) (get_or_from_slice_get w.mutators p.0 s no_mutator p.1) (b.holds.queues p.0)))
+      (each_flat P (λ (s : MutatorState). s.queue) w.mutators (λ s c.
+      let p : (i : ℕ) × (slice_get w.mutators i ≡ Some s) = place_of w.mutators s c in
+      subst (λ (t : MutatorState). All (Names P) t.queue) (get_or_from_slice_get w.mutators p.0 s no_mutator p.1) (b.holds.queues p.0)))
       (of_fields w h w.shared shared_name (λ there. root shared_name (inl refl)) refl))
 
   root_marked : (name : Name) → IsRoot w name → Contains (opening w).marked name
@@ -157,8 +187,10 @@ module _ (w : World) (h : IsWorld w) where
     | inl g ↦
         let same : Some st.node ≡ Some w.shared = sym st.node_is ∙ ap (λ a. node_of w a) g in
         let is : st.node ≡ w.shared = cc in
-        let c : Contains (strong_fields w.shared) (value.Ref target) = subst (λ (a : Node). Contains (strong_fields a) (value.Ref target)) is (field_at_place st.node i (value.Ref target) st.field) in
-        inl (marked (values_marked (unmarked w) (root_values w) target (target_there w h n target (refers w n target i st)) (slot_is_root (value.Ref target) c)))
+        let c : Contains (strong_fields w.shared) (value.Ref target) =
+        subst (λ (a : Node). Contains (strong_fields a) (value.Ref target)) is (field_at_place st.node i (value.Ref target) st.field) in
+        inl (marked (values_marked (unmarked w) (root_values w) target (target_there w h n target (refers w n target i st))
+        (slot_is_root (value.Ref target) c)))
     | inr ne ↦ values_kept (unmarked w) (root_values w) n i target (inr (st, facts.unmarked (λ c. ne (sym (one_is shared_name n c)))))
   ]
 

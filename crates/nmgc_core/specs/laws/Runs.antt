@@ -32,22 +32,34 @@ replayed-push : (w : World) (rows : List Row) (row : Row) → replayed w (rows +
 replayed-push w [] row = refl
 replayed-push w (r ∷ rows) row = replayed-push (step w r.mutator r.command).0 rows row
 
-legal_push : (w : World) (rows : List Row) (row : Row) → IsLegal w rows → (step (replayed w rows) row.mutator row.command).1 ≡ row.reply → IsLegal w (rows ++ row ∷ [])
+legal_push : (w : World) (rows : List Row) (row : Row) → IsLegal w rows → (step (replayed w rows) row.mutator row.command).1 ≡ row.reply →
+    IsLegal w (rows ++ row ∷ [])
 legal_push w [] row h e = (e, tt)
 legal_push w (r ∷ rows) row h e = (h.0, legal_push (step w r.mutator r.command).0 rows row h.1 e)
 
 opened-push : (w : World) (rows : List Row) (row : Row) → opened w (rows ++ row ∷ []) ≡ opened w rows ++ opened_by (replayed w rows) row.mutator row.command
 opened-push w [] row = append-nil (opened_by w row.mutator row.command)
-opened-push w (r ∷ rows) row = rw append_assoc (ap (λ (l : List Name). opened_by w r.mutator r.command ++ l) (opened-push (step w r.mutator r.command).0 rows row))
+opened-push w (r ∷ rows) row = rw append_assoc (ap (λ (l : List Name). opened_by w r.mutator r.command ++
+    l) (opened-push (step w r.mutator r.command).0 rows row))
 
-finalised-push : (w : World) (rows : List Row) (row : Row) → finalised w (rows ++ row ∷ []) ≡ finalised w rows ++ finalised_by (replayed w rows) row.mutator row.command
+finalised-push : (w : World) (rows : List Row) (row : Row) → finalised w (rows ++ row ∷ []) ≡ finalised w rows ++
+    finalised_by (replayed w rows) row.mutator row.command
 finalised-push w [] row = append-nil (finalised_by w row.mutator row.command)
-finalised-push w (r ∷ rows) row = rw append_assoc (ap (λ (l : List Name). finalised_by w r.mutator r.command ++ l) (finalised-push (step w r.mutator r.command).0 rows row))
+finalised-push w (r ∷ rows) row = rw append_assoc (ap (λ (l : List Name). finalised_by w r.mutator r.command ++
+    l) (finalised-push (step w r.mutator r.command).0 rows row))
 
 -- one more event
-pub runs_push : (s t u : State) (es : List Event) (rows : List Row) (e : Event) (done : Bool) → Runs s es rows t → Passes t e done u → Runs s (es ++ e ∷ []) (rows ++ rows_if done e) u
+pub runs_push : (s t u : State) (es : List Event) (rows : List Row) (e : Event) (done : Bool) → Runs s es rows t → Passes t e done u →
+    Runs s (es ++ e ∷ []) (rows ++ rows_if done e) u
 runs_push s t u [] rows e done h p = (done, u, [], subst (λ (x : State). Passes x e done u) h.1 p, rw (h.0, append-nil) refl, (refl, refl))
-runs_push s t u (e' ∷ es) rows e done (d, next, rest, first, is, more) p = (d, next, rest ++ rows_if done e, first, rw is (append_assoc (rows_if d e') rest (rows_if done e)), runs_push next t u es rest e done more p)
+runs_push s t u (e' ∷ es) rows e done (d, next, rest, first, is, more) p = (
+  d,
+  next,
+  rest ++ rows_if done e,
+  first,
+  rw is (append_assoc (rows_if d e') rest (rows_if done e)),
+  runs_push next t u es rest e done more p,
+)
 
 -- an event that is no command leaves the history
 record SameHistory (s t : State) : Type 0 where
@@ -61,7 +73,13 @@ same_history : (s : State) → SameHistory s s
 same_history s = record { world = refl; snapshot = refl; opened = refl; finalised = refl; is_closed = refl }
 
 mark_history : (s : State) (name : Name) → SameHistory s (mark_name s name)
-mark_history s name = mark_cases (SameHistory s) s name (λ e. record { world = refl; snapshot = refl; opened = refl; finalised = refl; is_closed = refl }) (λ e. same_history s)
+mark_history s name = mark_cases (SameHistory s) s name (λ e. record {
+  world = refl;
+  snapshot = refl;
+  opened = refl;
+  finalised = refl;
+  is_closed = refl;
+}) (λ e. same_history s)
 
 read_history : (s : State) (o : Option Value) → SameHistory s (mark_read s o)
 read_history s None = same_history s
@@ -74,7 +92,13 @@ advanced_history s [] = same_history s
 advanced_history s (entry ∷ rest) = record { world = refl; snapshot = refl; opened = refl; finalised = refl; is_closed = refl }
 
 then_history : (s t u : State) → SameHistory s t → SameHistory t u → SameHistory s u
-then_history s t u a b = record { world = b.world ∙ a.world; snapshot = b.snapshot ∙ a.snapshot; opened = b.opened ∙ a.opened; finalised = b.finalised ∙ a.finalised; is_closed = b.is_closed ∙ a.is_closed }
+then_history s t u a b = record {
+  world = b.world ∙ a.world;
+  snapshot = b.snapshot ∙ a.snapshot;
+  opened = b.opened ∙ a.opened;
+  finalised = b.finalised ∙ a.finalised;
+  is_closed = b.is_closed ∙ a.is_closed;
+}
 
 scan_history : (s : State) (queue : List Entry) → SameHistory s (after_scan s queue)
 scan_history s [] = same_history s
@@ -88,7 +112,13 @@ push_history s m (name ∷ rest) = record { world = refl; snapshot = refl; opene
 
 take_history : (s : State) (m : ℕ) (names : List Name) → SameHistory s (after_take s m names)
 take_history s m [] = same_history s
-take_history s m (name ∷ rest) = mark_cases (SameHistory s) _ name (λ e. record { world = refl; snapshot = refl; opened = refl; finalised = refl; is_closed = refl }) (λ e. record { world = refl; snapshot = refl; opened = refl; finalised = refl; is_closed = refl })
+take_history s m (name ∷ rest) = mark_cases (SameHistory s) _ name (λ e. record {
+  world = refl;
+  snapshot = refl;
+  opened = refl;
+  finalised = refl;
+  is_closed = refl;
+}) (λ e. record { world = refl; snapshot = refl; opened = refl; finalised = refl; is_closed = refl })
 
 -- before the closing: the facts and the history
 pub record IsUnderWay (w : World) (rows : List Row) (s : State) : Type 0 where
@@ -105,10 +135,18 @@ same_under_way w rows s t u h f =
     record {
       facts = f;
       world = subst IsWorld (sym h.world) u.world;
-      marking = record { legal = u.marking.legal; snapshot = e; world = h.world ∙ u.marking.world; opened = h.opened ∙ u.marking.opened; finalised = h.finalised ∙ u.marking.finalised; live = live_from w t f e };
+      marking = record {
+        legal = u.marking.legal;
+        snapshot = e;
+        world = h.world ∙ u.marking.world;
+        opened = h.opened ∙ u.marking.opened;
+        finalised = h.finalised ∙ u.marking.finalised;
+        live = live_from w t f e;
+      };
     }
 
-command_under_way : (w : World) (rows : List Row) (s : State) (m : ℕ) (c : Command) (answer : Reply) → IsUnderWay w rows s → CanApply s.world m c → (step s.world m c).1 ≡ answer → IsUnderWay w (rows ++ (record { mutator = m; command = c; reply = answer }) ∷ []) (after_command s m c)
+command_under_way : (w : World) (rows : List Row) (s : State) (m : ℕ) (c : Command) (answer : Reply) → IsUnderWay w rows s → CanApply s.world m c →
+    (step s.world m c).1 ≡ answer → IsUnderWay w (rows ++ (record { mutator = m; command = c; reply = answer }) ∷ []) (after_command s m c)
 command_under_way w rows s m c answer u can says =
     let row : Row = record { mutator = m; command = c; reply = answer } in
     let f : Facts (after_command s m c) = command_facts s u.facts u.world m c can.mutator in
@@ -133,7 +171,8 @@ pub record IsSoFar (w : World) (es : List Event) (rows : List Row) (s : State) :
   pub after : s.is_closed ≡ true → IsExact w es rows s
 
 -- the closing of a run that is under way
-close_exact : (w : World) (es : List Event) (rows : List Row) (s t : State) → Runs (opening w) es rows s → IsUnderWay w rows s → IsPossible s event.Close → (c : IsClosing s t) → IsExact w (es ++ event.Close ∷ []) rows t
+close_exact : (w : World) (es : List Event) (rows : List Row) (s t : State) → Runs (opening w) es rows s → IsUnderWay w rows s →
+    IsPossible s event.Close → (c : IsClosing s t) → IsExact w (es ++ event.Close ∷ []) rows t
 close_exact w es rows s t runs u possible c =
     let queue : s.queue ≡ [] = possible.1 in
     let owed : AreEmpty s.owed = possible.2 in
@@ -186,7 +225,8 @@ values_history : (s : State) (values : List Value) → SameHistory s (mark_value
 values_history s [] = same_history s
 values_history s (value.Nil ∷ values) = values_history s values
 values_history s (value.Number n ∷ values) = values_history s values
-values_history s (value.Ref name ∷ values) = then_history s (mark_name s name) (mark_values (mark_name s name) values) (mark_history s name) (values_history (mark_name s name) values)
+values_history s (value.Ref name ∷ values) =
+    then_history s (mark_name s name) (mark_values (mark_name s name) values) (mark_history s name) (values_history (mark_name s name) values)
 
 -- the world at the opening
 pub opening_world : (w : World) → (opening w).world ≡ w
@@ -201,7 +241,14 @@ so_far_starts w h =
       before = λ e. let f : Facts (opening w) = opening_facts w h in record {
         facts = f;
         world = subst IsWorld (sym (opening_world w)) h;
-        marking = record { legal = tt; snapshot = start.snapshot; world = start.world; opened = start.opened; finalised = start.finalised; live = live_from w (opening w) f start.snapshot };
+        marking = record {
+          legal = tt;
+          snapshot = start.snapshot;
+          world = start.world;
+          opened = start.opened;
+          finalised = start.finalised;
+          live = live_from w (opening w) f start.snapshot;
+        };
       };
       after = λ e. absurd (let a : (opening w).is_closed ≡ false = start.is_closed in let b : false ≡ true = cc in cc);
     }
@@ -209,7 +256,8 @@ so_far_starts w h =
 -- one event of a run
 module _ (w : World) (es : List Event) (rows : List Row) (s : State) (r : IsSoFar w es rows s) where
   -- an event that is no command and doesn't close
-  quiet : (e : Event) (t : State) → row_of e ≡ [] → s.is_closed ≡ false → SameHistory s t → Facts t → Passes s e true t → IsSoFar w (es ++ e ∷ []) (rows ++ rows_if true e) t
+  quiet : (e : Event) (t : State) → row_of e ≡ [] → s.is_closed ≡ false → SameHistory s t → Facts t → Passes s e true t →
+      IsSoFar w (es ++ e ∷ []) (rows ++ rows_if true e) t
   quiet e t none running same f p = record {
     runs = runs_push (opening w) s t es rows e true r.runs p;
     before = λ k. rw (none, append-nil) (same_under_way w rows s t (r.before running) same f);
@@ -219,16 +267,25 @@ module _ (w : World) (es : List Event) (rows : List Row) (s : State) (r : IsSoFa
   happened : (e : Event) (t : State) → Passes s e true t → IsSoFar w (es ++ e ∷ []) (rows ++ rows_if true e) t
   happened (event.Command m c answer) t p = record {
     runs = runs_push (opening w) s t es rows (event.Command m c answer) true r.runs p;
-    before = λ k. subst (IsUnderWay w (rows ++ (record { mutator = m; command = c; reply = answer }) ∷ [])) (sym p.1) (command_under_way w rows s m c answer (r.before p.0.0) p.0.1 p.0.2);
-    after = λ k. absurd (let a : t.is_closed ≡ s.is_closed = ap (λ (x : State). x.is_closed) p.1 in let b : s.is_closed ≡ false = p.0.0 in let d : false ≡ true = cc in cc);
+    before = λ k. subst (IsUnderWay w (rows ++ (record { mutator = m; command = c; reply = answer }) ∷
+        [])) (sym p.1) (command_under_way w rows s m c answer (r.before p.0.0) p.0.1 p.0.2);
+    after = λ k. absurd (let a : t.is_closed ≡ s.is_closed = ap (λ (x : State). x.is_closed) p.1 in let b : s.is_closed ≡ false = p.0.0 in
+        let d : false ≡ true = cc in cc);
   }
-  happened (event.Push m) t p = quiet (event.Push m) t refl p.0.0 (subst (SameHistory s) (sym p.1) (push_history s m (names_of s.owed m))) (subst Facts (sym p.1) (push_facts s (r.before p.0.0).facts m (names_of s.owed m) refl)) p
-  happened event.Scan t p = quiet event.Scan t refl p.0.0 (subst (SameHistory s) (sym p.1) (scan_history s s.queue)) (subst Facts (sym p.1) (scan_facts s (r.before p.0.0).facts (r.before p.0.0).world s.queue refl)) p
-  happened (event.Take m) t p = quiet (event.Take m) t refl p.0.0 (subst (SameHistory s) (sym p.1) (take_history s m (names_of s.pushed m))) (subst Facts (sym p.1) (take_facts s (r.before p.0.0).facts m (names_of s.pushed m) refl)) p
+  happened (event.Push m) t p =
+      quiet (event.Push m) t refl p.0.0 (subst (SameHistory s) (sym p.1) (push_history s m (names_of s.owed m)))
+      (subst Facts (sym p.1) (push_facts s (r.before p.0.0).facts m (names_of s.owed m) refl)) p
+  happened event.Scan t p =
+      quiet event.Scan t refl p.0.0 (subst (SameHistory s) (sym p.1) (scan_history s s.queue))
+      (subst Facts (sym p.1) (scan_facts s (r.before p.0.0).facts (r.before p.0.0).world s.queue refl)) p
+  happened (event.Take m) t p =
+      quiet (event.Take m) t refl p.0.0 (subst (SameHistory s) (sym p.1) (take_history s m (names_of s.pushed m)))
+      (subst Facts (sym p.1) (take_facts s (r.before p.0.0).facts m (names_of s.pushed m) refl)) p
   happened event.Close t p = record {
     runs = runs_push (opening w) s t es rows event.Close true r.runs p;
     before = λ k. absurd (let a : t.is_closed ≡ true = ap (λ (x : State). x.is_closed) p.1.rest in let d : true ≡ false = cc in cc);
-    after = λ k. subst (λ (l : List Row). IsExact w (es ++ event.Close ∷ []) l t) (sym (append-nil rows)) (close_exact w es rows s t r.runs (r.before p.0.0) p.0 p.1);
+    after = λ k. subst (λ (l : List Row). IsExact w (es ++ event.Close ∷
+        []) l t) (sym (append-nil rows)) (close_exact w es rows s t r.runs (r.before p.0.0) p.0 p.1);
   }
 
   -- an event that can't happen
@@ -236,7 +293,9 @@ module _ (w : World) (es : List Event) (rows : List Row) (s : State) (r : IsSoFa
   refused e t p = record {
     runs = runs_push (opening w) s t es rows e false r.runs p;
     before = λ k. rw append-nil (subst (IsUnderWay w rows) (sym p.1) (r.before (ap (λ (x : State). x.is_closed) (sym p.1) ∙ k)));
-    after = λ k. subst (λ (l : List Row). IsExact w (es ++ e ∷ []) l t) (sym (append-nil rows)) (subst (IsExact w (es ++ e ∷ []) rows) (sym p.1) (exact_later w es rows s e (r.after (ap (λ (x : State). x.is_closed) (sym p.1) ∙ k))));
+    after = λ k. subst (λ (l : List Row). IsExact w (es ++ e ∷
+        []) l t) (sym (append-nil rows)) (subst (IsExact w (es ++ e ∷
+        []) rows) (sym p.1) (exact_later w es rows s e (r.after (ap (λ (x : State). x.is_closed) (sym p.1) ∙ k))));
   }
 
   so_far_on : (e : Event) (done : Bool) (t : State) → Passes s e done t → IsSoFar w (es ++ e ∷ []) (rows ++ rows_if done e) t
@@ -244,13 +303,16 @@ module _ (w : World) (es : List Event) (rows : List Row) (s : State) (r : IsSoFa
   so_far_on e false t p = refused e t p
 
 -- the events of a run, one after the other
-so_far_runs : (w : World) (past : List Event) (rows : List Row) (s : State) (es : List Event) (more : List Row) (t : State) → IsSoFar w past rows s → Runs s es more t → IsSoFar w (past ++ es) (rows ++ more) t
+so_far_runs : (w : World) (past : List Event) (rows : List Row) (s : State) (es : List Event) (more : List Row) (t : State) →
+    IsSoFar w past rows s → Runs s es more t → IsSoFar w (past ++ es) (rows ++ more) t
 so_far_runs w past rows s [] more t r h =
     let now : IsSoFar w (past ++ []) rows s = subst (λ (l : List Event). IsSoFar w l rows s) (sym (append-nil past)) r in
     rw (h.0, h.1) (subst (λ (l : List Row). IsSoFar w (past ++ []) l s) (sym (append-nil rows)) now)
 so_far_runs w past rows s (e ∷ es) more t r (done, next, rest, first, is, runs) =
-    let now : IsSoFar w ((past ++ e ∷ []) ++ es) ((rows ++ rows_if done e) ++ rest) t = so_far_runs w (past ++ e ∷ []) (rows ++ rows_if done e) next es rest t (so_far_on w past rows s r e done next first) runs in
-    let moved : IsSoFar w (past ++ e ∷ es) ((rows ++ rows_if done e) ++ rest) t = subst (λ (l : List Event). IsSoFar w l ((rows ++ rows_if done e) ++ rest) t) (append_assoc past (e ∷ []) es) now in
+    let now : IsSoFar w ((past ++ e ∷ []) ++ es) ((rows ++ rows_if done e) ++ rest) t =
+    so_far_runs w (past ++ e ∷ []) (rows ++ rows_if done e) next es rest t (so_far_on w past rows s r e done next first) runs in
+    let moved : IsSoFar w (past ++ e ∷ es) ((rows ++ rows_if done e) ++ rest) t =
+    subst (λ (l : List Event). IsSoFar w l ((rows ++ rows_if done e) ++ rest) t) (append_assoc past (e ∷ []) es) now in
     rw (is, ← append_assoc rows (rows_if done e) rest) moved
 
 pub run_so_far : (w : World) → IsWorld w → (es : List Event) (rows : List Row) (s : State) → Runs (opening w) es rows s → IsSoFar w es rows s
@@ -267,11 +329,24 @@ pub opening_has_facts : OpeningHasFacts
 opening_has_facts w h = opening_facts w h
 
 pub event_keeps_facts : EventKeepsFacts
-event_keeps_facts s next (event.Command m c answer) f h p running = (subst Facts (sym p.1) (command_facts s f h m c p.0.1.mutator), subst (λ (t : State). IsWorld t.world) (sym p.1) (step_keeps_world s.world m c h p.0.1))
-event_keeps_facts s next (event.Push m) f h p running = (subst Facts (sym p.1) (push_facts s f m (names_of s.owed m) refl), subst (λ (t : State). IsWorld t.world) (sym p.1) (subst IsWorld (sym (push_history s m (names_of s.owed m)).world) h))
-event_keeps_facts s next event.Scan f h p running = (subst Facts (sym p.1) (scan_facts s f h s.queue refl), subst (λ (t : State). IsWorld t.world) (sym p.1) (subst IsWorld (sym (scan_history s s.queue).world) h))
-event_keeps_facts s next (event.Take m) f h p running = (subst Facts (sym p.1) (take_facts s f m (names_of s.pushed m) refl), subst (λ (t : State). IsWorld t.world) (sym p.1) (subst IsWorld (sym (take_history s m (names_of s.pushed m)).world) h))
-event_keeps_facts s next event.Close f h p running = absurd (let a : next.is_closed ≡ true = ap (λ (x : State). x.is_closed) p.1.rest in let d : true ≡ false = cc in cc)
+event_keeps_facts s next (event.Command m c answer) f h p running = (
+  subst Facts (sym p.1) (command_facts s f h m c p.0.1.mutator),
+  subst (λ (t : State). IsWorld t.world) (sym p.1) (step_keeps_world s.world m c h p.0.1),
+)
+event_keeps_facts s next (event.Push m) f h p running = (
+  subst Facts (sym p.1) (push_facts s f m (names_of s.owed m) refl),
+  subst (λ (t : State). IsWorld t.world) (sym p.1) (subst IsWorld (sym (push_history s m (names_of s.owed m)).world) h),
+)
+event_keeps_facts s next event.Scan f h p running = (
+  subst Facts (sym p.1) (scan_facts s f h s.queue refl),
+  subst (λ (t : State). IsWorld t.world) (sym p.1) (subst IsWorld (sym (scan_history s s.queue).world) h),
+)
+event_keeps_facts s next (event.Take m) f h p running = (
+  subst Facts (sym p.1) (take_facts s f m (names_of s.pushed m) refl),
+  subst (λ (t : State). IsWorld t.world) (sym p.1) (subst IsWorld (sym (take_history s m (names_of s.pushed m)).world) h),
+)
+event_keeps_facts s next event.Close f h p running = absurd (let a : next.is_closed ≡ true = ap (λ (x : State). x.is_closed) p.1.rest in
+    let d : true ≡ false = cc in cc)
 
 -- and a closing is exact
 pub closing_is_exact : ClosingIsExact

@@ -34,13 +34,19 @@ within_fields (Weak parts) i v z h = absurd cc
 within_fields (Stack size values) i v z h = let lt : i < length values = slice_get_within values i v h in let le : length values ≤ size = z in omega arith
 
 -- what a scan reads stands there, or is a free variable of a thunk that has a result
-pub read_cases : (node : Node) (i : ℕ) (v : Value) → field_at node i ≡ Some v → (strong_at node i ≡ Some v) ⊎ ((has_result node ≡ true) × (1 ≤ i) × ((free : List Value) → free_of node ≡ Some free → strong_at (Thunk free None) i ≡ Some v))
+pub read_cases : (node : Node) (i : ℕ) (v : Value) → field_at node i ≡ Some v → (strong_at node i ≡ Some v) ⊎
+    ((has_result node ≡ true) × (1 ≤ i) × ((free : List Value) → free_of node ≡ Some free → strong_at (Thunk free None) i ≡ Some v))
 read_cases (Con tag values) i v h = inl h
 read_cases (Var old) i v h = inl h
 read_cases (Arr values) i v h = inl h
 read_cases (Thunk free None) zero v h = absurd cc
 read_cases (Thunk free None) (suc i) v h = inl h
 read_cases (Thunk free (Some result)) zero v h = inl h
-read_cases (Thunk free (Some result)) (suc i) v h = inr (refl, omega arith, λ other e. let same : free ≡ other = same_Some free other e in subst (λ xs. slice_get xs i ≡ Some v) same h)
+read_cases (Thunk free (Some result)) (suc i) v h = inr (
+  refl,
+  omega arith,
+  λ other e. let same : free ≡ other = same_Some free other e in
+      subst (λ xs. slice_get xs i ≡ Some v) same h,
+)
 read_cases (Weak parts) i v h = absurd cc
 read_cases (Stack size values) i v h = inl h

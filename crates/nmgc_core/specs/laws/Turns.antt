@@ -33,21 +33,27 @@ use Rattle.nmgc_reach.specs.laws.WorldSteps.{change_count}
 data Turn (P : Name → Type 0) (w v : World) (dead : List Name) (name : Name) : Type 0 where
   kept : node_of v name ≡ node_of w name → Turn P w v dead name
   born_with : (made : Node) → node_of w name ≡ None → node_of v name ≡ Some made → Fields (Names P) made → Turn P w v dead name
-  changed_by : (c : Change) (found : Node) → IsStrongChange c → Writes (Names P) c → node_of w name ≡ Some found → node_of v name ≡ Some (changed c name.maker found).0 → Turn P w v dead name
+  changed_by : (c : Change) (found : Node) → IsStrongChange c → Writes (Names P) c → node_of w name ≡ Some found →
+      node_of v name ≡ Some (changed c name.maker found).0 → Turn P w v dead name
   died : (parts : Parts) → Contains dead name → node_of w name ≡ Some (Weak (Some parts)) → node_of v name ≡ Some (Weak None) → Turn P w v dead name
 
 -- registers and queues are no nodes
-register_kept : (w : World) (m register : ℕ) (v : Value) → m < length w.mutators → (name : Name) → node_of (with_state w m (holding (state_of w m) register v)) name ≡ node_of w name
+register_kept : (w : World) (m register : ℕ) (v : Value) → m < length w.mutators → (name : Name) →
+    node_of (with_state w m (holding (state_of w m) register v)) name ≡ node_of w name
 register_kept w m register v lt name = nodes_kept w m (holding (state_of w m) register v) lt refl name
 
 keeping_kept : (w : World) (m register : ℕ) (r : Reply) → m < length w.mutators → (name : Name) → node_of (keeping w m register r) name ≡ node_of w name
 keeping_kept w m register (reply.Given v) lt name = register_kept w m register v lt name
 keeping_kept w m register _ lt name = refl
 
-finaliser_kept : (w : World) (m register : ℕ) → m < length w.mutators → (name : Name) → node_of (with_state w m (with_finaliser (state_of w m) register)) name ≡ node_of w name
+finaliser_kept : (w : World) (m register : ℕ) → m < length w.mutators → (name : Name) →
+    node_of (with_state w m (with_finaliser (state_of w m) register)) name ≡ node_of w name
 finaliser_kept w m register lt name = by_first (slice_get (state_of w m).queue 0)
   where
-    by_first : (first : Option Value) → node_of (with_state w m (holding_given (record (state_of w m) { queue = drop 1 (state_of w m).queue }) register first)) name ≡ node_of w name
+    by_first : (first : Option Value) → node_of (with_state w m (holding_given (record (state_of w m) {
+      queue =
+          drop 1 (state_of w m).queue;
+    }) register first)) name ≡ node_of w name
     by_first None = nodes_kept w m (record (state_of w m) { queue = drop 1 (state_of w m).queue }) lt refl name
     by_first (Some v) = nodes_kept w m (holding (record (state_of w m) { queue = drop 1 (state_of w m).queue }) register v) lt refl name
 
@@ -59,7 +65,8 @@ module _ (P : Name → Type 0) (w : World) where
   then_kept u v dead name (changed_by c found s wr there is) same = changed_by c found s wr there (same ∙ is)
   then_kept u v dead name (died parts k there is) same = died parts k there (same ∙ is)
 
-  born_turn : (m register : ℕ) (made : Node) → m < length w.mutators → m ≢ SHARED_MAKER → Fields (Names P) made → (name : Name) → Turn P w (born w m register made).0 [] name
+  born_turn : (m register : ℕ) (made : Node) → m < length w.mutators → m ≢ SHARED_MAKER → Fields (Names P) made → (name : Name) →
+      Turn P w (born w m register made).0 [] name
   born_turn m register made lt own f name = elim (node_born w m register made lt own name) [
     | inl c ↦ born_with made (subst (λ (k : Name). node_of w k ≡ None) (sym c.0) (next_is_new w m own)) c.1 f
     | inr c ↦ kept c
@@ -75,7 +82,8 @@ module _ (P : Name → Type 0) (w : World) where
       by_node (Some found) e =
           let made : Node = (changed c at.maker found).0 in
           elim (node_cases w at found made e name) [
-            | inl p ↦ subst (Turn P w (with_node w at made) []) (sym p.0) (changed_by c found s wr e (subst (λ (k : Name). node_of (with_node w at made) k ≡ Some made) p.0 p.1))
+            | inl p ↦ subst (Turn P w (with_node w at made) []) (sym p.0) (changed_by c found s wr e (subst (λ (k : Name).
+                node_of (with_node w at made) k ≡ Some made) p.0 p.1))
             | inr p ↦ kept p.1
           ]
 
@@ -93,7 +101,8 @@ module _ (P : Name → Type 0) (w : World) where
       by_node : (o : Option Node) → node_of w at ≡ o → Turn P w (change_node w at o change.Finalise).0 (finalised_in (value.Ref at) o) name
       by_node None e = kept refl
       by_node (Some (Weak (Some parts))) e = elim (node_cases w at (Weak (Some parts)) (Weak None) e name) [
-        | inl p ↦ subst (Turn P w (with_node w at (Weak None)) (at ∷ [])) (sym p.0) (died parts (contains_one at) e (subst (λ (k : Name). node_of (with_node w at (Weak None)) k ≡ Some (Weak None)) p.0 p.1))
+        | inl p ↦ subst (Turn P w (with_node w at (Weak None)) (at ∷
+            [])) (sym p.0) (died parts (contains_one at) e (subst (λ (k : Name). node_of (with_node w at (Weak None)) k ≡ Some (Weak None)) p.0 p.1))
         | inr p ↦ kept p.1
       ]
       by_node (Some (Weak None)) e = same_node (Weak None) [] e
@@ -118,7 +127,8 @@ module _ (P : Name → Type 0) (w : World) where
     turn_adds (born_with made none is f) target r =
         let both : Some made ≡ Some r.0 = sym is ∙ r.1 in
         let same : made ≡ r.0 = cc in
-        inr (All-contains (Names P) (strong_fields made) (value.Ref target) f (subst (λ (n : Node). Contains (strong_fields n) (value.Ref target)) (sym same) r.2))
+        inr (All-contains (Names P) (strong_fields made) (value.Ref target) f (subst (λ (n : Node).
+        Contains (strong_fields n) (value.Ref target)) (sym same) r.2))
     turn_adds (changed_by c found s wr there is) target r =
         let Q : Value → Type 0 = λ x. Contains (strong_fields found) x ⊎ Names P x in
         let made : Node = (changed c name.maker found).0 in
@@ -150,7 +160,8 @@ module _ (P : Name → Type 0) (w : World) where
     turn_alive (changed_by c found s wr there is) parts a =
         let both : Some found ≡ Some (Weak (Some parts)) = sym there ∙ a in
         let same : found ≡ Weak (Some parts) = cc in
-        inl (is ∙ ap (λ n. Some n) (subst (λ (n : Node). (changed c name.maker n).0 ≡ Weak (Some parts)) (sym same) (weak_unchanged c name.maker (Some parts) s)))
+        inl (is ∙ ap (λ n. Some n) (subst (λ (n : Node). (changed c name.maker n).0 ≡
+        Weak (Some parts)) (sym same) (weak_unchanged c name.maker (Some parts) s)))
     turn_alive (died other k there is) parts a = inr k
 
   -- every command
@@ -170,17 +181,20 @@ module _ (P : Name → Type 0) (w : World) where
     step_turns (command.Stack dest size) name = born_turn m dest _ lt own (All-nil (Names P)) name
     step_turns (command.Get dest object index) name = kept (keeping_kept w m dest _ lt name)
     step_turns (command.Set object index v) name = change_turn (value_for w m object) (change.Set index (value_for w m v)) tt (has v) name
-    step_turns (command.Cas object index expected v) name = change_turn (value_for w m object) (change.Exchange index (value_for w m expected) (value_for w m v)) tt (has v) name
+    step_turns (command.Cas object index expected v) name =
+        change_turn (value_for w m object) (change.Exchange index (value_for w m expected) (value_for w m v)) tt (has v) name
     step_turns (command.Update object v) name = change_turn (value_for w m object) (change.Update (value_for w m v)) tt (has v) name
     step_turns (command.Force dest object) name = kept (keeping_kept w m dest _ lt name)
     step_turns (command.Push object v) name = change_turn (value_for w m object) (change.Push m (value_for w m v)) tt (has v) name
     step_turns (command.Pop dest object) name =
         let u = change_object w (value_for w m object) (change.Pop m) in
-        then_kept u.0 (keeping u.0 m dest u.1) [] name (change_turn (value_for w m object) (change.Pop m) tt tt name) (keeping_kept u.0 m dest u.1 (subst (λ (n : ℕ). m < n) (sym (change_count w (value_for w m object) (change.Pop m))) lt) name)
+        then_kept u.0 (keeping u.0 m dest u.1) [] name (change_turn (value_for w m object) (change.Pop m) tt tt name)
+        (keeping_kept u.0 m dest u.1 (subst (λ (n : ℕ). m < n) (sym (change_count w (value_for w m object) (change.Pop m))) lt) name)
     step_turns (command.Deref dest object) name = kept (keeping_kept w m dest _ lt name)
     step_turns (command.Finalise dest object) name =
         let u = change_object w (value_for w m object) change.Finalise in
-        then_kept u.0 (keeping u.0 m dest u.1) _ name (finalise_turn (value_for w m object) name) (keeping_kept u.0 m dest u.1 (subst (λ (n : ℕ). m < n) (sym (change_count w (value_for w m object) change.Finalise)) lt) name)
+        then_kept u.0 (keeping u.0 m dest u.1) _ name (finalise_turn (value_for w m object) name) (keeping_kept u.0 m dest u.1 (subst (λ (n : ℕ).
+        m < n) (sym (change_count w (value_for w m object) change.Finalise)) lt) name)
     step_turns (command.NextFin dest) name = kept (finaliser_kept w m dest lt name)
     step_turns _ name = kept refl
 

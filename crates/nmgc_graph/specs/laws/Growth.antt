@@ -88,7 +88,8 @@ asked_mutators w (Some (object, c)) = (change_same w object c).mutators
 
 -- a mutator is still there after the change that was asked for
 pub asked_keeps : (w v : World) (r : Reply) (a : Option (Value × Change)) (m : ℕ) → change_asked w a ≡ (v, r) → m < length w.mutators → m < length v.mutators
-asked_keeps w v r a m e lt = let count : length v.mutators ≡ length w.mutators = sym (ap (λ (p : World × Reply). length p.0.mutators) e) ∙ asked_mutators w a in omega arith
+asked_keeps w v r a m e lt =
+    let count : length v.mutators ≡ length w.mutators = sym (ap (λ (p : World × Reply). length p.0.mutators) e) ∙ asked_mutators w a in omega arith
 
 -- a name in the map is still there where no serial fell
 names_stay : (w v : World) → ((k : ℕ) → serial_of w k ≤ serial_of v k) → (name : Name) → IsSome (node_of w name) → IsSome (node_of v name)
@@ -106,7 +107,12 @@ names_stay w v serials name h = elim (eqb_tells name.maker SHARED_MAKER) [
 same_grows : (w v : World) (m : ℕ) → SameCounts w v → Grows w v m
 same_grows w v m h =
     let serials : (k : ℕ) → serial_of w k ≤ serial_of v k = λ k. let e : serial_of v k ≡ serial_of w k = h.serials k in omega arith in
-    record { mutators = h.mutators; serials = serials; by_one = let e : serial_of v m ≡ serial_of w m = h.serials m in omega arith; names = names_stay w v serials }
+    record {
+      mutators = h.mutators;
+      serials = serials;
+      by_one = let e : serial_of v m ≡ serial_of w m = h.serials m in omega arith;
+      names = names_stay w v serials;
+    }
 
 born_grows : (w : World) (m register : ℕ) (made : Node) → m < length w.mutators → Grows w (born w m register made).0 m
 born_grows w m register made lt =
@@ -116,7 +122,8 @@ born_grows w m register made lt =
     let own : serial_of v m ≡ serial_of w m + 1 = ap (λ (s : MutatorState). length s.nodes) (get_or-set_same w.mutators m q no_mutator lt) ∙ count in
     let serials : (k : ℕ) → serial_of w k ≤ serial_of v k = λ k. elim (eqb_tells k m) [
       | inl same ↦ rw same.1 (omega arith)
-      | inr n ↦ let e : serial_of v k ≡ serial_of w k = ap (λ (s : MutatorState). length s.nodes) (get_or-set_other w.mutators m k q no_mutator n.1) in omega arith
+      | inr n ↦ let e : serial_of v k ≡ serial_of w k = ap (λ (s : MutatorState). length s.nodes) (get_or-set_other w.mutators m k q no_mutator n.1) in
+          omega arith
     ] in
     record { mutators = length-set w.mutators m q; serials = serials; by_one = omega arith; names = names_stay w v serials }
 
@@ -138,7 +145,8 @@ step_grows w m (Weak dest key v finaliser) lt = born_grows w m dest _ lt
 step_grows w m (Stack dest size) lt = born_grows w m dest _ lt
 step_grows w m (Get dest object index) lt = same_grows w _ m (keeping_same w m dest _)
 step_grows w m (Set object index v) lt = same_grows w _ m (change_same w (value_for w m object) (change.Set index (value_for w m v)))
-step_grows w m (Cas object index expected v) lt = same_grows w _ m (change_same w (value_for w m object) (change.Exchange index (value_for w m expected) (value_for w m v)))
+step_grows w m (Cas object index expected v) lt =
+    same_grows w _ m (change_same w (value_for w m object) (change.Exchange index (value_for w m expected) (value_for w m v)))
 step_grows w m (Update object v) lt = same_grows w _ m (change_same w (value_for w m object) (change.Update (value_for w m v)))
 step_grows w m (Force dest object) lt = same_grows w _ m (keeping_same w m dest _)
 step_grows w m (Push object v) lt = same_grows w _ m (change_same w (value_for w m object) (change.Push m (value_for w m v)))
@@ -153,6 +161,7 @@ step_grows w m Collect lt = same_grows w w m (same_counts w)
 step_grows w m Full lt = same_grows w w m (same_counts w)
 
 -- of a call that may want memory
-pub answer_grows : (w v : World) (m : ℕ) (c : Command) (r : Result Reply NoMemory) → m < length w.mutators → IfOk r (λ reply. ◌≡◌ {A = World × Reply} (step w m c) (v, reply)) → OnErr r (v ≡ w) → Grows w v m
+pub answer_grows : (w v : World) (m : ℕ) (c : Command) (r : Result Reply NoMemory) → m < length w.mutators →
+    IfOk r (λ reply. ◌≡◌ {A = World × Reply} (step w m c) (v, reply)) → OnErr r (v ≡ w) → Grows w v m
 answer_grows w v m c (Ok reply) lt ok err = subst (λ (u : World). Grows w u m) (ap (λ (p : World × Reply). p.0) ok) (step_grows w m c lt)
 answer_grows w v m c (Err e) lt ok err = subst (λ (u : World). Grows w u m) (sym err) (same_grows w w m (same_counts w))

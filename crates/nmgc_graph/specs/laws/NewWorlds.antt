@@ -23,7 +23,8 @@ each_new R new none count k = elim (cases_lt k (length (replicate count new_muta
 ]
 
 -- g is its only node
-pub new_nodes : (F : Name → Node → Type 0) → F shared_name (Arr (replicate SHARED_SLOTS Nil)) → (count : ℕ) (name : Name) → IfSome (node_of (new_world count) name) (F name)
+pub new_nodes : (F : Name → Node → Type 0) → F shared_name (Arr (replicate SHARED_SLOTS Nil)) → (count : ℕ) (name : Name) →
+    IfSome (node_of (new_world count) name) (F name)
 new_nodes F g count name = elim (eqb_tells name.maker SHARED_MAKER) [
   | inl p ↦ elim (eqb_tells name.serial 0) [
     | inl z ↦ rw (p.0, z.0) (subst (λ (n : Name). F n (Arr (replicate SHARED_SLOTS Nil))) (sym (same_name name shared_name p.1 z.1)) g)
@@ -40,7 +41,8 @@ new_is_world count some few =
     record {
       some = omega (arith, many);
       few = rw many few;
-      registers = λ m lt. All-get_or (λ (s : MutatorState). length s.registers ≡ REGISTERS) w.mutators m no_mutator lt (All-replicate (λ (s : MutatorState). length s.registers ≡ REGISTERS) count new_mutator refl);
+      registers = λ m lt. All-get_or (λ (s : MutatorState). length s.registers ≡
+          REGISTERS) w.mutators m no_mutator lt (All-replicate (λ (s : MutatorState). length s.registers ≡ REGISTERS) count new_mutator refl);
       serials = each_new (λ (s : MutatorState). length s.nodes < 2 ^ 32) (omega arith) (omega arith) count;
       shared = refl;
       known_registers = each_new (λ (s : MutatorState). All (IsKnown w) s.registers) (All-replicate (IsKnown w) REGISTERS Nil tt) (All-nil (IsKnown w)) count;

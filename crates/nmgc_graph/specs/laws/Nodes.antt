@@ -65,19 +65,34 @@ module _ (w : World) where
   field_set_known : (node : Node) (index : ℕ) (v : Value) → IsKnown w v → IsNodeOf w node → IsNodeOf w (field_set node index v).0
   field_set_known (Con tag values) index v k h = h
   field_set_known (Var old) index v k h = either (eqb index 0) (Var v) (Var old) Fine NoField (record { known = one_has (IsKnown w) v k; sized = tt }) h
-  field_set_known (Arr values) index v k h = either (ltb index (length values)) (Arr (set values index v)) (Arr values) Fine NoField (record { known = All-set (IsKnown w) values index v k h.known; sized = tt }) h
+  field_set_known (Arr values) index v k h =
+      either (ltb index (length values)) (Arr (set values index v)) (Arr values) Fine NoField (record {
+        known =
+            All-set (IsKnown w) values index v k h.known;
+        sized = tt;
+      }) h
   field_set_known (Thunk free result) index v k h = h
   field_set_known (Weak parts) index v k h = h
   field_set_known (Stack size values) index v k h = h
 
-  exchanged_known : (old : Option Value) (expected : Value) (kept made : Node) → IsNodeOf w made → IsNodeOf w kept → IsNodeOf w (exchanged_at old expected kept made).0
+  exchanged_known : (old : Option Value) (expected : Value) (kept made : Node) → IsNodeOf w made → IsNodeOf w kept →
+      IsNodeOf w (exchanged_at old expected kept made).0
   exchanged_known None expected kept made h k = k
   exchanged_known (Some old) expected kept made h k = either (is_same old expected) made kept Yes No h k
 
   field_exchanged_known : (node : Node) (index : ℕ) (expected v : Value) → IsKnown w v → IsNodeOf w node → IsNodeOf w (field_exchanged node index expected v).0
   field_exchanged_known (Con tag values) index expected v k h = h
-  field_exchanged_known (Var old) index expected v k h = exchanged_known (slice_get (old ∷ []) index) expected (Var old) (Var v) (record { known = one_has (IsKnown w) v k; sized = tt }) h
-  field_exchanged_known (Arr values) index expected v k h = exchanged_known (slice_get values index) expected (Arr values) (Arr (set values index v)) (record { known = All-set (IsKnown w) values index v k h.known; sized = tt }) h
+  field_exchanged_known (Var old) index expected v k h = exchanged_known (slice_get (old ∷ []) index) expected (Var old) (Var v) (record {
+    known =
+        one_has (IsKnown w) v k;
+    sized = tt;
+  }) h
+  field_exchanged_known (Arr values) index expected v k h =
+      exchanged_known (slice_get values index) expected (Arr values) (Arr (set values index v)) (record {
+        known =
+            All-set (IsKnown w) values index v k h.known;
+        sized = tt;
+      }) h
   field_exchanged_known (Thunk free result) index expected v k h = h
   field_exchanged_known (Weak parts) index expected v k h = h
   field_exchanged_known (Stack size values) index expected v k h = h
@@ -91,8 +106,12 @@ module _ (w : World) where
   thunk_updated_known (Weak parts) v k h = h
   thunk_updated_known (Stack size values) v k h = h
 
-  pushed_known : (b : Bool) (size : ℕ) (values : List Value) (v : Value) → ltb (length values) size ≡ b → IsKnown w v → IsNodeOf w (Stack size values) → IsNodeOf w (cond {A = Node × Reply} b (Stack size (values ++ v ∷ []), Fine) (Stack size values, StackFull)).0
-  pushed_known true size values v e k h = record { known = All-push (IsKnown w) values v h.known k; sized = let lt : length values < size = ltb-true (length values) size e in omega (arith, length-append values (v ∷ [])) }
+  pushed_known : (b : Bool) (size : ℕ) (values : List Value) (v : Value) → ltb (length values) size ≡ b → IsKnown w v →
+      IsNodeOf w (Stack size values) → IsNodeOf w (cond {A = Node × Reply} b (Stack size (values ++ v ∷ []), Fine) (Stack size values, StackFull)).0
+  pushed_known true size values v e k h = record {
+    known = All-push (IsKnown w) values v h.known k;
+    sized = let lt : length values < size = ltb-true (length values) size e in omega (arith, length-append values (v ∷ []));
+  }
   pushed_known false size values v e k h = h
 
   stack_pushed_known : (own : Bool) (node : Node) (v : Value) → IsKnown w v → IsNodeOf w node → IsNodeOf w (stack_pushed own node v).0
@@ -110,7 +129,10 @@ module _ (w : World) where
   stack_popped_known own (Arr values) h = h
   stack_popped_known own (Thunk free result) h = h
   stack_popped_known own (Weak parts) h = h
-  stack_popped_known true (Stack size values) h = record { known = All-take (IsKnown w) (length values - 1) values h.known; sized = let within : length values ≤ size = h.sized in omega (arith, length-take (length values - 1) values) }
+  stack_popped_known true (Stack size values) h = record {
+    known = All-take (IsKnown w) (length values - 1) values h.known;
+    sized = let within : length values ≤ size = h.sized in omega (arith, length-take (length values - 1) values);
+  }
   stack_popped_known false (Stack size values) h = h
 
   weak_finalised_known : (node : Node) → IsNodeOf w node → IsNodeOf w (weak_finalised node).0
@@ -131,7 +153,8 @@ module _ (w : World) where
   changed_known (change.Pop m) maker node k h = stack_popped_known (eqb maker m) node h
   changed_known change.Finalise maker node k h = weak_finalised_known node h
 
-  two_replies : (b : Bool) (made kept : Node) (r s : Reply) → IsKnownReply w r → IsKnownReply w s → IsKnownReply w (cond {A = Node × Reply} b (made, r) (kept, s)).1
+  two_replies : (b : Bool) (made kept : Node) (r s : Reply) → IsKnownReply w r → IsKnownReply w s →
+      IsKnownReply w (cond {A = Node × Reply} b (made, r) (kept, s)).1
   two_replies true made kept r s h k = h
   two_replies false made kept r s h k = k
 
@@ -170,7 +193,8 @@ module _ (w : World) where
   stack_pushed_reply own (Arr values) v = tt
   stack_pushed_reply own (Thunk free result) v = tt
   stack_pushed_reply own (Weak parts) v = tt
-  stack_pushed_reply true (Stack size values) v = two_replies (ltb (length values) size) (Stack size (values ++ v ∷ [])) (Stack size values) Fine StackFull tt tt
+  stack_pushed_reply true (Stack size values) v = two_replies (ltb (length values) size) (Stack size (values ++ v ∷
+      [])) (Stack size values) Fine StackFull tt tt
   stack_pushed_reply false (Stack size values) v = tt
 
   stack_popped_reply : (own : Bool) (node : Node) → AreKnown w (held_by node) → IsKnownReply w (stack_popped own node).1
@@ -188,7 +212,8 @@ module _ (w : World) where
   weak_finalised_reply (Arr values) h = tt
   weak_finalised_reply (Thunk free result) h = tt
   weak_finalised_reply (Weak None) h = tt
-  weak_finalised_reply (Weak (Some p)) h = All-head (IsKnown w) p.finaliser [] (All-tail (IsKnown w) p.value (p.finaliser ∷ []) (All-tail (IsKnown w) p.key (p.value ∷ p.finaliser ∷ []) h))
+  weak_finalised_reply (Weak (Some p)) h = All-head (IsKnown w) p.finaliser [] (All-tail (IsKnown w) p.value (p.finaliser ∷
+      []) (All-tail (IsKnown w) p.key (p.value ∷ p.finaliser ∷ []) h))
   weak_finalised_reply (Stack size values) h = tt
 
   -- a change gives nothing but what the node held
@@ -215,8 +240,10 @@ changed_shared c maker (Var old) h = absurd h
 changed_shared c maker (Thunk free result) h = absurd h
 changed_shared c maker (Weak parts) h = absurd h
 changed_shared c maker (Stack size values) h = absurd h
-changed_shared (change.Set index v) maker (Arr values) h = array_shared (ltb index (length values)) (Arr (set values index v)) (Arr values) Fine NoField (rw length-set h) h
-changed_shared (change.Exchange index expected v) maker (Arr values) h = exchanged_shared (slice_get values index) expected (Arr values) (Arr (set values index v)) (rw length-set h) h
+changed_shared (change.Set index v) maker (Arr values) h =
+    array_shared (ltb index (length values)) (Arr (set values index v)) (Arr values) Fine NoField (rw length-set h) h
+changed_shared (change.Exchange index expected v) maker (Arr values) h =
+    exchanged_shared (slice_get values index) expected (Arr values) (Arr (set values index v)) (rw length-set h) h
 changed_shared (change.Update v) maker (Arr values) h = h
 changed_shared (change.Push m v) maker (Arr values) h = h
 changed_shared (change.Pop m) maker (Arr values) h = h

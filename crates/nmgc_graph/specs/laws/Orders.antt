@@ -10,7 +10,8 @@ use Rattle.nmgc_graph.specs.Order.{IsEarlier, ListsBefore}
 pub same_name : (a b : Name) → a.maker ≡ b.maker → a.serial ≡ b.serial → a ≡ b
 same_name a b e f =
     let first : a ≡ record { maker = b.maker; serial = a.serial } = ap (λ (k : ℕ). let n : Name = record { maker = k; serial = a.serial } in n) e in
-    let second : ◌≡◌ {A = Name} (record { maker = b.maker; serial = a.serial }) b = ap (λ (k : ℕ). let n : Name = record { maker = b.maker; serial = k } in n) f in
+    let second : ◌≡◌ {A = Name} (record { maker = b.maker; serial = a.serial }) b =
+    ap (λ (k : ℕ). let n : Name = record { maker = b.maker; serial = k } in n) f in
     first ∙ second
 
 pub before_trans : (a b c : Name) → IsBefore a b → IsBefore b c → IsBefore a c
@@ -69,7 +70,8 @@ contains_take (suc i) (y ∷ ys) x c = elim (contains_cases y (take i ys) x c) [
 pub in_order_take : (i : ℕ) (xs : List Name) → IsInOrder xs → IsInOrder (take i xs)
 in_order_take zero xs o = tt
 in_order_take (suc i) [] o = tt
-in_order_take (suc i) (x ∷ xs) o = in_order_cons x (take i xs) (in_order_take i xs (in_order_rest x xs o)) (λ n c. in_order_first x xs o n (contains_take i xs n c))
+in_order_take (suc i) (x ∷ xs) o = in_order_cons x (take i xs) (in_order_take i xs (in_order_rest x xs o)) (λ n c.
+    in_order_first x xs o n (contains_take i xs n c))
 
 -- a name of a list in order isn't among those before it
 pub in_order_apart : (i : ℕ) (xs : List Name) (d : Name) → IsInOrder xs → i < length xs → Contains (take i xs) (get_or xs i d) → ⊥
@@ -84,7 +86,8 @@ in_order_apart (suc i) (x ∷ xs) d o lt c = elim (contains_cases x (take i xs) 
 
 -- a list of names, each of which has a place after those before it
 module _ (P : Name → Type 0) where
-  place_cases : (n : Name) (maker serial : ℕ) → IsBefore n (record { maker = maker; serial = serial + 1 }) → (n ≡ record { maker = maker; serial = serial }) ⊎ IsBefore n (record { maker = maker; serial = serial })
+  place_cases : (n : Name) (maker serial : ℕ) → IsBefore n (record { maker = maker; serial = serial + 1 }) →
+      (n ≡ record { maker = maker; serial = serial }) ⊎ IsBefore n (record { maker = maker; serial = serial })
   place_cases n maker serial (inl p) = inr (inl p)
   place_cases n maker serial (inr p) = elim (cases_lt n.serial serial) [
     | inl lt ↦ inr (inr (p.0, lt))
@@ -103,7 +106,8 @@ module _ (P : Name → Type 0) where
   }
 
   -- the name at the place has P, and is listed
-  pub lists_more : (maker serial : ℕ) (names : List Name) → P (record { maker = maker; serial = serial }) → ListsBefore P maker serial names → ListsBefore P maker (serial + 1) (names ++ record { maker = maker; serial = serial } ∷ [])
+  pub lists_more : (maker serial : ℕ) (names : List Name) → P (record { maker = maker; serial = serial }) → ListsBefore P maker serial names →
+      ListsBefore P maker (serial + 1) (names ++ record { maker = maker; serial = serial } ∷ [])
   lists_more maker serial names p l =
       let place : Name = record { maker = maker; serial = serial } in
       record {
@@ -119,7 +123,8 @@ module _ (P : Name → Type 0) where
       }
 
   -- the name at the place doesn't have P, and is left out
-  pub lists_same : (maker serial : ℕ) (names : List Name) → (P (record { maker = maker; serial = serial }) → ⊥) → ListsBefore P maker serial names → ListsBefore P maker (serial + 1) names
+  pub lists_same : (maker serial : ℕ) (names : List Name) → (P (record { maker = maker; serial = serial }) → ⊥) → ListsBefore P maker serial names →
+      ListsBefore P maker (serial + 1) names
   lists_same maker serial names lacks l = record {
     ordered = l.ordered;
     sound = λ n c. ((l.sound n c).0, later n maker serial (l.sound n c).1);
@@ -130,7 +135,8 @@ module _ (P : Name → Type 0) where
   }
 
   -- no further name of the maker has P
-  pub lists_maker : (maker serial : ℕ) (names : List Name) → ((n : Name) → P n → n.maker ≡ maker → n.serial < serial) → ListsBefore P maker serial names → ListsBefore P (maker + 1) 0 names
+  pub lists_maker : (maker serial : ℕ) (names : List Name) → ((n : Name) → P n → n.maker ≡ maker → n.serial < serial) →
+      ListsBefore P maker serial names → ListsBefore P (maker + 1) 0 names
   lists_maker maker serial names few l = record {
     ordered = l.ordered;
     sound = λ n c. ((l.sound n c).0, elim (l.sound n c).1 [ inl p ↦ inl (omega arith) | inr p ↦ inl (omega arith) ]);

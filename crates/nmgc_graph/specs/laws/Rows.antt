@@ -28,9 +28,11 @@ place_maker marks name p = elim (cases_lt name.maker (length marks)) [
 ]
 
 -- all marks of a maker were passed
-pub marks_listed : (marks : List (List Bool)) (maker serial : ℕ) (names : List Name) → length (row_of marks maker) ≤ serial → ListsBefore (IsMarked marks) maker serial names → ListsBefore (IsMarked marks) (maker + 1) 0 names
+pub marks_listed : (marks : List (List Bool)) (maker serial : ℕ) (names : List Name) → length (row_of marks maker) ≤ serial →
+    ListsBefore (IsMarked marks) maker serial names → ListsBefore (IsMarked marks) (maker + 1) 0 names
 marks_listed marks maker serial names le l =
-    lists_maker (IsMarked marks) maker serial names (λ n m e. let p : n.serial < length (row_of marks n.maker) = marked_place marks n m in let q = rw e at p in omega arith) l
+    lists_maker (IsMarked marks) maker serial names (λ n m e. let p : n.serial < length (row_of marks n.maker) = marked_place marks n m in
+    let q = rw e at p in omega arith) l
 
 -- adding a name
 module _ (marks : List (List Bool)) (name : Name) (place : HasPlace marks name) where
@@ -68,7 +70,8 @@ count-set row serial lt e =
     omega arith
 
 -- adding a new name takes it off those that aren't in the set
-pub one_fewer : (marks : List (List Bool)) (name : Name) → HasPlace marks name → mark_of marks name ≡ false → unmarked_count (with_mark marks name) + 1 ≡ unmarked_count marks
+pub one_fewer : (marks : List (List Bool)) (name : Name) → HasPlace marks name → mark_of marks name ≡ false →
+    unmarked_count (with_mark marks name) + 1 ≡ unmarked_count marks
 one_fewer marks name place new =
     let row = row_of marks name.maker in
     let whole = sum_by-set (count_by not) marks name.maker (set row name.serial true) [] (place_maker marks name place) in

@@ -150,13 +150,15 @@ module _ (w : World) (m : ℕ) (q : MutatorState) (lt : m < length w.mutators) w
         | inl p ↦ rw p.0 (if_some_weaker _ (IsNodeOf w) (IsNodeOf (with_state w m q)) (node_known w (with_state w m q) still_known) (rw p.0 at (h.nodes name)))
         | inr p ↦ elim (eqb_tells name.maker m) [
           | inl e ↦ rw (p.0, e.1, same) (kn name.serial)
-          | inr n ↦ rw (p.0, other name.maker n.1) (if_some_weaker _ (IsNodeOf w) (IsNodeOf (with_state w m q)) (node_known w (with_state w m q) still_known) (rw p.0 at (h.nodes name)))
+          | inr n ↦ rw (p.0, other name.maker n.1) (if_some_weaker _ (IsNodeOf w) (IsNodeOf (with_state w m q))
+              (node_known w (with_state w m q) still_known) (rw p.0 at (h.nodes name)))
         ]
       ];
     }
 
 -- the same state, but for registers and a queue of known values
-module _ (w : World) (h : IsWorld w) (m : ℕ) (lt : m < length w.mutators) (registers queue : List Value) (regs : length registers ≡ REGISTERS) (kr : AreKnown w registers) (kq : AreKnown w queue) where
+module _ (w : World) (h : IsWorld w) (m : ℕ) (lt : m < length w.mutators) (registers queue : List Value) (regs : length registers ≡
+    REGISTERS) (kr : AreKnown w registers) (kq : AreKnown w queue) where
   moved : MutatorState
   moved = record { registers = registers; queue = queue; nodes = (state_of w m).nodes }
 
@@ -173,7 +175,8 @@ module _ (w : World) (h : IsWorld w) (m : ℕ) (lt : m < length w.mutators) (reg
 -- a register may take a known value
 pub holding_keeps : (w : World) (m register : ℕ) (v : Value) → IsWorld w → m < length w.mutators → IsKnown w v → IsWorld (with_register w m register v)
 holding_keeps w m register v h lt known =
-    values_keep w h m lt (set (state_of w m).registers register v) (state_of w m).queue (rw length-set (h.registers m lt)) (All-set (IsKnown w) (state_of w m).registers register v known (h.known_registers m)) (h.known_queue m)
+    values_keep w h m lt (set (state_of w m).registers register v) (state_of w m).queue (rw length-set (h.registers m lt))
+    (All-set (IsKnown w) (state_of w m).registers register v known (h.known_registers m)) (h.known_queue m)
 
 -- a finaliser may go off the queue into a register
 pub finaliser_keeps : (w : World) (m register : ℕ) → IsWorld w → m < length w.mutators → IsWorld (with_state w m (with_finaliser (state_of w m) register))
@@ -182,24 +185,34 @@ finaliser_keeps w m register h lt = by_first (slice_get (state_of w m).queue 0) 
     rest_known : AreKnown w (drop 1 (state_of w m).queue)
     rest_known = All-drop (IsKnown w) 1 (state_of w m).queue (h.known_queue m)
 
-    by_first : (first : Option Value) → IfSome first (IsKnown w) → IsWorld (with_state w m (holding_given (record (state_of w m) { queue = drop 1 (state_of w m).queue }) register first))
+    by_first : (first : Option Value) → IfSome first (IsKnown w) →
+        IsWorld (with_state w m (holding_given (record (state_of w m) { queue = drop 1 (state_of w m).queue }) register first))
     by_first None known = values_keep w h m lt (state_of w m).registers (drop 1 (state_of w m).queue) (h.registers m lt) (h.known_registers m) rest_known
-    by_first (Some v) known = values_keep w h m lt (set (state_of w m).registers register v) (drop 1 (state_of w m).queue) (rw length-set (h.registers m lt)) (All-set (IsKnown w) (state_of w m).registers register v known (h.known_registers m)) rest_known
+    by_first (Some v) known =
+        values_keep w h m lt (set (state_of w m).registers register v) (drop 1 (state_of w m).queue) (rw length-set (h.registers m lt))
+        (All-set (IsKnown w) (state_of w m).registers register v known (h.known_registers m)) rest_known
 
 -- a mutator may make a node whose values are known
-pub born_keeps : (w : World) (m register : ℕ) (made : Node) → IsWorld w → m < length w.mutators → length (state_of w m).nodes < 2 ^ 32 - 1 → IsNodeOf w made → IsWorld (with_state w m (with_new (state_of w m) m register made))
+pub born_keeps : (w : World) (m register : ℕ) (made : Node) → IsWorld w → m < length w.mutators → length (state_of w m).nodes < 2 ^ 32 - 1 →
+    IsNodeOf w made → IsWorld (with_state w m (with_new (state_of w m) m register made))
 born_keeps w m register made h lt few known =
     let p = state_of w m in
     let q = with_new p m register made in
     let count : length q.nodes ≡ length p.nodes + 1 = length-append p.nodes (made ∷ []) in
     let more : length p.nodes ≤ length q.nodes = omega arith in
     let lifted = still_known w m q lt more in
-    let there : IsKnown (with_state w m q) (Ref (next_name p m)) = rw (ne_eqb m SHARED_MAKER (not_shared w m h lt), get_or-set_same w.mutators m q no_mutator lt, slice_get-append_last p.nodes made) refl in
+    let there : IsKnown (with_state w m q) (Ref (next_name p m)) = rw (
+      ne_eqb m SHARED_MAKER (not_shared w m h lt),
+      get_or-set_same w.mutators m q no_mutator lt,
+      slice_get-append_last p.nodes made,
+    ) refl in
     state_keeps w m q lt more h (rw length-set (h.registers m lt)) (omega arith)
-    (All-set (IsKnown (with_state w m q)) p.registers register (Ref (next_name p m)) there (all_known w (with_state w m q) lifted p.registers (h.known_registers m)))
+    (All-set (IsKnown (with_state w m q)) p.registers register (Ref (next_name p m)) there
+    (all_known w (with_state w m q) lifted p.registers (h.known_registers m)))
     (all_known w (with_state w m q) lifted p.queue (h.known_queue m))
     (λ s. elim (cases_lt s (length p.nodes)) [
-      | inl old ↦ rw (slice_get-append p.nodes made s old) (if_some_weaker _ (IsNodeOf w) (IsNodeOf (with_state w m q)) (node_known w (with_state w m q) lifted) (own_nodes w m h lt s))
+      | inl old ↦ rw (slice_get-append p.nodes made s old) (if_some_weaker _ (IsNodeOf w) (IsNodeOf (with_state w m q))
+          (node_known w (with_state w m q) lifted) (own_nodes w m h lt s))
       | inr le ↦ elim (eqb_tells s (length p.nodes)) [
         | inl e ↦ rw (e.1, slice_get-append_last p.nodes made) (node_known w (with_state w m q) lifted made known)
         | inr n ↦ rw (slice_get-append_past p.nodes made s (omega (arith, n.1))) tt
@@ -211,9 +224,11 @@ pub operand_known : (w : World) (m : ℕ) → IsWorld w → m < length w.mutator
 operand_known w m h lt (Register r) fits = All-get_or (IsKnown w) (state_of w m).registers r Nil (omega (arith, h.registers m lt)) (h.known_registers m)
 operand_known w m h lt Shared fits = refl
 
-pub operands_known : (w : World) (m : ℕ) → IsWorld w → m < length w.mutators → (os : List Operand) → All IsOperand os → AreKnown w (map (value_of (state_of w m).registers) os)
+pub operands_known : (w : World) (m : ℕ) → IsWorld w → m < length w.mutators → (os : List Operand) → All IsOperand os →
+    AreKnown w (map (value_of (state_of w m).registers) os)
 operands_known w m h lt [] fits = All-nil (IsKnown w)
-operands_known w m h lt (o ∷ os) fits = All-cons (IsKnown w) _ _ (operand_known w m h lt o (All-head IsOperand o os fits)) (operands_known w m h lt os (All-tail IsOperand o os fits))
+operands_known w m h lt (o ∷ os) fits =
+    All-cons (IsKnown w) _ _ (operand_known w m h lt o (All-head IsOperand o os fits)) (operands_known w m h lt os (All-tail IsOperand o os fits))
 
 get_or_same : {A : Type 0} (xs : List A) (i : ℕ) (d e : A) → i < length xs → get_or xs i d ≡ get_or xs i e
 get_or_same [] i d e lt = absurd (omega arith)
@@ -225,11 +240,13 @@ module _ (w : World) (h : IsWorld w) (m : ℕ) (lt : m < length w.mutators) (ys 
   pub lent : get_or ys m d ≡ state_of w m
   lent = rw e (get_or_same w.mutators m d no_mutator lt)
 
-  pub replaced : (f : MutatorState → MutatorState) → new ≡ f (get_or ys m d) → IsWorld (with_state w m (f (state_of w m))) → IsWorld (record { shared = w.shared; mutators = refill (length w.mutators) w.mutators (set ys m new) })
+  pub replaced : (f : MutatorState → MutatorState) → new ≡ f (get_or ys m d) → IsWorld (with_state w m (f (state_of w m))) →
+      IsWorld (record { shared = w.shared; mutators = refill (length w.mutators) w.mutators (set ys m new) })
   replaced f is k = rw (refill_whole w.mutators (set ys m new) (length-set ys m new ∙ ap length e), e, is ∙ ap f lent) k
 
 -- reading a node that a world may have gives a known value, so reading an object does
-pub read_known : (w : World) → IsWorld w → (v : Value) (read : Node → Reply) → ((node : Node) → AreKnown w (held_by node) → IsKnownReply w (read node)) → IsKnownReply w (read_object (object_of w v) read)
+pub read_known : (w : World) → IsWorld w → (v : Value) (read : Node → Reply) →
+    ((node : Node) → AreKnown w (held_by node) → IsKnownReply w (read node)) → IsKnownReply w (read_object (object_of w v) read)
 read_known w h Nil read known = tt
 read_known w h (Number n) read known = tt
 read_known w h (Ref name) read known = by_node (node_of w name) (h.nodes name)
@@ -286,21 +303,29 @@ shared_node true true o x e h = refl
 shared_node true false o x e h = absurd cc
 
 -- a change of g
-module _ (w : World) (h : IsWorld w) (name : Name) (c : Change) (there : IsSome (node_of w name)) (known : IsKnownChange w c) (at : name.maker ≡ SHARED_MAKER) where
+module _ (w : World) (h : IsWorld w) (name : Name) (c : Change) (there : IsSome (node_of w name)) (known : IsKnownChange w c) (at : name.maker ≡
+    SHARED_MAKER) where
   pub is_shared : node_of w name ≡ Some w.shared
-  is_shared = shared_node (eqb name.maker SHARED_MAKER) (eqb name.serial 0) (slice_get (state_of w name.maker).nodes name.serial) w.shared (eq-eqb name.maker SHARED_MAKER at) there
+  is_shared = shared_node (eqb name.maker SHARED_MAKER) (eqb name.serial 0) (slice_get (state_of w name.maker).nodes name.serial) w.shared
+      (eq-eqb name.maker SHARED_MAKER at) there
 
   shared_is : IsNodeOf w w.shared
   shared_is = at_some (node_of w name) w.shared (IsNodeOf w) is_shared (h.nodes name)
 
   pub shared_changed : (maker : ℕ) → IsWorld (record w { shared = (changed c maker w.shared).0 })
-  shared_changed maker = shared_keeps w (changed c maker w.shared).0 h (changed_shared c maker w.shared h.shared) (changed_known w c maker w.shared known shared_is)
+  shared_changed maker =
+      shared_keeps w (changed c maker w.shared).0 h (changed_shared c maker w.shared h.shared) (changed_known w c maker w.shared known shared_is)
 
   pub shared_reply : (maker : ℕ) → IsKnownReply (record w { shared = (changed c maker w.shared).0 }) (changed c maker w.shared).1
-  shared_reply maker = reply_known w (record w { shared = (changed c maker w.shared).0 }) (shared_known w (changed c maker w.shared).0) (changed c maker w.shared).1 (changed_reply w c maker w.shared shared_is.known)
+  shared_reply maker = reply_known w (record w {
+    shared =
+        (changed c maker w.shared).0;
+  }) (shared_known w (changed c maker w.shared).0) (changed c maker w.shared).1
+      (changed_reply w c maker w.shared shared_is.known)
 
 -- a change of an object that a mutator made
-module _ (w : World) (h : IsWorld w) (name : Name) (c : Change) (there : IsSome (node_of w name)) (known : IsKnownChange w c) (ne : name.maker ≢ SHARED_MAKER) where
+module _ (w : World) (h : IsWorld w) (name : Name) (c : Change) (there : IsSome (node_of w name)) (known : IsKnownChange w c)
+    (ne : name.maker ≢ SHARED_MAKER) where
   pub in_state : node_of w name ≡ slice_get (state_of w name.maker).nodes name.serial
   in_state = rw (ne_eqb name.maker SHARED_MAKER ne) refl
 
@@ -310,7 +335,8 @@ module _ (w : World) (h : IsWorld w) (name : Name) (c : Change) (there : IsSome 
   pub maker_exists : name.maker < length w.mutators
   maker_exists = elim (cases_lt name.maker (length w.mutators)) [
     | inl lt ↦ lt
-    | inr le ↦ let none : state_of w name.maker ≡ no_mutator = get_or_past w.mutators name.maker no_mutator le in let bad : name.serial < length (no_mutator).nodes = rw none at within in absurd (omega arith)
+    | inr le ↦ let none : state_of w name.maker ≡ no_mutator = get_or_past w.mutators name.maker no_mutator le in
+        let bad : name.serial < length (no_mutator).nodes = rw none at within in absurd (omega arith)
   ]
 
   module _ (old : Node) (is : slice_get (state_of w name.maker).nodes name.serial ≡ Some old) where
@@ -318,7 +344,10 @@ module _ (w : World) (h : IsWorld w) (name : Name) (c : Change) (there : IsSome 
     old_is = at_some _ old (IsNodeOf w) is (own_nodes w name.maker h maker_exists name.serial)
 
     nth_lifted : (v : Value) → IsKnown w v → IsKnown (with_state w name.maker (with_nth (state_of w name.maker) name.serial (changed c name.maker old).0)) v
-    nth_lifted = still_known w name.maker (with_nth (state_of w name.maker) name.serial (changed c name.maker old).0) maker_exists (omega (arith, length-set (state_of w name.maker).nodes name.serial (changed c name.maker old).0))
+    nth_lifted = still_known w name.maker (with_nth (state_of w name.maker) name.serial (changed c name.maker old).0) maker_exists (omega (
+      arith,
+      length-set (state_of w name.maker).nodes name.serial (changed c name.maker old).0,
+    ))
 
     pub nth_changed : IsWorld (with_state w name.maker (with_nth (state_of w name.maker) name.serial (changed c name.maker old).0))
     nth_changed =
@@ -334,10 +363,12 @@ module _ (w : World) (h : IsWorld w) (name : Name) (c : Change) (there : IsSome 
         (all_known w w' nth_lifted _ (h.known_queue m))
         (λ s. elim (eqb_tells s name.serial) [
           | inl e ↦ rw (e.1, slice_get-set_same nodes name.serial made within) (node_known w w' nth_lifted made (changed_known w c m old known old_is))
-          | inr n ↦ rw (slice_get-set_other nodes name.serial s made n.1) (if_some_weaker _ (IsNodeOf w) (IsNodeOf w') (node_known w w' nth_lifted) (own_nodes w m h maker_exists s))
+          | inr n ↦ rw (slice_get-set_other nodes name.serial s made n.1)
+              (if_some_weaker _ (IsNodeOf w) (IsNodeOf w') (node_known w w' nth_lifted) (own_nodes w m h maker_exists s))
         ])
 
-    pub nth_reply : IsKnownReply (with_state w name.maker (with_nth (state_of w name.maker) name.serial (changed c name.maker old).0)) (changed c name.maker old).1
+    pub nth_reply : IsKnownReply (with_state w name.maker (with_nth (state_of w name.maker) name.serial (changed c name.maker old).0))
+        (changed c name.maker old).1
     nth_reply = reply_known w _ nth_lifted (changed c name.maker old).1 (changed_reply w c name.maker old old_is.known)
 
 -- a world whose mutator was given the state that it has

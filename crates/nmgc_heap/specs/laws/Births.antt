@@ -23,7 +23,8 @@ lies_less layout p size n le (inl g) = inl (g.0, g.1, (let h = g.2 in omega arit
 lies_less layout p size n le (inr (own, inl s)) = inr (own, inl (s.0, λ i l u. s.1 i l (omega arith)))
 lies_less layout p size n le (inr (own, inr s)) = inr (own, inr ((let h = s.0 in omega arith), λ i l u. s.1 i l (omega arith)))
 
-module _ (layout : Layout) (earlier : List World) (K L : Name → Node → Type 0) (places more : List Place) (w v : World) (words : List ℕ) (x : Place) (made : Node)
+module _ (layout : Layout) (earlier : List World) (K L : Name → Node →
+    Type 0) (places more : List Place) (w v : World) (words : List ℕ) (x : Place) (made : Node)
     (world : IsWorld w) (past : AreEarlier earlier w) (heads : HaveHeaders K w)
     (b : IsBorn layout earlier K L places more w v words x made)
     (r : Represents layout earlier K places w words) where
@@ -51,7 +52,11 @@ module _ (layout : Layout) (earlier : List World) (K L : Name → Node → Type 
       | inr g ↦ absurd (other_place p f (subst (λ (y : Place). (p.name ≡ y.name) ⊎ (p.at ≡ y.at)) (sym g) e))
     ]
     | inr f ↦ elim (b.place.no_other q d) [
-      | inl g ↦ absurd (other_place q g (elim (subst (λ (y : Place). (y.name ≡ q.name) ⊎ (y.at ≡ q.at)) (sym f) e) [ inl k ↦ inl (sym k) | inr k ↦ inr (sym k) ]))
+      | inl g ↦ absurd (other_place q g (elim (subst (λ (y : Place). (y.name ≡ q.name) ⊎ (y.at ≡ q.at)) (sym f) e) [
+        | inl k ↦ inl (sym k)
+        | inr k ↦
+            inr (sym k)
+      ]))
       | inr g ↦ sym f ∙ g
     ]
   ]
@@ -60,7 +65,13 @@ module _ (layout : Layout) (earlier : List World) (K L : Name → Node → Type 
   old_named p c =
       let h = r.named p c in
       let ne : p.at + 1 ≢ x.at = λ e. elim (b.apart.names p c) [ inl l ↦ omega arith | inr l ↦ omega arith ] in
-      record { known = subst (λ y. IsSome y) (sym (b.others p.name (unlike p.name h.known))) h.known; valid = h.valid; name = away (p.at + 1) ne ∙ h.name; lies = h.lies }
+      record {
+        known = subst (λ y. IsSome y) (sym (b.others p.name (unlike p.name h.known))) h.known;
+        valid = h.valid;
+        name = away (p.at + 1) ne ∙
+            h.name;
+        lies = h.lies;
+      }
 
   new_named : IsNamed layout v us x
   new_named = record {
@@ -72,7 +83,8 @@ module _ (layout : Layout) (earlier : List World) (K L : Name → Node → Type 
 
   new_object : IsObject layout more us x made
   new_object = record {
-    header = (let l = lies_within layout x (size_of made) (omega arith) b.lies in let n = r.total in get_or-set_same words x.at (header_word (header_of made)) 0 (omega arith));
+    header = (let l = lies_within layout x (size_of made) (omega arith) b.lies in let n = r.total in
+        get_or-set_same words x.at (header_word (header_of made)) 0 (omega arith));
     valid = b.valid;
     lies = b.lies;
     alone = λ q c. elim (b.place.no_other q c) [
@@ -82,17 +94,24 @@ module _ (layout : Layout) (earlier : List World) (K L : Name → Node → Type 
   }
 
   -- an object that is told has no further place among its words
-  alone_still : (p : Place) (node : Node) → Contains places p → IsTold layout earlier w p → node_of w p.name ≡ Some node → IsObject layout places words p node → (q : Place) → Contains more q → (q.at ≤ p.at) ⊎ (p.at + size_of node ≤ q.at)
+  alone_still : (p : Place) (node : Node) → Contains places p → IsTold layout earlier w p → node_of w p.name ≡ Some node →
+      IsObject layout places words p node → (q : Place) → Contains more q → (q.at ≤ p.at) ⊎ (p.at + size_of node ≤ q.at)
   alone_still p node c t is o q d = elim (b.place.no_other q d) [
     | inl old ↦ o.alone q old
-    | inr e ↦ subst (λ (y : Place). (y.at ≤ p.at) ⊎ (p.at + size_of node ≤ y.at)) e (elim (b.apart.objects p node c t is) [ inl l ↦ inr l | inr l ↦ inl (omega arith) ])
+    | inr e ↦ subst (λ (y : Place). (y.at ≤ p.at) ⊎ (p.at + size_of node ≤ y.at)) e (elim (b.apart.objects p node c t is) [
+      | inl l ↦ inr l
+      | inr l ↦
+          inl (omega arith)
+    ])
   ]
 
-  same_words : (p : Place) (node : Node) → Contains places p → IsTold layout earlier w p → node_of w p.name ≡ Some node → (i : ℕ) → p.at ≤ i → i < p.at + size_of node → slice_index us i ≡ slice_index words i
+  same_words : (p : Place) (node : Node) → Contains places p → IsTold layout earlier w p → node_of w p.name ≡ Some node → (i : ℕ) → p.at ≤ i →
+      i < p.at + size_of node → slice_index us i ≡ slice_index words i
   same_words p node c t is i lo hi = away i (λ e. elim (b.apart.objects p node c t is) [ inl l ↦ omega arith | inr l ↦ omega arith ])
 
   new_fields : HasSlots (Contains more) us (x.at + HEADER_WORDS) (slots_of made)
-  new_fields = slots_more (Contains more) (Contains more) (λ p c. c) words us (x.at + HEADER_WORDS) (slots_of made) (λ i slot e. inr (away (x.at + HEADER_WORDS + i) (λ z. omega arith))) b.fields
+  new_fields = slots_more (Contains more) (Contains more) (λ p c. c) words us (x.at + HEADER_WORDS) (slots_of made) (λ i slot e.
+      inr (away (x.at + HEADER_WORDS + i) (λ z. omega arith))) b.fields
 
   new_fixed : HasSlots (Contains more) us (x.at + HEADER_WORDS) (fixed_slots made)
   new_fixed i slot e = elim (fixed_own made i slot e) [
@@ -114,7 +133,8 @@ module _ (layout : Layout) (earlier : List World) (K L : Name → Node → Type 
   old_placed name node ne t is =
       let p = r.tracked name node t is in
       let at : Place = record { at = p.at; name = name } in
-      let q = still_placed layout earlier K places w words us world past heads more name node is b.place.old p (alone_still at node p.there (inl t) is p.object) (same_words at node p.there (inl t) is) in
+      let q = still_placed layout earlier K places w words us world past heads more name node is b.place.old p
+      (alone_still at node p.there (inl t) is p.object) (same_words at node p.there (inl t) is) in
       record { at = q.at; there = q.there; object = q.object; fields = q.fields; free = q.free; kept = λ before k. q.kept before (b.kept name before ne k) }
 
   pub object_born : Represents layout earlier L more v us
@@ -138,8 +158,10 @@ module _ (layout : Layout) (earlier : List World) (K L : Name → Node → Type 
           let was : node_of w p.name ≡ Some node = sym (b.others p.name ne) ∙ is in
           let h = r.born p node d young was in
           let same = same_words p node d (inr young) was in (
-            still_object layout earlier K places w words us world past heads more p node (alone_still p node d (inr young) was h.0) (same p.at (omega arith) (omega arith)) h.0,
-            λ dead. let three : (header_of node).fields ≡ 3 = ap (λ (n : Node). (header_of n).fields) dead in same (p.at + HEADER_WORDS + 1) (omega arith) (omega arith) ∙ h.1 dead,
+            still_object layout earlier K places w words us world past heads more p node (alone_still p node d (inr young) was h.0)
+                (same p.at (omega arith) (omega arith)) h.0,
+            λ dead. let three : (header_of node).fields ≡ 3 = ap (λ (n : Node). (header_of n).fields) dead in
+                same (p.at + HEADER_WORDS + 1) (omega arith) (omega arith) ∙ h.1 dead,
           )
       | inr e ↦
           let z : Some made ≡ Some node = sym b.is ∙ subst (λ (q : Place). node_of v q.name ≡ Some node) (sym e) is in

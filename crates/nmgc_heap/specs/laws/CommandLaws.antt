@@ -41,7 +41,8 @@ tracked_holds w earlier = record {
   weaks = λ weak n parts alive of. start n (w, contains_head w earlier, start n (inr (weak, parts, alive, of)));
 }
 
-pub held_tracked : (v : World) (earlier : List World) (P : Name → Type 0) → ((e : World) (n : Name) → Contains earlier e → IsWide e n → P n) → HoldsOnly P v → (name : Name) → IsTracked v earlier name → P name
+pub held_tracked : (v : World) (earlier : List World) (P : Name → Type 0) → ((e : World) (n : Name) → Contains earlier e → IsWide e n → P n) →
+    HoldsOnly P v → (name : Name) → IsTracked v earlier name → P name
 held_tracked v earlier P past h name t = tracked_in v earlier P (λ n root. wide_is_held P v h n (start n root)) past h.fields name t
 
 -- what earlier worlds reach is tracked, whatever the world
@@ -49,16 +50,19 @@ pub past_tracked : (w : World) (earlier : List World) (e : World) (n : Name) →
 past_tracked w earlier e n c i = start n (e, contains_tail w earlier e c, i)
 
 pub tracked_are_known : TrackedAreKnown
-tracked_are_known w earlier world past name t = held_tracked w earlier (λ n. IsSome (node_of w n)) (λ e n c i. (past e c).names n (wide_known e (past e c).world n i)) (world_holds w world) name t
+tracked_are_known w earlier world past name t = held_tracked w earlier (λ n. IsSome (node_of w n)) (λ e n c i.
+    (past e c).names n (wide_known e (past e c).world n i)) (world_holds w world) name t
 
 pub step_tracks : StepTracks
-step_tracks w m c earlier world can name t = held_tracked (step w m c).0 earlier P (λ e n d i. inl (past_tracked w earlier e n d i)) (step_holds_only P w m c world can (inr refl) begun) name t
+step_tracks w m c earlier world can name t = held_tracked (step w m c).0 earlier P (λ e n d i.
+    inl (past_tracked w earlier e n d i)) (step_holds_only P w m c world can (inr refl) begun) name t
   where
     P : Name → Type 0
     P n = IsTracked w earlier n ⊎ (n ≡ next_name (state_of w m) m)
 
     none_next : (target : Name) → RefersTo w (next_name (state_of w m) m) target → ⊥
-    none_next target r = absent (node_of w (next_name (state_of w m) m)) (next_is_new w m (not_shared w m world can.mutator)) (from_there w (next_name (state_of w m) m) target r)
+    none_next target r = absent (node_of w (next_name (state_of w m) m)) (next_is_new w m (not_shared w m world can.mutator))
+        (from_there w (next_name (state_of w m) m) target r)
 
     begun : HoldsOnly (λ n. IsTracked w earlier n ⊎ (n ≡ next_name (state_of w m) m)) w
     begun =
@@ -72,7 +76,8 @@ step_tracks w m c earlier world can name t = held_tracked (step w m c).0 earlier
         }
 
 pub closing_tracks : ClosingTracks
-closing_tracks w weaks earlier world name t = held_tracked (closed w weaks) earlier (IsTracked w earlier) (λ e n c i. past_tracked w earlier e n c i) (closed_holds (IsTracked w earlier) w weaks world (tracked_holds w earlier)) name t
+closing_tracks w weaks earlier world name t = held_tracked (closed w weaks) earlier (IsTracked w earlier) (λ e n c i.
+    past_tracked w earlier e n c i) (closed_holds (IsTracked w earlier) w weaks world (tracked_holds w earlier)) name t
 
 -- objects of one shape have one header
 header_shape : (node : Node) → header_of node ≡ record { kind = kind_of node; tag = tag_of node; fields = part_count node }
@@ -88,11 +93,16 @@ same_header a b s =
     let kinds = s.kind in
     let tags = s.tag in
     let counts = s.parts in
-    let mid : ◌≡◌ {A = Header} (record { kind = kind_of b; tag = tag_of b; fields = part_count b }) (record { kind = kind_of a; tag = tag_of a; fields = part_count a }) = λ i. record { kind = kinds i; tag = tags i; fields = counts i } in
+    let mid : ◌≡◌ {A = Header} (record { kind = kind_of b; tag = tag_of b; fields = part_count b }) (record {
+      kind = kind_of a;
+      tag = tag_of a;
+      fields = part_count a;
+    }) = λ i. record { kind = kinds i; tag = tags i; fields = counts i } in
     header_shape b ∙ mid ∙ sym (header_shape a)
 
 -- where shapes stay, headers do
-pub still_header : (w v : World) → KeepsShapes w v → (name : Name) (before now : Node) → IsSome (node_of w name) → ((was : Node) → node_of w name ≡ Some was → header_of before ≡ header_of was) → node_of v name ≡ Some now → header_of before ≡ header_of now
+pub still_header : (w v : World) → KeepsShapes w v → (name : Name) (before now : Node) → IsSome (node_of w name) →
+    ((was : Node) → node_of w name ≡ Some was → header_of before ≡ header_of was) → node_of v name ≡ Some now → header_of before ≡ header_of now
 still_header w v keeps name before now known same is =
     let was = is_some_of (node_of w name) known in
     let later = keeps name was.0 was.1 in
@@ -103,11 +113,16 @@ pub still_earlier : (e w v : World) → KeepsShapes w v → ((name : Name) → I
 still_earlier e w v keeps names h = record {
   world = h.world;
   names = λ name known. names name (h.names name known);
-  headers = λ name before now was is. still_header w v keeps name before now (h.names name (some_of (node_of e name) before was)) (λ x there. h.headers name before x was there) is;
+  headers = λ name before now was is. still_header w v keeps name before now (h.names name (some_of (node_of e name) before was)) (λ x there.
+      h.headers name before x was there) is;
 }
 
 pub world_is_earlier : WorldIsEarlier
-world_is_earlier w world = record { world = world; names = λ name known. known; headers = λ name before now was is. let z : Some before ≡ Some now = sym was ∙ is in let e : before ≡ now = cc in ap header_of e }
+world_is_earlier w world = record {
+  world = world;
+  names = λ name known. known;
+  headers = λ name before now was is. let z : Some before ≡ Some now = sym was ∙ is in let e : before ≡ now = cc in ap header_of e;
+}
 
 pub step_keeps_earlier : StepKeepsEarlier
 step_keeps_earlier e w m c world can h = still_earlier e w (step w m c).0 (step_keeps_shapes w m c world can) (step_grows w m c can.mutator).names h
@@ -116,17 +131,20 @@ pub closing_keeps_earlier : ClosingKeepsEarlier
 closing_keeps_earlier e w weaks world h = still_earlier e w (closed w weaks) (closing_keeps_shapes w weaks world) (closed_names w weaks world) h
 
 pub step_keeps_headers : (K : Name → Node → Type 0) → StepKeepsHeaders K
-step_keeps_headers K w m c world can known heads name before now k is = still_header w (step w m c).0 (step_keeps_shapes w m c world can) name before now (known name before k) (λ was there. heads name before was k there) is
+step_keeps_headers K w m c world can known heads name before now k is =
+    still_header w (step w m c).0 (step_keeps_shapes w m c world can) name before now (known name before k) (λ was there. heads name before was k there) is
 
 pub closing_keeps_headers : (K : Name → Node → Type 0) → ClosingKeepsHeaders K
-closing_keeps_headers K w weaks world known heads name before now k is = still_header w (closed w weaks) (closing_keeps_shapes w weaks world) name before now (known name before k) (λ was there. heads name before was k there) is
+closing_keeps_headers K w weaks world known heads name before now k is =
+    still_header w (closed w weaks) (closing_keeps_shapes w weaks world) name before now (known name before k) (λ was there. heads name before was k there) is
 
 -- a command that makes no object
 pub step_tracks_no_more : StepTracksNoMore
 step_tracks_no_more w m c earlier world past can no_birth name t = elim (step_tracks w m c earlier world can name t) [
   | inl u ↦ u
   | inr e ↦
-      let known : IsSome (node_of (step w m c).0 name) = tracked_are_known (step w m c).0 earlier (step_keeps_world w m c world can) (λ x d. step_keeps_earlier x w m c world can (past x d)) name t in
+      let known : IsSome (node_of (step w m c).0 name) = tracked_are_known (step w m c).0 earlier (step_keeps_world w m c world can) (λ x d.
+      step_keeps_earlier x w m c world can (past x d)) name t in
       let there : IsSome (node_of w (next_name (state_of w m) m)) = subst (λ (n : Name). IsSome (node_of w n)) e (no_birth name known) in
       absurd (absent (node_of w (next_name (state_of w m) m)) (next_is_new w m (not_shared w m world can.mutator)) there)
 ]
@@ -158,7 +176,8 @@ module _ (w : World) (m : ℕ) (c : Command) (world : IsWorld w) (can : CanApply
   after_hand : (u : World) → ((name : Name) → node_of v name ≡ node_of u name) → Object Any w m c u → NodeStep w v new
   after_hand u same (Object.same e) = none (λ name. same name ∙ ap (λ (x : World). node_of x name) e)
   after_hand u same (Object.birth register made is e) =
-      let bears : (name : Name) → ((name ≡ new) × (node_of v name ≡ Some made)) ⊎ (node_of v name ≡ node_of w name) = λ name. elim (node_born w m register made can.mutator own name) [
+      let bears : (name : Name) → ((name ≡ new) × (node_of v name ≡ Some made)) ⊎
+      (node_of v name ≡ node_of w name) = λ name. elim (node_born w m register made can.mutator own name) [
         | inl b ↦ inl (b.0, same name ∙ ap (λ (x : World). node_of x name) e ∙ b.1)
         | inr b ↦ inr (same name ∙ ap (λ (x : World). node_of x name) e ∙ b)
       ] in
@@ -171,7 +190,8 @@ module _ (w : World) (m : ℕ) (c : Command) (world : IsWorld w) (can : CanApply
           node_same w m (with_new (state_of w m) m register made) can.mutator own new refl ∙ last_item (state_of w m).nodes made
   after_hand u same (Object.write name found ch there asks q e) =
       let made : Node = (changed ch name.maker found).0 in
-      let cases : (n : Name) → ((n ≡ name) × (node_of v n ≡ Some made)) ⊎ ((n ≡ name → ⊥) × (node_of v n ≡ node_of w n)) = λ n. elim (node_cases w name found made there n) [
+      let cases : (n : Name) → ((n ≡ name) × (node_of v n ≡ Some made)) ⊎
+      ((n ≡ name → ⊥) × (node_of v n ≡ node_of w n)) = λ n. elim (node_cases w name found made there n) [
         | inl k ↦ inl (k.0, same n ∙ ap (λ (x : World). node_of x n) e ∙ k.1)
         | inr k ↦ inr (k.0, same n ∙ ap (λ (x : World). node_of x n) e ∙ k.1)
       ] in

@@ -41,6 +41,7 @@ parts_of k t f k' t' f' a b c d e = (omega arith, omega arith, omega arith)
 
 pub same_header : (a b : Header) → IsHeader a → IsHeader b → header_word a ≡ header_word b → a ≡ b
 same_header a b ha hb e =
-    let p = parts_of (kind_number a.kind) a.tag a.fields (kind_number b.kind) b.tag b.fields (small_kind a.kind) (small_kind b.kind) (small_tag a.kind a.tag ha.0) (small_tag b.kind b.tag hb.0) e in
+    let p = parts_of (kind_number a.kind) a.tag a.fields (kind_number b.kind) b.tag b.fields (small_kind a.kind) (small_kind b.kind)
+    (small_tag a.kind a.tag ha.0) (small_tag b.kind b.tag hb.0) e in
     let k = same_kind a.kind b.kind p.0 in
     λ i. record { kind = k i; tag = p.1 i; fields = p.2 i }

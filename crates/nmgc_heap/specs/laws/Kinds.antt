@@ -32,7 +32,8 @@ pub item_right : {A : Type 0} (xs ys : List A) (i : ℕ) (s : A) → slice_get y
 item_right [] ys i s e = let same : zero + i ≡ i = omega arith in rw same e
 item_right (x ∷ xs) ys i s e = let same : suc (length xs) + i ≡ suc (length xs + i) = omega arith in rw same (item_right xs ys i s e)
 
-pub item_cases : {A : Type 0} (xs ys : List A) (i : ℕ) (s : A) → slice_get (xs ++ ys) i ≡ Some s → (slice_get xs i ≡ Some s) ⊎ ((j : ℕ) × (i ≡ length xs + j) × (slice_get ys j ≡ Some s))
+pub item_cases : {A : Type 0} (xs ys : List A) (i : ℕ) (s : A) → slice_get (xs ++ ys) i ≡ Some s → (slice_get xs i ≡ Some s) ⊎
+    ((j : ℕ) × (i ≡ length xs + j) × (slice_get ys j ≡ Some s))
 item_cases [] ys i s e = inr (i, omega arith, e)
 item_cases (x ∷ xs) ys zero s e = inl e
 item_cases (x ∷ xs) ys (suc i) s e = elim (item_cases xs ys i s e) [ inl l ↦ inl l | inr r ↦ inr (r.0, omega (arith, r.1), r.2) ]
@@ -60,7 +61,8 @@ HasFields P words from (Arr values) = AllMean P words from values
 HasFields P words from (Thunk free None) = (slice_index words from ≡ 0) × AllMean P words (from + 1) free
 HasFields P words from (Thunk free (Some result)) = Means P (slice_index words from) result
 HasFields P words from (Weak None) = slice_index words (from + 1) ≡ 0
-HasFields P words from (Weak (Some parts)) = Means P (slice_index words from) parts.key × Means P (slice_index words (from + 1)) parts.value × Means P (slice_index words (from + 2)) parts.finaliser
+HasFields P words from (Weak (Some parts)) = Means P (slice_index words from) parts.key × Means P (slice_index words (from + 1)) parts.value ×
+    Means P (slice_index words (from + 2)) parts.finaliser
 HasFields P words from (Stack size values) = AllMean P words from values × AreUnset words from (length values) size
 
 -- the fields that never change, by the kind
@@ -77,7 +79,8 @@ KeepsFree P words from _ = Unit {0}
 module _ (P : Place → Type 0) (words : List ℕ) where
   -- words that stand for values fill slots that hold them
   pub values_fill : (from : ℕ) (values : List Value) → AllMean P words from values → HasSlots P words from (map holds values)
-  values_fill from values h i slot e = let x = map_item holds values i slot e in subst (λ (s : Slot). Fills P (slice_index words (from + i)) s) (sym x.2) (h i x.0 x.1)
+  values_fill from values h i slot e = let x = map_item holds values i slot e in
+      subst (λ (s : Slot). Fills P (slice_index words (from + i)) s) (sym x.2) (h i x.0 x.1)
 
   pub slots_mean : (from : ℕ) (values : List Value) → HasSlots P words from (map holds values) → AllMean P words from values
   slots_mean from values h i v e = h i (holds v) (item_map holds values i v e)
@@ -89,7 +92,8 @@ module _ (P : Place → Type 0) (words : List ℕ) where
   pub slots_rest : (from : ℕ) (s : Slot) (slots : List Slot) → HasSlots P words from (s ∷ slots) → HasSlots P words (from + 1) slots
   slots_rest from s slots h i t e = let z : from + suc i ≡ from + 1 + i = omega arith in subst (λ (k : ℕ). Fills P (slice_index words k) t) z (h (suc i) t e)
 
-  pub slots_cons : (from : ℕ) (s : Slot) (slots : List Slot) → Fills P (slice_index words from) s → HasSlots P words (from + 1) slots → HasSlots P words from (s ∷ slots)
+  pub slots_cons : (from : ℕ) (s : Slot) (slots : List Slot) → Fills P (slice_index words from) s → HasSlots P words (from + 1) slots →
+      HasSlots P words from (s ∷ slots)
   slots_cons from s slots f h zero t e =
       let same : s ≡ t = cc in
       let z : from ≡ from + 0 = omega arith in
@@ -103,7 +107,8 @@ module _ (P : Place → Type 0) (words : List ℕ) where
   pub slots_untold : (from n : ℕ) → HasSlots P words from (replicate n untold)
   slots_untold from n i t e = let a = all_item n i untold t e in subst (λ (u : Slot). Fills P (slice_index words (from + i)) u) (sym a.0) tt
 
-  pub slots_unset : (from depth size : ℕ) (values : List Value) → depth ≡ length values → HasSlots P words from (map holds values ++ replicate (size - length values) unset) → AreUnset words from depth size
+  pub slots_unset : (from depth size : ℕ) (values : List Value) → depth ≡ length values →
+      HasSlots P words from (map holds values ++ replicate (size - length values) unset) → AreUnset words from depth size
   slots_unset from depth size values is h i le lt =
       let j : ℕ = i - length values in
       let m = length-map values holds in
@@ -111,7 +116,8 @@ module _ (P : Place → Type 0) (words : List ℕ) where
       let r = item_right (map holds values) (replicate (size - length values) unset) j unset (item_all (size - length values) j unset (omega arith)) in
       h i unset (subst (λ (k : ℕ). slice_get (map holds values ++ replicate (size - length values) unset) k ≡ Some unset) z r)
 
-  pub stack_fills : (from size : ℕ) (values : List Value) → AllMean P words from values → AreUnset words from (length values) size → HasSlots P words from (map holds values ++ replicate (size - length values) unset)
+  pub stack_fills : (from size : ℕ) (values : List Value) → AllMean P words from values → AreUnset words from (length values) size →
+      HasSlots P words from (map holds values ++ replicate (size - length values) unset)
   stack_fills from size values h u i slot e = elim (item_cases (map holds values) (replicate (size - length values) unset) i slot e) [
     | inl l ↦ values_fill from values h i slot l
     | inr r ↦
@@ -120,8 +126,10 @@ module _ (P : Place → Type 0) (words : List ℕ) where
         subst (λ (s : Slot). Fills P (slice_index words (from + i)) s) (sym a.0) (u i (omega (arith, r.1, m)) (omega (arith, r.1, m, a.1)))
   ]
 
-  pub stack_means : (from size : ℕ) (values : List Value) → HasSlots P words from (map holds values ++ replicate (size - length values) unset) → AllMean P words from values
-  stack_means from size values h i v e = h i (holds v) (item_left (map holds values) (replicate (size - length values) unset) i (holds v) (item_map holds values i v e))
+  pub stack_means : (from size : ℕ) (values : List Value) → HasSlots P words from (map holds values ++ replicate (size - length values) unset) →
+      AllMean P words from values
+  stack_means from size values h i v e =
+      h i (holds v) (item_left (map holds values) (replicate (size - length values) unset) i (holds v) (item_map holds values i v e))
 
   -- from slots to fields and back
   pub fields_of_slots : (from : ℕ) (node : Node) → HasSlots P words from (slots_of node) → HasFields P words from node
@@ -131,13 +139,19 @@ module _ (P : Place → Type 0) (words : List ℕ) where
   fields_of_slots from (Thunk free None) h = (slot_first from unset (map holds free) h, slots_mean (from + 1) free (slots_rest from unset (map holds free) h))
   fields_of_slots from (Thunk free (Some result)) h = slot_first from (holds result) (replicate (length free) untold) h
   fields_of_slots from (Weak None) h = h 1 unset refl
-  fields_of_slots from (Weak (Some parts)) h = (slot_first from (holds parts.key) (holds parts.value ∷ holds parts.finaliser ∷ []) h, h 1 (holds parts.value) refl, h 2 (holds parts.finaliser) refl)
+  fields_of_slots from (Weak (Some parts)) h = (
+    slot_first from (holds parts.key) (holds parts.value ∷ holds parts.finaliser ∷ []) h,
+    h 1 (holds parts.value) refl,
+    h 2 (holds parts.finaliser) refl,
+  )
   fields_of_slots from (Stack size values) h = (stack_means from size values h, slots_unset from (length values) size values refl h)
 
-  three : (from : ℕ) (a b c : Slot) → Fills P (slice_index words from) a → Fills P (slice_index words (from + 1)) b → Fills P (slice_index words (from + 2)) c → HasSlots P words from (a ∷ b ∷ c ∷ [])
+  three : (from : ℕ) (a b c : Slot) → Fills P (slice_index words from) a → Fills P (slice_index words (from + 1)) b →
+      Fills P (slice_index words (from + 2)) c → HasSlots P words from (a ∷ b ∷ c ∷ [])
   three from a b c x y z =
       let two : from + 2 ≡ from + 1 + 1 = omega arith in
-      slots_cons from a (b ∷ c ∷ []) x (slots_cons (from + 1) b (c ∷ []) y (slots_cons (from + 1 + 1) c [] (subst (λ (k : ℕ). Fills P (slice_index words k) c) two z) (slots_none (from + 1 + 1 + 1))))
+      slots_cons from a (b ∷ c ∷ []) x (slots_cons (from + 1) b (c ∷
+      []) y (slots_cons (from + 1 + 1) c [] (subst (λ (k : ℕ). Fills P (slice_index words k) c) two z) (slots_none (from + 1 + 1 + 1))))
 
   pub slots_of_fields : (from : ℕ) (node : Node) → HasFields P words from node → HasSlots P words from (slots_of node)
   slots_of_fields from (Con tag values) h = values_fill from values h

@@ -80,19 +80,22 @@ module _ (P : Place → Type 0) (one : (p q : Place) → P p → P q → p.at �
     no_fewer from size us vs a b fits = elim (cases_lt (length vs) (length us)) [
       | inl lt ↦
           let v = get_or us (length vs) value.Nil in
-          absurd (value_is_set (slice_index words (from + length vs)) v (a (length vs) v (slice_get-get_or us (length vs) value.Nil lt)) (b (length vs) (omega arith) (omega arith)))
+          absurd (value_is_set (slice_index words (from + length vs)) v (a (length vs) v (slice_get-get_or us (length vs) value.Nil lt))
+          (b (length vs) (omega arith) (omega arith)))
       | inr le ↦ le
     ]
 
     -- fields of one header that stand in the same words are the same slots
-    pub one_node : (from : ℕ) (a b : Node) → header_of a ≡ header_of b → IsSized a → IsSized b → HasFields P words from a → HasFields P words from b → slots_of a ≡ slots_of b
+    pub one_node : (from : ℕ) (a b : Node) → header_of a ≡ header_of b → IsSized a → IsSized b → HasFields P words from a →
+        HasFields P words from b → slots_of a ≡ slots_of b
     one_node from (Con t us) (Con u vs) h s z a b = ap (λ (l : List Value). map holds l) (one_row from us vs (ap (λ (x : Header). x.fields) h) a b)
     one_node from (Con t us) _ h s z a b = let k = ap (λ (x : Header). x.kind) h in absurd cc
     one_node from (Var u) (Var v) h s z a b = ap (λ (x : Value). holds x ∷ []) (one_value (slice_index words from) u v a b)
     one_node from (Var u) _ h s z a b = let k = ap (λ (x : Header). x.kind) h in absurd cc
     one_node from (Arr us) (Arr vs) h s z a b = ap (λ (l : List Value). map holds l) (one_row from us vs (ap (λ (x : Header). x.fields) h) a b)
     one_node from (Arr us) _ h s z a b = let k = ap (λ (x : Header). x.kind) h in absurd cc
-    one_node from (Thunk us None) (Thunk vs None) h s z a b = let n = ap (λ (x : Header). x.fields) h in ap (λ (l : List Value). unset ∷ map holds l) (one_row (from + 1) us vs (omega arith) a.1 b.1)
+    one_node from (Thunk us None) (Thunk vs None) h s z a b = let n = ap (λ (x : Header). x.fields) h in
+        ap (λ (l : List Value). unset ∷ map holds l) (one_row (from + 1) us vs (omega arith) a.1 b.1)
     one_node from (Thunk us None) (Thunk vs (Some r)) h s z a b = absurd (value_is_set (slice_index words from) r b a.0)
     one_node from (Thunk us (Some q)) (Thunk vs None) h s z a b = absurd (value_is_set (slice_index words from) q a b.0)
     one_node from (Thunk us (Some q)) (Thunk vs (Some r)) h s z a b =
@@ -108,7 +111,8 @@ module _ (P : Place → Type 0) (one : (p q : Place) → P p → P q → p.at �
         let x : p.key ≡ q.key = one_value (slice_index words from) p.key q.key a.0 b.0 in
         let y : p.value ≡ q.value = one_value (slice_index words (from + 1)) p.value q.value a.1 b.1 in
         let w : p.finaliser ≡ q.finaliser = one_value (slice_index words (from + 2)) p.finaliser q.finaliser a.2 b.2 in
-        ap (λ (k : Value). holds k ∷ holds p.value ∷ holds p.finaliser ∷ []) x ∙ ap (λ (k : Value). holds q.key ∷ holds k ∷ holds p.finaliser ∷ []) y ∙ ap (λ (k : Value). holds q.key ∷ holds q.value ∷ holds k ∷ []) w
+        ap (λ (k : Value). holds k ∷ holds p.value ∷ holds p.finaliser ∷ []) x ∙
+        ap (λ (k : Value). holds q.key ∷ holds k ∷ holds p.finaliser ∷ []) y ∙ ap (λ (k : Value). holds q.key ∷ holds q.value ∷ holds k ∷ []) w
     one_node from (Weak p) _ h s z a b = let k = ap (λ (x : Header). x.kind) h in absurd cc
     one_node from (Stack m us) (Stack n vs) h s z a b =
         let size : m ≡ n = ap (λ (x : Header). x.fields) h in
@@ -118,7 +122,8 @@ module _ (P : Place → Type 0) (one : (p q : Place) → P p → P q → p.at �
         ap (λ (l : List Value). map holds l ++ replicate (m - length l) unset) same ∙ ap (λ (k : ℕ). map holds vs ++ replicate (k - length vs) unset) size
     one_node from (Stack m us) _ h s z a b = let k = ap (λ (x : Header). x.kind) h in absurd cc
 
-module _ (layout : Layout) (earlier : List World) (K : Name → Node → Type 0) (places : List Place) (w : World) (words : List ℕ) (r : Represents layout earlier K places w words) where
+module _ (layout : Layout) (earlier : List World) (K : Name → Node →
+    Type 0) (places : List Place) (w : World) (words : List ℕ) (r : Represents layout earlier K places w words) where
   pub one_at : (p q : Place) → Contains places p → Contains places q → p.at ≡ q.at → p ≡ q
   one_at p q c d e = r.one p q c d (inr e)
 
@@ -126,22 +131,31 @@ module _ (layout : Layout) (earlier : List World) (K : Name → Node → Type 0)
   above_zero p c = lies_above layout p HEADER_WORDS (omega arith) (r.named p c).lies
 
   -- a tracked name's object stands at the place that has its name
-  pub placed_at : (name : Name) (node : Node) (at : ℕ) → IsTracked w earlier name → node_of w name ≡ Some node → Contains places (record { at = at; name = name }) → (p : IsPlaced layout earlier K places words name node) × (p.at ≡ at)
+  pub placed_at : (name : Name) (node : Node) (at : ℕ) → IsTracked w earlier name → node_of w name ≡ Some node →
+      Contains places (record { at = at; name = name }) → (p : IsPlaced layout earlier K places words name node) × (p.at ≡ at)
   placed_at name node at t is c =
       let p = r.tracked name node t is in
       (p, ap (λ (x : Place). x.at) (r.one (record { at = p.at; name = name }) (record { at = at; name = name }) p.there c (inl refl)))
 
 -- of two worlds that the same words represent, a name tracked in both has nodes that say the same
-pub one_world : (layout : Layout) (earlier earlier' : List World) (K K' : Name → Node → Type 0) (places : List Place) (w v : World) (words : List ℕ) → IsWorld w → IsWorld v → Represents layout earlier K places w words → Represents layout earlier' K' places v words → (name : Name) (a b : Node) → IsTracked w earlier name → IsTracked v earlier' name → node_of w name ≡ Some a → node_of v name ≡ Some b → (header_of a ≡ header_of b) × (slots_of a ≡ slots_of b)
+pub one_world : (layout : Layout) (earlier earlier' : List World) (K K' : Name → Node →
+    Type 0) (places : List Place) (w v : World) (words : List ℕ) → IsWorld w → IsWorld v → Represents layout earlier K places w words →
+    Represents layout earlier' K' places v words → (name : Name) (a b : Node) → IsTracked w earlier name → IsTracked v earlier' name →
+    node_of w name ≡ Some a → node_of v name ≡ Some b → (header_of a ≡ header_of b) × (slots_of a ≡ slots_of b)
 one_world layout earlier earlier' K K' places w v words world world' r s name a b t u is is' =
     let p = r.tracked name a t is in
     let q = placed_at layout earlier' K' places v words s name b p.at u is' p.there in
-    let header : header_of a ≡ header_of b = same_header (header_of a) (header_of b) p.object.valid q.0.object.valid (sym p.object.header ∙ ap (λ (k : ℕ). slice_index words k) (sym q.1) ∙ q.0.object.header) in
+    let header : header_of a ≡ header_of b = same_header (header_of a) (header_of b) p.object.valid q.0.object.valid (sym p.object.header ∙
+    ap (λ (k : ℕ). slice_index words k) (sym q.1) ∙ q.0.object.header) in
     let of = at_some (node_of w name) a (IsNodeOf w) is (world.nodes name) in
     let of' = at_some (node_of v name) b (IsNodeOf v) is' (world'.nodes name) in
     let mine = fields_of_slots (Contains places) words (p.at + HEADER_WORDS) a p.fields in
-    let other = fields_of_slots (Contains places) words (p.at + HEADER_WORDS) b (subst (λ (k : ℕ). HasSlots (Contains places) words (k + HEADER_WORDS) (slots_of b)) q.1 q.0.fields) in
-    (header, one_node (Contains places) (one_at layout earlier K places w words r) (above_zero layout earlier K places w words r) words (p.at + HEADER_WORDS) a b header of.sized of'.sized mine other)
+    let other = fields_of_slots (Contains places) words (p.at + HEADER_WORDS) b (subst (λ (k : ℕ).
+    HasSlots (Contains places) words (k + HEADER_WORDS) (slots_of b)) q.1 q.0.fields) in (
+      header,
+      one_node (Contains places) (one_at layout earlier K places w words r) (above_zero layout earlier K places w words r) words
+          (p.at + HEADER_WORDS) a b header of.sized of'.sized mine other,
+    )
 
 -- where places differ by their names, a value has one word
 one_word : (P : Place → Type 0) → ((p q : Place) → P p → P q → p.name ≡ q.name → p ≡ q) → (a b : ℕ) (v : Value) → Means P a v → Means P b v → a ≡ b
@@ -151,13 +165,19 @@ one_word P one a b (value.Ref n) x y =
     let same : x.0 ≡ y.0 = ap (λ (p : Place). p.at) (one (record { at = x.0; name = n }) (record { at = y.0; name = n }) x.2 y.2 refl) in
     omega (arith, x.1, y.1, same)
 
-one_fill : (P : Place → Type 0) → ((p q : Place) → P p → P q → p.name ≡ q.name → p ≡ q) → (a b : ℕ) (slot : Slot) → slot ≢ untold → Fills P a slot → Fills P b slot → a ≡ b
+one_fill : (P : Place → Type 0) → ((p q : Place) → P p → P q → p.name ≡ q.name → p ≡ q) → (a b : ℕ) (slot : Slot) → slot ≢ untold → Fills P a slot →
+    Fills P b slot → a ≡ b
 one_fill P one a b (holds v) told x y = one_word P one a b v x y
 one_fill P one a b unset told x y = x ∙ sym y
 one_fill P one a b untold told x y = absurd (told refl)
 
 -- words that represent one world at the same places are the same where they are told: names, headers, and fields of which something is said
-pub one_wording : (layout : Layout) (earlier other : List World) (K L : Name → Node → Type 0) (places : List Place) (w : World) (words us : List ℕ) → Represents layout earlier K places w words → Represents layout other L places w us → (p : Place) → Contains places p → (slice_index us (p.at + 1) ≡ slice_index words (p.at + 1)) × ((node : Node) → IsTracked w earlier p.name → IsTracked w other p.name → node_of w p.name ≡ Some node → (slice_index us p.at ≡ slice_index words p.at) × ((i : ℕ) (slot : Slot) → slice_get (slots_of node) i ≡ Some slot → slot ≢ untold → slice_index us (p.at + HEADER_WORDS + i) ≡ slice_index words (p.at + HEADER_WORDS + i)))
+pub one_wording : (layout : Layout) (earlier other : List World) (K L : Name → Node →
+    Type 0) (places : List Place) (w : World) (words us : List ℕ) → Represents layout earlier K places w words →
+    Represents layout other L places w us → (p : Place) → Contains places p → (slice_index us (p.at + 1) ≡ slice_index words (p.at + 1)) ×
+    ((node : Node) → IsTracked w earlier p.name → IsTracked w other p.name → node_of w p.name ≡ Some node →
+    (slice_index us p.at ≡ slice_index words p.at) × ((i : ℕ) (slot : Slot) → slice_get (slots_of node) i ≡ Some slot → slot ≢ untold →
+    slice_index us (p.at + HEADER_WORDS + i) ≡ slice_index words (p.at + HEADER_WORDS + i)))
 one_wording layout earlier other K L places w words us r s p c = (
   (s.named p c).name ∙ sym (r.named p c).name,
   λ node t u is.
@@ -168,6 +188,8 @@ one_wording layout earlier other K L places w words us r s p c = (
       let has = subst (λ (k : ℕ). HasSlots (Contains places) words (k + HEADER_WORDS) (slots_of node)) a.1 a.0.fields in
       let has' = subst (λ (k : ℕ). HasSlots (Contains places) us (k + HEADER_WORDS) (slots_of node)) b.1 b.0.fields in (
         head' ∙ sym head,
-        λ i slot e told. one_fill (Contains places) (λ x y d f n. r.one x y d f (inl n)) (slice_index us (p.at + HEADER_WORDS + i)) (slice_index words (p.at + HEADER_WORDS + i)) slot told (has' i slot e) (has i slot e),
+        λ i slot e told. one_fill (Contains places) (λ x y d f n.
+            r.one x y d f (inl n)) (slice_index us (p.at + HEADER_WORDS + i)) (slice_index words (p.at + HEADER_WORDS + i)) slot told
+            (has' i slot e) (has i slot e),
       ),
 )

@@ -63,7 +63,8 @@ filter_contains {A} test (y ∷ xs) x c = elim (cases_Bool (test y)) [
 ]
 
 -- where a place afterwards comes from
-pub settled_cases : (base : ℕ) (moves : List Moved) (places : List Place) (q : Place) → Contains (settled base moves places) q → ((d : Moved) × Contains moves d × (q ≡ new_place d)) ⊎ (Contains places q × (q.at < base))
+pub settled_cases : (base : ℕ) (moves : List Moved) (places : List Place) (q : Place) → Contains (settled base moves places) q →
+    ((d : Moved) × Contains moves d × (q ≡ new_place d)) ⊎ (Contains places q × (q.at < base))
 settled_cases base moves places q c = elim (Contains-append_cases (map new_place moves) (filter (λ p. nat_lt p.at base) places) q c) [
   | inl n ↦ inl (map_contains new_place moves q n)
   | inr o ↦ let f = filter_contains (λ p. nat_lt p.at base) places q o in inr (f.0, ltb-true q.at base f.1)
@@ -71,12 +72,15 @@ settled_cases base moves places q c = elim (Contains-append_cases (map new_place
 
 -- a place below the base stays, and a new place comes
 pub settled_stays : (base : ℕ) (moves : List Moved) (places : List Place) (p : Place) → Contains places p → p.at < base → Contains (settled base moves places) p
-settled_stays base moves places p c l = Contains-append_right (map new_place moves) (filter (λ q. nat_lt q.at base) places) p (contains_filter (λ q. nat_lt q.at base) places p c (lt-ltb p.at base l))
+settled_stays base moves places p c l = Contains-append_right (map new_place moves) (filter (λ q. nat_lt q.at base) places) p (contains_filter (λ q.
+    nat_lt q.at base) places p c (lt-ltb p.at base l))
 
 pub settled_comes : (base : ℕ) (moves : List Moved) (places : List Place) (d : Moved) → Contains moves d → Contains (settled base moves places) (new_place d)
-settled_comes base moves places d c = Contains-append_left (map new_place moves) (filter (λ q. nat_lt q.at base) places) (new_place d) (contains_map new_place moves d c)
+settled_comes base moves places d c = Contains-append_left (map new_place moves) (filter (λ q.
+    nat_lt q.at base) places) (new_place d) (contains_map new_place moves d c)
 
-module _ (layout : Layout) (base : ℕ) (later earlier : List World) (K : Name → Node → Type 0) (places : List Place) (w : World) (moves : List Moved) (forward : ℕ → ℕ) (old new : List ℕ)
+module _ (layout : Layout) (base : ℕ) (later earlier : List World) (K : Name → Node →
+    Type 0) (places : List Place) (w : World) (moves : List Moved) (forward : ℕ → ℕ) (old new : List ℕ)
     (world : IsWorld w)
     (spoken : StillSpoken base later earlier places w)
     (emptied : base ≡ nursery_place layout 0)
@@ -88,11 +92,13 @@ module _ (layout : Layout) (base : ℕ) (later earlier : List World) (K : Name �
   comes_in : (d : Moved) → Contains moves d → Contains (settled base moves places) (new_place d)
   comes_in = settled_comes base moves places
 
-  after_cases : (q : Place) → Contains (settled base moves places) q → ((d : Moved) × Contains moves d × (q ≡ new_place d)) ⊎ (Contains places q × (q.at < base))
+  after_cases : (q : Place) → Contains (settled base moves places) q → ((d : Moved) × Contains moves d × (q ≡ new_place d)) ⊎
+      (Contains places q × (q.at < base))
   after_cases = settled_cases base moves places
 
   -- a place stays told of where it didn't stand in the emptied part, and where its name is tracked
-  goes : (n : Name) (at : ℕ) → Contains places (record { at = at; name = n }) → (at < base) ⊎ IsTracked w later n → (to : ℕ) × (forward (2 * at) ≡ 2 * to) × Contains (settled base moves places) (record { at = to; name = n })
+  goes : (n : Name) (at : ℕ) → Contains places (record { at = at; name = n }) → (at < base) ⊎ IsTracked w later n → (to : ℕ) ×
+      (forward (2 * at) ≡ 2 * to) × Contains (settled base moves places) (record { at = to; name = n })
   goes n at c s = elim (cases_lt at base) [
     | inl l ↦ (at, m.forwards.stays at l, stays_in (record { at = at; name = n }) c l)
     | inr g ↦ elim s [
@@ -100,8 +106,11 @@ module _ (layout : Layout) (base : ℕ) (later earlier : List World) (K : Name �
       | inr t ↦
           let d = m.all (record { at = at; name = n }) c g t in
           let e : at ≡ d.0.from = ap (λ (x : Place). x.at) d.2 in
-          let f : n ≡ d.0.name = ap (λ (x : Place). x.name) d.2 in
-          (d.0.to, ap (λ (k : ℕ). forward (2 * k)) e ∙ m.forwards.goes d.0 d.1, subst (λ (x : Name). Contains (settled base moves places) (record { at = d.0.to; name = x })) (sym f) (comes_in d.0 d.1))
+          let f : n ≡ d.0.name = ap (λ (x : Place). x.name) d.2 in (
+            d.0.to,
+            ap (λ (k : ℕ). forward (2 * k)) e ∙ m.forwards.goes d.0 d.1,
+            subst (λ (x : Name). Contains (settled base moves places) (record { at = d.0.to; name = x })) (sym f) (comes_in d.0 d.1),
+          )
     ]
   ]
 
@@ -118,7 +127,9 @@ module _ (layout : Layout) (base : ℕ) (later earlier : List World) (K : Name �
   fills_after word unset told f = ap forward f ∙ m.forwards.unset
   fills_after word untold told f = tt
 
-  slots_after : (from to count : ℕ) (slots : List Slot) → length slots ≤ count → Copies forward old new from to count → ((slot : Slot) → Contains slots slot → Told slot) → HasSlots (Contains places) old (from + HEADER_WORDS) slots → HasSlots (Contains (settled base moves places)) new (to + HEADER_WORDS) slots
+  slots_after : (from to count : ℕ) (slots : List Slot) → length slots ≤ count → Copies forward old new from to count →
+      ((slot : Slot) → Contains slots slot → Told slot) → HasSlots (Contains places) old (from + HEADER_WORDS) slots →
+      HasSlots (Contains (settled base moves places)) new (to + HEADER_WORDS) slots
   slots_after from to count slots few copies told has i slot e =
       let within : i < count = omega (arith, slice_get_within slots i slot e) in
       rw (copies.fields i within) (fills_after (slice_index old (from + HEADER_WORDS + i)) slot (told slot (contains_read slots i slot e)) (has i slot e))
@@ -130,21 +141,25 @@ module _ (layout : Layout) (base : ℕ) (later earlier : List World) (K : Name �
       omega (arith, c)
 
   -- the fields of a tracked object, at its place afterwards
-  fields_after : (name : Name) (node : Node) (from to : ℕ) → IsTracked w later name → node_of w name ≡ Some node → Copies forward old new from to (header_of node).fields → HasSlots (Contains places) old (from + HEADER_WORDS) (slots_of node) → HasSlots (Contains (settled base moves places)) new (to + HEADER_WORDS) (slots_of node)
+  fields_after : (name : Name) (node : Node) (from to : ℕ) → IsTracked w later name → node_of w name ≡ Some node →
+      Copies forward old new from to (header_of node).fields → HasSlots (Contains places) old (from + HEADER_WORDS) (slots_of node) →
+      HasSlots (Contains (settled base moves places)) new (to + HEADER_WORDS) (slots_of node)
   fields_after name node from to t e copies has =
       slots_after from to (header_of node).fields (slots_of node) (sized name node e) copies
       (λ slot c n s at there. inr (slot_tracked w later name node n t e (subst (λ (x : Slot). Contains (slots_of node) x) s c)))
       has
 
   -- what an earlier world's values refer to stood outside the emptied part
-  free_told : (e : World) (before : Node) (name : Name) → Contains later e → node_of e name ≡ Some before → (slot : Slot) → Contains (free_slots before) slot → (n : Name) → slot ≡ holds (Ref n) → (at : ℕ) → Contains places (record { at = at; name = n }) → at < base
+  free_told : (e : World) (before : Node) (name : Name) → Contains later e → node_of e name ≡ Some before → (slot : Slot) →
+      Contains (free_slots before) slot → (n : Name) → slot ≡ holds (Ref n) → (at : ℕ) → Contains places (record { at = at; name = n }) → at < base
   free_told e before name c is slot d n s at there =
       let of = at_some (node_of e name) before (IsNodeOf e) is ((spoken.past e c).world.nodes name) in
       let held = strong_held before (Ref n) (free_held before (Ref n) (subst (λ (x : Slot). Contains (free_slots before) x) s d)) in
       let known : IsSome (node_of e n) = All-contains (IsKnown e) (held_by before) (Ref n) of.known held in
       spoken.outside e (record { at = at; name = n }) c there known
 
-  fills_same : (word : ℕ) (slot : Slot) → ((n : Name) → slot ≡ holds (Ref n) → (at : ℕ) → Contains places (record { at = at; name = n }) → at < base) → Fills (Contains places) word slot → Fills (Contains (settled base moves places)) word slot
+  fills_same : (word : ℕ) (slot : Slot) → ((n : Name) → slot ≡ holds (Ref n) → (at : ℕ) → Contains places (record { at = at; name = n }) →
+      at < base) → Fills (Contains places) word slot → Fills (Contains (settled base moves places)) word slot
   fills_same word (holds Nil) told f = f
   fills_same word (holds (Number n)) told f = f
   fills_same word (holds (Ref n)) told f = (f.0, f.1, stays_in (record { at = f.0; name = n }) f.2 (told n refl f.0 f.2))
@@ -152,16 +167,24 @@ module _ (layout : Layout) (base : ℕ) (later earlier : List World) (K : Name �
   fills_same word untold told f = tt
 
   -- the fields of a tracked object that stays
-  fields_kept : (name : Name) (node : Node) (at : ℕ) → IsTracked w later name → node_of w name ≡ Some node → Keeps base places forward old new at node → HasSlots (Contains places) old (at + HEADER_WORDS) (slots_of node) → HasSlots (Contains (settled base moves places)) new (at + HEADER_WORDS) (slots_of node)
+  fields_kept : (name : Name) (node : Node) (at : ℕ) → IsTracked w later name → node_of w name ≡ Some node →
+      Keeps base places forward old new at node → HasSlots (Contains places) old (at + HEADER_WORDS) (slots_of node) →
+      HasSlots (Contains (settled base moves places)) new (at + HEADER_WORDS) (slots_of node)
   fields_kept name node at t is keeps has i slot e =
       let few = sized name node is in
       let within : i < (header_of node).fields = omega (arith, few, slice_get_within (slots_of node) i slot e) in
       elim (keeps.fields i within) [
-        | inl f ↦ rw f (fills_after (slice_index old (at + HEADER_WORDS + i)) slot (λ n s from there. inr (slot_tracked w later name node n t is (subst (λ (x : Slot). Contains (slots_of node) x) s (contains_read (slots_of node) i slot e)))) (has i slot e))
-        | inr f ↦ rw f.0 (fills_same (slice_index old (at + HEADER_WORDS + i)) slot (λ n s from there. f.1 (record { at = from; name = n }) (e ∙ ap Some s) there) (has i slot e))
+        | inl f ↦ rw f (fills_after (slice_index old (at + HEADER_WORDS + i)) slot (λ n s from there.
+            inr (slot_tracked w later name node n t is (subst (λ (x : Slot).
+            Contains (slots_of node) x) s (contains_read (slots_of node) i slot e)))) (has i slot e))
+        | inr f ↦ rw f.0 (fills_same (slice_index old (at + HEADER_WORDS + i)) slot (λ n s from there. f.1 (record { at = from; name = n }) (e ∙
+            ap Some s) there) (has i slot e))
       ]
 
-  free_after : (name : Name) (node : Node) (at : ℕ) → node_of w name ≡ Some node → Keeps base places forward old new at node → ((e : World) (before : Node) → Contains earlier e → node_of e name ≡ Some before → HasSlots (Contains places) old (at + HEADER_WORDS) (free_slots before)) → (e : World) (before : Node) → Contains later e → node_of e name ≡ Some before → HasSlots (Contains (settled base moves places)) new (at + HEADER_WORDS) (free_slots before)
+  free_after : (name : Name) (node : Node) (at : ℕ) → node_of w name ≡ Some node → Keeps base places forward old new at node →
+      ((e : World) (before : Node) → Contains earlier e → node_of e name ≡ Some before →
+      HasSlots (Contains places) old (at + HEADER_WORDS) (free_slots before)) → (e : World) (before : Node) → Contains later e →
+      node_of e name ≡ Some before → HasSlots (Contains (settled base moves places)) new (at + HEADER_WORDS) (free_slots before)
   free_after name node at is keeps free e before c was i slot r =
       let same = (spoken.past e c).headers name before node was is in
       let few = free_count before in
@@ -170,12 +193,14 @@ module _ (layout : Layout) (base : ℕ) (later earlier : List World) (K : Name �
       let there = contains_read (free_slots before) i slot r in
       let has = free e before (spoken.fewer e c) was i slot r in
       elim (keeps.fields i within) [
-        | inl f ↦ rw f (fills_after (slice_index old (at + HEADER_WORDS + i)) slot (λ n s from h. inl (free_told e before name c was slot there n s from h)) has)
+        | inl f ↦ rw f (fills_after (slice_index old (at + HEADER_WORDS + i)) slot (λ n s from h.
+            inl (free_told e before name c was slot there n s from h)) has)
         | inr f ↦ rw f.0 (fills_same (slice_index old (at + HEADER_WORDS + i)) slot (free_told e before name c was slot there) has)
       ]
 
   -- a tracked object that stays where it is
-  stayed : (name : Name) (node : Node) → IsTracked w later name → node_of w name ≡ Some node → (p : IsPlaced layout earlier K places old name node) → p.at < base → IsPlaced layout later NoNode (settled base moves places) new name node
+  stayed : (name : Name) (node : Node) → IsTracked w later name → node_of w name ≡ Some node →
+      (p : IsPlaced layout earlier K places old name node) → p.at < base → IsPlaced layout later NoNode (settled base moves places) new name node
   stayed name node t is p l =
       let q : Place = record { at = p.at; name = name } in
       let keeps = m.changed q node p.there l t is in
@@ -197,7 +222,8 @@ module _ (layout : Layout) (base : ℕ) (later earlier : List World) (K : Name �
       }
 
   -- a tracked object that moves
-  moved : (name : Name) (node : Node) → IsTracked w later name → node_of w name ≡ Some node → (p : IsPlaced layout earlier K places old name node) → base ≤ p.at → IsPlaced layout later NoNode (settled base moves places) new name node
+  moved : (name : Name) (node : Node) → IsTracked w later name → node_of w name ≡ Some node → (p : IsPlaced layout earlier K places old name node) →
+      base ≤ p.at → IsPlaced layout later NoNode (settled base moves places) new name node
   moved name node t is p g =
       let d = m.all (record { at = p.at; name = name }) p.there g t in
       let from : p.at ≡ d.0.from = ap (λ (x : Place). x.at) d.2 in
@@ -233,7 +259,8 @@ module _ (layout : Layout) (base : ℕ) (later earlier : List World) (K : Name �
       | inl b ↦
           let e : a.0 ≡ b.0 = elim same [
             | inl n ↦
-                let f = r.one (old_place a.0) (old_place b.0) (m.taken a.0 a.1).0 (m.taken b.0 b.1).0 (inl (let g : a.0.name ≡ b.0.name = sym (ap (λ (x : Place). x.name) a.2) ∙ n ∙ ap (λ (x : Place). x.name) b.2 in g)) in
+                let f = r.one (old_place a.0) (old_place b.0) (m.taken a.0 a.1).0 (m.taken b.0 b.1).0
+                (inl (let g : a.0.name ≡ b.0.name = sym (ap (λ (x : Place). x.name) a.2) ∙ n ∙ ap (λ (x : Place). x.name) b.2 in g)) in
                 m.once a.0 b.0 a.1 b.1 (inl (let g : a.0.from ≡ b.0.from = ap (λ (x : Place). x.at) f in g))
             | inr n ↦ m.once a.0 b.0 a.1 b.1 (inr (let g : a.0.to ≡ b.0.to = sym (ap (λ (x : Place). x.at) a.2) ∙ n ∙ ap (λ (x : Place). x.at) b.2 in g))
           ] in
@@ -268,7 +295,13 @@ module _ (layout : Layout) (base : ℕ) (later earlier : List World) (K : Name �
           | inl g ↦ absurd (omega (arith, g.1, (m.taken d.0 d.1).1, emptied))
           | inr l ↦ inr (l.0, inl (lies.0, λ i low high. lies.1 i low (omega arith)))
         ] in
-        let named : IsNamed layout w new (new_place d.0) = record { known = before.known; valid = before.valid; name = m.named d.0 d.1 ∙ before.name; lies = there } in
+        let named : IsNamed layout w new (new_place d.0) = record {
+          known = before.known;
+          valid = before.valid;
+          name = m.named d.0 d.1 ∙
+              before.name;
+          lies = there;
+        } in
         subst (λ (x : Place). IsNamed layout w new x) (sym d.2) named
     | inr k ↦
         let before = r.named p k.0 in
@@ -276,7 +309,8 @@ module _ (layout : Layout) (base : ℕ) (later earlier : List World) (K : Name �
   ]
 
   -- no place is left in a nursery
-  none_born : (p : Place) (node : Node) → Contains (settled base moves places) p → InNursery layout p.name.maker p.at → node_of w p.name ≡ Some node → IsObject layout (settled base moves places) new p node × (node ≡ Weak None → slice_index new (p.at + HEADER_WORDS + 1) ≡ 0)
+  none_born : (p : Place) (node : Node) → Contains (settled base moves places) p → InNursery layout p.name.maker p.at →
+      node_of w p.name ≡ Some node → IsObject layout (settled base moves places) new p node × (node ≡ Weak None → slice_index new (p.at + HEADER_WORDS + 1) ≡ 0)
   none_born p node c n is =
       let l : p.at < base = elim (after_cases p c) [
         | inl d ↦ rw d.2 (m.taken d.0 d.1).2
@@ -299,14 +333,18 @@ module _ (layout : Layout) (base : ℕ) (later earlier : List World) (K : Name �
   }
 
   -- values that hold only references to such places are still meant by the words, forwarded
-  pub all_mean_after : (own : List ℕ) (from : ℕ) (values : List Value) → ((n : Name) → Contains values (Ref n) → IsTracked w later n) → from + length values ≤ length own → AllMean (Contains places) own from values → AllMean (Contains (settled base moves places)) (map forward own) from values
+  pub all_mean_after : (own : List ℕ) (from : ℕ) (values : List Value) → ((n : Name) → Contains values (Ref n) → IsTracked w later n) →
+      from + length values ≤ length own → AllMean (Contains places) own from values →
+      AllMean (Contains (settled base moves places)) (map forward own) from values
   all_mean_after own from values told within mean i v e =
       let lt = slice_get_within values i v e in
       let in' : from + i < length own = omega (arith, lt, within) in
       let word : slice_index (map forward own) (from + i) ≡ forward (slice_index own (from + i)) = get_or-map forward own (from + i) 0 0 in' in
-      rw word (fills_after (slice_index own (from + i)) (holds v) (λ n s at there. inr (told n (subst (λ (x : Value). Contains values x) (let f : v ≡ Ref n = cc in f) (contains_read values i v e)))) (mean i v e))
+      rw word (fills_after (slice_index own (from + i)) (holds v) (λ n s at there.
+      inr (told n (subst (λ (x : Value). Contains values x) (let f : v ≡ Ref n = cc in f) (contains_read values i v e)))) (mean i v e))
 
-  pub list_means_after : (own : List ℕ) (values : List Value) → ((n : Name) → Contains values (Ref n) → IsTracked w later n) → ListMeans (Contains places) own values → ListMeans (Contains (settled base moves places)) (map forward own) values
+  pub list_means_after : (own : List ℕ) (values : List Value) → ((n : Name) → Contains values (Ref n) → IsTracked w later n) →
+      ListMeans (Contains places) own values → ListMeans (Contains (settled base moves places)) (map forward own) values
   list_means_after [] [] told mean = tt
   list_means_after [] (v ∷ vs) told mean = absurd mean
   list_means_after (o ∷ own) [] told mean = absurd mean

@@ -25,7 +25,12 @@ abbrev pub ChangesOne : Node → Node → Type 0
 ChangesOne node made = (made ≡ node) ⊎ ((i : ℕ) × ChangesAt i node made)
 
 var_changed : (old v : Value) → ChangesAt 0 (Var old) (Var v)
-var_changed old v = record { header = refl; within = omega arith; may = tt; rest = λ j slot ne e. absurd (ne (let l = slice_get_within (holds v ∷ []) j slot e in omega (arith, l))) }
+var_changed old v = record {
+  header = refl;
+  within = omega arith;
+  may = tt;
+  rest = λ j slot ne e. absurd (ne (let l = slice_get_within (holds v ∷ []) j slot e in omega (arith, l)));
+}
 
 arr_changed : (values : List Value) (i : ℕ) (v : Value) → i < length values → ChangesAt i (Arr values) (Arr (set values i v))
 arr_changed values i v lt = record {
@@ -41,12 +46,15 @@ arr_changed values i v lt = record {
 thunk_changed : (free : List Value) (v : Value) → ChangesAt 0 (Thunk free None) (Thunk free (Some v))
 thunk_changed free v = record { header = refl; within = omega arith; may = refl; rest = rest }
   where
-    rest : (j : ℕ) (slot : Slot) → j ≢ 0 → slice_get (holds v ∷ replicate (length free) untold) j ≡ Some slot → (slice_get (unset ∷ map holds free) j ≡ Some slot) ⊎ (slot ≡ untold)
+    rest : (j : ℕ) (slot : Slot) → j ≢ 0 → slice_get (holds v ∷ replicate (length free) untold) j ≡ Some slot →
+        (slice_get (unset ∷ map holds free) j ≡ Some slot) ⊎ (slot ≡ untold)
     rest zero slot ne e = absurd (ne refl)
     rest (suc j) slot ne e = inr (all_item (length free) j untold slot e).0
 
 -- beside a stack's top its slots are as before
-stack_slots : (size : ℕ) (values : List Value) (v : Value) (j : ℕ) (slot : Slot) → length values < size → j ≢ length values → slice_get (map holds values ++ replicate (size - length values) unset) j ≡ Some slot → slice_get (map holds (values ++ v ∷ []) ++ replicate (size - length (values ++ v ∷ [])) unset) j ≡ Some slot
+stack_slots : (size : ℕ) (values : List Value) (v : Value) (j : ℕ) (slot : Slot) → length values < size → j ≢ length values →
+    slice_get (map holds values ++ replicate (size - length values) unset) j ≡ Some slot →
+    slice_get (map holds (values ++ v ∷ []) ++ replicate (size - length (values ++ v ∷ [])) unset) j ≡ Some slot
 stack_slots size values v j slot lt ne e =
     let n : length (values ++ v ∷ []) ≡ length values + 1 = length-append values (v ∷ []) in
     let m = length-map values holds in
@@ -60,11 +68,15 @@ stack_slots size values v j slot lt ne e =
           let a = all_item (size - length values) r.0 unset slot r.2 in
           let k : ℕ = j - length (values ++ v ∷ []) in
           let z : length (map holds (values ++ v ∷ [])) + k ≡ j = omega (arith, r.1, m, m', n) in
-          let b = item_right (map holds (values ++ v ∷ [])) (replicate (size - length (values ++ v ∷ [])) unset) k unset (item_all (size - length (values ++ v ∷ [])) k unset (omega (arith, r.1, m, n, a.1))) in
-          subst (λ (i : ℕ). slice_get (map holds (values ++ v ∷ []) ++ replicate (size - length (values ++ v ∷ [])) unset) i ≡ Some slot) z (b ∙ ap Some (sym a.0))
+          let b = item_right (map holds (values ++ v ∷ [])) (replicate (size - length (values ++ v ∷
+          [])) unset) k unset (item_all (size - length (values ++ v ∷ [])) k unset (omega (arith, r.1, m, n, a.1))) in
+          subst (λ (i : ℕ). slice_get (map holds (values ++ v ∷ []) ++ replicate (size - length (values ++ v ∷ [])) unset) i ≡ Some slot) z (b ∙
+          ap Some (sym a.0))
     ]
 
-slots_stack : (size : ℕ) (values : List Value) (v : Value) (j : ℕ) (slot : Slot) → length values < size → j ≢ length values → slice_get (map holds (values ++ v ∷ []) ++ replicate (size - length (values ++ v ∷ [])) unset) j ≡ Some slot → slice_get (map holds values ++ replicate (size - length values) unset) j ≡ Some slot
+slots_stack : (size : ℕ) (values : List Value) (v : Value) (j : ℕ) (slot : Slot) → length values < size → j ≢ length values →
+    slice_get (map holds (values ++ v ∷ []) ++ replicate (size - length (values ++ v ∷ [])) unset) j ≡ Some slot →
+    slice_get (map holds values ++ replicate (size - length values) unset) j ≡ Some slot
 slots_stack size values v j slot lt ne e =
     let n : length (values ++ v ∷ []) ≡ length values + 1 = length-append values (v ∷ []) in
     let m = length-map values holds in
@@ -79,7 +91,8 @@ slots_stack size values v j slot lt ne e =
           let a = all_item (size - length (values ++ v ∷ [])) r.0 unset slot r.2 in
           let k : ℕ = j - length values in
           let z : length (map holds values) + k ≡ j = omega (arith, r.1, m, m', n) in
-          let b = item_right (map holds values) (replicate (size - length values) unset) k unset (item_all (size - length values) k unset (omega (arith, r.1, m', n, a.1))) in
+          let b = item_right (map holds values) (replicate (size - length values) unset) k unset
+          (item_all (size - length values) k unset (omega (arith, r.1, m', n, a.1))) in
           subst (λ (i : ℕ). slice_get (map holds values ++ replicate (size - length values) unset) i ≡ Some slot) z (b ∙ ap Some (sym a.0))
     ]
 
@@ -108,13 +121,18 @@ pop_one size values fits = elim (last_apart values) [
       let n : length (h.0 ++ h.1 ∷ []) ≡ length h.0 + 1 = length-append h.0 (h.1 ∷ []) in
       let m : length values ≡ length (h.0 ++ h.1 ∷ []) = ap length h.2 in
       let p = popped_one size h.0 h.1 (omega arith) in
-      inr (length h.0, subst (λ (l : List Value). ChangesAt (length h.0) (Stack size values) (Stack size l)) (sym h.3) (subst (λ (l : List Value). ChangesAt (length h.0) (Stack size l) (Stack size h.0)) (sym h.2) p))
+      inr (
+        length h.0,
+        subst (λ (l : List Value). ChangesAt (length h.0) (Stack size values) (Stack size l)) (sym h.3) (subst (λ (l : List Value).
+            ChangesAt (length h.0) (Stack size l) (Stack size h.0)) (sym h.2) p),
+      )
 ]
 
 died : (p : Parts) → ChangesAt 1 (Weak (Some p)) (Weak None)
 died p = record { header = refl; within = omega arith; may = refl; rest = rest }
   where
-    rest : (j : ℕ) (slot : Slot) → j ≢ 1 → slice_get (untold ∷ unset ∷ untold ∷ []) j ≡ Some slot → (slice_get (holds p.key ∷ holds p.value ∷ holds p.finaliser ∷ []) j ≡ Some slot) ⊎ (slot ≡ untold)
+    rest : (j : ℕ) (slot : Slot) → j ≢ 1 → slice_get (untold ∷ unset ∷ untold ∷ []) j ≡ Some slot →
+        (slice_get (holds p.key ∷ holds p.value ∷ holds p.finaliser ∷ []) j ≡ Some slot) ⊎ (slot ≡ untold)
     rest zero slot ne e = inr cc
     rest (suc zero) slot ne e = absurd (ne refl)
     rest (suc (suc zero)) slot ne e = inr cc
@@ -124,7 +142,8 @@ exchange_one : (b : Bool) (kept written : Node) → ChangesOne kept written → 
 exchange_one true kept written c = c
 exchange_one false kept written c = inl refl
 
-exchange_at_one : (o : Option Value) (expected : Value) (kept written : Node) → ((old : Value) → o ≡ Some old → ChangesOne kept written) → ChangesOne kept (exchanged_at o expected kept written).0
+exchange_at_one : (o : Option Value) (expected : Value) (kept written : Node) → ((old : Value) → o ≡ Some old → ChangesOne kept written) →
+    ChangesOne kept (exchanged_at o expected kept written).0
 exchange_at_one None expected kept written c = inl refl
 exchange_at_one (Some old) expected kept written c = exchange_one (is_same old expected) kept written (c old refl)
 
@@ -135,7 +154,10 @@ either false kept made r s c = inl refl
 set_one : (node : Node) (i : ℕ) (v : Value) → ChangesOne node (field_set node i v).0
 set_one (Con tag values) i v = inl refl
 set_one (Var old) i v = either (eqb i 0) (Var old) (Var v) _ _ (λ e. inr (0, var_changed old v))
-set_one (Arr values) i v = either (ltb i (length values)) (Arr values) (Arr (set values i v)) _ _ (λ e. inr (i, arr_changed values i v (ltb-true i (length values) e)))
+set_one (Arr values) i v = either (ltb i (length values)) (Arr values) (Arr (set values i v)) _ _ (λ e. inr (
+  i,
+  arr_changed values i v (ltb-true i (length values) e),
+))
 set_one (Thunk free result) i v = inl refl
 set_one (Weak parts) i v = inl refl
 set_one (Stack size values) i v = inl refl
@@ -143,7 +165,10 @@ set_one (Stack size values) i v = inl refl
 exchanged_one : (node : Node) (i : ℕ) (expected v : Value) → ChangesOne node (field_exchanged node i expected v).0
 exchanged_one (Con tag values) i expected v = inl refl
 exchanged_one (Var old) i expected v = exchange_at_one (slice_get (old ∷ []) i) expected (Var old) (Var v) (λ x e. inr (0, var_changed old v))
-exchanged_one (Arr values) i expected v = exchange_at_one (slice_get values i) expected (Arr values) (Arr (set values i v)) (λ x e. inr (i, arr_changed values i v (slice_get_within values i x e)))
+exchanged_one (Arr values) i expected v = exchange_at_one (slice_get values i) expected (Arr values) (Arr (set values i v)) (λ x e. inr (
+  i,
+  arr_changed values i v (slice_get_within values i x e),
+))
 exchanged_one (Thunk free result) i expected v = inl refl
 exchanged_one (Weak parts) i expected v = inl refl
 exchanged_one (Stack size values) i expected v = inl refl
@@ -158,7 +183,8 @@ updated_one (Weak parts) v = inl refl
 updated_one (Stack size values) v = inl refl
 
 push_one : (own : Bool) (node : Node) (v : Value) → ChangesOne node (stack_pushed own node v).0
-push_one true (Stack size values) v = either (ltb (length values) size) (Stack size values) (Stack size (values ++ v ∷ [])) _ _ (λ e. inr (length values, pushed_one size values v (ltb-true (length values) size e)))
+push_one true (Stack size values) v = either (ltb (length values) size) (Stack size values) (Stack size (values ++ v ∷ [])) _ _ (λ e.
+    inr (length values, pushed_one size values v (ltb-true (length values) size e)))
 push_one false (Stack size values) v = inl refl
 push_one own (Con tag values) v = inl refl
 push_one own (Var x) v = inl refl
@@ -184,7 +210,8 @@ finalised_one (Arr values) = inl refl
 finalised_one (Thunk free result) = inl refl
 finalised_one (Stack size values) = inl refl
 
-pub changed_one : (c : Change) (maker : ℕ) (node : Node) → IsSized node → ((changed c maker node).0 ≡ node) ⊎ ((i : ℕ) × ChangesAt i node (changed c maker node).0)
+pub changed_one : (c : Change) (maker : ℕ) (node : Node) → IsSized node → ((changed c maker node).0 ≡ node) ⊎
+    ((i : ℕ) × ChangesAt i node (changed c maker node).0)
 changed_one (change.Set i v) maker node s = set_one node i v
 changed_one (change.Exchange i expected v) maker node s = exchanged_one node i expected v
 changed_one (change.Update v) maker node s = updated_one node v

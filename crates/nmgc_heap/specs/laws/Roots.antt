@@ -44,7 +44,9 @@ wide_tracked w earlier n i = start n (w, contains_head w earlier, i)
 pub tracked_wide : (w : World) (n : Name) → IsTracked w [] n → IsWide w n
 tracked_wide w n t = tracked_in w [] (IsWide w) (λ k i. start k i) (λ e k c i. absurd (omega (arith, c.1))) (λ k target i to. field k target i to) n t
 
-list_in : (P Q : Place → Type 0) (words : List ℕ) (values : List Value) → ((n : Name) (at : ℕ) → Contains values (Ref n) → P (record { at = at; name = n }) → Q (record { at = at; name = n })) → ListMeans P words values → ListMeans Q words values
+list_in : (P Q : Place → Type 0) (words : List ℕ) (values : List Value) →
+    ((n : Name) (at : ℕ) → Contains values (Ref n) → P (record { at = at; name = n }) → Q (record { at = at; name = n })) →
+    ListMeans P words values → ListMeans Q words values
 list_in P Q [] [] told h = tt
 list_in P Q [] (v ∷ vs) told h = absurd h
 list_in P Q (w ∷ ws) [] told h = absurd h
@@ -54,26 +56,39 @@ list_in P Q (w ∷ ws) (v ∷ vs) told h = (
 )
 
 -- roots are stood for with other places too, where these have the places of all that roots refer to
-pub roots_in : (places others : List Place) (w : World) (registers : List ℕ) (queues : List (List ℕ)) (serials : List ℕ) → ((n : Name) (at : ℕ) → IsWide w n → Contains places (record { at = at; name = n }) → Contains others (record { at = at; name = n })) → RepresentsRoots places w registers queues serials → RepresentsRoots others w registers queues serials
+pub roots_in : (places others : List Place) (w : World) (registers : List ℕ) (queues : List (List ℕ)) (serials : List ℕ) →
+    ((n : Name) (at : ℕ) → IsWide w n → Contains places (record { at = at; name = n }) → Contains others (record { at = at; name = n })) →
+    RepresentsRoots places w registers queues serials → RepresentsRoots others w registers queues serials
 roots_in places others w registers queues serials told r = record {
   count = r.count;
   mutators = r.mutators;
   held = λ m lt i v e.
       means_in (Contains places) (Contains others) (slice_index registers (REGISTERS * m + i)) v
-      (λ n at s. told n at (root_wide w m n (Contains-append_left (state_of w m).registers (state_of w m).queue (Ref n) (subst (λ (u : Value). Contains (state_of w m).registers u) s (contains_read (state_of w m).registers i v e)))))
+      (λ n at s. told n at (root_wide w m n (Contains-append_left (state_of w m).registers (state_of w m).queue (Ref n) (subst (λ (u : Value).
+      Contains (state_of w m).registers u) s (contains_read (state_of w m).registers i v e)))))
       (r.held m lt i v e);
-  queued = λ m own e. list_in (Contains places) (Contains others) own (state_of w m).queue (λ n at c. told n at (root_wide w m n (Contains-append_right (state_of w m).registers (state_of w m).queue (Ref n) c))) (r.queued m own e);
+  queued = λ m own e. list_in (Contains places) (Contains others) own (state_of w m).queue (λ n at c.
+      told n at (root_wide w m n (Contains-append_right (state_of w m).registers (state_of w m).queue (Ref n) c))) (r.queued m own e);
   next = r.next;
 }
 
-pub roots_dropped : (earlier : List World) (K : Name → Node → Type 0) (places fewer : List Place) (w : World) (registers : List ℕ) (queues : List (List ℕ)) (serials : List ℕ) → DropsPlaces earlier K places fewer w → RepresentsRoots places w registers queues serials → RepresentsRoots fewer w registers queues serials
-roots_dropped earlier K places fewer w registers queues serials drops r = roots_in places fewer w registers queues serials (λ n at i c. drops.tracked (record { at = at; name = n }) c (wide_tracked w earlier n i)) r
+pub roots_dropped : (earlier : List World) (K : Name → Node →
+    Type 0) (places fewer : List Place) (w : World) (registers : List ℕ) (queues : List (List ℕ)) (serials : List ℕ) →
+    DropsPlaces earlier K places fewer w → RepresentsRoots places w registers queues serials → RepresentsRoots fewer w registers queues serials
+roots_dropped earlier K places fewer w registers queues serials drops r =
+    roots_in places fewer w registers queues serials (λ n at i c. drops.tracked (record { at = at; name = n }) c (wide_tracked w earlier n i)) r
 
-pub roots_added : (places more : List Place) (w : World) (registers : List ℕ) (queues : List (List ℕ)) (serials : List ℕ) → ((p : Place) → Contains places p → Contains more p) → RepresentsRoots places w registers queues serials → RepresentsRoots more w registers queues serials
-roots_added places more w registers queues serials grow r = roots_in places more w registers queues serials (λ n at i c. grow (record { at = at; name = n }) c) r
+pub roots_added : (places more : List Place) (w : World) (registers : List ℕ) (queues : List (List ℕ)) (serials : List ℕ) →
+    ((p : Place) → Contains places p → Contains more p) → RepresentsRoots places w registers queues serials → RepresentsRoots more w registers queues serials
+roots_added places more w registers queues serials grow r = roots_in places more w registers queues serials (λ n at i c.
+    grow (record { at = at; name = n }) c) r
 
 -- registers and queues, forwarded
-pub roots_moved : (layout : Layout) (base : ℕ) (later earlier : List World) (K : Name → Node → Type 0) (places : List Place) (w : World) (moves : List Moved) (forward : ℕ → ℕ) (old new : List ℕ) (registers : List ℕ) (queues : List (List ℕ)) (serials : List ℕ) → IsWorld w → StillSpoken base later earlier places w → base ≡ nursery_place layout 0 → Represents layout earlier K places w old → Moves layout base later places w moves forward old new → RepresentsRoots places w registers queues serials → RepresentsRoots (settled base moves places) w (map forward registers) (map (map forward) queues) serials
+pub roots_moved : (layout : Layout) (base : ℕ) (later earlier : List World) (K : Name → Node →
+    Type 0) (places : List Place) (w : World) (moves : List Moved) (forward : ℕ →
+    ℕ) (old new : List ℕ) (registers : List ℕ) (queues : List (List ℕ)) (serials : List ℕ) → IsWorld w → StillSpoken base later earlier places w →
+    base ≡ nursery_place layout 0 → Represents layout earlier K places w old → Moves layout base later places w moves forward old new →
+    RepresentsRoots places w registers queues serials → RepresentsRoots (settled base moves places) w (map forward registers) (map (map forward) queues) serials
 roots_moved layout base later earlier K places w moves forward old new registers queues serials world spoken emptied r m roots = record {
   count = length-map registers forward ∙ roots.count;
   mutators = (length-map queues (map forward) ∙ roots.mutators.0, roots.mutators.1);
@@ -101,12 +116,15 @@ strong_slot (Con tag values) v c = held_slot values v c
 strong_slot (Var x) v c = held_slot (x ∷ []) v c
 strong_slot (Arr values) v c = held_slot values v c
 strong_slot (Thunk free None) v c = let h = held_slot free v c in (suc h.0, h.1)
-strong_slot (Thunk free (Some result)) v c = let h = held_slot (result ∷ []) v c in (h.0, item_left (map holds (result ∷ [])) (replicate (length free) untold) h.0 (holds v) h.1)
+strong_slot (Thunk free (Some result)) v c = let h = held_slot (result ∷ []) v c in
+    (h.0, item_left (map holds (result ∷ [])) (replicate (length free) untold) h.0 (holds v) h.1)
 strong_slot (Weak parts) v c = absurd (omega (arith, c.1))
-strong_slot (Stack size values) v c = let h = held_slot values v c in (h.0, item_left (map holds values) (replicate (size - length values) unset) h.0 (holds v) h.1)
+strong_slot (Stack size values) v c = let h = held_slot values v c in
+    (h.0, item_left (map holds values) (replicate (size - length values) unset) h.0 (holds v) h.1)
 
 -- two worlds for which the same words, roots and list of weak pointers stand, at a stop
-module _ (layout : Layout) (K L : Name → Node → Type 0) (places weaks : List Place) (w v : World) (words registers : List ℕ) (queues : List (List ℕ)) (serials : List ℕ)
+module _ (layout : Layout) (K L : Name → Node →
+    Type 0) (places weaks : List Place) (w v : World) (words registers : List ℕ) (queues : List (List ℕ)) (serials : List ℕ)
     (stop : (p : Place) → Contains places p → InNursery layout p.name.maker p.at → ⊥)
     (world : IsWorld w) (world' : IsWorld v)
     (r : Represents layout [] K places w words) (s : Represents layout [] L places v words)
@@ -120,19 +138,23 @@ module _ (layout : Layout) (K L : Name → Node → Type 0) (places weaks : List
       let n = as_many in
       let a = world.registers m lt in
       let b = world'.registers m (omega arith) in
-      one_row (Contains places) (one_at layout [] K places w words r) (above_zero layout [] K places w words r) registers (REGISTERS * m) (state_of w m).registers (state_of v m).registers (omega arith) (roots.held m lt) (roots'.held m (omega arith))
+      one_row (Contains places) (one_at layout [] K places w words r) (above_zero layout [] K places w words r) registers (REGISTERS * m)
+      (state_of w m).registers (state_of v m).registers (omega arith) (roots.held m lt) (roots'.held m (omega arith))
 
   same_queues : (m : ℕ) → m < length w.mutators → (state_of w m).queue ≡ (state_of v m).queue
   same_queues m lt =
       let n = roots.mutators.0 in
       let own = is_some_of (slice_get queues m) (is_some_get queues m (omega arith)) in
-      one_list (Contains places) (one_at layout [] K places w words r) (above_zero layout [] K places w words r) own.0 (state_of w m).queue (state_of v m).queue (roots.queued m own.0 own.1) (roots'.queued m own.0 own.1)
+      one_list (Contains places) (one_at layout [] K places w words r) (above_zero layout [] K places w words r) own.0 (state_of w m).queue
+      (state_of v m).queue (roots.queued m own.0 own.1) (roots'.queued m own.0 own.1)
 
   same_root : (n : Name) → IsRoot w n → IsRoot v n
   same_root n (inl e) = inl e
   same_root n (inr (m, c)) = elim (cases_lt m (length w.mutators)) [
     | inl lt ↦
-        let e : (state_of w m).registers ++ (state_of w m).queue ≡ (state_of v m).registers ++ (state_of v m).queue = ap (λ (l : List Value). l ++ (state_of w m).queue) (same_registers m lt) ∙ ap (λ (l : List Value). (state_of v m).registers ++ l) (same_queues m lt) in
+        let e : (state_of w m).registers ++ (state_of w m).queue ≡ (state_of v m).registers ++ (state_of v m).queue =
+        ap (λ (l : List Value). l ++ (state_of w m).queue) (same_registers m lt) ∙
+        ap (λ (l : List Value). (state_of v m).registers ++ l) (same_queues m lt) in
         inr (m, subst (λ (l : List Value). Contains l (Ref n)) e c)
     | inr le ↦
         let none : state_of w m ≡ no_mutator = get_or_past w.mutators m no_mutator le in
@@ -205,10 +227,15 @@ module _ (layout : Layout) (K L : Name → Node → Type 0) (places weaks : List
   wide_field n target both to =
       let same = same_node n to.0 both.0 both.1 to.1 in
       let slot = strong_slot to.0 (Ref target) to.2 in
-      let there : slice_get (slots_of same.node) slot.0 ≡ Some (holds (Ref target)) = subst (λ l. slice_get l slot.0 ≡ Some (holds (Ref target))) same.slots slot.1 in
-      (field n target both.0 to, tracked_wide v target (slot_tracked v [] n same.node target (wide_tracked v [] n both.1) same.there (contains_read (slots_of same.node) slot.0 (holds (Ref target)) there)))
+      let there : slice_get (slots_of same.node) slot.0 ≡ Some (holds (Ref target)) =
+      subst (λ l. slice_get l slot.0 ≡ Some (holds (Ref target))) same.slots slot.1 in (
+        field n target both.0 to,
+        tracked_wide v target (slot_tracked v [] n same.node target (wide_tracked v [] n both.1) same.there
+            (contains_read (slots_of same.node) slot.0 (holds (Ref target)) there)),
+      )
 
-  pub same_reach : (name : Name) (a : Node) → IsWide w name → node_of w name ≡ Some a → IsWide v name × ((b : Node) × (node_of v name ≡ Some b) × (header_of a ≡ header_of b) × (slots_of a ≡ slots_of b))
+  pub same_reach : (name : Name) (a : Node) → IsWide w name → node_of w name ≡ Some a → IsWide v name ×
+      ((b : Node) × (node_of v name ≡ Some b) × (header_of a ≡ header_of b) × (slots_of a ≡ slots_of b))
   same_reach name a i is =
       let both = reached_in w (IsWideRoot w) (λ n. IsWide w n × IsWide v n) wide_root wide_field name i in
       let same = same_node name a both.0 both.1 is in

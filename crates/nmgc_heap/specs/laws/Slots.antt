@@ -35,7 +35,8 @@ pub no_more : {A : Type 0} (x : A) → Contains [] x → ⊥
 no_more x c = omega (arith, c.1)
 
 -- a slot holds a strong field, or a part of an alive weak pointer
-pub slot_held : (node : Node) (v : Value) → Contains (slots_of node) (holds v) → Contains (strong_fields node) v ⊎ ((parts : Parts) × (node ≡ Weak (Some parts)) × Contains (parts.key ∷ parts.value ∷ parts.finaliser ∷ []) v)
+pub slot_held : (node : Node) (v : Value) → Contains (slots_of node) (holds v) → Contains (strong_fields node) v ⊎
+    ((parts : Parts) × (node ≡ Weak (Some parts)) × Contains (parts.key ∷ parts.value ∷ parts.finaliser ∷ []) v)
 slot_held (Con tag values) v c = inl (held_one values v c)
 slot_held (Var x) v c = inl (held_one (x ∷ []) v c)
 slot_held (Arr values) v c = inl (held_one values v c)
@@ -72,10 +73,12 @@ fixed_held (Thunk free None) v c = elim (contains_cases untold (map holds free) 
 fixed_held (Thunk free (Some result)) v c = absurd (no_more (holds v) c)
 fixed_held (Weak None) v c = absurd (no_more (holds v) c)
 fixed_held (Weak (Some parts)) v c = elim (contains_cases (holds parts.key) (untold ∷ holds parts.finaliser ∷ []) (holds v) c) [
-  | inl e ↦ let same : parts.key ≡ v = cc in subst (λ (u : Value). Contains (parts.key ∷ parts.value ∷ parts.finaliser ∷ []) u) same (contains_head parts.key (parts.value ∷ parts.finaliser ∷ []))
+  | inl e ↦ let same : parts.key ≡ v = cc in subst (λ (u : Value).
+      Contains (parts.key ∷ parts.value ∷ parts.finaliser ∷ []) u) same (contains_head parts.key (parts.value ∷ parts.finaliser ∷ []))
   | inr d ↦ elim (contains_cases untold (holds parts.finaliser ∷ []) (holds v) d) [
     | inl e ↦ absurd cc
-    | inr f ↦ contains_tail parts.key (parts.value ∷ parts.finaliser ∷ []) v (contains_tail parts.value (parts.finaliser ∷ []) v (held_one (parts.finaliser ∷ []) v f))
+    | inr f ↦ contains_tail parts.key (parts.value ∷ parts.finaliser ∷
+        []) v (contains_tail parts.value (parts.finaliser ∷ []) v (held_one (parts.finaliser ∷ []) v f))
   ]
 ]
 fixed_held (Stack size values) v c = absurd (no_more (holds v) c)
@@ -108,7 +111,11 @@ strong_held (Con tag values) v c = c
 strong_held (Var x) v c = c
 strong_held (Arr values) v c = c
 strong_held (Thunk free None) v c = c
-strong_held (Thunk free (Some result)) v c = elim (contains_cases result [] v c) [ inl e ↦ subst (λ (u : Value). Contains (result ∷ free) u) e (contains_head result free) | inr d ↦ absurd (no_more v d) ]
+strong_held (Thunk free (Some result)) v c = elim (contains_cases result [] v c) [
+  | inl e ↦
+      subst (λ (u : Value). Contains (result ∷ free) u) e (contains_head result free)
+  | inr d ↦ absurd (no_more v d)
+]
 strong_held (Weak parts) v c = absurd (no_more v c)
 strong_held (Stack size values) v c = c
 
@@ -120,7 +127,8 @@ fixed_stays (Arr values) i slot may e = absurd cc
 fixed_stays (Thunk free None) i slot may e = let z : Some untold ≡ Some slot = subst (λ (k : ℕ). slice_get (untold ∷ map holds free) k ≡ Some slot) may e in cc
 fixed_stays (Thunk free (Some result)) i slot may e = absurd cc
 fixed_stays (Weak None) i slot may e = absurd cc
-fixed_stays (Weak (Some parts)) i slot may e = let z : Some untold ≡ Some slot = subst (λ (k : ℕ). slice_get (holds parts.key ∷ untold ∷ holds parts.finaliser ∷ []) k ≡ Some slot) may e in cc
+fixed_stays (Weak (Some parts)) i slot may e =
+    let z : Some untold ≡ Some slot = subst (λ (k : ℕ). slice_get (holds parts.key ∷ untold ∷ holds parts.finaliser ∷ []) k ≡ Some slot) may e in cc
 fixed_stays (Stack size values) i slot may e = absurd cc
 
 -- there is a slot for each field
@@ -174,21 +182,27 @@ fixed_own (Stack size values) i slot e = absurd cc
 
 -- what means something with some places means it with others, where these have the places of all that is referred to
 module _ (P Q : Place → Type 0) where
-  pub means_in : (word : ℕ) (v : Value) → ((n : Name) (at : ℕ) → v ≡ Ref n → P (record { at = at; name = n }) → Q (record { at = at; name = n })) → Means P word v → Means Q word v
+  pub means_in : (word : ℕ) (v : Value) → ((n : Name) (at : ℕ) → v ≡ Ref n → P (record { at = at; name = n }) → Q (record { at = at; name = n })) →
+      Means P word v → Means Q word v
   means_in word Nil told m = m
   means_in word (Number n) told m = m
   means_in word (Ref n) told m = (m.0, m.1, told n m.0 refl m.2)
 
-  pub fills_in : (word : ℕ) (slot : Slot) → ((n : Name) (at : ℕ) → slot ≡ holds (Ref n) → P (record { at = at; name = n }) → Q (record { at = at; name = n })) → Fills P word slot → Fills Q word slot
+  pub fills_in : (word : ℕ) (slot : Slot) → ((n : Name) (at : ℕ) → slot ≡ holds (Ref n) → P (record { at = at; name = n }) →
+      Q (record { at = at; name = n })) → Fills P word slot → Fills Q word slot
   fills_in word (holds v) told m = means_in word v (λ n at e. told n at (let s : holds v ≡ holds (Ref n) = cc in s)) m
   fills_in word unset told m = m
   fills_in word untold told m = tt
 
   -- where the words are the same but for what nothing is said of
-  pub slots_in : (words us : List ℕ) (from : ℕ) (slots : List Slot) → ((n : Name) (at : ℕ) → Contains slots (holds (Ref n)) → P (record { at = at; name = n }) → Q (record { at = at; name = n })) → ((i : ℕ) (slot : Slot) → slice_get slots i ≡ Some slot → (slot ≡ untold) ⊎ (slice_index us (from + i) ≡ slice_index words (from + i))) → HasSlots P words from slots → HasSlots Q us from slots
+  pub slots_in : (words us : List ℕ) (from : ℕ) (slots : List Slot) →
+      ((n : Name) (at : ℕ) → Contains slots (holds (Ref n)) → P (record { at = at; name = n }) → Q (record { at = at; name = n })) →
+      ((i : ℕ) (slot : Slot) → slice_get slots i ≡ Some slot → (slot ≡ untold) ⊎ (slice_index us (from + i) ≡ slice_index words (from + i))) →
+      HasSlots P words from slots → HasSlots Q us from slots
   slots_in words us from slots told same h i slot e = elim (same i slot e) [
     | inl u ↦ subst (λ (s : Slot). Fills Q (slice_index us (from + i)) s) (sym u) tt
-    | inr w ↦ subst (λ (k : ℕ). Fills Q k slot) (sym w) (fills_in (slice_index words (from + i)) slot (λ n at s. told n at (subst (λ (x : Slot). Contains slots x) s (contains_read slots i slot e))) (h i slot e))
+    | inr w ↦ subst (λ (k : ℕ). Fills Q k slot) (sym w) (fills_in (slice_index words (from + i)) slot (λ n at s.
+        told n at (subst (λ (x : Slot). Contains slots x) s (contains_read slots i slot e))) (h i slot e))
   ]
 
   module _ (more : (p : Place) → P p → Q p) where
@@ -201,5 +215,7 @@ module _ (P Q : Place → Type 0) where
     list_more (w ∷ ws) [] h = absurd h
     list_more (w ∷ ws) (v ∷ vs) h = (means_more w v h.0, list_more ws vs h.1)
 
-    pub slots_more : (words us : List ℕ) (from : ℕ) (slots : List Slot) → ((i : ℕ) (slot : Slot) → slice_get slots i ≡ Some slot → (slot ≡ untold) ⊎ (slice_index us (from + i) ≡ slice_index words (from + i))) → HasSlots P words from slots → HasSlots Q us from slots
+    pub slots_more : (words us : List ℕ) (from : ℕ) (slots : List Slot) →
+        ((i : ℕ) (slot : Slot) → slice_get slots i ≡ Some slot → (slot ≡ untold) ⊎ (slice_index us (from + i) ≡ slice_index words (from + i))) →
+        HasSlots P words from slots → HasSlots Q us from slots
     slots_more words us from slots same h = slots_in words us from slots (λ n at c. more (record { at = at; name = n })) same h

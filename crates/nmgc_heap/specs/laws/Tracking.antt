@@ -19,12 +19,14 @@ reached_more w P Q more name (start n p) = start n (more n p)
 reached_more w P Q more name (field n target r to) = field n target (reached_more w P Q more n r) to
 
 -- what is reached has what the first names have and strong fields keep
-pub reached_in : (w : World) (P Q : Name → Type 0) → ((n : Name) → P n → Q n) → ((n target : Name) → Q n → RefersTo w n target → Q target) → (name : Name) → IsReached w P name → Q name
+pub reached_in : (w : World) (P Q : Name → Type 0) → ((n : Name) → P n → Q n) → ((n target : Name) → Q n → RefersTo w n target → Q target) →
+    (name : Name) → IsReached w P name → Q name
 reached_in w P Q first next name (start n p) = first n p
 reached_in w P Q first next name (field n target r to) = next n target (reached_in w P Q first next n r) to
 
 -- of fewer earlier worlds, fewer names are tracked; the world itself is no further one
-pub tracked_more : (w : World) (later earlier : List World) → ((e : World) → Contains later e → Contains (w ∷ earlier) e) → (name : Name) → IsTracked w later name → IsTracked w earlier name
+pub tracked_more : (w : World) (later earlier : List World) → ((e : World) → Contains later e → Contains (w ∷ earlier) e) → (name : Name) →
+    IsTracked w later name → IsTracked w earlier name
 tracked_more w later earlier more name t =
     reached_more w (IsWideIn (w ∷ later)) (IsWideIn (w ∷ earlier))
     (λ n i. (
@@ -38,7 +40,9 @@ tracked_more w later earlier more name t =
     name t
 
 -- tracked names have what the wide reach of the world has, if that of each earlier one has it and strong fields keep it
-pub tracked_in : (w : World) (earlier : List World) (Q : Name → Type 0) → ((n : Name) → IsWideRoot w n → Q n) → ((e : World) (n : Name) → Contains earlier e → IsWide e n → Q n) → ((n target : Name) → Q n → RefersTo w n target → Q target) → (name : Name) → IsTracked w earlier name → Q name
+pub tracked_in : (w : World) (earlier : List World) (Q : Name → Type 0) → ((n : Name) → IsWideRoot w n → Q n) →
+    ((e : World) (n : Name) → Contains earlier e → IsWide e n → Q n) → ((n target : Name) → Q n → RefersTo w n target → Q target) → (name : Name) →
+    IsTracked w earlier name → Q name
 tracked_in w earlier Q root past next name t =
     reached_in w (IsWideIn (w ∷ earlier)) Q
     (λ n i. elim (contains_cases w earlier i.0 i.1) [
@@ -48,7 +52,8 @@ tracked_in w earlier Q root past next name t =
     next name t
 
 -- what a slot of a tracked name refers to is tracked
-pub slot_tracked : (w : World) (earlier : List World) (name : Name) (node : Node) (n : Name) → IsTracked w earlier name → node_of w name ≡ Some node → Contains (slots_of node) (holds (Ref n)) → IsTracked w earlier n
+pub slot_tracked : (w : World) (earlier : List World) (name : Name) (node : Node) (n : Name) → IsTracked w earlier name →
+    node_of w name ≡ Some node → Contains (slots_of node) (holds (Ref n)) → IsTracked w earlier n
 slot_tracked w earlier name node n t e c = elim (slot_held node (Ref n) c) [
   | inl s ↦ field name n t (node, e, s)
   | inr p ↦
@@ -65,5 +70,10 @@ slot_tracked w earlier name node n t e c = elim (slot_held node (Ref n) c) [
 ]
 
 -- a free variable in an earlier world of a name of its wide reach refers to a tracked one
-pub free_tracked : (w e : World) (earlier : List World) (name : Name) (before : Node) (n : Name) → Contains earlier e → IsWide e name → node_of e name ≡ Some before → Contains (free_slots before) (holds (Ref n)) → IsTracked w earlier n
-free_tracked w e earlier name before n c wide was held = start n (e, contains_tail w earlier e c, field name n wide (before, was, free_held before (Ref n) held))
+pub free_tracked : (w e : World) (earlier : List World) (name : Name) (before : Node) (n : Name) → Contains earlier e → IsWide e name →
+    node_of e name ≡ Some before → Contains (free_slots before) (holds (Ref n)) → IsTracked w earlier n
+free_tracked w e earlier name before n c wide was held = start n (
+  e,
+  contains_tail w earlier e c,
+  field name n wide (before, was, free_held before (Ref n) held),
+)

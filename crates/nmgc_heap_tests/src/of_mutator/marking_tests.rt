@@ -197,7 +197,8 @@ fn end(
     room: Vec<MutatorSeat>,
 ) -> Option<u64>
     requires seat { IsAt round seat × HasPart (seen seat) 0 }
-    requires collector { IsAt round collector × ((seen collector).collects ≡ true) × ((seen collector).parts ≡ []) × ((seen collector).opening ≡ snapshot_opening) }
+    requires collector { IsAt round collector × ((seen collector).collects ≡ true) × ((seen collector).parts ≡ []) ×
+        ((seen collector).opening ≡ snapshot_opening) }
     requires room { room.items ≡ [] }
     requires words { word_count round ≡ word_total small_layout }
 {

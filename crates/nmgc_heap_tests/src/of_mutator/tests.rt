@@ -569,14 +569,16 @@ fn work_all<R: Threads + Sync, G: Gate>(
 )
     requires opens { (words : List ℕ) × CanOpen (first_opening layout) words }
     requires layout { IsLayout layout × (layout.words ≡ 16) }
-    requires seats { (length seats.old ≡ layout.mutators) × ((k : ℕ) (d : RoundSeat) → k < length seats.old → IsAt round.now (slice_index_or seats.old k d) × (seen (slice_index_or seats.old k d) ≡ alone (first_opening layout) k)) }
+    requires seats { (length seats.old ≡ layout.mutators) × ((k : ℕ) (d : RoundSeat) → k < length seats.old →
+        IsAt round.now (slice_index_or seats.old k d) × (seen (slice_index_or seats.old k d) ≡ alone (first_opening layout) k)) }
 {
     thread::for_each_mut(
         rt,
         seats,
         32,
         &|number, seat: &mut MutatorSeat|
-            requires { IsAt round.now seat.now × (seen seat.now ≡ alone (first_opening layout) number) × ((words : List ℕ) × CanOpen (first_opening layout) words) × IsLayout layout × (number < layout.mutators) × (layout.words ≡ 16) }
+            requires { IsAt round.now seat.now × (seen seat.now ≡ alone (first_opening layout) number) ×
+                ((words : List ℕ) × CanOpen (first_opening layout) words) × IsLayout layout × (number < layout.mutators) × (layout.words ≡ 16) }
         {
             let _ = work(alloc, round, seat, layout, number as u8, read, gate);
         },

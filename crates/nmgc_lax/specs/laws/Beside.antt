@@ -14,7 +14,9 @@ beside_tied w is h s (barrier.command before next t line m c answer b k) = tied_
 beside_tied w is h s (barrier.push before next t m name b k place) = tied_push before next t (beside_tied w is before t b) name k m place
 beside_tied w is h s (barrier.mark h' t name b may) = tied_mark h' t name (beside_tied w is h' t b) may
 beside_tied w is h s (barrier.scan h' t b) = tied_scan h' t (beside_tied w is h' t b)
-beside_tied w is h s (barrier.sort h' t next b k) = subst (IsTied h') (sym k.shuffled.rest) (tied_order h' t next (beside_tied w is h' t b) k.shuffled k.owed (λ n there o. subst (λ (u : State). IsOnItsWay u n) k.shuffled.rest (k.way n there o)))
+beside_tied w is h s (barrier.sort h' t next b k) =
+    subst (IsTied h') (sym k.shuffled.rest) (tied_order h' t next (beside_tied w is h' t b) k.shuffled k.owed (λ n there o.
+    subst (λ (u : State). IsOnItsWay u n) k.shuffled.rest (k.way n there o)))
 
 pub barrier_theorem : BarrierTheorem
 barrier_theorem w is h s b =

@@ -35,20 +35,23 @@ use Rattle.nmgc_lax.specs.laws.Given.{owes_may, due_owed}
 -- a command that owes all that `owed_by` says
 pub core_gives : (s : State) → Facts s → IsWorld s.world → (m : ℕ) (c : Command) → CanApply s.world m c → IsGiven s m c (after_command s m c)
 core_gives s f w m c can =
-    let place : m < length s.owed = let e : length s.owed ≡ length s.world.mutators = f.base.owed_lists in let lt : m < length s.world.mutators = can.mutator in omega arith in
+    let place : m < length s.owed = let e : length s.owed ≡ length s.world.mutators = f.base.owed_lists in
+    let lt : m < length s.world.mutators = can.mutator in omega arith in
     record {
       can = can;
       names = owed_by s.world m c;
       next_is = refl;
       held = owes_may s f w m c can.mutator;
-      due = λ target d. owed m (rw (names_same s.owed m (names_of s.owed m ++ owed_by s.world m c) place) (Contains-append_right (names_of s.owed m) (owed_by s.world m c) target (due_owed s f w m c can.mutator target d)));
+      due = λ target d. owed m (rw (names_same s.owed m (names_of s.owed m ++
+          owed_by s.world m c) place) (Contains-append_right (names_of s.owed m) (owed_by s.world m c) target (due_owed s f w m c can.mutator target d)));
     }
 
 -- a name of the snapshot is pushed, or it is g, which is marked
 push_cases : (s : State) (name : Name) → IsSome (node_of s.snapshot name) → Contains (pushed_of s name) name ⊎ (name ≡ shared_name)
 push_cases s name there = by_test (is_some (node_of s.snapshot name) && not (is_same_name name shared_name)) refl
   where
-    by_test : (b : Bool) → (is_some (node_of s.snapshot name) && not (is_same_name name shared_name)) ≡ b → Contains (cond b (name ∷ []) []) name ⊎ (name ≡ shared_name)
+    by_test : (b : Bool) → (is_some (node_of s.snapshot name) && not (is_same_name name shared_name)) ≡ b → Contains (cond b (name ∷ []) []) name ⊎
+        (name ≡ shared_name)
     by_test true e = inl (contains_one name)
     by_test false e = elim (and_cases (is_some (node_of s.snapshot name)) (not (is_same_name name shared_name)) e) [
       | inl a ↦ absurd (let k : is_some (node_of s.snapshot name) ≡ true = there in cc)
@@ -60,7 +63,8 @@ module _ (s : State) (f : Facts s) (m : ℕ) (name : Name) (rest : List Name) (f
   owed_place = has_place s.owed m name rest first
 
   pushed_place : m < length s.pushed
-  pushed_place = let a : length s.owed ≡ length s.world.mutators = f.base.owed_lists in let b : length s.pushed ≡ length s.world.mutators = f.base.pushed_lists in let c = owed_place in omega arith
+  pushed_place = let a : length s.owed ≡ length s.world.mutators = f.base.owed_lists in
+      let b : length s.pushed ≡ length s.world.mutators = f.base.pushed_lists in let c = owed_place in omega arith
 
   may : All (MayHold s) (name ∷ rest)
   may = subst (All (MayHold s)) first (f.base.owed m)
@@ -68,13 +72,18 @@ module _ (s : State) (f : Facts s) (m : ℕ) (name : Name) (rest : List Name) (f
   -- what was pushed stays pushed
   more_pushed : (k : ℕ) (target : Name) → Contains (names_of s.pushed k) target → Contains (names_of (after_push s m (name ∷ rest)).pushed k) target
   more_pushed k target h = elim (cases_eq k m) [
-    | inl e ↦ rw (e, names_same s.pushed m (names_of s.pushed m ++ pushed_of s name) pushed_place) (Contains-append_left (names_of s.pushed m) (pushed_of s name) target (rw e at h))
+    | inl e ↦ rw (
+      e,
+      names_same s.pushed m (names_of s.pushed m ++
+          pushed_of s name) pushed_place,
+    ) (Contains-append_left (names_of s.pushed m) (pushed_of s name) target (rw e at h))
     | inr ne ↦ rw (names_other s.pushed m k (names_of s.pushed m ++ pushed_of s name) ne) h
   ]
 
   first_safe : IsSome (node_of s.snapshot name) → IsSafe (after_push s m (name ∷ rest)) name
   first_safe there = elim (push_cases s name there) [
-    | inl c ↦ pushed m (rw (names_same s.pushed m (names_of s.pushed m ++ pushed_of s name) pushed_place) (Contains-append_right (names_of s.pushed m) (pushed_of s name) name c))
+    | inl c ↦ pushed m (rw (names_same s.pushed m (names_of s.pushed m ++
+        pushed_of s name) pushed_place) (Contains-append_right (names_of s.pushed m) (pushed_of s name) name c))
     | inr g ↦ marked (f.roots name (inl g))
   ]
 
@@ -98,7 +107,8 @@ module _ (s : State) (f : Facts s) (m : ℕ) (name : Name) (rest : List Name) (f
     owed = each_names (All (MayHold s)) s.owed m rest owed_place (All-tail (MayHold s) name rest may) f.base.owed;
     pushed = each_names (All (MayHold s)) s.pushed m (names_of s.pushed m ++ pushed_of s name) pushed_place
         (All-append (MayHold s) (names_of s.pushed m) (pushed_of s name) (f.base.pushed m)
-        (cond_both (is_some (node_of s.snapshot name) && not (is_same_name name shared_name)) (name ∷ []) [] (All (MayHold s)) (λ e. All-cons (MayHold s) name [] (All-head (MayHold s) name rest may) (All-nil (MayHold s))) (λ e. All-nil (MayHold s))))
+        (cond_both (is_some (node_of s.snapshot name) && not (is_same_name name shared_name)) (name ∷ []) [] (All (MayHold s)) (λ e.
+        All-cons (MayHold s) name [] (All-head (MayHold s) name rest may) (All-nil (MayHold s))) (λ e. All-nil (MayHold s))))
         f.base.pushed;
     safe = λ target there k. push_safe target there k;
   }
@@ -107,7 +117,8 @@ module _ (s : State) (f : Facts s) (m : ℕ) (name : Name) (rest : List Name) (f
 abbrev dropped : State → ℕ → List Name → State
 dropped s m rest = record s { pushed = set s.pushed m rest }
 
-module _ (s : State) (f : Facts s) (m : ℕ) (name : Name) (rest : List Name) (first : names_of s.pushed m ≡ name ∷ rest) (done : IsSome (node_of s.snapshot name) → Contains s.marked name) where
+module _ (s : State) (f : Facts s) (m : ℕ) (name : Name) (rest : List Name) (first : names_of s.pushed m ≡ name ∷
+    rest) (done : IsSome (node_of s.snapshot name) → Contains s.marked name) where
   place : m < length s.pushed
   place = has_place s.pushed m name rest first
 
@@ -129,7 +140,8 @@ module _ (s : State) (f : Facts s) (m : ℕ) (name : Name) (rest : List Name) (f
     owed_lists = refl;
     pushed_lists = length-set s.pushed m rest;
     owed = f.base.owed;
-    pushed = each_names (All (MayHold s)) s.pushed m rest place (All-tail (MayHold s) name rest (subst (All (MayHold s)) first (f.base.pushed m))) f.base.pushed;
+    pushed = each_names (All (MayHold s)) s.pushed m rest place (All-tail (MayHold s) name rest (subst (All (MayHold s)) first (f.base.pushed m)))
+        f.base.pushed;
     safe = drop_safe;
   }
 
@@ -141,11 +153,14 @@ pub record TakesLaxly (s next : State) : Type 0 where
   pub marks : between ≡ mark_name s name
   pub leaves : IsShuffled between next
 
-pub take_is_lax : (s : State) → Facts s → (m : ℕ) (name : Name) (rest : List Name) → names_of s.pushed m ≡ name ∷ rest → TakesLaxly s (after_take s m (name ∷ rest))
+pub take_is_lax : (s : State) → Facts s → (m : ℕ) (name : Name) (rest : List Name) → names_of s.pushed m ≡ name ∷ rest →
+    TakesLaxly s (after_take s m (name ∷ rest))
 take_is_lax s f m name rest first =
     let may : MayHold s name = All-head (MayHold s) name rest (subst (All (MayHold s)) first (f.base.pushed m)) in
     record { name = name; may = may; between = mark_name s name; marks = refl; leaves = by_test (is_new s name) (mark_facts s name f may) (marked_then s name) }
   where
-    by_test : (b : Bool) → Facts (cond b (with_mark s name) s) → (IsSome (node_of s.snapshot name) → Contains (cond b (with_mark s name) s).marked name) → IsShuffled (cond b (with_mark s name) s) (cond b (with_mark (dropped s m rest) name) (dropped s m rest))
+    by_test : (b : Bool) → Facts (cond b (with_mark s name) s) →
+        (IsSome (node_of s.snapshot name) → Contains (cond b (with_mark s name) s).marked name) →
+        IsShuffled (cond b (with_mark s name) s) (cond b (with_mark (dropped s m rest) name) (dropped s m rest))
     by_test true g done = drop_shuffles (with_mark s name) g m name rest first done
     by_test false g done = drop_shuffles s g m name rest first done

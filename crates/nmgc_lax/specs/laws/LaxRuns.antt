@@ -37,17 +37,21 @@ replayed-push : (w : World) (rows : List Row) (row : Row) → replayed w (rows +
 replayed-push w [] row = refl
 replayed-push w (r ∷ rows) row = replayed-push (step w r.mutator r.command).0 rows row
 
-legal_push : (w : World) (rows : List Row) (row : Row) → IsLegal w rows → (step (replayed w rows) row.mutator row.command).1 ≡ row.reply → IsLegal w (rows ++ row ∷ [])
+legal_push : (w : World) (rows : List Row) (row : Row) → IsLegal w rows → (step (replayed w rows) row.mutator row.command).1 ≡ row.reply →
+    IsLegal w (rows ++ row ∷ [])
 legal_push w [] row h e = (e, tt)
 legal_push w (r ∷ rows) row h e = (h.0, legal_push (step w r.mutator r.command).0 rows row h.1 e)
 
 opened-push : (w : World) (rows : List Row) (row : Row) → opened w (rows ++ row ∷ []) ≡ opened w rows ++ opened_by (replayed w rows) row.mutator row.command
 opened-push w [] row = append-nil (opened_by w row.mutator row.command)
-opened-push w (r ∷ rows) row = rw append_assoc (ap (λ (l : List Name). opened_by w r.mutator r.command ++ l) (opened-push (step w r.mutator r.command).0 rows row))
+opened-push w (r ∷ rows) row = rw append_assoc (ap (λ (l : List Name). opened_by w r.mutator r.command ++
+    l) (opened-push (step w r.mutator r.command).0 rows row))
 
-finalised-push : (w : World) (rows : List Row) (row : Row) → finalised w (rows ++ row ∷ []) ≡ finalised w rows ++ finalised_by (replayed w rows) row.mutator row.command
+finalised-push : (w : World) (rows : List Row) (row : Row) → finalised w (rows ++ row ∷ []) ≡ finalised w rows ++
+    finalised_by (replayed w rows) row.mutator row.command
 finalised-push w [] row = append-nil (finalised_by w row.mutator row.command)
-finalised-push w (r ∷ rows) row = rw append_assoc (ap (λ (l : List Name). finalised_by w r.mutator r.command ++ l) (finalised-push (step w r.mutator r.command).0 rows row))
+finalised-push w (r ∷ rows) row = rw append_assoc (ap (λ (l : List Name). finalised_by w r.mutator r.command ++
+    l) (finalised-push (step w r.mutator r.command).0 rows row))
 
 -- an event that is no command leaves the history
 record SameHistory (s t : State) : Type 0 where
@@ -61,7 +65,13 @@ same_history : (s : State) → SameHistory s s
 same_history s = record { world = refl; snapshot = refl; opened = refl; finalised = refl; is_closed = refl }
 
 mark_history : (s : State) (name : Name) → SameHistory s (mark_name s name)
-mark_history s name = mark_cases (SameHistory s) s name (λ e. record { world = refl; snapshot = refl; opened = refl; finalised = refl; is_closed = refl }) (λ e. same_history s)
+mark_history s name = mark_cases (SameHistory s) s name (λ e. record {
+  world = refl;
+  snapshot = refl;
+  opened = refl;
+  finalised = refl;
+  is_closed = refl;
+}) (λ e. same_history s)
 
 read_history : (s : State) (o : Option Value) → SameHistory s (mark_read s o)
 read_history s None = same_history s
@@ -74,7 +84,13 @@ advanced_history s [] = same_history s
 advanced_history s (entry ∷ rest) = record { world = refl; snapshot = refl; opened = refl; finalised = refl; is_closed = refl }
 
 then_history : (s t u : State) → SameHistory s t → SameHistory t u → SameHistory s u
-then_history s t u a b = record { world = b.world ∙ a.world; snapshot = b.snapshot ∙ a.snapshot; opened = b.opened ∙ a.opened; finalised = b.finalised ∙ a.finalised; is_closed = b.is_closed ∙ a.is_closed }
+then_history s t u a b = record {
+  world = b.world ∙ a.world;
+  snapshot = b.snapshot ∙ a.snapshot;
+  opened = b.opened ∙ a.opened;
+  finalised = b.finalised ∙ a.finalised;
+  is_closed = b.is_closed ∙ a.is_closed;
+}
 
 scan_history : (s : State) (queue : List Entry) → SameHistory s (after_scan s queue)
 scan_history s [] = same_history s
@@ -98,7 +114,8 @@ record IsUnderWay (w : World) (rows : List Row) (extra : List Name) (s : State) 
   opened_is : Opens w rows extra s.opened
   finalised_is : s.finalised ≡ finalised w rows
 
-same_under_way : (w : World) (rows : List Row) (extra : List Name) (s t : State) → IsUnderWay w rows extra s → SameHistory s t → Facts t → IsUnderWay w rows extra t
+same_under_way : (w : World) (rows : List Row) (extra : List Name) (s t : State) → IsUnderWay w rows extra s → SameHistory s t → Facts t →
+    IsUnderWay w rows extra t
 same_under_way w rows extra s t u h f = record {
   facts = f;
   world = subst IsWorld (sym h.world) u.world;
@@ -113,7 +130,8 @@ values_history : (s : State) (values : List Value) → SameHistory s (mark_value
 values_history s [] = same_history s
 values_history s (value.Nil ∷ values) = values_history s values
 values_history s (value.Number n ∷ values) = values_history s values
-values_history s (value.Ref name ∷ values) = then_history s (mark_name s name) (mark_values (mark_name s name) values) (mark_history s name) (values_history (mark_name s name) values)
+values_history s (value.Ref name ∷ values) =
+    then_history s (mark_name s name) (mark_values (mark_name s name) values) (mark_history s name) (values_history (mark_name s name) values)
 
 -- a command keeps the facts
 given_keeps : (s next : State) (f : Facts s) (w : IsWorld s.world) (m : ℕ) (c : Command) → IsGiven s m c next → Facts next
@@ -129,22 +147,41 @@ shuffled_history : (s next : State) → SameHistory s (record s { queue = next.q
 shuffled_history s next = record { world = refl; snapshot = refl; opened = refl; finalised = refl; is_closed = refl }
 
 pub lax_keeps_facts : LaxKeepsFacts
-lax_keeps_facts s next f w (lax.given m c g) = (given_keeps s next f w m c g, subst (λ (t : State). IsWorld t.world) (sym g.next_is) (step_keeps_world s.world m c w g.can))
+lax_keeps_facts s next f w (lax.given m c g) = (
+  given_keeps s next f w m c g,
+  subst (λ (t : State). IsWorld t.world) (sym g.next_is) (step_keeps_world s.world m c w g.can),
+)
 lax_keeps_facts s next f w (lax.shuffled h) = (subst Facts (sym h.rest) (shuffled_facts s f next h), subst (λ (t : State). IsWorld t.world) (sym h.rest) w)
-lax_keeps_facts s next f w (lax.floated name h) = (subst Facts (sym h.next_is) (floated_facts s f h.m h.place name), subst (λ (t : State). IsWorld t.world) (sym h.next_is) w)
-lax_keeps_facts s next f w (lax.marked name may e) = (subst Facts (sym e) (mark_facts s name f may), subst (λ (t : State). IsWorld t.world) (sym e) (world_of s (mark_name s name) (mark_history s name) w))
-lax_keeps_facts s next f w (lax.scanned e) = (subst Facts (sym e) (scan_facts s f w s.queue refl), subst (λ (t : State). IsWorld t.world) (sym e) (world_of s (after_scan s s.queue) (scan_history s s.queue) w))
+lax_keeps_facts s next f w (lax.floated name h) = (
+  subst Facts (sym h.next_is) (floated_facts s f h.m h.place name),
+  subst (λ (t : State). IsWorld t.world) (sym h.next_is) w,
+)
+lax_keeps_facts s next f w (lax.marked name may e) = (
+  subst Facts (sym e) (mark_facts s name f may),
+  subst (λ (t : State). IsWorld t.world) (sym e) (world_of s (mark_name s name) (mark_history s name) w),
+)
+lax_keeps_facts s next f w (lax.scanned e) = (
+  subst Facts (sym e) (scan_facts s f w s.queue refl),
+  subst (λ (t : State). IsWorld t.world) (sym e) (world_of s (after_scan s s.queue) (scan_history s s.queue) w),
+)
 
 -- a push of whatever keeps the facts
 floated_keeps : (s next : State) (name : Name) → Facts s → (h : IsFloated s name next) → Facts next
 floated_keeps s next name f h = subst Facts (sym h.next_is) (floated_facts s f h.m h.place name)
 
 -- a quiet step of a run that is under way
-quiet_on : (w : World) (rows row : List Row) (extra one : List Name) (s t next : State) → IsUnderWay w rows extra s → row ≡ [] → one ≡ [] → next ≡ t → SameHistory s t → Facts t → IsUnderWay w (rows ++ row) (extra ++ one) next
-quiet_on w rows row extra one s t next u none no_name e same f = rw (none, no_name, append-nil, append-nil) (subst (IsUnderWay w rows extra) (sym e) (same_under_way w rows extra s t u same f))
+quiet_on : (w : World) (rows row : List Row) (extra one : List Name) (s t next : State) → IsUnderWay w rows extra s → row ≡ [] → one ≡ [] →
+    next ≡ t → SameHistory s t → Facts t → IsUnderWay w (rows ++ row) (extra ++ one) next
+quiet_on w rows row extra one s t next u none no_name e same f = rw (
+  none,
+  no_name,
+  append-nil,
+  append-nil,
+) (subst (IsUnderWay w rows extra) (sym e) (same_under_way w rows extra s t u same f))
 
 -- a command opens what it opens
-opens_more : (w : World) (rows : List Row) (extra names new : List Name) (row : Row) → Opens w rows extra names → opened_by (replayed w rows) row.mutator row.command ≡ new → Opens w (rows ++ row ∷ []) extra (names ++ new)
+opens_more : (w : World) (rows : List Row) (extra names new : List Name) (row : Row) → Opens w rows extra names →
+    opened_by (replayed w rows) row.mutator row.command ≡ new → Opens w (rows ++ row ∷ []) extra (names ++ new)
 opens_more w rows extra names new row h e name =
     let is : opened w (rows ++ row ∷ []) ≡ opened w rows ++ new = rw (opened-push w rows row, e) refl in (
       λ c. elim (Contains-append_cases names new name c) [
@@ -152,13 +189,18 @@ opens_more w rows extra names new row h e name =
         | inr k ↦ inl (rw is (Contains-append_right (opened w rows) new name k))
       ],
       λ c. elim c [
-        | inl a ↦ elim (Contains-append_cases (opened w rows) new name (rw is at a)) [ inl old ↦ Contains-append_left names new name ((h name).1 (inl old)) | inr k ↦ Contains-append_right names new name k ]
+        | inl a ↦ elim (Contains-append_cases (opened w rows) new name (rw is at a)) [
+          | inl old ↦
+              Contains-append_left names new name ((h name).1 (inl old))
+          | inr k ↦ Contains-append_right names new name k
+        ]
         | inr b ↦ Contains-append_left names new name ((h name).1 (inr b))
       ],
     )
 
 -- a command of a run that is under way
-given_on : (w : World) (rows : List Row) (extra : List Name) (s next : State) (m : ℕ) (c : Command) (answer : Reply) → IsUnderWay w rows extra s → IsGiven s m c next → (step s.world m c).1 ≡ answer → IsUnderWay w (rows ++ (record { mutator = m; command = c; reply = answer }) ∷ []) extra next
+given_on : (w : World) (rows : List Row) (extra : List Name) (s next : State) (m : ℕ) (c : Command) (answer : Reply) → IsUnderWay w rows extra s →
+    IsGiven s m c next → (step s.world m c).1 ≡ answer → IsUnderWay w (rows ++ (record { mutator = m; command = c; reply = answer }) ∷ []) extra next
 given_on w rows extra s next m c answer u g says =
     let row : Row = record { mutator = m; command = c; reply = answer } in
     let t : State = after_owing s m c g.names in
@@ -176,7 +218,8 @@ given_on w rows extra s next m c answer u g says =
     })
 
 -- a push of whatever in a run that is under way
-float_on : (w : World) (rows : List Row) (extra : List Name) (s next : State) (name : Name) → IsUnderWay w rows extra s → IsFloated s name next → IsUnderWay w rows (extra ++ name ∷ []) next
+float_on : (w : World) (rows : List Row) (extra : List Name) (s next : State) (name : Name) → IsUnderWay w rows extra s → IsFloated s name next →
+    IsUnderWay w rows (extra ++ name ∷ []) next
 float_on w rows extra s next name u h =
     subst (IsUnderWay w rows (extra ++ name ∷ [])) (sym h.next_is) (record {
       facts = floated_facts s u.facts h.m h.place name;
@@ -191,18 +234,30 @@ float_on w rows extra s next name u h =
         ],
         λ c. elim c [
           | inl a ↦ Contains-append_left s.opened (name ∷ []) n ((u.opened_is n).1 (inl a))
-          | inr b ↦ elim (Contains-append_cases extra (name ∷ []) n b) [ inl old ↦ Contains-append_left s.opened (name ∷ []) n ((u.opened_is n).1 (inr old)) | inr k ↦ Contains-append_right s.opened (name ∷ []) n k ]
+          | inr b ↦ elim (Contains-append_cases extra (name ∷ []) n b) [
+            | inl old ↦
+                Contains-append_left s.opened (name ∷ []) n ((u.opened_is n).1 (inr old))
+            | inr k ↦ Contains-append_right s.opened (name ∷ []) n k
+          ]
         ],
       );
       finalised_is = u.finalised_is;
     })
 
-row_on : (w : World) (rows row : List Row) (extra one : List Name) (s next : State) → IsUnderWay w rows extra s → LaxRow s next row one → IsUnderWay w (rows ++ row) (extra ++ one) next
+row_on : (w : World) (rows row : List Row) (extra one : List Name) (s next : State) → IsUnderWay w rows extra s → LaxRow s next row one →
+    IsUnderWay w (rows ++ row) (extra ++ one) next
 row_on w rows row extra one s next u (lax.command m c answer g says e no_name) = rw (e, no_name, append-nil) (given_on w rows extra s next m c answer u g says)
-row_on w rows row extra one s next u (lax.quiet h none no_name) = quiet_on w rows row extra one s (record s { queue = next.queue; owed = next.owed; pushed = next.pushed }) next u none no_name h.rest (shuffled_history s next) (shuffled_facts s u.facts next h)
+row_on w rows row extra one s next u (lax.quiet h none no_name) =
+    quiet_on w rows row extra one s (record s {
+      queue = next.queue;
+      owed = next.owed;
+      pushed = next.pushed;
+    }) next u none no_name h.rest (shuffled_history s next) (shuffled_facts s u.facts next h)
 row_on w rows row extra one s next u (lax.float name h none e) = rw (none, e, append-nil) (float_on w rows extra s next name u h)
-row_on w rows row extra one s next u (lax.mark name may e none no_name) = quiet_on w rows row extra one s (mark_name s name) next u none no_name e (mark_history s name) (mark_facts s name u.facts may)
-row_on w rows row extra one s next u (lax.scan e none no_name) = quiet_on w rows row extra one s (after_scan s s.queue) next u none no_name e (scan_history s s.queue) (scan_facts s u.facts u.world s.queue refl)
+row_on w rows row extra one s next u (lax.mark name may e none no_name) =
+    quiet_on w rows row extra one s (mark_name s name) next u none no_name e (mark_history s name) (mark_facts s name u.facts may)
+row_on w rows row extra one s next u (lax.scan e none no_name) =
+    quiet_on w rows row extra one s (after_scan s s.queue) next u none no_name e (scan_history s s.queue) (scan_facts s u.facts u.world s.queue refl)
 
 opens : (w : World) → IsWorld w → IsUnderWay w [] [] (opening w)
 opens w h =
@@ -213,7 +268,10 @@ opens w h =
       legal = tt;
       snapshot = start.snapshot;
       now = start.world;
-      opened_is = λ name. (λ c. absurd (nothing_in name (rw start.opened at c)), λ c. elim c [ inl a ↦ absurd (nothing_in name a) | inr b ↦ absurd (nothing_in name b) ]);
+      opened_is = λ name. (
+        λ c. absurd (nothing_in name (rw start.opened at c)),
+        λ c. elim c [ inl a ↦ absurd (nothing_in name a) | inr b ↦ absurd (nothing_in name b) ],
+      );
       finalised_is = start.finalised;
     }
 

@@ -80,7 +80,8 @@ module _ (h next : Cycle) (s : State) (t : IsTied h s) (line m : ℕ) (c : Comma
   due_there target d = subst (λ (v : World). IsDue v s.world m c target) (sym t.snapshot) (subst (λ (v : World). IsDue h.snapshot v m c target) (sym t.world) d)
 
   owed_may : (name : Name) → Contains (owed_by s.world m c) name → MayHold (after_owing s m c names) name
-  owed_may name k = Rattle.std.proofs.lemmas.List.Elements.All-contains (MayHold (after_command s m c)) (owed_by s.world m c) name (owes_may s t.facts t.closed m c lt) k
+  owed_may name k = Rattle.std.proofs.lemmas.List.Elements.All-contains (MayHold (after_command s m c)) (owed_by s.world m c) name
+      (owes_may s t.facts t.closed m c lt) k
 
   debt_may : (debt : Debt) → Contains next.debts debt → MayHold (after_owing s m c names) debt.name
   debt_may debt k = elim (w.new debt k) [
@@ -89,12 +90,15 @@ module _ (h next : Cycle) (s : State) (t : IsTied h s) (line m : ℕ) (c : Comma
   ]
 
   names_may : All (MayHold (after_owing s m c names)) names
-  names_may = all_names (MayHold (after_owing s m c names)) names (λ name k. let p : (debt : Debt) × Contains next.debts debt × (debt.name ≡ name) = debt_listed next.debts name k in subst (MayHold (after_owing s m c names)) p.2 (debt_may p.0 p.1))
+  names_may = all_names (MayHold (after_owing s m c names)) names (λ name k.
+      let p : (debt : Debt) × Contains next.debts debt × (debt.name ≡ name) = debt_listed next.debts name k in
+      subst (MayHold (after_owing s m c names)) p.2 (debt_may p.0 p.1))
 
   due_safe : (target : Name) → IsDue s.snapshot s.world m c target → IsSafe (after_owing s m c names) target
   due_safe target d = elim (w.due target (due_here target d)) [
     | inl r ↦ elim (t.remembered target r d.there) [ inl k ↦ marked k | inr k ↦ pushed k.0 k.1 ]
-    | inr o ↦ owed m (rw (names_same s.owed m (names_of s.owed m ++ names) place) (Contains-append_right (names_of s.owed m) names target (subst (λ (n : Name). Contains names n) o.2 (listed_debt next.debts o.0 o.1))))
+    | inr o ↦ owed m (rw (names_same s.owed m (names_of s.owed m ++
+        names) place) (Contains-append_right (names_of s.owed m) names target (subst (λ (n : Name). Contains names n) o.2 (listed_debt next.debts o.0 o.1))))
   ]
 
   pub command_facts_on : Facts (after_owing s m c names)
@@ -106,11 +110,16 @@ module _ (h next : Cycle) (s : State) (t : IsTied h s) (line m : ℕ) (c : Comma
     closed = step_keeps_world s.world m c t.closed (subst (λ (v : World). Rattle.nmgc_graph.specs.Step.CanApply v m c) (sym t.world) w.can);
     world = subst (λ (v : World). (step s.world m c).0 ≡ (step v m c).0) t.world refl ∙ sym (ap (λ (x : Cycle). x.world) w.rest);
     snapshot = t.snapshot ∙ sym (ap (λ (x : Cycle). x.snapshot) w.rest);
-    finalised = subst (λ (v : World). s.finalised ++ finalised_by s.world m c ≡ h.finalised ++ finalised_by v m c) t.world (ap (λ (l : List Name). l ++ finalised_by s.world m c) t.finalised) ∙ sym (ap (λ (x : Cycle). x.finalised) w.rest);
+    finalised = subst (λ (v : World). s.finalised ++ finalised_by s.world m c ≡ h.finalised ++
+        finalised_by v m c) t.world (ap (λ (l : List Name). l ++ finalised_by s.world m c) t.finalised) ∙ sym (ap (λ (x : Cycle). x.finalised) w.rest);
     opened = λ name. (
       λ k. elim (Contains-append_cases s.opened (opened_by s.world m c) name k) [
-        | inl old ↦ elim ((t.opened name).0 old) [ inl a ↦ inl (next_opened name (Contains-append_left h.opened (opened_by h.world m c) name a)) | inr b ↦ inr (next_remembered name b) ]
-        | inr new ↦ inl (next_opened name (Contains-append_right h.opened (opened_by h.world m c) name (subst (λ (v : World). Contains (opened_by v m c) name) t.world new)))
+        | inl old ↦ elim ((t.opened name).0 old) [
+          | inl a ↦ inl (next_opened name (Contains-append_left h.opened (opened_by h.world m c) name a))
+          | inr b ↦ inr (next_remembered name b)
+        ]
+        | inr new ↦ inl (next_opened name (Contains-append_right h.opened (opened_by h.world m c) name (subst (λ (v : World).
+            Contains (opened_by v m c) name) t.world new)))
       ],
       λ k. elim k [
         | inl a ↦ elim (Contains-append_cases h.opened (opened_by h.world m c) name (was_opened name a)) [
@@ -122,10 +131,11 @@ module _ (h next : Cycle) (s : State) (t : IsTied h s) (line m : ℕ) (c : Comma
     );
     remembered = λ name r there. t.remembered name (was_remembered name r) there;
     only = λ k name c'. elim (cases_eq k m) [
-      | inl e ↦ elim (Contains-append_cases (names_of s.owed m) names name (rw (names_same s.owed m (names_of s.owed m ++ names) place) at (subst (λ (j : ℕ). Contains (names_of (set s.owed m (names_of s.owed m ++ names)) j) name) e c'))) [
-        | inl old ↦ let o : Owes h name = t.only m name old in (o.0, w.old o.0 o.1, o.2)
-        | inr new ↦ debt_listed next.debts name new
-      ]
+      | inl e ↦ elim (Contains-append_cases (names_of s.owed m) names name (rw (names_same s.owed m (names_of s.owed m ++
+          names) place) at (subst (λ (j : ℕ). Contains (names_of (set s.owed m (names_of s.owed m ++ names)) j) name) e c'))) [
+            | inl old ↦ let o : Owes h name = t.only m name old in (o.0, w.old o.0 o.1, o.2)
+            | inr new ↦ debt_listed next.debts name new
+          ]
       | inr ne ↦ let o : Owes h name = t.only k name (rw (names_other s.owed m k (names_of s.owed m ++ names) ne) at c') in (o.0, w.old o.0 o.1, o.2)
     ];
     held = debt_may;

@@ -51,7 +51,9 @@ module _ (h next : Cycle) (s : State) (t : IsTied h s) (name : Name) (w : IsPush
   after_push = record over { owed = owing }
 
   there : m < length (replicate {A = List Name} (length s.owed) [])
-  there = let a : length (replicate {A = List Name} (length s.owed) []) ≡ length s.owed = length-replicate (length s.owed) [] in let b : length s.owed ≡ length s.world.mutators = t.facts.base.owed_lists in let c : length s.pushed ≡ length s.world.mutators = t.facts.base.pushed_lists in let lt : m < length s.pushed = place in omega arith
+  there = let a : length (replicate {A = List Name} (length s.owed) []) ≡ length s.owed = length-replicate (length s.owed) [] in
+      let b : length s.owed ≡ length s.world.mutators = t.facts.base.owed_lists in
+      let c : length s.pushed ≡ length s.world.mutators = t.facts.base.pushed_lists in let lt : m < length s.pushed = place in omega arith
 
   own_names : names_of owing m ≡ names_in next.debts
   own_names = names_same (replicate (length s.owed) []) m (names_in next.debts) there
@@ -60,7 +62,8 @@ module _ (h next : Cycle) (s : State) (t : IsTied h s) (name : Name) (w : IsPush
   other_names k ne = names_other (replicate (length s.owed) []) m k (names_in next.debts) ne ∙ no_names (length s.owed) k
 
   own_pushed : Contains (names_of over.pushed m) name
-  own_pushed = rw (names_same s.pushed m (names_of s.pushed m ++ name ∷ []) place) (Contains-append_right (names_of s.pushed m) (name ∷ []) name (contains_one name))
+  own_pushed = rw (names_same s.pushed m (names_of s.pushed m ++ name ∷ []) place) (Contains-append_right (names_of s.pushed m) (name ∷
+      []) name (contains_one name))
 
   more_pushed : (k : ℕ) (n : Name) → Contains (names_of s.pushed k) n → Contains (names_of over.pushed k) n
   more_pushed k n c = elim (cases_eq k m) [
@@ -72,7 +75,8 @@ module _ (h next : Cycle) (s : State) (t : IsTied h s) (name : Name) (w : IsPush
   held_on debt c there' = live_more s.snapshot s.opened (name ∷ []) debt.name (t.held debt ((w.debts debt).0 c).0 there')
 
   debts_may : All (MayHold over) (names_in next.debts)
-  debts_may = all_names (MayHold over) (names_in next.debts) (λ n k. let p : (debt : Debt) × Contains next.debts debt × (debt.name ≡ n) = debt_listed next.debts n k in subst (MayHold over) p.2 (held_on p.0 p.1))
+  debts_may = all_names (MayHold over) (names_in next.debts) (λ n k.
+      let p : (debt : Debt) × Contains next.debts debt × (debt.name ≡ n) = debt_listed next.debts n k in subst (MayHold over) p.2 (held_on p.0 p.1))
 
   owing_may : (k : ℕ) → All (MayHold over) (names_of owing k)
   owing_may k = elim (cases_eq k m) [
@@ -88,7 +92,8 @@ module _ (h next : Cycle) (s : State) (t : IsTied h s) (name : Name) (w : IsPush
     | inr ne ↦
         let o : Owes h n = t.only k n c in
         let stays : Contains next.debts o.0 = (w.debts o.0).1 (o.1, λ e. ne (sym o.2 ∙ e)) in
-        owed m (subst (λ (l : List Name). Contains l n) (sym own_names) (subst (λ (x : Name). Contains (names_in next.debts) x) o.2 (listed_debt next.debts o.0 stays)))
+        owed m (subst (λ (l : List Name). Contains l n) (sym own_names) (subst (λ (x : Name).
+        Contains (names_in next.debts) x) o.2 (listed_debt next.debts o.0 stays)))
   ]
 
   shuffles : IsShuffled over after_push
@@ -117,7 +122,11 @@ module _ (h next : Cycle) (s : State) (t : IsTied h s) (name : Name) (w : IsPush
     finalised = t.finalised ∙ sym (ap (λ (x : Cycle). x.finalised) w.rest);
     opened = λ n. (
       λ c. elim (Contains-append_cases s.opened (name ∷ []) n c) [
-        | inl old ↦ elim ((t.opened n).0 old) [ inl a ↦ inl (rw is_opened a) | inr b ↦ inr (rw is_remembered (Contains-append_left h.remembered (name ∷ []) n b)) ]
+        | inl old ↦ elim ((t.opened n).0 old) [
+          | inl a ↦ inl (rw is_opened a)
+          | inr b ↦
+              inr (rw is_remembered (Contains-append_left h.remembered (name ∷ []) n b))
+        ]
         | inr k ↦ inr (rw is_remembered (Contains-append_right h.remembered (name ∷ []) n k))
       ],
       λ c. elim c [
@@ -153,7 +162,15 @@ marks_same : (s : State) → MarksOn s s
 marks_same s = record { world = refl; snapshot = refl; opened = refl; finalised = refl; owed = refl; pushed = refl; marked = λ n c. c }
 
 marks_name : (s : State) (name : Name) → MarksOn s (mark_name s name)
-marks_name s name = mark_cases (MarksOn s) s name (λ e. record { world = refl; snapshot = refl; opened = refl; finalised = refl; owed = refl; pushed = refl; marked = λ n c. Contains-append_left s.marked (name ∷ []) n c }) (λ e. marks_same s)
+marks_name s name = mark_cases (MarksOn s) s name (λ e. record {
+  world = refl;
+  snapshot = refl;
+  opened = refl;
+  finalised = refl;
+  owed = refl;
+  pushed = refl;
+  marked = λ n c. Contains-append_left s.marked (name ∷ []) n c;
+}) (λ e. marks_same s)
 
 marks_read : (s : State) (o : Option Value) → MarksOn s (mark_read s o)
 marks_read s None = marks_same s
@@ -163,11 +180,21 @@ marks_read s (Some (value.Ref name)) = marks_name s name
 
 marks_advanced : (s u : State) (queue : List Entry) → MarksOn s u → MarksOn s (advanced u queue)
 marks_advanced s u [] k = k
-marks_advanced s u (entry ∷ rest) k = record { world = k.world; snapshot = k.snapshot; opened = k.opened; finalised = k.finalised; owed = k.owed; pushed = k.pushed; marked = k.marked }
+marks_advanced s u (entry ∷ rest) k = record {
+  world = k.world;
+  snapshot = k.snapshot;
+  opened = k.opened;
+  finalised = k.finalised;
+  owed = k.owed;
+  pushed = k.pushed;
+  marked = k.marked;
+}
 
 marks_scan : (s : State) (queue : List Entry) → MarksOn s (after_scan s queue)
 marks_scan s [] = marks_same s
-marks_scan s (entry ∷ rest) = marks_advanced s (mark_read s (read_at (node_of s.world entry.name) entry.position)) (mark_read s (read_at (node_of s.world entry.name) entry.position)).queue (marks_read s (read_at (node_of s.world entry.name) entry.position))
+marks_scan s (entry ∷ rest) =
+    marks_advanced s (mark_read s (read_at (node_of s.world entry.name) entry.position))
+    (mark_read s (read_at (node_of s.world entry.name) entry.position)).queue (marks_read s (read_at (node_of s.world entry.name) entry.position))
 
 may_on : (s u : State) (name : Name) → u.snapshot ≡ s.snapshot → u.opened ≡ s.opened → MayHold s name → MayHold u name
 may_on s u name e o h there = rw (e, o) (h (rw e at there))
@@ -197,7 +224,8 @@ nothing_owed h s t none m = by_list (names_of s.owed m) refl
   where
     by_list : (l : List Name) → names_of s.owed m ≡ l → l ≡ []
     by_list [] e = refl
-    by_list (x ∷ xs) e = let o : Owes h x = t.only m x (subst (λ (l : List Name). Contains l x) (sym e) (contains_head x xs)) in absurd (nothing_in o.0 (subst (λ (l : List Debt). Contains l o.0) none o.1))
+    by_list (x ∷ xs) e = let o : Owes h x = t.only m x (subst (λ (l : List Name). Contains l x) (sym e) (contains_head x xs)) in
+        absurd (nothing_in o.0 (subst (λ (l : List Debt). Contains l o.0) none o.1))
 
 -- lists of the same names
 live_same : (w : World) (a b : List Name) → ((n : Name) → Contains a n → Contains b n) → (n : Name) → IsLive w a n → IsLive w b n
@@ -208,7 +236,14 @@ live_same w a b k n (reach.plain_key weak target parts alive plain kept) = reach
 live_same w a b k n (reach.live_key weak target key parts alive is l kept) = reach.live_key weak target key parts alive is (live_same w a b k key l) kept
 
 abbrev dead_same : (w : World) (a b fin : List Name) → ((n : Name) → Contains b n → Contains a n) → (weak : Name) → IsDead w a fin weak → IsDead w b fin weak
-dead_same w a b fin k weak d = record { parts = d.parts; alive = d.alive; not_finalised = d.not_finalised; key = d.key; key_is = d.key_is; lost = λ l. d.lost (live_same w b a k d.key l) }
+dead_same w a b fin k weak d = record {
+  parts = d.parts;
+  alive = d.alive;
+  not_finalised = d.not_finalised;
+  key = d.key;
+  key_is = d.key_is;
+  lost = λ l. d.lost (live_same w b a k d.key l);
+}
 
 kept_same : (w : World) (a b fin : List Name) → ((n : Name) → Contains a n ↔ Contains b n) → (n : Name) → IsKept w a fin n → IsKept w b fin n
 kept_same w a b fin k n (IsKept.live n' l) = IsKept.live n' (live_same w a b (λ x. (k x).0) n' l)
@@ -216,19 +251,29 @@ kept_same w a b fin k n (IsKept.finaliser weak target d is) = IsKept.finaliser w
 kept_same w a b fin k n (IsKept.field m target h r) = IsKept.field m target (kept_same w a b fin k m h) r
 
 -- an end from a tied state marks exactly `Marks`
-pub tied_end : (h : Cycle) (s next : State) → IsTied h s → IsPossible s event.Close → IsClosing s next → (name : Name) → Contains next.marked name ↔ Marks h name
+pub tied_end : (h : Cycle) (s next : State) → IsTied h s → IsPossible s event.Close → IsClosing s next → (name : Name) → Contains next.marked name ↔
+    Marks h name
 tied_end h s next t possible c name =
     let x : IsExactClosing s next c = closing_is_exact s next t.facts possible c in
     let a : (n : Name) → Contains s.opened n ↔ Contains (h.opened ++ h.remembered) n = λ n. (
       λ k. elim ((t.opened n).0 k) [ inl o ↦ Contains-append_left h.opened h.remembered n o | inr r ↦ Contains-append_right h.opened h.remembered n r ],
       λ k. (t.opened n).1 (Contains-append_cases h.opened h.remembered n k),
     ) in (
-      λ k. subst (λ (v : World). IsKept v (h.opened ++ h.remembered) h.finalised name) t.snapshot (subst (λ (l : List Name). IsKept s.snapshot (h.opened ++ h.remembered) l name) t.finalised (kept_same s.snapshot s.opened (h.opened ++ h.remembered) s.finalised a name ((x.kept name).0 k))),
-      λ k. (x.kept name).1 (kept_same s.snapshot (h.opened ++ h.remembered) s.opened s.finalised (λ n. ((a n).1, (a n).0)) name (subst (λ (l : List Name). IsKept s.snapshot (h.opened ++ h.remembered) l name) (sym t.finalised) (subst (λ (v : World). IsKept v (h.opened ++ h.remembered) h.finalised name) (sym t.snapshot) k))),
+      λ k. subst (λ (v : World). IsKept v (h.opened ++ h.remembered) h.finalised name) t.snapshot (subst (λ (l : List Name).
+          IsKept s.snapshot (h.opened ++ h.remembered) l name) t.finalised (kept_same s.snapshot s.opened (h.opened ++
+          h.remembered) s.finalised a name ((x.kept name).0 k))),
+      λ k. (x.kept name).1 (kept_same s.snapshot (h.opened ++ h.remembered) s.opened s.finalised (λ n. (
+        (a n).1,
+        (a n).0,
+      )) name (subst (λ (l : List Name). IsKept s.snapshot (h.opened ++ h.remembered) l name) (sym t.finalised) (subst (λ (v : World).
+          IsKept v (h.opened ++ h.remembered) h.finalised name) (sym t.snapshot) k))),
     )
 
 -- what waits in another order, or leaves the pushed names once it is marked
-pub tied_order : (h : Cycle) (s next : State) → IsTied h s → IsShuffled s next → next.owed ≡ s.owed → ((n : Name) → IsSome (node_of s.snapshot n) → IsOnItsWay s n → IsOnItsWay (record s { queue = next.queue; owed = next.owed; pushed = next.pushed }) n) → IsTied h (record s { queue = next.queue; owed = next.owed; pushed = next.pushed })
+pub tied_order : (h : Cycle) (s next : State) → IsTied h s → IsShuffled s next → next.owed ≡ s.owed →
+    ((n : Name) → IsSome (node_of s.snapshot n) → IsOnItsWay s n →
+    IsOnItsWay (record s { queue = next.queue; owed = next.owed; pushed = next.pushed }) n) →
+    IsTied h (record s { queue = next.queue; owed = next.owed; pushed = next.pushed })
 tied_order h s next t k same way = record {
   facts = shuffled_facts s t.facts next k;
   closed = t.closed;
@@ -249,7 +294,15 @@ opening_marks s (value.Number n ∷ values) = opening_marks s values
 opening_marks s (value.Ref name ∷ values) =
     let a : MarksOn s (mark_name s name) = marks_name s name in
     let b : MarksOn (mark_name s name) (mark_values (mark_name s name) values) = opening_marks (mark_name s name) values in
-    record { world = b.world ∙ a.world; snapshot = b.snapshot ∙ a.snapshot; opened = b.opened ∙ a.opened; finalised = b.finalised ∙ a.finalised; owed = b.owed ∙ a.owed; pushed = b.pushed ∙ a.pushed; marked = λ n c. b.marked n (a.marked n c) }
+    record {
+      world = b.world ∙ a.world;
+      snapshot = b.snapshot ∙ a.snapshot;
+      opened = b.opened ∙ a.opened;
+      finalised = b.finalised ∙ a.finalised;
+      owed = b.owed ∙ a.owed;
+      pushed = b.pushed ∙ a.pushed;
+      marked = λ n c. b.marked n (a.marked n c);
+    }
 
 pub tied_opening : (w : World) → IsWorld w → IsTied (watching w) (opening w)
 tied_opening w h =

@@ -168,7 +168,8 @@ class_counted layout class h =
     )
 
 -- the class of an object that a segment holds is one of the layout's
-pub object_class : (layout : Layout) (words class : ℕ) → IsLayout layout → words ≤ layout.words → IsClassOf words class → (block_size class ≤ layout.words) × (class < class_count layout)
+pub object_class : (layout : Layout) (words class : ℕ) → IsLayout layout → words ≤ layout.words → IsClassOf words class →
+    (block_size class ≤ layout.words) × (class < class_count layout)
 object_class layout words class h fits is =
     let inside = class_fits layout.words class words h.words fits is.least in
     (inside, (class_counted layout class h.words).1 inside)
@@ -197,7 +198,8 @@ none_left words class h fits (inr wide) =
     ap (λ (n : ℕ). n % block_size class) is ∙ mod-mul-add (2 ^ (w.steps - k)) (block_size class) 0 positive
 
 -- twice the words of an object make up for its block, and for what such blocks leave of a segment over
-pub object_half : (words size class : ℕ) → IsSegmentSize words → 2 ≤ size → size ≤ words → IsClassOf size class → words % block_size class + block_size class ≤ 2 * size
+pub object_half : (words size class : ℕ) → IsSegmentSize words → 2 ≤ size → size ≤ words → IsClassOf size class →
+    words % block_size class + block_size class ≤ 2 * size
 object_half words size class h two fits is =
     let inside = class_fits words class size h fits is.least in
     elim (cases_lt 12 class) [

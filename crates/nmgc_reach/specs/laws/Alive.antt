@@ -41,7 +41,8 @@ module _ (R : Name → Parts → Type 0) where
 
   -- a node of another kind stays one
   stays_other : (c : Change) (maker : ℕ) (name : Name) (node : Node) → (kind_of node ≡ kind.Weak → ⊥) → AliveOk name (changed c maker node).0
-  stays_other c maker name node other = not_weak name (changed c maker node).0 (λ e. let s : SameShape node (changed c maker node).0 = changed_shape c maker node in other (sym s.kind ∙ e))
+  stays_other c maker name node other = not_weak name (changed c maker node).0 (λ e.
+      let s : SameShape node (changed c maker node).0 = changed_shape c maker node in other (sym s.kind ∙ e))
 
   -- a change makes no weak pointer alive
   pub changed_weak : (c : Change) (maker : ℕ) (name : Name) (node : Node) → AliveOk name node → AliveOk name (changed c maker node).0
@@ -59,7 +60,8 @@ module _ (R : Name → Parts → Type 0) where
   changed_weak change.Finalise maker name (Weak (Some parts)) h = tt
 
   -- so no command does, but for the one that it makes
-  module _ (w : World) (m : ℕ) (makes : (key v finaliser : Operand) → R (next_name (state_of w m) m) (record { key = value_for w m key; value = value_for w m v; finaliser = value_for w m finaliser })) where
+  module _ (w : World) (m : ℕ) (makes : (key v finaliser : Operand) →
+      R (next_name (state_of w m) m) (record { key = value_for w m key; value = value_for w m v; finaliser = value_for w m finaliser })) where
     made_weak : (c : Command) → IfSome (made_by w m c) (AliveOk (next_name (state_of w m) m))
     made_weak (command.Weak dest key v finaliser) = makes key v finaliser
     made_weak (command.Con dest tag fields) = tt
@@ -69,7 +71,12 @@ module _ (R : Name → Parts → Type 0) where
     made_weak (command.Stack dest size) = tt
     made_weak _ = tt
 
-  pub step_weaks : (w : World) (m : ℕ) (c : Command) → m < length w.mutators → m ≢ SHARED_MAKER → ((key v finaliser : Operand) → R (next_name (state_of w m) m) (record { key = value_for w m key; value = value_for w m v; finaliser = value_for w m finaliser })) → WeaksOk w → WeaksOk (step w m c).0
+  pub step_weaks : (w : World) (m : ℕ) (c : Command) → m < length w.mutators → m ≢ SHARED_MAKER →
+      ((key v finaliser : Operand) → R (next_name (state_of w m) m) (record {
+        key = value_for w m key;
+        value = value_for w m v;
+        finaliser = value_for w m finaliser;
+      })) → WeaksOk w → WeaksOk (step w m c).0
   step_weaks w m c lt own makes h =
       stepped_nodes Any AliveOk w m c lt own
       (λ made is. at_some (made_by w m c) made (AliveOk (next_name (state_of w m) m)) is (made_weak w m makes c))

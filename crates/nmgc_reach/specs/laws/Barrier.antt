@@ -61,7 +61,8 @@ pub two_nodes : (P : Node → Type 0) (b : Bool) (made kept : Node) (r s : Reply
 two_nodes P true made kept r s h k = h
 two_nodes P false made kept r s h k = k
 
-pub exchanged_node : (P : Node → Type 0) (old : Option Value) (expected : Value) (kept made : Node) → P made → P kept → P (exchanged_at old expected kept made).0
+pub exchanged_node : (P : Node → Type 0) (old : Option Value) (expected : Value) (kept made : Node) → P made → P kept →
+    P (exchanged_at old expected kept made).0
 exchanged_node P None expected kept made h k = k
 exchanged_node P (Some old) expected kept made h k = two_nodes P (is_same old expected) made kept Yes No h k
 
@@ -73,13 +74,16 @@ module _ (Q : Value → Type 0) where
   pub changed_fields : (c : Change) (maker : ℕ) (node : Node) → IsStrongChange c → Writes Q c → Fields Q node → Fields Q (changed c maker node).0
   changed_fields (change.Set index v) maker (Con tag values) s q h = h
   changed_fields (change.Set index v) maker (Var old) s q h = two_nodes (Fields Q) (eqb index 0) (Var v) (Var old) Fine NoField (one v q) h
-  changed_fields (change.Set index v) maker (Arr values) s q h = two_nodes (Fields Q) (ltb index (length values)) (Arr (set values index v)) (Arr values) Fine NoField (All-set Q values index v q h) h
+  changed_fields (change.Set index v) maker (Arr values) s q h =
+      two_nodes (Fields Q) (ltb index (length values)) (Arr (set values index v)) (Arr values) Fine NoField (All-set Q values index v q h) h
   changed_fields (change.Set index v) maker (Thunk free result) s q h = h
   changed_fields (change.Set index v) maker (Weak parts) s q h = h
   changed_fields (change.Set index v) maker (Stack size values) s q h = h
   changed_fields (change.Exchange index expected v) maker (Con tag values) s q h = h
-  changed_fields (change.Exchange index expected v) maker (Var old) s q h = exchanged_node (Fields Q) (slice_get (old ∷ []) index) expected (Var old) (Var v) (one v q) h
-  changed_fields (change.Exchange index expected v) maker (Arr values) s q h = exchanged_node (Fields Q) (slice_get values index) expected (Arr values) (Arr (set values index v)) (All-set Q values index v q h) h
+  changed_fields (change.Exchange index expected v) maker (Var old) s q h =
+      exchanged_node (Fields Q) (slice_get (old ∷ []) index) expected (Var old) (Var v) (one v q) h
+  changed_fields (change.Exchange index expected v) maker (Arr values) s q h =
+      exchanged_node (Fields Q) (slice_get values index) expected (Arr values) (Arr (set values index v)) (All-set Q values index v q h) h
   changed_fields (change.Exchange index expected v) maker (Thunk free result) s q h = h
   changed_fields (change.Exchange index expected v) maker (Weak parts) s q h = h
   changed_fields (change.Exchange index expected v) maker (Stack size values) s q h = h
@@ -98,7 +102,8 @@ module _ (Q : Value → Type 0) where
   changed_fields (change.Push m v) maker (Stack size values) s q h = pushed (eqb maker m)
     where
       pushed : (own : Bool) → Fields Q (stack_pushed own (Stack size values) v).0
-      pushed true = two_nodes (Fields Q) (ltb (length values) size) (Stack size (values ++ v ∷ [])) (Stack size values) Fine StackFull (All-push Q values v h q) h
+      pushed true = two_nodes (Fields Q) (ltb (length values) size) (Stack size (values ++ v ∷
+          [])) (Stack size values) Fine StackFull (All-push Q values v h q) h
       pushed false = h
   changed_fields (change.Pop m) maker (Con tag values) s q h = h
   changed_fields (change.Pop m) maker (Var old) s q h = h
@@ -182,7 +187,8 @@ module _ (Q : Value → Type 0) where
   result_read_has (Stack size values) h = tt
 
   -- and so was what a change answers
-  two_answers : (b : Bool) (made kept : Node) (r s : Reply) → given r ≡ None → given s ≡ None → IfSome (given (cond {A = Node × Reply} b (made, r) (kept, s)).1) Q
+  two_answers : (b : Bool) (made kept : Node) (r s : Reply) → given r ≡ None → given s ≡ None →
+      IfSome (given (cond {A = Node × Reply} b (made, r) (kept, s)).1) Q
   two_answers true made kept r s e d = rw e tt
   two_answers false made kept r s e d = rw d tt
 
@@ -193,13 +199,15 @@ module _ (Q : Value → Type 0) where
   pub answer_has : (c : Change) (maker : ℕ) (node : Node) → IsStrongChange c → Fields Q node → IfSome (given (changed c maker node).1) Q
   answer_has (change.Set index v) maker (Con tag values) s h = tt
   answer_has (change.Set index v) maker (Var old) s h = two_answers (eqb index 0) (Var v) (Var old) Fine NoField refl refl
-  answer_has (change.Set index v) maker (Arr values) s h = two_answers (ltb index (length values)) (Arr (set values index v)) (Arr values) Fine NoField refl refl
+  answer_has (change.Set index v) maker (Arr values) s h =
+      two_answers (ltb index (length values)) (Arr (set values index v)) (Arr values) Fine NoField refl refl
   answer_has (change.Set index v) maker (Thunk free result) s h = tt
   answer_has (change.Set index v) maker (Weak parts) s h = tt
   answer_has (change.Set index v) maker (Stack size values) s h = tt
   answer_has (change.Exchange index expected v) maker (Con tag values) s h = tt
   answer_has (change.Exchange index expected v) maker (Var old) s h = exchanged_answer (slice_get (old ∷ []) index) expected (Var old) (Var v)
-  answer_has (change.Exchange index expected v) maker (Arr values) s h = exchanged_answer (slice_get values index) expected (Arr values) (Arr (set values index v))
+  answer_has (change.Exchange index expected v) maker (Arr values) s h =
+      exchanged_answer (slice_get values index) expected (Arr values) (Arr (set values index v))
   answer_has (change.Exchange index expected v) maker (Thunk free result) s h = tt
   answer_has (change.Exchange index expected v) maker (Weak parts) s h = tt
   answer_has (change.Exchange index expected v) maker (Stack size values) s h = tt
@@ -237,24 +245,28 @@ abbrev Stays : Change → Name → Node → ℕ → Value → Node → Type 0
 Stays c name node i x made = (strong_at made i ≡ Some x) ⊎ Contains (owed_in c name node) x
 
 -- the same for one of two nodes, where the other is the old one
-written_or_kept : (i : ℕ) (x : Value) (owed : List Value) (b : Bool) (made kept : Node) (r s : Reply) → (strong_at made i ≡ Some x) ⊎ Contains owed x → strong_at kept i ≡ Some x → (strong_at (cond {A = Node × Reply} b (made, r) (kept, s)).0 i ≡ Some x) ⊎ Contains owed x
+written_or_kept : (i : ℕ) (x : Value) (owed : List Value) (b : Bool) (made kept : Node) (r s : Reply) → (strong_at made i ≡ Some x) ⊎
+    Contains owed x → strong_at kept i ≡ Some x → (strong_at (cond {A = Node × Reply} b (made, r) (kept, s)).0 i ≡ Some x) ⊎ Contains owed x
 written_or_kept i x owed true made kept r s h k = h
 written_or_kept i x owed false made kept r s h k = inl k
 
 -- a write to an item owes the item
-set_owes : (values : List Value) (index : ℕ) (v : Value) (i : ℕ) (x : Value) → slice_get values i ≡ Some x → (slice_get (set values index v) i ≡ Some x) ⊎ Contains (option_to_list (slice_get values index)) x
+set_owes : (values : List Value) (index : ℕ) (v : Value) (i : ℕ) (x : Value) → slice_get values i ≡ Some x →
+    (slice_get (set values index v) i ≡ Some x) ⊎ Contains (option_to_list (slice_get values index)) x
 set_owes values index v i x h = elim (kept_or_held values index v i x h) [
   | inl e ↦ inl e
   | inr e ↦ inr (contains_option (slice_get values index) x e)
 ]
 
-var_owes : (old : Value) (index i : ℕ) (v x : Value) → slice_get (old ∷ []) i ≡ Some x → (strong_at (cond {A = Node × Reply} (eqb index 0) (Var v, Fine) (Var old, NoField)).0 i ≡ Some x) ⊎ Contains (option_to_list (slice_get (old ∷ []) index)) x
+var_owes : (old : Value) (index i : ℕ) (v x : Value) → slice_get (old ∷ []) i ≡ Some x →
+    (strong_at (cond {A = Node × Reply} (eqb index 0) (Var v, Fine) (Var old, NoField)).0 i ≡ Some x) ⊎ Contains (option_to_list (slice_get (old ∷ []) index)) x
 var_owes old zero zero v x h = inr (contains_option (Some old) x h)
 var_owes old zero (suc i) v x h = absurd cc
 var_owes old (suc index) i v x h = let e : eqb (suc index) 0 ≡ false = ne_eqb (suc index) 0 (λ z. absurd (omega arith)) in rw e (inl h)
 
 -- an exchange owes the item where it writes
-exchange_owes : (i : ℕ) (x : Value) (made kept : Node) (o : Option Value) (expected : Value) → strong_at kept i ≡ Some x → ((strong_at made i ≡ Some x) ⊎ (o ≡ Some x)) → (strong_at (exchanged_at o expected kept made).0 i ≡ Some x) ⊎ Contains (if_same expected o) x
+exchange_owes : (i : ℕ) (x : Value) (made kept : Node) (o : Option Value) (expected : Value) → strong_at kept i ≡ Some x →
+    ((strong_at made i ≡ Some x) ⊎ (o ≡ Some x)) → (strong_at (exchanged_at o expected kept made).0 i ≡ Some x) ⊎ Contains (if_same expected o) x
 exchange_owes i x made kept None expected k h = inl k
 exchange_owes i x made kept (Some old) expected k h = by_test (is_same old expected)
   where
@@ -262,22 +274,27 @@ exchange_owes i x made kept (Some old) expected k h = by_test (is_same old expec
     by_test true = elim h [ inl e ↦ inl e | inr e ↦ inr (contains_option (Some old) x e) ]
     by_test false = inl k
 
-exchange_var : (old : Value) (index i : ℕ) (expected v x : Value) → slice_get (old ∷ []) i ≡ Some x → (strong_at (exchanged_at (slice_get (old ∷ []) index) expected (Var old) (Var v)).0 i ≡ Some x) ⊎ Contains (if_same expected (slice_get (old ∷ []) index)) x
+exchange_var : (old : Value) (index i : ℕ) (expected v x : Value) → slice_get (old ∷ []) i ≡ Some x →
+    (strong_at (exchanged_at (slice_get (old ∷ []) index) expected (Var old) (Var v)).0 i ≡ Some x) ⊎ Contains (if_same expected (slice_get (old ∷ []) index)) x
 exchange_var old zero zero expected v x h = exchange_owes zero x (Var v) (Var old) (Some old) expected h (inr h)
 exchange_var old zero (suc i) expected v x h = absurd cc
 exchange_var old (suc index) i expected v x h = inl h
 
 -- the deletion barrier: a strong field stands after a change, or what it held is owed
-pub stays_or_owed : (c : Change) (name : Name) (node : Node) (i : ℕ) (x : Value) → IsStrongChange c → strong_at node i ≡ Some x → Stays c name node i x (changed c name.maker node).0
+pub stays_or_owed : (c : Change) (name : Name) (node : Node) (i : ℕ) (x : Value) → IsStrongChange c → strong_at node i ≡ Some x →
+    Stays c name node i x (changed c name.maker node).0
 stays_or_owed (change.Set index v) name (Con tag values) i x s h = inl h
 stays_or_owed (change.Set index v) name (Var old) i x s h = var_owes old index i v x h
-stays_or_owed (change.Set index v) name (Arr values) i x s h = written_or_kept i x (option_to_list (slice_get values index)) (ltb index (length values)) (Arr (set values index v)) (Arr values) Fine NoField (set_owes values index v i x h) h
+stays_or_owed (change.Set index v) name (Arr values) i x s h =
+    written_or_kept i x (option_to_list (slice_get values index)) (ltb index (length values)) (Arr (set values index v)) (Arr values) Fine NoField
+    (set_owes values index v i x h) h
 stays_or_owed (change.Set index v) name (Thunk free result) i x s h = inl h
 stays_or_owed (change.Set index v) name (Weak parts) i x s h = inl h
 stays_or_owed (change.Set index v) name (Stack size values) i x s h = inl h
 stays_or_owed (change.Exchange index expected v) name (Con tag values) i x s h = inl h
 stays_or_owed (change.Exchange index expected v) name (Var old) i x s h = exchange_var old index i expected v x h
-stays_or_owed (change.Exchange index expected v) name (Arr values) i x s h = exchange_owes i x (Arr (set values index v)) (Arr values) (slice_get values index) expected h (kept_or_held values index v i x h)
+stays_or_owed (change.Exchange index expected v) name (Arr values) i x s h =
+    exchange_owes i x (Arr (set values index v)) (Arr values) (slice_get values index) expected h (kept_or_held values index v i x h)
 stays_or_owed (change.Exchange index expected v) name (Thunk free result) i x s h = inl h
 stays_or_owed (change.Exchange index expected v) name (Weak parts) i x s h = inl h
 stays_or_owed (change.Exchange index expected v) name (Stack size values) i x s h = inl h
@@ -297,7 +314,8 @@ stays_or_owed (change.Push m v) name (Weak parts) i x s h = inl h
 stays_or_owed (change.Push m v) name (Stack size values) i x s h = pushed (eqb name.maker m)
   where
     pushed : (own : Bool) → (strong_at (stack_pushed own (Stack size values) v).0 i ≡ Some x) ⊎ Contains [] x
-    pushed true = written_or_kept i x [] (ltb (length values) size) (Stack size (values ++ v ∷ [])) (Stack size values) Fine StackFull (inl (slice_get-append values (v ∷ []) i x h)) h
+    pushed true = written_or_kept i x [] (ltb (length values) size) (Stack size (values ++ v ∷
+        [])) (Stack size values) Fine StackFull (inl (slice_get-append values (v ∷ []) i x h)) h
     pushed false = inl h
 stays_or_owed (change.Pop m) name (Con tag values) i x s h = inl h
 stays_or_owed (change.Pop m) name (Var old) i x s h = inl h
@@ -319,14 +337,27 @@ same_later node = record { free = refl; result = λ h. h }
 
 pub changed_later : (c : Change) (maker : ℕ) (node : Node) → IsStrongChange c → IsLater node (changed c maker node).0
 changed_later (change.Set index v) maker (Con tag values) s = same_later _
-changed_later (change.Set index v) maker (Var old) s = two_nodes (IsLater (Var old)) (eqb index 0) (Var v) (Var old) Fine NoField (record { free = refl; result = λ h. h }) (same_later _)
-changed_later (change.Set index v) maker (Arr values) s = two_nodes (IsLater (Arr values)) (ltb index (length values)) (Arr (set values index v)) (Arr values) Fine NoField (record { free = refl; result = λ h. h }) (same_later _)
+changed_later (change.Set index v) maker (Var old) s = two_nodes (IsLater (Var old)) (eqb index 0) (Var v) (Var old) Fine NoField (record {
+  free =
+      refl;
+  result = λ h. h;
+}) (same_later _)
+changed_later (change.Set index v) maker (Arr values) s =
+    two_nodes (IsLater (Arr values)) (ltb index (length values)) (Arr (set values index v)) (Arr values) Fine NoField (record {
+      free = refl;
+      result = λ h. h;
+    }) (same_later _)
 changed_later (change.Set index v) maker (Thunk free result) s = same_later _
 changed_later (change.Set index v) maker (Weak parts) s = same_later _
 changed_later (change.Set index v) maker (Stack size values) s = same_later _
 changed_later (change.Exchange index expected v) maker (Con tag values) s = same_later _
-changed_later (change.Exchange index expected v) maker (Var old) s = exchanged_node (IsLater (Var old)) (slice_get (old ∷ []) index) expected (Var old) (Var v) (record { free = refl; result = λ h. h }) (same_later _)
-changed_later (change.Exchange index expected v) maker (Arr values) s = exchanged_node (IsLater (Arr values)) (slice_get values index) expected (Arr values) (Arr (set values index v)) (record { free = refl; result = λ h. h }) (same_later _)
+changed_later (change.Exchange index expected v) maker (Var old) s =
+    exchanged_node (IsLater (Var old)) (slice_get (old ∷ []) index) expected (Var old) (Var v) (record { free = refl; result = λ h. h }) (same_later _)
+changed_later (change.Exchange index expected v) maker (Arr values) s =
+    exchanged_node (IsLater (Arr values)) (slice_get values index) expected (Arr values) (Arr (set values index v)) (record {
+      free = refl;
+      result = λ h. h;
+    }) (same_later _)
 changed_later (change.Exchange index expected v) maker (Thunk free result) s = same_later _
 changed_later (change.Exchange index expected v) maker (Weak parts) s = same_later _
 changed_later (change.Exchange index expected v) maker (Stack size values) s = same_later _
@@ -345,7 +376,8 @@ changed_later (change.Push m v) maker (Weak parts) s = same_later _
 changed_later (change.Push m v) maker (Stack size values) s = pushed (eqb maker m)
   where
     pushed : (own : Bool) → IsLater (Stack size values) (stack_pushed own (Stack size values) v).0
-    pushed true = two_nodes (IsLater (Stack size values)) (ltb (length values) size) (Stack size (values ++ v ∷ [])) (Stack size values) Fine StackFull (record { free = refl; result = λ h. h }) (same_later _)
+    pushed true = two_nodes (IsLater (Stack size values)) (ltb (length values) size) (Stack size (values ++ v ∷
+        [])) (Stack size values) Fine StackFull (record { free = refl; result = λ h. h }) (same_later _)
     pushed false = same_later _
 changed_later (change.Pop m) maker (Con tag values) s = same_later _
 changed_later (change.Pop m) maker (Var old) s = same_later _

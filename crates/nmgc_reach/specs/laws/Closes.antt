@@ -64,13 +64,21 @@ module _ (i : Interval) (sound : IsSound i) where
         there = live.there;
       }
     where
-      from_live : (w : World) → LiveHeld i.snapshot (opened i.snapshot i.rows) w → (n : Name) (node : Node) → node_of w n ≡ Some node → IsLiveOrNew i.snapshot (opened i.snapshot i.rows) n → All (Names Kept) (strong_fields node)
-      from_live w live n node e may = lives_kept (strong_fields node) (at_some (node_of w n) node (Fields (Names (IsLiveOrNew i.snapshot (opened i.snapshot i.rows)))) e (live.holds.fields n may))
+      from_live : (w : World) → LiveHeld i.snapshot (opened i.snapshot i.rows) w → (n : Name) (node : Node) → node_of w n ≡ Some node →
+          IsLiveOrNew i.snapshot (opened i.snapshot i.rows) n → All (Names Kept) (strong_fields node)
+      from_live w live n node e may =
+          lives_kept (strong_fields node) (at_some (node_of w n) node (Fields (Names (IsLiveOrNew i.snapshot (opened i.snapshot i.rows)))) e
+          (live.holds.fields n may))
 
-      may_field : (w : World) → LiveHeld i.snapshot (opened i.snapshot i.rows) w → (n : Name) (node : Node) → node_of w n ≡ Some node → IsLive i.snapshot (opened i.snapshot i.rows) n → (target : Name) → Contains (strong_fields node) (value.Ref target) → IsLiveOrNew i.snapshot (opened i.snapshot i.rows) target
-      may_field w live n node e is target held = All-contains (Names (IsLiveOrNew i.snapshot (opened i.snapshot i.rows))) (strong_fields node) (value.Ref target) (at_some (node_of w n) node (Fields (Names (IsLiveOrNew i.snapshot (opened i.snapshot i.rows)))) e (live.holds.fields n (λ there. is))) held
+      may_field : (w : World) → LiveHeld i.snapshot (opened i.snapshot i.rows) w → (n : Name) (node : Node) → node_of w n ≡ Some node →
+          IsLive i.snapshot (opened i.snapshot i.rows) n → (target : Name) → Contains (strong_fields node) (value.Ref target) →
+          IsLiveOrNew i.snapshot (opened i.snapshot i.rows) target
+      may_field w live n node e is target held =
+          All-contains (Names (IsLiveOrNew i.snapshot (opened i.snapshot i.rows))) (strong_fields node) (value.Ref target)
+          (at_some (node_of w n) node (Fields (Names (IsLiveOrNew i.snapshot (opened i.snapshot i.rows)))) e (live.holds.fields n (λ there. is))) held
 
-      by_old : (w : World) → LiveHeld i.snapshot (opened i.snapshot i.rows) w → (n : Name) → Kept n → (node : Node) → node_of w n ≡ Some node → (o : Option Node) → node_of i.snapshot n ≡ o → All (Names Kept) (strong_fields node)
+      by_old : (w : World) → LiveHeld i.snapshot (opened i.snapshot i.rows) w → (n : Name) → Kept n → (node : Node) → node_of w n ≡ Some node →
+          (o : Option Node) → node_of i.snapshot n ≡ o → All (Names Kept) (strong_fields node)
       by_old w live n kept node e None old = from_live w live n node e (λ there. absurd (absent (node_of i.snapshot n) old there))
       by_old w live n kept node e (Some before) old = values_names Kept (strong_fields node) (λ target held there lost. undecided (λ d. elim d [
         | inl is ↦ lost (IsKept.live target (may_field w live n node e is target held there))
@@ -80,7 +88,8 @@ module _ (i : Interval) (sound : IsSound i) where
             kept in_snapshot (λ k. lost (IsKept.field n target k (node, same, held)))
       ]))
 
-      by_node : (w : World) → LiveHeld i.snapshot (opened i.snapshot i.rows) w → (n : Name) → Kept n → (o : Option Node) → node_of w n ≡ o → IfSome o (Fields (Names Kept))
+      by_node : (w : World) → LiveHeld i.snapshot (opened i.snapshot i.rows) w → (n : Name) → Kept n → (o : Option Node) → node_of w n ≡ o →
+          IfSome o (Fields (Names Kept))
       by_node w live n kept None e = tt
       by_node w live n kept (Some node) e = by_old w live n kept node e (node_of i.snapshot n) refl
 
@@ -102,7 +111,9 @@ module _ (i : Interval) (sound : IsSound i) where
         | inl same ↦ subst (λ (values : List Value). All (Names Kept) values) (sym same) (h.holds.queues k)
         | inr more ↦ elim more.2 [
           | inl same ↦ subst (λ (values : List Value). All (Names Kept) values) (sym same) (h.holds.queues k)
-          | inr joined ↦ subst (λ (values : List Value). All (Names Kept) values) (sym joined) (All-push (Names Kept) (state_of w k).queue more.0.finaliser (h.holds.queues k) (finaliser_kept w h d dead more.0 more.1))
+          | inr joined ↦ subst (λ (values : List Value).
+              All (Names Kept) values) (sym joined) (All-push (Names Kept) (state_of w k).queue more.0.finaliser (h.holds.queues k)
+              (finaliser_kept w h d dead more.0 more.1))
         ]
       ];
       fields = λ n kept. elim (dies.nodes n) [
@@ -119,7 +130,8 @@ module _ (i : Interval) (sound : IsSound i) where
 
   deaths : (w : World) (dead : List Name) → ((n : Name) → Contains dead n → IsDeadAfter i n) → Closing w → Closing (closed w dead)
   deaths w [] all h = h
-  deaths w (d ∷ dead) all h = deaths (closed_by w d (node_of w d)) dead (λ n k. all n (contains_tail d dead n k)) (death w (closed_by w d (node_of w d)) d (all d (contains_head d dead)) (dies_by w h.world d) h)
+  deaths w (d ∷ dead) all h = deaths (closed_by w d (node_of w d)) dead (λ n k.
+      all n (contains_tail d dead n k)) (death w (closed_by w d (node_of w d)) d (all d (contains_head d dead)) (dies_by w h.world d) h)
 
   -- after the last death: the key of what is alive is plain, or live
   module _ (dead : List Name) (lists : Lists (IsDeadAfter i) dead) where
@@ -130,7 +142,10 @@ module _ (i : Interval) (sound : IsSound i) where
     ended = deaths (replayed i.snapshot i.rows) dead lists.sound begins
 
     unfinalised : (n : Name) (parts : Parts) → IsAlive last n parts → Contains (finalised i.snapshot i.rows) n → ⊥
-    unfinalised n parts alive = alive_has (λ k p. Contains (finalised i.snapshot i.rows) k → ⊥) last (closed_weaks (λ k p. Contains (finalised i.snapshot i.rows) k → ⊥) (replayed i.snapshot i.rows) dead begins.world (alive_ok (λ k p. Contains (finalised i.snapshot i.rows) k → ⊥) (replayed i.snapshot i.rows) (λ k p e. finalised_dead i.snapshot i.rows sound.world sound.rows k p e))) n parts alive
+    unfinalised n parts alive = alive_has (λ k p. Contains (finalised i.snapshot i.rows) k →
+        ⊥) last (closed_weaks (λ k p. Contains (finalised i.snapshot i.rows) k →
+        ⊥) (replayed i.snapshot i.rows) dead begins.world (alive_ok (λ k p. Contains (finalised i.snapshot i.rows) k →
+        ⊥) (replayed i.snapshot i.rows) (λ k p e. finalised_dead i.snapshot i.rows sound.world sound.rows k p e))) n parts alive
 
     -- the key of an alive weak pointer of the snapshot is plain, or live
     abbrev IsLiveKey : Value → Type 0
@@ -145,13 +160,21 @@ module _ (i : Interval) (sound : IsSound i) where
         by_key (value.Number k) e = not_live (inl (subst IsPlain (sym e) tt))
         by_key (value.Ref key) e = undecided (λ d. elim d [
           | inl is ↦ not_live (inr (key, e, is))
-          | inr not ↦ closed_dead (replayed i.snapshot i.rows) dead begins.world n (lists.complete n (record { parts = parts; alive = then; not_finalised = unfinalised n parts alive; key = key; key_is = e; lost = not })) parts alive
+          | inr not ↦ closed_dead (replayed i.snapshot i.rows) dead begins.world n (lists.complete n (record {
+            parts = parts;
+            alive = then;
+            not_finalised = unfinalised n parts alive;
+            key = key;
+            key_is = e;
+            lost = not;
+          })) parts alive
         ])
 
     part_kept : (weak name : Name) (parts : Parts) → IsAlive last weak parts → IsOfWeak weak parts name → Kept name
     part_kept weak name parts alive of = by_old (node_of i.snapshot weak) refl
       where
-        as_then : (IsSome (node_of i.snapshot weak) → IsAlive i.snapshot weak parts) × ((IsSome (node_of i.snapshot weak) → ⊥) → OfParts (IsLiveOrNew i.snapshot (opened i.snapshot i.rows)) parts)
+        as_then : (IsSome (node_of i.snapshot weak) → IsAlive i.snapshot weak parts) ×
+            ((IsSome (node_of i.snapshot weak) → ⊥) → OfParts (IsLiveOrNew i.snapshot (opened i.snapshot i.rows)) parts)
         as_then = alive_has (AsThen i.snapshot (opened i.snapshot i.rows)) last ended.alive weak parts alive
 
         new_part : (IsSome (node_of i.snapshot weak) → ⊥) → IsOfWeak weak parts name → Kept name
@@ -166,7 +189,8 @@ module _ (i : Interval) (sound : IsSound i) where
         old_part then (inl plain) (inr (inr (inl e))) = IsLive.plain_key weak name parts then plain (inr (inl e))
         old_part then (inl plain) (inr (inr (inr e))) = IsLive.plain_key weak name parts then plain (inr (inr e))
         old_part then (inr k) (inl e) = IsLive.live_key weak name k.0 parts then k.1 k.2 (inl e)
-        old_part then (inr k) (inr (inl e)) = let same : k.0 ≡ name = (let both : value.Ref k.0 ≡ value.Ref name = sym k.1 ∙ e in cc) in subst (IsLive i.snapshot (opened i.snapshot i.rows)) same k.2
+        old_part then (inr k) (inr (inl e)) = let same : k.0 ≡ name = (let both : value.Ref k.0 ≡ value.Ref name = sym k.1 ∙ e in cc) in
+            subst (IsLive i.snapshot (opened i.snapshot i.rows)) same k.2
         old_part then (inr k) (inr (inr (inl e))) = IsLive.live_key weak name k.0 parts then k.1 k.2 (inr (inl e))
         old_part then (inr k) (inr (inr (inr e))) = IsLive.live_key weak name k.0 parts then k.1 k.2 (inr (inr e))
 
@@ -179,7 +203,9 @@ module _ (i : Interval) (sound : IsSound i) where
     held_last : HoldsOnly Kept last
     held_last = record {
       roots = root;
-      fields = λ name target kept r. All-contains (Names Kept) (strong_fields r.0) (value.Ref target) (at_some (node_of last name) r.0 (Fields (Names Kept)) r.1 (ended.holds.fields name kept)) r.2;
+      fields = λ name target kept r.
+          All-contains (Names Kept) (strong_fields r.0) (value.Ref target)
+          (at_some (node_of last name) r.0 (Fields (Names Kept)) r.1 (ended.holds.fields name kept)) r.2;
       weaks = λ weak name parts alive of. part_kept weak name parts alive of;
     }
       where

@@ -56,12 +56,14 @@ keeping_nodes w m dest reply.StackFull lt n = refl
 keeping_nodes w m dest reply.StackEmpty lt n = refl
 
 -- the object that is finalised dies
-object_dies : (w : World) (v : Value) (n : Name) → Contains (finalised_in v (object_of w v)) n → (node_of (change_object w v change.Finalise).0 n ≡ Some (Weak None)) × (length (change_object w v change.Finalise).0.mutators ≡ length w.mutators)
+object_dies : (w : World) (v : Value) (n : Name) → Contains (finalised_in v (object_of w v)) n →
+    (node_of (change_object w v change.Finalise).0 n ≡ Some (Weak None)) × (length (change_object w v change.Finalise).0.mutators ≡ length w.mutators)
 object_dies w value.Nil n c = absurd (nothing_in n c)
 object_dies w (value.Number k) n c = absurd (nothing_in n c)
 object_dies w (value.Ref own) n c = by_node (node_of w own) refl c
   where
-    by_node : (o : Option Node) → node_of w own ≡ o → Contains (finalised_in (value.Ref own) o) n → (node_of (change_node w own o change.Finalise).0 n ≡ Some (Weak None)) × (length (change_node w own o change.Finalise).0.mutators ≡ length w.mutators)
+    by_node : (o : Option Node) → node_of w own ≡ o → Contains (finalised_in (value.Ref own) o) n →
+        (node_of (change_node w own o change.Finalise).0 n ≡ Some (Weak None)) × (length (change_node w own o change.Finalise).0.mutators ≡ length w.mutators)
     by_node None e d = absurd (nothing_in n d)
     by_node (Some (Con tag values)) e d = absurd (nothing_in n d)
     by_node (Some (Var x)) e d = absurd (nothing_in n d)
@@ -77,25 +79,31 @@ object_dies w (value.Ref own) n c = by_node (node_of w own) refl c
     ]
     by_node (Some (Stack size values)) e d = absurd (nothing_in n d)
 
-step_dies : (w : World) (m : ℕ) (c : Command) → m < length w.mutators → (n : Name) → Contains (finalised_by w m c) n → node_of (step w m c).0 n ≡ Some (Weak None)
+step_dies : (w : World) (m : ℕ) (c : Command) → m < length w.mutators → (n : Name) → Contains (finalised_by w m c) n →
+    node_of (step w m c).0 n ≡ Some (Weak None)
 step_dies w m (command.Finalise dest object) lt n c =
     let d = object_dies w (value_for w m object) n c in
-    keeping_nodes (change_object w (value_for w m object) change.Finalise).0 m dest (change_object w (value_for w m object) change.Finalise).1 (subst (λ (k : ℕ). m < k) (sym d.1) lt) n ∙ d.0
+    keeping_nodes (change_object w (value_for w m object) change.Finalise).0 m dest (change_object w (value_for w m object) change.Finalise).1
+    (subst (λ (k : ℕ). m < k) (sym d.1) lt) n ∙ d.0
 step_dies w m _ lt n c = absurd (nothing_in n c)
 
 -- a name that is none of an alive weak pointer stays so
 abbrev Other : Name → Name → Parts → Type 0
 Other n k parts = k ≡ n → ⊥
 
-stays_dead : (w : World) (rows : List Row) → IsWorld w → CanReplay w rows → (n : Name) → IsSome (node_of w n) → WeaksOk (Other n) w → WeaksOk (Other n) (replayed w rows)
+stays_dead : (w : World) (rows : List Row) → IsWorld w → CanReplay w rows → (n : Name) → IsSome (node_of w n) → WeaksOk (Other n) w →
+    WeaksOk (Other n) (replayed w rows)
 stays_dead w [] is can n there h = h
 stays_dead w (row ∷ rows) is can n there h =
     let own : row.mutator ≢ SHARED_MAKER = not_shared w row.mutator is can.0.mutator in
-    stays_dead (step w row.mutator row.command).0 rows (step_keeps_world w row.mutator row.command is can.0) can.1 n ((step_grows w row.mutator row.command can.0.mutator).names n there)
-    (step_weaks (Other n) w row.mutator row.command can.0.mutator own (λ key v finaliser same. absent (node_of w n) (ap (λ (k : Name). node_of w k) (sym same) ∙ next_is_new w row.mutator own) there) h)
+    stays_dead (step w row.mutator row.command).0 rows (step_keeps_world w row.mutator row.command is can.0) can.1 n
+    ((step_grows w row.mutator row.command can.0.mutator).names n there)
+    (step_weaks (Other n) w row.mutator row.command can.0.mutator own (λ key v finaliser same.
+    absent (node_of w n) (ap (λ (k : Name). node_of w k) (sym same) ∙ next_is_new w row.mutator own) there) h)
 
 -- after rows no finalised weak pointer is alive
-pub finalised_dead : (w : World) (rows : List Row) → IsWorld w → CanReplay w rows → (n : Name) (parts : Parts) → IsAlive (replayed w rows) n parts → Contains (finalised w rows) n → ⊥
+pub finalised_dead : (w : World) (rows : List Row) → IsWorld w → CanReplay w rows → (n : Name) (parts : Parts) → IsAlive (replayed w rows) n parts →
+    Contains (finalised w rows) n → ⊥
 finalised_dead w [] is can n parts alive c = nothing_in n c
 finalised_dead w (row ∷ rows) is can n parts alive c =
     let v : World = (step w row.mutator row.command).0 in
@@ -104,7 +112,8 @@ finalised_dead w (row ∷ rows) is can n parts alive c =
       | inl here ↦
           let dead : node_of v n ≡ Some (Weak None) = step_dies w row.mutator row.command can.0.mutator n here in
           let there : IsSome (node_of v n) = some_of (node_of v n) (Weak None) dead in
-          let none : WeaksOk (Other n) v = alive_ok (Other n) v (λ k p e same. not_alive (node_of v n) p dead (ap (λ (j : Name). node_of v j) (sym same) ∙ e)) in
+          let none : WeaksOk (Other n) v = alive_ok (Other n) v (λ k p e same.
+          not_alive (node_of v n) p dead (ap (λ (j : Name). node_of v j) (sym same) ∙ e)) in
           alive_has (Other n) (replayed v rows) (stays_dead v rows world can.1 n there none) n parts alive refl
       | inr later ↦ finalised_dead v rows world can.1 n parts alive later
     ]
@@ -128,7 +137,15 @@ pub record Dies (w v : World) (d : Name) : Type 0 where
 
 -- it was dead
 was_dead : (w : World) → IsWorld w → (d : Name) → ((parts : Parts) → IsAlive w d parts → ⊥) → Dies w w d
-was_dead w is d not = record { world = is; nodes = λ n. inl refl; dead = not; registers = λ k. refl; queues = λ k. inl refl; mutators = refl; serials = λ k. refl }
+was_dead w is d not = record {
+  world = is;
+  nodes = λ n. inl refl;
+  dead = not;
+  registers = λ k. refl;
+  queues = λ k. inl refl;
+  mutators = refl;
+  serials = λ k. refl;
+}
 
 queued_nodes : (state : MutatorState) (v : Value) → (queued state v).nodes ≡ state.nodes
 queued_nodes state value.Nil = refl
@@ -154,7 +171,9 @@ dies_alive w is d parts alive =
     let q : MutatorState = with_dead (state_of w d.maker) d.serial parts.finaliser in
     let v : World = with_state w d.maker q in
     let is_v : closed_by w d (Some (Weak (Some parts))) ≡ v = closed_state w d parts lt ne in
-    let at : node_of v d ≡ Some (Weak None) = node_same w d.maker q lt ne d refl ∙ ap (λ (nodes : List Node). slice_get nodes d.serial) (queued_nodes state parts.finaliser) ∙ slice_get-set_same (state_of w d.maker).nodes d.serial (Weak None) (weak_within w is d (parts, alive)) in
+    let at : node_of v d ≡ Some (Weak None) = node_same w d.maker q lt ne d refl ∙
+    ap (λ (nodes : List Node). slice_get nodes d.serial) (queued_nodes state parts.finaliser) ∙
+    slice_get-set_same (state_of w d.maker).nodes d.serial (Weak None) (weak_within w is d (parts, alive)) in
     let dies : Dies w v d = record {
       world = dead_keeps w is d (parts, alive);
       nodes = λ n. elim (name_cases n d) [
@@ -163,12 +182,14 @@ dies_alive w is d parts alive =
       ];
       dead = λ p e. not_alive (node_of v d) p at e;
       registers = λ k. elim (cases_eq k d.maker) [
-        | inl e ↦ ap (λ (j : ℕ). (state_of v j).registers) e ∙ ap (λ (s : MutatorState). s.registers) (state_same w d.maker q lt) ∙ queued_registers state parts.finaliser ∙ ap (λ (j : ℕ). (state_of w j).registers) (sym e)
+        | inl e ↦ ap (λ (j : ℕ). (state_of v j).registers) e ∙ ap (λ (s : MutatorState). s.registers) (state_same w d.maker q lt) ∙
+            queued_registers state parts.finaliser ∙ ap (λ (j : ℕ). (state_of w j).registers) (sym e)
         | inr other ↦ ap (λ (s : MutatorState). s.registers) (state_other w d.maker q lt k other)
       ];
       queues = λ k. elim (cases_eq k d.maker) [
         | inl e ↦
-            let new : (state_of v k).queue ≡ q.queue = ap (λ (j : ℕ). (state_of v j).queue) e ∙ ap (λ (s : MutatorState). s.queue) (state_same w d.maker q lt) in
+            let new : (state_of v k).queue ≡ q.queue = ap (λ (j : ℕ). (state_of v j).queue) e ∙
+            ap (λ (s : MutatorState). s.queue) (state_same w d.maker q lt) in
             let old : state.queue ≡ (state_of w k).queue = ap (λ (j : ℕ). (state_of w j).queue) (sym e) in
             inr (
               parts,
@@ -182,7 +203,9 @@ dies_alive w is d parts alive =
       ];
       mutators = length-set w.mutators d.maker q;
       serials = λ k. elim (cases_eq k d.maker) [
-        | inl e ↦ ap (λ (j : ℕ). serial_of v j) e ∙ ap (λ (s : MutatorState). length s.nodes) (state_same w d.maker q lt) ∙ ap (λ (nodes : List Node). length nodes) (queued_nodes state parts.finaliser) ∙ length-set (state_of w d.maker).nodes d.serial (Weak None) ∙ ap (λ (j : ℕ). serial_of w j) (sym e)
+        | inl e ↦ ap (λ (j : ℕ). serial_of v j) e ∙ ap (λ (s : MutatorState). length s.nodes) (state_same w d.maker q lt) ∙
+            ap (λ (nodes : List Node). length nodes) (queued_nodes state parts.finaliser) ∙
+            length-set (state_of w d.maker).nodes d.serial (Weak None) ∙ ap (λ (j : ℕ). serial_of w j) (sym e)
         | inr other ↦ ap (λ (s : MutatorState). length s.nodes) (state_other w d.maker q lt k other)
       ];
     } in
@@ -214,7 +237,8 @@ dies_weaks R w v d dies h n = elim (dies.nodes n) [
 
 pub closed_weaks : (R : Name → Parts → Type 0) (w : World) (dead : List Name) → IsWorld w → WeaksOk R w → WeaksOk R (closed w dead)
 closed_weaks R w [] is h = h
-closed_weaks R w (d ∷ dead) is h = let dies = dies_by w is d in closed_weaks R (closed_by w d (node_of w d)) dead dies.world (dies_weaks R w (closed_by w d (node_of w d)) d dies h)
+closed_weaks R w (d ∷ dead) is h = let dies = dies_by w is d in
+    closed_weaks R (closed_by w d (node_of w d)) dead dies.world (dies_weaks R w (closed_by w d (node_of w d)) d dies h)
 
 -- what died is dead in the end
 pub closed_dead : (w : World) (dead : List Name) → IsWorld w → (n : Name) → Contains dead n → (parts : Parts) → IsAlive (closed w dead) n parts → ⊥
@@ -242,7 +266,8 @@ death_names w v d n dies there = elim (dies.nodes n) [
 
 pub closed_names : (w : World) (dead : List Name) → IsWorld w → (n : Name) → IsSome (node_of w n) → IsSome (node_of (closed w dead) n)
 closed_names w [] is n there = there
-closed_names w (d ∷ dead) is n there = let dies = dies_by w is d in closed_names (closed_by w d (node_of w d)) dead dies.world n (death_names w (closed_by w d (node_of w d)) d n dies there)
+closed_names w (d ∷ dead) is n there = let dies = dies_by w is d in
+    closed_names (closed_by w d (node_of w d)) dead dies.world n (death_names w (closed_by w d (node_of w d)) d n dies there)
 
 pub closed_mutators : (w : World) (dead : List Name) → IsWorld w → length (closed w dead).mutators ≡ length w.mutators
 closed_mutators w [] is = refl
@@ -277,4 +302,5 @@ pub closing_leaves_hands : ClosingLeavesHands
 closing_leaves_hands w [] is m = same_queue (state_of w m) (state_of w m) refl refl refl
 closing_leaves_hands w (d ∷ dead) is m =
     let dies = dies_by w is d in
-    then_grows (state_of w m) (state_of (closed_by w d (node_of w d)) m) (state_of (closed w (d ∷ dead)) m) (death_hands w (closed_by w d (node_of w d)) d dies m) (closing_leaves_hands (closed_by w d (node_of w d)) dead dies.world m)
+    then_grows (state_of w m) (state_of (closed_by w d (node_of w d)) m) (state_of (closed w (d ∷
+    dead)) m) (death_hands w (closed_by w d (node_of w d)) d dies m) (closing_leaves_hands (closed_by w d (node_of w d)) dead dies.world m)

@@ -115,8 +115,12 @@ module _ (P : Name → Type 0) where
   -- the two forms of 'is held', for values and for names
   pub held : (w : World) → HoldsOnly P w → CoversReach P w
   held w h = record {
-    registers = λ k. values_names (state_of w k).registers (λ n c. h.roots n (inr (k, Contains-append_left (state_of w k).registers (state_of w k).queue (value.Ref n) c)));
-    queues = λ k. values_names (state_of w k).queue (λ n c. h.roots n (inr (k, Contains-append_right (state_of w k).registers (state_of w k).queue (value.Ref n) c)));
+    registers = λ k. values_names (state_of w k).registers (λ n c.
+        h.roots n (inr (k, Contains-append_left (state_of w k).registers (state_of w k).queue (value.Ref n) c)));
+    queues = λ k. values_names (state_of w k).queue (λ n c. h.roots n (inr (
+      k,
+      Contains-append_right (state_of w k).registers (state_of w k).queue (value.Ref n) c,
+    )));
     fields = λ name p. by_node name p (node_of w name) refl;
   }
     where
@@ -125,12 +129,20 @@ module _ (P : Name → Type 0) where
       by_node name p (Some node) e = values_names (strong_fields node) (λ n c. h.fields name n p (node, e, c))
 
   pub weaks_held : (w : World) → HoldsOnly P w → WeaksOk OfNames w
-  weaks_held w h = alive_ok OfNames w (λ name parts e. (h.weaks name name parts e (inl refl), (value_names parts.key (λ n is. h.weaks name n parts e (inr (inl is))), value_names parts.value (λ n is. h.weaks name n parts e (inr (inr (inl is)))), value_names parts.finaliser (λ n is. h.weaks name n parts e (inr (inr (inr is)))))))
+  weaks_held w h = alive_ok OfNames w (λ name parts e. (
+    h.weaks name name parts e (inl refl),
+    (
+      value_names parts.key (λ n is. h.weaks name n parts e (inr (inl is))),
+      value_names parts.value (λ n is. h.weaks name n parts e (inr (inr (inl is)))),
+      value_names parts.finaliser (λ n is. h.weaks name n parts e (inr (inr (inr is)))),
+    ),
+  ))
 
   pub holds_only : (w : World) → P shared_name → CoversReach P w → WeaksOk OfNames w → HoldsOnly P w
   holds_only w g k h = record {
     roots = root;
-    fields = λ name target p r. All-contains (Names P) (strong_fields r.0) (value.Ref target) (at_some (node_of w name) r.0 (Fields (Names P)) r.1 (k.fields name p)) r.2;
+    fields = λ name target p r.
+        All-contains (Names P) (strong_fields r.0) (value.Ref target) (at_some (node_of w name) r.0 (Fields (Names P)) r.1 (k.fields name p)) r.2;
     weaks = λ weak name parts alive of. part weak name parts (alive_has OfNames w h weak parts alive) of;
   }
     where

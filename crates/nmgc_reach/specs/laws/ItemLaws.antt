@@ -41,14 +41,16 @@ slice_get-take (suc n) (x ∷ xs) zero lt = refl
 slice_get-take (suc n) (x ∷ xs) (suc i) lt = slice_get-take n xs i (omega arith)
 
 -- an item is still there after a write, or was where the write is
-pub kept_or_held : {A : Type 0} (xs : List A) (index : ℕ) (v : A) (i : ℕ) (x : A) → slice_get xs i ≡ Some x → (slice_get (set xs index v) i ≡ Some x) ⊎ (slice_get xs index ≡ Some x)
+pub kept_or_held : {A : Type 0} (xs : List A) (index : ℕ) (v : A) (i : ℕ) (x : A) → slice_get xs i ≡ Some x →
+    (slice_get (set xs index v) i ≡ Some x) ⊎ (slice_get xs index ≡ Some x)
 kept_or_held xs index v i x h = elim (cases_eq i index) [
   | inl e ↦ inr (subst (λ j. slice_get xs j ≡ Some x) e h)
   | inr ne ↦ inl (slice_get-set_other xs index i v ne ∙ h)
 ]
 
 -- an item is still there after the last went off, or was the last
-pub kept_or_last : {A : Type 0} (xs : List A) (i : ℕ) (x : A) → slice_get xs i ≡ Some x → (slice_get (take (length xs - 1) xs) i ≡ Some x) ⊎ (slice_get xs (length xs - 1) ≡ Some x)
+pub kept_or_last : {A : Type 0} (xs : List A) (i : ℕ) (x : A) → slice_get xs i ≡ Some x → (slice_get (take (length xs - 1) xs) i ≡ Some x) ⊎
+    (slice_get xs (length xs - 1) ≡ Some x)
 kept_or_last xs i x h =
     let lt : i < length xs = slice_get_within xs i x h in
     elim (cases_eq i (length xs - 1)) [

@@ -34,16 +34,23 @@ module _ (Q : Value → Type 0) (named : (name : Name) → Q (value.Ref name)) w
   abbrev pub HandHas : MutatorState → Type 0
   HandHas s = All Q s.registers × All Q s.queue
 
-  object_hands : (w : World) (m : ℕ) (c : Command) (v : World) → m < length w.mutators → Object Q w m c v → ((k : ℕ) → HandHas (state_of w k)) → (k : ℕ) → HandHas (state_of v k)
+  object_hands : (w : World) (m : ℕ) (c : Command) (v : World) → m < length w.mutators → Object Q w m c v → ((k : ℕ) → HandHas (state_of w k)) →
+      (k : ℕ) → HandHas (state_of v k)
   object_hands w m c v lt (Object.same e) h k = subst (λ (u : World). HandHas (state_of u k)) (sym e) (h k)
-  object_hands w m c v lt (Object.birth register made is e) h k = subst (λ (u : World). HandHas (state_of u k)) (sym e) (each_state w m _ lt HandHas (All-set Q (state_of w m).registers register (value.Ref (next_name (state_of w m) m)) (named (next_name (state_of w m) m)) (h m).0, (h m).1) h k)
-  object_hands w m c v lt (Object.write name found ch there asks q e) h k = subst (λ (u : World). HandHas (state_of u k)) (sym e) (states_kept w name found (changed ch name.maker found).0 there HandHas (λ s nodes r. r) h k)
+  object_hands w m c v lt (Object.birth register made is e) h k =
+      subst (λ (u : World).
+      HandHas (state_of u k)) (sym e) (each_state w m _ lt HandHas
+      (All-set Q (state_of w m).registers register (value.Ref (next_name (state_of w m) m)) (named (next_name (state_of w m) m)) (h m).0, (h m).1) h k)
+  object_hands w m c v lt (Object.write name found ch there asks q e) h k =
+      subst (λ (u : World). HandHas (state_of u k)) (sym e) (states_kept w name found (changed ch name.maker found).0 there HandHas (λ s nodes r. r) h k)
 
   hand_hands : (w : World) (m : ℕ) (v : World) → m < length w.mutators → Hand Q w m v → ((k : ℕ) → HandHas (state_of w k)) → (k : ℕ) → HandHas (state_of v k)
   hand_hands w m v lt (Hand.same e) h k = subst (λ (u : World). HandHas (state_of u k)) (sym e) (h k)
-  hand_hands w m v lt (Hand.other registers queue e hr hq) h k = subst (λ (u : World). HandHas (state_of u k)) (sym e) (each_state w m _ lt HandHas (hr, hq) h k)
+  hand_hands w m v lt (Hand.other registers queue e hr hq) h k =
+      subst (λ (u : World). HandHas (state_of u k)) (sym e) (each_state w m _ lt HandHas (hr, hq) h k)
 
-  pub stepped_hands : (w : World) (m : ℕ) (c : Command) (v : World) → m < length w.mutators → Stepped Q w m c v → ((k : ℕ) → HandHas (state_of w k)) → (k : ℕ) → HandHas (state_of v k)
+  pub stepped_hands : (w : World) (m : ℕ) (c : Command) (v : World) → m < length w.mutators → Stepped Q w m c v →
+      ((k : ℕ) → HandHas (state_of w k)) → (k : ℕ) → HandHas (state_of v k)
   stepped_hands w m c v lt s h = hand_hands s.between m v (still_there Q w m c v lt s) s.hand (object_hands w m c s.between lt s.object h)
 
 -- the node that a command makes is within the limits
@@ -70,7 +77,13 @@ module _ (words : ℕ) (w : World) (m : ℕ) (h : IsWithin words w) where
       let low : length free ≤ 8 = f.numbers in
       let few : 3 + length free ≤ words = f.size in
       (operands_held IsSmall (state_of w m).registers free tt tt (h.registers m), omega (arith, count, low), omega (arith, count, few))
-  made_fits (command.Weak dest key v finaliser) f = (All-cons IsSmall (value_for w m key) (value_for w m v ∷ value_for w m finaliser ∷ []) (small key) (All-cons IsSmall (value_for w m v) (value_for w m finaliser ∷ []) (small v) (All-cons IsSmall (value_for w m finaliser) [] (small finaliser) (All-nil IsSmall))), tt, f.size)
+  made_fits (command.Weak dest key v finaliser) f = (
+    All-cons IsSmall (value_for w m key) (value_for w m v ∷ value_for w m finaliser ∷
+        []) (small key) (All-cons IsSmall (value_for w m v) (value_for w m finaliser ∷
+        []) (small v) (All-cons IsSmall (value_for w m finaliser) [] (small finaliser) (All-nil IsSmall))),
+    tt,
+    f.size,
+  )
   made_fits (command.Stack dest size) f = (All-nil IsSmall, f.numbers, f.size)
   made_fits _ f = tt
 
@@ -89,10 +102,13 @@ module _ (words : ℕ) (w : World) (m : ℕ) (h : IsWithin words w) where
   within_steps c f = step_is IsSmall w m c all_small (record { nil = tt; shared = tt; number = number_fits c f })
 
 -- the shape is the same, so the limits are
-shape_within : (words : ℕ) (name : Name) (before after : Node) → SameShape before after → All IsSmall (held_by after) → IsNodeWithin words name before → IsNodeWithin words name after
+shape_within : (words : ℕ) (name : Name) (before after : Node) → SameShape before after → All IsSmall (held_by after) →
+    IsNodeWithin words name before → IsNodeWithin words name after
 shape_within words name before after s held h = record {
   held = held;
-  shape = subst (λ (kind : Kind). HasLimits kind (tag_of after) (part_count after)) (sym s.kind) (subst (λ (tag : ℕ). HasLimits (kind_of before) tag (part_count after)) (sym s.tag) (subst (λ (parts : ℕ). HasLimits (kind_of before) (tag_of before) parts) (sym s.parts) h.shape));
+  shape = subst (λ (kind : Kind). HasLimits kind (tag_of after) (part_count after)) (sym s.kind) (subst (λ (tag : ℕ).
+      HasLimits (kind_of before) tag (part_count after)) (sym s.tag) (subst (λ (parts : ℕ).
+      HasLimits (kind_of before) (tag_of before) parts) (sym s.parts) h.shape));
   size = λ ne. let old : words_of before ≤ words = h.size ne in let same : part_count after ≡ part_count before = s.parts in omega (arith, old, same);
 }
 
@@ -105,8 +121,11 @@ step_keeps_limits words w m c is can f h =
       registers = λ k. (hands k).0;
       queues = λ k. (hands k).1;
       nodes = stepped_nodes IsSmall (IsNodeWithin words) w m c can.mutator own
-          (λ made is. let b : IsFit words made = at_some (made_by w m c) made (IsFit words) is (made_fits words w m h c f) in record { held = b.0; shape = b.1; size = λ ne. b.2 })
-          (λ name found ch there q k. shape_within words name found (changed ch name.maker found).0 (changed_shape ch name.maker found) (changed_held IsSmall ch name.maker found q k.held) k)
+          (λ made is. let b : IsFit words made = at_some (made_by w m c) made (IsFit words) is (made_fits words w m h c f) in
+          record { held = b.0; shape = b.1; size = λ ne. b.2 })
+          (λ name found ch there q k.
+          shape_within words name found (changed ch name.maker found).0 (changed_shape ch name.maker found)
+          (changed_held IsSmall ch name.maker found q k.held) k)
           (step w m c).0 s h.nodes;
     }
 
@@ -127,8 +146,10 @@ dies_within words w v d dies h = record {
       | inl same ↦ subst (λ (values : List Value). All IsSmall values) (sym same) (h.queues k)
       | inr joined ↦
           let node : IsNodeWithin words d (Weak (Some more.0)) = at_some (node_of w d) (Weak (Some more.0)) (IsNodeWithin words d) more.1 (h.nodes d) in
-          let last : All IsSmall (more.0.finaliser ∷ []) = All-tail IsSmall more.0.value (more.0.finaliser ∷ []) (All-tail IsSmall more.0.key (more.0.value ∷ more.0.finaliser ∷ []) node.held) in
-          subst (λ (values : List Value). All IsSmall values) (sym joined) (All-push IsSmall (state_of w k).queue more.0.finaliser (h.queues k) (All-head IsSmall more.0.finaliser [] last))
+          let last : All IsSmall (more.0.finaliser ∷ []) = All-tail IsSmall more.0.value (more.0.finaliser ∷
+          []) (All-tail IsSmall more.0.key (more.0.value ∷ more.0.finaliser ∷ []) node.held) in
+          subst (λ (values : List Value).
+          All IsSmall values) (sym joined) (All-push IsSmall (state_of w k).queue more.0.finaliser (h.queues k) (All-head IsSmall more.0.finaliser [] last))
     ]
   ];
   nodes = λ n. elim (dies.nodes n) [
@@ -142,4 +163,5 @@ dies_within words w v d dies h = record {
 
 pub closing_keeps_limits : ClosingKeepsLimits
 closing_keeps_limits words w [] is h = h
-closing_keeps_limits words w (d ∷ weaks) is h = let dies = dies_by w is d in closing_keeps_limits words (closed_by w d (node_of w d)) weaks dies.world (dies_within words w (closed_by w d (node_of w d)) d dies h)
+closing_keeps_limits words w (d ∷ weaks) is h = let dies = dies_by w is d in
+    closing_keeps_limits words (closed_by w d (node_of w d)) weaks dies.world (dies_within words w (closed_by w d (node_of w d)) d dies h)

@@ -47,7 +47,8 @@ module _ (S : World) (X : List Name) where
   next_absent w m h own there = absent (node_of w (next_name (state_of w m) m)) (next_is_new w m own) (h.there (next_name (state_of w m) m) there)
 
   -- a step keeps what is held live or new
-  step_live : (w : World) (m : ℕ) (c : Command) → IsWorld w → CanApply w m c → ((n : Name) → Contains (opened_by w m c) n → Contains X n) → LiveHeld w → LiveHeld (step w m c).0
+  step_live : (w : World) (m : ℕ) (c : Command) → IsWorld w → CanApply w m c → ((n : Name) → Contains (opened_by w m c) n → Contains X n) →
+      LiveHeld w → LiveHeld (step w m c).0
   step_live w m c is can o h =
       let own : m ≢ SHARED_MAKER = not_shared w m is can.mutator in
       let next : May (next_name (state_of w m) m) = λ there. absurd (next_absent w m h own there) in
@@ -55,12 +56,16 @@ module _ (S : World) (X : List Name) where
       let has : (v : Operand) → Names May (value_for w m v) = λ v. operand_has May (state_of w m).registers v g_live (h.holds.registers m) in
       record {
         holds = left.holds;
-        alive = step_weaks AsThen w m c can.mutator own (λ key v finaliser. (λ there. absurd (next_absent w m h own there), λ gone. (has key, has v, has finaliser))) h.alive;
+        alive = step_weaks AsThen w m c can.mutator own (λ key v finaliser. (
+          λ there. absurd (next_absent w m h own there),
+          λ gone. (has key, has v, has finaliser),
+        )) h.alive;
         others = λ name there dead. left.others name (λ may. dead (may there)) (h.there name there) ∙ h.others name there dead;
         there = λ name there. (step_grows w m c can.mutator).names name (h.there name there);
       }
 
-  rows_live : (w : World) (rows : List Row) → IsWorld w → CanReplay w rows → ((n : Name) → Contains (opened w rows) n → Contains X n) → LiveHeld w → LiveHeld (replayed w rows)
+  rows_live : (w : World) (rows : List Row) → IsWorld w → CanReplay w rows → ((n : Name) → Contains (opened w rows) n → Contains X n) → LiveHeld w →
+      LiveHeld (replayed w rows)
   rows_live w [] is can o h = h
   rows_live w (row ∷ rows) is can o h =
       let v : World = (step w row.mutator row.command).0 in
@@ -72,8 +77,10 @@ module _ (S : World) (X : List Name) where
   snapshot_live : LiveHeld S
   snapshot_live = record {
     holds = record {
-      registers = λ k. values_names May (state_of S k).registers (λ n c there. IsLive.root n (inr (k, Contains-append_left (state_of S k).registers (state_of S k).queue (value.Ref n) c)));
-      queues = λ k. values_names May (state_of S k).queue (λ n c there. IsLive.root n (inr (k, Contains-append_right (state_of S k).registers (state_of S k).queue (value.Ref n) c)));
+      registers = λ k. values_names May (state_of S k).registers (λ n c there.
+          IsLive.root n (inr (k, Contains-append_left (state_of S k).registers (state_of S k).queue (value.Ref n) c)));
+      queues = λ k. values_names May (state_of S k).queue (λ n c there.
+          IsLive.root n (inr (k, Contains-append_right (state_of S k).registers (state_of S k).queue (value.Ref n) c)));
       fields = λ name may. fields name may (node_of S name) refl;
     };
     alive = alive_ok AsThen S (λ name parts e. (λ there. e, λ gone. absurd (gone (some_of (node_of S name) _ e))));
@@ -83,7 +90,8 @@ module _ (S : World) (X : List Name) where
     where
       fields : (name : Name) → May name → (o : Option Node) → node_of S name ≡ o → IfSome o (Fields (Names May))
       fields name may None e = tt
-      fields name may (Some node) e = values_names May (strong_fields node) (λ n c there. IsLive.field name n (may (some_of (node_of S name) node e)) (node, e, c))
+      fields name may (Some node) e = values_names May (strong_fields node) (λ n c there.
+          IsLive.field name n (may (some_of (node_of S name) node e)) (node, e, c))
 
 -- rows that begin with the snapshot, with all that they open
 pub live_after : (S : World) (rows : List Row) → IsWorld S → CanReplay S rows → LiveHeld S (opened S rows) (replayed S rows)
@@ -100,4 +108,5 @@ world_after w (row ∷ rows) is can = world_after (step w row.mutator row.comman
 -- in which names stay
 pub replayed_names : (w : World) (rows : List Row) → CanReplay w rows → (n : Name) → IsSome (node_of w n) → IsSome (node_of (replayed w rows) n)
 replayed_names w [] can n there = there
-replayed_names w (row ∷ rows) can n there = replayed_names (step w row.mutator row.command).0 rows can.1 n ((step_grows w row.mutator row.command can.0.mutator).names n there)
+replayed_names w (row ∷ rows) can n there =
+    replayed_names (step w row.mutator row.command).0 rows can.1 n ((step_grows w row.mutator row.command can.0.mutator).names n there)

@@ -12,5 +12,9 @@ pub new_is_within : NewIsWithin
 new_is_within words count = record {
   registers = each_new (λ (s : MutatorState). All IsSmall s.registers) (All-replicate IsSmall REGISTERS Nil tt) (All-nil IsSmall) count;
   queues = each_new (λ (s : MutatorState). All IsSmall s.queue) (All-nil IsSmall) (All-nil IsSmall) count;
-  nodes = new_nodes (IsNodeWithin words) (record { held = All-replicate IsSmall SHARED_SLOTS Nil tt; shape = omega arith; size = λ ne. absurd (ne refl) }) count;
+  nodes = new_nodes (IsNodeWithin words) (record {
+    held = All-replicate IsSmall SHARED_SLOTS Nil tt;
+    shape = omega arith;
+    size = λ ne. absurd (ne refl);
+  }) count;
 }

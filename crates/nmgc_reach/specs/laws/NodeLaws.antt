@@ -33,13 +33,16 @@ module _ (w : World) (m : ℕ) (q : MutatorState) (lt : m < length w.mutators) w
   -- the nodes are the same where the new state has the same
   pub nodes_kept : q.nodes ≡ (state_of w m).nodes → (name : Name) → node_of (with_state w m q) name ≡ node_of w name
   nodes_kept same name = elim (cases_eq name.maker m) [
-    | inl e ↦ let s : (state_of (with_state w m q) name.maker).nodes ≡ (state_of w name.maker).nodes = rw (e, state_same) same in ap (λ (l : List Node). cond (eqb name.maker SHARED_MAKER) (cond (eqb name.serial 0) (Some w.shared) None) (slice_get l name.serial)) s
-    | inr ne ↦ ap (λ (s : MutatorState). cond (eqb name.maker SHARED_MAKER) (cond (eqb name.serial 0) (Some w.shared) None) (slice_get s.nodes name.serial)) (state_other name.maker ne)
+    | inl e ↦ let s : (state_of (with_state w m q) name.maker).nodes ≡ (state_of w name.maker).nodes = rw (e, state_same) same in
+        ap (λ (l : List Node). cond (eqb name.maker SHARED_MAKER) (cond (eqb name.serial 0) (Some w.shared) None) (slice_get l name.serial)) s
+    | inr ne ↦ ap (λ (s : MutatorState).
+        cond (eqb name.maker SHARED_MAKER) (cond (eqb name.serial 0) (Some w.shared) None) (slice_get s.nodes name.serial)) (state_other name.maker ne)
   ]
 
   -- a name of another maker has the same node
   pub node_other : (name : Name) → name.maker ≢ m → node_of (with_state w m q) name ≡ node_of w name
-  node_other name ne = ap (λ (s : MutatorState). cond (eqb name.maker SHARED_MAKER) (cond (eqb name.serial 0) (Some w.shared) None) (slice_get s.nodes name.serial)) (state_other name.maker ne)
+  node_other name ne = ap (λ (s : MutatorState).
+      cond (eqb name.maker SHARED_MAKER) (cond (eqb name.serial 0) (Some w.shared) None) (slice_get s.nodes name.serial)) (state_other name.maker ne)
 
   -- a name of the mutator has the node of the new state
   pub node_same : m ≢ SHARED_MAKER → (name : Name) → name.maker ≡ m → node_of (with_state w m q) name ≡ slice_get q.nodes name.serial
@@ -50,7 +53,8 @@ pub own_node : (w : World) (m : ℕ) → m ≢ SHARED_MAKER → (name : Name) �
 own_node w m own name e = rw (e, ne_eqb m SHARED_MAKER own) refl
 
 -- the item at a place of a list with one more item is that item, or was there before
-pub get-append_cases : {A : Type 0} (xs : List A) (x : A) (i : ℕ) → ((i ≡ length xs) × (slice_get (xs ++ x ∷ []) i ≡ Some x)) ⊎ (slice_get (xs ++ x ∷ []) i ≡ slice_get xs i)
+pub get-append_cases : {A : Type 0} (xs : List A) (x : A) (i : ℕ) → ((i ≡ length xs) × (slice_get (xs ++ x ∷ []) i ≡ Some x)) ⊎
+    (slice_get (xs ++ x ∷ []) i ≡ slice_get xs i)
 get-append_cases [] x zero = inl (refl, refl)
 get-append_cases [] x (suc i) = inr refl
 get-append_cases (y ∷ xs) x zero = inr refl
@@ -90,7 +94,8 @@ module _ (w : World) (name : Name) (found made : Node) (there : node_of w name �
         let h : cond {A = Option Node} (eqb name.serial 0) (Some w.shared) None ≡ Some found = rw test at there in
         elim (eqb_tells name.serial 0) [ inl z ↦ z.1 | inr z ↦ let h' : None ≡ Some found = rw z.0 at h in absurd cc ]
 
-    shared_cases : (n : Name) → ((n ≡ name) × (node_of (record w { shared = made }) n ≡ Some made)) ⊎ ((n ≡ name → ⊥) × (node_of (record w { shared = made }) n ≡ node_of w n))
+    shared_cases : (n : Name) → ((n ≡ name) × (node_of (record w { shared = made }) n ≡ Some made)) ⊎
+        ((n ≡ name → ⊥) × (node_of (record w { shared = made }) n ≡ node_of w n))
     shared_cases n = elim (name_cases n name) [
       | inl e ↦ inl (e, rw (e, test, serial_is) refl)
       | inr ne ↦ inr (
@@ -119,31 +124,43 @@ module _ (w : World) (name : Name) (found made : Node) (there : node_of w name �
           absurd cc
     ]
 
-    nth_cases : (n : Name) → ((n ≡ name) × (node_of (with_state w name.maker (with_nth (state_of w name.maker) name.serial made)) n ≡ Some made)) ⊎ ((n ≡ name → ⊥) × (node_of (with_state w name.maker (with_nth (state_of w name.maker) name.serial made)) n ≡ node_of w n))
+    nth_cases : (n : Name) → ((n ≡ name) × (node_of (with_state w name.maker (with_nth (state_of w name.maker) name.serial made)) n ≡ Some made)) ⊎
+        ((n ≡ name → ⊥) × (node_of (with_state w name.maker (with_nth (state_of w name.maker) name.serial made)) n ≡ node_of w n))
     nth_cases n =
         let m = name.maker in
         let nodes = (state_of w m).nodes in
         let q : MutatorState = with_nth (state_of w m) name.serial made in
         elim (cases_eq n.maker m) [
           | inl e ↦ elim (cases_eq n.serial name.serial) [
-            | inl s ↦ inl (same_name n name e s, node_same w m q maker_there own n e ∙ (rw s (slice_get-set_same nodes name.serial made (slice_get_within nodes name.serial found place))))
-            | inr ne ↦ inr (λ x. ne (ap (λ (y : Name). y.serial) x), node_same w m q maker_there own n e ∙ slice_get-set_other nodes name.serial n.serial made ne ∙ sym (own_node w m own n e))
+            | inl s ↦ inl (
+              same_name n name e s,
+              node_same w m q maker_there own n e ∙
+                  (rw s (slice_get-set_same nodes name.serial made (slice_get_within nodes name.serial found place))),
+            )
+            | inr ne ↦ inr (
+              λ x. ne (ap (λ (y : Name). y.serial) x),
+              node_same w m q maker_there own n e ∙
+                  slice_get-set_other nodes name.serial n.serial made ne ∙ sym (own_node w m own n e),
+            )
           ]
           | inr ne ↦ inr (λ x. ne (ap (λ (y : Name). y.maker) x), node_other w m q maker_there n ne)
         ]
 
   -- the name has the new node, and every other name has what it had
-  pub node_cases : (n : Name) → ((n ≡ name) × (node_of (with_node w name made) n ≡ Some made)) ⊎ ((n ≡ name → ⊥) × (node_of (with_node w name made) n ≡ node_of w n))
+  pub node_cases : (n : Name) → ((n ≡ name) × (node_of (with_node w name made) n ≡ Some made)) ⊎
+      ((n ≡ name → ⊥) × (node_of (with_node w name made) n ≡ node_of w n))
   node_cases n = elim (eqb_tells name.maker SHARED_MAKER) [
     | inl p ↦ rw p.0 (shared_cases p.1 p.0 n)
     | inr p ↦ rw p.0 (nth_cases p.1 n)
   ]
 
   -- registers and queues are as they were
-  pub states_kept : (R : MutatorState → Type 0) → ((s : MutatorState) (nodes : List Node) → R s → R (record s { nodes = nodes })) → ((k : ℕ) → R (state_of w k)) → (k : ℕ) → R (state_of (with_node w name made) k)
+  pub states_kept : (R : MutatorState → Type 0) → ((s : MutatorState) (nodes : List Node) → R s → R (record s { nodes = nodes })) →
+      ((k : ℕ) → R (state_of w k)) → (k : ℕ) → R (state_of (with_node w name made) k)
   states_kept R free h k = elim (eqb_tells name.maker SHARED_MAKER) [
     | inl p ↦ rw p.0 (h k)
-    | inr p ↦ rw p.0 (each_state w name.maker (with_nth (state_of w name.maker) name.serial made) (maker_there p.1) R (free (state_of w name.maker) _ (h name.maker)) h k)
+    | inr p ↦ rw p.0 (each_state w name.maker (with_nth (state_of w name.maker) name.serial made) (maker_there p.1) R
+        (free (state_of w name.maker) _ (h name.maker)) h k)
   ]
 
   -- and there are as many mutators

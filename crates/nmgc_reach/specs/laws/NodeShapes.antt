@@ -23,14 +23,23 @@ array_set values index v = record { kind = refl; tag = refl; parts = length-set 
 -- a change leaves the shape
 pub changed_shape : (c : Change) (maker : ℕ) (node : Node) → SameShape node (changed c maker node).0
 changed_shape (change.Set index v) maker (Con tag values) = same_shape _
-changed_shape (change.Set index v) maker (Var old) = two_nodes (SameShape (Var old)) (eqb index 0) (Var v) (Var old) reply.Fine reply.NoField (record { kind = refl; tag = refl; parts = refl }) (same_shape _)
-changed_shape (change.Set index v) maker (Arr values) = two_nodes (SameShape (Arr values)) (ltb index (length values)) (Arr (set values index v)) (Arr values) reply.Fine reply.NoField (array_set values index v) (same_shape _)
+changed_shape (change.Set index v) maker (Var old) =
+    two_nodes (SameShape (Var old)) (eqb index 0) (Var v) (Var old) reply.Fine reply.NoField (record { kind = refl; tag = refl; parts = refl }) (same_shape _)
+changed_shape (change.Set index v) maker (Arr values) =
+    two_nodes (SameShape (Arr values)) (ltb index (length values)) (Arr (set values index v)) (Arr values) reply.Fine reply.NoField
+    (array_set values index v) (same_shape _)
 changed_shape (change.Set index v) maker (Thunk free result) = same_shape _
 changed_shape (change.Set index v) maker (Weak parts) = same_shape _
 changed_shape (change.Set index v) maker (Stack size values) = same_shape _
 changed_shape (change.Exchange index expected v) maker (Con tag values) = same_shape _
-changed_shape (change.Exchange index expected v) maker (Var old) = exchanged_node (SameShape (Var old)) (slice_get (old ∷ []) index) expected (Var old) (Var v) (record { kind = refl; tag = refl; parts = refl }) (same_shape _)
-changed_shape (change.Exchange index expected v) maker (Arr values) = exchanged_node (SameShape (Arr values)) (slice_get values index) expected (Arr values) (Arr (set values index v)) (array_set values index v) (same_shape _)
+changed_shape (change.Exchange index expected v) maker (Var old) =
+    exchanged_node (SameShape (Var old)) (slice_get (old ∷ []) index) expected (Var old) (Var v) (record {
+      kind = refl;
+      tag = refl;
+      parts = refl;
+    }) (same_shape _)
+changed_shape (change.Exchange index expected v) maker (Arr values) =
+    exchanged_node (SameShape (Arr values)) (slice_get values index) expected (Arr values) (Arr (set values index v)) (array_set values index v) (same_shape _)
 changed_shape (change.Exchange index expected v) maker (Thunk free result) = same_shape _
 changed_shape (change.Exchange index expected v) maker (Weak parts) = same_shape _
 changed_shape (change.Exchange index expected v) maker (Stack size values) = same_shape _
@@ -49,7 +58,8 @@ changed_shape (change.Push m v) maker (Weak parts) = same_shape _
 changed_shape (change.Push m v) maker (Stack size values) = pushed (eqb maker m)
   where
     pushed : (own : Bool) → SameShape (Stack size values) (stack_pushed own (Stack size values) v).0
-    pushed true = two_nodes (SameShape (Stack size values)) (ltb (length values) size) (Stack size (values ++ v ∷ [])) (Stack size values) reply.Fine reply.StackFull (record { kind = refl; tag = refl; parts = refl }) (same_shape _)
+    pushed true = two_nodes (SameShape (Stack size values)) (ltb (length values) size) (Stack size (values ++ v ∷
+        [])) (Stack size values) reply.Fine reply.StackFull (record { kind = refl; tag = refl; parts = refl }) (same_shape _)
     pushed false = same_shape _
 changed_shape (change.Pop m) maker (Con tag values) = same_shape _
 changed_shape (change.Pop m) maker (Var old) = same_shape _

@@ -62,7 +62,9 @@ pub rows_hold : (P : Name → Type 0) (w : World) (rows : List Row) → IsWorld 
 rows_hold P w [] is new h can = h
 rows_hold P w (row ∷ rows) is new h can =
     let own = not_shared w row.mutator is can.0.mutator in
-    let next : P (next_name (state_of w row.mutator) row.mutator) = new (next_name (state_of w row.mutator) row.mutator) (λ there. absent (node_of w (next_name (state_of w row.mutator) row.mutator)) (next_is_new w row.mutator own) there) in
+    let next : P (next_name (state_of w row.mutator) row.mutator) =
+    new (next_name (state_of w row.mutator) row.mutator) (λ there.
+    absent (node_of w (next_name (state_of w row.mutator) row.mutator)) (next_is_new w row.mutator own) there) in
     rows_hold P (step w row.mutator row.command).0 rows
     (step_keeps_world w row.mutator row.command is can.0)
     (λ name gone. new name (λ there. gone ((step_grows w row.mutator row.command can.0.mutator).names name there)))
@@ -75,7 +77,8 @@ death_holds P w v d dies h = record {
   roots = root;
   fields = λ from n p refers. elim (dies.nodes from) [
     | inl same ↦ h.fields from n p (refers.0, sym same ∙ refers.1, refers.2)
-    | inr gone ↦ absurd (let node : Weak None ≡ refers.0 = (let both : Some (Weak None) ≡ Some refers.0 = sym gone.1 ∙ refers.1 in cc) in nothing_in (Ref n) (subst (λ (x : Node). Contains (strong_fields x) (Ref n)) (sym node) refers.2))
+    | inr gone ↦ absurd (let node : Weak None ≡ refers.0 = (let both : Some (Weak None) ≡ Some refers.0 = sym gone.1 ∙ refers.1 in cc) in
+        nothing_in (Ref n) (subst (λ (x : Node). Contains (strong_fields x) (Ref n)) (sym node) refers.2))
   ];
   weaks = λ weak n parts alive of. elim (dies.nodes weak) [
     | inl same ↦ h.weaks weak n parts (sym same ∙ alive) of
@@ -92,25 +95,31 @@ death_holds P w v d dies h = record {
     root : (n : Name) → IsRoot v n → P n
     root n (inl e) = h.roots n (inl e)
     root n (inr r) = elim (Contains-append_cases (state_of v r.0).registers (state_of v r.0).queue (Ref n) r.1) [
-      | inl c ↦ h.roots n (inr (r.0, Contains-append_left (state_of w r.0).registers (state_of w r.0).queue (Ref n) (subst (λ (l : List Value). Contains l (Ref n)) (dies.registers r.0) c)))
+      | inl c ↦ h.roots n (inr (
+        r.0,
+        Contains-append_left (state_of w r.0).registers (state_of w r.0).queue (Ref n) (subst (λ (l : List Value).
+            Contains l (Ref n)) (dies.registers r.0) c),
+      ))
       | inr c ↦ elim (dies.queues r.0) [
         | inl same ↦ same_queue r.0 n same c
         | inr more ↦ elim more.2 [
           | inl same ↦ same_queue r.0 n same c
-          | inr joined ↦ elim (Contains-append_cases (state_of w r.0).queue (more.0.finaliser ∷ []) (Ref n) (subst (λ (l : List Value). Contains l (Ref n)) joined c)) [
-            | inl old ↦ in_queue r.0 n old
-            | inr last ↦ elim (contains_cases more.0.finaliser [] (Ref n) last) [
-              | inl is ↦ h.weaks d n more.0 more.1 (inr (inr (inr is)))
-              | inr none ↦ absurd (nothing_in (Ref n) none)
-            ]
-          ]
+          | inr joined ↦ elim (Contains-append_cases (state_of w r.0).queue (more.0.finaliser ∷
+              []) (Ref n) (subst (λ (l : List Value). Contains l (Ref n)) joined c)) [
+                | inl old ↦ in_queue r.0 n old
+                | inr last ↦ elim (contains_cases more.0.finaliser [] (Ref n) last) [
+                  | inl is ↦ h.weaks d n more.0 more.1 (inr (inr (inr is)))
+                  | inr none ↦ absurd (nothing_in (Ref n) none)
+                ]
+              ]
         ]
       ]
     ]
 
 pub closed_holds : (P : Name → Type 0) → ClosingHoldsOnly P
 closed_holds P w [] is h = h
-closed_holds P w (d ∷ dead) is h = let dies = dies_by w is d in closed_holds P (closed_by w d (node_of w d)) dead dies.world (death_holds P w (closed_by w d (node_of w d)) d dies h)
+closed_holds P w (d ∷ dead) is h = let dies = dies_by w is d in
+    closed_holds P (closed_by w d (node_of w d)) dead dies.world (death_holds P w (closed_by w d (node_of w d)) d dies h)
 
 -- the wide reach after a command, after a closing, and after rows
 pub step_adds_one : StepAddsOne
@@ -119,7 +128,8 @@ step_adds_one w m c is can name wide =
     wide_is_held P (step w m c).0 (step_holds_only P w m c is can (inr refl) begun) name wide
   where
     none_next : (target : Name) → RefersTo w (next_name (state_of w m) m) target → ⊥
-    none_next target r = absent (node_of w (next_name (state_of w m) m)) (next_is_new w m (not_shared w m is can.mutator)) (from_there w (next_name (state_of w m) m) target r)
+    none_next target r = absent (node_of w (next_name (state_of w m) m)) (next_is_new w m (not_shared w m is can.mutator))
+        (from_there w (next_name (state_of w m) m) target r)
 
     begun : HoldsOnly (λ n. IsWide w n ⊎ (n ≡ next_name (state_of w m) m)) w
     begun = record {
@@ -135,7 +145,9 @@ pub closing_adds_none : ClosingAddsNone
 closing_adds_none w weaks is name wide = wide_is_held (IsWide w) (closed w weaks) (closed_holds (IsWide w) w weaks is (wide_holds w)) name wide
 
 pub stays_unreached : StaysUnreached
-stays_unreached w rows is can name there wide = wide_is_held (OfOld (IsWide w) w) (replayed w rows) (rows_hold (OfOld (IsWide w) w) w rows is (λ n gone there. absurd (gone there)) (wide_or_new_holds w) can) name wide there
+stays_unreached w rows is can name there wide =
+    wide_is_held (OfOld (IsWide w) w) (replayed w rows) (rows_hold (OfOld (IsWide w) w) w rows is (λ n gone there.
+    absurd (gone there)) (wide_or_new_holds w) can) name wide there
 
 pub nothing_reachable_is_freed : NothingReachableIsFreed
 nothing_reachable_is_freed i dead since sound lists more name wide =
@@ -146,7 +158,8 @@ nothing_reachable_is_freed i dead since sound lists more name wide =
     name wide
 
 -- stretches of commands, each with its closing
-pub continued_hold : (P : Name → Type 0) (w : World) (later : List Stretch) → IsWorld w → CountsNew P w → HoldsOnly P w → CanContinue w later → HoldsOnly P (continued w later)
+pub continued_hold : (P : Name → Type 0) (w : World) (later : List Stretch) → IsWorld w → CountsNew P w → HoldsOnly P w → CanContinue w later →
+    HoldsOnly P (continued w later)
 continued_hold P w [] is new h can = h
 continued_hold P w (stretch ∷ later) is new h can =
     let u : World = replayed w stretch.rows in
@@ -158,7 +171,9 @@ continued_hold P w (stretch ∷ later) is new h can =
     can.1
 
 pub never_comes_back : NeverComesBack
-never_comes_back w later is can name there wide = wide_is_held (OfOld (IsWide w) w) (continued w later) (continued_hold (OfOld (IsWide w) w) w later is (λ n gone there. absurd (gone there)) (wide_or_new_holds w) can) name wide there
+never_comes_back w later is can name there wide =
+    wide_is_held (OfOld (IsWide w) w) (continued w later) (continued_hold (OfOld (IsWide w) w) w later is (λ n gone there.
+    absurd (gone there)) (wide_or_new_holds w) can) name wide there
 
 pub nothing_reachable_is_ever_freed : NothingReachableIsEverFreed
 nothing_reachable_is_ever_freed i dead later sound lists can name wide =
@@ -180,24 +195,29 @@ listed_cases (x ∷ xs) name = elim (name_cases x name) [
 ]
 
 -- so a list of exactly the kept names has each that isn't lost
-not_lost_listed : (i : Interval) (kept : List Name) → Lists (IsKeptAfter i) kept → (name : Name) → IsSome (node_of i.snapshot name) → IsNotLost i name → Contains kept name
+not_lost_listed : (i : Interval) (kept : List Name) → Lists (IsKeptAfter i) kept → (name : Name) → IsSome (node_of i.snapshot name) →
+    IsNotLost i name → Contains kept name
 not_lost_listed i kept lists name there not_lost = elim (listed_cases kept name) [
   | inl c ↦ c
   | inr none ↦ absurd (not_lost there (λ k. none (lists.complete name k)))
 ]
 
 pub reachable_is_kept : ReachableIsKept
-reachable_is_kept i dead kept since sound lists all more name there wide = not_lost_listed i kept all name there (nothing_reachable_is_freed i dead since sound lists more name wide)
+reachable_is_kept i dead kept since sound lists all more name there wide =
+    not_lost_listed i kept all name there (nothing_reachable_is_freed i dead since sound lists more name wide)
 
 pub reachable_is_ever_kept : ReachableIsEverKept
-reachable_is_ever_kept i dead kept later sound lists all can name there wide = not_lost_listed i kept all name there (nothing_reachable_is_ever_freed i dead later sound lists can name wide)
+reachable_is_ever_kept i dead kept later sound lists all can name there wide =
+    not_lost_listed i kept all name there (nothing_reachable_is_ever_freed i dead later sound lists can name wide)
 
 -- every name that a world holds is one of its own
 
 pub world_holds : (w : World) → IsWorld w → HoldsOnly (λ n. IsSome (node_of w n)) w
 world_holds w is = record {
   roots = root;
-  fields = λ from n there refers. All-contains (IsKnown w) (strong_fields refers.0) (Ref n) (fields_known w refers.0 (at_some (node_of w from) refers.0 (IsNodeOf w) refers.1 (is.nodes from)).known) refers.2;
+  fields = λ from n there refers.
+      All-contains (IsKnown w) (strong_fields refers.0) (Ref n)
+      (fields_known w refers.0 (at_some (node_of w from) refers.0 (IsNodeOf w) refers.1 (is.nodes from)).known) refers.2;
   weaks = λ weak n parts alive of. part weak n parts alive (at_some (node_of w weak) (Weak (Some parts)) (IsNodeOf w) alive (is.nodes weak)).known of;
 }
   where
@@ -208,11 +228,20 @@ world_holds w is = record {
       | inr c ↦ All-contains (IsKnown w) (state_of w r.0).queue (Ref n) (is.known_queue r.0) c
     ]
 
-    part : (weak n : Name) (parts : Parts) → IsAlive w weak parts → AreKnown w (parts.key ∷ parts.value ∷ parts.finaliser ∷ []) → IsOfWeak weak parts n → IsSome (node_of w n)
-    part weak n parts alive known (inl e) = subst (λ (x : Name). IsSome (node_of w x)) (sym e) (let Q : Option Node → Type 0 = λ o. IsSome o in subst Q (sym alive) refl)
-    part weak n parts alive known (inr (inl e)) = All-contains (IsKnown w) (parts.key ∷ parts.value ∷ parts.finaliser ∷ []) (Ref n) known (subst (λ (x : Value). Contains (parts.key ∷ parts.value ∷ parts.finaliser ∷ []) x) e (contains_head parts.key (parts.value ∷ parts.finaliser ∷ [])))
-    part weak n parts alive known (inr (inr (inl e))) = All-contains (IsKnown w) (parts.key ∷ parts.value ∷ parts.finaliser ∷ []) (Ref n) known (subst (λ (x : Value). Contains (parts.key ∷ parts.value ∷ parts.finaliser ∷ []) x) e (contains_tail parts.key (parts.value ∷ parts.finaliser ∷ []) parts.value (contains_head parts.value (parts.finaliser ∷ []))))
-    part weak n parts alive known (inr (inr (inr e))) = All-contains (IsKnown w) (parts.key ∷ parts.value ∷ parts.finaliser ∷ []) (Ref n) known (subst (λ (x : Value). Contains (parts.key ∷ parts.value ∷ parts.finaliser ∷ []) x) e (contains_tail parts.key (parts.value ∷ parts.finaliser ∷ []) parts.finaliser (contains_tail parts.value (parts.finaliser ∷ []) parts.finaliser (contains_head parts.finaliser []))))
+    part : (weak n : Name) (parts : Parts) → IsAlive w weak parts → AreKnown w (parts.key ∷ parts.value ∷ parts.finaliser ∷ []) →
+        IsOfWeak weak parts n → IsSome (node_of w n)
+    part weak n parts alive known (inl e) = subst (λ (x : Name). IsSome (node_of w x)) (sym e) (let Q : Option Node → Type 0 = λ o. IsSome o in
+        subst Q (sym alive) refl)
+    part weak n parts alive known (inr (inl e)) = All-contains (IsKnown w) (parts.key ∷ parts.value ∷ parts.finaliser ∷
+        []) (Ref n) known (subst (λ (x : Value). Contains (parts.key ∷ parts.value ∷ parts.finaliser ∷
+        []) x) e (contains_head parts.key (parts.value ∷ parts.finaliser ∷ [])))
+    part weak n parts alive known (inr (inr (inl e))) = All-contains (IsKnown w) (parts.key ∷ parts.value ∷ parts.finaliser ∷
+        []) (Ref n) known (subst (λ (x : Value). Contains (parts.key ∷ parts.value ∷ parts.finaliser ∷
+        []) x) e (contains_tail parts.key (parts.value ∷ parts.finaliser ∷ []) parts.value (contains_head parts.value (parts.finaliser ∷ []))))
+    part weak n parts alive known (inr (inr (inr e))) = All-contains (IsKnown w) (parts.key ∷ parts.value ∷ parts.finaliser ∷
+        []) (Ref n) known (subst (λ (x : Value). Contains (parts.key ∷ parts.value ∷ parts.finaliser ∷
+        []) x) e (contains_tail parts.key (parts.value ∷ parts.finaliser ∷
+        []) parts.finaliser (contains_tail parts.value (parts.finaliser ∷ []) parts.finaliser (contains_head parts.finaliser []))))
 
 pub wide_known : (w : World) → IsWorld w → (n : Name) → IsWide w n → IsSome (node_of w n)
 wide_known w is n wide = wide_is_held (λ m. IsSome (node_of w m)) w (world_holds w is) n wide

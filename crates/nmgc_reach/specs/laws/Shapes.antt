@@ -49,7 +49,8 @@ step_keeps_shapes w m c is can name before was =
       there.1,
       at_some (node_of v name) there.0 (IsAsBefore w name) there.1
           (stepped_nodes Any (IsAsBefore w) w m c can.mutator own
-          (λ made b old e. absurd (absent (node_of w (next_name (state_of w m) m)) (next_is_new w m own) (some_of (node_of w (next_name (state_of w m) m)) old e)))
+          (λ made b old e. absurd (absent (node_of w (next_name (state_of w m) m)) (next_is_new w m own)
+          (some_of (node_of w (next_name (state_of w m) m)) old e)))
           (λ at found ch e q h old o. then_shape old found (changed ch at.maker found).0 (h old o) (changed_shape ch at.maker found))
           v (stepped w m c) (as_before w) name)
           before was,
@@ -59,7 +60,8 @@ pub rows_keep_shapes : RowsKeepShapes
 rows_keep_shapes w [] is can = keeps_none w
 rows_keep_shapes w (row ∷ rows) is can =
     let v : World = (step w row.mutator row.command).0 in
-    keeps_both w v _ (step_keeps_shapes w row.mutator row.command is can.0) (rows_keep_shapes v rows (step_keeps_world w row.mutator row.command is can.0) can.1)
+    keeps_both w v _ (step_keeps_shapes w row.mutator row.command is can.0)
+    (rows_keep_shapes v rows (step_keeps_world w row.mutator row.command is can.0) can.1)
 
 -- a weak pointer that dies keeps its shape
 dies_shapes : (w v : World) (d : Name) → Dies w v d → KeepsShapes w v
@@ -74,4 +76,6 @@ dies_shapes w v d dies name before was = elim (dies.nodes name) [
 
 pub closing_keeps_shapes : ClosingKeepsShapes
 closing_keeps_shapes w [] is = keeps_none w
-closing_keeps_shapes w (d ∷ weaks) is = let dies = dies_by w is d in keeps_both w (closed_by w d (node_of w d)) _ (dies_shapes w (closed_by w d (node_of w d)) d dies) (closing_keeps_shapes (closed_by w d (node_of w d)) weaks dies.world)
+closing_keeps_shapes w (d ∷ weaks) is = let dies = dies_by w is d in
+    keeps_both w (closed_by w d (node_of w d)) _ (dies_shapes w (closed_by w d (node_of w d)) d dies)
+    (closing_keeps_shapes (closed_by w d (node_of w d)) weaks dies.world)

@@ -34,13 +34,15 @@ use Rattle.nmgc_reach.specs.laws.NodeLaws.{states_kept}
 -- the mutator's registers and its queue are others, or the same
 pub data Hand (Q : Value → Type 0) (w : World) (m : ℕ) (v : World) : Type 0 where
   same : v ≡ w → Hand Q w m v
-  other : (registers queue : List Value) → v ≡ with_state w m (record { registers = registers; queue = queue; nodes = (state_of w m).nodes }) → All Q registers → All Q queue → Hand Q w m v
+  other : (registers queue : List Value) → v ≡ with_state w m (record { registers = registers; queue = queue; nodes = (state_of w m).nodes }) →
+      All Q registers → All Q queue → Hand Q w m v
 
 -- an object is born, as the command makes it, or changes, as the command asks, or none does
 pub data Object (Q : Value → Type 0) (w : World) (m : ℕ) (c : Command) (v : World) : Type 0 where
   same : v ≡ w → Object Q w m c v
   birth : (register : ℕ) (made : Node) → made_by w m c ≡ Some made → v ≡ (born w m register made).0 → Object Q w m c v
-  write : (name : Name) (found : Node) (change : Change) → node_of w name ≡ Some found → asked w m c ≡ Some (value.Ref name, change) → Writes Q change → v ≡ with_node w name (changed change name.maker found).0 → Object Q w m c v
+  write : (name : Name) (found : Node) (change : Change) → node_of w name ≡ Some found → asked w m c ≡ Some (value.Ref name, change) →
+      Writes Q change → v ≡ with_node w name (changed change name.maker found).0 → Object Q w m c v
 
 pub record Stepped (Q : Value → Type 0) (w : World) (m : ℕ) (c : Command) (v : World) : Type 0 where
   pub between : World
@@ -85,13 +87,15 @@ module _ (Q : Value → Type 0) where
   pub changed_held : (c : Change) (maker : ℕ) (node : Node) → Writes Q c → All Q (held_by node) → All Q (held_by (changed c maker node).0)
   changed_held (change.Set index v) maker (Con tag values) q h = h
   changed_held (change.Set index v) maker (Var old) q h = two_nodes Held (eqb index 0) (Var v) (Var old) reply.Fine reply.NoField (one v q) h
-  changed_held (change.Set index v) maker (Arr values) q h = two_nodes Held (ltb index (length values)) (Arr (set values index v)) (Arr values) reply.Fine reply.NoField (All-set Q values index v q h) h
+  changed_held (change.Set index v) maker (Arr values) q h =
+      two_nodes Held (ltb index (length values)) (Arr (set values index v)) (Arr values) reply.Fine reply.NoField (All-set Q values index v q h) h
   changed_held (change.Set index v) maker (Thunk free result) q h = h
   changed_held (change.Set index v) maker (Weak parts) q h = h
   changed_held (change.Set index v) maker (Stack size values) q h = h
   changed_held (change.Exchange index expected v) maker (Con tag values) q h = h
   changed_held (change.Exchange index expected v) maker (Var old) q h = exchanged_node Held (slice_get (old ∷ []) index) expected (Var old) (Var v) (one v q) h
-  changed_held (change.Exchange index expected v) maker (Arr values) q h = exchanged_node Held (slice_get values index) expected (Arr values) (Arr (set values index v)) (All-set Q values index v q h) h
+  changed_held (change.Exchange index expected v) maker (Arr values) q h =
+      exchanged_node Held (slice_get values index) expected (Arr values) (Arr (set values index v)) (All-set Q values index v q h) h
   changed_held (change.Exchange index expected v) maker (Thunk free result) q h = h
   changed_held (change.Exchange index expected v) maker (Weak parts) q h = h
   changed_held (change.Exchange index expected v) maker (Stack size values) q h = h
@@ -110,7 +114,8 @@ module _ (Q : Value → Type 0) where
   changed_held (change.Push m v) maker (Stack size values) q h = pushed (eqb maker m)
     where
       pushed : (own : Bool) → Held (stack_pushed own (Stack size values) v).0
-      pushed true = two_nodes Held (ltb (length values) size) (Stack size (values ++ v ∷ [])) (Stack size values) reply.Fine reply.StackFull (All-push Q values v h q) h
+      pushed true = two_nodes Held (ltb (length values) size) (Stack size (values ++ v ∷
+          [])) (Stack size values) reply.Fine reply.StackFull (All-push Q values v h q) h
       pushed false = h
   changed_held (change.Pop m) maker (Con tag values) q h = h
   changed_held (change.Pop m) maker (Var old) q h = h
@@ -155,7 +160,8 @@ module _ (Q : Value → Type 0) where
   value_read_held (Weak (Some parts)) h = item_has Q (parts.key ∷ parts.value ∷ parts.finaliser ∷ []) 1 h
   value_read_held (Stack size values) h = tt
 
-  reading_held : (w : World) (v : Value) (read : Node → Reply) → ((node : Node) → Held node → IfSome (given (read node)) Q) → AllHeld Q w → IfSome (given (read_object (object_of w v) read)) Q
+  reading_held : (w : World) (v : Value) (read : Node → Reply) → ((node : Node) → Held node → IfSome (given (read node)) Q) → AllHeld Q w →
+      IfSome (given (read_object (object_of w v) read)) Q
   reading_held w value.Nil read f h = tt
   reading_held w (value.Number n) read f h = tt
   reading_held w (value.Ref name) read f h = by_node (node_of w name) (h.nodes name)
@@ -165,8 +171,10 @@ module _ (Q : Value → Type 0) where
       by_node (Some node) k = f node k
 
   -- a register takes what an answer gave
-  keeping_hand : (w : World) (m register : ℕ) (r : Reply) → All Q (state_of w m).registers → All Q (state_of w m).queue → IfSome (given r) Q → Hand Q w m (keeping w m register r)
-  keeping_hand w m register (reply.Given v) hr hq q = Hand.other (set (state_of w m).registers register v) (state_of w m).queue refl (All-set Q (state_of w m).registers register v q hr) hq
+  keeping_hand : (w : World) (m register : ℕ) (r : Reply) → All Q (state_of w m).registers → All Q (state_of w m).queue → IfSome (given r) Q →
+      Hand Q w m (keeping w m register r)
+  keeping_hand w m register (reply.Given v) hr hq q =
+      Hand.other (set (state_of w m).registers register v) (state_of w m).queue refl (All-set Q (state_of w m).registers register v q hr) hq
   keeping_hand w m register reply.Fine hr hq q = Hand.same refl
   keeping_hand w m register reply.Yes hr hq q = Hand.same refl
   keeping_hand w m register reply.No hr hq q = Hand.same refl
@@ -189,9 +197,11 @@ module _ (Q : Value → Type 0) where
   ]
   operand_held registers Shared nil g h = g
 
-  pub operands_held : (registers : List Value) (os : List Operand) → Q value.Nil → Q (value.Ref shared_name) → All Q registers → All Q (map (value_of registers) os)
+  pub operands_held : (registers : List Value) (os : List Operand) → Q value.Nil → Q (value.Ref shared_name) → All Q registers →
+      All Q (map (value_of registers) os)
   operands_held registers [] nil g h = All-nil Q
-  operands_held registers (o ∷ os) nil g h = All-cons Q (value_of registers o) (map (value_of registers) os) (operand_held registers o nil g h) (operands_held registers os nil g h)
+  operands_held registers (o ∷ os) nil g h =
+      All-cons Q (value_of registers o) (map (value_of registers) os) (operand_held registers o nil g h) (operands_held registers os nil g h)
 
   -- a command of a mutator, in a world
   module _ (w : World) (m : ℕ) (c : Command) (h : AllHeld Q w) where
@@ -205,7 +215,9 @@ module _ (Q : Value → Type 0) where
     born_steps register made is = record { between = (born w m register made).0; object = Object.birth register made is refl; hand = Hand.same refl }
 
     register_steps : (register : ℕ) (v : Value) → Q v → Stepped Q w m c (with_register w m register v)
-    register_steps register v q = of_hand _ (Hand.other (set (state_of w m).registers register v) (state_of w m).queue refl (All-set Q (state_of w m).registers register v q (h.registers m)) (h.queues m))
+    register_steps register v q =
+        of_hand _ (Hand.other (set (state_of w m).registers register v) (state_of w m).queue refl
+        (All-set Q (state_of w m).registers register v q (h.registers m)) (h.queues m))
 
     reading_steps : (register : ℕ) (r : Reply) → IfSome (given r) Q → Stepped Q w m c (keeping w m register r)
     reading_steps register r q = of_hand _ (keeping_hand w m register r (h.registers m) (h.queues m) q)
@@ -216,9 +228,14 @@ module _ (Q : Value → Type 0) where
         rest : All Q (drop 1 (state_of w m).queue)
         rest = All-drop Q 1 (state_of w m).queue (h.queues m)
 
-        by_first : (first : Option Value) → IfSome first Q → Stepped Q w m c (with_state w m (holding_given (record (state_of w m) { queue = drop 1 (state_of w m).queue }) register first))
+        by_first : (first : Option Value) → IfSome first Q → Stepped Q w m c (with_state w m (holding_given (record (state_of w m) {
+          queue =
+              drop 1 (state_of w m).queue;
+        }) register first))
         by_first None q = of_hand _ (Hand.other (state_of w m).registers (drop 1 (state_of w m).queue) refl (h.registers m) rest)
-        by_first (Some v) q = of_hand _ (Hand.other (set (state_of w m).registers register v) (drop 1 (state_of w m).queue) refl (All-set Q (state_of w m).registers register v q (h.registers m)) rest)
+        by_first (Some v) q =
+            of_hand _ (Hand.other (set (state_of w m).registers register v) (drop 1 (state_of w m).queue) refl
+            (All-set Q (state_of w m).registers register v q (h.registers m)) rest)
 
     -- a change of an object, with what it leaves the mutator and what it answers
     record Changes (r : World × Reply) : Type 0 where
@@ -249,10 +266,15 @@ module _ (Q : Value → Type 0) where
     change_only : (v : Value) (change : Change) → asked w m c ≡ Some (v, change) → Writes Q change → Stepped Q w m c (change_object w v change).0
     change_only v change asks q = record { between = (change_object w v change).0; object = (change_steps v change asks q).object; hand = Hand.same refl }
 
-    change_then : (dest : ℕ) (v : Value) (change : Change) → asked w m c ≡ Some (v, change) → Writes Q change → Stepped Q w m c (change_into m dest (change_object w v change)).0
+    change_then : (dest : ℕ) (v : Value) (change : Change) → asked w m c ≡ Some (v, change) → Writes Q change →
+        Stepped Q w m c (change_into m dest (change_object w v change)).0
     change_then dest v change asks q =
         let s : Changes (change_object w v change) = change_steps v change asks q in
-        record { between = (change_object w v change).0; object = s.object; hand = keeping_hand (change_object w v change).0 m dest (change_object w v change).1 s.registers s.queue s.gives }
+        record {
+          between = (change_object w v change).0;
+          object = s.object;
+          hand = keeping_hand (change_object w v change).0 m dest (change_object w v change).1 s.registers s.queue s.gives;
+        }
 
   operand_has : (w : World) (m : ℕ) (c : Command) (o : Operand) → AllHeld Q w → Brings Q c → Q (value_for w m o)
   operand_has w m c o h b = operand_held (state_of w m).registers o b.nil b.shared (h.registers m)
@@ -268,11 +290,14 @@ module _ (Q : Value → Type 0) where
   step_is w m (command.Thunk dest free) h b = born_steps w m _ h dest _ refl
   step_is w m (command.Weak dest key v finaliser) h b = born_steps w m _ h dest _ refl
   step_is w m (command.Stack dest size) h b = born_steps w m _ h dest _ refl
-  step_is w m (command.Get dest object index) h b = reading_steps w m _ h dest _ (reading_held w (value_for w m object) (λ node. field_read node index) (λ node f. field_read_has Q node index (strong_held node f)) h)
+  step_is w m (command.Get dest object index) h b = reading_steps w m _ h dest _ (reading_held w (value_for w m object) (λ node.
+      field_read node index) (λ node f. field_read_has Q node index (strong_held node f)) h)
   step_is w m (command.Set object index v) h b = change_only w m _ h (value_for w m object) (change.Set index (value_for w m v)) refl (operand_has w m _ v h b)
-  step_is w m (command.Cas object index expected v) h b = change_only w m _ h (value_for w m object) (change.Exchange index (value_for w m expected) (value_for w m v)) refl (operand_has w m _ v h b)
+  step_is w m (command.Cas object index expected v) h b =
+      change_only w m _ h (value_for w m object) (change.Exchange index (value_for w m expected) (value_for w m v)) refl (operand_has w m _ v h b)
   step_is w m (command.Update object v) h b = change_only w m _ h (value_for w m object) (change.Update (value_for w m v)) refl (operand_has w m _ v h b)
-  step_is w m (command.Force dest object) h b = reading_steps w m _ h dest _ (reading_held w (value_for w m object) result_read (λ node f. result_read_has Q node (strong_held node f)) h)
+  step_is w m (command.Force dest object) h b = reading_steps w m _ h dest _ (reading_held w (value_for w m object) result_read (λ node f.
+      result_read_has Q node (strong_held node f)) h)
   step_is w m (command.Push object v) h b = change_only w m _ h (value_for w m object) (change.Push m (value_for w m v)) refl (operand_has w m _ v h b)
   step_is w m (command.Pop dest object) h b = change_then w m _ h dest (value_for w m object) (change.Pop m) refl tt
   step_is w m (command.Deref dest object) h b = reading_steps w m _ h dest _ (reading_held w (value_for w m object) value_read value_read_held h)

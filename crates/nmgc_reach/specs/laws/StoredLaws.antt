@@ -42,7 +42,8 @@ abbrev Put : Change → Node → ℕ → Value → Type 0
 Put c node i x = (strong_at node i ≡ Some x) ⊎ ((place_written c node ≡ Some i) × (value_written c ≡ Some x))
 
 -- an item after a write
-put_item : {R : Type 0} (values : List Value) (index : ℕ) (v : Value) (i : ℕ) (x : Value) → (i ≡ index → Some v ≡ Some x → R) → (slice_get values i ≡ Some x → R) → slice_get (set values index v) i ≡ Some x → R
+put_item : {R : Type 0} (values : List Value) (index : ℕ) (v : Value) (i : ℕ) (x : Value) → (i ≡ index → Some v ≡ Some x → R) →
+    (slice_get values i ≡ Some x → R) → slice_get (set values index v) i ≡ Some x → R
 put_item values index v i x new old h = elim (cases_eq i index) [
   | inl e ↦ elim (cases_lt index (length values)) [
     | inl lt ↦ new e (sym (slice_get-set_same values index v lt) ∙ subst (λ (j : ℕ). slice_get (set values index v) j ≡ Some x) e h)
@@ -51,13 +52,18 @@ put_item values index v i x new old h = elim (cases_eq i index) [
   | inr ne ↦ old (sym (slice_get-set_other values index i v ne) ∙ h)
 ]
 
-put_var : (old : Value) (index i : ℕ) (v x : Value) → strong_at (cond {A = Node × Reply} (eqb index 0) (Var v, reply.Fine) (Var old, reply.NoField)).0 i ≡ Some x → Put (change.Set index v) (Var old) i x
+put_var : (old : Value) (index i : ℕ) (v x : Value) → strong_at (cond {A = Node × Reply} (eqb index 0) (Var v, reply.Fine) (
+  Var old,
+  reply.NoField,
+)).0 i ≡ Some x → Put (change.Set index v) (Var old) i x
 put_var old zero zero v x h = inr (refl, h)
 put_var old zero (suc i) v x h = absurd cc
 put_var old (suc index) i v x h = let e : eqb (suc index) 0 ≡ false = ne_eqb (suc index) 0 (λ z. absurd (omega arith)) in inl (rw e at h)
 
-exchange_var : (old : Value) (index i : ℕ) (expected v x : Value) → strong_at (exchanged_at (slice_get (old ∷ []) index) expected (Var old) (Var v)).0 i ≡ Some x → Put (change.Exchange index expected v) (Var old) i x
-exchange_var old zero i expected v x h = exchanged_node (λ n. strong_at n i ≡ Some x → Put (change.Exchange zero expected v) (Var old) i x) (Some old) expected (Var old) (Var v) (written i) (λ k. inl k) h
+exchange_var : (old : Value) (index i : ℕ) (expected v x : Value) →
+    strong_at (exchanged_at (slice_get (old ∷ []) index) expected (Var old) (Var v)).0 i ≡ Some x → Put (change.Exchange index expected v) (Var old) i x
+exchange_var old zero i expected v x h = exchanged_node (λ n. strong_at n i ≡ Some x →
+    Put (change.Exchange zero expected v) (Var old) i x) (Some old) expected (Var old) (Var v) (written i) (λ k. inl k) h
   where
     written : (i : ℕ) → strong_at (Var v) i ≡ Some x → Put (change.Exchange zero expected v) (Var old) i x
     written zero k = inr (refl, k)
@@ -73,13 +79,17 @@ get-take_has (suc n) (y ∷ xs) (suc i) x h = get-take_has n xs i x h
 changed_put : (c : Change) (maker : ℕ) (node : Node) (i : ℕ) (x : Value) → strong_at (changed c maker node).0 i ≡ Some x → Put c node i x
 changed_put (change.Set index v) maker (Con tag values) i x h = inl h
 changed_put (change.Set index v) maker (Var old) i x h = put_var old index i v x h
-changed_put (change.Set index v) maker (Arr values) i x h = two_nodes (λ n. strong_at n i ≡ Some x → Put (change.Set index v) (Arr values) i x) (ltb index (length values)) (Arr (set values index v)) (Arr values) reply.Fine reply.NoField (put_item values index v i x (λ e k. inr (ap (λ j. Some j) (sym e), k)) (λ k. inl k)) (λ k. inl k) h
+changed_put (change.Set index v) maker (Arr values) i x h = two_nodes (λ n. strong_at n i ≡ Some x →
+    Put (change.Set index v) (Arr values) i x) (ltb index (length values)) (Arr (set values index v)) (Arr values) reply.Fine reply.NoField
+    (put_item values index v i x (λ e k. inr (ap (λ j. Some j) (sym e), k)) (λ k. inl k)) (λ k. inl k) h
 changed_put (change.Set index v) maker (Thunk free result) i x h = inl h
 changed_put (change.Set index v) maker (Weak parts) i x h = inl h
 changed_put (change.Set index v) maker (Stack size values) i x h = inl h
 changed_put (change.Exchange index expected v) maker (Con tag values) i x h = inl h
 changed_put (change.Exchange index expected v) maker (Var old) i x h = exchange_var old index i expected v x h
-changed_put (change.Exchange index expected v) maker (Arr values) i x h = exchanged_node (λ n. strong_at n i ≡ Some x → Put (change.Exchange index expected v) (Arr values) i x) (slice_get values index) expected (Arr values) (Arr (set values index v)) (put_item values index v i x (λ e k. inr (ap (λ j. Some j) (sym e), k)) (λ k. inl k)) (λ k. inl k) h
+changed_put (change.Exchange index expected v) maker (Arr values) i x h = exchanged_node (λ n. strong_at n i ≡ Some x →
+    Put (change.Exchange index expected v) (Arr values) i x) (slice_get values index) expected (Arr values) (Arr (set values index v))
+    (put_item values index v i x (λ e k. inr (ap (λ j. Some j) (sym e), k)) (λ k. inl k)) (λ k. inl k) h
 changed_put (change.Exchange index expected v) maker (Thunk free result) i x h = inl h
 changed_put (change.Exchange index expected v) maker (Weak parts) i x h = inl h
 changed_put (change.Exchange index expected v) maker (Stack size values) i x h = inl h
@@ -99,10 +109,12 @@ changed_put (change.Push m v) maker (Weak parts) i x h = inl h
 changed_put (change.Push m v) maker (Stack size values) i x h = pushed (eqb maker m) h
   where
     pushed : (own : Bool) → strong_at (stack_pushed own (Stack size values) v).0 i ≡ Some x → Put (change.Push m v) (Stack size values) i x
-    pushed true = two_nodes (λ n. strong_at n i ≡ Some x → Put (change.Push m v) (Stack size values) i x) (ltb (length values) size) (Stack size (values ++ v ∷ [])) (Stack size values) reply.Fine reply.StackFull (λ k. elim (get-append_cases values v i) [
-      | inl e ↦ inr (ap (λ j. Some j) (sym e.0), sym e.1 ∙ k)
-      | inr e ↦ inl (sym e ∙ k)
-    ]) (λ k. inl k)
+    pushed true = two_nodes (λ n. strong_at n i ≡ Some x →
+        Put (change.Push m v) (Stack size values) i x) (ltb (length values) size) (Stack size (values ++ v ∷
+        [])) (Stack size values) reply.Fine reply.StackFull (λ k. elim (get-append_cases values v i) [
+          | inl e ↦ inr (ap (λ j. Some j) (sym e.0), sym e.1 ∙ k)
+          | inr e ↦ inl (sym e ∙ k)
+        ]) (λ k. inl k)
     pushed false = λ k. inl k
 changed_put (change.Pop m) maker (Con tag values) i x h = inl h
 changed_put (change.Pop m) maker (Var old) i x h = inl h
@@ -140,7 +152,14 @@ module _ (w : World) (m : ℕ) (c : Command) (name : Name) (i : ℕ) (x : Value)
         let here : node_of w name ≡ Some found = ap (λ (n : Name). node_of w n) is.0 ∙ there in
         elim (changed_put ch at.maker found i x (subst (λ (n : Node). strong_at n i ≡ Some x) (sym node) s.field)) [
           | inl old ↦ inl (record { node = found; node_is = here; field = old })
-          | inr new ↦ inr (inr (record { changes = ch; asks = asks ∙ ap (λ (n : Name). Some (value.Ref n, ch)) (sym is.0); node = found; there = here; place = new.0; writes = new.1 }))
+          | inr new ↦ inr (inr (record {
+            changes = ch;
+            asks = asks ∙ ap (λ (n : Name). Some (value.Ref n, ch)) (sym is.0);
+            node = found;
+            there = here;
+            place = new.0;
+            writes = new.1;
+          }))
         ]
     | inr other ↦ inl (record { node = s.node; node_is = sym other.1 ∙ ap (λ (u : World). node_of u name) (sym e) ∙ s.node_is; field = s.field })
   ]
@@ -148,13 +167,23 @@ module _ (w : World) (m : ℕ) (c : Command) (name : Name) (i : ℕ) (x : Value)
 pub step_stores : StepStores
 step_stores w m c is can name i x stands =
     let s : Stepped Any w m c (step w m c).0 = stepped w m c in
-    let same : node_of (step w m c).0 name ≡ node_of s.between name = hand_nodes Any s.between m (step w m c).0 (still_there Any w m c (step w m c).0 can.mutator s) s.hand name in
-    object_stores w m c name i x can.mutator (not_shared w m is can.mutator) s.between s.object (record { node = stands.node; node_is = sym same ∙ stands.node_is; field = stands.field })
+    let same : node_of (step w m c).0 name ≡ node_of s.between name =
+    hand_nodes Any s.between m (step w m c).0 (still_there Any w m c (step w m c).0 can.mutator s) s.hand name in
+    object_stores w m c name i x can.mutator (not_shared w m is can.mutator) s.between s.object (record {
+      node = stands.node;
+      node_is = sym same ∙
+          stands.node_is;
+      field = stands.field;
+    })
 
 -- what a command asks to change, its mutator holds
 operand_root : (w : World) (m : ℕ) (o : Operand) (name : Name) → value_for w m o ≡ value.Ref name → IsRoot w name
 operand_root w m (Register r) name e = elim (cases_lt r (length (state_of w m).registers)) [
-  | inl lt ↦ inr (m, Contains-append_left (state_of w m).registers (state_of w m).queue (value.Ref name) (subst (λ (v : Value). Contains (state_of w m).registers v) e (Contains-get_or (state_of w m).registers r value.Nil lt)))
+  | inl lt ↦ inr (
+    m,
+    Contains-append_left (state_of w m).registers (state_of w m).queue (value.Ref name) (subst (λ (v : Value).
+        Contains (state_of w m).registers v) e (Contains-get_or (state_of w m).registers r value.Nil lt)),
+  )
   | inr le ↦ absurd (let none : value.Nil ≡ value.Ref name = sym (get_or_past (state_of w m).registers r value.Nil le) ∙ e in cc)
 ]
 operand_root w m Shared name e = inl (let both : value.Ref shared_name ≡ value.Ref name = e in cc)
@@ -174,18 +203,29 @@ asked_root w m (command.Finalise dest object) name ch e = operand_root w m objec
 asked_root w m _ name ch e = absurd cc
 
 -- where it stood at the beginning, or one of the rows stored it
-rows_stored : (w : World) (rows : List Row) → IsWorld w → CanReplay w rows → (name : Name) (i : ℕ) (x : Value) → IsSome (node_of w name) → HasStrongField (replayed w rows) name i x → HasStrongField w name i x ⊎ IsStored w rows name i x
+rows_stored : (w : World) (rows : List Row) → IsWorld w → CanReplay w rows → (name : Name) (i : ℕ) (x : Value) → IsSome (node_of w name) →
+    HasStrongField (replayed w rows) name i x → HasStrongField w name i x ⊎ IsStored w rows name i x
 rows_stored w [] is can name i x there s = inl s
 rows_stored w (row ∷ rows) is can name i x there s =
     let v : World = (step w row.mutator row.command).0 in
     let next : Name = next_name (state_of w row.mutator) row.mutator in
-    let new : name ≡ next → ⊥ = λ e. absent (node_of w next) (next_is_new w row.mutator (not_shared w row.mutator is can.0.mutator)) (subst (λ (n : Name). IsSome (node_of w n)) e there) in
-    elim (rows_stored v rows (step_keeps_world w row.mutator row.command is can.0) can.1 name i x ((step_grows w row.mutator row.command can.0.mutator).names name there) s) [
+    let new : name ≡ next →
+    ⊥ = λ e. absent (node_of w next) (next_is_new w row.mutator (not_shared w row.mutator is can.0.mutator)) (subst (λ (n : Name).
+    IsSome (node_of w n)) e there) in
+    elim (rows_stored v rows (step_keeps_world w row.mutator row.command is can.0) can.1 name i x
+    ((step_grows w row.mutator row.command can.0.mutator).names name there) s) [
       | inl then ↦ elim (step_stores w row.mutator row.command is can.0 name i x then) [
         | inl was ↦ inl was
         | inr more ↦ elim more [
           | inl e ↦ absurd (new e)
-          | inr stores ↦ inr (record { before = []; row = row; after = rows; rows_are = refl; stores = stores; wide = IsReached.start name (inl (asked_root w row.mutator row.command name stores.changes stores.asks)) })
+          | inr stores ↦ inr (record {
+            before = [];
+            row = row;
+            after = rows;
+            rows_are = refl;
+            stores = stores;
+            wide = IsReached.start name (inl (asked_root w row.mutator row.command name stores.changes stores.asks));
+          })
         ]
       ]
       | inr stored ↦ inr (record {
@@ -205,7 +245,11 @@ old_refers_to_young w rows is can name target i there young s = elim (rows_store
 ]
   where
     known : HasStrongField w name i (value.Ref target) → IsSome (node_of w target)
-    known was = (world_holds w is).fields name target (some_of (node_of w name) was.node was.node_is) (was.node, was.node_is, field_at_place was.node i (value.Ref target) was.field)
+    known was = (world_holds w is).fields name target (some_of (node_of w name) was.node was.node_is) (
+      was.node,
+      was.node_is,
+      field_at_place was.node i (value.Ref target) was.field,
+    )
 
 pub old_weaks_stay : OldWeaksStay
 old_weaks_stay w rows is can weak parts there alive =

@@ -27,7 +27,8 @@ use Rattle.nmgc_reach.specs.laws.ItemLaws.{nothing_in, contains_one, one_is, con
 use Rattle.nmgc_reach.specs.laws.Moves.{RespectsBarrier, step_moves, born_moves, keeping_moves, made_moves, stays_put, then_same, operand_has}
 
 -- a node whose weak pointer dies, if it is one
-finalised_stays : (name : Name) (maker : ℕ) (node : Node) (i : ℕ) (x : Value) → strong_at node i ≡ Some x → (strong_at (changed change.Finalise maker node).0 i ≡ Some x) ⊎ Contains (owed_in change.Finalise name node) x
+finalised_stays : (name : Name) (maker : ℕ) (node : Node) (i : ℕ) (x : Value) → strong_at node i ≡ Some x →
+    (strong_at (changed change.Finalise maker node).0 i ≡ Some x) ⊎ Contains (owed_in change.Finalise name node) x
 finalised_stays name maker (Weak parts) i x h = absurd cc
 finalised_stays name maker (Con tag values) i x h = inl h
 finalised_stays name maker (Var v) i x h = inl h
@@ -92,7 +93,8 @@ module _ (P : Name → Type 0) where
   deref_gives None h = tt
 
   -- what `finalise` owes and gives
-  finalise_owes : (w : World) (v : Value) → Names P v → ((n : Name) → Contains (opened_in (object_of w v)) n → P n) → All (Names P) (owed_of w v change.Finalise)
+  finalise_owes : (w : World) (v : Value) → Names P v → ((n : Name) → Contains (opened_in (object_of w v)) n → P n) →
+      All (Names P) (owed_of w v change.Finalise)
   finalise_owes w value.Nil p h = All-nil (Names P)
   finalise_owes w (value.Number n) p h = All-nil (Names P)
   finalise_owes w (value.Ref name) p h = by_node (node_of w name) h
@@ -100,8 +102,10 @@ module _ (P : Name → Type 0) where
       by_node : (o : Option Node) → ((n : Name) → Contains (opened_in o) n → P n) → All (Names P) (owed_at change.Finalise name o)
       by_node (Some (Weak (Some parts))) k =
           All-cons (Names P) (value.Ref name) (parts.value ∷ parts.finaliser ∷ []) p
-          (All-cons (Names P) parts.value (parts.finaliser ∷ []) (of_value parts.value (λ n c. k n (Contains-append_left (name_in parts.value) (name_in parts.finaliser) n c)))
-          (All-cons (Names P) parts.finaliser [] (of_value parts.finaliser (λ n c. k n (Contains-append_right (name_in parts.value) (name_in parts.finaliser) n c))) (All-nil (Names P))))
+          (All-cons (Names P) parts.value (parts.finaliser ∷ []) (of_value parts.value (λ n c.
+          k n (Contains-append_left (name_in parts.value) (name_in parts.finaliser) n c)))
+          (All-cons (Names P) parts.finaliser [] (of_value parts.finaliser (λ n c.
+          k n (Contains-append_right (name_in parts.value) (name_in parts.finaliser) n c))) (All-nil (Names P))))
       by_node (Some (Weak None)) k = All-nil (Names P)
       by_node (Some (Con tag values)) k = All-nil (Names P)
       by_node (Some (Var v)) k = All-nil (Names P)
@@ -110,7 +114,8 @@ module _ (P : Name → Type 0) where
       by_node (Some (Stack size values)) k = All-nil (Names P)
       by_node None k = All-nil (Names P)
 
-  finalise_gives : (w : World) (v : Value) → ((n : Name) → Contains (opened_in (object_of w v)) n → P n) → IfSome (given (change_object w v change.Finalise).1) (Names P)
+  finalise_gives : (w : World) (v : Value) → ((n : Name) → Contains (opened_in (object_of w v)) n → P n) →
+      IfSome (given (change_object w v change.Finalise).1) (Names P)
   finalise_gives w value.Nil h = tt
   finalise_gives w (value.Number n) h = tt
   finalise_gives w (value.Ref name) h = by_node (node_of w name) h
@@ -125,12 +130,14 @@ module _ (P : Name → Type 0) where
       by_node (Some (Stack size values)) k = tt
       by_node None k = tt
 
-  finalise_moves : (w : World) (v : Value) → Names P v → All (Names P) (owed_of w v change.Finalise) → CoversReach P w → RespectsBarrier P w (change_object w v change.Finalise).0 (owed_of w v change.Finalise)
+  finalise_moves : (w : World) (v : Value) → Names P v → All (Names P) (owed_of w v change.Finalise) → CoversReach P w →
+      RespectsBarrier P w (change_object w v change.Finalise).0 (owed_of w v change.Finalise)
   finalise_moves w value.Nil p owes h = stays_put P w h
   finalise_moves w (value.Number n) p owes h = stays_put P w h
   finalise_moves w (value.Ref name) p owes h = by_node (node_of w name) refl owes
     where
-      by_node : (o : Option Node) → node_of w name ≡ o → All (Names P) (owed_at change.Finalise name o) → RespectsBarrier P w (change_node w name o change.Finalise).0 (owed_at change.Finalise name o)
+      by_node : (o : Option Node) → node_of w name ≡ o → All (Names P) (owed_at change.Finalise name o) →
+          RespectsBarrier P w (change_node w name o change.Finalise).0 (owed_at change.Finalise name o)
       by_node None e k = stays_put P w h
       by_node (Some found) e k =
           made_moves P w name found (changed change.Finalise name.maker found).0 (owed_at change.Finalise name (Some found)) e
@@ -138,7 +145,8 @@ module _ (P : Name → Type 0) where
           k (finalised_stays name name.maker found) (finalised_later name.maker found) h p
 
   -- every command, where what it opens is of the names
-  pub all_moves : (w : World) (m : ℕ) (c : Command) → m < length w.mutators → m ≢ SHARED_MAKER → P shared_name → P (next_name (state_of w m) m) → ((n : Name) → Contains (opened_by w m c) n → P n) → CoversReach P w → RespectsBarrier P w (step w m c).0 (values_owed w m c)
+  pub all_moves : (w : World) (m : ℕ) (c : Command) → m < length w.mutators → m ≢ SHARED_MAKER → P shared_name → P (next_name (state_of w m) m) →
+      ((n : Name) → Contains (opened_by w m c) n → P n) → CoversReach P w → RespectsBarrier P w (step w m c).0 (values_owed w m c)
   all_moves w m (command.Weak dest key v finaliser) lt own g p o h = born_moves P w m dest _ lt own h p (All-nil (Names P))
   all_moves w m (command.Deref dest object) lt own g p o h =
       let owes : All (Names P) (value_held (object_of w (value_for w m object))) = deref_owes (object_of w (value_for w m object)) o in
@@ -148,7 +156,8 @@ module _ (P : Name → Type 0) where
       let q : Names P v = operand_has P (state_of w m).registers object g (h.registers m) in
       let a : RespectsBarrier P w (change_object w v change.Finalise).0 (owed_of w v change.Finalise) = finalise_moves w v q (finalise_owes w v q o) h in
       then_same P w (change_object w v change.Finalise).0 (change_into m dest (change_object w v change.Finalise)).0 (owed_of w v change.Finalise) a
-      (keeping_moves P (change_object w v change.Finalise).0 m dest (change_object w v change.Finalise).1 (subst (λ n. m < n) (sym a.mutators) lt) a.holds (finalise_gives w v o))
+      (keeping_moves P (change_object w v change.Finalise).0 m dest (change_object w v change.Finalise).1 (subst (λ n.
+      m < n) (sym a.mutators) lt) a.holds (finalise_gives w v o))
   all_moves w m c lt own g p o h = step_moves P w m c tt lt own g p h
 
 -- a name in one of the values is among their names
@@ -172,8 +181,12 @@ opened_owed w m (command.Finalise dest object) name h = by_value (value_for w m 
   where
     by_node : (at : Name) (o : Option Node) → Contains (opened_in o) name → Contains (names_among (owed_at change.Finalise at o)) name
     by_node at (Some (Weak (Some parts))) k = elim (Contains-append_cases (name_in parts.value) (name_in parts.finaliser) name k) [
-      | inl a ↦ in_one (value.Ref at ∷ parts.value ∷ parts.finaliser ∷ []) parts.value name (contains_tail (value.Ref at) (parts.value ∷ parts.finaliser ∷ []) parts.value (contains_head parts.value (parts.finaliser ∷ []))) a
-      | inr b ↦ in_one (value.Ref at ∷ parts.value ∷ parts.finaliser ∷ []) parts.finaliser name (contains_tail (value.Ref at) (parts.value ∷ parts.finaliser ∷ []) parts.finaliser (contains_tail parts.value (parts.finaliser ∷ []) parts.finaliser (contains_one parts.finaliser))) b
+      | inl a ↦ in_one (value.Ref at ∷ parts.value ∷ parts.finaliser ∷
+          []) parts.value name (contains_tail (value.Ref at) (parts.value ∷ parts.finaliser ∷
+          []) parts.value (contains_head parts.value (parts.finaliser ∷ []))) a
+      | inr b ↦ in_one (value.Ref at ∷ parts.value ∷ parts.finaliser ∷
+          []) parts.finaliser name (contains_tail (value.Ref at) (parts.value ∷ parts.finaliser ∷
+          []) parts.finaliser (contains_tail parts.value (parts.finaliser ∷ []) parts.finaliser (contains_one parts.finaliser))) b
     ]
     by_node at (Some (Weak None)) k = absurd (nothing_in name k)
     by_node at (Some (Con tag values)) k = absurd (nothing_in name k)
@@ -196,12 +209,21 @@ Ends w weak owed = (parts : Parts) × IsAlive w weak parts × ((target : Name) �
 pub finalised_owed : (w : World) (m : ℕ) (c : Command) (weak : Name) → Contains (finalised_by w m c) weak → Ends w weak (owed_by w m c)
 finalised_owed w m (command.Finalise dest object) weak h = by_value (value_for w m object) h
   where
-    kept_owed : (at : Name) (parts : Parts) (target : Name) → IsKeptBy at parts target → Contains (names_among (value.Ref at ∷ parts.value ∷ parts.finaliser ∷ [])) target
-    kept_owed at parts target (inl e) = in_one (value.Ref at ∷ parts.value ∷ parts.finaliser ∷ []) (value.Ref at) target (contains_head (value.Ref at) (parts.value ∷ parts.finaliser ∷ [])) (subst (λ (n : Name). Contains (at ∷ []) n) (sym e) (contains_one at))
-    kept_owed at parts target (inr (inl e)) = in_one (value.Ref at ∷ parts.value ∷ parts.finaliser ∷ []) parts.value target (contains_tail (value.Ref at) (parts.value ∷ parts.finaliser ∷ []) parts.value (contains_head parts.value (parts.finaliser ∷ []))) (subst (λ (v : Value). Contains (name_in v) target) (sym e) (contains_one target))
-    kept_owed at parts target (inr (inr e)) = in_one (value.Ref at ∷ parts.value ∷ parts.finaliser ∷ []) parts.finaliser target (contains_tail (value.Ref at) (parts.value ∷ parts.finaliser ∷ []) parts.finaliser (contains_tail parts.value (parts.finaliser ∷ []) parts.finaliser (contains_one parts.finaliser))) (subst (λ (v : Value). Contains (name_in v) target) (sym e) (contains_one target))
+    kept_owed : (at : Name) (parts : Parts) (target : Name) → IsKeptBy at parts target →
+        Contains (names_among (value.Ref at ∷ parts.value ∷ parts.finaliser ∷ [])) target
+    kept_owed at parts target (inl e) = in_one (value.Ref at ∷ parts.value ∷ parts.finaliser ∷
+        []) (value.Ref at) target (contains_head (value.Ref at) (parts.value ∷ parts.finaliser ∷ [])) (subst (λ (n : Name).
+        Contains (at ∷ []) n) (sym e) (contains_one at))
+    kept_owed at parts target (inr (inl e)) = in_one (value.Ref at ∷ parts.value ∷ parts.finaliser ∷
+        []) parts.value target (contains_tail (value.Ref at) (parts.value ∷ parts.finaliser ∷
+        []) parts.value (contains_head parts.value (parts.finaliser ∷ []))) (subst (λ (v : Value). Contains (name_in v) target) (sym e) (contains_one target))
+    kept_owed at parts target (inr (inr e)) = in_one (value.Ref at ∷ parts.value ∷ parts.finaliser ∷
+        []) parts.finaliser target (contains_tail (value.Ref at) (parts.value ∷ parts.finaliser ∷
+        []) parts.finaliser (contains_tail parts.value (parts.finaliser ∷
+        []) parts.finaliser (contains_one parts.finaliser))) (subst (λ (v : Value). Contains (name_in v) target) (sym e) (contains_one target))
 
-    by_node : (at : Name) (o : Option Node) → node_of w at ≡ o → Contains (finalised_in (value.Ref at) o) weak → Ends w weak (names_among (owed_at change.Finalise at o))
+    by_node : (at : Name) (o : Option Node) → node_of w at ≡ o → Contains (finalised_in (value.Ref at) o) weak →
+        Ends w weak (names_among (owed_at change.Finalise at o))
     by_node at (Some (Weak (Some parts))) e k =
         let same : at ≡ weak = one_is at weak k in
         subst (λ (n : Name). Ends w n (names_among (value.Ref at ∷ parts.value ∷ parts.finaliser ∷ []))) same (parts, e, kept_owed at parts)

@@ -46,7 +46,8 @@ change_keeps w h (value.Ref name) c known = by_node (node_of w name) refl
         elim (eqb_tells name.maker SHARED_MAKER) [
           | inl p ↦
               let same : w.shared ≡ found = some_is w.shared found (sym (is_shared w h name c there known p.1) ∙ e) in
-              let P : Node → Type 0 = λ node. IsWorld (record w { shared = (changed c name.maker node).0 }) × IsKnownReply (record w { shared = (changed c name.maker node).0 }) (changed c name.maker node).1 in
+              let P : Node → Type 0 = λ node. IsWorld (record w { shared = (changed c name.maker node).0 }) ×
+              IsKnownReply (record w { shared = (changed c name.maker node).0 }) (changed c name.maker node).1 in
               let left : P found = subst P same (shared_changed w h name c there known p.1 name.maker, shared_reply w h name c there known p.1 name.maker) in
               rw p.0 left
           | inr p ↦
@@ -80,7 +81,8 @@ keeping_keeps w m dest reply.Nothing h lt k = h
 keeping_keeps w m dest reply.StackFull h lt k = h
 keeping_keeps w m dest reply.StackEmpty h lt k = h
 
-change_into_keeps : (w : World) (m dest : ℕ) (v : Value) (c : Change) → IsWorld w → m < length w.mutators → IsKnownChange w c → IsWorld (change_into m dest (change_object w v c)).0
+change_into_keeps : (w : World) (m dest : ℕ) (v : Value) (c : Change) → IsWorld w → m < length w.mutators → IsKnownChange w c →
+    IsWorld (change_into m dest (change_object w v c)).0
 change_into_keeps w m dest v c h lt known =
     let r = change_keeps w h v c known in
     keeping_keeps (change_object w v c).0 m dest (change_object w v c).1 r.0 (subst (λ (n : ℕ). m < n) (sym (change_count w v c)) lt) r.1
@@ -89,23 +91,53 @@ pub step_keeps_world : (w : World) (m : ℕ) (c : Command) → IsWorld w → Can
 step_keeps_world w m (command.Num dest number) h can = holding_keeps w m dest (value.Number number) h can.mutator tt
 step_keeps_world w m (command.Nil dest) h can = holding_keeps w m dest value.Nil h can.mutator tt
 step_keeps_world w m (command.Mov dest v) h can = holding_keeps w m dest (value_for w m v) h can.mutator (operand_known w m h can.mutator v can.registers.1)
-step_keeps_world w m (command.Con dest tag fields) h can = born_keeps w m dest _ h can.mutator can.serial (record { known = operands_known w m h can.mutator fields can.registers.1; sized = tt })
-step_keeps_world w m (command.Var dest v) h can = born_keeps w m dest _ h can.mutator can.serial (record { known = one_has (IsKnown w) (value_for w m v) (operand_known w m h can.mutator v can.registers.1); sized = tt })
-step_keeps_world w m (command.Arr dest count v) h can = born_keeps w m dest _ h can.mutator can.serial (record { known = All-replicate (IsKnown w) count (value_for w m v) (operand_known w m h can.mutator v can.registers.1); sized = tt })
-step_keeps_world w m (command.Thunk dest free) h can = born_keeps w m dest _ h can.mutator can.serial (record { known = operands_known w m h can.mutator free can.registers.1; sized = tt })
-step_keeps_world w m (command.Weak dest key v finaliser) h can = born_keeps w m dest _ h can.mutator can.serial (record {
-  known = All-cons (IsKnown w) (value_for w m key) (value_for w m v ∷ value_for w m finaliser ∷ []) (operand_known w m h can.mutator key can.registers.1) (All-cons (IsKnown w) (value_for w m v) (value_for w m finaliser ∷ []) (operand_known w m h can.mutator v can.registers.2) (one_has (IsKnown w) (value_for w m finaliser) (operand_known w m h can.mutator finaliser can.registers.3)));
+step_keeps_world w m (command.Con dest tag fields) h can = born_keeps w m dest _ h can.mutator can.serial (record {
+  known =
+      operands_known w m h can.mutator fields can.registers.1;
   sized = tt;
 })
-step_keeps_world w m (command.Stack dest size) h can = born_keeps w m dest _ h can.mutator can.serial (record { known = All-nil (IsKnown w); sized = omega arith })
-step_keeps_world w m (command.Get dest object index) h can = keeping_keeps w m dest _ h can.mutator (read_known w h (value_for w m object) (λ found. field_read found index) (λ node known. field_read_known w node index known))
-step_keeps_world w m (command.Set object index v) h can = (change_keeps w h (value_for w m object) (change.Set index (value_for w m v)) (operand_known w m h can.mutator v can.registers.1)).0
-step_keeps_world w m (command.Cas object index expected v) h can = (change_keeps w h (value_for w m object) (change.Exchange index (value_for w m expected) (value_for w m v)) (operand_known w m h can.mutator v can.registers.2)).0
-step_keeps_world w m (command.Update object v) h can = (change_keeps w h (value_for w m object) (change.Update (value_for w m v)) (operand_known w m h can.mutator v can.registers.1)).0
-step_keeps_world w m (command.Force dest object) h can = keeping_keeps w m dest _ h can.mutator (read_known w h (value_for w m object) result_read (λ node known. result_read_known w node known))
-step_keeps_world w m (command.Push object v) h can = (change_keeps w h (value_for w m object) (change.Push m (value_for w m v)) (operand_known w m h can.mutator v can.registers.1)).0
+step_keeps_world w m (command.Var dest v) h can = born_keeps w m dest _ h can.mutator can.serial (record {
+  known =
+      one_has (IsKnown w) (value_for w m v) (operand_known w m h can.mutator v can.registers.1);
+  sized = tt;
+})
+step_keeps_world w m (command.Arr dest count v) h can = born_keeps w m dest _ h can.mutator can.serial (record {
+  known =
+      All-replicate (IsKnown w) count (value_for w m v) (operand_known w m h can.mutator v can.registers.1);
+  sized = tt;
+})
+step_keeps_world w m (command.Thunk dest free) h can = born_keeps w m dest _ h can.mutator can.serial (record {
+  known =
+      operands_known w m h can.mutator free can.registers.1;
+  sized = tt;
+})
+step_keeps_world w m (command.Weak dest key v finaliser) h can = born_keeps w m dest _ h can.mutator can.serial (record {
+  known = All-cons (IsKnown w) (value_for w m key) (value_for w m v ∷ value_for w m finaliser ∷
+      []) (operand_known w m h can.mutator key can.registers.1) (All-cons (IsKnown w) (value_for w m v) (value_for w m finaliser ∷
+      []) (operand_known w m h can.mutator v can.registers.2)
+      (one_has (IsKnown w) (value_for w m finaliser) (operand_known w m h can.mutator finaliser can.registers.3)));
+  sized = tt;
+})
+step_keeps_world w m (command.Stack dest size) h can = born_keeps w m dest _ h can.mutator can.serial (record {
+  known = All-nil (IsKnown w);
+  sized = omega arith;
+})
+step_keeps_world w m (command.Get dest object index) h can = keeping_keeps w m dest _ h can.mutator (read_known w h (value_for w m object) (λ found.
+    field_read found index) (λ node known. field_read_known w node index known))
+step_keeps_world w m (command.Set object index v) h can =
+    (change_keeps w h (value_for w m object) (change.Set index (value_for w m v)) (operand_known w m h can.mutator v can.registers.1)).0
+step_keeps_world w m (command.Cas object index expected v) h can =
+    (change_keeps w h (value_for w m object) (change.Exchange index (value_for w m expected) (value_for w m v))
+    (operand_known w m h can.mutator v can.registers.2)).0
+step_keeps_world w m (command.Update object v) h can =
+    (change_keeps w h (value_for w m object) (change.Update (value_for w m v)) (operand_known w m h can.mutator v can.registers.1)).0
+step_keeps_world w m (command.Force dest object) h can =
+    keeping_keeps w m dest _ h can.mutator (read_known w h (value_for w m object) result_read (λ node known. result_read_known w node known))
+step_keeps_world w m (command.Push object v) h can =
+    (change_keeps w h (value_for w m object) (change.Push m (value_for w m v)) (operand_known w m h can.mutator v can.registers.1)).0
 step_keeps_world w m (command.Pop dest object) h can = change_into_keeps w m dest (value_for w m object) (change.Pop m) h can.mutator tt
-step_keeps_world w m (command.Deref dest object) h can = keeping_keeps w m dest _ h can.mutator (read_known w h (value_for w m object) value_read (λ node known. value_read_known w node known))
+step_keeps_world w m (command.Deref dest object) h can =
+    keeping_keeps w m dest _ h can.mutator (read_known w h (value_for w m object) value_read (λ node known. value_read_known w node known))
 step_keeps_world w m (command.Finalise dest object) h can = change_into_keeps w m dest (value_for w m object) change.Finalise h can.mutator tt
 step_keeps_world w m (command.NextFin dest) h can = finaliser_keeps w m dest h can.mutator
 step_keeps_world w m (command.Show v) h can = h

@@ -51,8 +51,10 @@ module _ (layout : Layout) (a b : AllocState) (m class : ℕ) (name : Name) (p :
 
   none_here : IsIn stands.Sweeping (cells b p.number) → ⊥
   none_here is = elim p.placed [
-    | inl h ↦ let at = ap (λ (c : Cells). c.state) (ap (λ (x : AllocState). cells x p.number) h.1 ∙ get_or-set_same a.segments p.number _ no_cells (target_is p.target).0) in let bad = sym is ∙ at in cc
-    | inr h ↦ let at = ap (λ (c : Cells). c.state) (ap (λ (x : AllocState). cells x p.number) h.1 ∙ get_or-set_same a.segments p.number _ no_cells (target_is p.target).0) in let bad = sym is ∙ at in cc
+    | inl h ↦ let at = ap (λ (c : Cells). c.state) (ap (λ (x : AllocState). cells x p.number) h.1 ∙ get_or-set_same a.segments p.number _ no_cells (target_is p.target).0) in
+        let bad = sym is ∙ at in cc
+    | inr h ↦ let at = ap (λ (c : Cells). c.state) (ap (λ (x : AllocState). cells x p.number) h.1 ∙ get_or-set_same a.segments p.number _ no_cells (target_is p.target).0) in
+        let bad = sym is ∙ at in cc
   ]
 
   pub placing_waits : SameWait a b
@@ -68,7 +70,10 @@ module _ (layout : Layout) (a b : AllocState) (m class : ℕ) (name : Name) (p :
   }
 
 pub all_placing_waits : (layout : Layout) (w : World) (a b : AllocState) (names : List Name) → PlacesEach layout w a names b → SameWait a b
-all_placing_waits layout w a b [] e = record { same = λ number is. ap (λ (x : AllocState). cells x number) e; back = λ number is. ap (λ (x : AllocState). cells x number) e }
+all_placing_waits layout w a b [] e = record {
+  same = λ number is. ap (λ (x : AllocState). cells x number) e;
+  back = λ number is. ap (λ (x : AllocState). cells x number) e;
+}
 all_placing_waits layout w a b (name ∷ names) h =
     let one : SameWait a h.0 = placing_waits layout a h.0 name.maker h.1.class name h.1.places in
     let more : SameWait h.0 b = all_placing_waits layout w h.0 b names h.2 in
@@ -94,7 +99,9 @@ same_waits (marking c) number begun a b w h = (
 same_waits (sweeping c closed) number begun a b w h = (h.0, still_noted c a b w h.1)
 
 pub promotions_stay : PromotionsStayInCourse
-promotions_stay layout began s t count p h = subst IsStateInCourse (sym p.rest) (same_waits s.progress s.number s.begun s.allocation t.allocation (all_placing_waits layout s.world s.allocation t.allocation p.names p.places) h)
+promotions_stay layout began s t count p h =
+    subst IsStateInCourse (sym p.rest) (same_waits s.progress s.number s.begun s.allocation t.allocation
+    (all_placing_waits layout s.world s.allocation t.allocation p.names p.places) h)
 
 -- a sweep leaves the segments that still wait as they were
 
@@ -125,7 +132,8 @@ sweep_noted c a b numbers s h number is =
 later : (c : Cycle) (number begun : ℕ) → IsLastBegun c number begun → IsLastBegun c (number + 1) begun
 later c number begun h = let before = h.from_before in record { number_is = h.number_is; some = h.some; from_before = omega (arith, before) }
 
-round_course : (quota : ℕ) (p : Progress) (number begun : ℕ) (a b : AllocState) (rows : List Row) → SweepsBeside quota p a b → IsInCourse p number begun a → IsInCourse (noted p rows) (number + 1) begun b
+round_course : (quota : ℕ) (p : Progress) (number begun : ℕ) (a b : AllocState) (rows : List Row) → SweepsBeside quota p a b →
+    IsInCourse p number begun a → IsInCourse (noted p rows) (number + 1) begun b
 round_course quota idle number begun a b rows same h = subst (λ (x : AllocState). NoneIs (IsIn stands.Sweeping) x) (sym same) h
 round_course quota (marking c) number begun a b rows same h =
     let last = later c number begun h.0 in
@@ -136,7 +144,8 @@ round_course quota (marking c) number begun a b rows same h =
 round_course quota (sweeping c closed) number begun a b rows s h = (later c number begun h.0, sweep_noted c a b s.numbers s.sweeps h.1)
 
 pub rounds_stay : RoundsStayInCourse
-rounds_stay config s t replies rows r h = subst IsStateInCourse (sym r.rest) (round_course config.quota s.progress s.number s.begun s.allocation t.allocation rows r.swept h)
+rounds_stay config s t replies rows r h =
+    subst IsStateInCourse (sym r.rest) (round_course config.quota s.progress s.number s.begun s.allocation t.allocation rows r.swept h)
 
 -- a cycle begins
 
@@ -160,7 +169,9 @@ cycles_begin s none = (
   record {
     as_noted = λ number is.
         let cell = begun_cells s.allocation number in
-        let filled : (cells s.allocation number).state ≡ stands.Filled = begun_waits (cells s.allocation number).state (sym (ap (λ (c : Cells). c.state) cell) ∙ is) (λ waits. none number (waits_there s.allocation number waits) waits) in
+        let filled : (cells s.allocation number).state ≡ stands.Filled =
+        begun_waits (cells s.allocation number).state (sym (ap (λ (c : Cells). c.state) cell) ∙
+        is) (λ waits. none number (waits_there s.allocation number waits) waits) in
         ((used_exists s.allocation number (λ free. let bad : stands.Filled ≡ stands.Free = sym filled ∙ free in cc), filled), ap (λ (c : Cells). c.names) cell);
     all = λ number swept. ap (λ (c : Cells). c.state) (begun_cells s.allocation number) ∙ ap prepared_state swept.1;
   },
@@ -173,17 +184,23 @@ none_retired a none number there is =
 
 -- the steps of a stop
 
-closes_course : (quota : ℕ) (p : Progress) (s t : State) → IsInCourse p s.number s.begun s.allocation → s.progress ≡ p → ClosesOrWaits quota p s t → IsStateInCourse t
+closes_course : (quota : ℕ) (p : Progress) (s t : State) → IsInCourse p s.number s.begun s.allocation → s.progress ≡ p → ClosesOrWaits quota p s t →
+    IsStateInCourse t
 closes_course quota idle s t h e same = subst IsStateInCourse (sym same) (subst (λ (p : Progress). IsInCourse p s.number s.begun s.allocation) (sym e) h)
-closes_course quota (marking c) s t h e (inl same) = subst IsStateInCourse (sym same) (subst (λ (p : Progress). IsInCourse p s.number s.begun s.allocation) (sym e) h)
+closes_course quota (marking c) s t h e (inl same) = subst IsStateInCourse (sym same) (subst (λ (p : Progress).
+    IsInCourse p s.number s.begun s.allocation) (sym e) h)
 closes_course quota (marking c) s t h e (inr closes) = subst IsStateInCourse (sym closes.0.rest) (h.0, h.1.as_noted)
-closes_course quota (sweeping c number) s t h e same = subst IsStateInCourse (sym same) (subst (λ (p : Progress). IsInCourse p s.number s.begun s.allocation) (sym e) h)
+closes_course quota (sweeping c number) s t h e same = subst IsStateInCourse (sym same) (subst (λ (p : Progress).
+    IsInCourse p s.number s.begun s.allocation) (sym e) h)
 
-ends_course : (p : Progress) (s t : State) (cycles : List CycleRow) → IsInCourse p s.number s.begun s.allocation → s.progress ≡ p → EndsOrWaits p s t cycles → IsStateInCourse t
+ends_course : (p : Progress) (s t : State) (cycles : List CycleRow) → IsInCourse p s.number s.begun s.allocation → s.progress ≡ p →
+    EndsOrWaits p s t cycles → IsStateInCourse t
 ends_course idle s t cycles h e ends = subst IsStateInCourse (sym ends.0) (subst (λ (p : Progress). IsInCourse p s.number s.begun s.allocation) (sym e) h)
-ends_course (marking c) s t cycles h e ends = subst IsStateInCourse (sym ends.0) (subst (λ (p : Progress). IsInCourse p s.number s.begun s.allocation) (sym e) h)
+ends_course (marking c) s t cycles h e ends = subst IsStateInCourse (sym ends.0) (subst (λ (p : Progress).
+    IsInCourse p s.number s.begun s.allocation) (sym e) h)
 ends_course (sweeping c number) s t cycles h e (inl ends) = subst IsStateInCourse (sym ends.1.rest) ends.0
-ends_course (sweeping c number) s t cycles h e (inr waits) = subst IsStateInCourse (sym waits.1) (subst (λ (p : Progress). IsInCourse p s.number s.begun s.allocation) (sym e) h)
+ends_course (sweeping c number) s t cycles h e (inr waits) = subst IsStateInCourse (sym waits.1) (subst (λ (p : Progress).
+    IsInCourse p s.number s.begun s.allocation) (sym e) h)
 
 -- a finished cycle leaves no segment that waits, and an idle collector
 record IsQuiet (t : State) : Type 0 where
@@ -204,9 +221,13 @@ finishes s t cycles f h = by s.progress refl h (subst (λ (p : Progress). Closes
 
     after : (c : Cycle) (number : ℕ) → f.closed.progress ≡ sweeping c number → IsQuiet t
     after c number e =
-        let none : NoneIs (IsIn stands.Sweeping) f.swept.allocation = all_swept (IsKeptIn c) f.closed.allocation f.swept.allocation (sweeps (sweeping c number) e) in
+        let none : NoneIs (IsIn stands.Sweeping) f.swept.allocation =
+        all_swept (IsKeptIn c) f.closed.allocation f.swept.allocation (sweeps (sweeping c number) e) in
         elim (ends (sweeping c number) e) [
-          | inl h ↦ record { is_idle = ap (λ (x : State). x.progress) h.1.rest; none = subst (λ (x : State). NoneIs (IsIn stands.Sweeping) x.allocation) (sym h.1.rest) none }
+          | inl h ↦ record {
+            is_idle = ap (λ (x : State). x.progress) h.1.rest;
+            none = subst (λ (x : State). NoneIs (IsIn stands.Sweeping) x.allocation) (sym h.1.rest) none;
+          }
           | inr h ↦ absurd (h.0 none)
         ]
 
@@ -234,7 +255,9 @@ begins_course config s t (inl b) h = subst IsStateInCourse (sym b.1) (cycles_beg
 full_course : (s t : State) (cycles : List CycleRow) → DoesFullCycle s t cycles → IsStateInCourse s → IsStateInCourse t
 full_course s t cycles f h =
     let before : IsQuiet f.idled = finishes s f.idled f.before f.finishes h in
-    let again : IsQuiet f.last = finishes (cycle_started (with_all_retired f.idled)) f.last f.own f.again (cycles_begin (with_all_retired f.idled) (none_retired f.idled.allocation before.none)) in
+    let again : IsQuiet f.last =
+    finishes (cycle_started (with_all_retired f.idled)) f.last f.own f.again
+    (cycles_begin (with_all_retired f.idled) (none_retired f.idled.allocation before.none)) in
     subst IsStateInCourse (sym f.rest) (subst (λ (p : Progress). IsInCourse p f.last.number f.last.begun f.last.allocation) (sym again.is_idle) again.none)
 
 proceeds_course : (plan : Plan) (s t : State) (cycles : List CycleRow) → Proceeds plan s t cycles → IsStateInCourse s → IsStateInCourse t
@@ -243,7 +266,8 @@ proceeds_course plan s t cycles (inr b) h = begins_course plan.config s t b.1 h
 
 -- a stop, and the turns
 
-pub stop_course : (plan : Plan) (began : World) (s t : State) (row : StopRow) (cycles : List CycleRow) → IsStop plan began s t row cycles → IsStateInCourse s → IsStateInCourse t
+pub stop_course : (plan : Plan) (began : World) (s t : State) (row : StopRow) (cycles : List CycleRow) → IsStop plan began s t row cycles →
+    IsStateInCourse s → IsStateInCourse t
 stop_course plan began s t row cycles i h =
     let promoted = promotions_stay _ began s i.promoted i.count i.promotes h in
     let closed = closes_course plan.config.quota i.promoted.progress i.promoted i.closed promoted refl i.closes in
@@ -259,6 +283,7 @@ turns_course plan s (turn ∷ turns) i h =
 
 pub runs_are : RunsAreInCourse
 runs_are plan run i =
-    let first : IsStateInCourse (start plan) = λ number there is. let bad : stands.Free ≡ stands.Sweeping = sym (ap (λ (c : Cells). c.state) (first_cells plan.config.segments number)) ∙ is in cc in
+    let first : IsStateInCourse (start plan) = λ number there is.
+    let bad : stands.Free ≡ stands.Sweeping = sym (ap (λ (c : Cells). c.state) (first_cells plan.config.segments number)) ∙ is in cc in
     let opened = stop_course plan _ (start plan) run.opening.state run.opening.row run.opening.cycles i.opening first in
     turns_course plan run.opening.state run.turns i.turns opened

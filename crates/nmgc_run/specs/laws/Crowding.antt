@@ -52,7 +52,8 @@ record KeepsMuch (plan : Plan) (w : World) : Type 0 where
   counts : Counts (IsKeptOf w) kept
   more : plan.config.segments < kept + reserve_of plan
 
-full_keeps : (plan : Plan) (s t : State) (cycles : List CycleRow) (f : DoesFullCycle s t cycles) → IsSoundHere plan s → free_count t < reserve_of plan → KeepsMuch plan f.idled.world
+full_keeps : (plan : Plan) (s t : State) (cycles : List CycleRow) (f : DoesFullCycle s t cycles) → IsSoundHere plan s →
+    free_count t < reserve_of plan → KeepsMuch plan f.idled.world
 full_keeps plan s t cycles f h few =
     let c : Cycle = next_cycle (with_all_retired f.idled) in
     let g : State = cycle_started (with_all_retired f.idled) in
@@ -77,11 +78,13 @@ full_keeps plan s t cycles f h few =
 abbrev Claim : (plan : Plan) → StopInRun plan → Type 0
 Claim plan stop = is_short plan stop.stop.state ≡ true → LeavesHeapFull plan stop × IsCrowded plan stop
 
-proceeds_claim : (plan : Plan) (stop : StopInRun plan) → IsSoundHere plan stop.is.ended → Proceeds plan stop.is.ended stop.stop.state stop.is.more → Claim plan stop
+proceeds_claim : (plan : Plan) (stop : StopInRun plan) → IsSoundHere plan stop.is.ended → Proceeds plan stop.is.ended stop.stop.state stop.is.more →
+    Claim plan stop
 proceeds_claim plan stop h (inl f) short =
     let s : State = stop.is.ended in
     let t : State = stop.stop.state in
-    let few : free_count t < reserve_of plan = ltb-true (free_count t) (reserve_of plan) (short_free (has_left t.left) (nat_lt (free_count t) (reserve_of plan)) short) in
+    let few : free_count t < reserve_of plan =
+    ltb-true (free_count t) (reserve_of plan) (short_free (has_left t.left) (nat_lt (free_count t) (reserve_of plan)) short) in
     let much : KeepsMuch plan f.1.idled.world = full_keeps plan s t stop.is.more f.1 h few in (
       record { cycle = f.1; short = short },
       record {
@@ -96,15 +99,19 @@ proceeds_claim plan stop h (inr (not, inr b, none)) short = absurd (not (inr (sy
 proceeds_claim plan stop h (inr (not, inl b, none)) short =
     let s : State = stop.is.ended in
     let t : State = stop.stop.state in
-    let same : is_short plan t ≡ is_short plan s = ap (λ (x : State). is_short plan x) b.1 ∙ ap (λ (count : ℕ). has_left s.left && nat_lt count (reserve_of plan)) (free_kept s.allocation.segments) in
+    let same : is_short plan t ≡ is_short plan s = ap (λ (x : State). is_short plan x) b.1 ∙
+    ap (λ (count : ℕ). has_left s.left && nat_lt count (reserve_of plan)) (free_kept s.allocation.segments) in
     absurd (not (inr (sym same ∙ short)))
 
-stop_claim : (plan : Plan) (stop : StopInRun plan) → Worked plan (lefts stop.worked) stop.began stop.worked.world stop.worked.allocation stop.worked.progress → Claim plan stop
-stop_claim plan stop h = proceeds_claim plan stop (stop_holds plan stop.began stop.worked stop.stop.state stop.stop.row stop.stop.cycles stop.is h).ended stop.is.proceeds
+stop_claim : (plan : Plan) (stop : StopInRun plan) →
+    Worked plan (lefts stop.worked) stop.began stop.worked.world stop.worked.allocation stop.worked.progress → Claim plan stop
+stop_claim plan stop h =
+    proceeds_claim plan stop (stop_holds plan stop.began stop.worked stop.stop.state stop.stop.row stop.stop.cycles stop.is h).ended stop.is.proceeds
 
 -- the run
 
-turns_claim : (plan : Plan) (before : StopInRun plan) (turns : List Turn) (i : AreTurns plan before.stop.state turns) → HasPrograms plan before.stop.state → IsSoundHere plan before.stop.state → Claim plan before → Claim plan (last_after plan before turns i)
+turns_claim : (plan : Plan) (before : StopInRun plan) (turns : List Turn) (i : AreTurns plan before.stop.state turns) →
+    HasPrograms plan before.stop.state → IsSoundHere plan before.stop.state → Claim plan before → Claim plan (last_after plan before turns i)
 turns_claim plan before [] i able h claim = claim
 turns_claim plan before (turn ∷ turns) i able h claim =
     let s : State = before.stop.state in
@@ -120,7 +127,8 @@ run_claim plan run i runnable =
     turns_claim plan first run.turns i.turns opened.0 opened.1 (stop_claim plan first (opening_worked plan runnable))
 
 -- the last stop leaves the last state
-turns_last : (plan : Plan) (before : StopInRun plan) (turns : List Turn) (i : AreTurns plan before.stop.state turns) → (last_after plan before turns i).stop.state ≡ state_after before.stop.state turns
+turns_last : (plan : Plan) (before : StopInRun plan) (turns : List Turn) (i : AreTurns plan before.stop.state turns) →
+    (last_after plan before turns i).stop.state ≡ state_after before.stop.state turns
 turns_last plan before [] i = refl
 turns_last plan before (turn ∷ turns) i = turns_last plan (next_stop plan before turn i.0) turns i.1
 
@@ -137,16 +145,19 @@ end_short plan s (HeapFull free reserve) e full = full_short (is_short plan s) (
 -- and a short heap is such an end
 short_end : (plan : Plan) (s : State) (end : End) → answer_of plan s ≡ Some end → is_short plan s ≡ true → IsHeapFull end
 short_end plan s end e short =
-    let A : Bool → Type 0 = λ (b : Bool). (if b then Some (HeapFull (free_count s) (reserve_of plan)) else (if is_done s then Some Done else None)) ≡ Some end in
+    let A : Bool → Type 0 = λ (b : Bool).
+    (if b then Some (HeapFull (free_count s) (reserve_of plan)) else (if is_done s then Some Done else None)) ≡ Some end in
     of_some end (subst A short e)
   where
     of_some : (end : End) → Some (HeapFull (free_count s) (reserve_of plan)) ≡ Some end → IsHeapFull end
     of_some Done e = absurd cc
     of_some (HeapFull free reserve) e = tt
 
-kept_many : (plan : Plan) (report : Report) (end : End) (lawful : IsLawfulFor plan report) → IsRunnable plan → answer_of plan (last_state lawful.run) ≡ Some end → IsHeapFull end → plan.config.segments < kept_count report.cycles + reserve_of plan
+kept_many : (plan : Plan) (report : Report) (end : End) (lawful : IsLawfulFor plan report) → IsRunnable plan →
+    answer_of plan (last_state lawful.run) ≡ Some end → IsHeapFull end → plan.config.segments < kept_count report.cycles + reserve_of plan
 kept_many plan report Done lawful runnable e full = absurd full
-kept_many plan report (HeapFull free reserve) lawful runnable e full = full_heap_is_crowded plan lawful.run report.rounds report.stops report.cycles free reserve runnable lawful.is_run lawful.tells e
+kept_many plan report (HeapFull free reserve) lawful runnable e full =
+    full_heap_is_crowded plan lawful.run report.rounds report.stops report.cycles free reserve runnable lawful.is_run lawful.tells e
 
 -- a program has no more commands than a script may have bytes, and so it is short enough for serials
 pub few_in_each : (script : Script) → HasFewCommands script → (m : ℕ) → length (program_of script.threads m) ≤ most_script_bytes
@@ -166,10 +177,15 @@ lawful_are_of_runs script report fits few lawful =
     let runnable : IsRunnable plan = runnable_of script fits few in
     let last : (last_stop plan run lawful.is_run).stop.state ≡ last_state run = run_last plan run lawful.is_run in
     let claim : Claim plan (last_stop plan run lawful.is_run) = run_claim plan run lawful.is_run runnable in
-    let short : IsHeapFull report.end → is_short plan (last_stop plan run lawful.is_run).stop.state ≡ true = λ full. ap (λ (s : State). is_short plan s) last ∙ end_short plan (last_state run) report.end lawful.end_is full in
+    let short : IsHeapFull report.end → is_short plan (last_stop plan run lawful.is_run).stop.state ≡ true = λ full.
+    ap (λ (s : State). is_short plan s) last ∙ end_short plan (last_state run) report.end lawful.end_is full in
     record {
       lawful = lawful;
-      full = (λ full. (claim (short full)).0, λ is. short_end plan (last_state run) report.end lawful.end_is (sym (ap (λ (s : State). is_short plan s) last) ∙ is.short));
+      full = (
+        λ full. (claim (short full)).0,
+        λ is. short_end plan (last_state run) report.end lawful.end_is (sym (ap (λ (s : State).
+            is_short plan s) last) ∙ is.short),
+      );
       kept = λ full. kept_many plan report report.end lawful runnable lawful.end_is full;
       crowded = λ full. (claim (short full)).1;
     }

@@ -32,7 +32,8 @@ no_free : (c : Cells) → c ≡ no_cells → c.state ≡ stands.Free
 no_free c e = ap (λ (x : Cells). x.state) e
 
 -- a segment that isn't free has a block
-has_blocks : (layout : Layout) (a : AllocState) → AreSoundBlocks layout a → (number : ℕ) → (IsIn stands.Free (cells a number) → ⊥) → 0 < length (cells a number).names
+has_blocks : (layout : Layout) (a : AllocState) → AreSoundBlocks layout a → (number : ℕ) → (IsIn stands.Free (cells a number) → ⊥) →
+    0 < length (cells a number).names
 has_blocks layout a h number used =
     let size : ℕ = block_size (cells a number).class in
     let fits : size ≤ layout.words = h.state.class number used in
@@ -57,7 +58,8 @@ pub record IsGood (K : Name → Type 0) (a : AllocState) (number : ℕ) : Type 0
 abbrev pub IsJudged : (Name → Type 0) → AllocState → ℕ → Type 0
 IsJudged K a number = IsIn stands.Free (cells a number) ⊎ (IsIn stands.Sweeping (cells a number) ⊎ IsGood K a number)
 
-find_name : (names : List (Option Name)) → ((block : ℕ) → slice_index_or names block None ≡ None) ⊎ ((block : ℕ) × (n : Name) × (slice_index_or names block None ≡ Some n))
+find_name : (names : List (Option Name)) → ((block : ℕ) → slice_index_or names block None ≡ None) ⊎
+    ((block : ℕ) × (n : Name) × (slice_index_or names block None ≡ Some n))
 find_name [] = inl (λ block. refl)
 find_name (Some n ∷ names) = inr (0, n, refl)
 find_name (None ∷ names) = elim (find_name names) [
@@ -69,7 +71,8 @@ find_name (None ∷ names) = elim (find_name names) [
     at none zero = refl
     at none (suc block) = none block
 
-sweep_judged : (layout : Layout) (K : Name → Type 0) (a b : AllocState) (number : ℕ) (s : Sweeps a b number (HoldsKept K a number)) → AreSoundBlocks layout a → ((k : ℕ) → IsJudged K a k) → (k : ℕ) → IsJudged K b k
+sweep_judged : (layout : Layout) (K : Name → Type 0) (a b : AllocState) (number : ℕ) (s : Sweeps a b number (HoldsKept K a number)) →
+    AreSoundBlocks layout a → ((k : ℕ) → IsJudged K a k) → (k : ℕ) → IsJudged K b k
 sweep_judged layout K a b number s h old k = elim (cases_eq k number) [
   | inl e ↦ subst (IsJudged K b) (sym e) here
   | inr other ↦
@@ -77,7 +80,13 @@ sweep_judged layout K a b number s h old k = elim (cases_eq k number) [
       elim (old k) [
         | inl free ↦ inl (ap (λ (c : Cells). c.state) same ∙ free)
         | inr (inl waits) ↦ inr (inl (ap (λ (c : Cells). c.state) same ∙ waits))
-        | inr (inr good) ↦ inr (inr (record { block = good.block; name = good.name; lies = ap (λ (c : Cells). name_in c good.block) same ∙ good.lies; kept = good.kept }))
+        | inr (inr good) ↦ inr (inr (record {
+          block = good.block;
+          name = good.name;
+          lies = ap (λ (c : Cells). name_in c good.block) same ∙
+              good.lies;
+          kept = good.kept;
+        }))
       ]
 ]
   where
@@ -89,7 +98,8 @@ sweep_judged layout K a b number s h old k = elim (cases_eq k number) [
       block = block;
       name = n;
       lies = swept_here a b number (HoldsKept K a number) s block n e;
-      kept = λ lost. none_some (slice_index_or s.names block None) n (s.keeps.freed block (λ holds. lost (subst K (some_is holds.0 n (sym holds.1 ∙ swept_was a b number (HoldsKept K a number) s block n e)) holds.2))) e;
+      kept = λ lost. none_some (slice_index_or s.names block None) n (s.keeps.freed block (λ holds.
+          lost (subst K (some_is holds.0 n (sym holds.1 ∙ swept_was a b number (HoldsKept K a number) s block n e)) holds.2))) e;
     }
       where
         some_is : (x y : Name) → Some x ≡ Some y → x ≡ y
@@ -99,7 +109,8 @@ sweep_judged layout K a b number s h old k = elim (cases_eq k number) [
     here = elim s.swept [
       | inl w ↦ inl (no_free (cells b number) w.1)
       | inr (inl w) ↦ elim (find_name s.names) [
-        | inl none ↦ absurd (let many : length s.names ≡ length (cells a number).names = s.keeps.length in let first = w.0 0 (omega (arith, many, some)) in not_some (slice_index_or s.names 0 None) (none 0) first)
+        | inl none ↦ absurd (let many : length s.names ≡ length (cells a number).names = s.keeps.length in
+            let first = w.0 0 (omega (arith, many, some)) in not_some (slice_index_or s.names 0 None) (none 0) first)
         | inr found ↦ inr (inr (good found.0 found.1 found.2))
       ]
       | inr (inr w) ↦ elim (find_name s.names) [
@@ -112,9 +123,11 @@ sweep_judged layout K a b number s h old k = elim (cases_eq k number) [
         not_some None e there = cc
         not_some (Some n) e there = cc
 
-pub each_judged : (layout : Layout) (K : Name → Type 0) (a b : AllocState) (numbers : List ℕ) → SweepsEach K a numbers b → AreSoundBlocks layout a → ((k : ℕ) → IsJudged K a k) → (k : ℕ) → IsJudged K b k
+pub each_judged : (layout : Layout) (K : Name → Type 0) (a b : AllocState) (numbers : List ℕ) → SweepsEach K a numbers b → AreSoundBlocks layout a →
+    ((k : ℕ) → IsJudged K a k) → (k : ℕ) → IsJudged K b k
 each_judged layout K a b [] e h old k = subst (λ (x : AllocState). IsJudged K x k) (sym e) (old k)
-each_judged layout K a b (number ∷ numbers) s h old k = each_judged layout K s.0 b numbers s.2 (sweep_filed layout a s.0 number (HoldsKept K a number) s.1 h) (sweep_judged layout K a s.0 number s.1 h old) k
+each_judged layout K a b (number ∷ numbers) s h old k =
+    each_judged layout K s.0 b numbers s.2 (sweep_filed layout a s.0 number (HoldsKept K a number) s.1 h) (sweep_judged layout K a s.0 number s.1 h old) k
 
 both_states : (s : Stands) → (prepared_state (retired_state s) ≡ stands.Free) ⊎ (prepared_state (retired_state s) ≡ stands.Sweeping)
 both_states stands.Free = inl refl
@@ -126,7 +139,8 @@ both_states stands.Sweeping = inr refl
 -- as a full cycle begins each segment is free or waits
 pub begun_judged : (K : Name → Type 0) (a : AllocState) (k : ℕ) → IsJudged K (cycle_begun (all_retired a)) k
 begun_judged K a k =
-    let at : (cells (cycle_begun (all_retired a)) k).state ≡ prepared_state (retired_state (cells a k).state) = ap (λ (c : Cells). c.state) (begun_cells (all_retired a) k) ∙ ap (λ (c : Cells). prepared_state c.state) (retired_cells a k) in
+    let at : (cells (cycle_begun (all_retired a)) k).state ≡ prepared_state (retired_state (cells a k).state) =
+    ap (λ (c : Cells). c.state) (begun_cells (all_retired a) k) ∙ ap (λ (c : Cells). prepared_state c.state) (retired_cells a k) in
     elim (both_states (cells a k).state) [ inl e ↦ inl (at ∙ e) | inr e ↦ inr (inl (at ∙ e)) ]
 
 listed_or_not : (names : List Name) (x : Name) → Contains names x ⊎ (Contains names x → ⊥)
@@ -154,8 +168,16 @@ record Picks (a : AllocState) (names : List Name) (m : ℕ) : Type 0 where
   below : (x : Name) → Contains picked x → (number block : ℕ) × (number < m) × LiesIn a number block x
   many : m ≤ length picked + sum_by free (take m a.segments)
 
-pick : (layout : Layout) (K : Name → Type 0) (a : AllocState) (names : List Name) → AreSoundBlocks layout a → ((k : ℕ) → k < layout.segments → IsIn stands.Free (cells a k) ⊎ IsGood K a k) → ((n : Name) → ((K n → ⊥) → ⊥) → n ≢ shared_name → Contains names n) → (m : ℕ) → m ≤ layout.segments → Picks a names m
-pick layout K a names h judged kept zero le = record { picked = []; once = tt; among = λ x c. absurd (nothing_in x c); below = λ x c. absurd (nothing_in x c); many = omega arith }
+pick : (layout : Layout) (K : Name → Type 0) (a : AllocState) (names : List Name) → AreSoundBlocks layout a →
+    ((k : ℕ) → k < layout.segments → IsIn stands.Free (cells a k) ⊎ IsGood K a k) →
+    ((n : Name) → ((K n → ⊥) → ⊥) → n ≢ shared_name → Contains names n) → (m : ℕ) → m ≤ layout.segments → Picks a names m
+pick layout K a names h judged kept zero le = record {
+  picked = [];
+  once = tt;
+  among = λ x c. absurd (nothing_in x c);
+  below = λ x c. absurd (nothing_in x c);
+  many = omega arith;
+}
 pick layout K a names h judged kept (suc m) le =
     let before : Picks a names m = pick layout K a names h judged kept m (omega (arith, le)) in
     let lt : m < length a.segments = omega (arith, le, h.state.count) in
@@ -170,25 +192,33 @@ pick layout K a names h judged kept (suc m) le =
             once = before.once;
             among = before.among;
             below = λ x c. let b = before.below x c in (b.0, b.1, (let lower = b.2 in omega (arith, lower)), b.3);
-            many = let next : m + 1 ≤ length before.picked + sum_by free (take (m + 1) a.segments) = omega (arith, more, one, counted) in subst (λ (n : ℕ). n ≤ length before.picked + sum_by free (take n a.segments)) one_more next;
+            many = let next : m + 1 ≤ length before.picked + sum_by free (take (m + 1) a.segments) = omega (arith, more, one, counted) in
+                subst (λ (n : ℕ). n ≤ length before.picked + sum_by free (take n a.segments)) one_more next;
           }
       | inr good ↦ record {
         picked = good.name ∷ before.picked;
-        once = (λ c. (let b = before.below good.name c in let same : m ≡ b.0 = (h.once m good.block b.0 b.1 good.name good.lies b.3).0 in let lower = b.2 in omega (arith, same, lower)), before.once);
+        once = (
+          λ c. (let b = before.below good.name c in let same : m ≡ b.0 = (h.once m good.block b.0 b.1 good.name good.lies b.3).0 in
+              let lower = b.2 in omega (arith, same, lower)),
+          before.once,
+        );
         among = λ x c. elim (contains_cases good.name before.picked x c) [
-          | inl e ↦ let C : Name → Type 0 = Contains names in subst C e (kept good.name good.kept (λ g. h.shared m good.block (good.lies ∙ ap (λ (y : Name). Some y) g)))
+          | inl e ↦ let C : Name → Type 0 = Contains names in
+              subst C e (kept good.name good.kept (λ g. h.shared m good.block (good.lies ∙ ap (λ (y : Name). Some y) g)))
           | inr d ↦ before.among x d
         ];
         below = λ x c. elim (contains_cases good.name before.picked x c) [
           | inl e ↦ (m, good.block, (omega arith), good.lies ∙ ap (λ (y : Name). Some y) e)
           | inr d ↦ let b = before.below x d in (b.0, b.1, (let lower = b.2 in omega (arith, lower)), b.3)
         ];
-        many = let next : m + 1 ≤ length (good.name ∷ before.picked) + sum_by free (take (m + 1) a.segments) = omega (arith, more, counted) in subst (λ (n : ℕ). n ≤ length (good.name ∷ before.picked) + sum_by free (take n a.segments)) one_more next;
+        many = let next : m + 1 ≤ length (good.name ∷ before.picked) + sum_by free (take (m + 1) a.segments) = omega (arith, more, counted) in
+            subst (λ (n : ℕ). n ≤ length (good.name ∷ before.picked) + sum_by free (take n a.segments)) one_more next;
       }
     ]
 
 -- the segments are no more than the free ones and the kept objects
-pub crowded : (layout : Layout) (c : Cycle) (a : AllocState) (names : List Name) → AreSoundBlocks layout a → NoneIs (IsIn stands.Sweeping) a → ((k : ℕ) → IsJudged (IsKeptIn c) a k) → Lists (IsKeptObject c) names → layout.segments ≤ length names + sum_by free a.segments
+pub crowded : (layout : Layout) (c : Cycle) (a : AllocState) (names : List Name) → AreSoundBlocks layout a → NoneIs (IsIn stands.Sweeping) a →
+    ((k : ℕ) → IsJudged (IsKeptIn c) a k) → Lists (IsKeptObject c) names → layout.segments ≤ length names + sum_by free a.segments
 crowded layout c a names h none judged lists =
     let p : Picks a names layout.segments = pick layout (IsKeptIn c) a names h
     (λ k lt. elim (judged k) [

@@ -103,7 +103,8 @@ closes_counted n quota (marking c) s t e (inr closes) h =
     omega (arith, new, old, begun, h)
 closes_counted n quota (sweeping c number) s t e same h = same_counted n s t (ap (λ (x : State). x.progress) same) (ap (λ (x : State). x.begun) same) h
 
-ends_counted : (n : ℕ) (p : Progress) (s t : State) (cycles : List CycleRow) → s.progress ≡ p → EndsOrWaits p s t cycles → Counted n s → Counted (n + length cycles) t
+ends_counted : (n : ℕ) (p : Progress) (s t : State) (cycles : List CycleRow) → s.progress ≡ p → EndsOrWaits p s t cycles → Counted n s →
+    Counted (n + length cycles) t
 ends_counted n p s t cycles e ends h = by p e ends
   where
     waited : (t ≡ s) → cycles ≡ [] → Counted (n + length cycles) t
@@ -141,7 +142,9 @@ free_kept [] = refl
 free_kept (c ∷ segments) =
     let one : free (restated prepared_state c) ≡ free c = ap (λ (b : Bool). cond b 1 0) (prepared_is_free c.state) in
     let more : sum_by free (map (restated prepared_state) segments) ≡ sum_by free segments = free_kept segments in
-    let new : sum_by free (restated prepared_state c ∷ map (restated prepared_state) segments) ≡ free (restated prepared_state c) + sum_by free (map (restated prepared_state) segments) = sum_by-cons free (restated prepared_state c) (map (restated prepared_state) segments) in
+    let new : sum_by free (restated prepared_state c ∷ map (restated prepared_state) segments) ≡
+    free (restated prepared_state c) + sum_by free (map (restated prepared_state) segments) =
+    sum_by-cons free (restated prepared_state c) (map (restated prepared_state) segments) in
     let old : sum_by free (c ∷ segments) ≡ free c + sum_by free segments = sum_by-cons free c segments in
     omega (arith, one, more, new, old)
 
@@ -159,7 +162,8 @@ begins_left plan n s t not (inl b) h =
     let none : in_progress s.progress ≡ 0 = idle_none s.progress b.0.0 in
     let one : in_progress t.progress ≡ 1 = ap (λ (x : State). in_progress x.progress) b.1 in
     let begun : t.begun ≡ s.begun + 1 = ap (λ (x : State). x.begun) b.1 in
-    let same : is_short plan t ≡ is_short plan s = ap (λ (x : State). is_short plan x) b.1 ∙ ap (λ (count : ℕ). has_left s.left && nat_lt count (reserve_of plan)) (free_kept s.allocation.segments) in
+    let same : is_short plan t ≡ is_short plan s = ap (λ (x : State). is_short plan x) b.1 ∙
+    ap (λ (count : ℕ). has_left s.left && nat_lt count (reserve_of plan)) (free_kept s.allocation.segments) in
     record { counted = omega (arith, none, one, begun, h); idle_if_short = λ short. absurd (not (inr (sym same ∙ short))) }
 
 full_left : (plan : Plan) (n : ℕ) (s t : State) (cycles : List CycleRow) → DoesFullCycle s t cycles → Counted n s → Left plan (n + length cycles) t
@@ -183,13 +187,17 @@ proceeds_left plan n s t cycles (inr b) h =
     let rows : n ≡ n + length cycles = (let none : length cycles ≡ 0 = ap (λ (rows : List CycleRow). length rows) b.2 in omega (arith, none)) in
     subst (λ (k : ℕ). Left plan k t) rows left
 
-stop_counted : (plan : Plan) (n : ℕ) (began : World) (s t : State) (row : StopRow) (cycles : List CycleRow) → IsStop plan began s t row cycles → Counted n s → Left plan (n + length cycles) t
+stop_counted : (plan : Plan) (n : ℕ) (began : World) (s t : State) (row : StopRow) (cycles : List CycleRow) → IsStop plan began s t row cycles →
+    Counted n s → Left plan (n + length cycles) t
 stop_counted plan n began s t row cycles i h =
-    let promoted : Counted n i.promoted = same_counted n s i.promoted (ap (λ (x : State). x.progress) i.promotes.rest) (ap (λ (x : State). x.begun) i.promotes.rest) h in
+    let promoted : Counted n i.promoted = same_counted n s i.promoted (ap (λ (x : State). x.progress) i.promotes.rest) (ap (λ (x : State).
+    x.begun) i.promotes.rest) h in
     let closed : Counted n i.closed = closes_counted n plan.config.quota i.promoted.progress i.promoted i.closed refl i.closes promoted in
     let ended : Counted (n + length i.first) i.ended = ends_counted n i.closed.progress i.closed i.ended i.first refl i.ends closed in
     let left : Left plan (n + length i.first + length i.more) t = proceeds_left plan (n + length i.first) i.ended t i.more i.proceeds ended in
-    let rows : n + length i.first + length i.more ≡ n + length cycles = (let all : length cycles ≡ length i.first + length i.more = ap (λ (rows : List CycleRow). length rows) i.told ∙ length-append i.first i.more in omega (arith, all)) in
+    let rows : n + length i.first + length i.more ≡ n + length cycles =
+    (let all : length cycles ≡ length i.first + length i.more = ap (λ (rows : List CycleRow). length rows) i.told ∙ length-append i.first i.more in
+    omega (arith, all)) in
     subst (λ (k : ℕ). Left plan k t) rows left
 
 noted_same : (p : Progress) (rows : List Row) → in_progress (noted p rows) ≡ in_progress p
@@ -201,21 +209,28 @@ noted_same (sweeping c number) rows = refl
 abbrev rows_of_turns : List Turn → List CycleRow
 rows_of_turns turns = flat_map (λ (turn : Turn). turn.stop.cycles) turns
 
-turns_counted : (plan : Plan) (n : ℕ) (s : State) (turns : List Turn) → AreTurns plan s turns → Left plan n s → Left plan (n + length (rows_of_turns turns)) (state_after s turns)
+turns_counted : (plan : Plan) (n : ℕ) (s : State) (turns : List Turn) → AreTurns plan s turns → Left plan n s →
+    Left plan (n + length (rows_of_turns turns)) (state_after s turns)
 turns_counted plan n s [] i h = subst (λ (k : ℕ). Left plan k s) (omega arith) h
 turns_counted plan n s (turn ∷ turns) i h =
     let worked : Counted n turn.worked =
-    let progress : in_progress turn.worked.progress ≡ in_progress s.progress = ap (λ (x : State). in_progress x.progress) i.0.round.rest ∙ noted_same s.progress turn.history in
+    let progress : in_progress turn.worked.progress ≡ in_progress s.progress = ap (λ (x : State). in_progress x.progress) i.0.round.rest ∙
+    noted_same s.progress turn.history in
     let begun : turn.worked.begun ≡ s.begun = ap (λ (x : State). x.begun) i.0.round.rest in
     let old : Counted n s = h.counted in
     omega (arith, progress, begun, old) in
-    let stopped : Left plan (n + length turn.stop.cycles) turn.stop.state = stop_counted plan n s.world turn.worked turn.stop.state turn.stop.row turn.stop.cycles i.0.stop worked in
-    let rest : Left plan (n + length turn.stop.cycles + length (rows_of_turns turns)) (state_after turn.stop.state turns) = turns_counted plan (n + length turn.stop.cycles) turn.stop.state turns i.1 stopped in
-    let rows : n + length turn.stop.cycles + length (rows_of_turns turns) ≡ n + length (turn.stop.cycles ++ rows_of_turns turns) = (let all : length (turn.stop.cycles ++ rows_of_turns turns) ≡ length turn.stop.cycles + length (rows_of_turns turns) = length-append turn.stop.cycles (rows_of_turns turns) in omega (arith, all)) in
+    let stopped : Left plan (n + length turn.stop.cycles) turn.stop.state =
+    stop_counted plan n s.world turn.worked turn.stop.state turn.stop.row turn.stop.cycles i.0.stop worked in
+    let rest : Left plan (n + length turn.stop.cycles + length (rows_of_turns turns)) (state_after turn.stop.state turns) =
+    turns_counted plan (n + length turn.stop.cycles) turn.stop.state turns i.1 stopped in
+    let rows : n + length turn.stop.cycles + length (rows_of_turns turns) ≡ n + length (turn.stop.cycles ++ rows_of_turns turns) =
+    (let all : length (turn.stop.cycles ++ rows_of_turns turns) ≡ length turn.stop.cycles + length (rows_of_turns turns) = length-append turn.stop.cycles (rows_of_turns turns) in
+    omega (arith, all)) in
     subst (λ (k : ℕ). Left plan k (state_after turn.stop.state turns)) rows rest
 
 -- an end comes only from an idle collector
-end_idle : (short none quiet : Bool) (full quiet_end end : End) → (short ≡ true → quiet ≡ true) → (if short then Some full else (if none && quiet then Some quiet_end else None)) ≡ Some end → quiet ≡ true
+end_idle : (short none quiet : Bool) (full quiet_end end : End) → (short ≡ true → quiet ≡ true) →
+    (if short then Some full else (if none && quiet then Some quiet_end else None)) ≡ Some end → quiet ≡ true
 end_idle true none quiet full quiet_end end idled e = idled refl
 end_idle false true true full quiet_end end idled e = refl
 end_idle false true false full quiet_end end idled e = absurd cc
@@ -223,10 +238,15 @@ end_idle false false quiet full quiet_end end idled e = absurd cc
 
 pub each_cycle_has_its_row : EachCycleHasItsRow
 each_cycle_has_its_row plan run rounds stops cycles end i tells e =
-    let opened : Left plan (0 + length run.opening.cycles) run.opening.state = stop_counted plan 0 _ (start plan) run.opening.state run.opening.row run.opening.cycles i.opening refl in
-    let last : Left plan (0 + length run.opening.cycles + length (rows_of_turns run.turns)) (last_state run) = turns_counted plan (0 + length run.opening.cycles) run.opening.state run.turns i.turns opened in
-    let quiet : is_idle (last_state run).progress ≡ true = end_idle (is_short plan (last_state run)) (not (has_left (last_state run).left)) (is_idle (last_state run).progress) _ _ end last.idle_if_short e in
+    let opened : Left plan (0 + length run.opening.cycles) run.opening.state =
+    stop_counted plan 0 _ (start plan) run.opening.state run.opening.row run.opening.cycles i.opening refl in
+    let last : Left plan (0 + length run.opening.cycles + length (rows_of_turns run.turns)) (last_state run) =
+    turns_counted plan (0 + length run.opening.cycles) run.opening.state run.turns i.turns opened in
+    let quiet : is_idle (last_state run).progress ≡ true =
+    end_idle (is_short plan (last_state run)) (not (has_left (last_state run).left)) (is_idle (last_state run).progress) _ _ end last.idle_if_short e in
     let none : in_progress (last_state run).progress ≡ 0 = idle_none (last_state run).progress quiet in
-    let rows : length cycles ≡ length run.opening.cycles + length (rows_of_turns run.turns) = ap (λ (rows : List CycleRow). length rows) tells.cycles_are ∙ length-append run.opening.cycles (rows_of_turns run.turns) in
-    let counted : 0 + length run.opening.cycles + length (rows_of_turns run.turns) + in_progress (last_state run).progress ≡ (last_state run).begun = last.counted in
+    let rows : length cycles ≡ length run.opening.cycles + length (rows_of_turns run.turns) =
+    ap (λ (rows : List CycleRow). length rows) tells.cycles_are ∙ length-append run.opening.cycles (rows_of_turns run.turns) in
+    let counted : 0 + length run.opening.cycles + length (rows_of_turns run.turns) + in_progress (last_state run).progress ≡
+    (last_state run).begun = last.counted in
     omega (arith, none, rows, counted)

@@ -108,12 +108,17 @@ sort (x ∷ xs) once =
         ordered = m.ordered;
         long = omega arith;
         to = λ n c. elim (contains_cases x xs n c) [ inl e ↦ subst (λ (k : Name). Contains more.0 k) e m.new | inr d ↦ m.old n (s.to n d) ];
-        from = λ n c. elim (m.only n c) [ inl is ↦ subst (λ (k : Name). Contains (x ∷ xs) k) (sym is) (contains_head x xs) | inr d ↦ contains_tail x xs n (s.from n d) ];
+        from = λ n c. elim (m.only n c) [
+          | inl is ↦ subst (λ (k : Name). Contains (x ∷ xs) k) (sym is) (contains_head x xs)
+          | inr d ↦
+              contains_tail x xs n (s.from n d)
+        ];
       },
     )
 
 -- names with P, each once, are as many as there are with P
-pub counted : (P : Name → Type 0) (names : List Name) → AreDistinct names → ((n : Name) → Contains names n → P n) → ((n : Name) → P n → Contains names n) → Counts P (length names)
+pub counted : (P : Name → Type 0) (names : List Name) → AreDistinct names → ((n : Name) → Contains names n → P n) →
+    ((n : Name) → P n → Contains names n) → Counts P (length names)
 counted P names once sound complete =
     let s : (ys : List Name) × IsSorted names ys = sort names once in
     (s.0, record { ordered = s.1.ordered; sound = λ n c. sound n (s.1.from n c); complete = λ n p. s.1.to n (complete n p) }, sym s.1.long)
@@ -164,7 +169,9 @@ remove x (y ∷ xs) c = elim (name_cases y x) [
 ]
 
 -- names with P, each once, without one of them, are as many as there are with P but that one
-pub others_counted : (P : Name → Type 0) (x : Name) (names : List Name) → AreDistinct names → Contains names x → ((n : Name) → Contains names n → P n) → ((n : Name) → P n → Contains names n) → (count : ℕ) → count + 1 ≡ length names → Counts (λ n. P n × (n ≡ x → ⊥)) count
+pub others_counted : (P : Name → Type 0) (x : Name) (names : List Name) → AreDistinct names → Contains names x →
+    ((n : Name) → Contains names n → P n) → ((n : Name) → P n → Contains names n) → (count : ℕ) → count + 1 ≡ length names →
+    Counts (λ n. P n × (n ≡ x → ⊥)) count
 others_counted P x names once there sound complete count long =
     let w : (ys : List Name) × IsWithout x names ys = remove x names there in
     let r : IsWithout x names w.0 = w.1 in

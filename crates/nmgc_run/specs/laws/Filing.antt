@@ -47,7 +47,8 @@ world_name w world n node e = elim (cases_eq n.maker SHARED_MAKER) [
 ]
 
 -- a block of a class in which something is placed fits the segment
-pub placed_fits : (layout : Layout) (a b : AllocState) (m class : ℕ) (name : Name) → IsAllocState layout a → Places layout a b m class name → block_size class ≤ layout.words
+pub placed_fits : (layout : Layout) (a b : AllocState) (m class : ℕ) (name : Name) → IsAllocState layout a → Places layout a b m class name →
+    block_size class ≤ layout.words
 placed_fits layout a b m class name h p = by_opens p.opens
   where
     by_opens : Opens (layout.words / block_size class) (cells a p.number) p.names → block_size class ≤ layout.words
@@ -59,7 +60,8 @@ placed_fits layout a b m class name h p = by_opens p.opens
         class_is (inr (none, inr (no_active, next))) = absurd (used.0 next.is.1)
     by_opens (inr free) =
         let some = p.first.exists in
-        let count : length p.names ≡ layout.words / block_size class = ap (λ (xs : List (Option Name)). length xs) free.1 ∙ length-replicate {A = Option Name} (layout.words / block_size class) None in
+        let count : length p.names ≡ layout.words / block_size class = ap (λ (xs : List (Option Name)). length xs) free.1 ∙
+        length-replicate {A = Option Name} (layout.words / block_size class) None in
         elim (cases_lt layout.words (block_size class)) [
           | inr ge ↦ ge
           | inl lt ↦ let none : layout.words / block_size class ≡ 0 = div-eq_of_lt lt in absurd (omega (arith, some, count, none))
@@ -74,15 +76,18 @@ sweep_filed layout a b number K s h = record {
   shared = λ k block lies. h.shared k block (swept_back a b number K s k block shared_name lies);
 }
 
-pub each_filed : (layout : Layout) (Kept : Name → Type 0) (a b : AllocState) (numbers : List ℕ) → SweepsEach Kept a numbers b → AreSoundBlocks layout a → AreSoundBlocks layout b
+pub each_filed : (layout : Layout) (Kept : Name → Type 0) (a b : AllocState) (numbers : List ℕ) → SweepsEach Kept a numbers b →
+    AreSoundBlocks layout a → AreSoundBlocks layout b
 each_filed layout Kept a b [] e h = subst (AreSoundBlocks layout) (sym e) h
 each_filed layout Kept a b (number ∷ numbers) s h = each_filed layout Kept s.0 b numbers s.2 (sweep_filed layout a s.0 number (HoldsKept Kept a number) s.1 h)
 
 -- placing names that lie nowhere
 
-place_filed : (layout : Layout) (w : World) (a b : AllocState) (name : Name) → IsWorld w → PlacesObject layout w a b name → LiesNowhere a name → name ≢ shared_name → AreSoundBlocks layout a → AreSoundBlocks layout b
+place_filed : (layout : Layout) (w : World) (a b : AllocState) (name : Name) → IsWorld w → PlacesObject layout w a b name → LiesNowhere a name →
+    name ≢ shared_name → AreSoundBlocks layout a → AreSoundBlocks layout b
 place_filed layout w a b name world p nowhere other h = record {
-  state = placed_sound layout a b name.maker p.class name (world_name w world name p.node p.there) (placed_fits layout a b name.maker p.class name h.state p.places) h.state p.places;
+  state = placed_sound layout a b name.maker p.class name (world_name w world name p.node p.there)
+      (placed_fits layout a b name.maker p.class name h.state p.places) h.state p.places;
   once = placed_once layout a b name.maker p.class name p.places nowhere h.once;
   shared = λ k block lies. elim (placed_where layout a b name.maker p.class name p.places k block shared_name lies) [
     | inl here ↦ other (sym here.0)
@@ -90,7 +95,8 @@ place_filed layout w a b name world p nowhere other h = record {
   ];
 }
 
-pub places_filed : (layout : Layout) (w : World) (a b : AllocState) (names : List Name) → IsWorld w → PlacesEach layout w a names b → IsInOrder names → ((n : Name) → Contains names n → LiesNowhere a n × (n ≢ shared_name)) → AreSoundBlocks layout a → AreSoundBlocks layout b
+pub places_filed : (layout : Layout) (w : World) (a b : AllocState) (names : List Name) → IsWorld w → PlacesEach layout w a names b →
+    IsInOrder names → ((n : Name) → Contains names n → LiesNowhere a n × (n ≢ shared_name)) → AreSoundBlocks layout a → AreSoundBlocks layout b
 places_filed layout w a b [] world e order fresh h = subst (AreSoundBlocks layout) (sym e) h
 places_filed layout w a b (name ∷ names) world p order fresh h =
     let first = fresh name (contains_head name names) in
@@ -110,7 +116,8 @@ pub first_filed : (layout : Layout) → AreSoundBlocks layout (all_empty layout.
 first_filed layout = record {
   state = first_sound layout;
   once = first_once layout.segments;
-  shared = λ k block lies. none_some (name_in (cells (all_empty layout.segments) k) block) shared_name (ap (λ c. name_in c block) (first_cells layout.segments k)) lies;
+  shared = λ k block lies. none_some (name_in (cells (all_empty layout.segments) k) block) shared_name (ap (λ c.
+      name_in c block) (first_cells layout.segments k)) lies;
 }
 
 pub begun_filed : (layout : Layout) (a : AllocState) → AreSoundBlocks layout a → AreSoundBlocks layout (cycle_begun a)

@@ -54,7 +54,8 @@ ends_within plan (sweeping c number) s t cycles (inl e) h = subst (Within plan) 
 ends_within plan (sweeping c number) s t cycles (inr e) h = same_within plan s t e.1 h
 
 finishes_within : (plan : Plan) (s t : State) (cycles : List CycleRow) → Finishes s t cycles → IsSoundHere plan s → Within plan s → Within plan t
-finishes_within plan s t cycles f holds h = ends_within plan f.swept.progress f.swept t cycles f.ends (subst (Within plan) (sym f.others) (now_within plan s.progress s f.closed holds f.closes h))
+finishes_within plan s t cycles f holds h =
+    ends_within plan f.swept.progress f.swept t cycles f.ends (subst (Within plan) (sym f.others) (now_within plan s.progress s f.closed holds f.closes h))
 
 full_within : (plan : Plan) (s t : State) (cycles : List CycleRow) → DoesFullCycle s t cycles → IsSoundHere plan s → Within plan s → Within plan t
 full_within plan s t cycles f holds h =
@@ -70,7 +71,8 @@ proceeds_within : (plan : Plan) (s t : State) (cycles : List CycleRow) → Proce
 proceeds_within plan s t cycles (inl f) holds h = full_within plan s t cycles f.1 holds h
 proceeds_within plan s t cycles (inr b) holds h = begins_within plan s t b.1 h
 
-pub stop_within : (plan : Plan) (began : World) (s t : State) (row : StopRow) (cycles : List CycleRow) → IsStop plan began s t row cycles → Worked plan (lefts s) began s.world s.allocation s.progress → IsWithinLimits plan s → IsWithinLimits plan t
+pub stop_within : (plan : Plan) (began : World) (s t : State) (row : StopRow) (cycles : List CycleRow) → IsStop plan began s t row cycles →
+    Worked plan (lefts s) began s.world s.allocation s.progress → IsWithinLimits plan s → IsWithinLimits plan t
 stop_within plan began s t row cycles i worked h =
     let holds = stop_holds plan began s t row cycles i worked in
     let promoted : Within plan i.promoted = subst (Within plan) (sym i.promotes.rest) h.world in
@@ -78,7 +80,8 @@ stop_within plan began s t row cycles i worked h =
     let ended : Within plan i.ended = ends_within plan i.closed.progress i.closed i.ended i.first i.ends closed in
     record {
       world = proceeds_within plan i.ended t i.more i.proceeds holds.ended ended;
-      left = λ m. subst (λ (left : List (List Command)). All (Fits plan.config.words) (program_of left m)) (sym (stop_left plan began s t row cycles i)) (h.left m);
+      left = λ m. subst (λ (left : List (List Command)).
+          All (Fits plan.config.words) (program_of left m)) (sym (stop_left plan began s t row cycles i)) (h.left m);
     }
 
 -- a round, and a run
@@ -88,24 +91,29 @@ rounds_are_within plan s t replies rows sound h round =
     let fit = rows_have (Fits plan.config.words) plan.config s t replies rows round h.left in (
       fit,
       record {
-        world = subst (Within plan) (sym round.rest) (rows_keep_limits plan.config.words s.world rows sound.world (rounds_are_sound plan s t replies rows sound round).can fit h.world);
+        world = subst (Within plan) (sym round.rest) (rows_keep_limits plan.config.words s.world rows sound.world
+            (rounds_are_sound plan s t replies rows sound round).can fit h.world);
         left = left_has (Fits plan.config.words) plan.config s t replies rows round h.left;
       },
     )
 
-turns_within : (plan : Plan) (s : State) (turns : List Turn) → AreTurns plan s turns → HasPrograms plan s → IsSoundHere plan s → IsWithinLimits plan s → IsWithinLimits plan (state_after s turns)
+turns_within : (plan : Plan) (s : State) (turns : List Turn) → AreTurns plan s turns → HasPrograms plan s → IsSoundHere plan s →
+    IsWithinLimits plan s → IsWithinLimits plan (state_after s turns)
 turns_within plan s [] i able holds h = h
 turns_within plan s (turn ∷ turns) i able holds h =
     let next = turn_holds plan s turn i.0 able holds in
     let worked = round_holds plan s turn.worked turn.replies.replies turn.history i.0.round able holds in
     let round = rounds_are_within plan s turn.worked turn.replies.replies turn.history (sound_of plan s able holds) h i.0.round in
-    turns_within plan turn.stop.state turns i.1 next.0 next.1 (stop_within plan s.world turn.worked turn.stop.state turn.stop.row turn.stop.cycles i.0.stop worked round.1)
+    turns_within plan turn.stop.state turns i.1 next.0 next.1
+    (stop_within plan s.world turn.worked turn.stop.state turn.stop.row turn.stop.cycles i.0.stop worked round.1)
 
 pub states_are_within : StatesAreWithin
 states_are_within plan run runnable fit i =
     let opened = opening_holds plan run runnable i in
     let k : ℕ = length plan.threads in
-    let first : IsWithinLimits plan run.opening.state = stop_within plan (new_world k) (start plan) run.opening.state run.opening.row run.opening.cycles i.opening (opening_worked plan runnable) (record { world = new_is_within plan.config.words k; left = fit }) in
+    let first : IsWithinLimits plan run.opening.state =
+    stop_within plan (new_world k) (start plan) run.opening.state run.opening.row run.opening.cycles i.opening (opening_worked plan runnable)
+    (record { world = new_is_within plan.config.words k; left = fit }) in
     turns_within plan run.opening.state run.turns i.turns opened.0 opened.1 first
 
 -- a script

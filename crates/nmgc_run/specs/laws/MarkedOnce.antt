@@ -24,7 +24,8 @@ use Rattle.nmgc_run.specs.laws.Distinct.{distinct_push}
 -- a closed machine stays closed
 pub stays_closed : (s : State) (es : List Event) (rows : List Row) (t : State) → Runs s es rows t → s.is_closed ≡ true → t.is_closed ≡ true
 stays_closed s [] rows t h on = ap (λ (x : State). x.is_closed) h.1 ∙ on
-stays_closed s (e ∷ es) rows t (true, next, rest, first, is, later) on = absurd (let off : s.is_closed ≡ false = running e first in let bad : true ≡ false = sym on ∙ off in cc)
+stays_closed s (e ∷ es) rows t (true, next, rest, first, is, later) on = absurd (let off : s.is_closed ≡ false = running e first in
+    let bad : true ≡ false = sym on ∙ off in cc)
   where
     running : (e : Event) → Passes s e true next → s.is_closed ≡ false
     running (event.Command m c answer) p = p.0.0
@@ -45,7 +46,8 @@ once_name s name h = mark_cases IsOnce s name
     (λ new. record {
       others = h.others ++ name ∷ [];
       marked_are = ap (λ (l : List Name). l ++ name ∷ []) h.marked_are;
-      once = distinct_push s.marked name h.once (not_listed name s.marked (not-true (is_listed name s.marked) (and_parts (is_some (node_of s.snapshot name)) (not (is_listed name s.marked)) new).1));
+      once = distinct_push s.marked name h.once (not_listed name s.marked
+          (not-true (is_listed name s.marked) (and_parts (is_some (node_of s.snapshot name)) (not (is_listed name s.marked)) new).1));
     })
     (λ old. h)
 
@@ -86,10 +88,14 @@ once_take s m (name ∷ rest) h = once_name _ name (once_same s _ refl h)
 pub once_runs : (s : State) (es : List Event) (rows : List Row) (t : State) → Runs s es rows t → t.is_closed ≡ false → IsOnce s → IsOnce t
 once_runs s [] rows t h running once = subst IsOnce (sym h.1) once
 once_runs s (e ∷ es) rows t (false, next, rest, first, is, later) running once = once_runs next es rest t later running (subst IsOnce (sym first.1) once)
-once_runs s (event.Command m c answer ∷ es) rows t (true, next, rest, first, is, later) running once = once_runs next es rest t later running (subst IsOnce (sym first.1) (once_same s _ refl once))
-once_runs s (event.Push m ∷ es) rows t (true, next, rest, first, is, later) running once = once_runs next es rest t later running (subst IsOnce (sym first.1) (once_push s m (names_of s.owed m) once))
-once_runs s (event.Scan ∷ es) rows t (true, next, rest, first, is, later) running once = once_runs next es rest t later running (subst IsOnce (sym first.1) (once_scan s s.queue once))
-once_runs s (event.Take m ∷ es) rows t (true, next, rest, first, is, later) running once = once_runs next es rest t later running (subst IsOnce (sym first.1) (once_take s m (names_of s.pushed m) once))
+once_runs s (event.Command m c answer ∷ es) rows t (true, next, rest, first, is, later) running once =
+    once_runs next es rest t later running (subst IsOnce (sym first.1) (once_same s _ refl once))
+once_runs s (event.Push m ∷ es) rows t (true, next, rest, first, is, later) running once =
+    once_runs next es rest t later running (subst IsOnce (sym first.1) (once_push s m (names_of s.owed m) once))
+once_runs s (event.Scan ∷ es) rows t (true, next, rest, first, is, later) running once =
+    once_runs next es rest t later running (subst IsOnce (sym first.1) (once_scan s s.queue once))
+once_runs s (event.Take m ∷ es) rows t (true, next, rest, first, is, later) running once =
+    once_runs next es rest t later running (subst IsOnce (sym first.1) (once_take s m (names_of s.pushed m) once))
 once_runs s (event.Close ∷ es) rows t (true, next, rest, first, is, later) running once =
     let on : next.is_closed ≡ true = ap (λ (x : State). x.is_closed) first.1.rest in
     absurd (let bad : true ≡ false = sym (stays_closed next es rest t later on) ∙ running in cc)

@@ -58,7 +58,8 @@ module _ (layout : Layout) (a : AllocState) (words : List ℕ) (segments : Segme
       none_some (name_in (cells a number) block) name (ap (λ (c : Cells). name_in c block) empty) lies
 
   -- a block with a name is in use
-  pub block_used : (number block : ℕ) (name : Name) → LiesIn a number block name → IsOccupied segments (block_place layout number (cells a number).class block) (block_size (cells a number).class)
+  pub block_used : (number block : ℕ) (name : Name) → LiesIn a number block name →
+      IsOccupied segments (block_place layout number (cells a number).class block) (block_size (cells a number).class)
   block_used number block name lies =
       let at = shows_at number block name lies in
       let free = not_free number block name lies in
@@ -72,31 +73,38 @@ module _ (layout : Layout) (a : AllocState) (words : List ℕ) (segments : Segme
           exists = at.0;
           used = λ e. free (at.1.state ∙ e);
           within = omega (arith, inside, count);
-          place = ap (λ (l : Layout). block_place l number (cells a number).class block) (sym same) ∙ ap (λ (k : ℕ). block_place segments.layout number k block) class;
+          place = ap (λ (l : Layout). block_place l number (cells a number).class block) (sym same) ∙
+              ap (λ (k : ℕ). block_place segments.layout number k block) class;
         };
         used = (at.1.used block).0 (subst (λ (o : Option Name). IsSome o) (sym lies) refl);
         words = ap block_size class;
       }
 
   -- a block in use has a name
-  used_name : (at size : ℕ) (o : IsOccupied segments at size) → (name : Name) × LiesIn a o.number o.block name × (at ≡ block_place layout o.number (cells a o.number).class o.block) × (slice_index words (at + 1) ≡ name_word name)
+  used_name : (at size : ℕ) (o : IsOccupied segments at size) → (name : Name) × LiesIn a o.number o.block name ×
+      (at ≡ block_place layout o.number (cells a o.number).class o.block) × (slice_index words (at + 1) ≡ name_word name)
   used_name at size o =
       let shows = shown.shows o.number o.begins.exists in
       let some = is_some_of (name_in (cells a o.number) o.block) ((shows.used o.block).1 o.used) in
       let class = shows.class (λ e. o.begins.used (sym shows.state ∙ e)) in (
         some.0,
         some.1,
-        o.begins.place ∙ ap (λ (l : Layout). block_place l o.number (nth segments.segments o.number).class o.block) same ∙ ap (λ (k : ℕ). block_place layout o.number k o.block) (sym class),
+        o.begins.place ∙ ap (λ (l : Layout). block_place l o.number (nth segments.segments o.number).class o.block) same ∙
+            ap (λ (k : ℕ). block_place layout o.number k o.block) (sym class),
         ap (λ (k : ℕ). slice_index words (k + 1)) o.begins.place ∙ shows.named o.block some.0 some.1,
       )
 
-  are_blocks : (base : ℕ) (places : List Place) (w : World) → FitBlocks w a → ((p : Place) → IsPlaceAtStop layout a p → Contains places p) → ((p : Place) → Contains places p → p.at < base → IsPlaceAtStop layout a p) → AreBlocks segments base places w
+  are_blocks : (base : ℕ) (places : List Place) (w : World) → FitBlocks w a → ((p : Place) → IsPlaceAtStop layout a p → Contains places p) →
+      ((p : Place) → Contains places p → p.at < base → IsPlaceAtStop layout a p) → AreBlocks segments base places w
   are_blocks base places w fit told back = record {
     held = λ p node c low other e. elim (back p c low) [
       | inl g ↦ absurd (other (ap (λ (q : Place). q.name.maker) g))
       | inr b ↦
-          let o = block_used b.number b.block p.name b.lies in
-          (block_size (cells a b.number).class, subst (λ (k : ℕ). IsOccupied segments k (block_size (cells a b.number).class)) (sym b.at) o, fit b.number b.block p.name node b.lies e)
+          let o = block_used b.number b.block p.name b.lies in (
+            block_size (cells a b.number).class,
+            subst (λ (k : ℕ). IsOccupied segments k (block_size (cells a b.number).class)) (sym b.at) o,
+            fit b.number b.block p.name node b.lies e,
+          )
     ];
     filled = λ at size o.
         let n = used_name at size o in
@@ -105,11 +113,13 @@ module _ (layout : Layout) (a : AllocState) (words : List ℕ) (segments : Segme
 
 pub blocks_at_stop : BlocksAtStop
 blocks_at_stop layout s words segments mutators weaks h =
-    are_blocks layout s.allocation words segments h.holds.layout_is h.holds.stands (nursery_place layout 0) h.places s.world h.holds.fit (λ p. (h.all p).1) (λ p c low. (h.all p).0 c)
+    are_blocks layout s.allocation words segments h.holds.layout_is h.holds.stands (nursery_place layout 0) h.places s.world h.holds.fit (λ p.
+    (h.all p).1) (λ p c low. (h.all p).0 c)
 
 pub blocks_after_round : BlocksAfterRound
 blocks_after_round layout s t places words segments mutators weaks h =
-    are_blocks layout t.allocation words segments h.holds.layout_is h.holds.stands (nursery_place layout 0) places t.world h.holds.fit h.old (λ p c low. elim (h.sound p c) [
+    are_blocks layout t.allocation words segments h.holds.layout_is h.holds.stands (nursery_place layout 0) places t.world h.holds.fit h.old
+    (λ p c low. elim (h.sound p c) [
       | inl at ↦ at
       | inr born ↦ let from = born.nursery.from in absurd (omega (arith, from, low))
     ])
@@ -131,17 +141,24 @@ module _ (layout : Layout) (earlier : List World) (places : List Place) (w : Wor
   -- the place of a block with a name
   block_told : (p : Place) → IsBlockPlace layout a p → Contains places p
   block_told p b =
-      let o = subst (λ (k : ℕ). IsOccupied segments k (block_size (cells a b.number).class)) (sym b.at) (block_used layout a words segments same shown b.number b.block p.name b.lies) in
+      let o = subst (λ (k : ℕ).
+      IsOccupied segments k (block_size (cells a b.number).class)) (sym b.at)
+      (block_used layout a words segments same shown b.number b.block p.name b.lies) in
       let f = blocks.filled p.at (block_size (cells a b.number).class) o in
       let is = block_named p b in
-      let e : f.0 ≡ p.name = differ f.0 p.name (valid (record { at = p.at; name = f.0 }) f.1) (shown.names b.number b.block p.name b.lies) (sym (r.named (record { at = p.at; name = f.0 }) f.1).name ∙ is) in
+      let e : f.0 ≡ p.name = differ f.0 p.name (valid (record {
+        at = p.at;
+        name = f.0;
+      }) f.1) (shown.names b.number b.block p.name b.lies) (sym (r.named (record { at = p.at; name = f.0 }) f.1).name ∙ is) in
       subst (λ (n : Name). Contains places (record { at = p.at; name = n })) e f.1
     where
       block_named : (p : Place) (b : IsBlockPlace layout a p) → slice_index words (p.at + 1) ≡ name_word p.name
       block_named p b =
           let h = shows_at layout a words segments same shown b.number b.block p.name b.lies in
           let class = h.1.class (not_free layout a words segments same shown b.number b.block p.name b.lies) in
-          let place : p.at ≡ block_place segments.layout b.number (nth segments.segments b.number).class b.block = b.at ∙ ap (λ (l : Layout). block_place l b.number (cells a b.number).class b.block) (sym same) ∙ ap (λ (k : ℕ). block_place segments.layout b.number k b.block) class in
+          let place : p.at ≡ block_place segments.layout b.number (nth segments.segments b.number).class b.block = b.at ∙
+          ap (λ (l : Layout). block_place l b.number (cells a b.number).class b.block) (sym same) ∙
+          ap (λ (k : ℕ). block_place segments.layout b.number k b.block) class in
           ap (λ (k : ℕ). slice_index words (k + 1)) place ∙ h.1.named b.block p.name b.lies
 
   -- g has its place
@@ -163,7 +180,9 @@ module _ (layout : Layout) (earlier : List World) (places : List Place) (w : Wor
   back p c = elim (r.named p c).lies [
     | inl g ↦
         let serial : p.name.serial ≡ 0 = (valid p c).2 g.0 in
-        inl (ap (λ (k : ℕ). record { at = k; name = p.name }) g.1 ∙ ap (λ (n : Name). record { at = SHARED_PLACE; name = n }) (ap (λ (m : ℕ). record { maker = m; serial = p.name.serial }) g.0 ∙ ap (λ (z : ℕ). record { maker = SHARED_MAKER; serial = z }) serial))
+        inl (ap (λ (k : ℕ). record { at = k; name = p.name }) g.1 ∙
+        ap (λ (n : Name). record { at = SHARED_PLACE; name = n }) (ap (λ (m : ℕ). record { maker = m; serial = p.name.serial }) g.0 ∙
+        ap (λ (z : ℕ). record { maker = SHARED_MAKER; serial = z }) serial))
     | inr o ↦
         let node = node_at p c in
         let h = blocks.held p node.0 c (low p c) o.0 node.1 in
@@ -181,7 +200,8 @@ module _ (layout : Layout) (earlier : List World) (places : List Place) (w : Wor
         | inr o ↦ o.0 m
       ] in
       let h = blocks.held place node c (low place c) own e in
-      let size = one_size segments place.at h.0 (block_size (cells a number).class) sound h.1 (block_used layout a words segments same shown number block name lies) in
+      let size = one_size segments place.at h.0 (block_size (cells a number).class) sound h.1
+      (block_used layout a words segments same shown number block name lies) in
       let fit = h.2 in
       omega (arith, fit, size)
 

@@ -37,7 +37,10 @@ next_has P false c rest p h = All-nil P
 
 slice_has : (P : Command → Type 0) (commands words : ℕ) (program : List Command) → All P program → All P (slice commands words program)
 slice_has P commands words [] h = All-nil P
-slice_has P commands words (c ∷ program) h = next_has P (is_next commands words c) c (if ends_slice c then [] else slice (commands - 1) (words - words_made c) program) (All-head P c program h) (either_has P (ends_slice c) (slice (commands - 1) (words - words_made c) program) (slice_has P (commands - 1) (words - words_made c) program (All-tail P c program h)))
+slice_has P commands words (c ∷ program) h =
+    next_has P (is_next commands words c) c (if ends_slice c then [] else slice (commands - 1) (words - words_made c) program)
+    (All-head P c program h) (either_has P (ends_slice c) (slice (commands - 1) (words - words_made c) program)
+    (slice_has P (commands - 1) (words - words_made c) program (All-tail P c program h)))
 
 either_few : (b : Bool) (program : List Command) (n : ℕ) → length program ≤ n → length {A = Command} (if b then [] else program) ≤ n
 either_few true program n h = omega arith
@@ -50,44 +53,67 @@ next_few false c rest n h = omega arith
 slice_few : (commands words : ℕ) (program : List Command) → length (slice commands words program) ≤ length program
 slice_few commands words [] = omega arith
 slice_few commands words (c ∷ program) =
-    let few : length (slice commands words (c ∷ program)) ≤ length program + 1 = next_few (is_next commands words c) c (if ends_slice c then [] else slice (commands - 1) (words - words_made c) program) (length program) (either_few (ends_slice c) (slice (commands - 1) (words - words_made c) program) (length program) (slice_few (commands - 1) (words - words_made c) program)) in
+    let few : length (slice commands words (c ∷ program)) ≤ length program + 1 =
+    next_few (is_next commands words c) c (if ends_slice c then [] else slice (commands - 1) (words - words_made c) program) (length program)
+    (either_few (ends_slice c) (slice (commands - 1) (words - words_made c) program) (length program)
+    (slice_few (commands - 1) (words - words_made c) program)) in
     omega (arith, few)
 
 -- each mutator's rows of a round are those of its slice
-own_is : (config : Config) (s t : State) (replies : List (List Reply)) (rows : List Row) → IsRound config s replies rows t → (m : ℕ) → rows_of m rows ≡ answered m (slice_of config (program_of s.left m)) (slice_index_or replies m [])
-own_is config s t replies rows round m = round.history.order m ∙ ap (λ (commands : List Command). answered m commands (slice_index_or replies m [])) (get_or-map (slice_of config) s.left m [])
+own_is : (config : Config) (s t : State) (replies : List (List Reply)) (rows : List Row) → IsRound config s replies rows t → (m : ℕ) →
+    rows_of m rows ≡ answered m (slice_of config (program_of s.left m)) (slice_index_or replies m [])
+own_is config s t replies rows round m = round.history.order m ∙
+    ap (λ (commands : List Command). answered m commands (slice_index_or replies m [])) (get_or-map (slice_of config) s.left m [])
 
 -- what holds of the commands that are left holds of the rows, and of what is left then
-pub rows_have : (Q : Command → Type 0) (config : Config) (s t : State) (replies : List (List Reply)) (rows : List Row) → IsRound config s replies rows t → ((m : ℕ) → All Q (program_of s.left m)) → All (λ (row : Row). Q row.command) rows
-rows_have Q config s t replies rows round h = all_own (λ (row : Row). Q row.command) rows (λ m. subst (λ (own : List Row). All (λ (row : Row). Q row.command) own) (sym (own_is config s t replies rows round m)) (answered_has Q (λ (row : Row). Q row.command) m (λ c r q. q) (slice_of config (program_of s.left m)) (slice_index_or replies m []) (slice_has Q config.slice config.nursery (program_of s.left m) (h m))))
+pub rows_have : (Q : Command → Type 0) (config : Config) (s t : State) (replies : List (List Reply)) (rows : List Row) →
+    IsRound config s replies rows t → ((m : ℕ) → All Q (program_of s.left m)) → All (λ (row : Row). Q row.command) rows
+rows_have Q config s t replies rows round h = all_own (λ (row : Row). Q row.command) rows (λ m.
+    subst (λ (own : List Row).
+    All (λ (row : Row). Q row.command) own) (sym (own_is config s t replies rows round m)) (answered_has Q (λ (row : Row).
+    Q row.command) m (λ c r q.
+    q) (slice_of config (program_of s.left m)) (slice_index_or replies m []) (slice_has Q config.slice config.nursery (program_of s.left m) (h m))))
 
-pub left_has : (Q : Command → Type 0) (config : Config) (s t : State) (replies : List (List Reply)) (rows : List Row) → IsRound config s replies rows t → ((m : ℕ) → All Q (program_of s.left m)) → (m : ℕ) → All Q (program_of t.left m)
-left_has Q config s t replies rows round h m = subst (λ (program : List Command). All Q program) (sym (round_left config s t replies rows m round)) (All-drop Q (length (slice_index_or replies m [])) (program_of s.left m) (h m))
+pub left_has : (Q : Command → Type 0) (config : Config) (s t : State) (replies : List (List Reply)) (rows : List Row) →
+    IsRound config s replies rows t → ((m : ℕ) → All Q (program_of s.left m)) → (m : ℕ) → All Q (program_of t.left m)
+left_has Q config s t replies rows round h m = subst (λ (program : List Command).
+    All Q program) (sym (round_left config s t replies rows m round)) (All-drop Q (length (slice_index_or replies m [])) (program_of s.left m) (h m))
 
 -- the rows of a round can be replayed, and leave room for what is left
-module _ (plan : Plan) (s t : State) (replies : List (List Reply)) (rows : List Row) (round : IsRound plan.config s replies rows t) (able : HasPrograms plan s) (h : IsSoundHere plan s) where
+module _ (plan : Plan) (s t : State) (replies : List (List Reply)) (rows : List Row) (round : IsRound plan.config s replies rows t)
+    (able : HasPrograms plan s) (h : IsSoundHere plan s) where
   own_good : (m : ℕ) → All (IsGood (length s.world.mutators)) (rows_of m rows)
   own_good m = elim (cases_lt m (length plan.threads)) [
     | inl lt ↦
         let there : m < length s.world.mutators = omega (arith, lt, h.mutators) in
-        subst (λ (own : List Row). All (IsGood (length s.world.mutators)) own) (sym (own_is plan.config s t replies rows round m)) (answered_has HasRegisters (IsGood (length s.world.mutators)) m (λ c r registers. (there, registers)) (slice_of plan.config (program_of s.left m)) (slice_index_or replies m []) (slice_has HasRegisters plan.config.slice plan.config.nursery (program_of s.left m) (able.registers m)))
+        subst (λ (own : List Row).
+        All (IsGood (length s.world.mutators)) own) (sym (own_is plan.config s t replies rows round m))
+        (answered_has HasRegisters (IsGood (length s.world.mutators)) m (λ c r registers. (
+          there,
+          registers,
+        )) (slice_of plan.config (program_of s.left m)) (slice_index_or replies m [])
+        (slice_has HasRegisters plan.config.slice plan.config.nursery (program_of s.left m) (able.registers m)))
     | inr ge ↦
         let none : program_of s.left m ≡ [] = get_or_past s.left m [] (omega (arith, ge, able.count)) in
-        let own : rows_of m rows ≡ [] = own_is plan.config s t replies rows round m ∙ ap (λ (program : List Command). answered m (slice_of plan.config program) (slice_index_or replies m [])) none in
+        let own : rows_of m rows ≡ [] = own_is plan.config s t replies rows round m ∙
+        ap (λ (program : List Command). answered m (slice_of plan.config program) (slice_index_or replies m [])) none in
         subst (λ (own : List Row). All (IsGood (length s.world.mutators)) own) (sym own) (All-nil (IsGood (length s.world.mutators)))
   ]
 
   own_few : (m : ℕ) → own_count m rows ≤ length (slice_of plan.config (program_of s.left m))
   own_few m =
-      let few : length (answered m (slice_of plan.config (program_of s.left m)) (slice_index_or replies m [])) ≤ length (slice_of plan.config (program_of s.left m)) = answered_few m (slice_of plan.config (program_of s.left m)) (slice_index_or replies m []) in
+      let few : length (answered m (slice_of plan.config (program_of s.left m)) (slice_index_or replies m [])) ≤ length
+      (slice_of plan.config (program_of s.left m)) = answered_few m (slice_of plan.config (program_of s.left m)) (slice_index_or replies m []) in
       subst (λ (own : List Row). length own ≤ length (slice_of plan.config (program_of s.left m))) (sym (own_is plan.config s t replies rows round m)) few
 
   pub can_replay : CanReplay s.world rows
   can_replay = rows_can (2 ^ 32 - 1) s.world rows h.world (all_own (IsGood (length s.world.mutators)) rows own_good) (λ m.
       let own : own_count m rows ≤ length (slice_of plan.config (program_of s.left m)) = own_few m in
-      let few : length (slice_of plan.config (program_of s.left m)) ≤ length (program_of s.left m) = slice_few plan.config.slice plan.config.nursery (program_of s.left m) in
+      let few : length (slice_of plan.config (program_of s.left m)) ≤ length (program_of s.left m) =
+      slice_few plan.config.slice plan.config.nursery (program_of s.left m) in
       let made : serial_of s.world m + length (program_of s.left m) < 2 ^ 32 - 1 = h.made m in
-      below (serial_of s.world m) (own_count m rows) (length (slice_of plan.config (program_of s.left m))) (length (program_of s.left m)) (2 ^ 32 - 1) own few made) refl
+      below (serial_of s.world m) (own_count m rows) (length (slice_of plan.config (program_of s.left m))) (length (program_of s.left m))
+      (2 ^ 32 - 1) own few made) refl
     where
       below : (serial own slice left limit : ℕ) → own ≤ slice → slice ≤ left → serial + left < limit → serial + own ≤ limit - 1
       below serial own slice left limit a b c = omega (arith, a, b, c)
@@ -95,11 +121,15 @@ module _ (plan : Plan) (s t : State) (replies : List (List Reply)) (rows : List 
   pub made_after : (m : ℕ) → serial_of (replayed s.world rows) m + lefts t m < 2 ^ 32 - 1
   made_after m =
       let left : program_of t.left m ≡ drop (length (slice_index_or replies m [])) (program_of s.left m) = round_left plan.config s t replies rows m round in
-      let count : lefts t m ≡ length (program_of s.left m) - length (slice_index_or replies m []) = ap (λ (program : List Command). length program) left ∙ length-drop (length (slice_index_or replies m [])) (program_of s.left m) in
-      bound (serial_of (replayed s.world rows) m) (serial_of s.world m) (own_count m rows) (length (slice_index_or replies m [])) (length (slice_of plan.config (program_of s.left m))) (length (program_of s.left m)) (lefts t m) (2 ^ 32 - 1)
-      (rows_count s.world rows h.world can_replay m) (own_few m) (slice_count plan.config s t replies rows m round) (slice_few plan.config.slice plan.config.nursery (program_of s.left m)) count (h.made m)
+      let count : lefts t m ≡ length (program_of s.left m) - length (slice_index_or replies m []) =
+      ap (λ (program : List Command). length program) left ∙ length-drop (length (slice_index_or replies m [])) (program_of s.left m) in
+      bound (serial_of (replayed s.world rows) m) (serial_of s.world m) (own_count m rows) (length (slice_index_or replies m []))
+      (length (slice_of plan.config (program_of s.left m))) (length (program_of s.left m)) (lefts t m) (2 ^ 32 - 1)
+      (rows_count s.world rows h.world can_replay m) (own_few m) (slice_count plan.config s t replies rows m round)
+      (slice_few plan.config.slice plan.config.nursery (program_of s.left m)) count (h.made m)
     where
-      bound : (new serial own replies slice left rest limit : ℕ) → new ≤ serial + own → own ≤ slice → replies ≡ slice → slice ≤ left → rest ≡ left - replies → serial + left < limit → new + rest < limit
+      bound : (new serial own replies slice left rest limit : ℕ) → new ≤ serial + own → own ≤ slice → replies ≡ slice → slice ≤ left →
+          rest ≡ left - replies → serial + left < limit → new + rest < limit
       bound new serial own replies slice left rest limit a b c d e f = omega (arith, a, b, c, d, e, f)
 
   pub round_programs : HasPrograms plan t
@@ -108,7 +138,11 @@ module _ (plan : Plan) (s t : State) (replies : List (List Reply)) (rows : List 
     registers = left_has HasRegisters plan.config s t replies rows round able.registers;
   }
 
-pub stop_programs : (plan : Plan) (began : World) (s t : State) (row : StopRow) (cycles : List CycleRow) → IsStop plan began s t row cycles → HasPrograms plan s → HasPrograms plan t
+pub stop_programs : (plan : Plan) (began : World) (s t : State) (row : StopRow) (cycles : List CycleRow) → IsStop plan began s t row cycles →
+    HasPrograms plan s → HasPrograms plan t
 stop_programs plan began s t row cycles i able =
     let same : t.left ≡ s.left = stop_left plan began s t row cycles i in
-    record { count = ap (λ (left : List (List Command)). length left) same ∙ able.count; registers = λ m. subst (λ (left : List (List Command)). All HasRegisters (program_of left m)) (sym same) (able.registers m) }
+    record {
+      count = ap (λ (left : List (List Command)). length left) same ∙ able.count;
+      registers = λ m. subst (λ (left : List (List Command)). All HasRegisters (program_of left m)) (sym same) (able.registers m);
+    }

@@ -44,18 +44,21 @@ module _ (plan : Plan) (s t : State) (rows : List Row) (places : List Place) (se
   -- the worlds before
   past : (e : World) → Contains (s.world ∷ snapshots t.progress) e → IsEarlier e t.world
   past e c = elim (contains_cases s.world (snapshots t.progress) e c) [
-    | inl same ↦ subst (λ (x : World). IsEarlier x t.world) same (subst (λ (x : World). IsEarlier s.world x) (sym world_is) (rows_keep_headers s.world rows is sound.can))
+    | inl same ↦ subst (λ (x : World). IsEarlier x t.world) same (subst (λ (x : World).
+        IsEarlier s.world x) (sym world_is) (rows_keep_headers s.world rows is sound.can))
     | inr later ↦ sound.earlier e later
   ]
 
-  outside : (e : World) (p : Place) → Contains (snapshots t.progress) e → Contains places p → IsSome (node_of e p.name) → p.at < nursery_place (layout_of plan) 0
+  outside : (e : World) (p : Place) → Contains (snapshots t.progress) e → Contains places p → IsSome (node_of e p.name) →
+      p.at < nursery_place (layout_of plan) 0
   outside e p c d there = old_low (layout_of plan) s t places seen.words seen.segments (ends_of seen) seen.weaks segments h p d (sound.names e c p.name there)
 
   -- what lies high was born, and what was born lies high
   high_young : (p : Place) → Contains places p → nursery_place (layout_of plan) 0 ≤ p.at → node_of s.world p.name ≡ None
   high_young p c high = elim (h.sound p c) [
     | inl (inl g) ↦ let at = ap (λ (q : Place). q.at) g in absurd (omega (arith, at, high))
-    | inl (inr b) ↦ let low = block_low (layout_of plan) s t places seen.words seen.segments (ends_of seen) seen.weaks segments h p b in absurd (omega (arith, low, high))
+    | inl (inr b) ↦ let low = block_low (layout_of plan) s t places seen.words seen.segments (ends_of seen) seen.weaks segments h p b in
+        absurd (omega (arith, low, high))
     | inr born ↦ born.young.0
   ]
 
@@ -70,10 +73,15 @@ module _ (plan : Plan) (s t : State) (rows : List Row) (places : List Place) (se
       there e = cc
 
   -- an old object that refers to a young one was in the wide reach as the round began
-  changed : (holder name : Name) → IsSome (node_of s.world holder) → node_of s.world name ≡ None → RefersTo t.world holder name → IsTracked t.world (s.world ∷ snapshots t.progress) holder
+  changed : (holder name : Name) → IsSome (node_of s.world holder) → node_of s.world name ≡ None → RefersTo t.world holder name →
+      IsTracked t.world (s.world ∷ snapshots t.progress) holder
   changed holder name old none refers =
       let at = place_of_field refers.0 (Ref name) refers.2 in
-      let stands : HasStrongField (replayed s.world rows) holder at.0 (Ref name) = record { node = refers.0; node_is = sym (ap (λ (x : World). node_of x holder) world_is) ∙ refers.1; field = at.1 } in
+      let stands : HasStrongField (replayed s.world rows) holder at.0 (Ref name) = record {
+        node = refers.0;
+        node_is = sym (ap (λ (x : World). node_of x holder) world_is) ∙ refers.1;
+        field = at.1;
+      } in
       let stored = old_refers_to_young s.world rows is sound.can holder name at.0 old (absent (node_of s.world name) none) stands in
       past_tracked t.world (s.world ∷ snapshots t.progress) s.world holder (contains_head s.world (snapshots t.progress)) stored.wide
 
@@ -99,11 +107,15 @@ round_is_remembered plan run replies history t seen runnable h segments =
     let earlier : List World = s.world ∷ snapshots t.progress in
     record {
       world = sound.world;
-      round = subst (λ (l : Layout). IsRoundOf (nursery_place l 0) (stopped_after s t h.places seen)) layout (round_of plan s t history h.places seen is.world sound world_is segments h.heap);
+      round = subst (λ (l : Layout).
+          IsRoundOf (nursery_place l 0) (stopped_after s t h.places seen)) layout
+          (round_of plan s t history h.places seen is.world sound world_is segments h.heap);
       represents = subst (λ (l : Layout). Represents l earlier NoNode h.places t.world seen.words) layout h.heap.holds.represents;
       roots = h.heap.holds.roots;
       segments = segments;
-      blocks = subst (λ (l : Layout). AreBlocks seen.segments (nursery_place l 0) h.places t.world) layout (blocks_after_round (layout_of plan) s t h.places seen.words seen.segments (ends_of seen) seen.weaks h.heap);
+      blocks = subst (λ (l : Layout).
+          AreBlocks seen.segments (nursery_place l 0) h.places t.world) layout
+          (blocks_after_round (layout_of plan) s t h.places seen.words seen.segments (ends_of seen) seen.weaks h.heap);
       used = subst (λ (l : Layout). AreUsed l (nursery_place l 0) h.places t.world (nurseries_of seen)) layout h.nurseries.used;
       order = subst (λ (l : Layout). LieInOrder (nursery_place l 0) h.places) layout h.ordered;
       left = subst (λ (l : Layout). Remembers (nursery_place l 0) earlier h.places t.world (recorded_in seen) (young_weaks_in seen)) layout h.left;

@@ -36,7 +36,9 @@ closing_more c w rows after can =
 lie_more : (w : World) (rows : List Row) (a : AllocState) → CanReplay w rows → LieKnown w a → LieKnown (replayed w rows) a
 lie_more w rows a can lie number block n lies = replayed_names w rows can n (lie number block n lies)
 
-module _ (plan : Plan) (left after_left : ℕ → ℕ) (quota : ℕ) (w : World) (a b : AllocState) (rows : List Row) (can : CanReplay w rows) (made : (m : ℕ) → serial_of (replayed w rows) m + after_left m < 2 ^ 32 - 1) where
+module _ (plan : Plan) (left after_left : ℕ →
+    ℕ) (quota : ℕ) (w : World) (a b : AllocState) (rows : List Row) (can : CanReplay w rows) (made : (m : ℕ) →
+    serial_of (replayed w rows) m + after_left m < 2 ^ 32 - 1) where
   round_idle : IsSoundWith plan left w a idle → SweepsBeside quota idle a b → Worked plan after_left w (replayed w rows) b idle
   round_idle h same =
       let known : LieKnown w b = subst (LieKnown w) (sym same) h.known in
@@ -48,12 +50,14 @@ module _ (plan : Plan) (left after_left : ℕ → ℕ) (quota : ℕ) (w : World)
         old_known = known;
         known = lie_more w rows b can known;
         cycle = tt;
-        old = λ n tracked other there. subst (λ (x : AllocState). HasBlock x n) (sym same) (h.blocks n (tracked_before w [] rows h.world can n tracked there) other);
+        old = λ n tracked other there. subst (λ (x : AllocState).
+            HasBlock x n) (sym same) (h.blocks n (tracked_before w [] rows h.world can n tracked there) other);
         young = tracked_young w rows h.world can [] (λ e held n wide. absurd (nothing_in e held));
         there = tracked_known (replayed w rows) [] (world_after w rows h.world can) (λ e held n wide. absurd (nothing_in e held));
       }
 
-  round_marking : (c : Cycle) → IsSoundWith plan left w a (marking c) → SweepsBeside quota (marking c) a b → Worked plan after_left w (replayed w rows) b (noted (marking c) rows)
+  round_marking : (c : Cycle) → IsSoundWith plan left w a (marking c) → SweepsBeside quota (marking c) a b →
+      Worked plan after_left w (replayed w rows) b (noted (marking c) rows)
   round_marking c h same =
       let all : List Row = c.rows ++ rows in
       let more : CanReplay c.snapshot all = can_more c.snapshot c.rows rows h.cycle.0.rows (subst (λ (x : World). CanReplay x rows) h.cycle.1 can) in
@@ -66,13 +70,21 @@ module _ (plan : Plan) (left after_left : ℕ → ℕ) (quota : ℕ) (w : World)
         sound_blocks = subst (AreSoundBlocks (layout_of plan)) (sym same) h.sound_blocks;
         old_known = known;
         known = lie_more w rows b can known;
-        cycle = (record { world = h.cycle.0.world; rows = more }, ap (λ (x : World). replayed x rows) h.cycle.1 ∙ sym (replayed_more c.snapshot c.rows rows), subst (WaitKnown c) (sym same) h.cycle.2);
-        old = λ n tracked other there. subst (λ (x : AllocState). HasBlock x n) (sym same) (h.blocks n (tracked_before w (c.snapshot ∷ []) rows h.world can n tracked there) other);
+        cycle = (
+          record { world = h.cycle.0.world; rows = more },
+          ap (λ (x : World). replayed x rows) h.cycle.1 ∙
+              sym (replayed_more c.snapshot c.rows rows),
+          subst (WaitKnown c) (sym same) h.cycle.2,
+        );
+        old = λ n tracked other there. subst (λ (x : AllocState).
+            HasBlock x n) (sym same) (h.blocks n (tracked_before w (c.snapshot ∷ []) rows h.world can n tracked there) other);
         young = tracked_young w rows h.world can (c.snapshot ∷ []) known_names;
-        there = tracked_known (replayed w rows) (c.snapshot ∷ []) (world_after w rows h.world can) (λ e held n wide. replayed_names w rows can n (known_names e held n wide));
+        there = tracked_known (replayed w rows) (c.snapshot ∷ []) (world_after w rows h.world can) (λ e held n wide.
+            replayed_names w rows can n (known_names e held n wide));
       }
 
-  round_sweeping : (c : Cycle) (number : ℕ) → IsSoundWith plan left w a (sweeping c number) → SweepsBeside quota (sweeping c number) a b → Worked plan after_left w (replayed w rows) b (sweeping c number)
+  round_sweeping : (c : Cycle) (number : ℕ) → IsSoundWith plan left w a (sweeping c number) → SweepsBeside quota (sweeping c number) a b →
+      Worked plan after_left w (replayed w rows) b (sweeping c number)
   round_sweeping c number h s =
       let after : IsAfterClosing c (replayed w rows) = closing_more c w rows h.cycle.0 can in
       let known : LieKnown w b = each_lie (IsKeptIn c) (λ n. IsSome (node_of w n)) a b s.numbers s.sweeps h.known in
@@ -84,7 +96,9 @@ module _ (plan : Plan) (left after_left : ℕ → ℕ) (quota : ℕ) (w : World)
         old_known = known;
         known = lie_more w rows b can known;
         cycle = (after, each_waits (IsKeptIn c) (IsOfSnapshot c) a b s.numbers s.sweeps h.cycle.1);
-        old = λ n tracked other there. sweeps_keep c (replayed w rows) a b _ s after h.cycle.1 n (tracked_wide (replayed w rows) n tracked) (h.blocks n (tracked_before w [] rows h.world can n tracked there) other);
+        old = λ n tracked other there.
+            sweeps_keep c (replayed w rows) a b _ s after h.cycle.1 n (tracked_wide (replayed w rows) n tracked)
+            (h.blocks n (tracked_before w [] rows h.world can n tracked there) other);
         young = tracked_young w rows h.world can [] (λ e held n wide. absurd (nothing_in e held));
         there = tracked_known (replayed w rows) [] (world_after w rows h.world can) (λ e held n wide. absurd (nothing_in e held));
       }

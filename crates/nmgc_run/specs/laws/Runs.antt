@@ -29,19 +29,25 @@ use Rattle.nmgc_run.specs.laws.Tracks.{tracked_known}
 
 -- a round, and a turn
 
-pub round_holds : (plan : Plan) (s t : State) (replies : List (List Reply)) (rows : List Row) → IsRound plan.config s replies rows t → HasPrograms plan s → IsSoundHere plan s → Worked plan (lefts t) s.world t.world t.allocation t.progress
+pub round_holds : (plan : Plan) (s t : State) (replies : List (List Reply)) (rows : List Row) → IsRound plan.config s replies rows t →
+    HasPrograms plan s → IsSoundHere plan s → Worked plan (lefts t) s.world t.world t.allocation t.progress
 round_holds plan s t replies rows round able h =
     let can = can_replay plan s t replies rows round able h in
     let M : State → Type 0 = λ x. Worked plan (lefts t) s.world x.world x.allocation x.progress in
-    subst M (sym round.rest) (round_worked plan (lefts s) (lefts t) plan.config.quota s.world s.allocation t.allocation rows can (made_after plan s t replies rows round able h) s.progress h round.swept)
+    subst M (sym round.rest) (round_worked plan (lefts s) (lefts t) plan.config.quota s.world s.allocation t.allocation rows can
+    (made_after plan s t replies rows round able h) s.progress h round.swept)
 
-pub turn_holds : (plan : Plan) (s : State) (turn : Turn) → IsTurn plan s turn → HasPrograms plan s → IsSoundHere plan s → HasPrograms plan turn.stop.state × IsSoundHere plan turn.stop.state
+pub turn_holds : (plan : Plan) (s : State) (turn : Turn) → IsTurn plan s turn → HasPrograms plan s → IsSoundHere plan s →
+    HasPrograms plan turn.stop.state × IsSoundHere plan turn.stop.state
 turn_holds plan s turn i able h = (
-  stop_programs plan s.world turn.worked turn.stop.state turn.stop.row turn.stop.cycles i.stop (round_programs plan s turn.worked turn.replies.replies turn.history i.round able h),
-  (stop_holds plan s.world turn.worked turn.stop.state turn.stop.row turn.stop.cycles i.stop (round_holds plan s turn.worked turn.replies.replies turn.history i.round able h)).last,
+  stop_programs plan s.world turn.worked turn.stop.state turn.stop.row turn.stop.cycles i.stop
+      (round_programs plan s turn.worked turn.replies.replies turn.history i.round able h),
+  (stop_holds plan s.world turn.worked turn.stop.state turn.stop.row turn.stop.cycles i.stop
+      (round_holds plan s turn.worked turn.replies.replies turn.history i.round able h)).last,
 )
 
-pub turns_hold : (plan : Plan) (s : State) (turns : List Turn) → AreTurns plan s turns → HasPrograms plan s → IsSoundHere plan s → HasPrograms plan (state_after s turns) × IsSoundHere plan (state_after s turns)
+pub turns_hold : (plan : Plan) (s : State) (turns : List Turn) → AreTurns plan s turns → HasPrograms plan s → IsSoundHere plan s →
+    HasPrograms plan (state_after s turns) × IsSoundHere plan (state_after s turns)
 turns_hold plan s [] i able h = (able, h)
 turns_hold plan s (turn ∷ turns) i able h = let next = turn_holds plan s turn i.0 able h in turns_hold plan turn.stop.state turns i.1 next.0 next.1
 
@@ -51,19 +57,22 @@ new_serial : (mutators m : ℕ) → serial_of (new_world mutators) m ≡ 0
 new_serial mutators m = each_new (λ (state : MutatorState). length state.nodes ≡ 0) refl refl mutators m
 
 only_shared : (mutators : ℕ) (n : Name) → IsSome (node_of (new_world mutators) n) → n ≡ shared_name
-only_shared mutators n there = let node = is_some_of (node_of (new_world mutators) n) there in at_some (node_of (new_world mutators) n) node.0 (λ x. n ≡ shared_name) node.1 (new_nodes (λ name x. name ≡ shared_name) refl mutators n)
+only_shared mutators n there = let node = is_some_of (node_of (new_world mutators) n) there in
+    at_some (node_of (new_world mutators) n) node.0 (λ x. n ≡ shared_name) node.1 (new_nodes (λ name x. name ≡ shared_name) refl mutators n)
 
 none_young : (w : World) (n : Name) → node_of w n ≡ None → IsSome (node_of w n) → ⊥
 none_young w n none some = absent (node_of w n) none some
 
-pub opening_worked : (plan : Plan) → IsRunnable plan → Worked plan (lefts (start plan)) (new_world (length plan.threads)) (start plan).world (start plan).allocation (start plan).progress
+pub opening_worked : (plan : Plan) → IsRunnable plan →
+    Worked plan (lefts (start plan)) (new_world (length plan.threads)) (start plan).world (start plan).allocation (start plan).progress
 opening_worked plan runnable =
     let k : ℕ = length plan.threads in
     let is : IsWorld (new_world k) = new_is_world k runnable.some runnable.few in
     record {
       world = is;
       mutators = length-replicate k new_mutator;
-      made = λ m. subst (λ (n : ℕ). n + lefts (start plan) m < 2 ^ 32 - 1) (sym (new_serial k m)) (subst (λ (n : ℕ). n < 2 ^ 32 - 1) (sym (zero-add (lefts (start plan) m))) (runnable.short m));
+      made = λ m. subst (λ (n : ℕ). n + lefts (start plan) m < 2 ^ 32 - 1) (sym (new_serial k m)) (subst (λ (n : ℕ).
+          n < 2 ^ 32 - 1) (sym (zero-add (lefts (start plan) m))) (runnable.short m));
       sound_blocks = first_filed (layout_of plan);
       old_known = λ number block n lies. absurd (none_some (name_in (cells (all_empty plan.config.segments) number) block) n (empty number block) lies);
       known = λ number block n lies. absurd (none_some (name_in (cells (all_empty plan.config.segments) number) block) n (empty number block) lies);
@@ -81,8 +90,10 @@ start_programs plan runnable = record { count = refl; registers = runnable.regis
 
 pub opening_holds : (plan : Plan) (run : Run) → IsRunnable plan → IsRun plan run → HasPrograms plan run.opening.state × IsSoundHere plan run.opening.state
 opening_holds plan run runnable i = (
-  stop_programs plan (new_world (length plan.threads)) (start plan) run.opening.state run.opening.row run.opening.cycles i.opening (start_programs plan runnable),
-  (stop_holds plan (new_world (length plan.threads)) (start plan) run.opening.state run.opening.row run.opening.cycles i.opening (opening_worked plan runnable)).last,
+  stop_programs plan (new_world (length plan.threads)) (start plan) run.opening.state run.opening.row run.opening.cycles i.opening
+      (start_programs plan runnable),
+  (stop_holds plan (new_world (length plan.threads)) (start plan) run.opening.state run.opening.row run.opening.cycles i.opening
+      (opening_worked plan runnable)).last,
 )
 
 pub run_holds : (plan : Plan) (run : Run) → IsRunnable plan → IsRun plan run → HasPrograms plan (last_state run) × IsSoundHere plan (last_state run)
@@ -110,7 +121,15 @@ sound_of plan s able h = record {
 pub sound_holds : (plan : Plan) (s : State) → IsSoundState plan s → HasPrograms plan s × IsSoundHere plan s
 sound_holds plan s sound = (
   record { count = sound.able.programs; registers = sound.able.registers },
-  record { world = sound.world; mutators = sound.able.mutators; made = sound.able.serials; sound_blocks = sound.sound_blocks; known = sound.known; cycle = sound.cycle; blocks = sound.blocks },
+  record {
+    world = sound.world;
+    mutators = sound.able.mutators;
+    made = sound.able.serials;
+    sound_blocks = sound.sound_blocks;
+    known = sound.known;
+    cycle = sound.cycle;
+    blocks = sound.blocks;
+  },
 )
 
 pub states_are_sound : StatesAreSound
@@ -129,7 +148,9 @@ rounds_are_sound plan s t replies rows sound round =
       known = m.old_known;
       cycle = m.cycle;
       earlier = earlier_then t.world t.allocation t.progress m.cycle;
-      names = λ e held n there. snapshot_known s.world s.allocation s.progress sound.cycle e (noted_snapshots s.progress rows e (subst (λ (x : State). Contains (snapshots x.progress) e) round.rest held)) n there;
+      names = λ e held n there.
+          snapshot_known s.world s.allocation s.progress sound.cycle e (noted_snapshots s.progress rows e (subst (λ (x : State).
+          Contains (snapshots x.progress) e) round.rest held)) n there;
       blocks = m.old;
     }
 

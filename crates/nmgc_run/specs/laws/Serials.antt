@@ -32,7 +32,8 @@ all_own P (row ∷ rows) own = All-cons P row rows head (all_own P rows (λ m. t
   where
     head : P row
     head = elim (eqb_tells row.mutator row.mutator) [
-      | inl p ↦ All-head P row (rows_of row.mutator rows) (let h : All P (cond (eqb row.mutator row.mutator) (row ∷ rows_of row.mutator rows) (rows_of row.mutator rows)) = own row.mutator in rw p.0 at h)
+      | inl p ↦ All-head P row (rows_of row.mutator rows)
+          (let h : All P (cond (eqb row.mutator row.mutator) (row ∷ rows_of row.mutator rows) (rows_of row.mutator rows)) = own row.mutator in rw p.0 at h)
       | inr p ↦ absurd (p.1 refl)
     ]
 
@@ -56,10 +57,13 @@ own_other m row rows e = elim (eqb_tells row.mutator m) [
 ]
 
 -- after a row a mutator has made as many objects more as it has rows less, at most
-step_count : (w : World) (row : Row) (rows : List Row) (m : ℕ) → IsWorld w → CanApply w row.mutator row.command → serial_of (step w row.mutator row.command).0 m + own_count m rows ≤ serial_of w m + own_count m (row ∷ rows)
+step_count : (w : World) (row : Row) (rows : List Row) (m : ℕ) → IsWorld w → CanApply w row.mutator row.command →
+    serial_of (step w row.mutator row.command).0 m + own_count m rows ≤ serial_of w m + own_count m (row ∷ rows)
 step_count w row rows m is can = elim (cases_eq m row.mutator) [
   | inl e ↦
-      let more : serial_of (step w row.mutator row.command).0 m ≤ serial_of w m + 1 = subst (λ (k : ℕ). serial_of (step w row.mutator row.command).0 k ≤ serial_of w k + 1) (sym e) (step_grows w row.mutator row.command can.mutator).by_one in
+      let more : serial_of (step w row.mutator row.command).0 m ≤ serial_of w m + 1 =
+      subst (λ (k : ℕ). serial_of (step w row.mutator row.command).0 k ≤ serial_of w k + 1) (sym e)
+      (step_grows w row.mutator row.command can.mutator).by_one in
       omega (arith, more, own_here m row rows (sym e))
   | inr other ↦
       let same : serial_of (step w row.mutator row.command).0 m ≡ serial_of w m = (step_leaves_others w row.mutator row.command is can m other).made in
@@ -67,7 +71,8 @@ step_count w row rows m is can = elim (cases_eq m row.mutator) [
 ]
 
 -- good rows can be replayed where serials suffice
-pub rows_can : (limit : ℕ) (w : World) (rows : List Row) → IsWorld w → All (IsGood (length w.mutators)) rows → ((m : ℕ) → serial_of w m + own_count m rows ≤ limit - 1) → limit ≡ 2 ^ 32 - 1 → CanReplay w rows
+pub rows_can : (limit : ℕ) (w : World) (rows : List Row) → IsWorld w → All (IsGood (length w.mutators)) rows →
+    ((m : ℕ) → serial_of w m + own_count m rows ≤ limit - 1) → limit ≡ 2 ^ 32 - 1 → CanReplay w rows
 rows_can limit w [] world good few is = tt
 rows_can limit w (row ∷ rows) world good few is =
     let g : IsGood (length w.mutators) row = All-head (IsGood (length w.mutators)) row rows good in
@@ -75,12 +80,16 @@ rows_can limit w (row ∷ rows) world good few is =
     let can : CanApply w row.mutator row.command = record {
       mutator = g.0;
       registers = g.1;
-      serial = let here : own_count row.mutator (row ∷ rows) ≡ own_count row.mutator rows + 1 = own_here row.mutator row rows refl in let f : serial_of w row.mutator + own_count row.mutator (row ∷ rows) ≤ limit - 1 = few row.mutator in subst (λ (n : ℕ). serial_of w row.mutator < n) is (omega (arith, here, f));
+      serial = let here : own_count row.mutator (row ∷ rows) ≡ own_count row.mutator rows + 1 = own_here row.mutator row rows refl in
+          let f : serial_of w row.mutator + own_count row.mutator (row ∷ rows) ≤ limit - 1 = few row.mutator in
+          subst (λ (n : ℕ). serial_of w row.mutator < n) is (omega (arith, here, f));
     } in
     let count : length v.mutators ≡ length w.mutators = (step_grows w row.mutator row.command g.0).mutators in (
       can,
-      rows_can limit v rows (step_keeps_world w row.mutator row.command world can) (subst (λ (n : ℕ). All (IsGood n) rows) (sym count) (All-tail (IsGood (length w.mutators)) row rows good))
-          (λ m. let a : serial_of v m + own_count m rows ≤ serial_of w m + own_count m (row ∷ rows) = step_count w row rows m world can in let b : serial_of w m + own_count m (row ∷ rows) ≤ limit - 1 = few m in omega (arith, a, b)) is,
+      rows_can limit v rows (step_keeps_world w row.mutator row.command world can) (subst (λ (n : ℕ).
+          All (IsGood n) rows) (sym count) (All-tail (IsGood (length w.mutators)) row rows good))
+          (λ m. let a : serial_of v m + own_count m rows ≤ serial_of w m + own_count m (row ∷ rows) = step_count w row rows m world can in
+          let b : serial_of w m + own_count m (row ∷ rows) ≤ limit - 1 = few m in omega (arith, a, b)) is,
     )
 
 -- what rows make at most
@@ -88,7 +97,8 @@ pub rows_count : (w : World) (rows : List Row) → IsWorld w → CanReplay w row
 rows_count w [] is can m = omega arith
 rows_count w (row ∷ rows) is can m =
     let v : World = (step w row.mutator row.command).0 in
-    let a : serial_of (replayed v rows) m ≤ serial_of v m + own_count m rows = rows_count v rows (step_keeps_world w row.mutator row.command is can.0) can.1 m in
+    let a : serial_of (replayed v rows) m ≤ serial_of v m + own_count m rows =
+    rows_count v rows (step_keeps_world w row.mutator row.command is can.0) can.1 m in
     let b : serial_of v m + own_count m rows ≤ serial_of w m + own_count m (row ∷ rows) = step_count w row rows m is can.0 in
     omega (arith, a, b)
 
@@ -97,12 +107,16 @@ rows_mutators w [] can = refl
 rows_mutators w (row ∷ rows) can = rows_mutators (step w row.mutator row.command).0 rows can.1 ∙ (step_grows w row.mutator row.command can.0.mutator).mutators
 
 -- what holds of a mutator's commands holds of its rows
-pub answered_has : (Q : Command → Type 0) (P : Row → Type 0) (m : ℕ) → ((c : Command) (r : Reply) → Q c → P (record { mutator = m; command = c; reply = r })) → (commands : List Command) (replies : List Reply) → All Q commands → All P (answered m commands replies)
+pub answered_has : (Q : Command → Type 0) (P : Row → Type 0) (m : ℕ) →
+    ((c : Command) (r : Reply) → Q c → P (record { mutator = m; command = c; reply = r })) → (commands : List Command) (replies : List Reply) →
+    All Q commands → All P (answered m commands replies)
 answered_has Q P m each [] replies h = All-nil P
 answered_has Q P m each (c ∷ commands) [] h = All-nil P
-answered_has Q P m each (c ∷ commands) (r ∷ replies) h = All-cons P _ (answered m commands replies) (each c r (All-head Q c commands h)) (answered_has Q P m each commands replies (All-tail Q c commands h))
+answered_has Q P m each (c ∷ commands) (r ∷ replies) h =
+    All-cons P _ (answered m commands replies) (each c r (All-head Q c commands h)) (answered_has Q P m each commands replies (All-tail Q c commands h))
 
 pub answered_few : (m : ℕ) (commands : List Command) (replies : List Reply) → length (answered m commands replies) ≤ length commands
 answered_few m [] replies = omega arith
 answered_few m (c ∷ commands) [] = omega arith
-answered_few m (c ∷ commands) (r ∷ replies) = let rest : length (answered m commands replies) ≤ length commands = answered_few m commands replies in omega (arith, rest)
+answered_few m (c ∷ commands) (r ∷ replies) = let rest : length (answered m commands replies) ≤ length commands = answered_few m commands replies in
+    omega (arith, rest)

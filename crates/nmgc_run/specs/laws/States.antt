@@ -31,7 +31,10 @@ pub can_more : (w : World) (a b : List Row) → CanReplay w a → CanReplay (rep
 can_more w [] b can more = more
 can_more w (row ∷ a) b can more = (can.0, can_more (step w row.mutator row.command).0 a b can.1 more)
 
--- a sound state by its parts, so that a step can exchange one of them: what IsSoundState says of a world, an allocation state and what the collector does, where each mutator has so many commands left. It leaves out that their registers exist, which no stop can change, and that the collector may still speak of the snapshot, which follows (earlier_then)
+-- a sound state by its parts, so that a step can exchange one of them: what IsSoundState says of a world, an
+-- allocation state and what the collector does, where each mutator has so many commands left. It leaves out that
+-- their registers exist, which no stop can change, and that the collector may still speak of the snapshot, which
+-- follows (earlier_then)
 pub record IsSoundWith (plan : Plan) (left : ℕ → ℕ) (w : World) (a : AllocState) (p : Progress) : Type 0 where
   pub world : IsWorld w
   pub mutators : length w.mutators ≡ length plan.threads
@@ -63,10 +66,12 @@ pub record Worked (plan : Plan) (left : ℕ → ℕ) (began w : World) (a : Allo
   pub there : (n : Name) → IsTracked w (snapshots p) n → IsSome (node_of w n)
 
 -- the worlds of which the collector still speaks have no name that the world hasn't
-pub snapshot_known : (w : World) (a : AllocState) (p : Progress) → IsInCycle p w a → (e : World) → Contains (snapshots p) e → (n : Name) → IsSome (node_of e n) → IsSome (node_of w n)
+pub snapshot_known : (w : World) (a : AllocState) (p : Progress) → IsInCycle p w a → (e : World) → Contains (snapshots p) e → (n : Name) →
+    IsSome (node_of e n) → IsSome (node_of w n)
 snapshot_known w a idle h e held n there = absurd (nothing_in e held)
 snapshot_known w a (marking c) h e held n there = elim (contains_cases c.snapshot [] e held) [
-  | inl same ↦ subst (λ (x : World). IsSome (node_of x n)) (sym h.1) (replayed_names c.snapshot c.rows h.0.rows n (subst (λ (x : World). IsSome (node_of x n)) (sym same) there))
+  | inl same ↦ subst (λ (x : World). IsSome (node_of x n)) (sym h.1) (replayed_names c.snapshot c.rows h.0.rows n (subst (λ (x : World).
+      IsSome (node_of x n)) (sym same) there))
   | inr none ↦ absurd (nothing_in e none)
 ]
 snapshot_known w a (sweeping c closed) h e held n there = absurd (nothing_in e held)
@@ -81,14 +86,16 @@ snapshot_world w a (marking c) h e held = elim (contains_cases c.snapshot [] e h
 snapshot_world w a (sweeping c closed) h e held = absurd (nothing_in e held)
 
 -- and of the names in its wide reach
-pub known_then : (w : World) (a : AllocState) (p : Progress) → IsInCycle p w a → (e : World) → Contains (snapshots p) e → (n : Name) → IsWide e n → IsSome (node_of w n)
+pub known_then : (w : World) (a : AllocState) (p : Progress) → IsInCycle p w a → (e : World) → Contains (snapshots p) e → (n : Name) → IsWide e n →
+    IsSome (node_of w n)
 known_then w a p h e held n wide = snapshot_known w a p h e held n (wide_known e (snapshot_world w a p h e held) n wide)
 
 -- the collector may still speak of them
 pub earlier_then : (w : World) (a : AllocState) (p : Progress) → IsInCycle p w a → (e : World) → Contains (snapshots p) e → IsEarlier e w
 earlier_then w a idle h e held = absurd (nothing_in e held)
 earlier_then w a (marking c) h e held = elim (contains_cases c.snapshot [] e held) [
-  | inl same ↦ subst (λ (x : World). IsEarlier x w) same (subst (λ (x : World). IsEarlier c.snapshot x) (sym h.1) (rows_keep_headers c.snapshot c.rows h.0.world h.0.rows))
+  | inl same ↦ subst (λ (x : World). IsEarlier x w) same (subst (λ (x : World).
+      IsEarlier c.snapshot x) (sym h.1) (rows_keep_headers c.snapshot c.rows h.0.world h.0.rows))
   | inr none ↦ absurd (nothing_in e none)
 ]
 earlier_then w a (sweeping c closed) h e held = absurd (nothing_in e held)

@@ -12,7 +12,8 @@ use Rattle.nmgc_run.specs.State.{Cycle}
 
 module _ (K : Name → Type 0) (Q : Name → Type 0) where
   next_waits : (a b : AllocState) (number : ℕ) (s : Sweeps a b number (HoldsKept K a number)) → AllWait Q a → AllWait Q b
-  next_waits a b number s waits k block n is lies = waits k block n (swept_state a b number (HoldsKept K a number) s k is) (swept_back a b number (HoldsKept K a number) s k block n lies)
+  next_waits a b number s waits k block n is lies =
+      waits k block n (swept_state a b number (HoldsKept K a number) s k is) (swept_back a b number (HoldsKept K a number) s k block n lies)
 
   -- of the names that wait, none comes in
   pub each_waits : (a b : AllocState) (numbers : List ℕ) → SweepsEach K a numbers b → AllWait Q a → AllWait Q b
@@ -22,7 +23,8 @@ module _ (K : Name → Type 0) (Q : Name → Type 0) where
   -- and none into any block
   pub each_lie : (a b : AllocState) (numbers : List ℕ) → SweepsEach K a numbers b → AllLie Q a → AllLie Q b
   each_lie a b [] e lie = subst (λ (x : AllocState). AllLie Q x) (sym e) lie
-  each_lie a b (number ∷ numbers) h lie = each_lie h.0 b numbers h.2 (λ k block n lies. lie k block n (swept_back a h.0 number (HoldsKept K a number) h.1 k block n lies))
+  each_lie a b (number ∷ numbers) h lie = each_lie h.0 b numbers h.2 (λ k block n lies.
+      lie k block n (swept_back a h.0 number (HoldsKept K a number) h.1 k block n lies))
 
   -- a name of which it can't be that it is lost keeps its block
   each_keeps : (a b : AllocState) (numbers : List ℕ) → SweepsEach K a numbers b → AllWait Q a → (n : Name) → (Q n → (K n → ⊥) → ⊥) → HasBlock a n → HasBlock b n
@@ -32,6 +34,8 @@ module _ (K : Name → Type 0) (Q : Name → Type 0) where
       (swept_keeps a h.0 number (HoldsKept K a number) h.1 n (λ block lies lost. not (waits number block n h.1.least.is.1 lies) (λ k. lost (n, lies, k))) has)
 
 -- a closed cycle sweeps: with rows since its closing, no name of the wide reach loses its block
-pub sweeps_keep : (c : Cycle) (w : World) (a b : AllocState) (count : ℕ) → SweepsSome (IsKeptIn c) count a b → IsAfterClosing c w → WaitKnown c a → (n : Name) → IsWide w n → HasBlock a n → HasBlock b n
+pub sweeps_keep : (c : Cycle) (w : World) (a b : AllocState) (count : ℕ) → SweepsSome (IsKeptIn c) count a b → IsAfterClosing c w → WaitKnown c a →
+    (n : Name) → IsWide w n → HasBlock a n → HasBlock b n
 sweeps_keep c w a b count s after waits n wide has = each_keeps (IsKeptIn c) (IsOfSnapshot c) a b s.numbers s.sweeps waits n
-    (λ there lost. nothing_reachable_is_freed (interval_of c) after.dead after.since after.sound after.lists after.can n (subst (λ (x : World). IsWide x n) after.world_is wide) there lost) has
+    (λ there lost. nothing_reachable_is_freed (interval_of c) after.dead after.since after.sound after.lists after.can n (subst (λ (x : World).
+    IsWide x n) after.world_is wide) there lost) has

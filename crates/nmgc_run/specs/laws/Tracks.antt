@@ -23,8 +23,10 @@ abbrev pub IsTrackedIfOld : World → List World → Name → Type 0
 IsTrackedIfOld w earlier n = IsSome (node_of w n) → IsTracked w earlier n
 
 -- after rows a tracked name that isn't new was tracked before
-pub tracked_before : (w : World) (earlier : List World) (rows : List Row) → IsWorld w → CanReplay w rows → (n : Name) → IsTracked (replayed w rows) earlier n → IsTrackedIfOld w earlier n
-tracked_before w earlier rows is can n t = held_tracked (replayed w rows) earlier (IsTrackedIfOld w earlier) (λ e k c i there. past_tracked w earlier e k c i) (rows_hold (IsTrackedIfOld w earlier) w rows is (λ k gone there. absurd (gone there)) begun can) n t
+pub tracked_before : (w : World) (earlier : List World) (rows : List Row) → IsWorld w → CanReplay w rows → (n : Name) →
+    IsTracked (replayed w rows) earlier n → IsTrackedIfOld w earlier n
+tracked_before w earlier rows is can n t = held_tracked (replayed w rows) earlier (IsTrackedIfOld w earlier) (λ e k c i there.
+    past_tracked w earlier e k c i) (rows_hold (IsTrackedIfOld w earlier) w rows is (λ k gone there. absurd (gone there)) begun can) n t
   where
     begun : HoldsOnly (IsTrackedIfOld w earlier) w
     begun =
@@ -43,7 +45,8 @@ pub tracked_itself : (w : World) (n : Name) → IsTracked w (w ∷ []) n → IsT
 tracked_itself w n t = tracked_more w (w ∷ []) [] (λ e c. c) n t
 
 -- every tracked name is one of the world, where it has those of the earlier worlds
-pub tracked_known : (w : World) (earlier : List World) → IsWorld w → ((e : World) → Contains earlier e → (n : Name) → IsWide e n → IsSome (node_of w n)) → (n : Name) → IsTracked w earlier n → IsSome (node_of w n)
+pub tracked_known : (w : World) (earlier : List World) → IsWorld w →
+    ((e : World) → Contains earlier e → (n : Name) → IsWide e n → IsSome (node_of w n)) → (n : Name) → IsTracked w earlier n → IsSome (node_of w n)
 tracked_known w earlier is known n t = held_tracked w earlier (λ k. IsSome (node_of w k)) (λ e k c i. known e c k i) (world_holds w is) n t
 
 -- a young name that is tracked is promoted
@@ -75,7 +78,8 @@ module _ (w : World) (rows : List Row) (is : IsWorld w) (can : CanReplay w rows)
   ]
   wide_young n (field from _ reached refers) y = by_field from n (wide_young from reached) refers
 
-  pub tracked_young : (earlier : List World) → ((e : World) → Contains earlier e → (n : Name) → IsWide e n → IsSome (node_of w n)) → (n : Name) → IsTracked new earlier n → IsYoung w new n → IsReached new (IsFirstPromoted w new) n
+  pub tracked_young : (earlier : List World) → ((e : World) → Contains earlier e → (n : Name) → IsWide e n → IsSome (node_of w n)) → (n : Name) →
+      IsTracked new earlier n → IsYoung w new n → IsReached new (IsFirstPromoted w new) n
   tracked_young earlier known n (start _ (e, held, wide)) y = elim (contains_cases new earlier e held) [
     | inl same ↦ wide_young n (subst (λ (x : World). IsWide x n) (sym same) wide) y
     | inr later ↦ absurd (young_not_old n y (known e later n wide))

@@ -89,5 +89,6 @@ upgraded_fits s fits = record {
   threads = threads_few s fits;
   total = fits.total;
   commands = fits.commands;
-  registers = All-weaker (λ program. All (Fits s.config.words) program) (λ program. All HasRegisters program) (λ program h. All-weaker (Fits s.config.words) HasRegisters (λ c f. f.registers) program h) s.threads fits.commands;
+  registers = All-weaker (λ program. All (Fits s.config.words) program) (λ program. All HasRegisters program) (λ program h.
+      All-weaker (Fits s.config.words) HasRegisters (λ c f. f.registers) program h) s.threads fits.commands;
 }

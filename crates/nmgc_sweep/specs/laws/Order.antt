@@ -61,7 +61,11 @@ pub lt_true : (x y : ℕ) → nat_lt x y ≡ true → x < y
 lt_true x y e = elim (cases_lt x y) [ inl lt ↦ lt | inr ge ↦ absurd (let f : nat_lt x y ≡ false = le-ltb x y ge in let g : true ≡ false = sym e ∙ f in cc) ]
 
 eq_true : (x y : ℕ) → (x == y) ≡ true → x ≡ y
-eq_true x y e = elim (cases_eq x y) [ inl same ↦ same | inr other ↦ absurd (let f : (x == y) ≡ false = ne_eqb x y other in let g : true ≡ false = sym e ∙ f in cc) ]
+eq_true x y e = elim (cases_eq x y) [
+  | inl same ↦ same
+  | inr other ↦ absurd (let f : (x == y) ≡ false = ne_eqb x y other in
+      let g : true ≡ false = sym e ∙ f in cc)
+]
 
 pub told_before : (a b : Name) → is_before a b ≡ true → IsBefore a b
 told_before a b e = elim (or_cases (nat_lt a.maker b.maker) ((a.maker == b.maker) && nat_lt a.serial b.serial) e) [
@@ -71,7 +75,9 @@ told_before a b e = elim (or_cases (nat_lt a.maker b.maker) ((a.maker == b.maker
 
 pub before_told : (a b : Name) → IsBefore a b → is_before a b ≡ true
 before_told a b (inl lt) = or_first (nat_lt a.maker b.maker) ((a.maker == b.maker) && nat_lt a.serial b.serial) (lt-ltb a.maker b.maker lt)
-before_told a b (inr p) = or_second (nat_lt a.maker b.maker) ((a.maker == b.maker) && nat_lt a.serial b.serial) (and_true (a.maker == b.maker) (nat_lt a.serial b.serial) (eq-eqb a.maker b.maker p.0) (lt-ltb a.serial b.serial p.1))
+before_told a b (inr p) =
+    or_second (nat_lt a.maker b.maker) ((a.maker == b.maker) && nat_lt a.serial b.serial)
+    (and_true (a.maker == b.maker) (nat_lt a.serial b.serial) (eq-eqb a.maker b.maker p.0) (lt-ltb a.serial b.serial p.1))
 
 not_told : (a b : Name) → is_before a b ≡ false → IsBefore a b → ⊥
 not_told a b e h = let t = before_told a b h in let f : true ≡ false = sym t ∙ e in cc
@@ -204,7 +210,8 @@ abbrev many : Name → List Name → ℕ
 many n xs = sum_by (one_if n) xs
 
 one_same : (n : Name) → one_if n n ≡ 1
-one_same n = ap (λ (b : Bool). let k : ℕ = cond b 1 0 in k) (and_true (n.maker == n.maker) (n.serial == n.serial) (eq-eqb n.maker n.maker refl) (eq-eqb n.serial n.serial refl))
+one_same n = ap (λ (b : Bool). let k : ℕ = cond b 1 0 in
+    k) (and_true (n.maker == n.maker) (n.serial == n.serial) (eq-eqb n.maker n.maker refl) (eq-eqb n.serial n.serial refl))
 
 one_some : (n m : Name) → 1 ≤ one_if n m → n ≡ m
 one_some n m some = elim (cases_Bool ((n.maker == m.maker) && (n.serial == m.serial))) [
@@ -292,11 +299,13 @@ pub sorted_steady : (xs : List Name) → AreSorted xs → IsSteady xs
 sorted_steady [] s = tt
 sorted_steady (x ∷ []) s = ((λ n c. absurd (omega (arith, c.1))), tt)
 sorted_steady (x ∷ y ∷ ys) s = steady_cons x (y ∷ ys)
-    (λ z zs e b. by_order x y (nat_cmp y.maker x.maker) (nat_cmp y.serial x.serial) refl refl (s 0 x (omega arith) (omega arith)) (let P : Name → Type 0 = λ m. IsBefore m x in subst P (sym (heads y z ys zs e)) b))
+    (λ z zs e b. by_order x y (nat_cmp y.maker x.maker) (nat_cmp y.serial x.serial) refl refl (s 0 x (omega arith) (omega arith))
+    (let P : Name → Type 0 = λ m. IsBefore m x in subst P (sym (heads y z ys zs e)) b))
     (sorted_steady (y ∷ ys) (λ k o low high.
     let e : suc k + 1 ≡ suc (k + 1) = omega arith in
     let here = s (suc k) o (omega arith) (omega (arith, high)) in
-    let P : ℕ → Type 0 = λ m. is_lt (ordering_then (nat_cmp (slice_index_or (x ∷ y ∷ ys) m o).maker (slice_index_or (y ∷ ys) k o).maker) (nat_cmp (slice_index_or (x ∷ y ∷ ys) m o).serial (slice_index_or (y ∷ ys) k o).serial)) ≡ false in
+    let P : ℕ → Type 0 = λ m. is_lt (ordering_then (nat_cmp (slice_index_or (x ∷ y ∷ ys) m o).maker (slice_index_or (y ∷
+    ys) k o).maker) (nat_cmp (slice_index_or (x ∷ y ∷ ys) m o).serial (slice_index_or (y ∷ ys) k o).serial)) ≡ false in
     subst P e here))
   where
     heads : (a b : Name) (xs ys : List Name) → a ∷ xs ≡ b ∷ ys → a ≡ b
@@ -304,4 +313,5 @@ sorted_steady (x ∷ y ∷ ys) s = steady_cons x (y ∷ ys)
 
 -- so a sort puts names in order
 pub sort_is_order : (xs ys : List Name) → IsPermutation xs ys → AreSorted ys → ys ≡ in_order xs
-sort_is_order xs ys p s = one_steady ys (in_order xs) (sorted_steady ys s) (steady_in_order xs) (λ n. sum_by-IsPermutation (one_if n) xs ys p ∙ sym (many_in_order n xs))
+sort_is_order xs ys p s = one_steady ys (in_order xs) (sorted_steady ys s) (steady_in_order xs) (λ n. sum_by-IsPermutation (one_if n) xs ys p ∙
+    sym (many_in_order n xs))

@@ -34,14 +34,16 @@ still_collects v [] on = on
 still_collects v (w ∷ ws) on = still_collects (together v w) ws (ap (λ b. b || w.collects) on)
 
 -- and it puts the parts of all seats in a row
-parts_together : (v : Seen) (seats : List RoundSeat) → ((k : ℕ) (seat : RoundSeat) → slice_get seats k ≡ Some seat → (seen seat).parts ≡ own_part seat ∷ []) → (all_together v (map seen seats)).parts ≡ v.parts ++ map own_part seats
+parts_together : (v : Seen) (seats : List RoundSeat) → ((k : ℕ) (seat : RoundSeat) → slice_get seats k ≡ Some seat →
+    (seen seat).parts ≡ own_part seat ∷ []) → (all_together v (map seen seats)).parts ≡ v.parts ++ map own_part seats
 parts_together v [] one = sym (append-nil v.parts)
 parts_together v (s ∷ ss) one =
     parts_together (together v (seen s)) ss (λ k seat e. one (suc k) seat e)
     ∙ ap (λ (ps : List Part). (v.parts ++ ps) ++ map own_part ss) (one 0 s refl)
     ∙ append_assoc v.parts (own_part s ∷ []) (map own_part ss)
 
-module _ (o : Opening) (before : List ℕ) (round : Round) (old mutators : List Mutator) (seats : List RoundSeat) (done : List (List Done)) (opens : CanOpen o before) (h : SlicesAreDone o round old mutators seats done) where
+module _ (o : Opening) (before : List ℕ) (round : Round) (old mutators : List Mutator) (seats : List RoundSeat) (done : List (List Done))
+    (opens : CanOpen o before) (h : SlicesAreDone o round old mutators seats done) where
   -- what was done from the seat of this number
   pub record IsSlice (k : ℕ) (seat : RoundSeat) : Type 0 where
     pub m : Mutator
@@ -75,7 +77,8 @@ module _ (o : Opening) (before : List ℕ) (round : Round) (old mutators : List 
         nursery = ready.nursery;
         used = ready.used;
         replied = subst (λ (rows : List Row). AllReply (own_part seat).fixed rows s.d) (sym w.added) s.did.replied;
-        recorded = s.did.recorded ∙ ap (λ l. numbers l ++ all_recorded s.m.layout (hand_of o.hands k) s.did.rows) s.resting.no_recorded ∙ (λ i. all_recorded (sym s.did.layout i) (hand_of o.hands (sym w.number i)) (sym w.added i));
+        recorded = s.did.recorded ∙ ap (λ l. numbers l ++ all_recorded s.m.layout (hand_of o.hands k) s.did.rows) s.resting.no_recorded ∙
+            (λ i. all_recorded (sym s.did.layout i) (hand_of o.hands (sym w.number i)) (sym w.added i));
         weaks = s.did.weaks ∙ ap (λ l. numbers l ++ all_weaks s.did.rows) s.resting.no_weaks ∙ (λ i. all_weaks (sym w.added i));
       }
 
@@ -95,7 +98,8 @@ module _ (o : Opening) (before : List ℕ) (round : Round) (old mutators : List 
       let many = opens.is.mutators in let as_many = h.seats_are in
       let seat = item seats m (omega arith) in
       let s = slice_at m seat.0 seat.1 in
-      let there : slice_get gathered.parts m ≡ Some (own_part seat.0) = subst (λ (ps : List Part). slice_get ps m ≡ Some (own_part seat.0)) (sym parts_are) (item_map own_part seats m seat.0 seat.1) in
+      let there : slice_get gathered.parts m ≡ Some (own_part seat.0) =
+      subst (λ (ps : List Part). slice_get ps m ≡ Some (own_part seat.0)) (sym parts_are) (item_map own_part seats m seat.0 seat.1) in
       (m, own_part seat.0, item_found gathered.parts m (own_part seat.0) there, s.did.went.number)
 
   all_at : All (IsAt round) seats
@@ -112,7 +116,8 @@ module _ (o : Opening) (before : List ℕ) (round : Round) (old mutators : List 
       let is : s.n ≡ n = cc in
       ap (λ (x : Mutator). x.number) (sym is) ∙ s.did.number ∙ s.resting.number_is
 
-  worked_at : (k : ℕ) (p : Part) (n : Mutator) (d : List Done) → slice_get (map own_part seats) k ≡ Some p → slice_get mutators k ≡ Some n → slice_get done k ≡ Some d → HasWorked o p n d
+  worked_at : (k : ℕ) (p : Part) (n : Mutator) (d : List Done) → slice_get (map own_part seats) k ≡ Some p → slice_get mutators k ≡ Some n →
+      slice_get done k ≡ Some d → HasWorked o p n d
   worked_at k p n d there new own =
       let seat = map_item own_part seats k p there in
       let s = slice_at k seat.0 seat.1 in

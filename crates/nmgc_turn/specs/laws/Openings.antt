@@ -21,4 +21,8 @@ opened_below o before can p c = by_place (can.represents.named p c).lies
         omega arith
     by_place (inr (own, inr n)) =
         let k = n.1 p.at (omega arith) (omega arith) in
-        elim (can.is.in_segments p c p.name.maker k.exists) [ inl low ↦ absurd (let a = k.from in omega arith) | inr high ↦ absurd (let a = k.before in omega arith) ]
+        elim (can.is.in_segments p c p.name.maker k.exists) [
+          | inl low ↦ absurd (let a = k.from in omega arith)
+          | inr high ↦
+              absurd (let a = k.before in omega arith)
+        ]

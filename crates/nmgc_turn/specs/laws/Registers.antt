@@ -22,27 +22,32 @@ registers_count (m ∷ ms) all =
     omega arith
 
 -- a mutator's own stand there one after another
-pub registers_at : (mutators : List Mutator) → HaveAll mutators → (k : ℕ) (m : Mutator) (i : ℕ) → slice_get mutators k ≡ Some m → i < REGISTERS → slice_index (registers_of mutators) (REGISTERS * k + i) ≡ slice_index m.registers i
+pub registers_at : (mutators : List Mutator) → HaveAll mutators → (k : ℕ) (m : Mutator) (i : ℕ) → slice_get mutators k ≡ Some m → i < REGISTERS →
+    slice_index (registers_of mutators) (REGISTERS * k + i) ≡ slice_index m.registers i
 registers_at [] all k m i e lt = absurd cc
 registers_at (n ∷ ms) all zero m i e lt =
     let same : n ≡ m = cc in
     let own = all zero n refl in
     let at : REGISTERS * zero + i ≡ i = omega arith in
-    ap (λ j. get_or (n.registers ++ registers_of ms) j 0) at ∙ get_or_append_left n.registers (registers_of ms) 0 i (omega arith) ∙ ap (λ (x : Mutator). get_or x.registers i 0) same
+    ap (λ j. get_or (n.registers ++ registers_of ms) j 0) at ∙ get_or_append_left n.registers (registers_of ms) 0 i (omega arith) ∙
+    ap (λ (x : Mutator). get_or x.registers i 0) same
 registers_at (n ∷ ms) all (suc k) m i e lt =
     let own = all zero n refl in
     let at : REGISTERS * suc k + i ≡ length n.registers + (REGISTERS * k + i) = omega arith in
-    ap (λ j. get_or (n.registers ++ registers_of ms) j 0) at ∙ get_or-append-add n.registers (registers_of ms) (REGISTERS * k + i) 0 ∙ registers_at ms (λ j x is. all (suc j) x is) k m i e lt
+    ap (λ j. get_or (n.registers ++ registers_of ms) j 0) at ∙ get_or-append-add n.registers (registers_of ms) (REGISTERS * k + i) 0 ∙
+    registers_at ms (λ j x is. all (suc j) x is) k m i e lt
 
 module _ (P : Place → Type 0) where
   -- words that stand for values one by one are a list that stands for them
-  pub list_of : (words : List ℕ) (values : List Value) → length words ≡ length values → ((i : ℕ) (v : Value) → slice_get values i ≡ Some v → Means P (slice_index words i) v) → ListMeans P words values
+  pub list_of : (words : List ℕ) (values : List Value) → length words ≡ length values →
+      ((i : ℕ) (v : Value) → slice_get values i ≡ Some v → Means P (slice_index words i) v) → ListMeans P words values
   list_of [] [] long h = tt
   list_of [] (v ∷ vs) long h = absurd (omega arith)
   list_of (w ∷ ws) [] long h = absurd (omega arith)
   list_of (w ∷ ws) (v ∷ vs) long h = (h zero v refl, list_of ws vs (omega arith) (λ i x e. h (suc i) x e))
 
-  pub list_at : (words : List ℕ) (values : List Value) → ListMeans P words values → (i : ℕ) (v : Value) → slice_get values i ≡ Some v → Means P (slice_index words i) v
+  pub list_at : (words : List ℕ) (values : List Value) → ListMeans P words values → (i : ℕ) (v : Value) → slice_get values i ≡ Some v →
+      Means P (slice_index words i) v
   list_at [] [] h i v e = absurd cc
   list_at [] (x ∷ vs) h i v e = absurd h
   list_at (w ∷ ws) [] h i v e = absurd h
@@ -60,7 +65,8 @@ module _ (P : Place → Type 0) where
     pub own_mean : length values ≡ REGISTERS → AllMean P (registers_of mutators) (REGISTERS * k) values → ListMeans P m.registers values
     own_mean many h =
         let own = all k m there in
-        list_of m.registers values (omega arith) (λ i v e. let lt = slice_get_within values i v e in subst (λ (w : ℕ). Means P w v) (registers_at mutators all k m i there (omega arith)) (h i v e))
+        list_of m.registers values (omega arith) (λ i v e. let lt = slice_get_within values i v e in
+        subst (λ (w : ℕ). Means P w v) (registers_at mutators all k m i there (omega arith)) (h i v e))
 
     pub all_mean : ListMeans P m.registers values → AllMean P (registers_of mutators) (REGISTERS * k) values
     all_mean h i v e =

@@ -18,7 +18,8 @@ use Rattle.nmgc_round.specs.Events.{Happening, did, scanned, replay, IsLegal, ro
 
 -- what `nmgc_round` says of the commands among events
 abbrev pub EventsAreHistory : Type 0
-EventsAreHistory = (s : State) (events : List Happening) → IsLegal s events → IsLegalHistory s.world (rows_in events) × ((replay s events).world ≡ replayed s.world (rows_in events))
+EventsAreHistory = (s : State) (events : List Happening) → IsLegal s events → IsLegalHistory s.world (rows_in events) ×
+    ((replay s events).world ≡ replayed s.world (rows_in events))
 
 world_if : (b : Bool) (s : State) (name : Name) → (cond b (with_mark s name) s).world ≡ s.world
 world_if true s name = refl
@@ -46,7 +47,8 @@ world_scanned s (entry ∷ rest) =
 pub can_replay : (s : State) (hs : List Happening) → IsLegal s hs → CanReplay s.world (rows_in hs)
 can_replay s [] legal = tt
 can_replay s (did m c r ∷ hs) legal = (legal.0.0.1, can_replay (after_command s m c) hs legal.1)
-can_replay s (scanned entry v ∷ hs) legal = subst (λ (w : World). CanReplay w (rows_in hs)) (world_scanned s s.queue) (can_replay (after_scan s s.queue) hs legal.1)
+can_replay s (scanned entry v ∷ hs) legal = subst (λ (w : World).
+    CanReplay w (rows_in hs)) (world_scanned s s.queue) (can_replay (after_scan s s.queue) hs legal.1)
 
 -- it stays a world
 pub still_world : (s : State) (hs : List Happening) → IsLegal s hs → IsWorld s.world → IsWorld (replay s hs).world
@@ -57,7 +59,8 @@ still_world s (scanned entry v ∷ hs) legal is = still_world (after_scan s s.qu
 -- an earlier world stays an earlier one
 pub still_earlier : (e : World) (s : State) (hs : List Happening) → IsLegal s hs → IsWorld s.world → IsEarlier e s.world → IsEarlier e (replay s hs).world
 still_earlier e s [] legal is h = h
-still_earlier e s (did m c r ∷ hs) legal is h = still_earlier e (after_command s m c) hs legal.1 (step_keeps_world s.world m c is legal.0.0.1) (step_keeps_earlier e s.world m c is legal.0.0.1 h)
+still_earlier e s (did m c r ∷ hs) legal is h =
+    still_earlier e (after_command s m c) hs legal.1 (step_keeps_world s.world m c is legal.0.0.1) (step_keeps_earlier e s.world m c is legal.0.0.1 h)
 still_earlier e s (scanned entry v ∷ hs) legal is h =
     let same = sym (world_scanned s s.queue) in
     still_earlier e (after_scan s s.queue) hs legal.1 (subst IsWorld same is) (subst (λ (w : World). IsEarlier e w) same h)

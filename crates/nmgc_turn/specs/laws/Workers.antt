@@ -18,7 +18,8 @@ pub record Worker (o : Opening) (parts : List Part) (mutators : List Mutator) (d
   pub number : part.number ≡ k
   pub worked : HasWorked o part mutator own
 
-pub worker_at : (o : Opening) (parts : List Part) (mutators : List Mutator) (done : List (List Done)) → HaveWorked o parts mutators done → (k : ℕ) → k < o.layout.mutators → Worker o parts mutators done k
+pub worker_at : (o : Opening) (parts : List Part) (mutators : List Mutator) (done : List (List Done)) → HaveWorked o parts mutators done → (k : ℕ) →
+    k < o.layout.mutators → Worker o parts mutators done k
 worker_at o parts mutators done all k lt =
     let a = all.parts_are in let b = all.mutators_are in let c = all.done_are in
     let p = item parts k (omega arith) in

@@ -40,15 +40,18 @@ polled_all_then old mid new x y = record {
 }
 
 -- one receiver changed in no other way
-pub at_polled : (C : Receiver → Receiver → Type 0) → ((r q : Receiver) → C r q → HasPolled r q) → (mid new : List Receiver) (mutator : ℕ) → AtLine C mutator mid new → HavePolled mid new
+pub at_polled : (C : Receiver → Receiver → Type 0) → ((r q : Receiver) → C r q → HasPolled r q) → (mid new : List Receiver) (mutator : ℕ) →
+    AtLine C mutator mid new → HavePolled mid new
 at_polled C is_polled mid new mutator h = record {
   count = ap (λ (l : List Receiver). length l) h.rest ∙ length-set mid mutator h.is;
   each = λ k r q at now.
       let there : mutator < length mid = slice_get_within mid mutator h.was h.at in
-      let is : get_or (set mid mutator h.is) k q ≡ q = get_or_from_slice_get (set mid mutator h.is) k q q (ap (λ (l : List Receiver). slice_get l k) (sym h.rest) ∙ now) in
+      let is : get_or (set mid mutator h.is) k q ≡ q = get_or_from_slice_get (set mid mutator h.is) k q q (ap (λ (l : List Receiver).
+      slice_get l k) (sym h.rest) ∙ now) in
       elim (cases_eq k mutator) [
         | inl e ↦
-            let was : h.was ≡ r = sym (get_or_from_slice_get mid mutator h.was q h.at) ∙ ap (λ (j : ℕ). get_or mid j q) (sym e) ∙ get_or_from_slice_get mid k r q at in
+            let was : h.was ≡ r = sym (get_or_from_slice_get mid mutator h.was q h.at) ∙ ap (λ (j : ℕ). get_or mid j q) (sym e) ∙
+            get_or_from_slice_get mid k r q at in
             let then : h.is ≡ q = sym (get_or-set_same mid mutator h.is q there) ∙ ap (λ (j : ℕ). get_or (set mid mutator h.is) j q) (sym e) ∙ is in
             subst (λ (x : Receiver). HasPolled r x) then (subst (λ (x : Receiver). HasPolled x h.is) was (is_polled h.was h.is h.changes))
         | inr ne ↦
@@ -58,5 +61,7 @@ at_polled C is_polled mid new mutator h = record {
 }
 
 -- one mutator's ring was polled, after others
-pub polled_one : (old mid new : List Receiver) (mutator : ℕ) (answer : Polled) → HavePolled old mid → AtLine (PollsSo answer) mutator mid new → HavePolled old new
-polled_one old mid new mutator answer before h = polled_all_then old mid new before (at_polled (PollsSo answer) (λ r q (x : PollsSo answer r q). poll_is r q answer x.polls) mid new mutator h)
+pub polled_one : (old mid new : List Receiver) (mutator : ℕ) (answer : Polled) → HavePolled old mid → AtLine (PollsSo answer) mutator mid new →
+    HavePolled old new
+polled_one old mid new mutator answer before h = polled_all_then old mid new before (at_polled (PollsSo answer) (λ r q (x : PollsSo answer r q).
+    poll_is r q answer x.polls) mid new mutator h)

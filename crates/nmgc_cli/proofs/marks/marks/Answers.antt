@@ -4,7 +4,8 @@ use Rattle.nmgc_cli.specs.declared.answer.Outcome.{Outcome}
 use Rattle.nmgc_cli.proofs.marks.marks.Goals as goal
 
 pub marks_text-requires-clause-script : goal.marks_text-requires-clause-script
-marks_text-requires-clause-script g c κs within = let given = c.in_ok-report.ensures.2 in record { script = given.0; limits = given.2.limits; run = given.2.run }
+marks_text-requires-clause-script g c κs within = let given = c.in_ok-report.ensures.2 in
+    record { script = given.0; limits = given.2.limits; run = given.2.run }
 
 pub returns : goal.returns
 returns g c = (

@@ -17,12 +17,16 @@ record AreMade (layout : Layout) (mutators : List Mutator) (receivers : List Rec
   unsent : (k : ℕ) (m : Mutator) → slice_get mutators k ≡ Some m → m.sender.since ≡ []
 
 -- one more
-made_more : {s : Sender} {r : Receiver} (layout : Layout) (number : ℕ) (mutators : List Mutator) (receivers : List Receiver) (m : Mutator) → length mutators ≡ number → length receivers ≡ number → AreMade layout mutators receivers → AreNew RING_BLOCKS s r → m.sender ≡ s → IsNew number layout m → AreMade layout (mutators ++ m ∷ []) (receivers ++ r ∷ [])
+made_more : {s : Sender} {r : Receiver} (layout : Layout) (number : ℕ) (mutators : List Mutator) (receivers : List Receiver) (m : Mutator) →
+    length mutators ≡ number → length receivers ≡ number → AreMade layout mutators receivers → AreNew RING_BLOCKS s r → m.sender ≡ s →
+    IsNew number layout m → AreMade layout (mutators ++ m ∷ []) (receivers ++ r ∷ [])
 made_more {s} {r} layout number mutators receivers m count many h linked sender new =
-    let last : IsLined (receivers ++ r ∷ []) number m.sender = subst (λ (x : Sender). IsLined (receivers ++ r ∷ []) number x) (sym sender) (lined_new receivers r s RING_BLOCKS number many linked) in
+    let last : IsLined (receivers ++ r ∷ []) number m.sender =
+    subst (λ (x : Sender). IsLined (receivers ++ r ∷ []) number x) (sym sender) (lined_new receivers r s RING_BLOCKS number many linked) in
     record {
       new = each_pushed (λ (k : ℕ) (x : Mutator). IsNew k layout x) mutators m h.new (subst (λ (n : ℕ). IsNew n layout m) (sym {A = ℕ} count) new);
-      lines = each_pushed (λ (k : ℕ) (x : Mutator). IsLined (receivers ++ r ∷ []) k x.sender) mutators m (λ k x e. lined_grown receivers r k x.sender (h.lines k x e)) (subst (λ (n : ℕ). IsLined (receivers ++ r ∷ []) n m.sender) (sym {A = ℕ} count) last);
+      lines = each_pushed (λ (k : ℕ) (x : Mutator). IsLined (receivers ++ r ∷ []) k x.sender) mutators m (λ k x e.
+          lined_grown receivers r k x.sender (h.lines k x e)) (subst (λ (n : ℕ). IsLined (receivers ++ r ∷ []) n m.sender) (sym {A = ℕ} count) last);
       unsent = each_pushed (λ (k : ℕ) (x : Mutator). x.sender.since ≡ []) mutators m h.unsent (ap (λ (x : Sender). x.since) sender ∙ linked.sent_is.1);
     }
 
@@ -32,10 +36,13 @@ loop-number-preserved c =
     let inv = l.invariant in
     let m : Mutator = c.in_ok-new.field-0 in
     let before : AreMade c.args.layout l.mutators.items l.receivers = record { new = inv.new; lines = inv.lines; unsent = inv.unsent } in
-    let more = made_more c.args.layout l.number l.mutators.items l.receivers m inv.count inv.many before c.in_ok-sender.ensures c.in_ok-new.ensures.sender c.in_ok-new.ensures.new in
+    let more = made_more c.args.layout l.number l.mutators.items l.receivers m inv.count inv.many before c.in_ok-sender.ensures
+    c.in_ok-new.ensures.sender c.in_ok-new.ensures.new in
     let items = c.in_ok-push.ensures.items in
     let listed = c.in_ok-push-2.ensures.ok in
-    let all = subst (λ (receivers : List Receiver). AreMade c.args.layout c.push.new.self.items receivers) (sym {A = List Receiver} listed) (subst (λ (mutators : List Mutator). AreMade c.args.layout mutators (l.receivers ++ c.in_ok-sender.receiver ∷ [])) (sym {A = List Mutator} items) more) in
+    let all = subst (λ (receivers : List Receiver). AreMade c.args.layout c.push.new.self.items receivers) (sym {A =
+    List Receiver} listed) (subst (λ (mutators : List Mutator).
+    AreMade c.args.layout mutators (l.receivers ++ c.in_ok-sender.receiver ∷ [])) (sym {A = List Mutator} items) more) in
     record {
       count = grind (arith, common_steps);
       many = grind (arith, common_steps);

@@ -17,7 +17,8 @@ forget-requires c =
     let lt = c.loop-number-test.true in
     let count = h.count in
     let m : Mutator = get_or c.loop-number.mutators c.loop-number.number c.index-mutators-number.result in
-    paired c.loop-number.inbox c.loop-number.number m.sender (h.lines c.loop-number.number m (slice_get-get_or c.loop-number.mutators c.loop-number.number c.index-mutators-number.result (omega (arith, lt, count))))
+    paired c.loop-number.inbox c.loop-number.number m.sender (h.lines c.loop-number.number m
+    (slice_get-get_or c.loop-number.mutators c.loop-number.number c.index-mutators-number.result (omega (arith, lt, count))))
 
 pub loop-number-preserved : goal.loop-number-preserved
 loop-number-preserved c =
@@ -26,4 +27,5 @@ loop-number-preserved c =
     let count = h.count in
     let m : Mutator = get_or c.loop-number.mutators c.loop-number.number c.index-mutators-number.result in
     let at = slice_get-get_or c.loop-number.mutators c.loop-number.number c.index-mutators-number.result (omega (arith, lt, count)) in
-    forgot_more c.args.inbox.now c.loop-number.inbox c.forget.new.inbox c.args.mutators.now c.loop-number.mutators c.loop-number.number m c.forget.new.mutator h at c.forget.ensures.forgot c.forget.ensures.inbox c.forget.ensures.line
+    forgot_more c.args.inbox.now c.loop-number.inbox c.forget.new.inbox c.args.mutators.now c.loop-number.mutators c.loop-number.number m
+    c.forget.new.mutator h at c.forget.ensures.forgot c.forget.ensures.inbox c.forget.ensures.line

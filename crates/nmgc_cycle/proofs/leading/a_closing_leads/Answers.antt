@@ -17,4 +17,5 @@ returns-clause-leads c = closing_leads (finishing_leads (record {
 }))
 
 pub returns-clause-ready : goal.returns-clause-ready
-returns-clause-ready c = close_ready c.the_heap_goes_on.ensures.rests c.a_heap_ties_by_blocks.ensures.snapshot c.a_resolved_cycle_is_closed.ensures.may c.queues_close.ensures.room
+returns-clause-ready c =
+    close_ready c.the_heap_goes_on.ensures.rests c.a_heap_ties_by_blocks.ensures.snapshot c.a_resolved_cycle_is_closed.ensures.may c.queues_close.ensures.room

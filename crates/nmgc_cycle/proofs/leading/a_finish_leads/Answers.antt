@@ -5,7 +5,9 @@ use Rattle.nmgc_cycle.proofs.SweepingRest.{sweeping_rest_leads, sweep_rest_ready
 use Rattle.nmgc_cycle.proofs.leading.a_finish_leads.Goals as goal
 
 pub returns-clause-close_ready : goal.returns-clause-close_ready
-returns-clause-close_ready c = close_now_ready c.the_heap_goes_on.ensures.rests c.a_heap_ties_by_blocks.ensures.snapshot c.a_resolved_cycle_is_closed.ensures.may c.queues_close.ensures.room
+returns-clause-close_ready c =
+    close_now_ready c.the_heap_goes_on.ensures.rests c.a_heap_ties_by_blocks.ensures.snapshot c.a_resolved_cycle_is_closed.ensures.may
+    c.queues_close.ensures.room
 
 pub returns-clause-closing : goal.returns-clause-closing
 returns-clause-closing c = finishing_now_leads (record {

@@ -6,4 +6,5 @@ pub returns-clause-filing : goal.returns-clause-filing
 returns-clause-filing c = filing_leads
 
 pub returns-clause-leads : goal.returns-clause-leads
-returns-clause-leads c = proceeding_leads (full_leads c.a_finish_leads.ensures.leads filing_leads c.a_beginning_leads.ensures.starting) c.a_beginning_leads.ensures.leads
+returns-clause-leads c =
+    proceeding_leads (full_leads c.a_finish_leads.ensures.leads filing_leads c.a_beginning_leads.ensures.starting) c.a_beginning_leads.ensures.leads

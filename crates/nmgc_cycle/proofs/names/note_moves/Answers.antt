@@ -6,9 +6,11 @@ pub loop-moved-init : goal.loop-moved-init
 loop-moved-init c = none_noted c.args.names.now
 
 pub note-requires : goal.note-requires
-note-requires c = entry_exists c.args.moves.now c.loop-moved.moved-index _ c.args.names.now c.loop-moved.names c.loop-moved-test.true c.loop-moved.invariant.count c.requires
+note-requires c = entry_exists c.args.moves.now c.loop-moved.moved-index _ c.args.names.now c.loop-moved.names c.loop-moved-test.true
+    c.loop-moved.invariant.count c.requires
 
 pub loop-moved-preserved : goal.loop-moved-preserved
 loop-moved-preserved c =
     noted_more c.args.moves.now c.loop-moved.moved-index _ c.args.names.now c.loop-moved.names c.note.new.self c.loop-moved-test.true
-    (entry_exists c.args.moves.now c.loop-moved.moved-index _ c.args.names.now c.loop-moved.names c.loop-moved-test.true c.loop-moved.invariant.count c.requires) c.note.ensures c.loop-moved.invariant
+    (entry_exists c.args.moves.now c.loop-moved.moved-index _ c.args.names.now c.loop-moved.names c.loop-moved-test.true
+    c.loop-moved.invariant.count c.requires) c.note.ensures c.loop-moved.invariant

@@ -10,7 +10,8 @@ use Rattle.nmgc_cycle.proofs.QueueLists.{next_is, queues_more, no_queue_is}
 use Rattle.nmgc_cycle.proofs.roots.taken.Goals as goal
 
 -- with the next mutator, all mutators so far have its registers and its queue
-registers_more : (xs : List Mutator) (i : ℕ) (x : Mutator) → i < length xs → get_or xs i x ≡ x → registers_of (take (i + 1) xs) ≡ registers_of (take i xs) ++ x.registers
+registers_more : (xs : List Mutator) (i : ℕ) (x : Mutator) → i < length xs → get_or xs i x ≡ x →
+    registers_of (take (i + 1) xs) ≡ registers_of (take i xs) ++ x.registers
 registers_more xs i x lt is =
     ap registers_of (take_more xs i x lt ∙ ap (λ (y : Mutator). take i xs ++ y ∷ []) is)
     ∙ flat_map-append (λ (m : Mutator). m.registers) (take i xs) (x ∷ [])
@@ -41,5 +42,6 @@ loop-mutator-preserved c =
           ∙ ap (λ (q : List FinQueue). q ++ c.replace.result ∷ []) c.loop-mutator.invariant.queues
           ∙ ap (λ (q : FinQueue). queues_in (take i xs) ++ q ∷ []) (c.replace.ensures.value ∙ sym (ap (λ (m : Mutator). m.queue) read))
           ∙ sym queues;
-      mutators = subst (λ (y : Mutator). set ys i (record y { queue = c.replace.new.dest }) ≡ all) read (subst (λ (q : FinQueue). set ys i (record x { queue = q }) ≡ all) empty more);
+      mutators = subst (λ (y : Mutator). set ys i (record y { queue = c.replace.new.dest }) ≡
+          all) read (subst (λ (q : FinQueue). set ys i (record x { queue = q }) ≡ all) empty more);
     }

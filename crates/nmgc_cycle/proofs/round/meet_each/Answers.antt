@@ -25,4 +25,5 @@ loop-number-preserved c =
     let count = h.count in
     let m : Mutator = get_or c.loop-number.mutators c.loop-number.number c.index-mutators-number.result in
     let at = slice_get-get_or c.loop-number.mutators c.loop-number.number c.index-mutators-number.result (omega (arith, lt, count)) in
-    met_more c.args.inbox.now c.loop-number.inbox c.meet.new.inbox c.args.mutators.now c.loop-number.mutators c.loop-number.number m c.meet.new.mutator h at c.meet.ensures.mutator c.meet.ensures.receiver
+    met_more c.args.inbox.now c.loop-number.inbox c.meet.new.inbox c.args.mutators.now c.loop-number.mutators c.loop-number.number m
+    c.meet.new.mutator h at c.meet.ensures.mutator c.meet.ensures.receiver

@@ -20,11 +20,15 @@ loop-number-preserved c =
     let own = c.in_ok-reserve.ensures in
     let threads = c.requires.threads in
     let same : program ≡ c.index-items-number.result = c.items-program.ensures in
-    let is : program ≡ get_or script.threads n program = subst (λ (l : List Command). l ≡ get_or script.threads n l) (sym same) (c.index-items-number.is ∙ ap (λ (ls : List (List Command)). get_or ls n c.index-items-number.result) c.items.ensures) in
-    let size : c.min.result ≡ min script.config.slice (length (left_at script positions n)) = slice_left script positions n c.min.result program (omega (arith, lt, threads)) is c.min.ensures in
+    let is : program ≡ get_or script.threads n program = subst (λ (l : List Command). l ≡
+    get_or script.threads n l) (sym same) (c.index-items-number.is ∙
+    ap (λ (ls : List (List Command)). get_or ls n c.index-items-number.result) c.items.ensures) in
+    let size : c.min.result ≡ min script.config.slice (length (left_at script positions n)) =
+    slice_left script positions n c.min.result program (omega (arith, lt, threads)) is c.min.ensures in
     let room : HasLists c.min.result next = record { replies = own.room.0; recorded = own.room.1; updrem = own.room.3; young_weaks = own.room.2 } in
     record {
       kept = kept_more was now n m next lt count before.kept before.after own.kept;
-      room = room_more was now n m next lt count (λ (k : ℕ). min script.config.slice (length (left_at script positions k))) before.room (subst (λ (most : ℕ). HasLists most next) size room);
+      room = room_more was now n m next lt count (λ (k : ℕ).
+          min script.config.slice (length (left_at script positions k))) before.room (subst (λ (most : ℕ). HasLists most next) size room);
       after = after_more was now n m next lt count before.after;
     }

@@ -6,7 +6,9 @@ use Rattle.nmgc_cycle.proofs.round.reserve_all.Given as goal
 
 abbrev pub invariant-loop-number : goal.invariant-loop-number
 invariant-loop-number l = record {
-  kept : (k : ℕ) (d : Mutator) → k < l.number → k < length l.initial.mutators → Reserves (slice_index_or l.initial.mutators k d) (slice_index_or l.mutators k d);
-  room : (k : ℕ) (d : Mutator) → k < l.number → k < length l.initial.mutators → HasLists (min l.script.config.slice (length (left_at l.script l.positions k))) (slice_index_or l.mutators k d);
+  kept : (k : ℕ) (d : Mutator) → k < l.number → k < length l.initial.mutators →
+      Reserves (slice_index_or l.initial.mutators k d) (slice_index_or l.mutators k d);
+  room : (k : ℕ) (d : Mutator) → k < l.number → k < length l.initial.mutators →
+      HasLists (min l.script.config.slice (length (left_at l.script l.positions k))) (slice_index_or l.mutators k d);
   after : (k : ℕ) (d : Mutator) → l.number ≤ k → slice_index_or l.mutators k d ≡ slice_index_or l.initial.mutators k d;
 }

@@ -24,13 +24,19 @@ loop-number-preserved c =
     let at = c.requires.positions in
     let program = c.items-program.result.now in
     let same : program ≡ c.index-items-number.result = c.items-program.ensures in
-    let is : program ≡ get_or script.threads n program = subst (λ (l : List Command). l ≡ get_or script.threads n l) (sym same) (c.index-items-number.is ∙ ap (λ (ls : List (List Command)). get_or ls n c.index-items-number.result) c.items.ensures) in
-    let size : c.min-commands.result ≡ min script.config.slice (length (left_at script positions n)) = slice_left script positions n c.min-commands.result program (omega (arith, lt, threads, at)) is (c.min-commands.ensures ∙ ap (λ (left : ℕ). min left script.config.slice) c.saturating_sub-left.ensures) in
+    let is : program ≡ get_or script.threads n program = subst (λ (l : List Command). l ≡
+    get_or script.threads n l) (sym same) (c.index-items-number.is ∙
+    ap (λ (ls : List (List Command)). get_or ls n c.index-items-number.result) c.items.ensures) in
+    let size : c.min-commands.result ≡ min script.config.slice (length (left_at script positions n)) =
+    slice_left script positions n c.min-commands.result program (omega (arith, lt, threads, at)) is (c.min-commands.ensures ∙
+    ap (λ (left : ℕ). min left script.config.slice) c.saturating_sub-left.ensures) in
     let blocks = c.div_ceil-blocks.ensures in
-    let enough : in_blocks (PUSHED_MOST * min script.config.slice (length (left_at script positions n))) ≤ c.div_ceil-blocks.result * 64 = subst (λ (most : ℕ). in_blocks (PUSHED_MOST * most) ≤ c.div_ceil-blocks.result * 64) size (omega (arith, blocks)) in
+    let enough : in_blocks (PUSHED_MOST * min script.config.slice (length (left_at script positions n))) ≤ c.div_ceil-blocks.result * 64 =
+    subst (λ (most : ℕ). in_blocks (PUSHED_MOST * most) ≤ c.div_ceil-blocks.result * 64) size (omega (arith, blocks)) in
     let more = all_reserved _ n old new c.in_ok-reserve.ensures.ok in
     record {
       polled = polled_all_then c.args.inbox.now old new before.polled more;
       count = more.count ∙ before.count;
-      room = inbox_more (λ (k : ℕ). in_blocks (PUSHED_MOST * min script.config.slice (length (left_at script positions k)))) n _ old new c.in_ok-reserve.ensures.ok enough before.room;
+      room = inbox_more (λ (k : ℕ).
+          in_blocks (PUSHED_MOST * min script.config.slice (length (left_at script positions k)))) n _ old new c.in_ok-reserve.ensures.ok enough before.room;
     }

@@ -9,5 +9,6 @@ abbrev pub invariant-loop-number : goal.invariant-loop-number
 invariant-loop-number l = record {
   polled : HavePolled l.initial.inbox l.inbox;
   count : length l.inbox ≡ length l.initial.inbox;
-  room : (k : ℕ) (r : Receiver) → k < l.number → slice_get l.inbox k ≡ Some r → in_blocks (PUSHED_MOST * min l.script.config.slice (length (left_at l.script l.positions k))) ≤ r.taken.spare;
+  room : (k : ℕ) (r : Receiver) → k < l.number → slice_get l.inbox k ≡ Some r →
+      in_blocks (PUSHED_MOST * min l.script.config.slice (length (left_at l.script l.positions k))) ≤ r.taken.spare;
 }

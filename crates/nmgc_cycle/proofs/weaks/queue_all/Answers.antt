@@ -17,7 +17,8 @@ returns c =
     let was : c.as_mut_slice.result.now ≡ queues_in old = c.as_mut_slice.ensures.value ∙ c.take_queues-queues.ensures.taken in
     let many : length queues ≡ length v.items = c.queue_finalisers.ensures.0 ∙ ap (λ (l : List FinQueue). length l) c.as_mut_slice.ensures.value in
     let back : c.as_mut_slice-2.result.now ≡ queues = c.as_mut_slice-2.ensures.value ∙ vec_back v queues many in
-    let given : HaveQueues c.as_mut_slice-2.result.now (map without_queue old) new = subst (λ (ms : List Mutator). HaveQueues c.as_mut_slice-2.result.now ms new) c.take_queues-queues.ensures.left c.give_queues.ensures in
+    let given : HaveQueues c.as_mut_slice-2.result.now (map without_queue old) new =
+    subst (λ (ms : List Mutator). HaveQueues c.as_mut_slice-2.result.now ms new) c.take_queues-queues.ensures.left c.give_queues.ensures in
     record {
       queues = queues;
       joined = subst (λ (l : List FinQueue). AllJoin c.args.deaths.now l queues) was c.queue_finalisers.ensures;

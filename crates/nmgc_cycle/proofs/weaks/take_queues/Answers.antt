@@ -26,5 +26,6 @@ loop-mutator-preserved c =
           ∙ ap (λ (q : FinQueue). queues_in (take i xs) ++ q ∷ []) (c.replace.ensures.value ∙ sym (ap (λ (m : Mutator). m.queue) read))
           ∙ sym queues;
       room = c.push_reserved.ensures.capacity ∙ c.loop-mutator.invariant.room;
-      left = subst (λ (y : Mutator). set ys i (record y { queue = c.replace.new.dest }) ≡ all) read (subst (λ (q : FinQueue). set ys i (record x { queue = q }) ≡ all) empty more);
+      left = subst (λ (y : Mutator). set ys i (record y { queue = c.replace.new.dest }) ≡
+          all) read (subst (λ (q : FinQueue). set ys i (record x { queue = q }) ≡ all) empty more);
     }

@@ -6,14 +6,16 @@ use Rattle.nmgc_cycle.specs.Working.{worker_of, workers_of}
 use Rattle.nmgc_cycle.proofs.worker.seated.Goals as goal
 
 -- a further mutator gets the first seat that is left
-one_more : (ms : List Mutator) (m : Mutator) (seats : List RoundSeat) (seat : RoundSeat) (rest : List RoundSeat) → drop (length ms) seats ≡ seat ∷ rest → workers_of (ms ++ m ∷ []) seats ≡ workers_of ms seats ++ worker_of (m, seat) ∷ []
+one_more : (ms : List Mutator) (m : Mutator) (seats : List RoundSeat) (seat : RoundSeat) (rest : List RoundSeat) →
+    drop (length ms) seats ≡ seat ∷ rest → workers_of (ms ++ m ∷ []) seats ≡ workers_of ms seats ++ worker_of (m, seat) ∷ []
 one_more [] m [] seat rest e = absurd (cc)
 one_more [] m (s ∷ seats) seat rest e = let same : s ≡ seat = cc in rw same refl
 one_more (y ∷ ms) m [] seat rest e = absurd (cc)
 one_more (y ∷ ms) m (s ∷ seats) seat rest e = ap (λ (l : List Worker). worker_of (y, s) ∷ l) (one_more ms m seats seat rest e)
 
 -- and those after it are left
-next_left : (ms : List Mutator) (m : Mutator) (seats : List RoundSeat) (seat : RoundSeat) (rest : List RoundSeat) → drop (length ms) seats ≡ seat ∷ rest → rest ≡ drop (length (ms ++ m ∷ [])) seats
+next_left : (ms : List Mutator) (m : Mutator) (seats : List RoundSeat) (seat : RoundSeat) (rest : List RoundSeat) →
+    drop (length ms) seats ≡ seat ∷ rest → rest ≡ drop (length (ms ++ m ∷ [])) seats
 next_left [] m [] seat rest e = absurd (cc)
 next_left [] m (s ∷ seats) seat rest e = cc
 next_left (y ∷ ms) m [] seat rest e = absurd (cc)
@@ -37,7 +39,8 @@ unreachable-requires c =
     let none : drop (length ms) c.args.seats ≡ [] = sym c.loop-mutator.invariant.left ∙ c.in_default.ensures.empty.0 in
     let few : length (drop (length ms) c.args.seats) ≡ 0 = ap length none in
     let cut = length-drop (length ms) c.args.seats in
-    let comes = one_comes ms c.in-Some.mutator c.next.new.self.rest.items c.loop-mutator.mutator-iterator.rest.items c.args.mutators.items c.in-Some.ensures.steps.0 c.loop-mutator.invariant.all in
+    let comes = one_comes ms c.in-Some.mutator c.next.new.self.rest.items c.loop-mutator.mutator-iterator.rest.items c.args.mutators.items
+    c.in-Some.ensures.steps.0 c.loop-mutator.invariant.all in
     let long = c.args.mutators.ok.0 in
     let count = c.requires.count in
     omega arith
@@ -45,7 +48,8 @@ unreachable-requires c =
 pub push_reserved-requires : goal.push_reserved-requires
 push_reserved-requires c =
     let ms = c.loop-mutator.yielded in
-    let comes = one_comes ms c.in-Some.mutator c.next.new.self.rest.items c.loop-mutator.mutator-iterator.rest.items c.args.mutators.items c.in-Some.ensures.steps.0 c.loop-mutator.invariant.all in
+    let comes = one_comes ms c.in-Some.mutator c.next.new.self.rest.items c.loop-mutator.mutator-iterator.rest.items c.args.mutators.items
+    c.in-Some.ensures.steps.0 c.loop-mutator.invariant.all in
     let few = few_workers ms c.args.seats in
     let is : length c.loop-mutator.workers.items ≡ length (workers_of ms c.args.seats) = ap length c.loop-mutator.invariant.workers_are in
     let long = c.args.mutators.ok.0 in
@@ -57,10 +61,13 @@ push_reserved-requires c =
 pub loop-mutator-preserved : goal.loop-mutator-preserved
 loop-mutator-preserved c =
     let ms = c.loop-mutator.yielded in
-    let first : drop (length ms) c.args.seats ≡ c.in-Some-take_first.seat ∷ c.take_first.new.self = sym c.loop-mutator.invariant.left ∙ c.in-Some-take_first.ensures.first in
+    let first : drop (length ms) c.args.seats ≡ c.in-Some-take_first.seat ∷ c.take_first.new.self = sym c.loop-mutator.invariant.left ∙
+    c.in-Some-take_first.ensures.first in
     record {
-      all = append_assoc ms (c.in-Some.mutator ∷ []) c.next.new.self.rest.items ∙ ap (λ (l : List Mutator). ms ++ l) (sym c.in-Some.ensures.steps.0) ∙ c.loop-mutator.invariant.all;
+      all = append_assoc ms (c.in-Some.mutator ∷ []) c.next.new.self.rest.items ∙
+          ap (λ (l : List Mutator). ms ++ l) (sym c.in-Some.ensures.steps.0) ∙ c.loop-mutator.invariant.all;
       left = next_left ms c.in-Some.mutator c.args.seats c.in-Some-take_first.seat c.take_first.new.self first;
-      workers_are = c.push_reserved.ensures.items ∙ ap (λ (l : List Worker). l ++ worker_of (c.in-Some.mutator, c.in-Some-take_first.seat) ∷ []) c.loop-mutator.invariant.workers_are ∙ sym (one_more ms c.in-Some.mutator c.args.seats c.in-Some-take_first.seat c.take_first.new.self first);
+      workers_are = c.push_reserved.ensures.items ∙ ap (λ (l : List Worker). l ++ worker_of (c.in-Some.mutator, c.in-Some-take_first.seat) ∷
+          []) c.loop-mutator.invariant.workers_are ∙ sym (one_more ms c.in-Some.mutator c.args.seats c.in-Some-take_first.seat c.take_first.new.self first);
       room = c.push_reserved.ensures.capacity ∙ c.loop-mutator.invariant.room;
     }

@@ -28,7 +28,12 @@ loop-line-preserved-in-Other c =
     let count = o.3 in
     let long = length-append o.0 (line ∷ []) in
     record {
-      lines = (o.0 ++ line ∷ [], lines_on o.0 (lines_of c.loop-line.rest.now) (lines_of c.in-Some.after.now) (lines_of c.args.bytes.now) line o.1 c.in-Some.ensures.line, names_other o.0 (map weak_of c.loop-line.jobs.items) line o.2 c.in-Other.ensures, omega (arith, count, long));
+      lines = (
+        o.0 ++ line ∷ [],
+        lines_on o.0 (lines_of c.loop-line.rest.now) (lines_of c.in-Some.after.now) (lines_of c.args.bytes.now) line o.1 c.in-Some.ensures.line,
+        names_other o.0 (map weak_of c.loop-line.jobs.items) line o.2 c.in-Other.ensures,
+        omega (arith, count, long),
+      );
       numbered = c.loop-line.invariant.numbered;
       few = omega (arith, few);
       left = omega (arith, less, left);
@@ -48,12 +53,14 @@ loop-line-preserved c =
     let ok : is_ok c.push.result ≡ true = search rules in
     let is : c.push.new.self.items ≡ old ++ job ∷ [] = c.push.ensures.items ∙ ap (λ (b : Bool). if b then old ++ job ∷ [] else old) ok in
     let number : job.number ≡ length old = c.len.ensures ∙ c.loop-line.jobs.ok.0 in
-    let longer : length c.push.new.self.items ≡ length old + 1 = let e = ap (λ (l : List Job). length l) is in let f = length-append old (job ∷ []) in omega (arith, e, f) in
+    let longer : length c.push.new.self.items ≡ length old + 1 = let e = ap (λ (l : List Job). length l) is in
+    let f = length-append old (job ∷ []) in omega (arith, e, f) in
     record {
       lines = (
         o.0 ++ line ∷ [],
         lines_on o.0 (lines_of c.loop-line.rest.now) (lines_of c.in-Some.after.now) (lines_of c.args.bytes.now) line o.1 c.in-Some.ensures.line,
-        subst (λ (l : List Name). NamesOf (o.0 ++ line ∷ []) l) (sym (ap (λ (l : List Job). map weak_of l) is ∙ weak_more old job)) (names_dead o.0 (map weak_of old) line c.in-Weak.weak o.2 c.in-Weak.ensures),
+        subst (λ (l : List Name). NamesOf (o.0 ++ line ∷ []) l) (sym (ap (λ (l : List Job). map weak_of l) is ∙
+            weak_more old job)) (names_dead o.0 (map weak_of old) line c.in-Weak.weak o.2 c.in-Weak.ensures),
         omega (arith, count, long),
       );
       numbered = subst (λ (l : List Job). AreNumbered l) (sym is) (numbered_more old job c.loop-line.invariant.numbered number);

@@ -5,4 +5,5 @@ pub returns-clause-state : goal.returns-clause-state
 returns-clause-state c old there = nth_state c.args.state.now c.args.name c.args.change old _ _ _ c.items_mut.ensures.value there _ c.change_in_place.ensures.ok
 
 pub returns-clause-reply : goal.returns-clause-reply
-returns-clause-reply c old there = nth_answer c.args.state.now c.args.name c.args.change old _ _ _ c.items_mut.ensures.value there _ c.change_in_place.ensures.ok
+returns-clause-reply c old there =
+    nth_answer c.args.state.now c.args.name c.args.change old _ _ _ c.items_mut.ensures.value there _ c.change_in_place.ensures.ok

@@ -33,4 +33,5 @@ copy_words-requires-clause-small c =
     omega (arith, same, most, small)
 
 pub returns-clause-fields : goal.returns-clause-fields
-returns-clause-fields c = λ object. c.in_ok-copy_words.ensures ∙ ap (λ (h : Header). take h.fields (drop (c.args.at + HEADER_WORDS) c.args.words.now)) (c.header_at-header.ensures object)
+returns-clause-fields c = λ object. c.in_ok-copy_words.ensures ∙
+    ap (λ (h : Header). take h.fields (drop (c.args.at + HEADER_WORDS) c.args.words.now)) (c.header_at-header.ensures object)

@@ -16,11 +16,14 @@ added P s t none v at c = elim (v.only at c) [
 pub run-requires-clause-objects : goal.run-requires-clause-objects
 run-requires-clause-objects c = λ at r.
     let P : ℕ → Type 0 = IsRootPlace c.args.report.now in
-    c.requires.objects at (reaches_in c.args.report.now.words (Contains c.visit_roots.new.search.order.items) (IsRootPlace c.args.report.now) (added (IsRootPlace c.args.report.now) c.in_ok-search.search c.visit_roots.new.search c.in_ok-search.ensures.none c.in_ok-visit_roots.ensures) at r)
+    c.requires.objects at (reaches_in c.args.report.now.words (Contains c.visit_roots.new.search.order.items) (IsRootPlace c.args.report.now)
+    (added (IsRootPlace c.args.report.now) c.in_ok-search.search c.visit_roots.new.search c.in_ok-search.ensures.none c.in_ok-visit_roots.ensures) at r)
 
 pub returns : goal.returns
 returns c = λ at.
     let to = added (IsRootPlace c.args.report.now) c.in_ok-search.search c.visit_roots.new.search c.in_ok-search.ensures.none c.in_ok-visit_roots.ensures in (
-      λ h. reaches_in c.args.report.now.words (Contains c.visit_roots.new.search.order.items) (IsRootPlace c.args.report.now) to at ((c.in_ok-run.ensures at).0 h),
-      λ r. (c.in_ok-run.ensures at).1 (reaches_in c.args.report.now.words (IsRootPlace c.args.report.now) (Contains c.visit_roots.new.search.order.items) c.in_ok-visit_roots.ensures.all at r),
+      λ h. reaches_in c.args.report.now.words (Contains c.visit_roots.new.search.order.items) (IsRootPlace c.args.report.now) to at
+          ((c.in_ok-run.ensures at).0 h),
+      λ r. (c.in_ok-run.ensures at).1 (reaches_in c.args.report.now.words (IsRootPlace c.args.report.now)
+          (Contains c.visit_roots.new.search.order.items) c.in_ok-visit_roots.ensures.all at r),
     )

@@ -15,4 +15,6 @@ visit_queue-requires-clause-within c = λ at p.
     (omega (arith, low, room), h.1)
 
 pub returns : goal.returns
-returns c = on_ok c.visit_queue.result (λ v. visits_then (ArePointers c.args.own.now.registers) (ArePointers c.args.own.now.queue) (IsOwnRoot c.args.own.now) c.args.search.now c.visit_registers.new.search c.visit_queue.new.search c.in_ok-visit_registers.ensures v (λ at r. r) (λ at r. r)) c.visit_queue.ensures
+returns c = on_ok c.visit_queue.result (λ v.
+    visits_then (ArePointers c.args.own.now.registers) (ArePointers c.args.own.now.queue) (IsOwnRoot c.args.own.now) c.args.search.now
+    c.visit_registers.new.search c.visit_queue.new.search c.in_ok-visit_registers.ensures v (λ at r. r) (λ at r. r)) c.visit_queue.ensures

@@ -24,8 +24,14 @@ visit_mutators-requires-clause-within c = λ at r.
 pub returns : goal.returns
 returns c =
     let mutators = c.args.report.now.mutators in
-    let held : Visits (IsMutatorRoot mutators) c.visit.new.self c.visit_mutators.new.search = subst (λ (l : List MutatorEnd). Visits (IsMutatorRoot l) c.visit.new.self c.visit_mutators.new.search) c.items.ensures c.in_ok-visit_mutators.ensures in
-    let first : Visits (λ at. (at ≡ SHARED_PLACE) ⊎ IsMutatorRoot mutators at) c.args.search.now c.visit_mutators.new.search = visits_then (λ at. at ≡ SHARED_PLACE) (IsMutatorRoot mutators) (λ at. (at ≡ SHARED_PLACE) ⊎ IsMutatorRoot mutators at) c.args.search.now c.visit.new.self c.visit_mutators.new.search c.in_ok-visit.ensures held (λ at r. r) (λ at r. r) in
-    on_ok c.visit_weaks.result (λ v. visits_then (λ at. (at ≡ SHARED_PLACE) ⊎ IsMutatorRoot mutators at) (IsWeakRoot c.args.report.now) (IsRootPlace c.args.report.now) c.args.search.now c.visit_mutators.new.search c.visit_weaks.new.search first v
+    let held : Visits (IsMutatorRoot mutators) c.visit.new.self c.visit_mutators.new.search =
+    subst (λ (l : List MutatorEnd).
+    Visits (IsMutatorRoot l) c.visit.new.self c.visit_mutators.new.search) c.items.ensures c.in_ok-visit_mutators.ensures in
+    let first : Visits (λ at. (at ≡ SHARED_PLACE) ⊎ IsMutatorRoot mutators at) c.args.search.now c.visit_mutators.new.search =
+    visits_then (λ at. at ≡ SHARED_PLACE) (IsMutatorRoot mutators) (λ at. (at ≡ SHARED_PLACE) ⊎
+    IsMutatorRoot mutators at) c.args.search.now c.visit.new.self c.visit_mutators.new.search c.in_ok-visit.ensures held (λ at r. r) (λ at r. r) in
+    on_ok c.visit_weaks.result (λ v. visits_then (λ at. (at ≡ SHARED_PLACE) ⊎
+    IsMutatorRoot mutators at) (IsWeakRoot c.args.report.now) (IsRootPlace c.args.report.now) c.args.search.now c.visit_mutators.new.search
+    c.visit_weaks.new.search first v
     (λ at r. elim r [ inl e ↦ inl (inl e) | inr (inl m) ↦ inl (inr m) | inr (inr k) ↦ inr k ])
     (λ at r. elim r [ inl (inl e) ↦ inl e | inl (inr m) ↦ inr (inl m) | inr k ↦ inr (inr k) ])) c.visit_weaks.ensures

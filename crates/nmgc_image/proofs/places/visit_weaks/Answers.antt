@@ -23,7 +23,9 @@ pub loop-number-init : goal.loop-number-init
 loop-number-init c = below_start (IsWeakIn c.args.report.now) c.args.search.now c.requires.sound
 
 pub loop-number-preserved : goal.loop-number-preserved
-loop-number-preserved c = below_next (IsWeakIn c.args.report.now) c.loop-number.number c.args.search.now c.loop-number.search c.visit_segment.new.search c.loop-number.invariant c.in_ok-visit_segment.ensures
+loop-number-preserved c =
+    below_next (IsWeakIn c.args.report.now) c.loop-number.number c.args.search.now c.loop-number.search c.visit_segment.new.search
+    c.loop-number.invariant c.in_ok-visit_segment.ensures
 
 pub returns : goal.returns
 returns c = below_all (IsWeakIn c.args.report.now) c.loop-number.number c.args.search.now c.loop-number.search (λ k at r.

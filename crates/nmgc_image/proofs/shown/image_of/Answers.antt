@@ -15,7 +15,9 @@ mutators_of-requires c = subst (All (CanShowOwn c.args.report.now.words)) (sym c
 pub nodes_of-requires : goal.nodes_of-requires
 nodes_of-requires c =
     let report = c.args.report.now in
-    subst (All (IsReadableObject report.words)) (sym c.deref.ensures.value) (all_items (IsReadableObject report.words) c.in_ok-places.places.items (λ at held. wide_readable report c.requires.0 c.requires.1 at (reached_wide report c.requires.0 c.requires.1 at ((c.in_ok-places.ensures at).0 held))))
+    subst (All (IsReadableObject report.words)) (sym c.deref.ensures.value)
+    (all_items (IsReadableObject report.words) c.in_ok-places.places.items (λ at held.
+    wide_readable report c.requires.0 c.requires.1 at (reached_wide report c.requires.0 c.requires.1 at ((c.in_ok-places.ensures at).0 held))))
 
 pub returns : goal.returns
 returns c = λ w left.

@@ -9,9 +9,14 @@ returns-then-not-begins_number-clause-none c n le e =
 
 pub returns-in_err-number-clause-none : goal.returns-in_err-number-clause-none
 returns-in_err-number-clause-none c =
-    rw c.from_residual.ensures (λ n le e. stops c.loop-byte.number c.args.limit n c.loop-byte.byte-index c.args.word.now (omega arith) (omega arith) c.loop-byte.invariant.value c.loop-byte.invariant.digits c.in_err-number.ensures.none le e)
+    rw c.from_residual.ensures (λ n le e.
+    stops c.loop-byte.number c.args.limit n c.loop-byte.byte-index c.args.word.now (omega arith) (omega arith) c.loop-byte.invariant.value
+    c.loop-byte.invariant.digits c.in_err-number.ensures.none le e)
 
 pub returns-clause-found : goal.returns-clause-found
 returns-clause-found c =
-    let begin = c.if-not-begins_number.ensures.0 refl in
-    (reads_whole c.loop-byte.number c.loop-byte.byte-index c.args.word.now (omega arith) (omega arith) c.loop-byte.invariant.value c.loop-byte.invariant.digits begin, omega arith)
+    let begin = c.if-not-begins_number.ensures.0 refl in (
+      reads_whole c.loop-byte.number c.loop-byte.byte-index c.args.word.now (omega arith) (omega arith) c.loop-byte.invariant.value
+          c.loop-byte.invariant.digits begin,
+      omega arith,
+    )

@@ -6,4 +6,5 @@ use Rattle.nmgc_journal.proofs.stops.push_ended_at.Given as goal
 
 -- the lines so far and those of the rest are all
 abbrev pub invariant-loop-cycle : goal.invariant-loop-cycle
-invariant-loop-cycle l = l.out.items ++ flat_map cycle_text (ended_at l.number (drop l.cycle-index l.cycles)) ≡ l.fn.out.items ++ flat_map cycle_text (ended_at l.number l.cycles)
+invariant-loop-cycle l = l.out.items ++ flat_map cycle_text (ended_at l.number (drop l.cycle-index l.cycles)) ≡ l.fn.out.items ++
+    flat_map cycle_text (ended_at l.number l.cycles)

@@ -5,4 +5,6 @@ use Rattle.nmgc_journal.specs.declared.report.CycleRow.{CycleRow}
 use Rattle.nmgc_journal.proofs.summary.freed_count.Goals as goal
 
 pub returns : goal.returns
-returns c = sum_by_from_yields_List (λ (cycle : CycleRow). length cycle.freed) c.args.cycles.now c.map.result c.sum.result c.sum.ensures.ran (YieldsList-from_map _ (λ (cycle : CycleRow). length cycle.freed) (YieldsList-from_slice c.args.cycles.now cc) c.map.ensures.closure (λ x r q k. search rules))
+returns c = sum_by_from_yields_List (λ (cycle : CycleRow).
+    length cycle.freed) c.args.cycles.now c.map.result c.sum.result c.sum.ensures.ran (YieldsList-from_map _ (λ (cycle : CycleRow).
+    length cycle.freed) (YieldsList-from_slice c.args.cycles.now cc) c.map.ensures.closure (λ x r q k. search rules))

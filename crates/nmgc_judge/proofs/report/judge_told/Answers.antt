@@ -7,9 +7,11 @@ use Rattle.nmgc_judge.proofs.report.judge_told.Goals as goal
 pub returns-in-Some : goal.returns-in-Some
 returns-in-Some c =
     let H : Option Refusal → Type 0 = λ o. IsHappening (c.loop-index.index + 1) c.loop-index.begun c.index-lines-index.result o c.happen.new.begun in
-    ends_at_line c.args.lines.now c.loop-index.index c.index-lines-index.result c.loop-index.begun c.in-Some.refusal c.loop-index-test.true c.index-lines-index.is c.loop-index.invariant (subst H c.in-Some.is c.in_ok-refused.ensures)
+    ends_at_line c.args.lines.now c.loop-index.index c.index-lines-index.result c.loop-index.begun c.in-Some.refusal c.loop-index-test.true
+    c.index-lines-index.is c.loop-index.invariant (subst H c.in-Some.is c.in_ok-refused.ensures)
 
 pub loop-index-preserved : goal.loop-index-preserved
 loop-index-preserved c =
     let H : Option Refusal → Type 0 = λ o. IsHappening (c.loop-index.index + 1) c.loop-index.begun c.index-lines-index.result o c.happen.new.begun in
-    comes_next c.args.lines.now c.loop-index.index c.index-lines-index.result c.loop-index.begun c.happen.new.begun c.loop-index-test.true c.index-lines-index.is c.loop-index.invariant (subst H c.in_default.is c.in_ok-refused.ensures)
+    comes_next c.args.lines.now c.loop-index.index c.index-lines-index.result c.loop-index.begun c.happen.new.begun c.loop-index-test.true
+    c.index-lines-index.is c.loop-index.invariant (subst H c.in_default.is c.in_ok-refused.ensures)

@@ -5,7 +5,8 @@ use Rattle.nmgc_minor.proofs.ForwardLaws.{none_copied, fields_copied}
 use Rattle.nmgc_minor.proofs.forwarding.copy_fields.Goals as goal
 
 pub loop-i-init : goal.loop-i-init
-loop-i-init g c = none_copied (forward_word c.args.table.now c.args.base) (g.W.HeapWords.words c.args.words.now) (c.args.from + HEADER_WORDS) (c.args.to + HEADER_WORDS)
+loop-i-init g c = none_copied (forward_word c.args.table.now c.args.base) (g.W.HeapWords.words c.args.words.now) (c.args.from + HEADER_WORDS)
+    (c.args.to + HEADER_WORDS)
 
 pub load-word-requires : goal.load-word-requires
 load-word-requires g c =
@@ -27,5 +28,7 @@ loop-i-preserved g c =
     let r = c.requires.inside in
     let a = c.requires.apart in
     let word = c.forwarded.ensures ∙ ap (forward_word c.args.table.now c.args.base) c.load-word.ensures.word in
-    let stored = c.put.ensures ∙ ap (λ (ws : List ℕ). set ws (c.args.to + HEADER_WORDS + c.loop-i.i) c.forwarded.result) c.load-word.ensures.same ∙ ap (λ (x : ℕ). set cur (c.args.to + HEADER_WORDS + c.loop-i.i) x) word in
-    rw (stored) (fields_copied (forward_word c.args.table.now c.args.base) (g.W.HeapWords.words c.args.words.now) cur (c.args.from + HEADER_WORDS) (c.args.to + HEADER_WORDS) c.loop-i.i (omega (arith, a)) (omega (arith, r)) c.loop-i.invariant)
+    let stored = c.put.ensures ∙ ap (λ (ws : List ℕ). set ws (c.args.to + HEADER_WORDS + c.loop-i.i) c.forwarded.result) c.load-word.ensures.same ∙
+    ap (λ (x : ℕ). set cur (c.args.to + HEADER_WORDS + c.loop-i.i) x) word in
+    rw (stored) (fields_copied (forward_word c.args.table.now c.args.base) (g.W.HeapWords.words c.args.words.now) cur (c.args.from + HEADER_WORDS)
+    (c.args.to + HEADER_WORDS) c.loop-i.i (omega (arith, a)) (omega (arith, r)) c.loop-i.invariant)

@@ -60,5 +60,9 @@ returns g c =
     let h = c.requires.header in
     let n = c.field_count-count.ensures.count h.header (h.valid, h.read) in
     let apart = c.requires.apart h.header (h.valid, h.read) in
-    let fields = subst (λ (ws : List ℕ). CopiesFields (forward_word c.args.table.now c.args.base) ws (g.W.HeapWords.words c.copy_fields.new.words) (c.args.from + HEADER_WORDS) (c.args.to + HEADER_WORDS) c.field_count-count.result) c.field_count-count.ensures.same c.copy_fields.ensures in
-    object_copied c.words_differ.ensures.headers (forward_word c.args.table.now c.args.base) old (g.W.HeapWords.words c.copy_fields.new.words) (g.W.HeapWords.words c.copy_word.new.words) (g.W.HeapWords.words c.copy_word-2.new.words) c.args.from c.args.to c.field_count-count.result h n (omega (arith, n, apart)) fields c.copy_word.ensures c.copy_word-2.ensures
+    let fields = subst (λ (ws : List ℕ).
+    CopiesFields (forward_word c.args.table.now c.args.base) ws (g.W.HeapWords.words c.copy_fields.new.words) (c.args.from + HEADER_WORDS)
+    (c.args.to + HEADER_WORDS) c.field_count-count.result) c.field_count-count.ensures.same c.copy_fields.ensures in
+    object_copied c.words_differ.ensures.headers (forward_word c.args.table.now c.args.base) old (g.W.HeapWords.words c.copy_fields.new.words)
+    (g.W.HeapWords.words c.copy_word.new.words) (g.W.HeapWords.words c.copy_word-2.new.words) c.args.from c.args.to c.field_count-count.result h
+    n (omega (arith, n, apart)) fields c.copy_word.ensures c.copy_word-2.ensures

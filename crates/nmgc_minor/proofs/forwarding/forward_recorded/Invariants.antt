@@ -4,4 +4,5 @@ use Rattle.nmgc_minor.specs.Forwarding.{forward_word, ForwardsAt}
 use Rattle.nmgc_minor.proofs.forwarding.forward_recorded.Given as goal
 
 abbrev pub invariant-loop-at : goal.invariant-loop-at
-invariant-loop-at g l = ForwardsAt (forward_word l.table l.base) (g.W.HeapWords.words l.initial.words) (g.W.HeapWords.words l.words) (λ i. Contains (take l.at-index l.recorded) (record { 0 = i }))
+invariant-loop-at g l = ForwardsAt (forward_word l.table l.base) (g.W.HeapWords.words l.initial.words) (g.W.HeapWords.words l.words) (λ i.
+    Contains (take l.at-index l.recorded) (record { 0 = i }))

@@ -18,4 +18,5 @@ loop-i-preserved g c =
     let e = c.loop-i.invariant.total in
     let n = c.from.ensures in
     let r = c.requires in
-    rw (c.forward_at.ensures) (range_forwarded (forward_word c.args.table.now c.args.base) (g.W.HeapWords.words c.args.words.now) (g.W.HeapWords.words c.loop-i.words) 3 c.loop-i.i (omega arith) (omega (arith, e, n, r)) c.loop-i.invariant)
+    rw (c.forward_at.ensures) (range_forwarded (forward_word c.args.table.now c.args.base) (g.W.HeapWords.words c.args.words.now)
+    (g.W.HeapWords.words c.loop-i.words) 3 c.loop-i.i (omega arith) (omega (arith, e, n, r)) c.loop-i.invariant)

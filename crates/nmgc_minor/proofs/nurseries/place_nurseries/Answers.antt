@@ -21,7 +21,8 @@ record Lies (layout : Layout) (base length : ℕ) (n : Nursery) (maker : ℕ) : 
   inside : base + maker * layout.nursery + layout.nursery ≤ base + length
   next : nursery_place layout (maker + 1) ≡ nursery_place layout maker + layout.nursery
 
-lies : (layout : Layout) (base : ℕ) (table : List ℕ) (nurseries : List Nursery) (maker : ℕ) → AreNurseries layout base table nurseries → maker < length nurseries → Lies layout base (length table) (nursery_at nurseries maker) maker
+lies : (layout : Layout) (base : ℕ) (table : List ℕ) (nurseries : List Nursery) (maker : ℕ) → AreNurseries layout base table nurseries →
+    maker < length nurseries → Lies layout base (length table) (nursery_at nurseries maker) maker
 lies layout base table nurseries maker a lt =
     let count = a.count in
     let exists : maker < layout.mutators = omega arith in
@@ -29,7 +30,8 @@ lies layout base table nurseries maker a lt =
     let top = a.tops maker exists in
     let begins = a.begins in
     let size = a.size in
-    let up : (maker + 1) * layout.nursery ≤ layout.mutators * layout.nursery = mul-le-mul_right layout.nursery (let e : maker + 1 ≤ layout.mutators = omega arith in e) in
+    let up : (maker + 1) * layout.nursery ≤ layout.mutators * layout.nursery =
+    mul-le-mul_right layout.nursery (let e : maker + 1 ≤ layout.mutators = omega arith in e) in
     let flat : (maker + 1) * layout.nursery ≡ maker * layout.nursery + layout.nursery = omega arith in
     record {
       exists = exists;
@@ -49,11 +51,18 @@ loop-maker-init g c =
     record {
       sound = c.requires.sound;
       layout = refl;
-      placed = ([], sym (append-nil c.args.moves.now.items), subst (λ (k : ℕ). PlacesRange c.args.base (g.W.HeapWords.words c.args.words.now) c.args.segments.now c.args.segments.now c.args.table.now c.args.table.now [] c.args.base k) place (range_none c.args.base (g.W.HeapWords.words c.args.words.now) c.args.segments.now c.args.table.now c.args.base));
+      placed = (
+        [],
+        sym (append-nil c.args.moves.now.items),
+        subst (λ (k : ℕ).
+            PlacesRange c.args.base (g.W.HeapWords.words c.args.words.now) c.args.segments.now c.args.segments.now c.args.table.now c.args.table.now
+            [] c.args.base k) place (range_none c.args.base (g.W.HeapWords.words c.args.words.now) c.args.segments.now c.args.table.now c.args.base),
+      );
       spare = let s = c.requires.spare in omega (arith, s, place);
       room = refl;
       reserve = elim c.requires.reserve [
-        | inl k ↦ inl (subst (λ (k : ℕ). KeepsReserve c.args.segments.now.layout c.args.segments.now.segments k) (let z : 0 ≡ 0 * c.args.segments.now.layout.nursery = omega arith in z) k)
+        | inl k ↦ inl (subst (λ (k : ℕ).
+            KeepsReserve c.args.segments.now.layout c.args.segments.now.segments k) (let z : 0 ≡ 0 * c.args.segments.now.layout.nursery = omega arith in z) k)
         | inr none ↦ inr none
       ];
       same = refl;
@@ -74,12 +83,17 @@ place_all-requires-clause-objects g c =
     let at = f.at in
     let place = f.place in
     let r = c.loop-maker.invariant.placed.2 in
-    let can = still_can_place c.args.segments.now.layout c.loop-maker.maker (g.W.HeapWords.words c.args.words.now) c.args.table.now c.loop-maker.table c.args.base n.base n.top (omega (arith, at)) (λ k l. r.outside k (omega (arith, at, l)) (inr (omega (arith, place, l)))) (c.requires.objects c.loop-maker.maker f.exists) in
-    rw (c.loop-maker.invariant.same) (subst (λ (x : Layout). CanPlaceAll x c.loop-maker.maker (g.W.HeapWords.words c.args.words.now) c.loop-maker.table c.args.base n.base n.top) (sym c.loop-maker.invariant.layout) can)
+    let can = still_can_place c.args.segments.now.layout c.loop-maker.maker (g.W.HeapWords.words c.args.words.now) c.args.table.now
+    c.loop-maker.table c.args.base n.base n.top (omega (arith, at)) (λ k l.
+    r.outside k (omega (arith, at, l)) (inr (omega (arith, place, l)))) (c.requires.objects c.loop-maker.maker f.exists) in
+    rw (c.loop-maker.invariant.same) (subst (λ (x : Layout).
+    CanPlaceAll x c.loop-maker.maker (g.W.HeapWords.words c.args.words.now) c.loop-maker.table c.args.base n.base n.top)
+    (sym c.loop-maker.invariant.layout) can)
 
 pub place_all-requires-clause-reserve : goal.place_all-requires-clause-reserve
 place_all-requires-clause-reserve g c = elim c.loop-maker.invariant.reserve [
-  | inl k ↦ inl (subst (λ (l : Layout). KeepsReserve c.loop-maker.segments.layout c.loop-maker.segments.segments (c.loop-maker.maker * l.nursery)) (sym c.loop-maker.invariant.layout) k)
+  | inl k ↦ inl (subst (λ (l : Layout).
+      KeepsReserve c.loop-maker.segments.layout c.loop-maker.segments.segments (c.loop-maker.maker * l.nursery)) (sym c.loop-maker.invariant.layout) k)
   | inr none ↦ inr (sym (none c.loop-maker.maker))
 ]
 
@@ -102,10 +116,17 @@ loop-maker-preserved g c =
     let p = c.place_all.ensures in
     let from = nursery_place c.args.segments.now.layout c.loop-maker.maker in
     let to = nursery_place c.args.segments.now.layout (c.loop-maker.maker + 1) in
-    let places = subst (λ (ws : List ℕ). PlacesRange c.args.base ws c.loop-maker.segments c.place_all.new.segments c.loop-maker.table c.place_all.new.table p.places.0 n.base n.top) i.same p.places.2 in
-    let gap : (k : ℕ) → n.top ≤ k → k < to → slice_index c.loop-maker.table (k - c.args.base) ≡ 0 = λ k l h. i.placed.2.outside k (omega (arith, at, ordered, l)) (inr (omega (arith, place, ordered, l))) ∙ c.requires.nurseries.unused c.loop-maker.maker k f.exists l (omega (arith, next, h)) in
-    let part = range_gap c.args.base (g.W.HeapWords.words c.args.words.now) c.loop-maker.segments c.place_all.new.segments c.loop-maker.table c.place_all.new.table p.places.0 n.base n.top to (omega (arith, at)) ordered (omega (arith, within, place, next)) gap places in
-    let part' = subst (λ (k : ℕ). PlacesRange c.args.base (g.W.HeapWords.words c.args.words.now) c.loop-maker.segments c.place_all.new.segments c.loop-maker.table c.place_all.new.table p.places.0 k to) place part in
+    let places = subst (λ (ws : List ℕ).
+    PlacesRange c.args.base ws c.loop-maker.segments c.place_all.new.segments c.loop-maker.table c.place_all.new.table p.places.0 n.base
+    n.top) i.same p.places.2 in
+    let gap : (k : ℕ) → n.top ≤ k → k < to → slice_index c.loop-maker.table (k - c.args.base) ≡ 0 = λ k l h.
+    i.placed.2.outside k (omega (arith, at, ordered, l)) (inr (omega (arith, place, ordered, l))) ∙
+    c.requires.nurseries.unused c.loop-maker.maker k f.exists l (omega (arith, next, h)) in
+    let part = range_gap c.args.base (g.W.HeapWords.words c.args.words.now) c.loop-maker.segments c.place_all.new.segments c.loop-maker.table
+    c.place_all.new.table p.places.0 n.base n.top to (omega (arith, at)) ordered (omega (arith, within, place, next)) gap places in
+    let part' = subst (λ (k : ℕ).
+    PlacesRange c.args.base (g.W.HeapWords.words c.args.words.now) c.loop-maker.segments c.place_all.new.segments c.loop-maker.table
+    c.place_all.new.table p.places.0 k to) place part in
     let low : c.args.base ≤ from = omega (arith, at, place) in
     record {
       sound = p.sound;
@@ -113,13 +134,20 @@ loop-maker-preserved g c =
       placed = (
         i.placed.0 ++ p.places.0,
         p.places.1 ∙ ap (λ (xs : List Move). xs ++ p.places.0) i.placed.1 ∙ append_assoc c.args.moves.now.items i.placed.0 p.places.0,
-        range_then c.args.base (g.W.HeapWords.words c.args.words.now) c.args.segments.now c.loop-maker.segments c.place_all.new.segments c.args.table.now c.loop-maker.table c.place_all.new.table i.placed.0 p.places.0 c.args.base from to (omega arith) low (omega (arith, next)) i.placed.2 part',
+        range_then c.args.base (g.W.HeapWords.words c.args.words.now) c.args.segments.now c.loop-maker.segments c.place_all.new.segments
+            c.args.table.now c.loop-maker.table c.place_all.new.table i.placed.0 p.places.0 c.args.base from to (omega arith) low (omega (
+              arith,
+              next,
+            )) i.placed.2 part',
       );
       spare = let s = i.spare in let t = p.spare in omega (arith, s, t, place, within, next);
       room = p.room ∙ i.room;
       reserve = elim i.reserve [
         | inr none ↦ inr none
-        | inl k ↦ inl (subst (λ (l : Layout). KeepsReserve c.place_all.new.segments.layout c.place_all.new.segments.segments ((c.loop-maker.maker + 1) * l.nursery)) i.layout (p.reserve (subst (λ (l : Layout). KeepsReserve c.loop-maker.segments.layout c.loop-maker.segments.segments (c.loop-maker.maker * l.nursery)) (sym i.layout) k)))
+        | inl k ↦ inl (subst (λ (l : Layout).
+            KeepsReserve c.place_all.new.segments.layout c.place_all.new.segments.segments ((c.loop-maker.maker + 1) * l.nursery)) i.layout
+            (p.reserve (subst (λ (l : Layout).
+            KeepsReserve c.loop-maker.segments.layout c.loop-maker.segments.segments (c.loop-maker.maker * l.nursery)) (sym i.layout) k)))
       ];
       same = p.same ∙ i.same;
     }
@@ -133,5 +161,9 @@ returns-clause-places g c =
     let size = c.requires.nurseries.size in
     let all : c.loop-maker.maker ≡ layout.mutators = omega (arith, c.loop-maker-test.false, c.loop-maker.auto.maker-end, count) in
     let place : nursery_place layout c.loop-maker.maker ≡ nursery_place layout layout.mutators = ap (λ (k : ℕ). nursery_place layout k) all in
-    let to : nursery_place layout c.loop-maker.maker ≡ c.args.base + length c.args.table.now = omega (arith, place, begins, size) in
-    (i.placed.0, i.placed.1, subst (λ (k : ℕ). PlacesRange c.args.base (g.W.HeapWords.words c.args.words.now) c.args.segments.now c.loop-maker.segments c.args.table.now c.loop-maker.table i.placed.0 c.args.base k) to i.placed.2)
+    let to : nursery_place layout c.loop-maker.maker ≡ c.args.base + length c.args.table.now = omega (arith, place, begins, size) in (
+      i.placed.0,
+      i.placed.1,
+      subst (λ (k : ℕ). PlacesRange c.args.base (g.W.HeapWords.words c.args.words.now) c.args.segments.now c.loop-maker.segments c.args.table.now
+          c.loop-maker.table i.placed.0 c.args.base k) to i.placed.2,
+    )

@@ -11,7 +11,9 @@ abbrev pub invariant-loop-maker : goal.invariant-loop-maker
 invariant-loop-maker g l = record {
   sound : IsSegments l.segments;
   layout : l.segments.layout ≡ l.initial.segments.layout;
-  placed : (added : List Move) × (l.moves.items ≡ l.initial.moves.items ++ added) × PlacesRange l.base (g.W.HeapWords.words l.initial.words) l.initial.segments l.segments l.initial.table l.table added l.base (nursery_place l.initial.segments.layout l.maker);
+  placed : (added : List Move) × (l.moves.items ≡ l.initial.moves.items ++ added) ×
+      PlacesRange l.base (g.W.HeapWords.words l.initial.words) l.initial.segments l.segments l.initial.table l.table added l.base
+      (nursery_place l.initial.segments.layout l.maker);
   spare : length l.initial.table + l.base ≤ l.moves.spare + nursery_place l.initial.segments.layout l.maker;
   room : l.moves.spare + length l.moves.items ≡ l.initial.moves.spare + length l.initial.moves.items;
   reserve : KeepsReserve l.segments.layout l.segments.segments (l.maker * l.initial.segments.layout.nursery) ⊎ AreEmpty l.nurseries;

@@ -11,4 +11,5 @@ loop-nursery-preserved c =
     let x : Nursery = get_or c.loop-nursery.nurseries c.loop-nursery.nursery-index (record { base = 0; top = 0; end = 0 }) in
     let size = c.loop-nursery.auto.nurseries in
     let lt : c.loop-nursery.nursery-index < length c.loop-nursery.nurseries = omega (arith, size) in
-    map_over_more emptied c.args.nurseries.now c.loop-nursery.nurseries c.loop-nursery.nursery-index x c.loop-nursery-test.true c.loop-nursery.invariant (get_or_default c.loop-nursery.nurseries c.loop-nursery.nursery-index (record { base = 0; top = 0; end = 0 }) x lt)
+    map_over_more emptied c.args.nurseries.now c.loop-nursery.nurseries c.loop-nursery.nursery-index x c.loop-nursery-test.true
+    c.loop-nursery.invariant (get_or_default c.loop-nursery.nurseries c.loop-nursery.nursery-index (record { base = 0; top = 0; end = 0 }) x lt)

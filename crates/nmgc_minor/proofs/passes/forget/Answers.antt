@@ -7,11 +7,17 @@ use Rattle.nmgc_object.specs.declared.words.Address.{Address}
 use Rattle.nmgc_minor.proofs.passes.forget.Goals as goal
 
 pub overflow_sub-table : goal.overflow_sub-table
-overflow_sub-table c = (c.requires (get_or c.args.found.now c.loop-at.at-index (record { 0 = 0 })) (Contains-get_or c.args.found.now c.loop-at.at-index (record { 0 = 0 }) c.loop-at-test.true)).0
+overflow_sub-table c = (c.requires (get_or c.args.found.now c.loop-at.at-index (record {
+  0 =
+      0;
+})) (Contains-get_or c.args.found.now c.loop-at.at-index (record { 0 = 0 }) c.loop-at-test.true)).0
 
 pub bounds-table-at : goal.bounds-table-at
 bounds-table-at c =
-    let h = c.requires (get_or c.args.found.now c.loop-at.at-index (record { 0 = 0 })) (Contains-get_or c.args.found.now c.loop-at.at-index (record { 0 = 0 }) c.loop-at-test.true) in
+    let h = c.requires (get_or c.args.found.now c.loop-at.at-index (record {
+      0 =
+          0;
+    })) (Contains-get_or c.args.found.now c.loop-at.at-index (record { 0 = 0 }) c.loop-at-test.true) in
     let e = c.loop-at.auto.table in
     omega (arith, h.0, h.1, e)
 
@@ -25,14 +31,18 @@ loop-at-preserved c =
     let i = c.loop-at.invariant in
     record {
       kept = λ k. elim (cases_eq k (x.0 - c.args.base)) [
-        | inl s ↦ inr (ap (λ (n : ℕ). slice_index (set c.loop-at.table (x.0 - c.args.base) 0) n) s ∙ get_or-set_same c.loop-at.table (x.0 - c.args.base) 0 0 in')
-        | inr ne ↦ let same = get_or-set_other c.loop-at.table (x.0 - c.args.base) k 0 0 ne in elim (i.kept k) [ inl f ↦ inl (same ∙ f) | inr f ↦ inr (same ∙ f) ]
+        | inl s ↦ inr (ap (λ (n : ℕ). slice_index (set c.loop-at.table (x.0 - c.args.base) 0) n) s ∙
+            get_or-set_same c.loop-at.table (x.0 - c.args.base) 0 0 in')
+        | inr ne ↦ let same = get_or-set_other c.loop-at.table (x.0 - c.args.base) k 0 0 ne in
+            elim (i.kept k) [ inl f ↦ inl (same ∙ f) | inr f ↦ inr (same ∙ f) ]
       ];
       freed = λ k m. elim (cases_eq k (x.0 - c.args.base)) [
         | inl s ↦ ap (λ (n : ℕ). slice_index (set c.loop-at.table (x.0 - c.args.base) 0) n) s ∙ get_or-set_same c.loop-at.table (x.0 - c.args.base) 0 0 in'
         | inr ne ↦
-            let more : take (c.loop-at.at-index + 1) c.args.found.now ≡ take c.loop-at.at-index c.args.found.now ++ x ∷ [] = take_more c.args.found.now c.loop-at.at-index (record { 0 = 0 }) c.loop-at-test.true in
-            elim (Contains-push_cases (take c.loop-at.at-index c.args.found.now) x (record { 0 = c.args.base + k }) (subst (λ (xs : List Address). Contains xs (record { 0 = c.args.base + k })) more m)) [
+            let more : take (c.loop-at.at-index + 1) c.args.found.now ≡ take c.loop-at.at-index c.args.found.now ++ x ∷ [] =
+            take_more c.args.found.now c.loop-at.at-index (record { 0 = 0 }) c.loop-at-test.true in
+            elim (Contains-push_cases (take c.loop-at.at-index c.args.found.now) x (record { 0 = c.args.base + k }) (subst (λ (xs : List Address).
+            Contains xs (record { 0 = c.args.base + k })) more m)) [
               | inl d ↦ get_or-set_other c.loop-at.table (x.0 - c.args.base) k 0 0 ne ∙ i.freed k d
               | inr f ↦ let g : x.0 ≡ c.args.base + k = ap (λ (y : Address). y.0) f in absurd (ne (omega (arith, g)))
             ]

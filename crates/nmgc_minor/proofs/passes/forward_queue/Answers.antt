@@ -8,11 +8,14 @@ use Rattle.nmgc_minor.proofs.passes.forward_queue.Goals as goal
 same_queue : (a b : FinQueue) → a.words ≡ b.words → a.spare ≡ b.spare → a ≡ b
 same_queue a b e f =
     let first : a ≡ record { words = b.words; spare = a.spare } = ap (λ (k : List ℕ). let n : FinQueue = record { words = k; spare = a.spare } in n) e in
-    let second : ◌≡◌ {A = FinQueue} (record { words = b.words; spare = a.spare }) b = ap (λ (k : ℕ). let n : FinQueue = record { words = b.words; spare = k } in n) f in
+    let second : ◌≡◌ {A = FinQueue} (record { words = b.words; spare = a.spare }) b =
+    ap (λ (k : ℕ). let n : FinQueue = record { words = b.words; spare = k } in n) f in
     first ∙ second
 
 -- one more word of the queue
-queue_more : (f : ℕ → ℕ) (old cur new : FinQueue) (i word : ℕ) → i < length old.words → cur.words ≡ map f (take i old.words) ++ drop i old.words → cur.spare ≡ old.spare → new.words ≡ set cur.words i word → new.spare ≡ cur.spare → word ≡ f (slice_index cur.words i) → ◌≡◌ {A = FinQueue} new (record old { words = map f (take (i + 1) old.words) ++ drop (i + 1) old.words })
+queue_more : (f : ℕ → ℕ) (old cur new : FinQueue) (i word : ℕ) → i < length old.words → cur.words ≡ map f (take i old.words) ++ drop i old.words →
+    cur.spare ≡ old.spare → new.words ≡ set cur.words i word → new.spare ≡ cur.spare → word ≡ f (slice_index cur.words i) →
+    ◌≡◌ {A = FinQueue} new (record old { words = map f (take (i + 1) old.words) ++ drop (i + 1) old.words })
 queue_more f old cur new i word lt words spare now same is =
     let size = ap length words in
     let a = length-append (map f (take i old.words)) (drop i old.words) in
@@ -21,7 +24,8 @@ queue_more f old cur new i word lt words spare now same is =
     let d = length-drop i old.words in
     let within : i < length cur.words = omega (arith, size, a, b, c, d) in
     let more = map_over_more f old.words cur.words i (slice_index cur.words i) lt words (get_or_default cur.words i 0 (slice_index cur.words i) within) in
-    same_queue new (record old { words = map f (take (i + 1) old.words) ++ drop (i + 1) old.words }) (now ∙ ap (λ (x : ℕ). set cur.words i x) is ∙ more) (same ∙ spare)
+    same_queue new (record old { words = map f (take (i + 1) old.words) ++ drop (i + 1) old.words }) (now ∙ ap (λ (x : ℕ). set cur.words i x) is ∙
+    more) (same ∙ spare)
 
 pub loop-i-preserved : goal.loop-i-preserved
 loop-i-preserved c =

@@ -17,10 +17,16 @@ pub mark-requires-clause-weaks : goal.mark-requires-clause-weaks
 mark-requires-clause-weaks g c = λ at h. c.requires.can.weaks at.0 (address_in c.args.weaks.now at h)
 
 pub place_nurseries-requires-clause-nurseries : goal.place_nurseries-requires-clause-nurseries
-place_nurseries-requires-clause-nurseries g c = (parts_of c.args.young.now c.mark.new.young c.args.segments.now (g.W.HeapWords.words c.args.words.now) c.args.nurseries.now (inputs_of c.args.registers.now c.args.queues.now c.args.recorded.now c.args.weaks.now) c.as_mut_slice.result.now c.requires.can c.mark.ensures.finds c.as_mut_slice.ensures.value).0
+place_nurseries-requires-clause-nurseries g c =
+    (parts_of c.args.young.now c.mark.new.young c.args.segments.now (g.W.HeapWords.words c.args.words.now) c.args.nurseries.now
+    (inputs_of c.args.registers.now c.args.queues.now c.args.recorded.now c.args.weaks.now) c.as_mut_slice.result.now c.requires.can
+    c.mark.ensures.finds c.as_mut_slice.ensures.value).0
 
 pub place_nurseries-requires-clause-objects : goal.place_nurseries-requires-clause-objects
-place_nurseries-requires-clause-objects g c = rw (c.mark.ensures.same) ((parts_of c.args.young.now c.mark.new.young c.args.segments.now (g.W.HeapWords.words c.args.words.now) c.args.nurseries.now (inputs_of c.args.registers.now c.args.queues.now c.args.recorded.now c.args.weaks.now) c.as_mut_slice.result.now c.requires.can c.mark.ensures.finds c.as_mut_slice.ensures.value).1)
+place_nurseries-requires-clause-objects g c =
+    rw (c.mark.ensures.same) ((parts_of c.args.young.now c.mark.new.young c.args.segments.now (g.W.HeapWords.words c.args.words.now)
+    c.args.nurseries.now (inputs_of c.args.registers.now c.args.queues.now c.args.recorded.now c.args.weaks.now) c.as_mut_slice.result.now
+    c.requires.can c.mark.ensures.finds c.as_mut_slice.ensures.value).1)
 
 pub forward_shared-requires : goal.forward_shared-requires
 forward_shared-requires g c =
@@ -41,44 +47,93 @@ pub forward_recorded-requires-clause-small : goal.forward_recorded-requires-clau
 forward_recorded-requires-clause-small g c =
     let words = g.W.HeapWords.words c.args.words.now in
     let p = c.place_nurseries.ensures in
-    let range = subst (λ (ws : List ℕ). PlacesRange c.mark.new.young.base ws c.args.segments.now c.place_nurseries.new.segments c.as_mut_slice.result.now c.place_nurseries.new.table p.places.0 c.mark.new.young.base (c.mark.new.young.base + length c.as_mut_slice.result.now)) c.mark.ensures.same p.places.2 in
-    let back = lent_back c.mark.new.young.table.len c.mark.new.young.table.items c.as_mut_slice.result.now c.place_nurseries.new.table c.as_slice-table.result.now c.as_mut_slice.ensures.len p.places.2.size c.as_slice-table.ensures.value in
+    let range = subst (λ (ws : List ℕ).
+    PlacesRange c.mark.new.young.base ws c.args.segments.now c.place_nurseries.new.segments c.as_mut_slice.result.now
+    c.place_nurseries.new.table p.places.0 c.mark.new.young.base (c.mark.new.young.base + length c.as_mut_slice.result.now))
+    c.mark.ensures.same p.places.2 in
+    let back = lent_back c.mark.new.young.table.len c.mark.new.young.table.items c.as_mut_slice.result.now c.place_nurseries.new.table
+    c.as_slice-table.result.now c.as_mut_slice.ensures.len p.places.2.size c.as_slice-table.ensures.value in
     let all = p.places.1 ∙ ap (λ (xs : List Move). xs ++ p.places.0) c.requires.moves in
-    let r = ready c.args.young.now c.mark.new.young c.args.segments.now c.place_nurseries.new.segments words c.args.nurseries.now (inputs_of c.args.registers.now c.args.queues.now c.args.recorded.now c.args.weaks.now) c.args.recorded.now c.as_mut_slice.result.now c.place_nurseries.new.table c.as_slice-table.result.now c.place_nurseries.new.moves.items p.places.0 c.requires.can c.mark.ensures.finds refl c.as_mut_slice.ensures.value back all p.sound p.layout range in
-    ready_small c.mark.new.young words c.args.segments.now c.place_nurseries.new.segments c.as_slice-table.result.now c.place_nurseries.new.moves.items (inputs_of c.args.registers.now c.args.queues.now c.args.recorded.now c.args.weaks.now) c.args.recorded.now r
+    let r = ready c.args.young.now c.mark.new.young c.args.segments.now c.place_nurseries.new.segments words c.args.nurseries.now
+    (inputs_of c.args.registers.now c.args.queues.now c.args.recorded.now c.args.weaks.now) c.args.recorded.now c.as_mut_slice.result.now
+    c.place_nurseries.new.table c.as_slice-table.result.now c.place_nurseries.new.moves.items p.places.0 c.requires.can c.mark.ensures.finds
+    refl c.as_mut_slice.ensures.value back all p.sound p.layout range in
+    ready_small c.mark.new.young words c.args.segments.now c.place_nurseries.new.segments c.as_slice-table.result.now
+    c.place_nurseries.new.moves.items (inputs_of c.args.registers.now c.args.queues.now c.args.recorded.now c.args.weaks.now) c.args.recorded.now r
 
 pub copy_all-requires : goal.copy_all-requires
 copy_all-requires g c =
     let words = g.W.HeapWords.words c.args.words.now in
     let p = c.place_nurseries.ensures in
-    let range = subst (λ (ws : List ℕ). PlacesRange c.mark.new.young.base ws c.args.segments.now c.place_nurseries.new.segments c.as_mut_slice.result.now c.place_nurseries.new.table p.places.0 c.mark.new.young.base (c.mark.new.young.base + length c.as_mut_slice.result.now)) c.mark.ensures.same p.places.2 in
-    let back = lent_back c.mark.new.young.table.len c.mark.new.young.table.items c.as_mut_slice.result.now c.place_nurseries.new.table c.as_slice-table.result.now c.as_mut_slice.ensures.len p.places.2.size c.as_slice-table.ensures.value in
+    let range = subst (λ (ws : List ℕ).
+    PlacesRange c.mark.new.young.base ws c.args.segments.now c.place_nurseries.new.segments c.as_mut_slice.result.now
+    c.place_nurseries.new.table p.places.0 c.mark.new.young.base (c.mark.new.young.base + length c.as_mut_slice.result.now))
+    c.mark.ensures.same p.places.2 in
+    let back = lent_back c.mark.new.young.table.len c.mark.new.young.table.items c.as_mut_slice.result.now c.place_nurseries.new.table
+    c.as_slice-table.result.now c.as_mut_slice.ensures.len p.places.2.size c.as_slice-table.ensures.value in
     let all = p.places.1 ∙ ap (λ (xs : List Move). xs ++ p.places.0) c.requires.moves in
-    let r = ready c.args.young.now c.mark.new.young c.args.segments.now c.place_nurseries.new.segments words c.args.nurseries.now (inputs_of c.args.registers.now c.args.queues.now c.args.recorded.now c.args.weaks.now) c.args.recorded.now c.as_mut_slice.result.now c.place_nurseries.new.table c.as_slice-table.result.now c.place_nurseries.new.moves.items p.places.0 c.requires.can c.mark.ensures.finds refl c.as_mut_slice.ensures.value back all p.sound p.layout range in
-    let shared = subst (λ (ws : List ℕ). ForwardsAt (forward_word c.as_slice-table.result.now c.mark.new.young.base) ws (g.W.HeapWords.words c.forward_shared.new.words) IsSharedSlot) (p.same ∙ c.mark.ensures.same) c.forward_shared.ensures in
-    subst (λ (xs : List Move). CanCopyAll c.mark.new.young.base (g.W.HeapWords.words c.forward_recorded.new.words) xs) (sym c.items.ensures) (ready_copy c.mark.new.young words c.args.segments.now c.place_nurseries.new.segments c.as_slice-table.result.now c.place_nurseries.new.moves.items (inputs_of c.args.registers.now c.args.queues.now c.args.recorded.now c.args.weaks.now) c.args.recorded.now r (g.W.HeapWords.words c.forward_shared.new.words) (g.W.HeapWords.words c.forward_recorded.new.words) shared c.forward_recorded.ensures)
+    let r = ready c.args.young.now c.mark.new.young c.args.segments.now c.place_nurseries.new.segments words c.args.nurseries.now
+    (inputs_of c.args.registers.now c.args.queues.now c.args.recorded.now c.args.weaks.now) c.args.recorded.now c.as_mut_slice.result.now
+    c.place_nurseries.new.table c.as_slice-table.result.now c.place_nurseries.new.moves.items p.places.0 c.requires.can c.mark.ensures.finds
+    refl c.as_mut_slice.ensures.value back all p.sound p.layout range in
+    let shared = subst (λ (ws : List ℕ).
+    ForwardsAt (forward_word c.as_slice-table.result.now c.mark.new.young.base) ws (g.W.HeapWords.words c.forward_shared.new.words)
+    IsSharedSlot) (p.same ∙ c.mark.ensures.same) c.forward_shared.ensures in
+    subst (λ (xs : List Move).
+    CanCopyAll c.mark.new.young.base (g.W.HeapWords.words c.forward_recorded.new.words) xs) (sym c.items.ensures)
+    (ready_copy c.mark.new.young words c.args.segments.now c.place_nurseries.new.segments c.as_slice-table.result.now
+    c.place_nurseries.new.moves.items (inputs_of c.args.registers.now c.args.queues.now c.args.recorded.now c.args.weaks.now)
+    c.args.recorded.now r (g.W.HeapWords.words c.forward_shared.new.words) (g.W.HeapWords.words c.forward_recorded.new.words) shared
+    c.forward_recorded.ensures)
 
 pub returns-clause-promotes : goal.returns-clause-promotes
 returns-clause-promotes g c =
     let words = g.W.HeapWords.words c.args.words.now in
     let final = g.W.HeapWords.words c.copy_all.new.words in
     let p = c.place_nurseries.ensures in
-    let range = subst (λ (ws : List ℕ). PlacesRange c.mark.new.young.base ws c.args.segments.now c.place_nurseries.new.segments c.as_mut_slice.result.now c.place_nurseries.new.table p.places.0 c.mark.new.young.base (c.mark.new.young.base + length c.as_mut_slice.result.now)) c.mark.ensures.same p.places.2 in
-    let back = lent_back c.mark.new.young.table.len c.mark.new.young.table.items c.as_mut_slice.result.now c.place_nurseries.new.table c.as_slice-table.result.now c.as_mut_slice.ensures.len p.places.2.size c.as_slice-table.ensures.value in
+    let range = subst (λ (ws : List ℕ).
+    PlacesRange c.mark.new.young.base ws c.args.segments.now c.place_nurseries.new.segments c.as_mut_slice.result.now
+    c.place_nurseries.new.table p.places.0 c.mark.new.young.base (c.mark.new.young.base + length c.as_mut_slice.result.now))
+    c.mark.ensures.same p.places.2 in
+    let back = lent_back c.mark.new.young.table.len c.mark.new.young.table.items c.as_mut_slice.result.now c.place_nurseries.new.table
+    c.as_slice-table.result.now c.as_mut_slice.ensures.len p.places.2.size c.as_slice-table.ensures.value in
     let all = p.places.1 ∙ ap (λ (xs : List Move). xs ++ p.places.0) c.requires.moves in
-    let r = ready c.args.young.now c.mark.new.young c.args.segments.now c.place_nurseries.new.segments words c.args.nurseries.now (inputs_of c.args.registers.now c.args.queues.now c.args.recorded.now c.args.weaks.now) c.args.recorded.now c.as_mut_slice.result.now c.place_nurseries.new.table c.as_slice-table.result.now c.place_nurseries.new.moves.items p.places.0 c.requires.can c.mark.ensures.finds refl c.as_mut_slice.ensures.value back all p.sound p.layout range in
-    let shared = subst (λ (ws : List ℕ). ForwardsAt (forward_word c.as_slice-table.result.now c.mark.new.young.base) ws (g.W.HeapWords.words c.forward_shared.new.words) IsSharedSlot) (p.same ∙ c.mark.ensures.same) c.forward_shared.ensures in
-    let copies = subst (λ (xs : List Move). CopiesAll (forward_word c.as_slice-table.result.now c.mark.new.young.base) (g.W.HeapWords.words c.forward_recorded.new.words) final xs) c.items.ensures c.copy_all.ensures in
-    let made = ready_promotes c.mark.new.young words c.args.segments.now c.place_nurseries.new.segments c.as_slice-table.result.now c.place_nurseries.new.moves.items (inputs_of c.args.registers.now c.args.queues.now c.args.recorded.now c.args.weaks.now) c.args.recorded.now r (g.W.HeapWords.words c.forward_shared.new.words) (g.W.HeapWords.words c.forward_recorded.new.words) final shared c.forward_recorded.ensures copies in
-    let at_old = subst (λ (b : ℕ). Promotes b words final c.args.segments.now c.place_nurseries.new.segments c.place_nurseries.new.moves.items (inputs_of c.args.registers.now c.args.queues.now c.args.recorded.now c.args.weaks.now) c.as_slice-table.result.now) c.mark.ensures.finds.base made in
-    subst (λ (t : List ℕ). Promotes c.args.young.now.base words final c.args.segments.now c.place_nurseries.new.segments c.place_nurseries.new.moves.items (inputs_of c.args.registers.now c.args.queues.now c.args.recorded.now c.args.weaks.now) t) c.as_slice-table.ensures.value at_old
+    let r = ready c.args.young.now c.mark.new.young c.args.segments.now c.place_nurseries.new.segments words c.args.nurseries.now
+    (inputs_of c.args.registers.now c.args.queues.now c.args.recorded.now c.args.weaks.now) c.args.recorded.now c.as_mut_slice.result.now
+    c.place_nurseries.new.table c.as_slice-table.result.now c.place_nurseries.new.moves.items p.places.0 c.requires.can c.mark.ensures.finds
+    refl c.as_mut_slice.ensures.value back all p.sound p.layout range in
+    let shared = subst (λ (ws : List ℕ).
+    ForwardsAt (forward_word c.as_slice-table.result.now c.mark.new.young.base) ws (g.W.HeapWords.words c.forward_shared.new.words)
+    IsSharedSlot) (p.same ∙ c.mark.ensures.same) c.forward_shared.ensures in
+    let copies = subst (λ (xs : List Move).
+    CopiesAll (forward_word c.as_slice-table.result.now c.mark.new.young.base) (g.W.HeapWords.words c.forward_recorded.new.words) final xs)
+    c.items.ensures c.copy_all.ensures in
+    let made = ready_promotes c.mark.new.young words c.args.segments.now c.place_nurseries.new.segments c.as_slice-table.result.now
+    c.place_nurseries.new.moves.items (inputs_of c.args.registers.now c.args.queues.now c.args.recorded.now c.args.weaks.now)
+    c.args.recorded.now r (g.W.HeapWords.words c.forward_shared.new.words) (g.W.HeapWords.words c.forward_recorded.new.words) final shared
+    c.forward_recorded.ensures copies in
+    let at_old = subst (λ (b : ℕ).
+    Promotes b words final c.args.segments.now c.place_nurseries.new.segments c.place_nurseries.new.moves.items
+    (inputs_of c.args.registers.now c.args.queues.now c.args.recorded.now c.args.weaks.now) c.as_slice-table.result.now) c.mark.ensures.finds.base made in
+    subst (λ (t : List ℕ).
+    Promotes c.args.young.now.base words final c.args.segments.now c.place_nurseries.new.segments c.place_nurseries.new.moves.items
+    (inputs_of c.args.registers.now c.args.queues.now c.args.recorded.now c.args.weaks.now) t) c.as_slice-table.ensures.value at_old
 
 pub returns-clause-leaves : goal.returns-clause-leaves
 returns-clause-leaves g c =
     let words = g.W.HeapWords.words c.args.words.now in
     let p = c.place_nurseries.ensures in
-    let range = subst (λ (ws : List ℕ). PlacesRange c.mark.new.young.base ws c.args.segments.now c.place_nurseries.new.segments c.as_mut_slice.result.now c.place_nurseries.new.table p.places.0 c.mark.new.young.base (c.mark.new.young.base + length c.as_mut_slice.result.now)) c.mark.ensures.same p.places.2 in
-    let back = lent_back c.mark.new.young.table.len c.mark.new.young.table.items c.as_mut_slice.result.now c.place_nurseries.new.table c.as_slice-table.result.now c.as_mut_slice.ensures.len p.places.2.size c.as_slice-table.ensures.value in
+    let range = subst (λ (ws : List ℕ).
+    PlacesRange c.mark.new.young.base ws c.args.segments.now c.place_nurseries.new.segments c.as_mut_slice.result.now
+    c.place_nurseries.new.table p.places.0 c.mark.new.young.base (c.mark.new.young.base + length c.as_mut_slice.result.now))
+    c.mark.ensures.same p.places.2 in
+    let back = lent_back c.mark.new.young.table.len c.mark.new.young.table.items c.as_mut_slice.result.now c.place_nurseries.new.table
+    c.as_slice-table.result.now c.as_mut_slice.ensures.len p.places.2.size c.as_slice-table.ensures.value in
     let all = p.places.1 ∙ ap (λ (xs : List Move). xs ++ p.places.0) c.requires.moves in
-    let r = ready c.args.young.now c.mark.new.young c.args.segments.now c.place_nurseries.new.segments words c.args.nurseries.now (inputs_of c.args.registers.now c.args.queues.now c.args.recorded.now c.args.weaks.now) c.args.recorded.now c.as_mut_slice.result.now c.place_nurseries.new.table c.as_slice-table.result.now c.place_nurseries.new.moves.items p.places.0 c.requires.can c.mark.ensures.finds refl c.as_mut_slice.ensures.value back all p.sound p.layout range in
-    leaves c.args.young.now c.mark.new.young _ words c.args.segments.now c.place_nurseries.new.segments c.as_slice-table.result.now c.place_nurseries.new.moves.items (inputs_of c.args.registers.now c.args.queues.now c.args.recorded.now c.args.weaks.now) c.args.recorded.now c.mark.ensures.finds r refl (sym c.as_slice-table.ensures.value) refl refl
+    let r = ready c.args.young.now c.mark.new.young c.args.segments.now c.place_nurseries.new.segments words c.args.nurseries.now
+    (inputs_of c.args.registers.now c.args.queues.now c.args.recorded.now c.args.weaks.now) c.args.recorded.now c.as_mut_slice.result.now
+    c.place_nurseries.new.table c.as_slice-table.result.now c.place_nurseries.new.moves.items p.places.0 c.requires.can c.mark.ensures.finds
+    refl c.as_mut_slice.ensures.value back all p.sound p.layout range in
+    leaves c.args.young.now c.mark.new.young _ words c.args.segments.now c.place_nurseries.new.segments c.as_slice-table.result.now
+    c.place_nurseries.new.moves.items (inputs_of c.args.registers.now c.args.queues.now c.args.recorded.now c.args.weaks.now)
+    c.args.recorded.now c.mark.ensures.finds r refl (sym c.as_slice-table.ensures.value) refl refl

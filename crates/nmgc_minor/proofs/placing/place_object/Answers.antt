@@ -15,13 +15,15 @@ pub allocate-to-requires-clause-class : goal.allocate-to-requires-clause-class
 allocate-to-requires-clause-class g c =
     let h = c.requires.object.object in
     let size = c.object_words.ensures.holds h.header (h.valid, h.read) in
-    class_fits c.args.segments.now.layout.words c.class_of-class.result c.object_words.result c.requires.sound.layout.words (let s = c.requires.object.small in omega (arith, s, size)) c.class_of-class.ensures.least
+    class_fits c.args.segments.now.layout.words c.class_of-class.result c.object_words.result c.requires.sound.layout.words
+    (let s = c.requires.object.small in omega (arith, s, size)) c.class_of-class.ensures.least
 
 pub allocate-to-requires-clause-room : goal.allocate-to-requires-clause-room
 allocate-to-requires-clause-room g c =
     let h = c.requires.object.object in
     let size = c.object_words.ensures.holds h.header (h.valid, h.read) in
-    c.requires.room c.class_of-class.result (class_fits c.args.segments.now.layout.words c.class_of-class.result c.object_words.result c.requires.sound.layout.words (let s = c.requires.object.small in omega (arith, s, size)) c.class_of-class.ensures.least)
+    c.requires.room c.class_of-class.result (class_fits c.args.segments.now.layout.words c.class_of-class.result c.object_words.result
+    c.requires.sound.layout.words (let s = c.requires.object.small in omega (arith, s, size)) c.class_of-class.ensures.least)
 
 pub name_of-name-requires : goal.name_of-name-requires
 name_of-name-requires g c =
@@ -37,8 +39,13 @@ returns-clause-places g c =
     record {
       class = c.class_of-class.result;
       allocates = c.allocate-to.ensures.placed;
-      class_is = λ header is. subst (λ (n : ℕ). IsClassOf n c.class_of-class.result) (c.object_words.ensures.holds header is) (record { holds = c.class_of-class.ensures.holds; least = c.class_of-class.ensures.least });
-      fits = class_fits c.args.segments.now.layout.words c.class_of-class.result c.object_words.result c.requires.sound.layout.words (let s = c.requires.object.small in omega (arith, s, size)) c.class_of-class.ensures.least;
+      class_is = λ header is. subst (λ (n : ℕ). IsClassOf n c.class_of-class.result) (c.object_words.ensures.holds header is) (record {
+        holds =
+            c.class_of-class.ensures.holds;
+        least = c.class_of-class.ensures.least;
+      });
+      fits = class_fits c.args.segments.now.layout.words c.class_of-class.result c.object_words.result c.requires.sound.layout.words
+          (let s = c.requires.object.small in omega (arith, s, size)) c.class_of-class.ensures.least;
       valid = subst IsName (sym name_is) c.requires.object.valid;
       made = ap (λ (n : Name). n.maker) name_is ∙ c.requires.object.made;
       named = c.requires.object.named ∙ ap name_word (sym name_is);

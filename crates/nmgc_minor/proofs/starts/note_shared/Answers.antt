@@ -17,7 +17,8 @@ pub returns-clause-notes : goal.returns-clause-notes
 returns-clause-notes g c =
     let words = g.W.HeapWords.words c.args.words.now in
     let n = c.from.ensures in
-    notes_as c.args.young.now c.note_range.new.self (IsAmong words 3 (3 + c.from.result)) (λ w. (i : ℕ) × (i < SHARED_SLOTS) × (slice_index words (3 + i) ≡ w)) c.note_range.ensures.notes
+    notes_as c.args.young.now c.note_range.new.self (IsAmong words 3 (3 + c.from.result)) (λ w. (i : ℕ) × (i < SHARED_SLOTS) ×
+    (slice_index words (3 + i) ≡ w)) c.note_range.ensures.notes
     (λ w i.
     let e : 3 + (i.0 - 3) ≡ i.0 = omega (arith, i.1) in
     (i.0 - 3, omega (arith, i.1, i.2, n), ap (λ (k : ℕ). slice_index words k) e ∙ i.3))

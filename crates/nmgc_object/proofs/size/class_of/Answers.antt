@@ -24,7 +24,8 @@ found words full m more most full_is low high = (
         omega (arith, is, up, twice, high, full_is, more)
   ],
   elim (cases_lt 8 m) [
-    | inl lt ↦ absurd (let up : 2 ^ 9 ≤ 2 ^ m = pow-le-pow_right {n = 2} (omega arith) {i = 9} {j = m} (omega (arith, lt)) in omega (arith, up, high, full_is, most))
+    | inl lt ↦ absurd (let up : 2 ^ 9 ≤ 2 ^ m = pow-le-pow_right {n = 2} (omega arith) {i = 9} {j = m} (omega (arith, lt)) in
+        omega (arith, up, high, full_is, most))
     | inr le ↦ omega (arith, le)
   ],
 )

@@ -3,4 +3,10 @@ use Rattle.nmgc_reach.specs.laws.Reached.{nothing_reachable_is_freed, nothing_re
 use Rattle.nmgc_reach.proofs.laws.nothing_reachable_is_freed.Goals as goal
 
 pub returns : goal.returns
-returns c = record { closing = closes_well; since = nothing_reachable_is_freed; run = nothing_reachable_is_ever_freed; kept = reachable_is_kept; ever_kept = reachable_is_ever_kept }
+returns c = record {
+  closing = closes_well;
+  since = nothing_reachable_is_freed;
+  run = nothing_reachable_is_ever_freed;
+  kept = reachable_is_kept;
+  ever_kept = reachable_is_ever_kept;
+}

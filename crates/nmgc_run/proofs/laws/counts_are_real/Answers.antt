@@ -5,4 +5,5 @@ use Rattle.nmgc_run.specs.laws.Frees.{last_free}
 use Rattle.nmgc_run.proofs.laws.counts_are_real.Goals as goal
 
 pub returns : goal.returns
-returns c = λ script report h. last_free script report h ∙ sym (c.counts.ensures report.segments report.words (last_state h.run).allocation stands.Free h.heap.holds.stands)
+returns c = λ script report h. last_free script report h ∙
+    sym (c.counts.ensures report.segments report.words (last_state h.run).allocation stands.Free h.heap.holds.stands)

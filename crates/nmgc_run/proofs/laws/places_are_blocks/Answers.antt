@@ -8,4 +8,5 @@ pub returns-clause-after_round : goal.returns-clause-after_round
 returns-clause-after_round c = blocks_after_round
 
 pub returns-clause-back : goal.returns-clause-back
-returns-clause-back c = λ layout earlier places w allocation words segments. blocks_are_places layout earlier places w allocation words segments c.words_differ.ensures.names
+returns-clause-back c = λ layout earlier places w allocation words segments.
+    blocks_are_places layout earlier places w allocation words segments c.words_differ.ensures.names

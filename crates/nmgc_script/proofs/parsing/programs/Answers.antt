@@ -7,31 +7,47 @@ use Rattle.nmgc_script.proofs.Entries.{starts, line_read, ok_read, err_read, wit
 use Rattle.nmgc_script.proofs.parsing.programs.Goals as goal
 
 pub loop-number-init : goal.loop-number-init
-loop-number-init c = rw (c.new-threads.ensures, c.new-program.ensures) (starts c.args.version c.args.config.now (kept_from c.args.lines.now.number (lines_of c.args.lines.now.rest.now)))
+loop-number-init c = rw (
+  c.new-threads.ensures,
+  c.new-program.ensures,
+) (starts c.args.version c.args.config.now (kept_from c.args.lines.now.number (lines_of c.args.lines.now.rest.now)))
 
 pub returns-in_err-at_line : goal.returns-in_err-at_line
 returns-in_err-at_line c =
     let words : map (λ w. w.now) c.deref.result.now ≡ words_of c.in-Some.line.now = ap (map (λ w. w.now)) c.deref.ensures.value ∙ c.in_ok-cut_words.ensures in
-    let read = line_read (entry_at c.args.version c.args.config.now c.loop-number.begun) c.in-Some.number c.in-Some.line.now _ c.read_entry.result c.at_line.result words c.read_entry.ensures.gives c.at_line.ensures in
+    let read = line_read (entry_at c.args.version c.args.config.now c.loop-number.begun) c.in-Some.number c.in-Some.line.now _ c.read_entry.result
+    c.at_line.result words c.read_entry.ensures.gives c.at_line.ensures in
     let p = err_from_is_err_and c.from_residual-in_err-at_line.result c.from_residual-in_err-at_line.ensures.1 in
-    rw (p.1, p.2) (fails c.args.version c.args.config.now c.loop-number.begun c.loop-number.threads c.loop-number.program _ (c.in-Some.number, c.in-Some.line.now) _ _ c.in-Some.ensures.line c.loop-number.invariant _ (err_read c.at_line.result _ _ c.in_err-at_line.was read))
+    rw (p.1, p.2) (fails c.args.version c.args.config.now c.loop-number.begun c.loop-number.threads c.loop-number.program _ (
+      c.in-Some.number,
+      c.in-Some.line.now,
+    ) _ _ c.in-Some.ensures.line c.loop-number.invariant _ (err_read c.at_line.result _ _ c.in_err-at_line.was read))
 
 pub loop-number-preserved-in-Section : goal.loop-number-preserved-in-Section
 loop-number-preserved-in-Section c =
     let words : map (λ w. w.now) c.deref.result.now ≡ words_of c.in-Some.line.now = ap (map (λ w. w.now)) c.deref.ensures.value ∙ c.in_ok-cut_words.ensures in
-    let read = line_read (entry_at c.args.version c.args.config.now c.loop-number.begun) c.in-Some.number c.in-Some.line.now _ c.read_entry.result c.at_line.result words c.read_entry.ensures.gives c.at_line.ensures in
+    let read = line_read (entry_at c.args.version c.args.config.now c.loop-number.begun) c.in-Some.number c.in-Some.line.now _ c.read_entry.result
+    c.at_line.result words c.read_entry.ensures.gives c.at_line.ensures in
     let is : c.at_line.result ≡ Ok entry.Section = c.in_ok-at_line.was ∙ ap Ok c.in-Section.is in
-    rw (c.in_ok-push-in-Section.ensures.ok, c.new-program-in-Section.ensures) (begins c.args.version c.args.config.now c.loop-number.begun c.loop-number.threads c.loop-number.program _ (c.in-Some.number, c.in-Some.line.now) _ _ c.in-Some.ensures.line c.loop-number.invariant (ok_read c.at_line.result _ entry.Section is read))
+    rw (
+      c.in_ok-push-in-Section.ensures.ok,
+      c.new-program-in-Section.ensures,
+    ) (begins c.args.version c.args.config.now c.loop-number.begun c.loop-number.threads c.loop-number.program _
+    (c.in-Some.number, c.in-Some.line.now) _ _ c.in-Some.ensures.line c.loop-number.invariant (ok_read c.at_line.result _ entry.Section is read))
 
 pub loop-number-preserved : goal.loop-number-preserved
 loop-number-preserved c =
     let words : map (λ w. w.now) c.deref.result.now ≡ words_of c.in-Some.line.now = ap (map (λ w. w.now)) c.deref.ensures.value ∙ c.in_ok-cut_words.ensures in
-    let read = line_read (entry_at c.args.version c.args.config.now c.loop-number.begun) c.in-Some.number c.in-Some.line.now _ c.read_entry.result c.at_line.result words c.read_entry.ensures.gives c.at_line.ensures in
+    let read = line_read (entry_at c.args.version c.args.config.now c.loop-number.begun) c.in-Some.number c.in-Some.line.now _ c.read_entry.result
+    c.at_line.result words c.read_entry.ensures.gives c.at_line.ensures in
     let is : c.at_line.result ≡ Ok (entry.Order c.in-Order.command) = c.in_ok-at_line.was ∙ ap Ok c.in-Order.is in
-    rw c.in_ok-push-in-Order.ensures.ok (goes_on c.args.version c.args.config.now c.loop-number.begun c.loop-number.threads c.loop-number.program _ (c.in-Some.number, c.in-Some.line.now) _ _ c.in-Some.ensures.line c.loop-number.invariant c.in-Order.command (ok_read c.at_line.result _ (entry.Order c.in-Order.command) is read))
+    rw c.in_ok-push-in-Order.ensures.ok (goes_on c.args.version c.args.config.now c.loop-number.begun c.loop-number.threads c.loop-number.program _
+    (c.in-Some.number, c.in-Some.line.now) _ _ c.in-Some.ensures.line c.loop-number.invariant c.in-Order.command
+    (ok_read c.at_line.result _ (entry.Order c.in-Order.command) is read))
 
 pub returns : goal.returns
-returns c = rw c.in_ok-push.ensures.ok (is_done c.args.version c.args.config.now c.loop-number.begun c.loop-number.threads c.loop-number.program _ _ c.in_default.ensures.none c.loop-number.invariant)
+returns c = rw c.in_ok-push.ensures.ok (is_done c.args.version c.args.config.now c.loop-number.begun c.loop-number.threads c.loop-number.program _ _
+    c.in_default.ensures.none c.loop-number.invariant)
 
 pub overflow_add-begun : goal.overflow_add-begun
 overflow_add-begun c =

@@ -11,12 +11,20 @@ returns-in_default c = no_section _ c.number.result c.args.version c.args.config
 pub returns-in_err-at_line : goal.returns-in_err-at_line
 returns-in_err-at_line c =
     let words : map (λ w. w.now) c.deref.result.now ≡ words_of c.in-Some.line.now = ap (map (λ w. w.now)) c.deref.ensures.value ∙ c.in_ok-cut_words.ensures in
-    let read = line_read (section_at c.args.version c.args.config.now 0) c.in-Some.number c.in-Some.line.now _ c.section.result c.at_line.result words c.section.ensures.gives c.at_line.ensures in
+    let read = line_read (section_at c.args.version c.args.config.now 0) c.in-Some.number c.in-Some.line.now _ c.section.result c.at_line.result
+    words c.section.ensures.gives c.at_line.ensures in
     let p = err_from_is_err_and c.from_residual-in_err-at_line.result c.from_residual-in_err-at_line.ensures.1 in
-    rw (p.1, p.2) (first_fails _ c.args.version c.args.config.now _ (c.in-Some.number, c.in-Some.line.now) _ c.in-Some.ensures.line _ (err_read c.at_line.result _ _ c.in_err-at_line.was read))
+    rw (p.1, p.2) (first_fails _ c.args.version c.args.config.now _ (
+      c.in-Some.number,
+      c.in-Some.line.now,
+    ) _ c.in-Some.ensures.line _ (err_read c.at_line.result _ _ c.in_err-at_line.was read))
 
 pub returns : goal.returns
 returns c =
     let words : map (λ w. w.now) c.deref.result.now ≡ words_of c.in-Some.line.now = ap (map (λ w. w.now)) c.deref.ensures.value ∙ c.in_ok-cut_words.ensures in
-    let read = line_read (section_at c.args.version c.args.config.now 0) c.in-Some.number c.in-Some.line.now _ c.section.result c.at_line.result words c.section.ensures.gives c.at_line.ensures in
-    first_begins _ c.args.version c.args.config.now _ (c.in-Some.number, c.in-Some.line.now) _ c.in-Some.ensures.line _ c.programs.result (ok_read c.at_line.result _ _ c.in_ok-at_line.was read) c.programs.ensures
+    let read = line_read (section_at c.args.version c.args.config.now 0) c.in-Some.number c.in-Some.line.now _ c.section.result c.at_line.result
+    words c.section.ensures.gives c.at_line.ensures in
+    first_begins _ c.args.version c.args.config.now _ (
+      c.in-Some.number,
+      c.in-Some.line.now,
+    ) _ c.in-Some.ensures.line _ c.programs.result (ok_read c.at_line.result _ _ c.in_ok-at_line.was read) c.programs.ensures

@@ -8,4 +8,6 @@ pub returns : goal.returns
 returns c =
     let out = c.args.out.now.items in
     let words = map word_text c.args.words.now in
-    IfOk-equal c.push_words.result _ _ _ c.push_words.ensures (ap (λ (l : List ℕ). l ++ after_spaces words) c.in_ok-extend_from_slice.ensures.items ∙ append_assoc out c.args.name.now (after_spaces words) ∙ ap (λ (l : List ℕ). out ++ l) (sym (spaced_after c.args.name.now words)))
+    IfOk-equal c.push_words.result _ _ _ c.push_words.ensures (ap (λ (l : List ℕ). l ++
+    after_spaces words) c.in_ok-extend_from_slice.ensures.items ∙ append_assoc out c.args.name.now (after_spaces words) ∙
+    ap (λ (l : List ℕ). out ++ l) (sym (spaced_after c.args.name.now words)))

@@ -11,4 +11,5 @@ returns c =
     let name = c.args.name.now in
     let words = map word_text c.args.words.now in
     let more = map operand_word c.args.operands.now in
-    IfOk-equal c.push_operands.result _ _ _ c.push_operands.ensures (ap (λ (l : List ℕ). l ++ after_spaces more) c.in_ok-push_line.ensures ∙ append_assoc out _ (after_spaces more) ∙ ap (λ (l : List ℕ). out ++ l) (spaced_longer name words more))
+    IfOk-equal c.push_operands.result _ _ _ c.push_operands.ensures (ap (λ (l : List ℕ). l ++ after_spaces more) c.in_ok-push_line.ensures ∙
+    append_assoc out _ (after_spaces more) ∙ ap (λ (l : List ℕ). out ++ l) (spaced_longer name words more))

@@ -5,4 +5,5 @@ use Rattle.nmgc_script.proofs.printing.push_operands.Given as goal
 
 -- the words so far were appended
 abbrev pub invariant-loop-operand : goal.invariant-loop-operand
-invariant-loop-operand l = l.out.items ++ after_spaces (map operand_word (drop l.operand-index l.operands)) ≡ l.initial.out.items ++ after_spaces (map operand_word l.operands)
+invariant-loop-operand l = l.out.items ++ after_spaces (map operand_word (drop l.operand-index l.operands)) ≡ l.initial.out.items ++
+    after_spaces (map operand_word l.operands)

@@ -16,7 +16,8 @@ returns-then-run-lt-LANES c =
       from_on = omega (arith, inv.0);
       within = omega (arith, c.if-run-lt-LANES.true, c.loop-at-test.true, inv.1);
       before = others_more byte marks c.args.from at 16 run room c.run_before-run.ensures inv.2;
-      found = λ _. eqb-true (get_or marks (at + run) 0) byte (run_in_chunk_stops (λ x. eqb x byte) marks at 16 run 0 room c.run_before-run.ensures c.if-run-lt-LANES.true);
+      found = λ _. eqb-true (get_or marks (at + run) 0) byte (run_in_chunk_stops (λ x.
+          eqb x byte) marks at 16 run 0 room c.run_before-run.ensures c.if-run-lt-LANES.true);
     }
 
 pub loop-at-preserved : goal.loop-at-preserved

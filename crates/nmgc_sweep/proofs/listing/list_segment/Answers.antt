@@ -26,10 +26,15 @@ pub at-name-requires : goal.at-name-requires
 at-name-requires c =
     let x : Segment = nth c.args.segments.now.segments c.args.number in
     let block = c.loop-block.block in
-    let within : block < block_count x = subst (λ (n : ℕ). block < n) (c.blocks-blocks.ensures ∙ ap (λ (s : Segment). block_count s) c.segment-segment.ensures) c.loop-block-test.true in
+    let within : block < block_count x = subst (λ (n : ℕ). block < n) (c.blocks-blocks.ensures ∙
+    ap (λ (s : Segment). block_count s) c.segment-segment.ensures) c.loop-block-test.true in
     let at : c.segment_base-base.result + block * c.block_words-size.result ≡ block_place c.args.segments.now.layout c.args.number x.class block =
-    placed_at c.args.segments.now.layout c.layout.result c.args.number x.class c.class.result block c.segment_base-base.result c.block_words-size.result c.layout.ensures.layout (c.class.ensures ∙ ap (λ (s : Segment). s.class) c.segment-segment.ensures) c.segment_base-base.ensures c.block_words-size.ensures.size in
-    subst (λ (p : ℕ). entry_of p < length c.args.names.now) (sym at) (place_named c.args.segments.now c.args.names.now c.args.number block c.layout.ensures.sound c.requires.exists c.requires.waits within c.requires.entries)
+    placed_at c.args.segments.now.layout c.layout.result c.args.number x.class c.class.result block c.segment_base-base.result
+    c.block_words-size.result c.layout.ensures.layout (c.class.ensures ∙
+    ap (λ (s : Segment). s.class) c.segment-segment.ensures) c.segment_base-base.ensures c.block_words-size.ensures.size in
+    subst (λ (p : ℕ). entry_of p < length c.args.names.now) (sym at)
+    (place_named c.args.segments.now c.args.names.now c.args.number block c.layout.ensures.sound c.requires.exists c.requires.waits within
+    c.requires.entries)
 
 pub loop-block-preserved : goal.loop-block-preserved
 loop-block-preserved c =
@@ -38,47 +43,65 @@ loop-block-preserved c =
     let name : ℕ → Option Name = named_at c.args.segments.now.layout c.args.names.now c.args.number x.class in
     let is : c.segment-segment.result.now ≡ x = c.segment-segment.ensures in
     let at : c.segment_base-base.result + block * c.block_words-size.result ≡ block_place c.args.segments.now.layout c.args.number x.class block =
-    placed_at c.args.segments.now.layout c.layout.result c.args.number x.class c.class.result block c.segment_base-base.result c.block_words-size.result c.layout.ensures.layout (c.class.ensures ∙ ap (λ (s : Segment). s.class) is) c.segment_base-base.ensures c.block_words-size.ensures.size in
+    placed_at c.args.segments.now.layout c.layout.result c.args.number x.class c.class.result block c.segment_base-base.result
+    c.block_words-size.result c.layout.ensures.layout (c.class.ensures ∙
+    ap (λ (s : Segment). s.class) is) c.segment_base-base.ensures c.block_words-size.ensures.size in
     let had_few = c.loop-block.invariant.had_few in
     let freed_few = c.loop-block.invariant.freed_few in
     elim c.if-in_use.branch [
       | then-in_use+then-not-is_marked w ↦
           let used : InUse x block = subst (λ (s : Segment). InUse s block) is (c.in_use.ensures.0 w.if-in_use.true) in
-          let named : name block ≡ Some w.at-name.result = subst (λ (p : ℕ). slice_get c.args.names.now (entry_of p) ≡ Some w.at-name.result) at w.at-name.ensures in
+          let named : name block ≡ Some w.at-name.result = subst (λ (p : ℕ). slice_get c.args.names.now (entry_of p) ≡
+          Some w.at-name.result) at w.at-name.ensures in
           let lost : IsLost x c.args.epoch block = (
             used,
             λ marked.
                 let t : w.is_marked.result ≡ true = w.is_marked.ensures.1 (subst (λ (s : Segment). IsMarked s c.args.epoch block) (sym is) marked) in
                 let f : true ≡ false = sym t ∙ w.if-not-is_marked.true in cc,
           ) in
-          let had : c.if-in_use.had.items ≡ c.loop-block.had.items ++ w.at-name.result ∷ [] = ap (λ (v : Vec Name Global). v.items) w.had-is ∙ w.push_reserved.ensures.items in
-          let had_len : vec_len c.if-in_use.had ≡ vec_len c.loop-block.had + 1 = ap (λ (v : Vec Name Global). vec_len v) w.had-is ∙ w.push_reserved.ensures.len in
-          let had_room : vec_capacity c.if-in_use.had ≡ vec_capacity c.loop-block.had = ap (λ (v : Vec Name Global). vec_capacity v) w.had-is ∙ w.push_reserved.ensures.capacity in
-          let freed : c.if-in_use.freed.items ≡ c.loop-block.freed.items ++ w.at-name.result ∷ [] = ap (λ (v : Vec Name Global). v.items) w.freed-is ∙ w.push_reserved-then-not-is_marked.ensures.items in
-          let freed_len : vec_len c.if-in_use.freed ≡ vec_len c.loop-block.freed + 1 = ap (λ (v : Vec Name Global). vec_len v) w.freed-is ∙ w.push_reserved-then-not-is_marked.ensures.len in
-          let freed_room : vec_capacity c.if-in_use.freed ≡ vec_capacity c.loop-block.freed = ap (λ (v : Vec Name Global). vec_capacity v) w.freed-is ∙ w.push_reserved-then-not-is_marked.ensures.capacity in
+          let had : c.if-in_use.had.items ≡ c.loop-block.had.items ++ w.at-name.result ∷ [] = ap (λ (v : Vec Name Global). v.items) w.had-is ∙
+          w.push_reserved.ensures.items in
+          let had_len : vec_len c.if-in_use.had ≡ vec_len c.loop-block.had + 1 = ap (λ (v : Vec Name Global). vec_len v) w.had-is ∙
+          w.push_reserved.ensures.len in
+          let had_room : vec_capacity c.if-in_use.had ≡ vec_capacity c.loop-block.had = ap (λ (v : Vec Name Global). vec_capacity v) w.had-is ∙
+          w.push_reserved.ensures.capacity in
+          let freed : c.if-in_use.freed.items ≡ c.loop-block.freed.items ++ w.at-name.result ∷ [] =
+          ap (λ (v : Vec Name Global). v.items) w.freed-is ∙ w.push_reserved-then-not-is_marked.ensures.items in
+          let freed_len : vec_len c.if-in_use.freed ≡ vec_len c.loop-block.freed + 1 = ap (λ (v : Vec Name Global). vec_len v) w.freed-is ∙
+          w.push_reserved-then-not-is_marked.ensures.len in
+          let freed_room : vec_capacity c.if-in_use.freed ≡ vec_capacity c.loop-block.freed =
+          ap (λ (v : Vec Name Global). vec_capacity v) w.freed-is ∙ w.push_reserved-then-not-is_marked.ensures.capacity in
           record {
-            had = one_listed (InUse x) name block w.at-name.result c.args.had.now.items c.loop-block.had.items c.if-in_use.had.items used named had c.loop-block.invariant.had;
+            had = one_listed (InUse x) name block w.at-name.result c.args.had.now.items c.loop-block.had.items c.if-in_use.had.items used named had
+                c.loop-block.invariant.had;
             had_room = had_room ∙ c.loop-block.invariant.had_room;
             had_few = omega (arith, had_len, had_few);
-            freed = one_listed (IsLost x c.args.epoch) name block w.at-name.result c.args.freed.now.items c.loop-block.freed.items c.if-in_use.freed.items lost named freed c.loop-block.invariant.freed;
+            freed = one_listed (IsLost x c.args.epoch) name block w.at-name.result c.args.freed.now.items c.loop-block.freed.items
+                c.if-in_use.freed.items lost named freed c.loop-block.invariant.freed;
             freed_room = freed_room ∙ c.loop-block.invariant.freed_room;
             freed_few = omega (arith, freed_len, freed_few);
           }
       | then-in_use+else-not-is_marked w ↦
           let used : InUse x block = subst (λ (s : Segment). InUse s block) is (c.in_use.ensures.0 w.if-in_use.true) in
-          let named : name block ≡ Some w.at-name.result = subst (λ (p : ℕ). slice_get c.args.names.now (entry_of p) ≡ Some w.at-name.result) at w.at-name.ensures in
-          let kept : IsMarked x c.args.epoch block = subst (λ (s : Segment). IsMarked s c.args.epoch block) is (w.is_marked.ensures.0 w.if-not-is_marked.false) in
-          let had : c.if-in_use.had.items ≡ c.loop-block.had.items ++ w.at-name.result ∷ [] = ap (λ (v : Vec Name Global). v.items) w.had-is ∙ w.push_reserved.ensures.items in
-          let had_len : vec_len c.if-in_use.had ≡ vec_len c.loop-block.had + 1 = ap (λ (v : Vec Name Global). vec_len v) w.had-is ∙ w.push_reserved.ensures.len in
-          let had_room : vec_capacity c.if-in_use.had ≡ vec_capacity c.loop-block.had = ap (λ (v : Vec Name Global). vec_capacity v) w.had-is ∙ w.push_reserved.ensures.capacity in
+          let named : name block ≡ Some w.at-name.result = subst (λ (p : ℕ). slice_get c.args.names.now (entry_of p) ≡
+          Some w.at-name.result) at w.at-name.ensures in
+          let kept : IsMarked x c.args.epoch block = subst (λ (s : Segment).
+          IsMarked s c.args.epoch block) is (w.is_marked.ensures.0 w.if-not-is_marked.false) in
+          let had : c.if-in_use.had.items ≡ c.loop-block.had.items ++ w.at-name.result ∷ [] = ap (λ (v : Vec Name Global). v.items) w.had-is ∙
+          w.push_reserved.ensures.items in
+          let had_len : vec_len c.if-in_use.had ≡ vec_len c.loop-block.had + 1 = ap (λ (v : Vec Name Global). vec_len v) w.had-is ∙
+          w.push_reserved.ensures.len in
+          let had_room : vec_capacity c.if-in_use.had ≡ vec_capacity c.loop-block.had = ap (λ (v : Vec Name Global). vec_capacity v) w.had-is ∙
+          w.push_reserved.ensures.capacity in
           let freed_len : vec_len c.if-in_use.freed ≡ vec_len c.loop-block.freed = ap (λ (v : Vec Name Global). vec_len v) w.freed-is in
           record {
-            had = one_listed (InUse x) name block w.at-name.result c.args.had.now.items c.loop-block.had.items c.if-in_use.had.items used named had c.loop-block.invariant.had;
+            had = one_listed (InUse x) name block w.at-name.result c.args.had.now.items c.loop-block.had.items c.if-in_use.had.items used named had
+                c.loop-block.invariant.had;
             had_room = had_room ∙ c.loop-block.invariant.had_room;
             had_few = omega (arith, had_len, had_few);
             freed = one_passed_over (IsLost x c.args.epoch) name block c.args.freed.now.items c.if-in_use.freed.items (λ lost. lost.1 kept)
-                (subst (λ (v : Vec Name Global). ListsBlocks (IsLost x c.args.epoch) name block c.args.freed.now.items v.items) (sym w.freed-is) c.loop-block.invariant.freed);
+                (subst (λ (v : Vec Name Global).
+                ListsBlocks (IsLost x c.args.epoch) name block c.args.freed.now.items v.items) (sym w.freed-is) c.loop-block.invariant.freed);
             freed_room = ap (λ (v : Vec Name Global). vec_capacity v) w.freed-is ∙ c.loop-block.invariant.freed_room;
             freed_few = omega (arith, freed_len, freed_few);
           }
@@ -94,7 +117,8 @@ loop-block-preserved c =
             had_room = ap (λ (v : Vec Name Global). vec_capacity v) w.had-is ∙ c.loop-block.invariant.had_room;
             had_few = omega (arith, had_len, had_few);
             freed = one_passed_over (IsLost x c.args.epoch) name block c.args.freed.now.items c.if-in_use.freed.items (λ lost. unused lost.0)
-                (subst (λ (v : Vec Name Global). ListsBlocks (IsLost x c.args.epoch) name block c.args.freed.now.items v.items) (sym w.freed-is) c.loop-block.invariant.freed);
+                (subst (λ (v : Vec Name Global).
+                ListsBlocks (IsLost x c.args.epoch) name block c.args.freed.now.items v.items) (sym w.freed-is) c.loop-block.invariant.freed);
             freed_room = ap (λ (v : Vec Name Global). vec_capacity v) w.freed-is ∙ c.loop-block.invariant.freed_room;
             freed_few = omega (arith, freed_len, freed_few);
           }

@@ -12,10 +12,12 @@ pub returns-then-is_err-clause-sorted : goal.returns-then-is_err-clause-sorted
 returns-then-is_err-clause-sorted c = c.sort_unstable_by_key.ensures.sorted key_of (answers_always _ _ _ (λ f a r g h. search rules))
 
 pub returns-else-is_err-clause-sorted : goal.returns-else-is_err-clause-sorted
-returns-else-is_err-clause-sorted c = where_ok c.sort_by_key.result c.sort_by_key.ensures.sorted (sym c.is_err.ensures.value ∙ c.if-is_err.false) key_of (answers_always _ _ _ (λ f a r g h. search rules))
+returns-else-is_err-clause-sorted c = where_ok c.sort_by_key.result c.sort_by_key.ensures.sorted (sym c.is_err.ensures.value ∙
+    c.if-is_err.false) key_of (answers_always _ _ _ (λ f a r g h. search rules))
 
 pub returns-then-is_err-clause-permutation : goal.returns-then-is_err-clause-permutation
-returns-then-is_err-clause-permutation c = IsPermutation-trans _ _ _ c.move_blocks.ensures (IsPermutation-trans _ _ _ c.sort_by_key.ensures.permutation c.sort_unstable_by_key.ensures.permutation)
+returns-then-is_err-clause-permutation c =
+    IsPermutation-trans _ _ _ c.move_blocks.ensures (IsPermutation-trans _ _ _ c.sort_by_key.ensures.permutation c.sort_unstable_by_key.ensures.permutation)
 
 pub returns-else-is_err-clause-permutation : goal.returns-else-is_err-clause-permutation
 returns-else-is_err-clause-permutation c = IsPermutation-trans _ _ _ c.move_blocks.ensures c.sort_by_key.ensures.permutation

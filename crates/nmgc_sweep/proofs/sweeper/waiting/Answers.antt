@@ -10,7 +10,8 @@ loop-number-preserved c =
     elim c.if-eq.branch [
       | then-eq+in_ok-push w ↦
           let waits : IsWaiting c.args.segments.now c.loop-number.number = search rules in
-          let items : c.if-eq.numbers.items ≡ c.loop-number.numbers.items ++ c.loop-number.number ∷ [] = ap (λ (v : Vec ℕ Global). v.items) w.numbers-is ∙ w.in_ok-push.ensures.items in
+          let items : c.if-eq.numbers.items ≡ c.loop-number.numbers.items ++ c.loop-number.number ∷ [] =
+          ap (λ (v : Vec ℕ Global). v.items) w.numbers-is ∙ w.in_ok-push.ensures.items in
           subst (λ (l : List ℕ). ListsNumbers (λ n. (n < c.loop-number.number + 1) × IsWaiting c.args.segments.now n) l) (sym items)
           (below_more c.args.segments.now c.loop-number.number c.loop-number.numbers.items waits c.loop-number.invariant)
       | else-eq w ↦

@@ -19,4 +19,6 @@ store-requires g c =
 pub loop-weak-preserved : goal.loop-weak-preserved
 loop-weak-preserved g c =
     let ws = g.W.HeapWords.words c.args.words.now in
-    c.store.ensures ∙ ap (λ (l : List ℕ). set l (value_place (get_or c.args.dying.now c.loop-weak.weak-index nobody).at.0) 0) c.loop-weak.invariant ∙ sym (cleared_more ws c.args.dying.now c.loop-weak.weak-index nobody c.loop-weak-test.true)
+    c.store.ensures ∙ ap (λ (l : List ℕ).
+    set l (value_place (get_or c.args.dying.now c.loop-weak.weak-index nobody).at.0) 0) c.loop-weak.invariant ∙
+    sym (cleared_more ws c.args.dying.now c.loop-weak.weak-index nobody c.loop-weak-test.true)

@@ -16,13 +16,17 @@ loop-weak-init g c = record {
   words = refl;
   capacity = refl;
   few = omega (arith, c.requires.none);
-  each = λ o h. subst (λ (l : List OldWeak). IsFinding o c.args.list.now l 0) (sym c.requires.empty) (finding_begins o (g.W.HeapWords.words c.args.words.now) c.args.segments.now c.args.marker.now c.args.list.now h);
+  each = λ o h. subst (λ (l : List OldWeak).
+      IsFinding o c.args.list.now l 0) (sym c.requires.empty)
+      (finding_begins o (g.W.HeapWords.words c.args.words.now) c.args.segments.now c.args.marker.now c.args.list.now h);
 }
 
 pub is_lost-requires : goal.is_lost-requires
 is_lost-requires g c =
     let x = get_or c.args.list.now c.loop-weak.weak-index nobody in
-    subst (λ (l : List ℕ). IsWithin l x.at.0) (sym c.loop-weak.invariant.words) (c.requires.within x (at_contains c.args.list.now c.loop-weak.weak-index nobody c.loop-weak-test.true))
+    subst (λ (l : List ℕ).
+    IsWithin l x.at.0) (sym c.loop-weak.invariant.words) (c.requires.within x
+    (at_contains c.args.list.now c.loop-weak.weak-index nobody c.loop-weak-test.true))
 
 -- what the test told, at the words of the start
 told_at : (words now : List ℕ) (P : ℕ → Type 0) (at : ℕ) → now ≡ words → P (slice_index now (key_place at)) → P (slice_index words (key_place at))
@@ -44,15 +48,19 @@ loop-weak-preserved g c =
         few = rw w.dying-is (let l = w.push_reserved.ensures.len in let f = inv.few in omega arith);
         each = λ o h.
             let lost = told_at ws now (λ y. IsLostAt s k.epoch x.at.0 y) x.at.0 inv.words (c.is_lost.ensures.lost.0 w.if-is_lost.true) in
-            rw (w.dying-is, w.push_reserved.ensures.items) (found_one o ws s k c.args.list.now c.loop-weak.dying.items i nobody h c.loop-weak-test.true c.is_lost.ensures.epoch (inv.each o h) lost);
+            rw (w.dying-is, w.push_reserved.ensures.items) (found_one o ws s k c.args.list.now c.loop-weak.dying.items i nobody h
+            c.loop-weak-test.true c.is_lost.ensures.epoch (inv.each o h) lost);
       }
       | else-is_lost w ↦ record {
         words = c.is_lost.ensures.words ∙ inv.words;
         capacity = rw w.dying-is inv.capacity;
         few = rw w.dying-is (let f = inv.few in omega arith);
         each = λ o h.
-            let hidden = λ (lost : IsLostAt s k.epoch x.at.0 (slice_index ws (key_place x.at.0))). let t = c.is_lost.ensures.lost.1 (told_at now ws (λ y. IsLostAt s k.epoch x.at.0 y) x.at.0 (sym inv.words) lost) in let f = w.if-is_lost.false in (let bad : ⊥ = cc in bad) in
-            rw w.dying-is (found_none o ws s k c.args.list.now c.loop-weak.dying.items i nobody h c.loop-weak-test.true c.is_lost.ensures.epoch (inv.each o h) hidden);
+            let hidden = λ (lost : IsLostAt s k.epoch x.at.0 (slice_index ws (key_place x.at.0))).
+            let t = c.is_lost.ensures.lost.1 (told_at now ws (λ y. IsLostAt s k.epoch x.at.0 y) x.at.0 (sym inv.words) lost) in
+            let f = w.if-is_lost.false in (let bad : ⊥ = cc in bad) in
+            rw w.dying-is (found_none o ws s k c.args.list.now c.loop-weak.dying.items i nobody h c.loop-weak-test.true c.is_lost.ensures.epoch
+            (inv.each o h) hidden);
       }
     ]
 

@@ -13,5 +13,6 @@ pub returns-clause-marked : goal.returns-clause-marked
 returns-clause-marked g c =
     let segments = c.args.segments.now in
     let marked = c.is_key_marked.result in
-    let by_epoch : IsTrue marked ↔ IsKeyMarkedWord segments c.args.marker.now.epoch c.load-key.result = subst (λ (e : ℕ). IsTrue marked ↔ IsKeyMarkedWord segments e c.load-key.result) c.epoch.ensures.epoch c.is_key_marked.ensures in
+    let by_epoch : IsTrue marked ↔ IsKeyMarkedWord segments c.args.marker.now.epoch c.load-key.result = subst (λ (e : ℕ). IsTrue marked ↔
+    IsKeyMarkedWord segments e c.load-key.result) c.epoch.ensures.epoch c.is_key_marked.ensures in
     subst (λ (w : ℕ). IsTrue marked ↔ IsKeyMarkedWord segments c.args.marker.now.epoch w) c.load-key.ensures.word by_epoch

@@ -9,7 +9,8 @@ returns-then-not-is_of_snapshot-clause-marked g c = (0, marked_none c.args.segme
 
 pub returns-then-not-is_of_snapshot-clause-passed : goal.returns-then-not-is_of_snapshot-clause-passed
 returns-then-not-is_of_snapshot-clause-passed g c = λ o weaks h here.
-    none_kept o (g.W.HeapWords.words c.args.words.now) c.args.segments.now c.args.marker.now weaks c.args.weak h here (inr (λ snap. let t = c.is_of_snapshot.ensures.1 snap in let f = c.if-not-is_of_snapshot.true in cc))
+    none_kept o (g.W.HeapWords.words c.args.words.now) c.args.segments.now c.args.marker.now weaks c.args.weak h here (inr (λ snap.
+    let t = c.is_of_snapshot.ensures.1 snap in let f = c.if-not-is_of_snapshot.true in cc))
 
 pub returns-then-not-has_marked_key-clause-marked : goal.returns-then-not-has_marked_key-clause-marked
 returns-then-not-has_marked_key-clause-marked g c = (0, marked_none c.args.segments.now c.args.marker.now c.requires.room)
@@ -17,21 +18,38 @@ returns-then-not-has_marked_key-clause-marked g c = (0, marked_none c.args.segme
 pub returns-then-not-has_marked_key-clause-passed : goal.returns-then-not-has_marked_key-clause-passed
 returns-then-not-has_marked_key-clause-passed g c = λ o weaks h here.
     let snap = c.is_of_snapshot.ensures.0 c.if-not-is_of_snapshot.false in
-    none_kept o (g.W.HeapWords.words c.args.words.now) c.args.segments.now c.args.marker.now weaks c.args.weak h here (inl (c.has_marked_key.ensures.epoch, (snap, λ m. let t = c.has_marked_key.ensures.marked.1 m in let f = c.if-not-has_marked_key.true in (let bad : ⊥ = cc in bad))))
+    none_kept o (g.W.HeapWords.words c.args.words.now) c.args.segments.now c.args.marker.now weaks c.args.weak h here
+    (inl (
+      c.has_marked_key.ensures.epoch,
+      (
+        snap,
+        λ m. let t = c.has_marked_key.ensures.marked.1 m in let f = c.if-not-has_marked_key.true in
+            (let bad : ⊥ = cc in bad),
+      ),
+    ))
 
 pub keep-requires-clause-can : goal.keep-requires-clause-can
 keep-requires-clause-can g c =
     let ws = g.W.HeapWords.words c.args.words.now in
     let r = c.requires.can in
     let snap = c.is_of_snapshot.ensures.0 c.if-not-is_of_snapshot.false in
-    let k = can_keep r.0 ws c.args.segments.now c.args.marker.now r.1 c.args.weak r.2 r.3 c.has_marked_key.ensures.epoch snap (c.has_marked_key.ensures.marked.0 c.if-not-has_marked_key.false) in
-    (r.0, r.1, c.args.weak.weak, subst (λ (l : List ℕ). CanKeep r.0 l c.args.segments.now c.args.marker.now r.1 c.args.weak.at.0 c.args.weak.weak) (sym c.has_marked_key.ensures.words) k)
+    let k = can_keep r.0 ws c.args.segments.now c.args.marker.now r.1 c.args.weak r.2 r.3 c.has_marked_key.ensures.epoch snap
+    (c.has_marked_key.ensures.marked.0 c.if-not-has_marked_key.false) in (
+      r.0,
+      r.1,
+      c.args.weak.weak,
+      subst (λ (l : List ℕ).
+          CanKeep r.0 l c.args.segments.now c.args.marker.now r.1 c.args.weak.at.0 c.args.weak.weak) (sym c.has_marked_key.ensures.words) k,
+    )
 
 pub returns-clause-passed : goal.returns-clause-passed
 returns-clause-passed g c = λ o weaks h here.
     let ws = g.W.HeapWords.words c.args.words.now in
     let snap = c.is_of_snapshot.ensures.0 c.if-not-is_of_snapshot.false in
-    let k = can_keep o ws c.args.segments.now c.args.marker.now weaks c.args.weak h here c.has_marked_key.ensures.epoch snap (c.has_marked_key.ensures.marked.0 c.if-not-has_marked_key.false) in
-    let can = subst (λ (l : List ℕ). CanKeep o l c.args.segments.now c.args.marker.now weaks c.args.weak.at.0 c.args.weak.weak) (sym c.has_marked_key.ensures.words) k in
+    let k = can_keep o ws c.args.segments.now c.args.marker.now weaks c.args.weak h here c.has_marked_key.ensures.epoch snap
+    (c.has_marked_key.ensures.marked.0 c.if-not-has_marked_key.false) in
+    let can = subst (λ (l : List ℕ).
+    CanKeep o l c.args.segments.now c.args.marker.now weaks c.args.weak.at.0 c.args.weak.weak) (sym c.has_marked_key.ensures.words) k in
     let kept = c.keep.ensures.kept o weaks c.args.weak.weak can in
-    one_kept o ws c.keep.new.segments c.keep.new.marker weaks c.args.weak.weak c.args.segments.now c.args.marker.now h (subst (λ (l : List ℕ). HasKept o l c.keep.new.segments c.keep.new.marker weaks c.args.weak.weak) c.has_marked_key.ensures.words kept)
+    one_kept o ws c.keep.new.segments c.keep.new.marker weaks c.args.weak.weak c.args.segments.now c.args.marker.now h (subst (λ (l : List ℕ).
+    HasKept o l c.keep.new.segments c.keep.new.marker weaks c.args.weak.weak) c.has_marked_key.ensures.words kept)

@@ -38,7 +38,8 @@ load-finaliser-requires g c =
 
 -- the word that was loaded
 word_is : (words now : List ℕ) (at w : ℕ) → now ≡ words → w ≡ slice_index now (at + 4) → w ≡ slice_index words (finaliser_place at)
-word_is words now at w same e = e ∙ ap (λ (l : List ℕ). slice_index l (at + 4)) same ∙ ap (λ i. slice_index words i) (let z : at + 4 ≡ finaliser_place at = omega arith in z)
+word_is words now at w same e = e ∙ ap (λ (l : List ℕ). slice_index l (at + 4)) same ∙
+    ap (λ i. slice_index words i) (let z : at + 4 ≡ finaliser_place at = omega arith in z)
 
 pub mark_word-requires-clause-room : goal.mark_word-requires-clause-room
 mark_word-requires-clause-room g c = c.loop-weak.invariant.marked.1.room
@@ -49,7 +50,8 @@ mark_word-requires-clause-small g c = λ to e.
     let x = get_or c.args.dying.now c.loop-weak.weak-index nobody in
     let place : finaliser_place x.at.0 ≡ x.at.0 + 2 + 2 = omega arith in
     let within = c.requires.within x (at_contains c.args.dying.now c.loop-weak.weak-index nobody c.loop-weak-test.true) in
-    within.small 2 to (omega arith) (ap (λ (i : ℕ). slice_index ws i) (sym place) ∙ sym (word_is ws (g.W.HeapWords.words c.loop-weak.words) x.at.0 c.load-finaliser.result c.loop-weak.invariant.words c.load-finaliser.ensures.word) ∙ e)
+    within.small 2 to (omega arith) (ap (λ (i : ℕ). slice_index ws i) (sym place) ∙
+    sym (word_is ws (g.W.HeapWords.words c.loop-weak.words) x.at.0 c.load-finaliser.result c.loop-weak.invariant.words c.load-finaliser.ensures.word) ∙ e)
 
 pub loop-weak-preserved : goal.loop-weak-preserved
 loop-weak-preserved g c =
@@ -60,11 +62,16 @@ loop-weak-preserved g c =
     let w = word_is ws (g.W.HeapWords.words c.loop-weak.words) x.at.0 c.load-finaliser.result inv.words c.load-finaliser.ensures.word in
     record {
       words = c.load-finaliser.ensures.same ∙ inv.words;
-      deaths = c.push_reserved.ensures.items ∙ ap (λ (l : List Death). l ++ death_with x c.load-finaliser.result ∷ []) inv.deaths ∙ ap (λ (y : ℕ). deaths_of ws (take i c.args.dying.now) ++ death_with x y ∷ []) w ∙ sym (deaths_more ws c.args.dying.now i nobody c.loop-weak-test.true);
+      deaths = c.push_reserved.ensures.items ∙ ap (λ (l : List Death). l ++ death_with x c.load-finaliser.result ∷ []) inv.deaths ∙
+          ap (λ (y : ℕ). deaths_of ws (take i c.args.dying.now) ++ death_with x y ∷ []) w ∙
+          sym (deaths_more ws c.args.dying.now i nobody c.loop-weak-test.true);
       capacity = c.push_reserved.ensures.capacity ∙ inv.capacity;
-      marked = marked_sum c.args.segments.now c.loop-weak.segments c.mark_word.new.segments c.args.marker.now c.loop-weak.marker c.mark_word.new.self inv.marked (0, c.mark_word.ensures.marked);
+      marked = marked_sum c.args.segments.now c.loop-weak.segments c.mark_word.new.segments c.args.marker.now c.loop-weak.marker
+          c.mark_word.new.self inv.marked (0, c.mark_word.ensures.marked);
       turns = c.mark_word.ensures.turns ∙ inv.turns;
-      each = λ o weaks h. saving_more o ws c.args.segments.now c.args.marker.now weaks c.args.dying.now h c.loop-weak.segments c.mark_word.new.segments c.loop-weak.marker c.mark_word.new.self i x c.load-finaliser.result (inv.each o weaks h) (get_default c.args.dying.now i nobody c.loop-weak-test.true) w (λ m t. c.mark_word.ensures.tied o m t);
+      each = λ o weaks h. saving_more o ws c.args.segments.now c.args.marker.now weaks c.args.dying.now h c.loop-weak.segments
+          c.mark_word.new.segments c.loop-weak.marker c.mark_word.new.self i x c.load-finaliser.result (inv.each o weaks h)
+          (get_default c.args.dying.now i nobody c.loop-weak-test.true) w (λ m t. c.mark_word.ensures.tied o m t);
     }
 
 pub finish-requires-clause-room : goal.finish-requires-clause-room
@@ -80,13 +87,18 @@ finish-requires-clause-ready g c =
     (remade r.0 b.opened b.m, subst (λ (l : List ℕ). IsReady (remade r.0 b.opened b.m) l c.loop-weak.segments c.loop-weak.marker) (sym inv.words) ready)
 
 pub returns-clause-marked : goal.returns-clause-marked
-returns-clause-marked g c = marked_sum c.args.segments.now c.loop-weak.segments c.finish.new.segments c.args.marker.now c.loop-weak.marker c.finish.new.self c.loop-weak.invariant.marked c.finish.ensures.marked
+returns-clause-marked g c =
+    marked_sum c.args.segments.now c.loop-weak.segments c.finish.new.segments c.args.marker.now c.loop-weak.marker c.finish.new.self
+    c.loop-weak.invariant.marked c.finish.ensures.marked
 
 pub returns-clause-saved : goal.returns-clause-saved
 returns-clause-saved g c = λ o weaks h.
     let ws = g.W.HeapWords.words c.args.words.now in
     let inv = c.loop-weak.invariant in
-    let end : c.loop-weak.weak-index ≡ length c.args.dying.now = (let past = c.loop-weak-test.false in let le = c.loop-weak.auto.weak-index-end in omega arith) in
-    let b = subst (λ (n : ℕ). IsSaving o ws c.args.segments.now c.args.marker.now weaks c.args.dying.now h c.loop-weak.segments c.loop-weak.marker n) end (inv.each o weaks h) in
-    saving_done o ws c.args.segments.now c.args.marker.now weaks c.args.dying.now h c.loop-weak.segments c.finish.new.segments c.loop-weak.marker c.finish.new.self b
+    let end : c.loop-weak.weak-index ≡ length c.args.dying.now = (let past = c.loop-weak-test.false in let le = c.loop-weak.auto.weak-index-end in
+    omega arith) in
+    let b = subst (λ (n : ℕ).
+    IsSaving o ws c.args.segments.now c.args.marker.now weaks c.args.dying.now h c.loop-weak.segments c.loop-weak.marker n) end (inv.each o weaks h) in
+    saving_done o ws c.args.segments.now c.args.marker.now weaks c.args.dying.now h c.loop-weak.segments c.finish.new.segments c.loop-weak.marker
+    c.finish.new.self b
     (λ p ready. c.finish.ensures.finished p (subst (λ (l : List ℕ). IsReady p l c.loop-weak.segments c.loop-weak.marker) (sym inv.words) ready))

@@ -14,5 +14,6 @@ invariant-loop-weak g l = record {
   capacity : vec_capacity l.deaths ≡ vec_capacity l.fn.deaths;
   marked : (count : ℕ) × HasMarked l.fn.segments l.segments l.fn.marker l.marker count;
   turns : l.marker.turns ≡ l.fn.marker.turns;
-  each : (o : Opening) (weaks : List Place) (h : CanRescue o (g.W.HeapWords.words l.fn.words) l.fn.segments l.fn.marker weaks l.dying) → IsSaving o (g.W.HeapWords.words l.fn.words) l.fn.segments l.fn.marker weaks l.dying h l.segments l.marker l.weak-index;
+  each : (o : Opening) (weaks : List Place) (h : CanRescue o (g.W.HeapWords.words l.fn.words) l.fn.segments l.fn.marker weaks l.dying) →
+      IsSaving o (g.W.HeapWords.words l.fn.words) l.fn.segments l.fn.marker weaks l.dying h l.segments l.marker l.weak-index;
 }

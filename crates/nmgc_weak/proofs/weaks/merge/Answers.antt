@@ -18,7 +18,8 @@ loop-place-preserved-then-is_old_next c =
     let old = c.is_old_next.ensures.old c.if-is_old_next.true in
     let x : OldWeak = get_or list i nobody in
     let e : slice_get list i ≡ Some x = slice_get-get_or list i nobody old.0 in
-    let merging : IsMerging (c.loop-place.all.items ++ x ∷ []) (drop (i + 1) list ++ drop j fresh) (list ++ fresh) = takes_old list fresh c.requires.ordered.0 c.requires.ordered.1 c.loop-place.all.items (list ++ fresh) i j x inv.merging e (λ y f. old.1 x y e f) in
+    let merging : IsMerging (c.loop-place.all.items ++ x ∷ []) (drop (i + 1) list ++ drop j fresh) (list ++ fresh) =
+    takes_old list fresh c.requires.ordered.0 c.requires.ordered.1 c.loop-place.all.items (list ++ fresh) i j x inv.merging e (λ y f. old.1 x y e f) in
     record {
       merging = subst (λ (l : List OldWeak). IsMerging l (drop (i + 1) list ++ drop j fresh) (list ++ fresh)) (sym c.push_reserved.ensures.items) merging;
       capacity = c.push_reserved.ensures.capacity ∙ inv.capacity;
@@ -37,9 +38,12 @@ loop-place-preserved c =
     let new = c.is_old_next.ensures.new c.if-is_old_next.false in
     let y : OldWeak = get_or fresh j nobody in
     let e : slice_get fresh j ≡ Some y = slice_get-get_or fresh j nobody new.0 in
-    let merging : IsMerging (c.loop-place.all.items ++ y ∷ []) (drop i list ++ drop (j + 1) fresh) (list ++ fresh) = takes_new list fresh c.requires.ordered.0 c.requires.ordered.1 c.loop-place.all.items (list ++ fresh) i j y inv.merging e (λ x f. new_before list fresh c.requires.new i j x y f e (new.1 x y f e)) in
+    let merging : IsMerging (c.loop-place.all.items ++ y ∷ []) (drop i list ++ drop (j + 1) fresh) (list ++ fresh) =
+    takes_new list fresh c.requires.ordered.0 c.requires.ordered.1 c.loop-place.all.items (list ++ fresh) i j y inv.merging e (λ x f.
+    new_before list fresh c.requires.new i j x y f e (new.1 x y f e)) in
     record {
-      merging = subst (λ (l : List OldWeak). IsMerging l (drop i list ++ drop (j + 1) fresh) (list ++ fresh)) (sym c.push_reserved-else-is_old_next.ensures.items) merging;
+      merging = subst (λ (l : List OldWeak). IsMerging l (drop i list ++ drop (j + 1) fresh) (list ++
+          fresh)) (sym c.push_reserved-else-is_old_next.ensures.items) merging;
       capacity = c.push_reserved-else-is_old_next.ensures.capacity ∙ inv.capacity;
       long = let l = c.push_reserved-else-is_old_next.ensures.len in let was = inv.long in omega (arith, l, was);
       place_within = inv.place_within;

@@ -25,4 +25,5 @@ loop-self-preserved c = record { reviving = c.in_ok-mark_weaks-2.ensures.revivin
 
 pub returns : goal.returns
 returns c =
-    first_found c.args.core.now c.args.weaks.now c.requires.waiting c.loop-self.self c.loop-self.invariant.reviving c.loop-self.invariant.revived (empty_list c.loop-self.self.work c.items.result.now c.items.ensures c.loop-self-test.ensures)
+    first_found c.args.core.now c.args.weaks.now c.requires.waiting c.loop-self.self c.loop-self.invariant.reviving c.loop-self.invariant.revived
+    (empty_list c.loop-self.self.work c.items.result.now c.items.ensures c.loop-self-test.ensures)

@@ -11,4 +11,5 @@ invariant_of-self-in-Err c =
     let same = c.self-2.view_is ∙ c.in-Err.ensures.err in
     let grown : c.self-2.inside.finalised ≡ c.extend.new.self = ap (λ (s : State). s.finalised) same in
     core_back c.self.inside.marks c.self-2.inside.marks _ _ c.extend.new.self c.truncate.new.self c.self.invariant c.self-2.invariant same
-    (front_taken c.self.inside.finalised c.self-2.inside.finalised c.truncate.new.self c.args.ends.now _ (grown ∙ c.in_ok-extend.ensures.ok) (ap length c.items-before.ensures) c.truncate.ensures)
+    (front_taken c.self.inside.finalised c.self-2.inside.finalised c.truncate.new.self c.args.ends.now _ (grown ∙
+    c.in_ok-extend.ensures.ok) (ap length c.items-before.ensures) c.truncate.ensures)

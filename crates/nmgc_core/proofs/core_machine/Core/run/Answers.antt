@@ -14,7 +14,8 @@ loop-event-init c = record {
 
 pub loop-event-preserved : goal.loop-event-preserved
 loop-event-preserved c = record {
-  run = run_event c.args.world c.args.events.now c.loop-event.event-index c.event-item.result c.loop-event.core c.step.new.self c.in_ok-step.field-0 c.loop-event.invariant.start c.loop-event-test.true c.event-item.is c.loop-event.invariant.run c.in_ok-step.ensures.done;
+  run = run_event c.args.world c.args.events.now c.loop-event.event-index c.event-item.result c.loop-event.core c.step.new.self c.in_ok-step.field-0
+      c.loop-event.invariant.start c.loop-event-test.true c.event-item.is c.loop-event.invariant.run c.in_ok-step.ensures.done;
   start = c.loop-event.invariant.start;
   closed = c.in_ok-step.ensures.closed;
 }

@@ -19,9 +19,11 @@ record HaveLeft (was : List Mutator) (after : List Receiver) (then : Vec Mutator
   mutators : HaveForgotten was then.items
   lines : (k : ℕ) (n : Mutator) → slice_get then.items k ≡ Some n → IsLined after k n.sender
 
-left : (own : Vec Mutator Global) (lent new : List Mutator) (inbox after : List Receiver) → lent ≡ own.items → HaveForgottenSoFar (length lent) inbox after lent new → HaveLeft own.items after (with_items own new)
+left : (own : Vec Mutator Global) (lent new : List Mutator) (inbox after : List Receiver) → lent ≡ own.items →
+    HaveForgottenSoFar (length lent) inbox after lent new → HaveLeft own.items after (with_items own new)
 left own lent new inbox after same h =
-    let there : HaveForgottenSoFar (length own.items) inbox after own.items new = subst (λ (l : List Mutator). HaveForgottenSoFar (length l) inbox after l new) same h in
+    let there : HaveForgottenSoFar (length own.items) inbox after own.items new =
+    subst (λ (l : List Mutator). HaveForgottenSoFar (length l) inbox after l new) same h in
     let back : (with_items own new).items ≡ new = vec_back own new there.count in
     record {
       mutators = subst (λ (l : List Mutator). HaveForgotten own.items l) (sym back) (all_forgot inbox after own.items new there);
@@ -40,20 +42,26 @@ returns-in-Marking c =
     let same = c.as_mut_slice-mutators.ensures.value in
     let h = c.add_all.ensures.forgot in
     let l = left own.mutators c.as_mut_slice-mutators.result.now c.add_all.new.mutators own.inbox c.add_all.new.inbox same h in
-    let added = subst (λ (ms : List Mutator). HasAdded (remembered_by ms) own.segments c.add_all.new.segments c.in-Marking.marking.marker c.add_all.new.marker) same c.add_all.ensures.added in
+    let added = subst (λ (ms : List Mutator).
+    HasAdded (remembered_by ms) own.segments c.add_all.new.segments c.in-Marking.marking.marker c.add_all.new.marker) same c.add_all.ensures.added in
     record {
       rest = refl;
       inbox = h.inbox_is;
       mutators = l.mutators;
       lines = l.lines;
-      adds = subst (λ (p : Progress). AddsTo (remembered_by own.mutators.items) own.segments c.add_all.new.segments p (doing.Marking (record c.in-Marking.marking { marker = c.add_all.new.marker }))) (sym c.in-Marking.is) (c.add_all.new.marker, refl, added, c.add_all.ensures.sound);
+      adds = subst (λ (p : Progress).
+          AddsTo (remembered_by own.mutators.items) own.segments c.add_all.new.segments p (doing.Marking (record c.in-Marking.marking {
+            marker =
+                c.add_all.new.marker;
+          }))) (sym c.in-Marking.is) (c.add_all.new.marker, refl, added, c.add_all.ensures.sound);
     }
 
 pub returns : goal.returns
 returns c =
     let own = c.args.self.now in
     let h = c.forget_all.ensures in
-    let l = left own.mutators c.as_mut_slice-mutators.result.now c.forget_all.new.mutators own.inbox c.forget_all.new.inbox c.as_mut_slice-mutators.ensures.value h in
+    let l = left own.mutators c.as_mut_slice-mutators.result.now c.forget_all.new.mutators own.inbox c.forget_all.new.inbox
+    c.as_mut_slice-mutators.ensures.value h in
     record {
       rest = refl;
       inbox = h.inbox_is;

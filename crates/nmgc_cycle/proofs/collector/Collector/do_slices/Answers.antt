@@ -15,7 +15,12 @@ use Rattle.nmgc_cycle.proofs.collector.Collector.do_slices.Goals as goal
 
 pub start-round-requires-clause-opens : goal.start-round-requires-clause-opens
 start-round-requires-clause-opens g c =
-    let laws : CanOpenRounds = record { quiet = c.a_rest_opens_a_round.ensures; marks = c.a_rest_opens_a_round-2.ensures; rests = c.the_heap_goes_on.ensures.rests; snapshot = c.a_heap_ties_by_blocks.ensures.snapshot } in
+    let laws : CanOpenRounds = record {
+      quiet = c.a_rest_opens_a_round.ensures;
+      marks = c.a_rest_opens_a_round-2.ensures;
+      rests = c.the_heap_goes_on.ensures.rests;
+      snapshot = c.a_heap_ties_by_blocks.ensures.snapshot;
+    } in
     let script = c.args.script.now in
     let own : Collector = c.args.self.now in
     let o = c.args.opening.now.value in
@@ -24,7 +29,12 @@ start-round-requires-clause-opens g c =
 
 pub start-round-requires-clause-layout : goal.start-round-requires-clause-layout
 start-round-requires-clause-layout g c =
-    let laws : CanOpenRounds = record { quiet = c.a_rest_opens_a_round.ensures; marks = c.a_rest_opens_a_round-2.ensures; rests = c.the_heap_goes_on.ensures.rests; snapshot = c.a_heap_ties_by_blocks.ensures.snapshot } in
+    let laws : CanOpenRounds = record {
+      quiet = c.a_rest_opens_a_round.ensures;
+      marks = c.a_rest_opens_a_round-2.ensures;
+      rests = c.the_heap_goes_on.ensures.rests;
+      snapshot = c.a_heap_ties_by_blocks.ensures.snapshot;
+    } in
     let script = c.args.script.now in
     let own : Collector = c.args.self.now in
     let o = c.args.opening.now.value in
@@ -33,7 +43,12 @@ start-round-requires-clause-layout g c =
 
 pub start-round-requires-clause-marking : goal.start-round-requires-clause-marking
 start-round-requires-clause-marking g c =
-    let laws : CanOpenRounds = record { quiet = c.a_rest_opens_a_round.ensures; marks = c.a_rest_opens_a_round-2.ensures; rests = c.the_heap_goes_on.ensures.rests; snapshot = c.a_heap_ties_by_blocks.ensures.snapshot } in
+    let laws : CanOpenRounds = record {
+      quiet = c.a_rest_opens_a_round.ensures;
+      marks = c.a_rest_opens_a_round-2.ensures;
+      rests = c.the_heap_goes_on.ensures.rests;
+      snapshot = c.a_heap_ties_by_blocks.ensures.snapshot;
+    } in
     let script = c.args.script.now in
     let own : Collector = c.args.self.now in
     let o = c.args.opening.now.value in
@@ -42,7 +57,12 @@ start-round-requires-clause-marking g c =
 
 pub seated-requires-clause-count : goal.seated-requires-clause-count
 seated-requires-clause-count g c =
-    let laws : CanOpenRounds = record { quiet = c.a_rest_opens_a_round.ensures; marks = c.a_rest_opens_a_round-2.ensures; rests = c.the_heap_goes_on.ensures.rests; snapshot = c.a_heap_ties_by_blocks.ensures.snapshot } in
+    let laws : CanOpenRounds = record {
+      quiet = c.a_rest_opens_a_round.ensures;
+      marks = c.a_rest_opens_a_round-2.ensures;
+      rests = c.the_heap_goes_on.ensures.rests;
+      snapshot = c.a_heap_ties_by_blocks.ensures.snapshot;
+    } in
     let script = c.args.script.now in
     let own : Collector = c.args.self.now in
     let o = c.args.opening.now.value in
@@ -55,27 +75,44 @@ seated-requires-clause-count g c =
 
 pub work-requires-clause-collector : goal.work-requires-clause-collector
 work-requires-clause-collector g c κs within =
-    let laws : CanOpenRounds = record { quiet = c.a_rest_opens_a_round.ensures; marks = c.a_rest_opens_a_round-2.ensures; rests = c.the_heap_goes_on.ensures.rests; snapshot = c.a_heap_ties_by_blocks.ensures.snapshot } in
+    let laws : CanOpenRounds = record {
+      quiet = c.a_rest_opens_a_round.ensures;
+      marks = c.a_rest_opens_a_round-2.ensures;
+      rests = c.the_heap_goes_on.ensures.rests;
+      snapshot = c.a_heap_ties_by_blocks.ensures.snapshot;
+    } in
     let script = c.args.script.now in
     let own : Collector = c.args.self.now in
     let o = c.args.opening.now.value in
     let may = may_begin laws script own o c.unwrap-words.result c.requires.limits c.requires.opens (sym c.take.ensures.value ∙ c.unwrap-words.ensures) in
     let s = c.start-round.ensures in
-    can_help laws c.a_heap_ties_by_blocks.ensures.begins script own may.run may.limits may.still c.start-round.result.round c.start-round.result.collector s.collector.0 o may.opens s.collector.1
+    can_help laws c.a_heap_ties_by_blocks.ensures.begins script own may.run may.limits may.still c.start-round.result.round
+    c.start-round.result.collector s.collector.0 o may.opens s.collector.1
 
 pub work-requires-clause-inbox : goal.work-requires-clause-inbox
 work-requires-clause-inbox g c κs within =
-    let laws : CanOpenRounds = record { quiet = c.a_rest_opens_a_round.ensures; marks = c.a_rest_opens_a_round-2.ensures; rests = c.the_heap_goes_on.ensures.rests; snapshot = c.a_heap_ties_by_blocks.ensures.snapshot } in
+    let laws : CanOpenRounds = record {
+      quiet = c.a_rest_opens_a_round.ensures;
+      marks = c.a_rest_opens_a_round-2.ensures;
+      rests = c.the_heap_goes_on.ensures.rests;
+      snapshot = c.a_heap_ties_by_blocks.ensures.snapshot;
+    } in
     let script = c.args.script.now in
     let own : Collector = c.args.self.now in
-    let may = may_begin laws script own c.args.opening.now.value c.unwrap-words.result c.requires.limits c.requires.opens (sym c.take.ensures.value ∙ c.unwrap-words.ensures) in
+    let may = may_begin laws script own c.args.opening.now.value c.unwrap-words.result c.requires.limits c.requires.opens
+    (sym c.take.ensures.value ∙ c.unwrap-words.ensures) in
     let many = ap (λ (l : Layout). l.mutators) may.still.kept.layout in
     let count = may.still.kept.inbox in
     omega (arith, many, count)
 
 pub work-requires-clause-mutators : goal.work-requires-clause-mutators
 work-requires-clause-mutators g c κs within =
-    let laws : CanOpenRounds = record { quiet = c.a_rest_opens_a_round.ensures; marks = c.a_rest_opens_a_round-2.ensures; rests = c.the_heap_goes_on.ensures.rests; snapshot = c.a_heap_ties_by_blocks.ensures.snapshot } in
+    let laws : CanOpenRounds = record {
+      quiet = c.a_rest_opens_a_round.ensures;
+      marks = c.a_rest_opens_a_round-2.ensures;
+      rests = c.the_heap_goes_on.ensures.rests;
+      snapshot = c.a_heap_ties_by_blocks.ensures.snapshot;
+    } in
     let script = c.args.script.now in
     let own : Collector = c.args.self.now in
     let o = c.args.opening.now.value in
@@ -90,7 +127,12 @@ work-requires-clause-mutators g c κs within =
 
 pub unseated-requires-clause-mutators : goal.unseated-requires-clause-mutators
 unseated-requires-clause-mutators g c =
-    let laws : CanOpenRounds = record { quiet = c.a_rest_opens_a_round.ensures; marks = c.a_rest_opens_a_round-2.ensures; rests = c.the_heap_goes_on.ensures.rests; snapshot = c.a_heap_ties_by_blocks.ensures.snapshot } in
+    let laws : CanOpenRounds = record {
+      quiet = c.a_rest_opens_a_round.ensures;
+      marks = c.a_rest_opens_a_round-2.ensures;
+      rests = c.the_heap_goes_on.ensures.rests;
+      snapshot = c.a_heap_ties_by_blocks.ensures.snapshot;
+    } in
     let script = c.args.script.now in
     let own : Collector = c.args.self.now in
     let o = c.args.opening.now.value in
@@ -109,7 +151,12 @@ unseated-requires-clause-mutators g c =
 
 pub unseated-requires-clause-seats : goal.unseated-requires-clause-seats
 unseated-requires-clause-seats g c =
-    let laws : CanOpenRounds = record { quiet = c.a_rest_opens_a_round.ensures; marks = c.a_rest_opens_a_round-2.ensures; rests = c.the_heap_goes_on.ensures.rests; snapshot = c.a_heap_ties_by_blocks.ensures.snapshot } in
+    let laws : CanOpenRounds = record {
+      quiet = c.a_rest_opens_a_round.ensures;
+      marks = c.a_rest_opens_a_round-2.ensures;
+      rests = c.the_heap_goes_on.ensures.rests;
+      snapshot = c.a_heap_ties_by_blocks.ensures.snapshot;
+    } in
     let script = c.args.script.now in
     let own : Collector = c.args.self.now in
     let o = c.args.opening.now.value in
@@ -128,7 +175,12 @@ unseated-requires-clause-seats g c =
 
 pub unseated-requires-clause-done : goal.unseated-requires-clause-done
 unseated-requires-clause-done g c =
-    let laws : CanOpenRounds = record { quiet = c.a_rest_opens_a_round.ensures; marks = c.a_rest_opens_a_round-2.ensures; rests = c.the_heap_goes_on.ensures.rests; snapshot = c.a_heap_ties_by_blocks.ensures.snapshot } in
+    let laws : CanOpenRounds = record {
+      quiet = c.a_rest_opens_a_round.ensures;
+      marks = c.a_rest_opens_a_round-2.ensures;
+      rests = c.the_heap_goes_on.ensures.rests;
+      snapshot = c.a_heap_ties_by_blocks.ensures.snapshot;
+    } in
     let script = c.args.script.now in
     let own : Collector = c.args.self.now in
     let o = c.args.opening.now.value in
@@ -147,7 +199,12 @@ unseated-requires-clause-done g c =
 
 pub finish-words-requires-clause-seats : goal.finish-words-requires-clause-seats
 finish-words-requires-clause-seats g c =
-    let laws : CanOpenRounds = record { quiet = c.a_rest_opens_a_round.ensures; marks = c.a_rest_opens_a_round-2.ensures; rests = c.the_heap_goes_on.ensures.rests; snapshot = c.a_heap_ties_by_blocks.ensures.snapshot } in
+    let laws : CanOpenRounds = record {
+      quiet = c.a_rest_opens_a_round.ensures;
+      marks = c.a_rest_opens_a_round-2.ensures;
+      rests = c.the_heap_goes_on.ensures.rests;
+      snapshot = c.a_heap_ties_by_blocks.ensures.snapshot;
+    } in
     let script = c.args.script.now in
     let own : Collector = c.args.self.now in
     let o = c.args.opening.now.value in
@@ -163,13 +220,19 @@ finish-words-requires-clause-seats g c =
     let left = left_in c.seated.new.workers was new c.as_mut_slice.ensures.value c.work.ensures.mutators.count in
     let seat = c.work.new.seat in
     let after : Collector = c.work.new.self in
-    let has = scanned o round script.config.quota c.start-round.result.collector seat own.segments after.segments own.names own.progress after.progress s.collector.0 s.collector.1 c.work.ensures.collector in
+    let has = scanned o round script.config.quota c.start-round.result.collector seat own.segments after.segments own.names own.progress
+    after.progress s.collector.0 s.collector.1 c.work.ensures.collector in
     let seats : c.in_place.result ≡ map seat_of new = c.in_place.ensures ∙ c.unseated.ensures.seats ∙ ap (λ (l : List Worker). map seat_of l) left in
     (seats_at script own o may round new ran seat has c.in_place.result seats, has.at)
 
 pub finish-words-requires-clause-all : goal.finish-words-requires-clause-all
 finish-words-requires-clause-all g c =
-    let laws : CanOpenRounds = record { quiet = c.a_rest_opens_a_round.ensures; marks = c.a_rest_opens_a_round-2.ensures; rests = c.the_heap_goes_on.ensures.rests; snapshot = c.a_heap_ties_by_blocks.ensures.snapshot } in
+    let laws : CanOpenRounds = record {
+      quiet = c.a_rest_opens_a_round.ensures;
+      marks = c.a_rest_opens_a_round-2.ensures;
+      rests = c.the_heap_goes_on.ensures.rests;
+      snapshot = c.a_heap_ties_by_blocks.ensures.snapshot;
+    } in
     let script = c.args.script.now in
     let own : Collector = c.args.self.now in
     let o = c.args.opening.now.value in
@@ -185,13 +248,19 @@ finish-words-requires-clause-all g c =
     let left = left_in c.seated.new.workers was new c.as_mut_slice.ensures.value c.work.ensures.mutators.count in
     let seat = c.work.new.seat in
     let after : Collector = c.work.new.self in
-    let has = scanned o round script.config.quota c.start-round.result.collector seat own.segments after.segments own.names own.progress after.progress s.collector.0 s.collector.1 c.work.ensures.collector in
+    let has = scanned o round script.config.quota c.start-round.result.collector seat own.segments after.segments own.names own.progress
+    after.progress s.collector.0 s.collector.1 c.work.ensures.collector in
     let seats : c.in_place.result ≡ map seat_of new = c.in_place.ensures ∙ c.unseated.ensures.seats ∙ ap (λ (l : List Worker). map seat_of l) left in
     has_all script own o may round new ran seat has c.slices_are_owed.ensures.gathered c.in_place.result seats
 
 pub advance-requires-clause-count : goal.advance-requires-clause-count
 advance-requires-clause-count g c =
-    let laws : CanOpenRounds = record { quiet = c.a_rest_opens_a_round.ensures; marks = c.a_rest_opens_a_round-2.ensures; rests = c.the_heap_goes_on.ensures.rests; snapshot = c.a_heap_ties_by_blocks.ensures.snapshot } in
+    let laws : CanOpenRounds = record {
+      quiet = c.a_rest_opens_a_round.ensures;
+      marks = c.a_rest_opens_a_round-2.ensures;
+      rests = c.the_heap_goes_on.ensures.rests;
+      snapshot = c.a_heap_ties_by_blocks.ensures.snapshot;
+    } in
     let script = c.args.script.now in
     let own : Collector = c.args.self.now in
     let o = c.args.opening.now.value in
@@ -206,12 +275,19 @@ advance-requires-clause-count g c =
     let ran = played script own o round was u c.slices_are_gathered.ensures new c.work.ensures.mutators in
     let left = left_in c.seated.new.workers was new c.as_mut_slice.ensures.value c.work.ensures.mutators.count in
     let done : c.as_slice.result.now ≡ map done_by new = c.as_slice.ensures.value ∙ c.unseated.ensures.done ∙ ap (λ (l : List Worker). map done_by l) left in
-    let positions : c.as_mut_slice-2.result.now ≡ own.positions.items = c.as_mut_slice-2.ensures.value ∙ ap (λ (y : Collector). y.positions.items) c.work.ensures.rest in
-    ap (λ (l : List ℕ). length l) done ∙ counts_are script own may.run may.limits may.still o round new ran.count ran.did ∙ sym (ap (λ (l : List ℕ). length l) positions)
+    let positions : c.as_mut_slice-2.result.now ≡ own.positions.items = c.as_mut_slice-2.ensures.value ∙
+    ap (λ (y : Collector). y.positions.items) c.work.ensures.rest in
+    ap (λ (l : List ℕ). length l) done ∙ counts_are script own may.run may.limits may.still o round new ran.count ran.did ∙
+    sym (ap (λ (l : List ℕ). length l) positions)
 
 pub advance-requires-clause-fits : goal.advance-requires-clause-fits
 advance-requires-clause-fits g c =
-    let laws : CanOpenRounds = record { quiet = c.a_rest_opens_a_round.ensures; marks = c.a_rest_opens_a_round-2.ensures; rests = c.the_heap_goes_on.ensures.rests; snapshot = c.a_heap_ties_by_blocks.ensures.snapshot } in
+    let laws : CanOpenRounds = record {
+      quiet = c.a_rest_opens_a_round.ensures;
+      marks = c.a_rest_opens_a_round-2.ensures;
+      rests = c.the_heap_goes_on.ensures.rests;
+      snapshot = c.a_heap_ties_by_blocks.ensures.snapshot;
+    } in
     let script = c.args.script.now in
     let own : Collector = c.args.self.now in
     let o = c.args.opening.now.value in
@@ -226,12 +302,19 @@ advance-requires-clause-fits g c =
     let ran = played script own o round was u c.slices_are_gathered.ensures new c.work.ensures.mutators in
     let left = left_in c.seated.new.workers was new c.as_mut_slice.ensures.value c.work.ensures.mutators.count in
     let done : c.as_slice.result.now ≡ map done_by new = c.as_slice.ensures.value ∙ c.unseated.ensures.done ∙ ap (λ (l : List Worker). map done_by l) left in
-    let positions : c.as_mut_slice-2.result.now ≡ own.positions.items = c.as_mut_slice-2.ensures.value ∙ ap (λ (y : Collector). y.positions.items) c.work.ensures.rest in
-    subst (λ (l : List ℕ). CanMove l c.as_slice.result.now) (sym positions) (subst (λ (l : List ℕ). CanMove own.positions.items l) (sym done) (positions_fit script own may.run may.limits may.still o round new ran.count ran.did))
+    let positions : c.as_mut_slice-2.result.now ≡ own.positions.items = c.as_mut_slice-2.ensures.value ∙
+    ap (λ (y : Collector). y.positions.items) c.work.ensures.rest in
+    subst (λ (l : List ℕ). CanMove l c.as_slice.result.now) (sym positions) (subst (λ (l : List ℕ).
+    CanMove own.positions.items l) (sym done) (positions_fit script own may.run may.limits may.still o round new ran.count ran.did))
 
 pub returns : goal.returns
 returns g c =
-    let laws : CanOpenRounds = record { quiet = c.a_rest_opens_a_round.ensures; marks = c.a_rest_opens_a_round-2.ensures; rests = c.the_heap_goes_on.ensures.rests; snapshot = c.a_heap_ties_by_blocks.ensures.snapshot } in
+    let laws : CanOpenRounds = record {
+      quiet = c.a_rest_opens_a_round.ensures;
+      marks = c.a_rest_opens_a_round-2.ensures;
+      rests = c.the_heap_goes_on.ensures.rests;
+      snapshot = c.a_heap_ties_by_blocks.ensures.snapshot;
+    } in
     let script = c.args.script.now in
     let own : Collector = c.args.self.now in
     let o = c.args.opening.now.value in
@@ -247,14 +330,28 @@ returns g c =
     let left = left_in c.seated.new.workers was new c.as_mut_slice.ensures.value c.work.ensures.mutators.count in
     let seat = c.work.new.seat in
     let after : Collector = c.work.new.self in
-    let has = scanned o round script.config.quota c.start-round.result.collector seat own.segments after.segments own.names own.progress after.progress s.collector.0 s.collector.1 c.work.ensures.collector in
+    let has = scanned o round script.config.quota c.start-round.result.collector seat own.segments after.segments own.names own.progress
+    after.progress s.collector.0 s.collector.1 c.work.ensures.collector in
     let seats : c.in_place.result ≡ map seat_of new = c.in_place.ensures ∙ c.unseated.ensures.seats ∙ ap (λ (l : List Worker). map seat_of l) left in
     let done : c.as_slice.result.now ≡ map done_by new = c.as_slice.ensures.value ∙ c.unseated.ensures.done ∙ ap (λ (l : List Worker). map done_by l) left in
-    let positions : c.as_mut_slice-2.result.now ≡ own.positions.items = c.as_mut_slice-2.ensures.value ∙ ap (λ (y : Collector). y.positions.items) c.work.ensures.rest in
+    let positions : c.as_mut_slice-2.result.now ≡ own.positions.items = c.as_mut_slice-2.ensures.value ∙
+    ap (λ (y : Collector). y.positions.items) c.work.ensures.rest in
     let same : after.positions ≡ own.positions = ap (λ (y : Collector). y.positions) c.work.ensures.rest in
     let moved : List ℕ = c.advance.new.positions in
     let many : length moved ≡ length own.positions.items = c.advance.ensures.count ∙ ap (λ (l : List ℕ). length l) positions in
-    let back : (with_items after.positions moved).items ≡ moved = vec_back after.positions moved (many ∙ sym (ap (λ (v : Vec ℕ Global). length v.items) same)) in
-    let move : HaveMoved own.positions.items (map done_by new) moved = subst (λ (l : List ℕ). HaveMoved l (map done_by new) moved) positions (subst (λ (l : List ℕ). HaveMoved c.as_mut_slice-2.result.now l moved) done c.advance.ensures.each) in
-    let did = did_slices script own o may round new ran seat has c.slices_are_owed.ensures.gathered c.slices_are_owed.ensures.owed c.start-round.result.collector s.collector.1 s.round.0 after.segments c.work.ensures.sound after.progress c.work.ensures.collector c.in_place.result seats c.finish-words.result.words c.finish-words.ensures.leaves after.collect after.full c.work.ensures.collect c.work.ensures.full after.inbox c.work.ensures.polled c.unseated.new.mutators (with_items after.positions moved) (c.unseated.ensures.mutators ∙ ap (λ (l : List Worker). map mutator_of l) left) (ap (λ (l : List ℕ). length l) back ∙ many) (subst (λ (l : List ℕ). HaveMoved own.positions.items (map done_by new) l) (sym back) move) in
-    subst (λ (y : Collector). DidSlices script o own (record y { words = Some c.finish-words.result.words; mutators = c.unseated.new.mutators; positions = with_items after.positions moved })) (sym c.work.ensures.rest) did
+    let back : (with_items after.positions moved).items ≡ moved = vec_back after.positions moved (many ∙
+    sym (ap (λ (v : Vec ℕ Global). length v.items) same)) in
+    let move : HaveMoved own.positions.items (map done_by new) moved =
+    subst (λ (l : List ℕ). HaveMoved l (map done_by new) moved) positions (subst (λ (l : List ℕ).
+    HaveMoved c.as_mut_slice-2.result.now l moved) done c.advance.ensures.each) in
+    let did = did_slices script own o may round new ran seat has c.slices_are_owed.ensures.gathered c.slices_are_owed.ensures.owed
+    c.start-round.result.collector s.collector.1 s.round.0 after.segments c.work.ensures.sound after.progress c.work.ensures.collector
+    c.in_place.result seats c.finish-words.result.words c.finish-words.ensures.leaves after.collect after.full c.work.ensures.collect
+    c.work.ensures.full after.inbox c.work.ensures.polled c.unseated.new.mutators (with_items after.positions moved)
+    (c.unseated.ensures.mutators ∙ ap (λ (l : List Worker). map mutator_of l) left) (ap (λ (l : List ℕ). length l) back ∙
+    many) (subst (λ (l : List ℕ). HaveMoved own.positions.items (map done_by new) l) (sym back) move) in
+    subst (λ (y : Collector). DidSlices script o own (record y {
+      words = Some c.finish-words.result.words;
+      mutators = c.unseated.new.mutators;
+      positions = with_items after.positions moved;
+    })) (sym c.work.ensures.rest) did

@@ -13,4 +13,10 @@ sweep_rest-requires-clause-can g c κs within =
     c.a_finish_leads.ensures.sweep_ready at.0 c.close_now.new.self at.1 at.3
 
 pub returns : goal.returns
-returns g c = record { closed = c.close_now.new.self; closes = c.close_now.ensures; swept = c.sweep_rest.new.self; sweeps = c.sweep_rest.ensures; ends = c.in_ok-end.ensures }
+returns g c = record {
+  closed = c.close_now.new.self;
+  closes = c.close_now.ensures;
+  swept = c.sweep_rest.new.self;
+  sweeps = c.sweep_rest.ensures;
+  ends = c.in_ok-end.ensures;
+}

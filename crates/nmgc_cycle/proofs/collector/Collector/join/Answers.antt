@@ -26,12 +26,16 @@ overflow_cast-len c =
 
 pub join_all-requires-clause-ordered : goal.join_all-requires-clause-ordered
 join_all-requires-clause-ordered c =
-    let fresh : c.as_slice.result.now ≡ moved_weaks c.in-Some.words c.args.self.now.promotion.moves = c.as_slice.ensures.value ∙ c.in_ok-fresh.ensures.gathered ∙ ap (λ (l : List Move). moved_weaks c.in-Some.words l) c.moves.ensures in
+    let fresh : c.as_slice.result.now ≡ moved_weaks c.in-Some.words c.args.self.now.promotion.moves = c.as_slice.ensures.value ∙
+    c.in_ok-fresh.ensures.gathered ∙ ap (λ (l : List Move). moved_weaks c.in-Some.words l) c.moves.ensures in
     subst (λ (l : List OldWeak). IsInOrder (names_of l)) (sym fresh) (moved_ordered c.in-Some.words c.args.self.now.promotion.moves c.requires.can.ordered)
 
 pub join_all-requires-clause-new : goal.join_all-requires-clause-new
 join_all-requires-clause-new c = λ one other d e.
     let held : words_in c.args.self.now.words ≡ c.in-Some.words = ap words_in c.in-Some.is in
-    let fresh : c.as_slice.result.now ≡ moved_weaks c.in-Some.words c.args.self.now.promotion.moves = c.as_slice.ensures.value ∙ c.in_ok-fresh.ensures.gathered ∙ ap (λ (l : List Move). moved_weaks c.in-Some.words l) c.moves.ensures in
-    let can : CanJoin c.in-Some.words c.args.self.now.weaks.list c.args.self.now.promotion.moves = subst (λ (l : List ℕ). CanJoin l c.args.self.now.weaks.list c.args.self.now.promotion.moves) held c.requires.can in
-    moved_new c.in-Some.words c.args.self.now.weaks.list c.args.self.now.promotion.moves can one other (subst (λ (l : List OldWeak). Contains l one) fresh d) (subst (λ (l : List OldWeak). Contains l other) c.in_ok-reserve.ensures.list e)
+    let fresh : c.as_slice.result.now ≡ moved_weaks c.in-Some.words c.args.self.now.promotion.moves = c.as_slice.ensures.value ∙
+    c.in_ok-fresh.ensures.gathered ∙ ap (λ (l : List Move). moved_weaks c.in-Some.words l) c.moves.ensures in
+    let can : CanJoin c.in-Some.words c.args.self.now.weaks.list c.args.self.now.promotion.moves =
+    subst (λ (l : List ℕ). CanJoin l c.args.self.now.weaks.list c.args.self.now.promotion.moves) held c.requires.can in
+    moved_new c.in-Some.words c.args.self.now.weaks.list c.args.self.now.promotion.moves can one other (subst (λ (l : List OldWeak).
+    Contains l one) fresh d) (subst (λ (l : List OldWeak). Contains l other) c.in_ok-reserve.ensures.list e)

@@ -9,7 +9,8 @@ pub reserve_inbox-requires-clause-threads : goal.reserve_inbox-requires-clause-t
 reserve_inbox-requires-clause-threads c = sym c.requires.stopped.1.kept.inbox
 
 pub reserve_inbox-requires-clause-positions : goal.reserve_inbox-requires-clause-positions
-reserve_inbox-requires-clause-positions c = ap (λ (l : List ℕ). length l) c.as_slice.ensures.value ∙ c.requires.stopped.1.kept.positions_are ∙ sym c.requires.stopped.1.kept.inbox
+reserve_inbox-requires-clause-positions c = ap (λ (l : List ℕ). length l) c.as_slice.ensures.value ∙ c.requires.stopped.1.kept.positions_are ∙
+    sym c.requires.stopped.1.kept.inbox
 
 pub reserve_inbox-requires-clause-few : goal.reserve_inbox-requires-clause-few
 reserve_inbox-requires-clause-few c =
@@ -22,4 +23,6 @@ reserve_inbox-requires-clause-slice c = c.requires.limits.fits.config.slice
 
 pub returns-clause-room : goal.returns-clause-room
 returns-clause-room c =
-    subst (λ (positions : List ℕ). OnOk c.reserve_inbox.result (is_marking_in c.args.self.now.progress ≡ true → HasInboxRoom c.args.script.now positions c.reserve_inbox.new.inbox)) c.as_slice.ensures.value (on_ok c.reserve_inbox.result c.reserve_inbox.ensures.room (λ room marks. room))
+    subst (λ (positions : List ℕ). OnOk c.reserve_inbox.result (is_marking_in c.args.self.now.progress ≡ true →
+    HasInboxRoom c.args.script.now positions c.reserve_inbox.new.inbox)) c.as_slice.ensures.value
+    (on_ok c.reserve_inbox.result c.reserve_inbox.ensures.room (λ room marks. room))

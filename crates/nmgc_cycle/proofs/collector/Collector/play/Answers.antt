@@ -19,25 +19,37 @@ use Rattle.nmgc_cycle.proofs.collector.Collector.play.Goals as goal
 
 pub opening_of-opening-requires : goal.opening_of-opening-requires
 opening_of-opening-requires g c =
-    let roomy = reserved_stopped c.args.script.now c.args.self.now c.make_room.new.self c.requires.stopped.0 c.in_ok-make_room.ensures.rest c.in_ok-make_room.ensures.mutators in
-    inbox_stopped c.args.script.now c.make_room.new.self c.make_inbox_room.new.self roomy c.in_ok-make_inbox_room.ensures.rest c.in_ok-make_inbox_room.ensures.lists
+    let roomy = reserved_stopped c.args.script.now c.args.self.now c.make_room.new.self c.requires.stopped.0 c.in_ok-make_room.ensures.rest
+    c.in_ok-make_room.ensures.mutators in
+    inbox_stopped c.args.script.now c.make_room.new.self c.make_inbox_room.new.self roomy c.in_ok-make_inbox_room.ensures.rest
+    c.in_ok-make_inbox_room.ensures.lists
 
 pub make_inbox_room-requires-clause-stopped : goal.make_inbox_room-requires-clause-stopped
-make_inbox_room-requires-clause-stopped g c = reserved_stopped c.args.script.now c.args.self.now c.make_room.new.self c.requires.stopped.0 c.in_ok-make_room.ensures.rest c.in_ok-make_room.ensures.mutators
+make_inbox_room-requires-clause-stopped g c =
+    reserved_stopped c.args.script.now c.args.self.now c.make_room.new.self c.requires.stopped.0 c.in_ok-make_room.ensures.rest
+    c.in_ok-make_room.ensures.mutators
 
 pub do_slices-requires-clause-room : goal.do_slices-requires-clause-room
-do_slices-requires-clause-room g c κs within = subst (λ (x : Collector). HaveSliceRoom c.args.script.now x) (sym c.in_ok-make_inbox_room.ensures.rest) c.in_ok-make_room.ensures.room
+do_slices-requires-clause-room g c κs within = subst (λ (x : Collector).
+    HaveSliceRoom c.args.script.now x) (sym c.in_ok-make_inbox_room.ensures.rest) c.in_ok-make_room.ensures.room
 
 pub do_slices-requires-clause-inbox : goal.do_slices-requires-clause-inbox
 do_slices-requires-clause-inbox g c κs within = λ marks.
     let roomy : Collector = c.make_inbox_room.new.self in
     let rest = c.in_ok-make_inbox_room.ensures.rest in
-    subst (λ (x : Collector). HasInboxRoom c.args.script.now x.positions.items roomy.inbox) (sym rest) (c.in_ok-make_inbox_room.ensures.room (sym (ap (λ (x : Collector). is_marking_in x.progress) rest) ∙ marks))
+    subst (λ (x : Collector).
+    HasInboxRoom c.args.script.now x.positions.items roomy.inbox) (sym rest) (c.in_ok-make_inbox_room.ensures.room (sym (ap (λ (x : Collector).
+    is_marking_in x.progress) rest) ∙ marks))
 
 pub returns-clause-worked : goal.returns-clause-worked
 returns-clause-worked g c =
     let laws : HasLaws = record {
-      opens = record { quiet = c.a_rest_opens_a_round.ensures; marks = c.a_rest_opens_a_round-2.ensures; rests = c.the_heap_goes_on.ensures.rests; snapshot = c.a_heap_ties_by_blocks.ensures.snapshot };
+      opens = record {
+        quiet = c.a_rest_opens_a_round.ensures;
+        marks = c.a_rest_opens_a_round-2.ensures;
+        rests = c.the_heap_goes_on.ensures.rests;
+        snapshot = c.a_heap_ties_by_blocks.ensures.snapshot;
+      };
       history = c.a_round_is_a_history.ensures;
       stopped = c.a_round_is_stopped.ensures;
       holds = c.the_heap_goes_on.ensures.round;
@@ -56,7 +68,8 @@ returns-clause-worked g c =
     let listed : Collector = c.make_room.new.self in
     let roomy : Collector = c.make_inbox_room.new.self in
     let did : Collector = c.do_slices.new.self in
-    let goes_on : roomy.answered ≡ None = ap (λ (x : Collector). x.answered) c.in_ok-make_inbox_room.ensures.rest ∙ ap (λ (x : Collector). x.answered) c.in_ok-make_room.ensures.rest ∙ c.requires.stopped.1 in
+    let goes_on : roomy.answered ≡ None = ap (λ (x : Collector). x.answered) c.in_ok-make_inbox_room.ensures.rest ∙
+    ap (λ (x : Collector). x.answered) c.in_ok-make_room.ensures.rest ∙ c.requires.stopped.1 in
     let was = c.as_mut_slice.ensures.value in
     let new : List Mutator = c.taken.new.mutators in
     let rows : RoundRows = c.in_ok-rows.rows in
@@ -65,20 +78,34 @@ returns-clause-worked g c =
     let told : rows.replies ≡ replies_of did.mutators.items = c.in_ok-rows.ensures.rows ∙ ap replies_of was in
     let own : Collector = c.args.self.now in
     let stopped = reserved_stopped script own listed c.requires.stopped.0 c.in_ok-make_room.ensures.rest c.in_ok-make_room.ensures.mutators in
-    let before : (x : Collector) → DidRound script roomy x → DidRound script own x = λ x d. (d.0, still_before script own listed d.0.run c.requires.stopped.0.1.kept c.in_ok-make_room.ensures.rest c.in_ok-make_room.ensures.mutators (inbox_before script listed roomy d.0.run stopped.1.kept c.in_ok-make_inbox_room.ensures.rest d.1)) in
-    let worked : DidRound script roomy (record did { mutators = with_items did.mutators new; rounds = did.rounds ++ rows ∷ [] }) = worked_after laws script roomy did c.opening_of-opening.result.value c.requires.limits goes_on c.opening_of-opening.ensures c.do_slices.ensures (with_items did.mutators new) (vec_back did.mutators new many ∙ left) rows told in
-    on_ok c.push.result c.push.ensures.ok (λ pushed. subst (λ (l : List RoundRows). DidRound script own (record did { mutators = with_items did.mutators new; rounds = l })) (sym pushed) (before (record did { mutators = with_items did.mutators new; rounds = did.rounds ++ rows ∷ [] }) worked))
+    let before : (x : Collector) → DidRound script roomy x → DidRound script own x = λ x d. (
+      d.0,
+      still_before script own listed d.0.run c.requires.stopped.0.1.kept c.in_ok-make_room.ensures.rest c.in_ok-make_room.ensures.mutators
+          (inbox_before script listed roomy d.0.run stopped.1.kept c.in_ok-make_inbox_room.ensures.rest d.1),
+    ) in
+    let worked : DidRound script roomy (record did { mutators = with_items did.mutators new; rounds = did.rounds ++ rows ∷ [] }) =
+    worked_after laws script roomy did c.opening_of-opening.result.value c.requires.limits goes_on c.opening_of-opening.ensures
+    c.do_slices.ensures (with_items did.mutators new) (vec_back did.mutators new many ∙ left) rows told in
+    on_ok c.push.result c.push.ensures.ok (λ pushed. subst (λ (l : List RoundRows).
+    DidRound script own (record did {
+      mutators = with_items did.mutators new;
+      rounds = l;
+    })) (sym pushed) (before (record did { mutators = with_items did.mutators new; rounds = did.rounds ++ rows ∷ [] }) worked))
 
 pub returns-clause-turns : goal.returns-clause-turns
 returns-clause-turns g c =
     let own : Collector = c.args.self.now in
     let did : Collector = c.do_slices.new.self in
     let counts = round_counts c.args.script.now c.opening_of-opening.result.value c.make_inbox_room.new.self did c.do_slices.ensures in
-    on_ok c.push.result c.push.ensures.ok (λ pushed. subst (λ (x : Collector). turns_of did ≡ passed (turns_of x) (worked_on x.progress did.progress)) (c.in_ok-make_inbox_room.ensures.rest ∙ ap (λ (x : Collector). record x { inbox = c.make_inbox_room.new.self.inbox }) c.in_ok-make_room.ensures.rest) counts)
+    on_ok c.push.result c.push.ensures.ok (λ pushed. subst (λ (x : Collector). turns_of did ≡
+    passed (turns_of x) (worked_on x.progress did.progress)) (c.in_ok-make_inbox_room.ensures.rest ∙
+    ap (λ (x : Collector). record x { inbox = c.make_inbox_room.new.self.inbox }) c.in_ok-make_room.ensures.rest) counts)
 
 pub returns-clause-upper_turns : goal.returns-clause-upper_turns
 returns-clause-upper_turns g c =
     let own : Collector = c.args.self.now in
     let did : Collector = c.do_slices.new.self in
     let counts = round_counts_upper c.args.script.now c.opening_of-opening.result.value c.make_inbox_room.new.self did c.do_slices.ensures in
-    on_ok c.push.result c.push.ensures.ok (λ pushed. subst (λ (x : Collector). upper_turns_of did ≡ passed (upper_turns_of x) (upper_worked_on x.progress did.progress)) (c.in_ok-make_inbox_room.ensures.rest ∙ ap (λ (x : Collector). record x { inbox = c.make_inbox_room.new.self.inbox }) c.in_ok-make_room.ensures.rest) counts)
+    on_ok c.push.result c.push.ensures.ok (λ pushed. subst (λ (x : Collector). upper_turns_of did ≡
+    passed (upper_turns_of x) (upper_worked_on x.progress did.progress)) (c.in_ok-make_inbox_room.ensures.rest ∙
+    ap (λ (x : Collector). record x { inbox = c.make_inbox_room.new.self.inbox }) c.in_ok-make_room.ensures.rest) counts)

@@ -32,14 +32,17 @@ pub join-requires-clause-can : goal.join-requires-clause-can
 join-requires-clause-can c =
     let h = c.requires.stopped in
     let m = c.in_ok-move_promoted.ensures in
-    can_join c.the_list_is_left.ensures c.the_list_is_joined.ensures.joining c.the_list_is_joined.ensures.new c.args.self.now c.leave.new.self c.move_promoted.new.self c.move_promoted.new.self c.leave.ensures m.promoted m.weaks h.0 h.1 h.2 m.few
+    can_join c.the_list_is_left.ensures c.the_list_is_joined.ensures.joining c.the_list_is_joined.ensures.new c.args.self.now c.leave.new.self
+    c.move_promoted.new.self c.move_promoted.new.self c.leave.ensures m.promoted m.weaks h.0 h.1 h.2 m.few
 
 pub returns-clause-promoted : goal.returns-clause-promoted
 returns-clause-promoted c =
     let m = c.in_ok-move_promoted.ensures in
-    promoted c.the_list_is_left.ensures c.the_list_is_joined.ensures.joining c.the_list_is_joined.ensures.new c.args.self.now c.leave.new.self c.move_promoted.new.self c.join.new.self c.leave.ensures m.promoted m.weaks c.in_ok-join.ensures
+    promoted c.the_list_is_left.ensures c.the_list_is_joined.ensures.joining c.the_list_is_joined.ensures.new c.args.self.now c.leave.new.self
+    c.move_promoted.new.self c.join.new.self c.leave.ensures m.promoted m.weaks c.in_ok-join.ensures
 
 pub returns-clause-listed : goal.returns-clause-listed
 returns-clause-listed c =
     let m = c.in_ok-move_promoted.ensures in
-    listed c.the_list_is_left.ensures c.the_list_is_joined.ensures.joining c.the_list_is_joined.ensures.new c.args.self.now c.leave.new.self c.move_promoted.new.self c.join.new.self c.leave.ensures m.promoted m.weaks c.in_ok-join.ensures
+    listed c.the_list_is_left.ensures c.the_list_is_joined.ensures.joining c.the_list_is_joined.ensures.new c.args.self.now c.leave.new.self
+    c.move_promoted.new.self c.join.new.self c.leave.ensures m.promoted m.weaks c.in_ok-join.ensures

@@ -44,28 +44,41 @@ promote-requires-clause-stopped g c =
 pub add_remembered-requires-clause-lines : goal.add_remembered-requires-clause-lines
 add_remembered-requires-clause-lines g c =
     lines_of c.args.script.now c.promote.new.self (is_runnable c.args.script.now c.requires.limits).few
-    (steps.stands_first c.a_stop_leads.ensures c.args.script.now c.args.self.now c.promote.new.self c.requires.limits c.requires.can c.in_ok-promoted.ensures.promoted c.in_ok-promoted.ensures.listed).kept
+    (steps.stands_first c.a_stop_leads.ensures c.args.script.now c.args.self.now c.promote.new.self c.requires.limits c.requires.can
+    c.in_ok-promoted.ensures.promoted c.in_ok-promoted.ensures.listed).kept
 
 pub add_remembered-requires-clause-can : goal.add_remembered-requires-clause-can
 add_remembered-requires-clause-can g c =
-    can_add c.args.script.now c.promote.new.self _ (steps.stands_first c.a_stop_leads.ensures c.args.script.now c.args.self.now c.promote.new.self c.requires.limits c.requires.can c.in_ok-promoted.ensures.promoted c.in_ok-promoted.ensures.listed)
+    can_add c.args.script.now c.promote.new.self _ (steps.stands_first c.a_stop_leads.ensures c.args.script.now c.args.self.now c.promote.new.self
+    c.requires.limits c.requires.can c.in_ok-promoted.ensures.promoted c.in_ok-promoted.ensures.listed)
 
 pub close-requires-clause-can : goal.close-requires-clause-can
 close-requires-clause-can g c =
-    c.a_stop_leads.ensures.close_ready c.args.script.now c.add_remembered.new.self _ c.requires.limits (steps.stands_within c.a_stop_leads.ensures c.args.script.now c.args.self.now c.promote.new.self c.requires.limits c.requires.can c.in_ok-promoted.ensures.promoted c.in_ok-promoted.ensures.listed c.add_remembered.new.self c.add_remembered.ensures)
+    c.a_stop_leads.ensures.close_ready c.args.script.now c.add_remembered.new.self _ c.requires.limits
+    (steps.stands_within c.a_stop_leads.ensures c.args.script.now c.args.self.now c.promote.new.self c.requires.limits c.requires.can
+    c.in_ok-promoted.ensures.promoted c.in_ok-promoted.ensures.listed c.add_remembered.new.self c.add_remembered.ensures)
 
 pub has_left-left-requires : goal.has_left-left-requires
 has_left-left-requires g c =
-    (steps.stands_ended c.a_stop_leads.ensures c.args.script.now c.args.self.now c.promote.new.self c.requires.limits c.requires.can c.in_ok-promoted.ensures.promoted c.in_ok-promoted.ensures.listed c.add_remembered.new.self c.add_remembered.ensures (length c.items.result.now) (ap (λ (rows : List StopRow). length rows) c.items.ensures) c.close.new.self c.close.ensures c.end.new.self c.in_ok-end.ensures).kept.positions_are
+    (steps.stands_ended c.a_stop_leads.ensures c.args.script.now c.args.self.now c.promote.new.self c.requires.limits c.requires.can
+    c.in_ok-promoted.ensures.promoted c.in_ok-promoted.ensures.listed c.add_remembered.new.self c.add_remembered.ensures
+    (length c.items.result.now) (ap (λ (rows : List StopRow).
+    length rows) c.items.ensures) c.close.new.self c.close.ensures c.end.new.self c.in_ok-end.ensures).kept.positions_are
 
 pub proceed-requires-clause-stands : goal.proceed-requires-clause-stands
 proceed-requires-clause-stands g c κs within =
-    steps.at_this_stop c.a_stop_leads.ensures c.args.script.now c.args.self.now c.promote.new.self c.requires.limits c.requires.can c.in_ok-promoted.ensures.promoted c.in_ok-promoted.ensures.listed c.add_remembered.new.self c.add_remembered.ensures (length c.items.result.now) (ap (λ (rows : List StopRow). length rows) c.items.ensures) c.close.new.self c.close.ensures c.end.new.self c.in_ok-end.ensures
+    steps.at_this_stop c.a_stop_leads.ensures c.args.script.now c.args.self.now c.promote.new.self c.requires.limits c.requires.can
+    c.in_ok-promoted.ensures.promoted c.in_ok-promoted.ensures.listed c.add_remembered.new.self c.add_remembered.ensures
+    (length c.items.result.now) (ap (λ (rows : List StopRow).
+    length rows) c.items.ensures) c.close.new.self c.close.ensures c.end.new.self c.in_ok-end.ensures
 
 pub proceed-requires-clause-number : goal.proceed-requires-clause-number
 proceed-requires-clause-number g c κs within =
     let few = (stop_fits c.args.script.now c.args.self.now c.requires.limits c.requires.can).begun in
-    let same = steps.begun_is c.a_stop_leads.ensures c.args.script.now c.args.self.now c.promote.new.self c.requires.limits c.requires.can c.in_ok-promoted.ensures.promoted c.in_ok-promoted.ensures.listed c.add_remembered.new.self c.add_remembered.ensures (length c.items.result.now) (ap (λ (rows : List StopRow). length rows) c.items.ensures) c.close.new.self c.close.ensures c.end.new.self c.in_ok-end.ensures in
+    let same = steps.begun_is c.a_stop_leads.ensures c.args.script.now c.args.self.now c.promote.new.self c.requires.limits c.requires.can
+    c.in_ok-promoted.ensures.promoted c.in_ok-promoted.ensures.listed c.add_remembered.new.self c.add_remembered.ensures
+    (length c.items.result.now) (ap (λ (rows : List StopRow).
+    length rows) c.items.ensures) c.close.new.self c.close.ensures c.end.new.self c.in_ok-end.ensures in
     omega (arith, few, same)
 
 -- what the stop did, what it read in the end, and why it answers as it does
@@ -91,7 +104,8 @@ stepped g c = record {
 read : (g : Over) (c : goal.After-self-1 g) → IsRead c.args.script.now c.proceed.new.self
 read g c = record {
   left = c.has_left-left.result;
-  left_is = some_left_then c.args.script.now c.end.new.self c.proceed.new.self c.args.script.now.config.trigger (length c.items.result.now) c.has_left-left.result c.in_ok-proceed.ensures c.has_left-left.ensures;
+  left_is = some_left_then c.args.script.now c.end.new.self c.proceed.new.self c.args.script.now.config.trigger (length c.items.result.now)
+      c.has_left-left.result c.in_ok-proceed.ensures c.has_left-left.ensures;
   phase = c.phase.result;
   phase_is = c.phase.ensures;
   free = c.free_count-free.result;
@@ -119,7 +133,10 @@ why g c =
             | else-left-via-else-left v ↦
                 let none : c.has_left-left.result ≡ false = v.if-left.false in
                 let busy : because answer.GoOn = elim w.else-not-left.branch [
-                  | else-not-left-via-then-not-left+else-eq u ↦ inr (none, λ e. same_false the_type u.phase-then-not-left.result Idle (sym u.eq.ensures ∙ u.if-eq.false) (u.phase-then-not-left.ensures ∙ e))
+                  | else-not-left-via-then-not-left+else-eq u ↦ inr (
+                    none,
+                    λ e. same_false the_type u.phase-then-not-left.result Idle (sym u.eq.ensures ∙ u.if-eq.false) (u.phase-then-not-left.ensures ∙ e),
+                  )
                   | else-not-left-via-else-not-left u ↦
                       let some : c.has_left-left.result ≡ true = u.if-not-left.false in
                       absurd (true_isnt (sym some ∙ none))
@@ -131,11 +148,17 @@ why g c =
 
 pub returns-clause-answered : goal.returns-clause-answered
 unfolding stepped read
-returns-clause-answered g c = has_answered c.a_stop_leads.ensures c.args.script.now c.args.self.now c.proceed.new.self c.requires.limits (stepped g c) (read g c) c.in_ok-promoted.promoted c.in_ok-promoted.ensures.many c.push.new.self c.ended-self.result c.in_ok-push.ensures.ok c.requires.can c.if-left.end (why g c) c.ended-self.ensures
+returns-clause-answered g c =
+    has_answered c.a_stop_leads.ensures c.args.script.now c.args.self.now c.proceed.new.self c.requires.limits (stepped g c) (read g c)
+    c.in_ok-promoted.promoted c.in_ok-promoted.ensures.many c.push.new.self c.ended-self.result c.in_ok-push.ensures.ok c.requires.can c.if-left.end
+    (why g c) c.ended-self.ensures
 
 pub returns-clause-after : goal.returns-clause-after
 unfolding stepped read
-returns-clause-after g c = stops_after c.a_stop_leads.ensures c.args.script.now c.args.self.now c.proceed.new.self c.requires.limits (stepped g c) (read g c) c.in_ok-promoted.promoted c.in_ok-promoted.ensures.many c.push.new.self c.ended-self.result c.in_ok-push.ensures.ok c.if-left.end (why g c) c.ended-self.ensures
+returns-clause-after g c =
+    stops_after c.a_stop_leads.ensures c.args.script.now c.args.self.now c.proceed.new.self c.requires.limits (stepped g c) (read g c)
+    c.in_ok-promoted.promoted c.in_ok-promoted.ensures.many c.push.new.self c.ended-self.result c.in_ok-push.ensures.ok c.if-left.end (why g c)
+    c.ended-self.ensures
 
 pub returns-clause-done : goal.returns-clause-done
 returns-clause-done g c =
@@ -144,16 +167,25 @@ returns-clause-done g c =
 
 pub returns-clause-full : goal.returns-clause-full
 returns-clause-full g c = λ free reserve.
-    let h = full_where c.args.script.now c.proceed.new.self (read g c) c.if-left.end (why g c) free reserve in
-    (λ e. let f = h.0 e in record { left = f.left; free_is = f.free_is; reserve_is = f.reserve_is; less = f.less }, λ f. h.1 (record { left = f.left; free_is = f.free_is; reserve_is = f.reserve_is; less = f.less }))
+    let h = full_where c.args.script.now c.proceed.new.self (read g c) c.if-left.end (why g c) free reserve in (
+      λ e. let f = h.0 e in record { left = f.left; free_is = f.free_is; reserve_is = f.reserve_is; less = f.less },
+      λ f. h.1 (record { left = f.left; free_is = f.free_is; reserve_is = f.reserve_is; less = f.less }),
+    )
 
 pub returns-clause-rounds : goal.returns-clause-rounds
 unfolding stepped read
-returns-clause-rounds g c = rounds_are c.a_stop_leads.ensures c.args.script.now c.args.self.now c.proceed.new.self c.requires.limits (stepped g c) (read g c) c.in_ok-promoted.promoted c.in_ok-promoted.ensures.many c.push.new.self c.ended-self.result c.in_ok-push.ensures.ok c.requires.can
+returns-clause-rounds g c =
+    rounds_are c.a_stop_leads.ensures c.args.script.now c.args.self.now c.proceed.new.self c.requires.limits (stepped g c) (read g c)
+    c.in_ok-promoted.promoted c.in_ok-promoted.ensures.many c.push.new.self c.ended-self.result c.in_ok-push.ensures.ok c.requires.can
 
 pub returns-clause-stops : goal.returns-clause-stops
 unfolding stepped read
-returns-clause-stops g c = (row c.a_stop_leads.ensures c.args.script.now c.args.self.now c.proceed.new.self c.requires.limits (stepped g c) (read g c) c.in_ok-promoted.promoted c.in_ok-promoted.ensures.many, stops_are c.a_stop_leads.ensures c.args.script.now c.args.self.now c.proceed.new.self c.requires.limits (stepped g c) (read g c) c.in_ok-promoted.promoted c.in_ok-promoted.ensures.many c.push.new.self c.ended-self.result c.in_ok-push.ensures.ok c.requires.can)
+returns-clause-stops g c = (
+  row c.a_stop_leads.ensures c.args.script.now c.args.self.now c.proceed.new.self c.requires.limits (stepped g c) (read g c)
+      c.in_ok-promoted.promoted c.in_ok-promoted.ensures.many,
+  stops_are c.a_stop_leads.ensures c.args.script.now c.args.self.now c.proceed.new.self c.requires.limits (stepped g c) (read g c)
+      c.in_ok-promoted.promoted c.in_ok-promoted.ensures.many c.push.new.self c.ended-self.result c.in_ok-push.ensures.ok c.requires.can,
+)
 
 pub returns-clause-turns : goal.returns-clause-turns
 unfolding stepped

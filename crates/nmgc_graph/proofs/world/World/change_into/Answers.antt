@@ -3,4 +3,6 @@ use Rattle.nmgc_graph.specs.laws.Growth.{asked_keeps}
 use Rattle.nmgc_graph.proofs.world.World.change_into.Goals as goal
 
 pub keep-requires-clause-mutator : goal.keep-requires-clause-mutator
-keep-requires-clause-mutator c = asked_keeps c.args.self.now c.change.new.self c.in_ok-reply.reply (asked c.args.self.now c.args.mutator c.args.command.now) c.args.mutator c.in_ok-reply.ensures.ok c.requires.mutator
+keep-requires-clause-mutator c =
+    asked_keeps c.args.self.now c.change.new.self c.in_ok-reply.reply (asked c.args.self.now c.args.mutator c.args.command.now) c.args.mutator
+    c.in_ok-reply.ensures.ok c.requires.mutator

@@ -16,4 +16,8 @@ pub loop-weak-preserved : goal.loop-weak-preserved
 loop-weak-preserved c =
     let none : Name = record { maker = 0; serial = 0 } in
     let i = c.loop-weak.weak-index in
-    rw (c.in_ok-close_one.ensures.ok, c.loop-weak.invariant, take_more c.args.dead.now i none c.loop-weak-test.true) (sym (closed_push (take i c.args.dead.now) c.args.self.now _))
+    rw (
+      c.in_ok-close_one.ensures.ok,
+      c.loop-weak.invariant,
+      take_more c.args.dead.now i none c.loop-weak-test.true,
+    ) (sym (closed_push (take i c.args.dead.now) c.args.self.now _))

@@ -6,10 +6,15 @@ pub follow-requires : goal.follow-requires
 follow-requires c =
     let w = c.args.self.now in
     let h : IsWorld w = rw (← c.self.view_is) c.self.invariant in
-    rw (c.in_ok-mark_finalisers.ensures, c.items-3.ensures) (kept_search w h c.args.extra.now c.args.finalised.now c.in_ok-search.search c.in_ok-search.ensures c.in_ok-dead.dead c.in_ok-dead.ensures)
+    rw (
+      c.in_ok-mark_finalisers.ensures,
+      c.items-3.ensures,
+    ) (kept_search w h c.args.extra.now c.args.finalised.now c.in_ok-search.search c.in_ok-search.ensures c.in_ok-dead.dead
+    c.in_ok-dead.ensures)
 
 pub returns : goal.returns
 returns c =
     let w = c.args.self.now in
     let h : IsWorld w = rw (← c.self.view_is) c.self.invariant in
-    kept_found w h c.args.extra.now c.args.finalised.now c.in_ok-search.search c.in_ok-search.ensures c.in_ok-dead.dead c.in_ok-dead.ensures c.follow.new.search (rw (c.in_ok-mark_finalisers.ensures, c.items-3.ensures) at c.in_ok-follow.ensures.followed) c.in_ok-follow.ensures.empty
+    kept_found w h c.args.extra.now c.args.finalised.now c.in_ok-search.search c.in_ok-search.ensures c.in_ok-dead.dead c.in_ok-dead.ensures
+    c.follow.new.search (rw (c.in_ok-mark_finalisers.ensures, c.items-3.ensures) at c.in_ok-follow.ensures.followed) c.in_ok-follow.ensures.empty

@@ -8,7 +8,10 @@ loop-search-init c =
     let w = c.args.self.now in
     let h : IsWorld w = rw (← c.self.view_is) c.self.invariant in
     let s = c.in_ok-search.search in
-    rw c.in_ok-mark_weaks.ensures (live_passed w h c.args.extra.now c.args.weaks.now s c.in_ok-search.ensures, pass_revives w h c.args.extra.now c.args.weaks.now s c.in_ok-search.ensures c.requires.weaks.complete)
+    rw c.in_ok-mark_weaks.ensures (
+      live_passed w h c.args.extra.now c.args.weaks.now s c.in_ok-search.ensures,
+      pass_revives w h c.args.extra.now c.args.weaks.now s c.in_ok-search.ensures c.requires.weaks.complete,
+    )
 
 pub loop-search-smaller : goal.loop-search-smaller
 loop-search-smaller c =
@@ -27,10 +30,14 @@ loop-search-preserved c =
     let h : IsWorld w = rw (← c.self.view_is) c.self.invariant in
     let f = c.follow.new.search in
     let l = live_followed w h c.args.extra.now c.loop-search.search f c.in_ok-follow.ensures.followed c.loop-search.invariant.0 in
-    rw c.in_ok-mark_weaks-2.ensures (live_passed w h c.args.extra.now c.args.weaks.now f l, pass_revives w h c.args.extra.now c.args.weaks.now f l c.requires.weaks.complete)
+    rw c.in_ok-mark_weaks-2.ensures (
+      live_passed w h c.args.extra.now c.args.weaks.now f l,
+      pass_revives w h c.args.extra.now c.args.weaks.now f l c.requires.weaks.complete,
+    )
 
 pub returns : goal.returns
 returns c =
     let w = c.args.self.now in
     let h : IsWorld w = rw (← c.self.view_is) c.self.invariant in
-    live_found w h c.args.extra.now c.loop-search.search c.loop-search.invariant.0 c.loop-search.invariant.1 (empty_list c.loop-search.search.work c.items.result.now c.items.ensures c.loop-search-test.ensures)
+    live_found w h c.args.extra.now c.loop-search.search c.loop-search.invariant.0 c.loop-search.invariant.1
+    (empty_list c.loop-search.search.work c.items.result.now c.items.ensures c.loop-search-test.ensures)

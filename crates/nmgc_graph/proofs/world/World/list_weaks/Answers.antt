@@ -13,9 +13,11 @@ loop-serial-preserved c =
     let weak : Name = record { maker = c.args.maker; serial = c.loop-serial.serial } in
     elim c.if-is_some.branch [
       | then-is_some+in_ok-push b ↦
-          rw (b.weaks-is, b.in_ok-push.ensures.ok) (lists_more (IsAliveWeak w) c.args.maker c.loop-serial.serial c.loop-serial.weaks (weak_some w weak c.parts.result c.parts.ensures.parts (sym c.is_some.ensures ∙ b.if-is_some.true)) c.loop-serial.invariant)
+          rw (b.weaks-is, b.in_ok-push.ensures.ok) (lists_more (IsAliveWeak w) c.args.maker c.loop-serial.serial c.loop-serial.weaks
+          (weak_some w weak c.parts.result c.parts.ensures.parts (sym c.is_some.ensures ∙ b.if-is_some.true)) c.loop-serial.invariant)
       | else-is_some b ↦
-          rw b.weaks-is (lists_same (IsAliveWeak w) c.args.maker c.loop-serial.serial c.loop-serial.weaks (weak_none w weak c.parts.result c.parts.ensures.parts (sym c.is_some.ensures ∙ b.if-is_some.false)) c.loop-serial.invariant)
+          rw b.weaks-is (lists_same (IsAliveWeak w) c.args.maker c.loop-serial.serial c.loop-serial.weaks
+          (weak_none w weak c.parts.result c.parts.ensures.parts (sym c.is_some.ensures ∙ b.if-is_some.false)) c.loop-serial.invariant)
     ]
 
 pub returns : goal.returns

@@ -14,6 +14,14 @@ loop-name-preserved c =
     let none : Name = record { maker = 0; serial = 0 } in
     let found = c.is_some.ensures ∙ copied_is_some c.node.result _ c.node.ensures in
     elim c.if-is_some.branch [
-      | then-is_some b ↦ rw (b.marks-is, b.insert.ensures.marks, take_more names i none c.loop-name-test.true) (set_more w (take i names) c.loop-name.marks _ c.loop-name.invariant (sym found ∙ b.if-is_some.true))
-      | else-is_some b ↦ rw (b.marks-is, take_more names i none c.loop-name-test.true) (set_same w (take i names) c.loop-name.marks _ c.loop-name.invariant (λ there. false≢true (sym b.if-is_some.false ∙ found ∙ there)))
+      | then-is_some b ↦ rw (
+        b.marks-is,
+        b.insert.ensures.marks,
+        take_more names i none c.loop-name-test.true,
+      ) (set_more w (take i names) c.loop-name.marks _ c.loop-name.invariant (sym found ∙ b.if-is_some.true))
+      | else-is_some b ↦ rw (
+        b.marks-is,
+        take_more names i none c.loop-name-test.true,
+      ) (set_same w (take i names) c.loop-name.marks _ c.loop-name.invariant (λ there.
+          false≢true (sym b.if-is_some.false ∙ found ∙ there)))
     ]

@@ -29,11 +29,17 @@ run_passes-requires-clause-can g c =
       size = c.check_lengths.ensures.size;
       long = subst (λ (ws : List ℕ). base + layout.mutators * layout.nursery ≤ length ws) same_words c.check_lengths.ensures.long;
       parts = subst (λ (ns : List Nursery). AreParts layout ns) (c.items-3.ensures ∙ sym c.items_mut.ensures.value) c.check_nurseries.ensures;
-      objects = subst (λ (ns : List Nursery). AreMade layout base words sizes ns (length sizes)) (c.items-4.ensures ∙ sym c.items_mut.ensures.value) (subst (λ (ws : List ℕ). AreMade layout base ws sizes c.items-4.result.now (length sizes)) same_words c.check_objects.ensures);
+      objects = subst (λ (ns : List Nursery). AreMade layout base words sizes ns (length sizes)) (c.items-4.ensures ∙
+          sym c.items_mut.ensures.value) (subst (λ (ws : List ℕ).
+          AreMade layout base ws sizes c.items-4.result.now (length sizes)) same_words c.check_objects.ensures);
       words_point = subst (λ (ws : List ℕ). (k : ℕ) → k < length ws → PointsWell base sizes (slice_index ws k)) same_words c.check_words.ensures;
-      registers = each (PointsWell base sizes) roots.registers (subst (λ (ws : List ℕ). (k : ℕ) → k < length ws → PointsWell base sizes (slice_index ws k)) c.items.ensures c.check_words-2.ensures);
-      queues = subst (λ (qs : List FinQueue). (queue : List ℕ) (word : ℕ) → Contains (words_of qs) queue → Contains queue word → PointsWell base sizes word) c.items-2.ensures c.check_queues.ensures.points;
+      registers = each (PointsWell base sizes) roots.registers (subst (λ (ws : List ℕ). (k : ℕ) → k < length ws →
+          PointsWell base sizes (slice_index ws k)) c.items.ensures c.check_words-2.ensures);
+      queues = subst (λ (qs : List FinQueue). (queue : List ℕ) (word : ℕ) → Contains (words_of qs) queue → Contains queue word →
+          PointsWell base sizes word) c.items-2.ensures c.check_queues.ensures.points;
       recorded = c.check_recorded.ensures;
-      weaks = subst (λ (ws : List ℕ). (at : ℕ) → Contains (places_of c.args.weaks.now) at → PointsWell base sizes (2 * at) × (at + 5 ≤ length ws)) same_words c.check_weaks.ensures;
+      weaks = subst (λ (ws : List ℕ). (at : ℕ) → Contains (places_of c.args.weaks.now) at → PointsWell base sizes (2 * at) ×
+          (at + 5 ≤ length ws)) same_words c.check_weaks.ensures;
     } in
-    checked_can layout base words sizes nurseries inputs walked s c.layout-layout.ensures.sound (sym c.layout-layout.ensures.layout) (inl (begins s.layout c.layout-layout.ensures.sound.layout.words s.segments c.check_room.ensures))
+    checked_can layout base words sizes nurseries inputs walked s c.layout-layout.ensures.sound (sym c.layout-layout.ensures.layout)
+    (inl (begins s.layout c.layout-layout.ensures.sound.layout.words s.segments c.check_room.ensures))

@@ -9,7 +9,8 @@ loop-k-preserved g c =
       | then-sizes-k-ne0 w ↦
           let d = w.check_object.ensures in
           rw (w.free-is) (record {
-            made = made_more c.args.layout c.args.base c.args.words.now c.args.sizes.now c.args.nurseries.now c.loop-k.k c.loop-k.free i.made i.next d.after d.made;
+            made = made_more c.args.layout c.args.base c.args.words.now c.args.sizes.now c.args.nurseries.now c.loop-k.k c.loop-k.free i.made i.next
+                d.after d.made;
             next = next_more c.args.sizes.now c.loop-k.k c.loop-k.free i.next d.after;
           })
       | else-sizes-k-ne0 w ↦

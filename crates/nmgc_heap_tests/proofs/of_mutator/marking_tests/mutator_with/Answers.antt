@@ -8,4 +8,7 @@ pub new-requires-clause-layout : goal.new-requires-clause-layout
 new-requires-clause-layout c = subst (λ (l : Layout). IsLayout l) (sym c.small-layout.ensures) layout_is
 
 pub returns-clause-is : goal.returns-clause-is
-returns-clause-is c = snapshot_mutator c.small-layout.result c.in_ok-mutator.mutator c.reserve.new.self c.in_ok-mutator-2.field-0 c.small-layout.ensures c.in_ok-mutator.ensures.new c.reserve.ensures.kept (c.in_ok-mutator-2.ensures ∙ ap (λ (items : List ℕ). set (set (set items 0 72) 1 13) 3 184) (c.in_ok-registers.ensures.items_if_clones_equal (λ y e. e)))
+returns-clause-is c =
+    snapshot_mutator c.small-layout.result c.in_ok-mutator.mutator c.reserve.new.self c.in_ok-mutator-2.field-0 c.small-layout.ensures
+    c.in_ok-mutator.ensures.new c.reserve.ensures.kept (c.in_ok-mutator-2.ensures ∙
+    ap (λ (items : List ℕ). set (set (set items 0 72) 1 13) 3 184) (c.in_ok-registers.ensures.items_if_clones_equal (λ y e. e)))

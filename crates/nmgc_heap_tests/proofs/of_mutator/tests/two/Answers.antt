@@ -3,4 +3,11 @@ use Rattle.nmgc_heap_tests.proofs.of_mutator.tests.two.Goals as goal
 
 pub returns-clause-layout : goal.returns-clause-layout
 unfolding lib.Count.ones
-returns-clause-layout c = record { some = omega arith; segments = omega arith; words = record { power = refl; least = omega arith; most = omega arith }; nursery = omega arith; mutators = (omega arith, omega arith); heap = omega arith }
+returns-clause-layout c = record {
+  some = omega arith;
+  segments = omega arith;
+  words = record { power = refl; least = omega arith; most = omega arith };
+  nursery = omega arith;
+  mutators = (omega arith, omega arith);
+  heap = omega arith;
+}

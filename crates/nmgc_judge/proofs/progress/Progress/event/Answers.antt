@@ -2,7 +2,11 @@ use Rattle.nmgc_judge.proofs.Happens.{answered, passed}
 use Rattle.nmgc_judge.proofs.progress.Progress.event.Goals as goal
 
 pub returns-in-Building : goal.returns-in-Building
-returns-in-Building c = answered c.args.self c.in-Building.world c.is_answered-happened.new.world c.args.event.now c.is_answered-happened.result c.if_happened.result c.in-Building.is c.is_answered-happened.ensures c.if_happened.ensures
+returns-in-Building c =
+    answered c.args.self c.in-Building.world c.is_answered-happened.new.world c.args.event.now c.is_answered-happened.result c.if_happened.result
+    c.in-Building.is c.is_answered-happened.ensures c.if_happened.ensures
 
 pub returns-in-Marking : goal.returns-in-Marking
-returns-in-Marking c = passed c.args.self c.in-Marking.core c.step-happened.new.self c.args.event.now c.step-happened.result c.if_happened-in-Marking.result c.in-Marking.is c.step-happened.ensures.done c.if_happened-in-Marking.ensures
+returns-in-Marking c =
+    passed c.args.self c.in-Marking.core c.step-happened.new.self c.args.event.now c.step-happened.result c.if_happened-in-Marking.result
+    c.in-Marking.is c.step-happened.ensures.done c.if_happened-in-Marking.ensures

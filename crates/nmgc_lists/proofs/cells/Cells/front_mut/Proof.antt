@@ -117,13 +117,19 @@ module _ (X : RattleType) (n : ℕ) (L : Laws X) {M : Type 1} {𝓤 : Ura M} (�
         by ! (elements_in X n 𝓛 b o (after ws) (omega arith))
 
     abbrev Lent : ℕ → GName → SProp 𝓤
-    Lent k δ = sep 𝓤 (sem 𝓛 ((MutSlice (named 0) κ (R X n)).own_val (record { ref_ptr = (b, p); ghost_name = δ; now = front }) (slice_val (b, p) k ∷ []))) (sep 𝓤 (A.lft κ q) (sem 𝓛 (follows (S X n) (Array (R X n) 0) γ δ after)))
+    Lent k δ = sep 𝓤 (sem 𝓛 ((MutSlice (named 0) κ (R X n)).own_val (record { ref_ptr = (b, p); ghost_name = δ; now = front }) (slice_val (b, p) k ∷
+        []))) (sep 𝓤 (A.lft κ q) (sem 𝓛 (follows (S X n) (Array (R X n) 0) γ δ after)))
 
     abbrev lent : ℕ → GName → Item 𝓤
-    lent k δ = ‵ ((MutSlice (named 0) κ (R X n)).own_val (record { ref_ptr = (b, p); ghost_name = δ; now = front }) (slice_val (b, p) k ∷ [])) ⊛ ‵ (flft κ q) ⊛ ‵ (follows (S X n) (Array (R X n) 0) γ δ after)
+    lent k δ = ‵ ((MutSlice (named 0) κ (R X n)).own_val (record { ref_ptr = (b, p); ghost_name = δ; now = front }) (slice_val (b, p) k ∷
+        [])) ⊛ ‵ (flft κ q) ⊛ ‵ (follows (S X n) (Array (R X n) 0) γ δ after)
 
     lends : m ≤ n → m < 2 ^ 64 → n * size (layout X) < 2 ^ 63 → (vs : List Val)
-        → ent 𝓤 (sep 𝓤 (sem 𝓛 ((MutRef (named 0) κ (S X n)).own_val (record { ref_ptr = (b, o); ghost_name = γ; now = d }) vs)) (A.lft κ q)) (H.⇛ (ex 𝓤 (Lent m)))
+        → ent 𝓤 (sep 𝓤 (sem 𝓛 ((MutRef (named 0) κ (S X n)).own_val (record {
+          ref_ptr = (b, o);
+          ghost_name = γ;
+          now = d;
+        }) vs)) (A.lft κ q)) (H.⇛ (ex 𝓤 (Lent m)))
     lends within fm small vs =
         qed 𝓛 (‵ ((MutRef (named 0) κ (S X n)).own_val (record { ref_ptr = (b, o); ghost_name = γ; now = d }) vs) ∷ ‵ (flft κ q) ∷ []) ∵
         updating ! $ fsplit3 ! $ drop ! $ open_ref ! tt (mem (S X n)) {b = b} {o = o} $
@@ -153,9 +159,13 @@ module _ (X : RattleType) (n : ℕ) (L : Laws X) {M : Type 1} {𝓤 : Ura M} (�
       bound = (((κ, (κT, (κN, tt))), (q, (qT, (qN, tt))), bd, (self, (m, tt)), (mut_vals self, (vint w64 m ∷ [], tt))), tt)
 
       walk : m ≤ n → m < 2 ^ 64 → n * size (layout X) < 2 ^ 63
-          → ent 𝓤 (on_entry 𝓛 (ended X n).signature (κ, (κT, (κN, tt))) (q, (qT, (qN, tt))) (self, (m, tt)) (mut_vals self, (vint w64 m ∷ [], tt))) (WpFn 𝓤 H C Λ (function X n) (vptr b o ∷ vint w64 m ∷ []) ((walk_of 𝓛 (ended X n) (stayed X n) clauses).post bound))
+          → ent 𝓤 (on_entry 𝓛 (ended X n).signature (κ, (κT, (κN, tt))) (q, (qT, (qN, tt))) (self, (m, tt)) (
+            mut_vals self,
+            (vint w64 m ∷ [], tt),
+          )) (WpFn 𝓤 H C Λ (function X n) (vptr b o ∷ vint w64 m ∷ []) ((walk_of 𝓛 (ended X n) (stayed X n) clauses).post bound))
       walk within fm small =
-          qed 𝓛 ((‵ (flft κ q) ⊛ ‵ (flft κT qT) ⊛ ‵ (flft κN qN) ⊛ ‵ ftrue) ∷ ‵ (owns (MutRef (named 0) κ (S X n) ∷ usize ∷ []) (self, (m, tt)) (mut_vals self, (vint w64 m ∷ [], tt))) ∷ []) ∵
+          qed 𝓛 ((‵ (flft κ q) ⊛ ‵ (flft κT qT) ⊛ ‵ (flft κN qN) ⊛ ‵ ftrue) ∷
+          ‵ (owns (MutRef (named 0) κ (S X n) ∷ usize ∷ []) (self, (m, tt)) (mut_vals self, (vint w64 m ∷ [], tt))) ∷ []) ∵
           enter ! C Λ (function X n) (vptr b o ∷ vint w64 m ∷ []) _ $
           alloc_all ! (λ l. pass_all ! refl ((tt, tt), ((tt, record { fits = fm }), tt)) $
           sets ! (addr ! (through ! refl (fld ! refl (stop !)))) refl (tt, tt) $
@@ -164,21 +174,33 @@ module _ (X : RattleType) (n : ℕ) (L : Laws X) {M : Type 1} {𝓤 : Ura M} (�
           use2 𝓛 (later (some (lent κ q b o γ d m m))) (lends κ q b o γ d m within fm small (mut_vals self)) $
           await ! tt $ pick ! (λ δ.
           returns ! (look_at ! 0 refl) $ free_all ! refl $ keep ! (0 ∷ 2 ∷ []) $ split3 ! $
-          suffices ! _ (ends_at 𝓛 (ended X n) (stayed X n) clauses bound (slice_val (b, start X n o) m) (record { ref_ptr = (b, start X n o); ghost_name = δ; now = take m d.xs }) (tt, (tt, tt)) (tt, (tt, tt))) $
+          suffices ! _ (ends_at 𝓛 (ended X n) (stayed X n) clauses bound (slice_val (b, start X n o) m) (record {
+            ref_ptr = (b, start X n o);
+            ghost_name = δ;
+            now = take m d.xs;
+          }) (tt, (tt, tt)) (tt, (tt, tt))) $
           nothing ! $ nothing ! $ fjoin ! $ nothing ! $ fjoin ! $ join ! $ move ! (1 ∷ 3 ∷ []) $ join ! $ join ! $ frame ! $ says ! refl $ done !))
 
     meets : (𝓣 : Tables 𝓤 H) → Meets 𝓛 (ended X n).signature (WpFn 𝓤 H 𝓣.C 𝓣.Λ (function X n)) (closing 𝓛 (ended X n) clauses)
     meets 𝓣 =
-        walk_Meets 𝓛 (ended X n) (stayed X n) (Goes-spent_ref 𝓛 3 (0 ∷ []) tt (plain (λ _. S X n)), (Goes-dropped 𝓛 3 (plain (λ _. usize)) yes (λ κs x f. refl), tt)) clauses (WpFn 𝓤 H 𝓣.C 𝓣.Λ (function X n)) (WpFn-mono 𝓤 H 𝓛.laws 𝓣 (function X n))
-        (walked 𝓛 (ended X n) (stayed X n) clauses (WpFn 𝓤 H 𝓣.C 𝓣.Λ (function X n)) (λ κs. (mut_vals, (uint_vals w64, tt))) (λ κs. (mut_Tells (named 0) κs.0 (S X n), (uint_Tells w64, tt)))
+        walk_Meets 𝓛 (ended X n) (stayed X n) (
+          Goes-spent_ref 𝓛 3 (0 ∷ []) tt (plain (λ _. S X n)),
+          (Goes-dropped 𝓛 3 (plain (λ _. usize)) yes (λ κs x f. refl), tt),
+        ) clauses (WpFn 𝓤 H 𝓣.C 𝓣.Λ (function X n)) (WpFn-mono 𝓤 H 𝓛.laws 𝓣 (function X n))
+        (walked 𝓛 (ended X n) (stayed X n) clauses (WpFn 𝓤 H 𝓣.C 𝓣.Λ (function X n)) (λ κs. (mut_vals, (uint_vals w64, tt))) (λ κs.
+        (mut_Tells (named 0) κs.0 (S X n), (uint_Tells w64, tt)))
         (λ κs qs bounds a g are.
-        qed 𝓛 (raw (on_entry 𝓛 (ended X n).signature κs qs a (mut_vals a.0, (vint w64 a.1.0 ∷ [], tt))) ∷ (given (κs.1.0 ⊑ X.lives) (‵ ftrue) ⊛ given (κs.1.1.0 ⊑ []) (‵ ftrue) ⊛ given (size (layout (S X n)) < 2 ^ 63) (‵ ftrue) ⊛ given (a.1.0 ≤ n) (‵ ftrue)) ∷ []) ∵
+        qed 𝓛 (raw (on_entry 𝓛 (ended X n).signature κs qs a (mut_vals a.0, (vint w64 a.1.0 ∷ [], tt))) ∷
+        (given (κs.1.0 ⊑ X.lives) (‵ ftrue) ⊛ given (κs.1.1.0 ⊑ []) (‵ ftrue) ⊛ given (size (layout (S X n)) < 2 ^ 63) (‵ ftrue) ⊛ given
+        (a.1.0 ≤ n) (‵ ftrue)) ∷ []) ∵
         move ! (1 ∷ []) $ split3 ! $ drop ! $ drop ! $ split ! $ learn ! (λ fits. drop ! $ learn ! (λ within. drop ! $
-        by ! (walk 𝓣.C 𝓣.Λ κs.0 κs.1.0 κs.1.1.0 qs.0 qs.1.0 qs.1.1.0 bounds a.0.ref_ptr.0 a.0.ref_ptr.1 a.0.ghost_name a.0.now a.1.0 within are.1.0.1 (omega arith))))))
+        by ! (walk 𝓣.C 𝓣.Λ κs.0 κs.1.0 κs.1.1.0 qs.0 qs.1.0 qs.1.1.0 bounds a.0.ref_ptr.0 a.0.ref_ptr.1 a.0.ghost_name a.0.now a.1.0 within
+        are.1.0.1 (omega arith))))))
 
 pub front_mut_spec : {M : Type 1} → stated.statement M
 unfolding tables_of
 front_mut_spec 𝓤 𝓛 𝓜 𝓡 wired X n L fits =
     let 𝓣 : Tables 𝓤 𝓛.H = tables_of 𝓤 𝓛.H 𝓜 (tables 𝓤 𝓛.H 𝓜 𝓡 𝓡.env) in
-    entered 𝓤 𝓛.H (triple_of 𝓛 (ended X n).signature (F.spec X (number n) 𝓛 𝓜.mem 𝓡.returns)) 𝓣.C 𝓣.Λ (#self (args X n)) (function X n) (code.unfolded 𝓤 𝓛.H 𝓜 𝓡 wired (X, (number n, tt)))
+    entered 𝓤 𝓛.H (triple_of 𝓛 (ended X n).signature (F.spec X (number n) 𝓛 𝓜.mem 𝓡.returns)) 𝓣.C 𝓣.Λ (#self (args X n)) (function X n)
+    (code.unfolded 𝓤 𝓛.H 𝓜 𝓡 wired (X, (number n, tt)))
     (meets X n L 𝓛 𝓜.mem 𝓡.returns 𝓣)

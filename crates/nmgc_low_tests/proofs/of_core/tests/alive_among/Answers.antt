@@ -10,7 +10,8 @@ use Rattle.nmgc_graph.specs.laws.Orders.{filter_contains, in_order_filter}
 use Rattle.nmgc_low_tests.proofs.of_core.tests.alive_among.Goals as goal
 
 filtered_alive : (w : World) (test : Name → Bool) (weaks : List Name) → Lists (IsAliveWeak w) weaks → All (IsAliveWeak w) (filter test weaks)
-filtered_alive w test weaks l = λ k d lt. l.sound (get_or (filter test weaks) k d) (filter_contains test weaks (get_or (filter test weaks) k d) (Contains-get_or (filter test weaks) k d lt)).0
+filtered_alive w test weaks l = λ k d lt.
+    l.sound (get_or (filter test weaks) k d) (filter_contains test weaks (get_or (filter test weaks) k d) (Contains-get_or (filter test weaks) k d lt)).0
 
 pub returns-clause-ordered : goal.returns-clause-ordered
 returns-clause-ordered c =

@@ -19,6 +19,8 @@ loop-at-preserved c =
       marked = marked_more c.args.segments.now c.loop-at.segments c.mark.new.segments c.args.self.now c.loop-at.self c.mark.new.self c.loop-at.invariant.marked
           (place_marked c.loop-at.segments c.mark.new.segments c.loop-at.self c.mark.new.self x.0 c.loop-at.invariant.marked.room c.mark.ensures);
       turns = place_turns c.loop-at.segments c.mark.new.segments c.loop-at.self c.mark.new.self x.0 c.mark.ensures ∙ c.loop-at.invariant.turns;
-      tied = λ o m h. subst (λ (k : Marks). IsTied o k c.mark.new.segments c.mark.new.self) (sym (places_more o m c.args.entries.now c.loop-at.at-index (record { 0 = 0 }) c.loop-at-test.true))
-          (tied_at o (with_places o m (places (take c.loop-at.at-index c.args.entries.now))) c.loop-at.segments c.mark.new.segments c.loop-at.self x.0 c.mark.new.self (c.loop-at.invariant.tied o m h) c.mark.ensures);
+      tied = λ o m h. subst (λ (k : Marks).
+          IsTied o k c.mark.new.segments c.mark.new.self) (sym (places_more o m c.args.entries.now c.loop-at.at-index (record { 0 = 0 }) c.loop-at-test.true))
+          (tied_at o (with_places o m (places (take c.loop-at.at-index c.args.entries.now))) c.loop-at.segments c.mark.new.segments c.loop-at.self
+          x.0 c.mark.new.self (c.loop-at.invariant.tied o m h) c.mark.ensures);
     }

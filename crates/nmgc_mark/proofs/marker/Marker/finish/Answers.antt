@@ -20,13 +20,16 @@ loop-at-init g c = record {
 }
 
 pub scan_stopped-requires-clause-room : goal.scan_stopped-requires-clause-room
-scan_stopped-requires-clause-room g c = room_taken c.loop-at.segments c.loop-at.self c.take_first.new.self c.loop-at.invariant.marked.room (queue_taken c.loop-at.self c.take_first.new.self c.in-Some.ensures.some.1)
+scan_stopped-requires-clause-room g c =
+    room_taken c.loop-at.segments c.loop-at.self c.take_first.new.self c.loop-at.invariant.marked.room
+    (queue_taken c.loop-at.self c.take_first.new.self c.in-Some.ensures.some.1)
 
 -- the collector alone, at the words as they still are
 at_words : (o : Opening) (ws now : List ℕ) (u : Seen) → now ≡ ws → IsAlone o ws u → IsAlone o now u
 at_words o ws now u e a = subst (λ (l : List ℕ). IsAlone o l u) (sym e) a
 
-tied_as : (o : Opening) (ws : List ℕ) (u : Seen) (s : Segments) (m : MarkerSeen) → IsAlone o ws u → IsTied o (marks_seen u) s m → IsTied u.opening (marks_seen u) s m
+tied_as : (o : Opening) (ws : List ℕ) (u : Seen) (s : Segments) (m : MarkerSeen) → IsAlone o ws u → IsTied o (marks_seen u) s m →
+    IsTied u.opening (marks_seen u) s m
 tied_as o ws u s m a t = subst (λ (y : Opening). IsTied y (marks_seen u) s m) (sym a.opening) t
 
 pub scan_stopped-requires-clause-scanning : goal.scan_stopped-requires-clause-scanning
@@ -35,8 +38,13 @@ scan_stopped-requires-clause-scanning g c =
     let now = g.W.HeapWords.words c.loop-at.words in
     let r = c.requires.ready in
     let u = c.loop-at.invariant.each r.0 r.1 in
-    let s = c.in-Some.ensures.some in
-    (r.0, u.0, at_words r.0 ws now u.0 c.loop-at.invariant.words u.1, begins u.0 c.loop-at.segments c.loop-at.self c.take_first.new.self c.in-Some.at.0 (tied_as r.0 ws u.0 c.loop-at.segments c.loop-at.self u.1 u.2) s.0 (queue_taken c.loop-at.self c.take_first.new.self s.1))
+    let s = c.in-Some.ensures.some in (
+      r.0,
+      u.0,
+      at_words r.0 ws now u.0 c.loop-at.invariant.words u.1,
+      begins u.0 c.loop-at.segments c.loop-at.self c.take_first.new.self c.in-Some.at.0
+          (tied_as r.0 ws u.0 c.loop-at.segments c.loop-at.self u.1 u.2) s.0 (queue_taken c.loop-at.self c.take_first.new.self s.1),
+    )
 
 pub loop-at-preserved : goal.loop-at-preserved
 loop-at-preserved g c =
@@ -47,11 +55,14 @@ loop-at-preserved g c =
     record {
       words = c.scan_stopped.ensures.words ∙ inv.words;
       count = inv.count + 1;
-      marked = object_marked c.args.segments.now c.loop-at.segments c.scan_stopped.new.segments c.args.self.now c.loop-at.self c.take_first.new.self c.scan_stopped.new.self c.in-Some.at.0 inv.count inv.marked s.0 (queue_taken c.loop-at.self c.take_first.new.self s.1) c.scan_stopped.ensures.marked;
+      marked = object_marked c.args.segments.now c.loop-at.segments c.scan_stopped.new.segments c.args.self.now c.loop-at.self c.take_first.new.self
+          c.scan_stopped.new.self c.in-Some.at.0 inv.count inv.marked s.0 (queue_taken c.loop-at.self c.take_first.new.self s.1) c.scan_stopped.ensures.marked;
       turns = c.scan_stopped.ensures.turns ∙ ap (λ (m : MarkerSeen). m.turns) s.1 ∙ inv.turns;
       each = λ o r.
           let u = inv.each o r in
-          let next = c.scan_stopped.ensures.tied o u.0 (at_words o ws now u.0 inv.words u.1) (begins u.0 c.loop-at.segments c.loop-at.self c.take_first.new.self c.in-Some.at.0 (tied_as o ws u.0 c.loop-at.segments c.loop-at.self u.1 u.2) s.0 (queue_taken c.loop-at.self c.take_first.new.self s.1)) in
+          let next = c.scan_stopped.ensures.tied o u.0 (at_words o ws now u.0 inv.words u.1)
+          (begins u.0 c.loop-at.segments c.loop-at.self c.take_first.new.self c.in-Some.at.0
+          (tied_as o ws u.0 c.loop-at.segments c.loop-at.self u.1 u.2) s.0 (queue_taken c.loop-at.self c.take_first.new.self s.1)) in
           (next.0, subst (λ (l : List ℕ). IsAlone o l next.0) inv.words next.1, next.2);
     }
 

@@ -12,7 +12,8 @@ invariant-loop-at g l = record {
   count : ℕ;
   marked : HasMarked l.fn.segments l.segments l.fn.self l.self count;
   turns : l.self.turns ≡ l.fn.self.turns;
-  each : (o : Opening) → IsReady o (g.W.HeapWords.words l.fn.words) l.fn.segments l.fn.self → (u : Seen) × IsAlone o (g.W.HeapWords.words l.fn.words) u × IsTied o (marks_seen u) l.segments l.self;
+  each : (o : Opening) → IsReady o (g.W.HeapWords.words l.fn.words) l.fn.segments l.fn.self → (u : Seen) ×
+      IsAlone o (g.W.HeapWords.words l.fn.words) u × IsTied o (marks_seen u) l.segments l.self;
 }
 
 abbrev pub decreases-loop-at : goal.decreases-loop-at

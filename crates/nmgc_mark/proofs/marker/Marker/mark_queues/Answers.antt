@@ -17,17 +17,21 @@ mark_all-requires-clause-room c = c.loop-queue.invariant.marked.room
 pub mark_all-requires-clause-small : goal.mark_all-requires-clause-small
 mark_all-requires-clause-small c =
     let q : FinQueue = c.queue-item.result in
-    let in_ : Contains c.args.queues.now q = subst (λ (k : FinQueue). Contains c.args.queues.now k) (sym c.queue-item.is) (Contains-get_or c.args.queues.now c.loop-queue.queue-index q c.loop-queue-test.true) in
+    let in_ : Contains c.args.queues.now q = subst (λ (k : FinQueue).
+    Contains c.args.queues.now k) (sym c.queue-item.is) (Contains-get_or c.args.queues.now c.loop-queue.queue-index q c.loop-queue-test.true) in
     λ w at k e. c.requires.small q w at in_ (subst (λ (l : List ℕ). Contains l w) c.words.ensures k) e
 
 pub loop-queue-preserved : goal.loop-queue-preserved
 loop-queue-preserved c =
     let q : FinQueue = c.queue-item.result in
-    let is : c.words.result.now ≡ (get_or c.args.queues.now c.loop-queue.queue-index c.queue-item.result).words = c.words.ensures ∙ ap (λ (k : FinQueue). k.words) c.queue-item.is in
+    let is : c.words.result.now ≡ (get_or c.args.queues.now c.loop-queue.queue-index c.queue-item.result).words = c.words.ensures ∙
+    ap (λ (k : FinQueue). k.words) c.queue-item.is in
     record {
-      marked = marked_more c.args.segments.now c.loop-queue.segments c.mark_all.new.segments c.args.self.now c.loop-queue.self c.mark_all.new.self c.loop-queue.invariant.marked c.mark_all.ensures.marked;
+      marked = marked_more c.args.segments.now c.loop-queue.segments c.mark_all.new.segments c.args.self.now c.loop-queue.self c.mark_all.new.self
+          c.loop-queue.invariant.marked c.mark_all.ensures.marked;
       turns = c.mark_all.ensures.turns ∙ c.loop-queue.invariant.turns;
       tied = λ o m h. subst (λ (k : Marks). IsTied o k c.mark_all.new.segments c.mark_all.new.self)
-          (ap (λ (l : List ℕ). with_words o (with_queues o m (take c.loop-queue.queue-index c.args.queues.now)) l) is ∙ sym (queues_more o m c.args.queues.now c.loop-queue.queue-index c.queue-item.result c.loop-queue-test.true))
+          (ap (λ (l : List ℕ). with_words o (with_queues o m (take c.loop-queue.queue-index c.args.queues.now)) l) is ∙
+          sym (queues_more o m c.args.queues.now c.loop-queue.queue-index c.queue-item.result c.loop-queue-test.true))
           (c.mark_all.ensures.tied o (with_queues o m (take c.loop-queue.queue-index c.args.queues.now)) (c.loop-queue.invariant.tied o m h));
     }

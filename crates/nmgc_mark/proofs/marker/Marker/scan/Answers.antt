@@ -14,19 +14,24 @@ scan_load-requires-clause-within c =
     omega arith
 
 pub header_of-header-requires : goal.header_of-header-requires
-header_of-header-requires c = header_there (seen c.args.seat.now) c.args.segments.now c.args.self.now c.args.at.0 c.scan_load.result c.requires.scanning c.scan_load.ensures.told
+header_of-header-requires c =
+    header_there (seen c.args.seat.now) c.args.segments.now c.args.self.now c.args.at.0 c.scan_load.result c.requires.scanning c.scan_load.ensures.told
 
 pub loop-field-init : goal.loop-field-init
 loop-field-init c =
     let v : Seen = seen c.args.seat.now in
-    let n = node_told v c.args.segments.now c.args.self.now c.args.at.0 c.scan_load.result c.header_of-header.result c.requires.scanning c.scan_load.ensures.told c.header_of-header.ensures in
+    let n = node_told v c.args.segments.now c.args.self.now c.args.at.0 c.scan_load.result c.header_of-header.result c.requires.scanning
+    c.scan_load.ensures.told c.header_of-header.ensures in
     record {
       collector = still_collector c.args.round.now c.args.seat.now c.scan_load.new.seat c.scan_load.result c.requires.collector c.scan_load.ensures.view;
-      later = one_scan c.args.round.now c.args.seat.now c.args.seat.now c.scan_load.new.seat c.scan_load.result (same_seat c.args.seat.now) c.scan_load.ensures.view;
+      later = one_scan c.args.round.now c.args.seat.now c.args.seat.now c.scan_load.new.seat c.scan_load.result (same_seat c.args.seat.now)
+          c.scan_load.ensures.view;
       marked = marked_none c.args.segments.now c.args.self.now c.requires.room;
       turns = refl;
-      at_field = subst (λ (u : Seen). IsAtField v u c.args.segments.now c.args.self.now c.args.at.0 c.fields_scanned-fields.result 0) (sym c.scan_load.ensures.view.2)
-          (first_field v c.args.segments.now c.args.self.now c.args.at.0 c.scan_load.result c.fields_scanned-fields.result c.header_of-header.result c.requires.scanning n c.fields_scanned-fields.ensures);
+      at_field = subst (λ (u : Seen).
+          IsAtField v u c.args.segments.now c.args.self.now c.args.at.0 c.fields_scanned-fields.result 0) (sym c.scan_load.ensures.view.2)
+          (first_field v c.args.segments.now c.args.self.now c.args.at.0 c.scan_load.result c.fields_scanned-fields.result c.header_of-header.result
+          c.requires.scanning n c.fields_scanned-fields.ensures);
     }
 
 pub scan_field-word-requires-clause-room : goal.scan_field-word-requires-clause-room
@@ -38,39 +43,51 @@ scan_field-word-requires-clause-scanning c = (c.loop-field.invariant.at_field.mo
 pub scan_field-word-requires-clause-within : goal.scan_field-word-requires-clause-within
 scan_field-word-requires-clause-within c =
     let v : Seen = seen c.args.seat.now in
-    let n = node_told v c.args.segments.now c.args.self.now c.args.at.0 c.scan_load.result c.header_of-header.result c.requires.scanning c.scan_load.ensures.told c.header_of-header.ensures in
+    let n = node_told v c.args.segments.now c.args.self.now c.args.at.0 c.scan_load.result c.header_of-header.result c.requires.scanning
+    c.scan_load.ensures.told c.header_of-header.ensures in
     let inv = c.loop-field.invariant in
-    let w = field_within v (seen c.loop-field.seat) c.loop-field.segments c.loop-field.self c.args.at.0 c.fields_scanned-fields.result c.loop-field.field c.header_of-header.result n inv.at_field c.loop-field-test.true c.fields_scanned-fields.ensures in
+    let w = field_within v (seen c.loop-field.seat) c.loop-field.segments c.loop-field.self c.args.at.0 c.fields_scanned-fields.result
+    c.loop-field.field c.header_of-header.result n inv.at_field c.loop-field-test.true c.fields_scanned-fields.ensures in
     let t = words_in c.args.round.now c.loop-field.seat inv.collector.0 in
     omega (arith, w, t)
 
 pub loop-field-preserved : goal.loop-field-preserved
 loop-field-preserved c =
     let v : Seen = seen c.args.seat.now in
-    let n = node_told v c.args.segments.now c.args.self.now c.args.at.0 c.scan_load.result c.header_of-header.result c.requires.scanning c.scan_load.ensures.told c.header_of-header.ensures in
+    let n = node_told v c.args.segments.now c.args.self.now c.args.at.0 c.scan_load.result c.header_of-header.result c.requires.scanning
+    c.scan_load.ensures.told c.header_of-header.ensures in
     let inv = c.loop-field.invariant in
     let done = c.scan_field-word.ensures in
     let w = c.scan_field-word.result in
     record {
       collector = still_collector c.args.round.now c.loop-field.seat c.scan_field-word.new.seat w inv.collector done.view;
       later = one_scan c.args.round.now c.args.seat.now c.loop-field.seat c.scan_field-word.new.seat w inv.later done.view;
-      marked = marked_more c.args.segments.now c.loop-field.segments c.scan_field-word.new.segments c.args.self.now c.loop-field.self c.scan_field-word.new.self inv.marked done.marked;
+      marked = marked_more c.args.segments.now c.loop-field.segments c.scan_field-word.new.segments c.args.self.now c.loop-field.self
+          c.scan_field-word.new.self inv.marked done.marked;
       turns = done.turns ∙ inv.turns;
-      at_field = subst (λ (u : Seen). IsAtField v u c.scan_field-word.new.segments c.scan_field-word.new.self c.args.at.0 c.fields_scanned-fields.result (c.loop-field.field + 1)) (sym done.view.2)
-          (next_field v (seen c.loop-field.seat) c.loop-field.segments c.scan_field-word.new.segments c.loop-field.self c.scan_field-word.new.self c.args.at.0 w c.fields_scanned-fields.result c.loop-field.field c.header_of-header.result n inv.at_field c.loop-field-test.true c.fields_scanned-fields.ensures done.tied (sym c.is_result.ensures ∙ c.if-is_result.false));
+      at_field = subst (λ (u : Seen).
+          IsAtField v u c.scan_field-word.new.segments c.scan_field-word.new.self c.args.at.0 c.fields_scanned-fields.result
+          (c.loop-field.field + 1)) (sym done.view.2)
+          (next_field v (seen c.loop-field.seat) c.loop-field.segments c.scan_field-word.new.segments c.loop-field.self c.scan_field-word.new.self
+          c.args.at.0 w c.fields_scanned-fields.result c.loop-field.field c.header_of-header.result n inv.at_field c.loop-field-test.true
+          c.fields_scanned-fields.ensures done.tied (sym c.is_result.ensures ∙ c.if-is_result.false));
     }
 
 pub returns-then-is_result-clause-worked : goal.returns-then-is_result-clause-worked
 returns-then-is_result-clause-worked c =
     let v : Seen = seen c.args.seat.now in
-    let n = node_told v c.args.segments.now c.args.self.now c.args.at.0 c.scan_load.result c.header_of-header.result c.requires.scanning c.scan_load.ensures.told c.header_of-header.ensures in
+    let n = node_told v c.args.segments.now c.args.self.now c.args.at.0 c.scan_load.result c.header_of-header.result c.requires.scanning
+    c.scan_load.ensures.told c.header_of-header.ensures in
     let inv = c.loop-field.invariant in
     let done = c.scan_field-word.ensures in
     let w = c.scan_field-word.result in
     record {
       collector = still_collector c.args.round.now c.loop-field.seat c.scan_field-word.new.seat w inv.collector done.view;
       later = one_scan c.args.round.now c.args.seat.now c.loop-field.seat c.scan_field-word.new.seat w inv.later done.view;
-      marked = marked_more c.args.segments.now c.loop-field.segments c.scan_field-word.new.segments c.args.self.now c.loop-field.self c.scan_field-word.new.self inv.marked done.marked;
+      marked = marked_more c.args.segments.now c.loop-field.segments c.scan_field-word.new.segments c.args.self.now c.loop-field.self
+          c.scan_field-word.new.self inv.marked done.marked;
       tied = subst (λ (u : Seen). IsTied u.opening (marks_seen u) c.scan_field-word.new.segments c.scan_field-word.new.self) (sym done.view.2)
-          (with_result v (seen c.loop-field.seat) c.loop-field.segments c.scan_field-word.new.segments c.loop-field.self c.scan_field-word.new.self c.args.at.0 w c.fields_scanned-fields.result c.loop-field.field c.header_of-header.result n inv.at_field c.loop-field-test.true c.fields_scanned-fields.ensures done.tied (sym c.is_result.ensures ∙ c.if-is_result.true));
+          (with_result v (seen c.loop-field.seat) c.loop-field.segments c.scan_field-word.new.segments c.loop-field.self c.scan_field-word.new.self
+          c.args.at.0 w c.fields_scanned-fields.result c.loop-field.field c.header_of-header.result n inv.at_field c.loop-field-test.true
+          c.fields_scanned-fields.ensures done.tied (sym c.is_result.ensures ∙ c.if-is_result.true));
     }

@@ -35,8 +35,11 @@ loop-field-init g c =
       turns = refl;
       each = λ o v a h.
           let n = header_alone c.scan.ensures o ws v s m c.args.at.0 c.load.result a h c.load.ensures.word in
-          let node = node_told v s m c.args.at.0 c.load.result c.header_of-header.result h n.1 c.header_of-header.ensures in
-          (scanned_by v c.load.result, n.0, first_field v s m c.args.at.0 c.load.result c.fields_scanned-fields.result c.header_of-header.result h node c.fields_scanned-fields.ensures);
+          let node = node_told v s m c.args.at.0 c.load.result c.header_of-header.result h n.1 c.header_of-header.ensures in (
+            scanned_by v c.load.result,
+            n.0,
+            first_field v s m c.args.at.0 c.load.result c.fields_scanned-fields.result c.header_of-header.result h node c.fields_scanned-fields.ensures,
+          );
     }
 
 pub load-word-requires : goal.load-word-requires
@@ -48,7 +51,8 @@ load-word-requires g c =
     let n = header_alone c.scan.ensures r.0 ws r.1 s m c.args.at.0 c.load.result r.2 r.3 c.load.ensures.word in
     let node = node_told r.1 s m c.args.at.0 c.load.result c.header_of-header.result r.3 n.1 c.header_of-header.ensures in
     let u = c.loop-field.invariant.each r.0 r.1 r.2 r.3 in
-    let w = field_within r.1 u.0 c.loop-field.segments c.loop-field.self c.args.at.0 c.fields_scanned-fields.result c.loop-field.field c.header_of-header.result node u.2 c.loop-field-test.true c.fields_scanned-fields.ensures in
+    let w = field_within r.1 u.0 c.loop-field.segments c.loop-field.self c.args.at.0 c.fields_scanned-fields.result c.loop-field.field
+    c.header_of-header.result node u.2 c.loop-field-test.true c.fields_scanned-fields.ensures in
     let t = (alone_total r.0 ws u.0 u.1).0 in
     let same = ap length c.loop-field.invariant.words in
     omega (arith, w, t, same)
@@ -63,8 +67,10 @@ mark_word-requires-clause-small g c =
     let u = c.loop-field.invariant.each r.0 r.1 r.2 r.3 in
     let i : ℕ = c.args.at.0 + 2 + c.loop-field.field in
     let word : c.load-word.result ≡ slice_index ws i = c.load-word.ensures.word ∙ ap (λ (l : List ℕ). slice_index l i) c.loop-field.invariant.words in
-    let n = field_alone c.scan.ensures r.0 ws r.1 u.0 c.loop-field.segments c.loop-field.self c.args.at.0 c.fields_scanned-fields.result c.loop-field.field i c.load-word.result u.1 u.2 c.loop-field-test.true refl word in
-    field_small r.0 ws r.1 u.0 c.loop-field.segments c.loop-field.self c.args.at.0 c.fields_scanned-fields.result c.loop-field.field c.load-word.result u.1 u.2 c.loop-field-test.true n.1
+    let n = field_alone c.scan.ensures r.0 ws r.1 u.0 c.loop-field.segments c.loop-field.self c.args.at.0 c.fields_scanned-fields.result
+    c.loop-field.field i c.load-word.result u.1 u.2 c.loop-field-test.true refl word in
+    field_small r.0 ws r.1 u.0 c.loop-field.segments c.loop-field.self c.args.at.0 c.fields_scanned-fields.result c.loop-field.field
+    c.load-word.result u.1 u.2 c.loop-field-test.true n.1
 
 pub loop-field-preserved : goal.loop-field-preserved
 loop-field-preserved g c =
@@ -75,17 +81,21 @@ loop-field-preserved g c =
     let word : c.load-word.result ≡ slice_index ws i = c.load-word.ensures.word ∙ ap (λ (l : List ℕ). slice_index l i) c.loop-field.invariant.words in
     record {
       words = c.load-word.ensures.same ∙ c.loop-field.invariant.words;
-      marked = marked_more s c.loop-field.segments c.mark_word.new.segments m c.loop-field.self c.mark_word.new.self c.loop-field.invariant.marked c.mark_word.ensures.marked;
+      marked = marked_more s c.loop-field.segments c.mark_word.new.segments m c.loop-field.self c.mark_word.new.self c.loop-field.invariant.marked
+          c.mark_word.ensures.marked;
       turns = c.mark_word.ensures.turns ∙ c.loop-field.invariant.turns;
       each = λ o v a h.
           let u = c.loop-field.invariant.each o v a h in
           let n = header_alone c.scan.ensures o ws v s m c.args.at.0 c.load.result a h c.load.ensures.word in
           let node = node_told v s m c.args.at.0 c.load.result c.header_of-header.result h n.1 c.header_of-header.ensures in
-          let next = field_alone c.scan.ensures o ws v u.0 c.loop-field.segments c.loop-field.self c.args.at.0 c.fields_scanned-fields.result c.loop-field.field i c.load-word.result u.1 u.2 c.loop-field-test.true refl word in
+          let next = field_alone c.scan.ensures o ws v u.0 c.loop-field.segments c.loop-field.self c.args.at.0 c.fields_scanned-fields.result
+          c.loop-field.field i c.load-word.result u.1 u.2 c.loop-field-test.true refl word in
           let tied = c.mark_word.ensures.tied u.0.opening (rest_of (marks_seen u.0)) (u.2.more c.loop-field-test.true).0.tied in (
             scanned_by u.0 c.load-word.result,
             next.0,
-            next_field v u.0 c.loop-field.segments c.mark_word.new.segments c.loop-field.self c.mark_word.new.self c.args.at.0 c.load-word.result c.fields_scanned-fields.result c.loop-field.field c.header_of-header.result node u.2 c.loop-field-test.true c.fields_scanned-fields.ensures tied (sym c.is_result.ensures ∙ c.if-is_result.false),
+            next_field v u.0 c.loop-field.segments c.mark_word.new.segments c.loop-field.self c.mark_word.new.self c.args.at.0 c.load-word.result
+                c.fields_scanned-fields.result c.loop-field.field c.header_of-header.result node u.2 c.loop-field-test.true
+                c.fields_scanned-fields.ensures tied (sym c.is_result.ensures ∙ c.if-is_result.false),
           );
     }
 
@@ -93,7 +103,9 @@ pub returns-then-is_result-clause-words : goal.returns-then-is_result-clause-wor
 returns-then-is_result-clause-words g c = c.load-word.ensures.same ∙ c.loop-field.invariant.words
 
 pub returns-then-is_result-clause-marked : goal.returns-then-is_result-clause-marked
-returns-then-is_result-clause-marked g c = marked_more c.args.segments.now c.loop-field.segments c.mark_word.new.segments c.args.self.now c.loop-field.self c.mark_word.new.self c.loop-field.invariant.marked c.mark_word.ensures.marked
+returns-then-is_result-clause-marked g c =
+    marked_more c.args.segments.now c.loop-field.segments c.mark_word.new.segments c.args.self.now c.loop-field.self c.mark_word.new.self
+    c.loop-field.invariant.marked c.mark_word.ensures.marked
 
 pub returns-then-is_result-clause-tied : goal.returns-then-is_result-clause-tied
 returns-then-is_result-clause-tied g c = λ o v a h.
@@ -105,10 +117,17 @@ returns-then-is_result-clause-tied g c = λ o v a h.
     let u = c.loop-field.invariant.each o v a h in
     let n = header_alone c.scan.ensures o ws v s m c.args.at.0 c.load.result a h c.load.ensures.word in
     let node = node_told v s m c.args.at.0 c.load.result c.header_of-header.result h n.1 c.header_of-header.ensures in
-    let next = field_alone c.scan.ensures o ws v u.0 c.loop-field.segments c.loop-field.self c.args.at.0 c.fields_scanned-fields.result c.loop-field.field i c.load-word.result u.1 u.2 c.loop-field-test.true refl word in
+    let next = field_alone c.scan.ensures o ws v u.0 c.loop-field.segments c.loop-field.self c.args.at.0 c.fields_scanned-fields.result
+    c.loop-field.field i c.load-word.result u.1 u.2 c.loop-field-test.true refl word in
     let tied = c.mark_word.ensures.tied u.0.opening (rest_of (marks_seen u.0)) (u.2.more c.loop-field-test.true).0.tied in
-    let done = with_result v u.0 c.loop-field.segments c.mark_word.new.segments c.loop-field.self c.mark_word.new.self c.args.at.0 c.load-word.result c.fields_scanned-fields.result c.loop-field.field c.header_of-header.result node u.2 c.loop-field-test.true c.fields_scanned-fields.ensures tied (sym c.is_result.ensures ∙ c.if-is_result.true) in
-    (scanned_by u.0 c.load-word.result, next.0, subst (λ (y : Opening). IsTied y (marks_seen (scanned_by u.0 c.load-word.result)) c.mark_word.new.segments c.mark_word.new.self) u.1.opening done)
+    let done = with_result v u.0 c.loop-field.segments c.mark_word.new.segments c.loop-field.self c.mark_word.new.self c.args.at.0
+    c.load-word.result c.fields_scanned-fields.result c.loop-field.field c.header_of-header.result node u.2 c.loop-field-test.true
+    c.fields_scanned-fields.ensures tied (sym c.is_result.ensures ∙ c.if-is_result.true) in (
+      scanned_by u.0 c.load-word.result,
+      next.0,
+      subst (λ (y : Opening).
+          IsTied y (marks_seen (scanned_by u.0 c.load-word.result)) c.mark_word.new.segments c.mark_word.new.self) u.1.opening done,
+    )
 
 pub returns-clause-tied : goal.returns-clause-tied
 returns-clause-tied g c = λ o v a h.

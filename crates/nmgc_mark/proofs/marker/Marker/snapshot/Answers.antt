@@ -14,7 +14,8 @@ use Rattle.nmgc_mark.proofs.marker.Marker.snapshot.Goals as goal
 
 pub mark_all-requires-clause-room : goal.mark_all-requires-clause-room
 mark_all-requires-clause-room g c =
-    let is : c.in_ok-marker.marker ≡ blank c.args.epoch (most_blocks c.args.segments.now.layout) = c.in_ok-marker.ensures ∙ ap (λ n. blank c.args.epoch n) (c.most_blocks-blocks.ensures ∙ ap most_blocks c.layout.ensures.layout) in
+    let is : c.in_ok-marker.marker ≡ blank c.args.epoch (most_blocks c.args.segments.now.layout) = c.in_ok-marker.ensures ∙
+    ap (λ n. blank c.args.epoch n) (c.most_blocks-blocks.ensures ∙ ap most_blocks c.layout.ensures.layout) in
     subst (λ (m : MarkerSeen). HasRoomToMark c.args.segments.now m) (sym is) (blank_room c.args.segments.now c.args.epoch c.layout.ensures.sound)
 
 pub mark_all-requires-clause-small : goal.mark_all-requires-clause-small
@@ -39,13 +40,18 @@ mark_shared-requires-clause-small g c = λ w at k e.
     omega (arith, l, t)
 
 pub returns-clause-turns : goal.returns-clause-turns
-returns-clause-turns g c = c.mark_shared.ensures.turns ∙ c.mark_queues.ensures.turns ∙ c.mark_all.ensures.turns ∙ ap (λ (m : MarkerSeen). m.turns) c.in_ok-marker.ensures
+returns-clause-turns g c = c.mark_shared.ensures.turns ∙ c.mark_queues.ensures.turns ∙ c.mark_all.ensures.turns ∙
+    ap (λ (m : MarkerSeen). m.turns) c.in_ok-marker.ensures
 
 pub returns-clause-tied : goal.returns-clause-tied
 returns-clause-tied g c = λ o b.
     let ws = g.W.HeapWords.words c.args.words.now in
     let first : Marks = marks_of (unmarked o.core.snapshot) in
-    let a = c.mark_all.ensures.tied o first (subst (λ (m : MarkerSeen). IsTied o first c.args.segments.now m) (sym c.in_ok-marker.ensures) (blank_tied o c.args.segments.now c.args.epoch c.most_blocks-blocks.result ws c.args.registers.now c.args.queues.now c.layout.ensures.sound b)) in
+    let a = c.mark_all.ensures.tied o first (subst (λ (m : MarkerSeen).
+    IsTied o first c.args.segments.now m) (sym c.in_ok-marker.ensures)
+    (blank_tied o c.args.segments.now c.args.epoch c.most_blocks-blocks.result ws c.args.registers.now c.args.queues.now c.layout.ensures.sound b)) in
     let d = c.mark_queues.ensures.tied o (with_words o first c.args.registers.now) a in
     let e = c.mark_shared.ensures.tied o (with_queues o (with_words o first c.args.registers.now) c.args.queues.now) d in
-    subst (λ (m : Marks). IsTied o m c.mark_shared.new.segments c.mark_shared.new.self) (roots_mark o c.args.segments.now c.args.epoch ws c.args.registers.now c.args.queues.now b) e
+    subst (λ (m : Marks).
+    IsTied o m c.mark_shared.new.segments c.mark_shared.new.self)
+    (roots_mark o c.args.segments.now c.args.epoch ws c.args.registers.now c.args.queues.now b) e

@@ -22,7 +22,11 @@ note_fields-requires-clause-can g c =
     let items = c.items-in-loop-next.result.now in
     let lt : c.loop-next.next < length c.loop-next.self.found.items = let g = ap length e in omega (arith, g, c.loop-next-test.true) in
     let there : c.loop-next.next < length items = let g = ap length f in omega (arith, g, lt) in
-    rw (c.loop-next.invariant.same) (can_still c.args.self.now c.loop-next.self (g.W.HeapWords.words c.args.words.now) c.loop-next.next (get_or items c.loop-next.next (record { 0 = 0 })) c.loop-next.invariant.follows lt (read items c.loop-next.self.found.items c.loop-next.next f there) c.requires.can)
+    rw (c.loop-next.invariant.same) (can_still c.args.self.now c.loop-next.self (g.W.HeapWords.words c.args.words.now) c.loop-next.next
+    (get_or items c.loop-next.next (record {
+      0 =
+          0;
+    })) c.loop-next.invariant.follows lt (read items c.loop-next.self.found.items c.loop-next.next f there) c.requires.can)
 
 pub loop-next-preserved : goal.loop-next-preserved
 loop-next-preserved g c =
@@ -32,9 +36,11 @@ loop-next-preserved g c =
     let lt : c.loop-next.next < length c.loop-next.self.found.items = let g = ap length e in omega (arith, g, c.loop-next-test.true) in
     let there : c.loop-next.next < length items = let g = ap length f in omega (arith, g, lt) in
     let x : Address = get_or items c.loop-next.next (record { 0 = 0 }) in
-    let notes = subst (λ (ws : List ℕ). Notes c.loop-next.self c.note_fields.new.self (HasStrong ws x.0)) c.loop-next.invariant.same c.note_fields.ensures.notes in
+    let notes = subst (λ (ws : List ℕ).
+    Notes c.loop-next.self c.note_fields.new.self (HasStrong ws x.0)) c.loop-next.invariant.same c.note_fields.ensures.notes in
     record {
-      follows = following_more c.args.self.now c.loop-next.self c.note_fields.new.self (g.W.HeapWords.words c.args.words.now) c.loop-next.next x c.loop-next.invariant.follows lt (read items c.loop-next.self.found.items c.loop-next.next f there) notes;
+      follows = following_more c.args.self.now c.loop-next.self c.note_fields.new.self (g.W.HeapWords.words c.args.words.now) c.loop-next.next x
+          c.loop-next.invariant.follows lt (read items c.loop-next.self.found.items c.loop-next.next f there) notes;
       same = c.note_fields.ensures.same ∙ c.loop-next.invariant.same;
     }
 

@@ -15,13 +15,15 @@ load-word-requires g c =
 pub note-requires-clause-within : goal.note-requires-clause-within
 note-requires-clause-within g c =
     let read = c.load-word.ensures.word ∙ ap (λ (xs : List ℕ). slice_index xs c.loop-at.at) c.loop-at.invariant.same in
-    still_within c.args.self.now c.loop-at.self (IsAmong (g.W.HeapWords.words c.args.words.now) c.args.from c.loop-at.at) c.load-word.result c.loop-at.invariant.notes (c.requires.within c.load-word.result (c.loop-at.at, omega arith, omega arith, sym read))
+    still_within c.args.self.now c.loop-at.self (IsAmong (g.W.HeapWords.words c.args.words.now) c.args.from c.loop-at.at) c.load-word.result
+    c.loop-at.invariant.notes (c.requires.within c.load-word.result (c.loop-at.at, omega arith, omega arith, sym read))
 
 pub loop-at-preserved : goal.loop-at-preserved
 loop-at-preserved g c =
     let read = c.load-word.ensures.word ∙ ap (λ (xs : List ℕ). slice_index xs c.loop-at.at) c.loop-at.invariant.same in
     record {
-      notes = among_more c.args.self.now c.loop-at.self c.note.new.self (g.W.HeapWords.words c.args.words.now) c.args.from c.loop-at.at c.load-word.result (omega arith) read c.loop-at.invariant.notes c.note.ensures;
+      notes = among_more c.args.self.now c.loop-at.self c.note.new.self (g.W.HeapWords.words c.args.words.now) c.args.from c.loop-at.at
+          c.load-word.result (omega arith) read c.loop-at.invariant.notes c.note.ensures;
       same = c.load-word.ensures.same ∙ c.loop-at.invariant.same;
     }
 

@@ -17,4 +17,5 @@ returns-clause-fitting c =
     let w = is_whole _ c.requires.words in
     let last = last_class _ class w c.class_of.ensures.holds c.class_of.ensures.least in
     let all : class + 1 ≡ w.steps + 13 = omega (arith, last) in
-    λ d. subst (λ (n : ℕ). (d < n) ↔ (block_size d ≤ c.args.self.now.words)) (sym all) (subst (λ (n : ℕ). (d < w.steps + 13) ↔ (block_size d ≤ n)) (sym w.is) (fitting w.steps d))
+    λ d. subst (λ (n : ℕ). (d < n) ↔ (block_size d ≤ c.args.self.now.words)) (sym all) (subst (λ (n : ℕ). (d < w.steps + 13) ↔
+    (block_size d ≤ n)) (sym w.is) (fitting w.steps d))

@@ -4,5 +4,8 @@ use Rattle.nmgc_round.proofs.table.Round.bar_asked.Goals as goal
 pub load-requires : goal.load-requires
 load-requires g c =
     let t = c.args.self.now.table.shared in
-    let p = c.args.seat.now in
-    (c.requires.seat.0, c.requires.within, rw c.requires.asked (barred_allows t.table_id.slots p.id p.me c.requires.seat.1 1 c.requires.ready.0 c.args.command.now c.requires.ready.1))
+    let p = c.args.seat.now in (
+      c.requires.seat.0,
+      c.requires.within,
+      rw c.requires.asked (barred_allows t.table_id.slots p.id p.me c.requires.seat.1 1 c.requires.ready.0 c.args.command.now c.requires.ready.1),
+    )

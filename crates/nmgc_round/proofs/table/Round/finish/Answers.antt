@@ -19,6 +19,7 @@ returns c =
     let is : seen c.gather-last.result ≡ v = c.gather-last.ensures.1 in
     let same : v.opening ≡ o = same_opening (seen c.args.collector) (map seen c.args.mutators) ∙ c.requires.seats.1.2 in
     record {
-      leaves = leaves o c.end.result v (subst (λ (u : Seen). IsFinished o c.end.result u) is c.end.ensures.0) (subst (λ (y : Opening). HasEach y v) same c.requires.all.1);
+      leaves = leaves o c.end.result v (subst (λ (u : Seen). IsFinished o c.end.result u) is c.end.ensures.0) (subst (λ (y : Opening).
+          HasEach y v) same c.requires.all.1);
       count = c.end.ensures.1;
     }

@@ -9,8 +9,11 @@ pub load-requires : goal.load-requires
 load-requires g c =
     let t = c.args.self.now.table.shared in
     let p = c.args.seat.now in
-    let place = c.requires.place in
-    (c.requires.seat.0, c.requires.within, rw (place.0, place.1) (peek_allows t.table_id.slots p.id p.me c.requires.seat.1 c.args.at.0 c.args.slot c.requires.ready))
+    let place = c.requires.place in (
+      c.requires.seat.0,
+      c.requires.within,
+      rw (place.0, place.1) (peek_allows t.table_id.slots p.id p.me c.requires.seat.1 c.args.at.0 c.args.slot c.requires.ready),
+    )
 
 pub returns-clause-tells : goal.returns-clause-tells
 returns-clause-tells g c =

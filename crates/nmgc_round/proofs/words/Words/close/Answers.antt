@@ -10,5 +10,6 @@ pub returns-clause-words : goal.returns-clause-words
 returns-clause-words c =
     let p = c.self.inside.seat in
     let k = c.close_with.result in
-    let last = subst (λ (v : Seen). Final (SeenIn holding p.id v) (slots_items k.words) (slots_items k.slots)) c.self.invariant.2 c.close_with.ensures.values.2 in
+    let last = subst (λ (v : Seen).
+    Final (SeenIn holding p.id v) (slots_items k.words) (slots_items k.slots)) c.self.invariant.2 c.close_with.ensures.values.2 in
     final p.id (words_of p) (slots_items k.words) (slots_items k.slots) last ∙ c.self.view_is

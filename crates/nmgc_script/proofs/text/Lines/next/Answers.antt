@@ -4,7 +4,9 @@ use Rattle.nmgc_script.proofs.text.Lines.next.Goals as goal
 
 pub returns-then-not-is_passed-clause-line : goal.returns-then-not-is_passed-clause-line
 returns-then-not-is_passed-clause-line c =
-    sym c.loop-line.invariant.kept ∙ kept c.loop-line.self.number c.loop-line.self.rest.now c.in-Some.line.now c.in-Some.rest.now c.in-Some.ensures.line (sym c.is_passed.ensures ∙ c.if-not-is_passed.true)
+    sym c.loop-line.invariant.kept ∙
+    kept c.loop-line.self.number c.loop-line.self.rest.now c.in-Some.line.now c.in-Some.rest.now c.in-Some.ensures.line
+    (sym c.is_passed.ensures ∙ c.if-not-is_passed.true)
 
 pub returns-then-not-is_passed-clause-end : goal.returns-then-not-is_passed-clause-end
 returns-then-not-is_passed-clause-end c =
@@ -12,7 +14,8 @@ returns-then-not-is_passed-clause-end c =
 
 pub loop-line-preserved : goal.loop-line-preserved
 loop-line-preserved c = record {
-  kept = passed c.loop-line.self.number c.loop-line.self.rest.now c.in-Some.line.now c.in-Some.rest.now c.in-Some.ensures.line (sym c.is_passed.ensures ∙ c.if-not-is_passed.false) ∙ c.loop-line.invariant.kept;
+  kept = passed c.loop-line.self.number c.loop-line.self.rest.now c.in-Some.line.now c.in-Some.rest.now c.in-Some.ensures.line
+      (sym c.is_passed.ensures ∙ c.if-not-is_passed.false) ∙ c.loop-line.invariant.kept;
   end = counted c.loop-line.self.number c.loop-line.self.rest.now c.in-Some.line.now c.in-Some.rest.now c.in-Some.ensures.line ∙ c.loop-line.invariant.end;
   less = omega (arith, c.in-Some.ensures.less);
 }

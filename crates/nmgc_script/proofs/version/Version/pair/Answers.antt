@@ -14,4 +14,5 @@ returns-in_err-second c =
     rw (p.1, p.2) (second_fails (operand_at c.args.self) c.args.first.now c.args.second.now c.in_ok-first.first _ c.in_ok-first.ensures c.in_err-second.ensures)
 
 pub returns : goal.returns
-returns c = rw c.pair.ensures (both_read (operand_at c.args.self) c.args.first.now c.args.second.now c.in_ok-first.first c.in_ok-second.second c.in_ok-first.ensures c.in_ok-second.ensures)
+returns c = rw c.pair.ensures (both_read (operand_at c.args.self) c.args.first.now c.args.second.now c.in_ok-first.first c.in_ok-second.second
+    c.in_ok-first.ensures c.in_ok-second.ensures)

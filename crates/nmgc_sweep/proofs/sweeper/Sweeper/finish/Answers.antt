@@ -11,7 +11,8 @@ returns-clause-swept g c =
     let waiting = c.sweep_count-waiting.ensures in
     let many = c.sweep_some.ensures.many in
     let same : c.sweep_some.result ≡ length left = omega (arith, all, waiting, many) in
-    subst (λ (k : ℕ). HasSwept c.args.segments.now c.sweep_some.new.segments c.args.names.now c.args.self.now c.sweep_some.new.self k) same c.sweep_some.ensures.swept
+    subst (λ (k : ℕ). HasSwept c.args.segments.now c.sweep_some.new.segments c.args.names.now c.args.self.now c.sweep_some.new.self k) same
+    c.sweep_some.ensures.swept
 
 pub returns-clause-finished : goal.returns-clause-finished
 returns-clause-finished g c =

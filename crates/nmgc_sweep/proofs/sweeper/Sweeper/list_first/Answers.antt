@@ -16,7 +16,8 @@ loop-listed-preserved c =
     let was = c.loop-listed.invariant.fewer in
     let one = listed_fewer c.args.segments.now c.args.names.now c.loop-listed.self c.list_next.new.self c.list_next.ensures in
     record {
-      done = listed_more c.args.segments.now c.args.names.now c.loop-listed._listed c.args.self.now c.loop-listed.self c.list_next.new.self c.loop-listed.invariant.done c.list_next.ensures;
+      done = listed_more c.args.segments.now c.args.names.now c.loop-listed._listed c.args.self.now c.loop-listed.self c.list_next.new.self
+          c.loop-listed.invariant.done c.list_next.ensures;
       can = can_list_next c.args.segments.now c.args.names.now c.loop-listed.self c.list_next.new.self c.loop-listed.invariant.can c.list_next.ensures;
       fewer = omega (arith, was, one);
     }

@@ -47,10 +47,13 @@ returns-clause-swept g c =
     let least = c.min-count.ensures in
     let many = c.sweep_many.ensures.count in
     let same : c.sweep_many.result ≡ count = omega (arith, all, waiting, least, many) in
-    let epoch : c.self.inside.epoch ≡ x.seen.epoch = ap (λ (s : Sweeper). s.seen.epoch) c.self.view_is ∙ (listed_keeps old c.args.names.now count x y c.list_first.ensures).0 in
-    let swept : SweepsMany x.seen.epoch count old new = subst (λ (k : ℕ). SweepsMany k count old new) epoch (subst (λ (k : ℕ). SweepsMany c.self.inside.epoch k old new) same c.sweep_many.ensures.swept) in
+    let epoch : c.self.inside.epoch ≡ x.seen.epoch = ap (λ (s : Sweeper). s.seen.epoch) c.self.view_is ∙
+    (listed_keeps old c.args.names.now count x y c.list_first.ensures).0 in
+    let swept : SweepsMany x.seen.epoch count old new = subst (λ (k : ℕ).
+    SweepsMany k count old new) epoch (subst (λ (k : ℕ). SweepsMany c.self.inside.epoch k old new) same c.sweep_many.ensures.swept) in
     subst (λ (k : ℕ). HasSwept old new c.args.names.now x y k) (sym same)
-    (all_swept old old new c.args.names.now count x y (subst (λ (k : ℕ). IsEpoch k) epoch c.self.invariant.0) c.requires.left refl (λ n has. refl) c.list_first.ensures swept)
+    (all_swept old old new c.args.names.now count x y (subst (λ (k : ℕ). IsEpoch k) epoch c.self.invariant.0) c.requires.left refl (λ n has.
+    refl) c.list_first.ensures swept)
 
 pub returns-clause-turns : goal.returns-clause-turns
 returns-clause-turns g c =

@@ -11,7 +11,10 @@ returns-clause-swept g c =
     let new = c.sweep_some-swept.new.segments in
     let turns = c.counted-self-inside.result in
     let upper = c.counted-self-inside-2.result in
-    subst (λ (s : Sweeper). HasSwept old new c.args.names.now c.args.self.now (record s { turns = turns; upper_turns = upper }) c.sweep_some-swept.result) (sym c.self-2.view_is)
+    subst (λ (s : Sweeper). HasSwept old new c.args.names.now c.args.self.now (record s {
+      turns = turns;
+      upper_turns = upper;
+    }) c.sweep_some-swept.result) (sym c.self-2.view_is)
     (swept_counted old new c.args.names.now c.args.self.now c.sweep_some-swept.new.self turns upper c.sweep_some-swept.result c.sweep_some-swept.ensures.swept)
 
 pub returns-clause-turns : goal.returns-clause-turns

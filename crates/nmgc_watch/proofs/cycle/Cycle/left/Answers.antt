@@ -8,7 +8,8 @@ use Rattle.nmgc_watch.proofs.cycle.Cycle.left.Goals as goal
 pub closed-requires-clause-alive : goal.closed-requires-clause-alive
 closed-requires-clause-alive c =
     subst (λ (l : List Name). All (IsAliveWeak c.self.inside.world) l) (sym c.items.ensures)
-    (dying_alive c.self.inside.marks c.self.inside.debts c.self.inside.world c.self.inside.snapshot c.self.inside.remembered c.self.inside.finalised _ c.in_ok-dead.dead c.self.invariant (rw (← c.self.view_is) at c.in_ok-dead.ensures))
+    (dying_alive c.self.inside.marks c.self.inside.debts c.self.inside.world c.self.inside.snapshot c.self.inside.remembered c.self.inside.finalised
+    _ c.in_ok-dead.dead c.self.invariant (rw (← c.self.view_is) at c.in_ok-dead.ensures))
 
 pub returns : goal.returns
 returns c =

@@ -12,11 +12,13 @@ returns-clause-settle c = elim c.match-owed_by.branch [
       rw (w.result-is, ← c.self.view_is) (
         w.in-Some.debt,
         refl,
-        subst (λ (l : List Debt). Contains l w.in-Some.debt) c.forget_paid.ensures.same (subst (λ (l : List Debt). Contains (unpaid c.self.inside.marks l) w.in-Some.debt) c.items.ensures p.0),
+        subst (λ (l : List Debt). Contains l w.in-Some.debt) c.forget_paid.ensures.same (subst (λ (l : List Debt).
+            Contains (unpaid c.self.inside.marks l) w.in-Some.debt) c.items.ensures p.0),
         p.1,
       )
   | in-None w ↦
       rw (w.result-is, ← c.self.view_is) (λ debt k own.
       c.owed_by.ensures.none w.in-None.is debt
-      (subst (λ (l : List Debt). Contains (unpaid c.self.inside.marks l) debt) (sym c.items.ensures) (subst (λ (l : List Debt). Contains l debt) (sym c.forget_paid.ensures.same) k)) own)
+      (subst (λ (l : List Debt). Contains (unpaid c.self.inside.marks l) debt) (sym c.items.ensures) (subst (λ (l : List Debt).
+      Contains l debt) (sym c.forget_paid.ensures.same) k)) own)
 ]

@@ -13,15 +13,26 @@ pub returns-then-contains : goal.returns-then-contains
 returns-then-contains c =
     let n : Name = get_or c.args.names.now c.loop-name.name-index (record { maker = 0; serial = 0 }) in
     let marked = sym c.contains.ensures ∙ c.if-contains.true in
-    inr (n, refl, Contains-get_or c.args.names.now c.loop-name.name-index (record { maker = 0; serial = 0 }) c.loop-name-test.true, subst (λ (l : List Name). Contains l n) c.items.ensures (c.in_ok-set.ensures.sound n marked))
+    inr (
+      n,
+      refl,
+      Contains-get_or c.args.names.now c.loop-name.name-index (record { maker = 0; serial = 0 }) c.loop-name-test.true,
+      subst (λ (l : List Name). Contains l n) c.items.ensures (c.in_ok-set.ensures.sound n marked),
+    )
 
 pub loop-name-preserved : goal.loop-name-preserved
 loop-name-preserved c =
     let n : Name = get_or c.args.names.now c.loop-name.name-index (record { maker = 0; serial = 0 }) in
-    let there : IsSome (node_of c.args.self.now.world n) = not_none_there c.node.result _ c.node.ensures (ap not (c.is_none.ensures ∙ ap not c.if-is_none.false)) in
+    let there : IsSome (node_of c.args.self.now.world n) = not_none_there c.node.result _ c.node.ensures (ap not (c.is_none.ensures ∙
+    ap not c.if-is_none.false)) in
     let free = sym c.contains.ensures ∙ c.if-contains.false in
-    each_more (λ (x : Name). IsSome (node_of c.args.self.now.world x) × (Contains c.args.self.now.needed x → ⊥)) c.args.names.now c.loop-name.name-index (record { maker = 0; serial = 0 }) c.loop-name-test.true c.loop-name.invariant
+    each_more (λ (x : Name). IsSome (node_of c.args.self.now.world x) ×
+    (Contains c.args.self.now.needed x → ⊥)) c.args.names.now c.loop-name.name-index (record {
+      maker = 0;
+      serial = 0;
+    }) c.loop-name-test.true c.loop-name.invariant
     (there, λ k. false≢true (sym free ∙ c.in_ok-set.ensures.complete n (subst (λ (l : List Name). Contains l n) (sym c.items.ensures) k) there))
 
 pub returns : goal.returns
-returns c = each_all (λ (x : Name). IsSome (node_of c.args.self.now.world x) × (Contains c.args.self.now.needed x → ⊥)) c.args.names.now c.loop-name.name-index c.loop-name-test.false c.loop-name.invariant
+returns c = each_all (λ (x : Name). IsSome (node_of c.args.self.now.world x) ×
+    (Contains c.args.self.now.needed x → ⊥)) c.args.names.now c.loop-name.name-index c.loop-name-test.false c.loop-name.invariant

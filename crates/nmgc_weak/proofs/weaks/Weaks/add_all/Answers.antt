@@ -15,7 +15,8 @@ returns-clause-list c = λ other.
     let list : c.as_slice.result.now ≡ c.args.self.now.list = c.as_slice.ensures.value ∙ ap (λ (a : Weaks). a.list) c.self.view_is in
     let items : c.swap.new.x.items ≡ c.merge.new.all.items = ap (λ v. v.items) c.swap.ensures.x_after in
     subst (λ (l : List OldWeak). Contains l other ↔ (Contains c.args.self.now.list other ⊎ Contains c.args.fresh.now other)) (sym items)
-    (subst (λ (l : List OldWeak). Contains c.merge.new.all.items other ↔ (Contains l other ⊎ Contains c.args.fresh.now other)) list (c.merge.ensures.both other))
+    (subst (λ (l : List OldWeak). Contains c.merge.new.all.items other ↔
+    (Contains l other ⊎ Contains c.args.fresh.now other)) list (c.merge.ensures.both other))
 
 pub returns-clause-ordered : goal.returns-clause-ordered
 returns-clause-ordered c =

@@ -20,7 +20,8 @@ invariant_of-self g c =
     let cap = c.gather_alive.ensures.capacity in
     let clear = c.clear.ensures.capacity in
     let ordered : IsInOrder (names_of (alive_of ws c.self.inside.list.items)) = filter_ordered (is_alive ws) c.self.inside.list.items inv.0 in
-    let items : c.swap.new.x.items ≡ alive_of ws c.self.inside.list.items = ap (λ v. v.items) c.swap.ensures.x_after ∙ c.gather_alive.ensures.kept ∙ ap (λ (l : List OldWeak). alive_of ws l) c.as_slice.ensures.value in (
+    let items : c.swap.new.x.items ≡ alive_of ws c.self.inside.list.items = ap (λ v. v.items) c.swap.ensures.x_after ∙ c.gather_alive.ensures.kept ∙
+    ap (λ (l : List OldWeak). alive_of ws l) c.as_slice.ensures.value in (
       subst (λ (l : List OldWeak). IsInOrder (names_of l)) (sym items) ordered,
       rw c.swap.ensures.x_after (omega (arith, few, len, inv.1)),
       rw c.swap.ensures.x_after (omega (arith, cap, clear, inv.3)),
