@@ -1,0 +1,222 @@
+"""A run of few rounds: each round and each stop has a place of its own, and says its numbers.
+
+Time goes from left to right, and every round has the same width. Grey bands are stops, at which all mutators stand still.
+There is a lane for each mutator (the commands that it did in each round), one for the collector (whether it marked or
+swept beside them), one for the cycles (from snapshot over closing to end), one for what was promoted, and an area for the
+segments.
+"""
+from .svg import SIZE, WIDTH, Sheet, first_fitting, fit
+
+LEFT, RIGHT = 128, 16
+MOST = 20  # rounds; of more no numbers can be read
+GREY, DARK, LIGHT = "#bdbdbd", "#666", "#d9d9d9"
+
+
+class Rounds(Sheet):
+    """The sheet of such a picture: where each stop and each round is."""
+
+    def __init__(self, run):
+        super().__init__("run", ("marks", "sweeps", "waiting"))
+        rounds = max(run.rounds, 1)
+        self.run = run
+        self.stop_width = min(46, (WIDTH - LEFT - RIGHT) * 0.3 / (rounds + 1))
+        self.round_width = (WIDTH - LEFT - RIGHT - self.stop_width * (rounds + 1)) / rounds
+
+    def numbers(self):
+        return range(self.run.first, self.run.last + 1)
+
+    def stop_left(self, stop):
+        return LEFT + (stop - self.run.first + 1) * (self.stop_width + self.round_width)
+
+    def middle(self, stop):
+        return self.stop_left(stop) + self.stop_width / 2
+
+    def round_left(self, number):
+        return self.stop_left(number) - self.round_width
+
+    def lane(self, words, below=""):
+        """The name of the lane that begins at `y`."""
+        self.text(LEFT - 12, self.y + 15, words, "end")
+        if below:
+            self.text(LEFT - 12, self.y + 31, below, "end", font_size=11)
+
+
+def heading(sheet, title):
+    """Title, and the numbers of rounds and stops."""
+    run = sheet.run
+    end = run.left_out or f"end {run.end}"
+    sheet.text(12, 24, fit(title, WIDTH - 60 - len(end) * 8, 15), "start", font_weight="bold", font_size=15)
+    sheet.text(WIDTH - RIGHT, 24, end, "end")
+    sheet.y = 40
+    sheet.lane("rounds")
+    wide = sheet.round_width
+    for number in sheet.numbers():
+        words = first_fitting(wide + 8, (f"round {number}", str(number)))
+        if words:
+            sheet.text(sheet.round_left(number) + wide / 2, sheet.y + 15, words)
+    sheet.y += 20
+    sheet.lane("stops")
+    for stop in run.stops:
+        words = first_fitting(sheet.stop_width + 12, (f"stop {stop.number}", str(stop.number)))
+        if words:
+            sheet.text(sheet.middle(stop.number), sheet.y + 15, words)
+    sheet.y += 24
+
+
+def mutators(sheet):
+    """A lane for each mutator: a box for each round, as high as it did commands, with their number."""
+    run = sheet.run
+    height, apart = (30, 12) if len(run.commands) <= 8 else (16, 4)
+    most = max((count for row in run.commands for count in row), default=1) or 1
+    for mutator, row in enumerate(run.commands):
+        sheet.lane(f"mutator {mutator}", "commands done" if mutator == 0 and height == 30 else "")
+        base = sheet.y + height
+        for number, commands in zip(sheet.numbers(), row):
+            left, wide = sheet.round_left(number), sheet.round_width
+            if commands:
+                tall = max(4, height * commands / most)
+                sheet.rect(left, base - tall, wide, tall, GREY)
+                sheet.label(left + wide / 2, base - (9 if height == 30 else 4), wide, str(commands), size=SIZE if height == 30 else 11)
+            else:
+                sheet.line(left, base, left + wide, base)
+        sheet.y += height + apart
+
+
+def collector(sheet):
+    """What the collector did in each round, beside the mutators: the phase that the stop before it told."""
+    sheet.lane("collector", "beside them")
+    for number in sheet.numbers():
+        phase = sheet.run.stop(number - 1).phase
+        does = {"marking": "marks", "sweeping": "sweeps"}.get(phase)
+        left, wide = sheet.round_left(number), sheet.round_width
+        if does:
+            sheet.rect(left, sheet.y, wide, 28, sheet.fill(does))
+            sheet.label(left + wide / 2, sheet.y + 19, wide, does)
+        else:
+            sheet.line(left, sheet.y + 28, left + wide, sheet.y + 28)
+    sheet.y += 44
+
+
+def sign(sheet, x, y, shape):
+    """The sign of a snapshot (a triangle), a closing (a diamond) or an end (a square)."""
+    path = {"snapshot": "-7,-7 H7 L0,7 Z", "closing": "0,-8 L8,0 L0,8 L-8,0 Z", "end": "-6,-6 H6 V6 H-6 Z"}[shape]
+    fill = {"snapshot": "#000", "closing": "#fff", "end": "#000"}[shape]
+    sheet.put(f'<path d="M{path}" transform="translate({x:.1f},{y:.1f})" fill="{fill}" stroke="#000" stroke-width="1.5"/>')
+
+
+def places(sheet, cycle):
+    """Where a cycle's snapshot, closing and end are drawn: beside each other where they are at one stop."""
+    middle, apart = sheet.middle, min(9, sheet.stop_width * 0.45)
+    start, closed, end = middle(cycle.start) + apart, middle(cycle.closed), middle(cycle.end) - apart
+    if cycle.is_full:
+        return closed - 1.6 * apart, closed, closed + 1.6 * apart
+    if cycle.closed == cycle.end:
+        return start, closed - apart, closed + apart * 0.8
+    return start, closed, end
+
+
+def told(sheet, cycle, x, y, wide):
+    """What a cycle freed and kept, in one line or two."""
+    freed, kept = f"freed {cycle.freed}", f"kept {cycle.kept}"
+    named = freed + (f" ({' '.join(cycle.names)})" if 0 < cycle.freed <= len(cycle.names) else "")
+    one = first_fitting(wide - 6, (f"{named}, {kept}", f"{freed}, {kept}"))
+    for at, words in enumerate([one] if one else [freed, kept]):
+        sheet.text(x, y + 15 * at, first_fitting(wide + 12, (words,)))
+
+
+def cycles(sheet):
+    """Each cycle as a bar from its snapshot to its end, with what it freed and kept."""
+    sheet.lane("cycles", "snapshot to end")
+    top, height, run = sheet.y + 22, 22, sheet.run
+    before, after = sheet.middle(run.first - 1), sheet.middle(run.last)
+    for cycle in run.cycles:
+        ways = [min(max(x, before - 23), after + 23) for x in places(sheet, cycle)]
+        start, closed, end = ways
+        sheet.rect(start, top, closed - start, height, sheet.fill("marks"))
+        sheet.rect(closed, top, end - closed, height, sheet.fill("sweeps"))
+        wide = max(end - start, sheet.stop_width + 36 * cycle.is_full)
+        middle = min((start + end) / 2, WIDTH - 4 - wide / 2)
+        kind = "full cycle" if cycle.is_full else "cycle"
+        words = first_fitting(wide + 8, (f"{kind} {cycle.number}", f"cycle {cycle.number}", str(cycle.number)))
+        sheet.text(middle, top - 8, words, font_weight="bold")
+        if cycle.end <= run.last:
+            told(sheet, cycle, middle, top + height + 17, wide)
+        for x, shape, stop in zip(ways, ("snapshot", "closing", "end"), (cycle.start, cycle.closed, cycle.end)):
+            if run.first - 1 <= stop <= run.last:
+                sign(sheet, x, top + height / 2, shape)
+    sheet.y = top + height + 48
+
+
+def promoted(sheet):
+    """How many objects each stop moved from the nurseries into segments."""
+    sheet.lane("promoted", "nursery to segment")
+    for stop in sheet.run.stops:
+        words = first_fitting(sheet.stop_width + sheet.round_width - 4, (str(stop.promoted),))
+        sheet.text(sheet.middle(stop.number), sheet.y + 16, words)
+    sheet.y += 44
+
+
+def area(sheet, base, unit, below, counts, fill):
+    """One of the areas on top of each other: a path with a step at the middle of each stop, closed along what lies below."""
+    if not any(counts):
+        return
+    edges = [sheet.middle(stop.number) for stop in sheet.run.stops] + [WIDTH - RIGHT]
+    upper, lower = [], []
+    for at, (under, height) in enumerate(zip(below, counts)):
+        for x in edges[at : at + 2]:
+            upper.append(f"{x:.1f},{base - unit * (under + height):.1f}")
+            lower.append(f"{x:.1f},{base - unit * under:.1f}")
+    sheet.path(f"M{' L'.join(upper + lower[::-1])} Z", fill, more=' stroke-width="0.8"')
+
+
+def segments(sheet):
+    """The segments as areas, from below: filled, waiting for a sweep, in use with room; free ones are the rest above."""
+    run, height = sheet.run, 96
+    used = [run.segments - stop.free for stop in run.stops]
+    top = run.segments if max(used) * 4 >= run.segments else max(2, max(used) + 1)
+    sheet.lane("segments", f"{top} of {run.segments} shown" if top < run.segments else f"{run.segments} in all")
+    base, unit = sheet.y + 18 + height, height / max(top, 1)
+    filled = [stop.filled for stop in run.stops]
+    waiting = [stop.waiting for stop in run.stops]
+    taken = [a + b for a, b in zip(filled, waiting)]
+    area(sheet, base, unit, [0] * len(used), filled, DARK)
+    area(sheet, base, unit, filled, waiting, sheet.fill("waiting"))
+    area(sheet, base, unit, taken, [a - b for a, b in zip(used, taken)], LIGHT)
+    wide = sheet.stop_width + sheet.round_width
+    for stop in run.stops[: run.rounds]:
+        words = first_fitting(wide - 4, (f"{stop.free} free", str(stop.free)))
+        sheet.text(sheet.middle(stop.number) + wide / 2, sheet.y + 12, words)
+    sheet.path(f"M{LEFT},{base - height:.1f} V{base:.1f} H{WIDTH - RIGHT}")
+    sheet.y = base + 30
+
+
+def key(sheet):
+    """What the signs and patterns mean."""
+    x, y = 12, sheet.y
+    for shape in ("snapshot", "closing", "end"):
+        sign(sheet, x + 8, y - 5, shape)
+        sheet.text(x + 22, y, shape, "start")
+        x += 22 + len(shape) * 8 + 16
+    for fill, words in ((DARK, "filled"), (sheet.fill("waiting"), "waiting for a sweep"), (LIGHT, "in use, with room")):
+        sheet.rect(x, y - 13, 22, 15, fill)
+        sheet.text(x + 28, y, words, "start")
+        x += 28 + len(words) * 7.6 + 16
+    sheet.rect(x, y - 13, 22, 15, "#ececec", "none")
+    sheet.text(x + 28, y, "stop: all stand still", "start")
+    sheet.y += 14
+
+
+def drawn(run, title):
+    """The picture of a run of `MOST` rounds at most, as SVG text."""
+    sheet = Rounds(run)
+    heading(sheet, title)
+    top, behind = sheet.y - 4, len(sheet.out)
+    for lane in (mutators, collector, cycles, promoted, segments):
+        lane(sheet)
+    bands = Sheet("", ())
+    for stop in run.stops:
+        bands.rect(sheet.stop_left(stop.number), top, sheet.stop_width, sheet.y - 30 - top, "#ececec", "none")
+    sheet.out[behind:behind] = bands.out
+    key(sheet)
+    told = f"{run.rounds} rounds, {len(run.stops)} stops, {len(run.cycles)} cycles; end {run.end}"
+    return sheet.svg(title, told)

@@ -1,0 +1,1 @@
+"""Tests of the pictures: `tools/test_pictures` runs them."""
