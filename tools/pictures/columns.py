@@ -20,8 +20,8 @@ BOX = 46  # pixels that a box of gathered cycles is to have
 class Columns(Sheet):
     """The sheet of such a picture: which rounds are in which column, and where a stop is."""
 
-    def __init__(self, run):
-        super().__init__("run", ("marks", "sweeps", "waiting"))
+    def __init__(self, run, name):
+        super().__init__(name, ("marks", "sweeps", "waiting"))
         room = (WIDTH - LEFT - RIGHT) // LEAST
         self.run = run
         self.gathered = -(-run.rounds // room)
@@ -265,9 +265,9 @@ def key(sheet):
     sheet.y -= 4
 
 
-def drawn(run, title):
+def drawn(run, title, name="run"):
     """The picture of a run of any length but without no round at all, as SVG text."""
-    sheet = Columns(run)
+    sheet = Columns(run, name)
     heading(sheet, title)
     for lane in (mutators, collector, cycles, promoted, segments, key):
         lane(sheet)

@@ -15,8 +15,8 @@ GREY, DARK, LIGHT = "#bdbdbd", "#666", "#d9d9d9"
 class Rounds(Sheet):
     """The sheet of such a picture: where each stop and each round is."""
 
-    def __init__(self, run):
-        super().__init__("run", ("marks", "sweeps", "waiting"))
+    def __init__(self, run, name):
+        super().__init__(name, ("marks", "sweeps", "waiting"))
         rounds = max(run.rounds, 1)
         self.run = run
         self.stop_width = min(46, (WIDTH - LEFT - RIGHT) * 0.3 / (rounds + 1))
@@ -206,9 +206,9 @@ def key(sheet):
     sheet.y += 14
 
 
-def drawn(run, title):
+def drawn(run, title, name="run"):
     """The picture of a run of `MOST` rounds at most, as SVG text."""
-    sheet = Rounds(run)
+    sheet = Rounds(run, name)
     heading(sheet, title)
     top, behind = sheet.y - 4, len(sheet.out)
     for lane in (mutators, collector, cycles, promoted, segments):

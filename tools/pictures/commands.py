@@ -1,0 +1,177 @@
+"""What tools/picture.py and tools/page do with their words.
+
+A fault gets one line on standard error, and then nothing is written to standard output. The exit status is that of the
+programs themselves (docs/FORMATS.md): 2 for wrong words, 3 and 4 where reading or writing failed, 5 for a bad report or
+trace, 7 where there was no memory, 9 for a bad image; and 1 where there is nothing to draw.
+"""
+import argparse
+import os
+import sys
+
+from . import columns, dot, heap, page, rounds, trace, worlds
+from .image import read_image
+from .report import read_report
+from .text import BadInput, is_name
+
+USAGE, NOTHING, READ, WRITE, BAD_REPORT, NO_MEMORY, BAD_IMAGE = 2, 1, 3, 4, 5, 7, 9
+
+
+class Fault(Exception):
+    """What is told in one line, and the exit status."""
+
+    def __init__(self, status, words):
+        super().__init__(words)
+        self.status = status
+
+
+class Words(argparse.ArgumentParser):
+    """Words of the command line, of which a fault is told in one line."""
+
+    def error(self, message):
+        raise Fault(USAGE, f"{message}; --help tells more")
+
+
+def whole(word):
+    """A number of rounds or hops."""
+    if not word.isdigit() or not word.isascii() or len(word) > 9:
+        raise argparse.ArgumentTypeError("no number")
+    return int(word)
+
+
+def span(word):
+    """`A-B`, rounds from the first to the last one."""
+    first, minus, last = word.partition("-")
+    if not minus or not 1 <= whole(first) <= whole(last):
+        raise argparse.ArgumentTypeError("rounds are told as A-B")
+    return int(first), int(last)
+
+
+def run_picture(run, title, name="run"):
+    """The picture of a run, or of a part of one: every round alone where there are few, else in columns."""
+    return (rounds if run.rounds <= rounds.MOST else columns).drawn(run, title, name)
+
+
+def read(reader, status, stream):
+    """What the reader makes of a stream; a bad text has this exit status."""
+    try:
+        return reader(stream)
+    except BadInput as bad:
+        raise Fault(status, str(bad)) from None
+    except OSError as fault:
+        raise Fault(READ, f"read fault: {fault.strerror}") from None
+
+
+def of_run(given, stream):
+    run = read(read_report, BAD_REPORT, stream)
+    first, last = given.rounds or (1, given.first or max(run.rounds, 1))
+    if first > max(run.rounds, 1):
+        raise Fault(USAGE, f"the run has {run.rounds:,} rounds")
+    return run_picture(run.part(first, last), given.title or "A run, as its report tells it")
+
+
+def _view(given, stream):
+    """What is to be shown of a heap."""
+    found = read(read_image, BAD_IMAGE, stream)
+    if given.name is not None and given.name not in found.lines:
+        raise Fault(USAGE, f"the image has no object {given.name}" if is_name(given.name) else "the name of an object is maker.serial, or g")
+    return heap.View(found, given.name, given.hops)
+
+
+def of_heap(given, stream):
+    view = _view(given, stream)
+    return heap.drawn(view, given.title or (f"What keeps {given.name}" if given.name else "A heap, as its image tells it"))
+
+
+def of_dot(given, stream):
+    return dot.written(_view(given, stream), given.title or "A heap, as its image tells it")
+
+
+def of_trace(given, stream):
+    watch = read(trace.watched, BAD_REPORT, stream)
+    if watch.refusal is None:
+        raise Fault(NOTHING, f"{watch.told()}: there is no refused line to draw")
+    return worlds.drawn(watch, given.title or "The first line of a trace that can't happen")
+
+
+def of_page(given, _):
+    with opened(given.report) as stream:
+        run = read(read_report, BAD_REPORT, stream)
+    view = None
+    if given.image:
+        given.name, given.hops = given.path, None
+        with opened(given.image) as stream:
+            view = _view(given, stream)
+    return page.written(run, view, given.title or os.path.basename(given.report), run_picture)
+
+
+def opened(name):
+    """The file of this name, or standard input for `-`."""
+    if name == "-":
+        return os.fdopen(os.dup(0), "rb")
+    try:
+        return open(name, "rb")
+    except OSError as fault:
+        raise Fault(READ, f"read fault: {fault.strerror}") from None
+
+
+def picture_words(tool):
+    """The words of tools/picture.py."""
+    about = "Draws a report of `nmgc run`, an image of `nmgc image`, or a trace that `nmgc_trace` refuses."
+    words = Words(prog=tool, description=about)
+    sorts = words.add_subparsers(dest="sort", metavar="run|heap|dot|trace", required=True)
+    run = sorts.add_parser("run", help="a report on standard input: an SVG picture of the run")
+    run.add_argument("--rounds", type=span, metavar="A-B", help="these rounds alone")
+    run.add_argument("--first", type=whole, metavar="N", help="the first N rounds alone")
+    for sort, what in (("heap", "an SVG picture"), ("dot", "a graph for Graphviz")):
+        shown = sorts.add_parser(sort, help=f"an image on standard input: {what} of the heap")
+        shown.add_argument("name", nargs="?", metavar="NAME", help="marks a shortest path to this object")
+        shown.add_argument("--hops", type=whole, metavar="N", help="what lies within N hops of the roots, or of NAME")
+        shown.add_argument("--title")
+        shown.set_defaults(draw=of_heap if sort == "heap" else of_dot)
+    refused = sorts.add_parser("trace", help="a trace of format 2 on standard input: an SVG picture of the line that can't happen")
+    for one, draw in ((run, of_run), (refused, of_trace)):
+        one.add_argument("--title")
+        one.set_defaults(draw=draw)
+    return words
+
+
+def page_words(tool):
+    """The words of tools/page."""
+    words = Words(prog=tool, description="Writes one HTML file about a run, with pictures and tables.")
+    words.add_argument("report", metavar="REPORT", help="the report of a run; - is standard input")
+    words.add_argument("image", metavar="IMAGE", nargs="?", help="the image of the heap that the run left")
+    words.add_argument("--path", metavar="NAME", help="marks a shortest path to this object of the image")
+    words.add_argument("--title")
+    words.set_defaults(draw=of_page)
+    return words
+
+
+def told(tool, words, arguments):
+    """Does what the words ask for, and writes what came out; the exit status."""
+    try:
+        given = words.parse_args(arguments)
+        text = given.draw(given, sys.stdin.buffer)
+        sys.stdout.buffer.write(text.encode("utf-8", "replace"))
+        sys.stdout.buffer.flush()
+        return 0
+    except Fault as fault:
+        status, said = fault.status, str(fault)
+    except MemoryError:
+        status, said = NO_MEMORY, "no memory"
+    except OSError as fault:
+        os.dup2(os.open(os.devnull, os.O_WRONLY), 1)
+        status, said = WRITE, f"write fault: {fault.strerror}"
+    line = "".join(it if it.isprintable() else "?" for it in f"{tool}: {said}")
+    sys.stderr.buffer.write(line.encode("utf-8", "replace") + b"\n")
+    return status
+
+
+def picture(arguments):
+    """tools/picture.py; without a word it draws a run."""
+    sorts = ("run", "heap", "dot", "trace", "-h", "--help")
+    return told("picture.py", picture_words("picture.py"), arguments if arguments and arguments[0] in sorts else ["run"] + arguments)
+
+
+def page_of(arguments):
+    """tools/page."""
+    return told("page", page_words("page"), arguments)

@@ -1,0 +1,259 @@
+"""A trace of format 2 (docs/GUIDE.md, "Check a barrier by a trace"), watched up to the first line that can't happen.
+
+It tells the same as `nmgc_trace`, and keeps what a picture of the refused line needs: the snapshot, the heap as it is there,
+and for a name that is due the field or the weak pointer from which it went.
+"""
+from typing import NamedTuple, Optional
+
+from .paths import search
+from .paths import live as live_by
+from .text import MOST_BYTES, BadInput, is_number, order
+from .world import World, command_of, is_answer, is_told_name
+
+HEAD = "trace 2"
+MUTATORS = 32
+
+
+class Debt(NamedTuple):
+    """A name that is due since a line: by which command, and from which object it went, and from which of its fields."""
+
+    name: str
+    line: int
+    mutator: int
+    command: str
+    source: str
+    field: Optional[int]
+
+
+class Refusal(NamedTuple):
+    """The line that can't happen: its number and words, why, of which sort the reason is, and the name that it speaks of."""
+
+    line: int
+    words: str
+    told: str
+    sort: str
+    name: Optional[str]
+    debt: Optional[Debt]
+    answer: Optional[str]
+
+
+class _Refused(Exception):
+    """Ends the watch at a line: the sort of the reason, its words, its name, its debt, and what the heap answers."""
+
+    def __init__(self, sort, told, name=None, debt=None, answer=None):
+        super().__init__(told)
+        self.sort, self.told, self.name, self.debt, self.answer = sort, told, name, debt, answer
+
+
+class Watch:
+    """How far a trace has come. `phase` is nothing, between, marking, ended or stopped."""
+
+    def __init__(self):
+        self.phase, self.world, self.snapshot, self.mark_line = "nothing", None, None, 0
+        self.debts, self.pushed, self.opened, self.finalised = [], set(), [], set()
+        self.kept, self.needed, self.refusal = set(), set(), None
+
+    def line(self, number, text):
+        """Does a line; raises `_Refused` where it can't happen."""
+        word, _, rest = text.partition(" ")
+        if text == "" or text.startswith("#") or text == HEAD:
+            return
+        event = getattr(self, f"_{word}", None) if word.isalpha() else None
+        if event is None:
+            self.command(number, word, rest)
+        else:
+            event(number, rest, " " in text)
+
+    def in_phase(self, *phases):
+        if self.phase not in phases:
+            raise _Refused("place", "can't stand there")
+
+    def command(self, number, word, rest):
+        """`M COMMAND = ANSWER`."""
+        command, equals, answer = rest.partition(" = ")
+        words = command_of(command) if is_number(word, 256) and equals else None
+        if words is None or not is_answer(answer):
+            raise _unknown()
+        self.in_phase("between", "marking", "ended")
+        mutator = int(word)
+        if not self.world.can_apply(mutator):
+            raise _Refused("words", "can't happen: there is no such mutator or register")
+        effect = self.world.effect(mutator, words)
+        if effect.reply != answer:
+            raise _Refused("answer", "can't happen: the heap has another answer", self.world.object_of(mutator, words), None, effect.reply)
+        if self.phase == "marking":
+            self.due(number, mutator, words, effect)
+        self.world.apply(mutator, effect)
+
+    def due(self, number, mutator, words, effect):
+        """Notes what a command makes due, opens and finalises, before it is done."""
+        command, name = " ".join(words), self.world.object_of(mutator, words)
+        lost = self.lost(name, effect) if effect.words is not None and name in self.world.lines else []
+        parts = self.world.lines.get(name, "").split(" ")
+        opens = []
+        if words[0] in ("deref", "finalise") and parts[0] == "weak" and len(parts) == 4:
+            opens = [(parts[2], name, 1)] + ([(parts[3], name, 2)] if words[0] == "finalise" else [])
+            self.opened += [value for value, _, _ in opens if "." in value or value == "g"]
+        then = self.snapshot.lines.get(name, "").split(" ")
+        kept = []
+        if words[0] == "finalise" and len(parts) == 4 and parts[0] == "weak":
+            self.finalised.add(name)
+            if len(then) == 4 and then[0] == "weak":
+                kept = [(name, name, None), (then[2], name, 1), (then[3], name, 2)]
+        for target, source, field in lost + opens + kept:
+            if target != "g" and target in self.snapshot.lines:
+                self.debts.append(Debt(target, number, mutator, command, source, field))
+
+    def lost(self, name, effect):
+        """The fields of the snapshot that stand in the object, and don't once it has other words."""
+        then, now = _strong(self.snapshot.lines.get(name)), _strong(self.world.lines[name])
+        after = _strong(effect.words)
+        return [(target, name, field) for field, target in sorted(then.items()) if now.get(field) == target and after.get(field) != target]
+
+    def unpaid(self, mutator=None):
+        """The first debt that nobody remembered. Those that are paid leave the list."""
+        self.debts = [it for it in self.debts if it.name not in self.pushed]
+        return next((it for it in self.debts if mutator in (None, it.mutator)), None)
+
+    def pay(self, mutator=None):
+        debt = self.unpaid(mutator)
+        if debt:
+            raise _Refused("due", f"can't happen: {debt.name} is due since line {debt.line}, and nobody remembered it", debt.name, debt)
+
+    def _mutators(self, number, rest, more):
+        if not is_number(rest, 256):
+            raise _unknown()
+        if self.phase != "nothing" or not 1 <= int(rest) <= MUTATORS:
+            raise _Refused("place", "can't stand there")
+        self.phase, self.world = "between", World(int(rest))
+
+    def _mark(self, number, rest, more):
+        if more:
+            raise _unknown()
+        self.in_phase("between", "ended")
+        self.phase, self.mark_line, self.snapshot = "marking", number, self.world.copy()
+        self.debts, self.pushed, self.opened, self.finalised = [], set(), [], set()
+
+    def _push(self, number, rest, more):
+        who, _, name = rest.partition(" ")
+        if not (who == "-" or is_number(who, 256)) or not is_told_name(name):
+            raise _unknown()
+        self.in_phase("marking")
+        if name not in self.world.lines:
+            raise _Refused("name", f"can't happen: the heap has no {name}", name)
+        self.pushed.add(name)
+
+    def _settle(self, number, rest, more):
+        if not is_number(rest, 256):
+            raise _unknown()
+        self.in_phase("marking")
+        self.pay(int(rest))
+
+    def _take(self, number, rest, more):
+        if not is_told_name(rest):
+            raise _unknown()
+        self.in_phase("marking")
+        if rest not in self.pushed or rest not in self.snapshot.lines:
+            raise _Refused("take", f"can't happen: {rest} wasn't pushed, or was made since the cycle began", rest)
+
+    def _close(self, number, rest, more):
+        told = _names(rest) if more else None
+        self.in_phase("marking")
+        self.pay()
+        live, dead = self.outcome(self.opened + sorted(self.pushed))
+        needed, sure = self.outcome(self.opened)
+        if told is not None:
+            wrong = next((name for name in told if name not in sure), None)
+            if wrong:
+                raise _Refused("dead", f"can't happen: {wrong} isn't dead", wrong)
+            dead = set(told)
+        self.kept, self.needed = live, needed
+        for name in sorted(dead, key=order):
+            self.world.kill(name)
+        self.phase = "ended"
+
+    def outcome(self, extra):
+        """What the snapshot keeps with these names beside its roots, and which of its weak pointers die."""
+        heap = self.snapshot.heap()
+        live, dying = live_by(heap, search(heap), [name for name in extra if name in heap.lines])
+        dead = [name for name in dying if name not in self.finalised]
+        kept = live_by(heap, live, [heap.node(name).values[2] for name in dead if heap.node(name).values[2] in heap.lines], False)[0]
+        return kept, set(dead)
+
+    def _marked(self, number, rest, more):
+        names = _names(rest)
+        self.in_phase("ended")
+        told = set(names)
+        missing = min(self.kept - told, key=order, default=None)
+        if missing:
+            raise _Refused("told", f"can't happen: {missing} has to be marked", missing)
+        wrong = next((name for name in names if name not in self.kept), None)
+        if wrong:
+            raise _Refused("marked", f"can't happen: nothing keeps {wrong}", wrong)
+
+    def _freed(self, number, rest, more):
+        names = _names(rest)
+        self.in_phase("ended")
+        for name in names:
+            if name not in self.world.lines:
+                raise _Refused("name", f"can't happen: the heap has no {name}", name)
+            if name in self.needed:
+                raise _Refused("needed", f"can't happen: {name} is needed", name)
+
+    def _stop(self, number, rest, more):
+        if more:
+            raise _unknown()
+        self.in_phase("ended")
+        self.phase = "stopped"
+
+    def told(self):
+        """What a trace comes to whose lines can all happen."""
+        if self.phase == "marking":
+            return "a cycle goes on"
+        if self.phase == "ended":
+            return "each line can happen, but there is no stop"
+        return "each line can happen" if self.phase == "stopped" else "nothing is marked"
+
+
+def _unknown():
+    return _Refused("words", "is none of a trace")
+
+
+def _names(rest):
+    names = rest.split(" ")
+    if not all(is_told_name(name) for name in names):
+        raise _unknown()
+    return names
+
+
+def _strong(words):
+    """The strong fields of an object that refer to one, by number; words are those of its node line, or None."""
+    if not words or words.startswith("weak"):
+        return {}
+    kind, *values = words.split(" ")
+    first = 0
+    if kind in ("con", "stack", "thunk"):
+        first = int(kind == "thunk" and values[0] == "free")
+        values = values[1:]
+    return {first + at: word for at, word in enumerate(values) if "." in word or word == "g"}
+
+
+def watched(stream):
+    """Watches a trace, from a stream of bytes, up to its end or to the line that can't happen, which `refusal` then tells."""
+    data = stream.read(MOST_BYTES + 1)
+    if len(data) > MOST_BYTES:
+        raise BadInput("too long")
+    lines = data.decode("utf-8", "replace").split("\n")
+    lines = [line[:-1] if line.endswith("\r") else line for line in (lines[:-1] if lines[-1] == "" else lines)]
+    if not lines or lines[0] != HEAD:
+        raise BadInput("line 1 isn't `trace 2`: only traces of format 2 have a picture")
+    watch = Watch()
+    for number, text in enumerate(lines, 1):
+        try:
+            watch.line(number, text)
+        except _Refused as why:
+            if why.sort in ("words", "place"):
+                raise BadInput(f"line {number} {why.told}") from None
+            watch.refusal = Refusal(number, text, f"line {number} {why.told}", why.sort, why.name, why.debt, why.answer)
+            break
+    return watch
