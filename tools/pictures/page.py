@@ -17,7 +17,8 @@ from .text import count
 
 LEAF = 100  # cycles that the table shows at once
 AROUND = 18  # rounds: a cycle over so many at most is shown round by round
-COLUMNS = ("cycle", "snapshot at stop", "closed at stop", "ended at stop", "stops", "segments swept", "had", "freed", "kept", "weak pointers died")
+COLUMNS = ("cycle", "from", "closed", "ended", "stops", "swept", "had", "freed", "kept", "dead")
+MEANS = "From, closed and ended are stops; swept are segments, dead are weak pointers, the others objects. A head sorts by its column."
 
 
 def own(name):
@@ -31,7 +32,7 @@ def digest(text):
     return "'sha256-" + base64.b64encode(hashlib.sha256(text.encode("utf-8")).digest()).decode("ascii") + "'"
 
 
-def table(caption, heads, rows, more="", numbers=1):
+def table(caption, heads, rows, more=""):
     """A table of numbers; the first cell of each row, which names it, is a head."""
     out = [f'<div class="table" tabindex="0" role="region" aria-label="{clean(caption)}"><table{more}><caption>{clean(caption)}</caption>']
     out.append("<thead><tr>" + "".join(f'<th scope="col">{clean(head)}</th>' for head in heads) + "</tr></thead><tbody>")
@@ -41,9 +42,9 @@ def table(caption, heads, rows, more="", numbers=1):
     return "".join(out) + "</tbody></table></div>"
 
 
-def picture(svg, words):
+def picture(svg, words, more=""):
     """A picture that can be scrolled without a mouse."""
-    return f'<div class="picture" tabindex="0" role="region" aria-label="{clean(words)}">\n{svg}</div>'
+    return f'<div class="picture{more}" tabindex="0" role="region" aria-label="{clean(words)}">\n{svg}</div>'
 
 
 def summary(run, view):
@@ -76,7 +77,7 @@ def cycle_table(run):
         return "<p>No cycle ended.</p>"
     rows = [[it.number, it.start, it.closed, it.end, it.stops, it.swept, it.had, it.freed, it.kept, it.dead] for it in run.cycles]
     rows.sort(key=lambda row: (-row[4], row[0]))
-    shown = table("Cycles, the longest first until a head is pressed", COLUMNS, rows[:LEAF], f' id="cycles" data-leaf="{LEAF}"')
+    shown = table(f"Cycles, the longest first. {MEANS}", COLUMNS, rows[:LEAF], f' id="cycles" data-leaf="{LEAF}"')
     for at, head in enumerate(COLUMNS):
         sort = "descending" if at == 4 else "none"
         shown = shown.replace(f'<th scope="col">{head}</th>', f'<th scope="col" aria-sort="{sort}">{head}</th>', 1)
@@ -116,7 +117,7 @@ def written(run, view, title, drawn):
     ]
     if view:
         heading = f"The heap that is left{f', and what keeps {view.name}' if view.name else ''}"
-        body.append(f'<h2 id="heap">The heap</h2>\n{picture(heap_drawn(view, heading), "Picture of the heap")}\n{heap_table(view)}')
+        body.append(f'<h2 id="heap">The heap</h2>\n{picture(heap_drawn(view, heading), "Picture of the heap", " tall")}\n{heap_table(view)}')
     return "\n".join([
         "<!DOCTYPE html>", '<html lang="en"><head><meta charset="utf-8">', f'<meta http-equiv="Content-Security-Policy" content="{policy}">',
         '<meta name="viewport" content="width=device-width, initial-scale=1">', f"<title>{clean(title)}</title>", f"<style>{style}</style></head><body>",
