@@ -5,6 +5,7 @@ programs themselves (docs/FORMATS.md): 2 for wrong words, 3 and 4 where reading 
 trace, 7 where there was no memory, 9 for a bad image; and 1 where there is nothing to draw.
 """
 import argparse
+import contextlib
 import os
 import sys
 
@@ -93,21 +94,21 @@ def of_trace(given, stream):
     return worlds.drawn(watch, given.title or "The first line of a trace that can't happen")
 
 
-def of_page(given, _):
-    with opened(given.report) as stream:
+def of_page(given, stdin):
+    with opened(given.report, stdin) as stream:
         run = read(read_report, BAD_REPORT, stream)
     view = None
     if given.image:
         given.name, given.hops = given.path, None
-        with opened(given.image) as stream:
+        with opened(given.image, stdin) as stream:
             view = _view(given, stream)
     return page.written(run, view, given.title or os.path.basename(given.report), run_picture)
 
 
-def opened(name):
+def opened(name, stdin):
     """The file of this name, or standard input for `-`."""
     if name == "-":
-        return os.fdopen(os.dup(0), "rb")
+        return contextlib.nullcontext(stdin)
     try:
         return open(name, "rb")
     except OSError as fault:

@@ -246,12 +246,17 @@ def heading(sheet, view, title):
             sheet.paragraph(words, 12)
 
 
+def layout_of(view, top=0):
+    """Where everything stands, from `top` on."""
+    return placed(view.heap, view.every, view.names, view.marked, root_boxes(view), top)
+
+
 def drawn(view, title):
     """The picture, as SVG text."""
     sheet = Sheet("heap", ("finaliser", "weak", "loose"))
     heading(sheet, view, title)
     key(sheet, view)
-    layout = placed(view.heap, view.every, view.names, view.marked, root_boxes(view), sheet.y)
+    layout = layout_of(view, sheet.y)
     draw_edges(sheet, view, layout)
     draw_roots(sheet, view, layout)
     for box in layout.boxes.values():

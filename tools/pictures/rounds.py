@@ -120,8 +120,8 @@ def told(sheet, cycle, x, y, wide):
     freed, kept = f"freed {cycle.freed}", f"kept {cycle.kept}"
     named = freed + (f" ({' '.join(cycle.names)})" if 0 < cycle.freed <= len(cycle.names) else "")
     one = first_fitting(wide - 6, (f"{named}, {kept}", f"{freed}, {kept}"))
-    for at, words in enumerate([one] if one else [freed, kept]):
-        sheet.text(x, y + 15 * at, first_fitting(wide + 12, (words,)))
+    for at, choices in enumerate([(one,)] if one else [(named, freed), (kept,)]):
+        sheet.text(x, y + 15 * at, first_fitting(wide + 12, choices))
 
 
 def cycles(sheet):
@@ -134,7 +134,7 @@ def cycles(sheet):
         start, closed, end = ways
         sheet.rect(start, top, closed - start, height, sheet.fill("marks"))
         sheet.rect(closed, top, end - closed, height, sheet.fill("sweeps"))
-        wide = max(end - start, sheet.stop_width + 36 * cycle.is_full)
+        wide = max(end - start, sheet.stop_width + 46 * cycle.is_full)
         middle = min((start + end) / 2, WIDTH - 4 - wide / 2)
         kind = "full cycle" if cycle.is_full else "cycle"
         words = first_fitting(wide + 8, (f"{kind} {cycle.number}", f"cycle {cycle.number}", str(cycle.number)))

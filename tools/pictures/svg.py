@@ -50,6 +50,8 @@ class Sheet:
         return f"url(#{self.name}-{pattern})"
 
     def text(self, x, y, words, anchor="middle", **more):
+        if words == "":
+            return
         rest = "".join(f' {name.replace("_", "-")}="{value}"' for name, value in more.items())
         self.put(f'<text x="{x:.1f}" y="{y:.1f}" text-anchor="{anchor}"{rest}>{clean(words)}</text>')
 

@@ -1,0 +1,55 @@
+"""What the tests share: files of the repository, pictures as trees, and pictures as their texts."""
+import io
+import os
+import re
+import xml.etree.ElementTree as tree
+
+TOP = os.path.dirname(os.path.dirname(os.path.dirname(os.path.dirname(os.path.abspath(__file__)))))
+SVG = "{http://www.w3.org/2000/svg}"
+HOSTILE = "<script>alert(\"1\")</script> & ' \x01 \ud800"
+
+
+def path(*names):
+    return os.path.join(TOP, *names)
+
+
+def content(*names):
+    with open(path(*names), encoding="utf-8") as file:
+        return file.read()
+
+
+def stream(text):
+    """A text as a stream of bytes."""
+    return io.BytesIO(text.encode("utf-8", "surrogateescape"))
+
+
+def texts(svg):
+    """The texts of a picture, in order; the picture is read as XML on the way."""
+    return ["".join(it.itertext()) for it in tree.fromstring(svg).iter(SVG + "text")]
+
+
+def elements(svg, name):
+    return list(tree.fromstring(svg).iter(SVG + name))
+
+
+def length_of(words, size):
+    """How long words are, about, in the font of the pictures."""
+    return size * sum(0.64 if it.isdigit() else 0.32 if it in " ,.:;'" else 0.29 if it in "ilj" else 0.4 if it in "tfr" else 0.9 if it in "mw" else 0.62 for it in words)
+
+
+def too_wide(svg, width=900):
+    """The texts that reach beyond a picture's sides."""
+    wide = []
+    for it in elements(svg, "text"):
+        words, size = "".join(it.itertext()), float(it.get("font-size", 13))
+        x, length = float(it.get("x")), length_of(words, size)
+        left = x - {"start": 0, "middle": length / 2, "end": length}[it.get("text-anchor")]
+        if left < 0 or left + length > width:
+            wide.append(words)
+    return wide
+
+
+def ids_are_right(text):
+    """Whether no id stands twice, and each pattern that is used is there."""
+    ids = re.findall(r'\bid="([^"]+)"', text)
+    return len(ids) == len(set(ids)) and set(re.findall(r"url\(#([^)]+)\)", text)) <= set(ids)
