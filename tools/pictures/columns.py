@@ -23,7 +23,7 @@ class Columns(Sheet):
     def __init__(self, run, name):
         super().__init__(name, ("marks", "sweeps", "waiting"))
         room = (WIDTH - LEFT - RIGHT) // LEAST
-        self.run = run
+        self.run, self.labelled = run, 0  # up to where cycles have a label
         self.gathered = -(-run.rounds // room)
         self.columns = -(-run.rounds // self.gathered)
         self.width = (WIDTH - LEFT - RIGHT) / (run.rounds / self.gathered)
@@ -165,8 +165,11 @@ def bar(sheet, cycle, top, height):
     start, closed, end = sheet.x(cycle.start), sheet.x(cycle.closed), sheet.x(cycle.end)
     sheet.rect(start, top, closed - start, height, sheet.fill("marks"))
     sheet.rect(closed, top, end - closed, height, sheet.fill("sweeps"))
-    words = first_fitting(end - start + 2, (f"cycle {cycle.number:,}", f"{cycle.number}"), 11)
-    sheet.text((start + end) / 2, top - 5, words, font_size=11, font_weight="bold")
+    words = first_fitting(end - start, (f"cycle {cycle.number:,}",), 11) or f"{cycle.number}"
+    middle, half = (start + end) / 2, len(words) * 3.6
+    if middle - half >= sheet.labelled:
+        sheet.text(middle, top - 5, words, font_size=11, font_weight="bold")
+        sheet.labelled = middle + half + 5
     if end - start >= 44:
         for x, shape, stop in ((start, "snapshot", cycle.start), (closed, "closing", cycle.closed), (end, "end", cycle.end)):
             if sheet.run.first - 1 <= stop <= sheet.run.last:

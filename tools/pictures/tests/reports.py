@@ -75,3 +75,38 @@ def full_heap(rounds):
     for at in range(rounds):
         maker.round(3, fills=1 if maker.filled < 60 else 0, full=maker.filled > 40, freed=max(0, 80 - at), keeps=at * 4)
     return maker.text("heapfull free 3 reserve 17")
+
+
+def bench(batches):
+    """The report of the script of `nmgc bench N` (docs/FORMATS.md), as its rules tell it.
+
+    In a round each of four mutators fills a segment with a list, and drops the list before. A cycle begins with every eighth
+    segment that is filled; it marks in the round after, and sweeps in the next one.
+    """
+    cells, lines, filled, waiting = 1024, ["report 1", "stop 0 idle free 128 filled 0 sweep 0 promoted 0"], [], []
+    number, phase, start, fresh, cycles, used = 0, "idle", 0, 0, 0, 0
+    while number < batches or phase != "idle":
+        number += 1
+        lines.append(f"round {number}")
+        for mutator in range(4 if number <= batches else 0):
+            lines += [f"{mutator} ok"] * (number == 1)
+            lines += [f"{mutator} {mutator}.{serial}" for serial in range((number - 1) * cells, number * cells)]
+            lines += [f"{mutator} ok"] * (1 + (number < batches))
+        if number <= batches:
+            filled.append(number)
+            fresh, used = fresh + 4, used + 4
+        told = []
+        if phase == "marking":
+            phase = "sweeping"
+        elif phase == "sweeping":
+            freed, cycles, phase = [it for it in waiting if it < start], cycles + 1, "idle"
+            had = 4 * cells * len(waiting)
+            told = [f"cycle {cycles} from {start} closed {start + 1} swept {4 * len(waiting)} had {had} freed {had - 4 * cells} kept {4 * cells} dead 0"]
+            told += [f"freed {mutator}.{serial}" for mutator in range(4) for it in freed for serial in range((it - 1) * cells, it * cells)]
+            filled, waiting, used = [it for it in waiting if it == start] + filled, [], used - 4 * len(freed)
+        if phase == "idle" and fresh >= 8:
+            phase, start, fresh, filled, waiting = "marking", number, 0, [], filled
+        promoted = 4 * cells if number <= batches else 0
+        lines.append(f"stop {number} {phase} free {128 - used} filled {4 * len(filled)} sweep {4 * len(waiting)} promoted {promoted}")
+        lines += told
+    return "\n".join(lines + ["end done"]) + "\n"

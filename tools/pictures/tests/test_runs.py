@@ -4,7 +4,7 @@ import unittest
 from .. import columns, rounds
 from ..commands import run_picture
 from ..report import Cycle, Run, Stop, read_report
-from .reports import Maker, full_heap, long_cycles, short_cycles
+from .reports import Maker, bench, full_heap, long_cycles, short_cycles
 from .support import HOSTILE, content, elements, ids_are_right, stream, texts, too_wide
 
 
@@ -52,6 +52,18 @@ class FewRounds(unittest.TestCase):
 
 
 class ManyRounds(unittest.TestCase):
+    def test_the_bench(self):
+        # Numbers of docs/FORMATS.md, "The bench and its summary": commands, rounds, cycles, promoted, freed, kept.
+        for batches, told in ((1, (4104, 1, 0, 4096, 0, 0)), (2, (8208, 4, 1, 8192, 4096, 4096)), (10, (41040, 12, 5, 40960, 36864, 4096))):
+            run = read_report(stream(bench(batches)))
+            promoted, freed = sum(stop.promoted for stop in run.stops), sum(cycle.freed for cycle in run.cycles)
+            self.assertEqual((sum(map(sum, run.commands)), run.rounds, len(run.cycles), promoted, freed, run.cycles[-1].kept if run.cycles else 0), told)
+        svg = picture(bench(100))
+        for words in ("102 rounds, 50 cycles; the longest is cycle 1, over 2 stops", "commands done: at most 1,027 by a mutator in a column",
+                      "at most 8,192", "at most 4,096", "17 of 128 shown", "112 free at least", "end done"):
+            self.assertIn(words, texts(svg))
+        self.assertEqual(too_wide(svg), [])
+
     def test_a_run_of_a_hundred_thousand_stops(self):
         maker = Maker(32, 512)
         for at in range(100000):

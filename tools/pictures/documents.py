@@ -1,0 +1,53 @@
+"""The pictures that the documents show: what each is made of, and how it is made again (tools/doc_pictures).
+
+Those of stored files are compared by the tests with what is made of them, so that no picture is older than its script. The
+two of the bench want the program, for no report of it is stored.
+"""
+import os
+import subprocess
+
+from . import heap, trace, worlds
+from .commands import run_picture
+from .image import read_image
+from .report import read_report
+
+TOP = os.path.dirname(os.path.dirname(os.path.dirname(os.path.abspath(__file__))))
+STORED = {
+    "docs/cycle.svg": ("examples/cycle.report", "examples/cycle.nmgc: five rounds and two cycles"),
+    "docs/kept.svg": ("examples/kept.image", "examples/kept.image: what keeps 0.0"),
+    "docs/insertion_barrier.svg": ("examples/traces/insertion_barrier.trace", "examples/traces/insertion_barrier.trace: a barrier that looks at the new value"),
+}
+KEPT = "0.0"  # of which docs/kept.svg shows the path
+BENCHES = {
+    "docs/bench.svg": ("8", "The script of nmgc bench 8: four mutators, each of which makes eight lists"),
+    "docs/bench100.svg": ("100", "The script of nmgc bench 100: four mutators, each of which makes a hundred lists"),
+}
+
+
+def of_stored(name):
+    """A picture of a stored file."""
+    source, title = STORED[name]
+    with open(os.path.join(TOP, source), "rb") as stream:
+        if source.endswith(".report"):
+            return run_picture(read_report(stream), title)
+        if source.endswith(".image"):
+            return heap.drawn(heap.View(read_image(stream), KEPT), title)
+        return worlds.drawn(trace.watched(stream), title)
+
+
+def of_bench(name, program):
+    """A picture of the bench, whose script the program runs."""
+    batches, title = BENCHES[name]
+    script = subprocess.Popen([os.path.join(TOP, "tools", "bench_script"), batches], stdout=subprocess.PIPE)
+    run = subprocess.Popen([program, "run"], stdin=script.stdout, stdout=subprocess.PIPE)
+    script.stdout.close()
+    drawn = run_picture(read_report(run.stdout), title)
+    run.stdout.close()
+    script.wait()
+    run.wait()
+    return drawn
+
+
+def write(name, text):
+    with open(os.path.join(TOP, name), "w", encoding="utf-8") as file:
+        file.write(text)

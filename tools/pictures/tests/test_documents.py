@@ -1,0 +1,19 @@
+"""The pictures in the documents are what tools/doc_pictures makes, and the documents show them."""
+import re
+import unittest
+
+from .. import documents
+from .support import content, ids_are_right, too_wide
+
+
+class Documents(unittest.TestCase):
+    def test_pictures_of_stored_files_are_up_to_date(self):
+        for name in documents.STORED:
+            self.assertEqual(content(name), documents.of_stored(name), f"{name}: tools/doc_pictures makes it again")
+
+    def test_stored_pictures_are_shown_and_sound(self):
+        shown = {"docs/" + name.rpartition("/")[2] for file in ("README.md", "docs/TUTORIAL.md", "docs/GUIDE.md") for name in re.findall(r"\]\(([^)]+\.svg)\)", content(file))}
+        for name in [*documents.STORED, *documents.BENCHES]:
+            self.assertIn(name, shown)
+            self.assertTrue(ids_are_right(content(name)), name)
+            self.assertEqual(too_wide(content(name)), [], name)
