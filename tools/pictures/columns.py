@@ -38,6 +38,7 @@ class Columns(Sheet):
         return max(stop - self.run.first, 0) // self.gathered
 
     def edges(self):
+        """Where each column begins, and where the last one ends."""
         return [min(LEFT + at * self.width, WIDTH - RIGHT) for at in range(self.columns + 1)]
 
     def rounds_of(self, column):

@@ -29,6 +29,7 @@ class Words(argparse.ArgumentParser):
     """Words of the command line, of which a fault is told in one line."""
 
     def error(self, message):
+        """Words that are wrong."""
         raise Fault(USAGE, f"{message}; --help tells more")
 
 
@@ -63,6 +64,7 @@ def read(reader, status, stream):
 
 
 def of_run(given, stream):
+    """The picture of a run, or of some of its rounds."""
     run = read(read_report, BAD_REPORT, stream)
     first, last = given.rounds or (1, given.first or max(run.rounds, 1))
     if first > max(run.rounds, 1):
@@ -74,20 +76,24 @@ def _view(given, stream):
     """What is to be shown of a heap."""
     found = read(read_image, BAD_IMAGE, stream)
     if given.name is not None and given.name not in found.lines:
-        raise Fault(USAGE, f"the image has no object {given.name}" if is_name(given.name) else "the name of an object is maker.serial, or g")
+        told = f"the image has no object {given.name}" if is_name(given.name) else "the name of an object is maker.serial, or g"
+        raise Fault(USAGE, told)
     return heap.View(found, given.name, given.hops)
 
 
 def of_heap(given, stream):
+    """The picture of a heap."""
     view = _view(given, stream)
     return heap.drawn(view, given.title or (f"What keeps {given.name}" if given.name else "A heap, as its image tells it"))
 
 
 def of_dot(given, stream):
+    """A heap for Graphviz."""
     return dot.written(_view(given, stream), given.title or "A heap, as its image tells it")
 
 
 def of_trace(given, stream):
+    """The picture of a trace's refused line."""
     watch = read(trace.watched, BAD_REPORT, stream)
     if watch.refusal is None:
         raise Fault(NOTHING, f"{watch.told()}: there is no refused line to draw")
@@ -95,6 +101,7 @@ def of_trace(given, stream):
 
 
 def of_page(given, stdin):
+    """The page of a run, and of a heap."""
     with opened(given.report, stdin) as stream:
         run = read(read_report, BAD_REPORT, stream)
     view = None
@@ -151,6 +158,8 @@ def told(tool, words, arguments):
     """Does what the words ask for, and writes what came out; the exit status."""
     try:
         given = words.parse_args(arguments)
+        if sys.stdin is None or sys.stdout is None:
+            raise Fault(READ if sys.stdin is None else WRITE, "a standard stream is closed")
         text = given.draw(given, sys.stdin.buffer)
         sys.stdout.buffer.write(text.encode("utf-8", "replace"))
         sys.stdout.buffer.flush()
@@ -163,7 +172,8 @@ def told(tool, words, arguments):
         os.dup2(os.open(os.devnull, os.O_WRONLY), 1)
         status, said = WRITE, f"write fault: {fault.strerror}"
     line = "".join(it if it.isprintable() else "?" for it in f"{tool}: {said}")
-    sys.stderr.buffer.write(line.encode("utf-8", "replace") + b"\n")
+    if sys.stderr is not None:
+        sys.stderr.buffer.write(line.encode("utf-8", "replace") + b"\n")
     return status
 
 

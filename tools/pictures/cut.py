@@ -28,7 +28,7 @@ def _sentence(heap, shown, where):
     if not left:
         return ""
     objects = count(len(heap.lines), "object")
-    return f"Cut: of {objects} these are the {len(shown):,} {where}. Left out are {len(left):,}: {kinds_told(heap, left)}."
+    return f"Cut: shown are {len(shown):,} of {objects}, {where}. Left out are {len(left):,}: {kinds_told(heap, left)}."
 
 
 def near_roots(heap, every, hops=None):
@@ -41,9 +41,10 @@ def near_roots(heap, every, hops=None):
         while sum(by_level[level] for level in range(hops + 2)) <= MOST:
             hops += 1
     names = [name for name, how in every.items() if how.level <= hops]
-    first = f"first objects that lie within {count(hops, 'hop')} of the roots" if len(names) > MOST else f"within {count(hops, 'hop')} of the roots"
-    names = names[:MOST]
-    return Shown(names, _sentence(heap, set(names), first))
+    where = f"what lies within {count(hops, 'hop')} of the roots"
+    if len(names) > MOST:
+        names, where = names[:MOST], f"the first of {where}"
+    return Shown(names, _sentence(heap, set(names), where))
 
 
 def _rings(heap, name):
@@ -75,7 +76,7 @@ def near_object(heap, every, name, way, hops=None):
             break
         shown.update(ring)
         reached = distance
-    where = f"within {count(reached, 'hop')} of {name}, and its path"
+    where = f"what lies within {count(reached, 'hop')} of {name}, and its path"
     if len(way) > 2 * ENDS:
         where += f" but for {len(way) - 2 * ENDS:,} objects in its middle"
     return Shown([it for it in every if it in shown], _sentence(heap, shown, where))

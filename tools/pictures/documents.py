@@ -15,7 +15,10 @@ TOP = os.path.dirname(os.path.dirname(os.path.dirname(os.path.abspath(__file__))
 STORED = {
     "docs/cycle.svg": ("examples/cycle.report", "examples/cycle.nmgc: five rounds and two cycles"),
     "docs/kept.svg": ("examples/kept.image", "examples/kept.image: what keeps 0.0"),
-    "docs/insertion_barrier.svg": ("examples/traces/insertion_barrier.trace", "examples/traces/insertion_barrier.trace: a barrier that looks at the new value"),
+    "docs/insertion_barrier.svg": (
+        "examples/traces/insertion_barrier.trace",
+        "examples/traces/insertion_barrier.trace: a barrier that looks at the new value",
+    ),
 }
 KEPT = "0.0"  # of which docs/kept.svg shows the path
 BENCHES = {
@@ -49,5 +52,6 @@ def of_bench(name, program):
 
 
 def write(name, text):
+    """Stores a picture."""
     with open(os.path.join(TOP, name), "w", encoding="utf-8") as file:
         file.write(text)

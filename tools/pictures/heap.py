@@ -62,6 +62,7 @@ class RootBox(Box):
 
     @property
     def height(self):
+        """How high it is."""
         return 24 if self.root.kind == "shared" else ROOT_HEIGHT
 
     def lines(self):

@@ -63,9 +63,11 @@ class Heap:
         self.mutators, self.lines = [], {}
 
     def node(self, name):
+        """An object, taken apart."""
         return node_of(self.lines[name])
 
     def kind(self, name):
+        """The kind of an object."""
         return self.lines[name].partition(" ")[0]
 
     def strong(self, name):
@@ -110,10 +112,12 @@ class _Reader:
         self.next()
 
     def next(self):
+        """Goes to the next line; behind the last one stands an empty one."""
         self.number += 1
         self.line = self.lines[self.number - 1] if self.number <= len(self.lines) else ""
 
     def bad(self):
+        """The line is bad."""
         return BadInput(f"bad image line {self.number}")
 
     def words(self, form):
@@ -128,6 +132,7 @@ class _Reader:
         return word
 
     def head(self):
+        """The first line; how many mutators there are."""
         words = self.words(f"image 1 ({NUMBER})")
         if not words or not 1 <= int(words[0]) <= MUTATORS:
             raise self.bad()
@@ -135,6 +140,7 @@ class _Reader:
         return int(words[0])
 
     def mutator(self, number):
+        """The lines of a mutator."""
         words = self.words(f"mutator {number} serial ({NUMBER})")
         if not words or not is_number(words[0], SERIALS):
             raise self.bad()

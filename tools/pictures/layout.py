@@ -40,10 +40,12 @@ class Box:
 
     @property
     def height(self):
+        """How high it is, with its words."""
         return HEIGHT + WORDS * len(self.words)
 
     @property
     def middle(self):
+        """Half of its height, from the top of the picture."""
         return self.y + self.height / 2
 
 

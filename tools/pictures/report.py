@@ -50,6 +50,7 @@ class Cycle(NamedTuple):
 
     @property
     def is_full(self):
+        """Whether it is a full cycle, which is done at one stop."""
         return self.start == self.end
 
 
@@ -67,6 +68,7 @@ class Run:
 
     @property
     def rounds(self):
+        """How many rounds there are."""
         return len(self.stops) - 1
 
     @property
@@ -100,9 +102,11 @@ class _Reader:
         self.next()
 
     def next(self):
+        """Goes to the next line, which is None at the end."""
         self.line = self.lines.next()
 
     def bad(self, why):
+        """The line is bad."""
         return self.lines.bad("the report ends too early" if self.line is None else why)
 
     def numbers(self, form, why):
@@ -116,11 +120,13 @@ class _Reader:
         return words
 
     def head(self):
+        """The first line."""
         if self.line != "report 1":
             raise self.bad("this is no report of `nmgc run`")
         self.next()
 
     def round(self, number):
+        """A round with its replies, which are counted."""
         if self.line != f"round {number}":
             raise self.bad(f"`round {number}` was to come")
         self.next()
@@ -140,6 +146,7 @@ class _Reader:
             self.next()
 
     def stop(self, number):
+        """A stop, with the cycles that end at it."""
         stop = Stop(*self.numbers(STOP, f"`stop {number} ..` was to come"))
         if stop.number != number:
             raise self.bad(f"`stop {number} ..` was to come")
@@ -153,6 +160,7 @@ class _Reader:
             self.cycle(number)
 
     def cycle(self, stop):
+        """A cycle that ends at this stop, with what died and was freed."""
         told = self.numbers(CYCLE, "a cycle's line isn't spelled so")
         number, start, closed, _, had, freed, _, dead = told
         if number != len(self.run.cycles) + 1 or not start <= closed <= stop or freed > had:
@@ -174,6 +182,7 @@ class _Reader:
         return first
 
     def end(self):
+        """The last line."""
         self.numbers(END, "`round ..`, `end done` or `end heapfull ..` was to come")
         self.run.end = self.line[4:]
         self.next()

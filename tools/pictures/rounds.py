@@ -23,15 +23,19 @@ class Rounds(Sheet):
         self.round_width = (WIDTH - LEFT - RIGHT - self.stop_width * (rounds + 1)) / rounds
 
     def numbers(self):
+        """The numbers of the rounds."""
         return range(self.run.first, self.run.last + 1)
 
     def stop_left(self, stop):
+        """Where the band of a stop begins."""
         return LEFT + (stop - self.run.first + 1) * (self.stop_width + self.round_width)
 
     def middle(self, stop):
+        """Where the middle of a stop's band is."""
         return self.stop_left(stop) + self.stop_width / 2
 
     def round_left(self, number):
+        """Where a round begins."""
         return self.stop_left(number) - self.round_width
 
     def lane(self, words, below=""):
@@ -76,7 +80,9 @@ def mutators(sheet):
             if commands:
                 tall = max(4, height * commands / most)
                 sheet.rect(left, base - tall, wide, tall, GREY)
-                sheet.label(left + wide / 2, base - (9 if height == 30 else 4), wide, str(commands), size=SIZE if height == 30 else 11)
+                words = str(commands)
+                size = SIZE if height == 30 and first_fitting(wide - 4, (words,)) else 10
+                sheet.label(left + wide / 2, base - (9 if height == 30 else 4), wide, words, size=size)
             else:
                 sheet.line(left, base, left + wide, base)
         sheet.y += height + apart
@@ -115,36 +121,52 @@ def places(sheet, cycle):
     return start, closed, end
 
 
-def told(sheet, cycle, x, y, wide):
-    """What a cycle freed and kept, in one line or two."""
+def told(cycle, wide):
+    """What a cycle freed and kept, in one line where it fits, else in two."""
     freed, kept = f"freed {cycle.freed}", f"kept {cycle.kept}"
     named = freed + (f" ({' '.join(cycle.names)})" if 0 < cycle.freed <= len(cycle.names) else "")
     one = first_fitting(wide - 6, (f"{named}, {kept}", f"{freed}, {kept}"))
-    for at, choices in enumerate([(one,)] if one else [(named, freed), (kept,)]):
-        sheet.text(x, y + 15 * at, first_fitting(wide + 12, choices))
+    return [one] if one else [first_fitting(wide + 12, (named,)) or freed, kept]
+
+
+class Bar:
+    """A cycle's bar with its words: where its snapshot, closing and end are, and from where to where all of it goes."""
+
+    def __init__(self, sheet, cycle):
+        before, after = sheet.middle(sheet.run.first - 1), sheet.middle(sheet.run.last)
+        self.cycle = cycle
+        self.ways = [min(max(x, before - 23), after + 23) for x in places(sheet, cycle)]
+        wide = max(self.ways[2] - self.ways[0], sheet.stop_width + 46 * cycle.is_full)
+        kind = "full cycle" if cycle.is_full else "cycle"
+        self.title = first_fitting(wide + 8, (f"{kind} {cycle.number}", f"cycle {cycle.number}")) or str(cycle.number)
+        self.words = told(cycle, wide) if cycle.end <= sheet.run.last else []
+        half = max([wide / 2] + [len(words) * SIZE * 0.3 for words in [self.title] + self.words])
+        self.middle = min((self.ways[0] + self.ways[2]) / 2, WIDTH - 4 - half)
+        self.left, self.right = self.middle - half, self.middle + half
+
+    def draw(self, sheet, top, height):
+        """Draws it so high."""
+        start, closed, end = self.ways
+        sheet.rect(start, top, closed - start, height, sheet.fill("marks"))
+        sheet.rect(closed, top, end - closed, height, sheet.fill("sweeps"))
+        sheet.text(self.middle, top - 8, self.title, font_weight="bold")
+        for at, words in enumerate(self.words):
+            sheet.text(self.middle, top + height + 17 + 15 * at, words)
+        for x, shape, stop in zip(self.ways, ("snapshot", "closing", "end"), (self.cycle.start, self.cycle.closed, self.cycle.end)):
+            if sheet.run.first - 1 <= stop <= sheet.run.last:
+                sign(sheet, x, top + height / 2, shape)
 
 
 def cycles(sheet):
-    """Each cycle as a bar from its snapshot to its end, with what it freed and kept."""
+    """Each cycle as a bar from its snapshot to its end, with what it freed and kept; in several rows where words would meet."""
     sheet.lane("cycles", "snapshot to end")
-    top, height, run = sheet.y + 22, 22, sheet.run
-    before, after = sheet.middle(run.first - 1), sheet.middle(run.last)
-    for cycle in run.cycles:
-        ways = [min(max(x, before - 23), after + 23) for x in places(sheet, cycle)]
-        start, closed, end = ways
-        sheet.rect(start, top, closed - start, height, sheet.fill("marks"))
-        sheet.rect(closed, top, end - closed, height, sheet.fill("sweeps"))
-        wide = max(end - start, sheet.stop_width + 46 * cycle.is_full)
-        middle = min((start + end) / 2, WIDTH - 4 - wide / 2)
-        kind = "full cycle" if cycle.is_full else "cycle"
-        words = first_fitting(wide + 8, (f"{kind} {cycle.number}", f"cycle {cycle.number}", str(cycle.number)))
-        sheet.text(middle, top - 8, words, font_weight="bold")
-        if cycle.end <= run.last:
-            told(sheet, cycle, middle, top + height + 17, wide)
-        for x, shape, stop in zip(ways, ("snapshot", "closing", "end"), (cycle.start, cycle.closed, cycle.end)):
-            if run.first - 1 <= stop <= run.last:
-                sign(sheet, x, top + height / 2, shape)
-    sheet.y = top + height + 48
+    top, height, apart, rows = sheet.y + 22, 22, 82, []
+    for cycle in sheet.run.cycles:
+        bar = Bar(sheet, cycle)
+        row = next((at for at, right in enumerate(rows) if bar.left >= right), len(rows))
+        rows[row : row + 1] = [bar.right + 4]
+        bar.draw(sheet, top + apart * row, height)
+    sheet.y = top + height + 48 + apart * max(len(rows) - 1, 0)
 
 
 def promoted(sheet):

@@ -43,6 +43,7 @@ class Sheet:
         self.name, self.patterns, self.out, self.y = name, patterns, [], 0
 
     def put(self, text):
+        """Puts down a piece of SVG as it is."""
         self.out.append(text)
 
     def fill(self, pattern):
@@ -50,18 +51,22 @@ class Sheet:
         return f"url(#{self.name}-{pattern})"
 
     def text(self, x, y, words, anchor="middle", **more):
+        """Words; `more` are further attributes, with _ for -. No words put down nothing."""
         if words == "":
             return
         rest = "".join(f' {name.replace("_", "-")}="{value}"' for name, value in more.items())
         self.put(f'<text x="{x:.1f}" y="{y:.1f}" text-anchor="{anchor}"{rest}>{clean(words)}</text>')
 
     def rect(self, x, y, width, height, fill, stroke="#000", more=""):
+        """A box; `more` are further attributes as they stand."""
         self.put(f'<rect x="{x:.1f}" y="{y:.1f}" width="{width:.1f}" height="{height:.1f}" fill="{fill}" stroke="{stroke}"{more}/>')
 
     def line(self, x1, y1, x2, y2, stroke="#999", more=""):
+        """A straight line."""
         self.put(f'<line x1="{x1:.1f}" x2="{x2:.1f}" y1="{y1:.1f}" y2="{y2:.1f}" stroke="{stroke}"{more}/>')
 
     def path(self, points, fill="none", stroke="#000", more=""):
+        """A path of these points."""
         self.put(f'<path d="{points}" fill="{fill}" stroke="{stroke}"{more}/>')
 
     def label(self, x, y, width, *choices, size=SIZE):

@@ -35,6 +35,7 @@ class Lines:
             raise self.bad("it isn't ASCII") from None
 
     def bad(self, why):
+        """The last line is bad."""
         return BadInput(f"bad line {self.number}: {why}")
 
 

@@ -65,6 +65,7 @@ class Watch:
             event(number, rest, " " in text)
 
     def in_phase(self, *phases):
+        """Refuses a line that can't stand there."""
         if self.phase not in phases:
             raise _Refused("place", "can't stand there")
 
@@ -116,6 +117,7 @@ class Watch:
         return next((it for it in self.debts if mutator in (None, it.mutator)), None)
 
     def pay(self, mutator=None):
+        """Refuses a line where something is due."""
         debt = self.unpaid(mutator)
         if debt:
             raise _Refused("due", f"can't happen: {debt.name} is due since line {debt.line}, and nobody remembered it", debt.name, debt)

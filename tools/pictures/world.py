@@ -61,6 +61,7 @@ class World:
         self.lines = {"g": "arr" + " nil" * SLOTS}
 
     def copy(self):
+        """Another world with the same in it."""
         other = World(0)
         other.registers = [list(row) for row in self.registers]
         other.queues = [list(row) for row in self.queues]
@@ -76,9 +77,11 @@ class World:
         return heap
 
     def can_apply(self, mutator):
+        """Whether there is such a mutator, and one more object still has a serial."""
         return mutator < len(self.serials) and self.serials[mutator] < SERIALS - 1
 
     def value(self, mutator, operand):
+        """What an operand stands for."""
         return "g" if operand == "g" else self.registers[mutator][int(operand[1:])]
 
     def object_of(self, mutator, words):
@@ -105,6 +108,7 @@ class World:
         return done(mutator, register, target, values[1:] if register is not None else values)
 
     def apply(self, mutator, effect):
+        """Does what a command does."""
         if effect.words is not None:
             if effect.name not in self.lines:
                 self.serials[mutator] += 1

@@ -35,30 +35,23 @@ class Lead(NamedTuple):
 
 
 def lead(world, name, extra=()):
-    """A shortest path to a name in a world, by strong fields or else through weak pointers; None where there is none.
-    `extra` has further roots: pairs of a root and a name."""
+    """A path to a name in a world: a shortest one by strong fields, else one from further roots, which `extra` has as pairs of a
+    root and a name, else one through weak pointers; None where there is none."""
     heap = world.heap()
     if name not in heap.lines:
         return None
-    found = spread(heap, search(heap), [])
+    found = search(heap)
     if name not in found:
-        found = all_found(heap, found)
-    if found[name].way.__class__ is Root and found[name].way.kind in ("none", "list") or _is_loose(found, name):
-        found = spread(heap, {}, [(it, Found(0, root)) for root, it in extra if it in heap.lines])
-        if name not in found:
-            return None
-    root, first, hops = path(found, name)
-    told, source = [Hop(first, None, True, None)], first
+        beside = spread(heap, {}, [(it, Found(0, root)) for root, it in extra if it in heap.lines])
+        found = beside if name in beside else all_found(heap, found)
+    root, source, hops = path(found, name)
+    if root.kind == "none":
+        return None
+    told = [Hop(source, None, True, None)]
     for field, target in hops:
         told.append(Hop(target, field, heap.node(source).strong, source))
         source = target
     return shortened(root, told)
-
-
-def _is_loose(found, name):
-    """Whether the path to a name begins nowhere."""
-    root, _, _ = path(found, name)
-    return root.kind == "none"
 
 
 def shortened(root, hops):
@@ -105,22 +98,26 @@ def root_words(root):
     if root.kind in ("register", "queue"):
         sort = f"register {root.number}" if root.kind == "register" else f"queue, place {root.number}"
         return [f"mutator {root.mutator}", sort]
-    return {"shared": ["shared"], "pushed": ["pushed", "since the mark"], "read": ["read out of a", "weak pointer"]}.get(root.kind, ["a weak pointer", "in the list"])
+    words = {"shared": ["shared"], "pushed": ["pushed", "since the mark"], "read": ["read out of a", "weak pointer"]}
+    return words.get(root.kind, ["a weak pointer", "in the list"])
 
 
 class Panel:
     """One of the two worlds: where its paths stand, the snapshot's in its first column, another one in its second."""
 
-    def __init__(self, sheet, world, left, rows, top):
-        self.sheet, self.world, self.left, self.rows, self.top = sheet, world, left, rows, top
+    def __init__(self, sheet, world, left, top):
+        self.sheet, self.world, self.left, self.top = sheet, world, left, top
 
     def y(self, row):
+        """Where a row begins."""
         return self.top + TOP + row * PITCH
 
     def x(self, column):
+        """Where a column begins."""
         return self.left + 16 + column * (BOX + 58)
 
-    def root(self, root, row, column, note=""):
+    def root(self, root, row, column):
+        """A root."""
         x, y = self.x(column), self.y(row)
         self.sheet.rect(x, y, BOX, HEIGHT, "#f0f0f0", more=' rx="10"')
         words = root_words(root)
@@ -128,6 +125,7 @@ class Panel:
             self.sheet.text(x + BOX / 2, y + (22 if len(words) == 1 else 15 + 14 * at), line, font_size=11)
 
     def object(self, name, row, column, marked):
+        """An object, as it is in this world."""
         x, y = self.x(column), self.y(row)
         words = self.world.lines.get(name)
         node = self.world.heap().node(name) if words else None
@@ -137,6 +135,7 @@ class Panel:
         self.sheet.text(x + BOX / 2, y + 30, fit(node.note if node else "isn't there", BOX, 10), font_size=11)
 
     def gap(self, row, column, left_out):
+        """Says how many objects are left out there."""
         self.sheet.text(self.x(column) + BOX / 2, self.y(row) + 22, f".. {left_out:,} more objects ..", font_size=11)
 
     def arrow(self, row, column, words, strong=True, broken=False):
@@ -248,20 +247,51 @@ def told(watch, now):
     """What the two worlds show, in words."""
     refusal, name = watch.refusal, watch.refusal.name
     if refusal.sort == "due":
-        held = f"Yet it can still be reached at line {refusal.line:,}." if now else f"Nothing leads to it any more at line {refusal.line:,}; the rule asks for it all the same."
+        gone = f"Nothing leads to it any more at line {refusal.line:,}; the rule asks for it all the same."
+        held = f"Yet it can still be reached at line {refusal.line:,}." if now else gone
         source, line = refusal.debt.source, refusal.debt.line
         if refusal.debt.command.startswith(("deref", "finalise")):
             return f"Line {line:,} took {name} out of the weak pointer {source}, which the marker doesn't follow, and nobody remembered it. {held}"
         return f"A marker that comes to {source} only after line {line:,} may not find {name} there, and nobody remembered it. {held}"
+    is_there = watch.snapshot is not None and name in watch.snapshot.lines
     return {
         "answer": "The heap and the trace disagree before any barrier comes in.",
         "name": f"The heap has no {name}.",
-        "take": f"{name} wasn't pushed since the mark." if watch.snapshot and name in watch.snapshot.lines else f"The snapshot has no {name}: it was made later.",
+        "take": f"{name} wasn't pushed since the mark." if is_there else f"The snapshot has no {name}: it was made later.",
         "dead": f"The weak pointer {name} lives as long as its key can be reached.",
         "told": f"What the snapshot leads to, what was read out of a weak pointer and what was pushed has to be marked: {name} among it.",
         "marked": f"Neither the snapshot nor a push leads to {name}.",
         "needed": f"The snapshot or a weak pointer that was read leads to {name}, so it can't be freed.",
     }[refusal.sort]
+
+
+def ways(watch, name):
+    """The path through the snapshot, and another one at the refused line, where it isn't the same; None where there is none."""
+    then = None
+    if watch.snapshot:
+        then = broken_lead(watch) if watch.refusal.debt else lead(watch.snapshot, name, extra_roots(watch))
+    now = lead(watch.world, name)
+    return then, None if now == then else now
+
+
+def draw_worlds(sheet, watch, name, then, now):
+    """Both worlds side by side, each in its panel."""
+    rows = max([len(it.hops) + bool(it.gap) for it in (then, now) if it], default=0)
+    top, line = sheet.y + 4, watch.refusal.line
+    for at, world, words in ((0, watch.snapshot, f"the snapshot, line {watch.mark_line:,}"), (1, watch.world, f"the heap at line {line:,}")):
+        left = 12 + at * (PANEL + SPACE)
+        sheet.rect(left, top, PANEL, TOP + rows * PITCH + HEIGHT + 22, "none", "#bbb")
+        sheet.text(left + 12, top + 20, words if world else "no cycle has begun", "start", font_weight="bold")
+        if world is None or name is None:
+            continue
+        panel = Panel(sheet, world, left, top + 6)
+        if then:
+            draw_lead(panel, then, rows, at == 0, name)
+        else:
+            panel.object(name, rows, 0, True)
+        if at == 1 and now:
+            draw_other(panel, now, rows)
+    sheet.y = top + TOP + rows * PITCH + HEIGHT + 44
 
 
 def drawn(watch, title):
@@ -273,27 +303,8 @@ def drawn(watch, title):
     sheet.paragraph(refusal.told, 13)
     sheet.y += 6
     events(sheet, watch)
-    then = (broken_lead(watch) if refusal.debt else lead(watch.snapshot, name, extra_roots(watch))) if watch.snapshot and name else None
-    now = lead(watch.world, name) if name else None
-    if now and then and now.root == then.root and now.hops == then.hops:
-        other = None
-    else:
-        other = now
-    rows = max([len(it.hops) + bool(it.gap) for it in (then, other) if it], default=0)
-    top = sheet.y + 4
-    for at, (world, words) in enumerate(((watch.snapshot, f"the snapshot, line {watch.mark_line:,}"), (watch.world, f"the heap at line {refusal.line:,}"))):
-        left = 12 + at * (PANEL + SPACE)
-        sheet.rect(left, top, PANEL, TOP + rows * PITCH + HEIGHT + 22, "none", "#bbb")
-        sheet.text(left + 12, top + 20, words if world else "no cycle has begun", "start", font_weight="bold")
-        if world is None or name is None:
-            continue
-        panel = Panel(sheet, world, left, rows, top + 6)
-        if then:
-            draw_lead(panel, then, rows, at == 0, name)
-        else:
-            panel.object(name, rows, 0, True)
-        if at == 1 and other:
-            draw_other(panel, other, rows)
-    sheet.y = top + TOP + rows * PITCH + HEIGHT + 44
-    sheet.paragraph(told(watch, now), 12)
-    return sheet.svg(title, f"{refusal.told}. {told(watch, now)}")
+    then, now = ways(watch, name) if name else (None, None)
+    draw_worlds(sheet, watch, name, then, now)
+    words = told(watch, refusal.debt and lead(watch.world, name))
+    sheet.paragraph(words, 12)
+    return sheet.svg(title, f"{refusal.told}. {words}")

@@ -17,7 +17,8 @@ class Maker:
 
     def _ended(self, start, closed, swept, freed, dead=0):
         self.cycles += 1
-        self.lines.append(f"cycle {self.cycles} from {start} closed {closed} swept {swept} had {freed + self.kept} freed {freed} kept {self.kept} dead {int(dead)}")
+        told = f"swept {swept} had {freed + self.kept} freed {freed} kept {self.kept} dead {int(dead)}"
+        self.lines.append(f"cycle {self.cycles} from {start} closed {closed} {told}")
         self.lines += [f"dead 0.{at}" for at in range(dead)] + [f"freed 0.{at}" for at in range(freed)]
 
     def round(self, commands, begins=False, closes=False, sweeps=0, fills=0, freed=0, dead=0, full=False, keeps=None):

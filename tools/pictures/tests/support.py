@@ -34,7 +34,8 @@ def elements(svg, name):
 
 def length_of(words, size):
     """How long words are, about, in the font of the pictures."""
-    return size * sum(0.64 if it.isdigit() else 0.32 if it in " ,.:;'" else 0.29 if it in "ilj" else 0.4 if it in "tfr" else 0.9 if it in "mw" else 0.62 for it in words)
+    widths = {**dict.fromkeys("0123456789", 0.64), **dict.fromkeys(" ,.:;'", 0.32), **dict.fromkeys("ilj", 0.29), **dict.fromkeys("tfr", 0.4)}
+    return size * sum(widths.get(it, 0.9 if it in "mw" else 0.62) for it in words)
 
 
 def too_wide(svg, width=900):

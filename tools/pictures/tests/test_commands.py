@@ -38,14 +38,18 @@ FAULTS = [
     (["trace"], "trace 2\nmutator 1\n", 5, "picture.py: line 2 is none of a trace"),
     (["trace"], content("examples", "traces", "two_cycles.trace"), 1, "picture.py: each line can happen: there is no refused line to draw"),
     (["run", "--rounds", "7-9"], REPORT, 2, "picture.py: the run has 5 rounds"),
-    (["run", "--rounds", "3-2"], REPORT, 2, "picture.py: argument --rounds: rounds are told as A-B; --help tells more"),
-    (["--what"], REPORT, 2, "picture.py: unrecognized arguments: --what; --help tells more"),
 ]
 
 
 class Tools(unittest.TestCase):
     def test_pictures_are_written(self):
-        for words, given, begins in ((["run"], REPORT, "<svg "), ([], REPORT, "<svg "), (["heap", "0.0"], IMAGE, "<svg "), (["dot"], IMAGE, "digraph heap {\n"), (["trace"], TRACE, "<svg ")):
+        for words, given, begins in (
+            (["run"], REPORT, "<svg "),
+            ([], REPORT, "<svg "),
+            (["heap", "0.0"], IMAGE, "<svg "),
+            (["dot"], IMAGE, "digraph heap {\n"),
+            (["trace"], TRACE, "<svg "),
+        ):
             status, out, said = ran("picture.py", *words, given=given)
             self.assertEqual((status, said), (0, ""))
             self.assertTrue(out.startswith(begins))
@@ -60,6 +64,11 @@ class Tools(unittest.TestCase):
         for words, given, status, line in FAULTS:
             self.assertEqual(ran("picture.py", *words, given=given), (status, "", line + "\n"), words)
 
+    def test_wrong_words_get_one_line(self):
+        for tool, words in (("picture.py", ["run", "--rounds", "3-2"]), ("picture.py", ["--what"]), ("picture.py", ["heap", "--hops", "-1"]), ("page", [])):
+            status, out, said = ran(tool, *words, given=REPORT)
+            self.assertEqual((status, out, said.count("\n"), said.startswith(tool + ": ")), (2, "", 1, True), words)
+
     def test_parts_of_a_run(self):
         self.assertIn("rounds 2 to 3 of 5", ran("picture.py", "--rounds", "2-3", given=REPORT)[1])
         self.assertIn("rounds 1 to 2 of 5", ran("picture.py", "--first", "2", "--title", "A <b> title", given=REPORT)[1])
@@ -73,9 +82,11 @@ class Tools(unittest.TestCase):
     def test_faults_of_pages(self):
         report = path("examples", "kept.report")
         for words, status, line in (
-            ([], 2, "page: the following arguments are required: REPORT; --help tells more"), (["no such file"], 3, "page: read fault: No such file or directory"),
-            ([path("examples")], 3, "page: read fault: Is a directory"), ([path("examples", "bad.report")], 5, "page: bad line 1: this is no report of `nmgc run`"),
-            ([report, report], 9, "page: bad image line 1"), ([report, path("examples", "kept.image"), "--path", "7"], 2, "page: the name of an object is maker.serial, or g"),
+            (["no such file"], 3, "page: read fault: No such file or directory"),
+            ([path("examples")], 3, "page: read fault: Is a directory"),
+            ([path("examples", "bad.report")], 5, "page: bad line 1: this is no report of `nmgc run`"),
+            ([report, report], 9, "page: bad image line 1"),
+            ([report, path("examples", "kept.image"), "--path", "7"], 2, "page: the name of an object is maker.serial, or g"),
         ):
             self.assertEqual(ran("page", *words), (status, "", line + "\n"), words)
 

@@ -12,7 +12,8 @@ class Documents(unittest.TestCase):
             self.assertEqual(content(name), documents.of_stored(name), f"{name}: tools/doc_pictures makes it again")
 
     def test_stored_pictures_are_shown_and_sound(self):
-        shown = {"docs/" + name.rpartition("/")[2] for file in ("README.md", "docs/TUTORIAL.md", "docs/GUIDE.md") for name in re.findall(r"\]\(([^)]+\.svg)\)", content(file))}
+        documents_there = "".join(content(name) for name in ("README.md", "docs/TUTORIAL.md", "docs/GUIDE.md"))
+        shown = {"docs/" + name.rpartition("/")[2] for name in re.findall(r"\]\(([^)]+\.svg)\)", documents_there)}
         for name in [*documents.STORED, *documents.BENCHES]:
             self.assertIn(name, shown)
             self.assertTrue(ids_are_right(content(name)), name)

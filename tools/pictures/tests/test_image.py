@@ -10,13 +10,16 @@ from .support import HOSTILE, content, stream
 GOOD = content("examples", "kept.image")
 # What is put in the place of a line of examples/kept.image, and the line that is told.
 BAD = [
-    (1, "image 2 2", 1), (1, "image 1 0", 1), (1, "image 1 33", 1), (1, "image 1 3", 11), (1, "image 1 1", 4), (2, "mutator 0 serial 4", 15),
-    (2, "mutator 0 serial 4294967296", 2), (3, "register 1 nil", 3), (3, "register 64 5", 3), (3, "register 01 5", 3), (3, "register 1 4611686018427387904", 3),
-    (3, "register 1 9.9", 3), (3, "register 1 5 ", 3), (6, "register 40 1.0", 6), (8, "register 43 1.2\nregister 43 1.2", 8), (10, "queue 9.0", 10),
-    (11, "node 0.0 con 256 5", 11), (11, "node 0.0 con 7 5 5.", 11), (11, "node 0.1 con 7 5", 12), (11, "node 0.9 con 7 5", 11), (11, "node 2.0 con 7 5", 11),
-    (12, "node 0.1 var", 12), (12, "node 0.1 var 0.0 5", 12), (12, "node 0.1 var 0.5", 12), (16, "node 1.0 thunk result", 6), (16, "node 1.0 thunk free 1 2 3 4 5 6 7 8 9", 6),
-    (18, "node 1.2 stack 1 1.0 6", 7), (18, "node 1.2 stack 4095", 7), (19, "node 1.3 weak 6 1.0", 8), (21, "node g arr nil", 21), (21, "node g con 0", 21),
-    (21, "node g arr" + " nil" * 17, 21), (21, "", 17), (22, "end ", 22), (22, "end\nend", 23), (22, "", 22), (12, HOSTILE.encode("utf-8", "replace").decode(), 12),
+    (1, "image 2 2", 1), (1, "image 1 0", 1), (1, "image 1 33", 1), (1, "image 1 3", 11), (1, "image 1 1", 4),
+    (2, "mutator 0 serial 4", 15), (2, "mutator 0 serial 4294967296", 2), (3, "register 1 nil", 3), (3, "register 64 5", 3),
+    (3, "register 01 5", 3), (3, "register 1 4611686018427387904", 3), (3, "register 1 9.9", 3), (3, "register 1 5 ", 3),
+    (6, "register 40 1.0", 6), (8, "register 43 1.2\nregister 43 1.2", 8), (10, "queue 9.0", 10),
+    (11, "node 0.0 con 256 5", 11), (11, "node 0.0 con 7 5 5.", 11), (11, "node 0.1 con 7 5", 12), (11, "node 0.9 con 7 5", 11),
+    (11, "node 2.0 con 7 5", 11), (12, "node 0.1 var", 12), (12, "node 0.1 var 0.0 5", 12), (12, "node 0.1 var 0.5", 12),
+    (16, "node 1.0 thunk result", 6), (16, "node 1.0 thunk free 1 2 3 4 5 6 7 8 9", 6), (18, "node 1.2 stack 1 1.0 6", 7),
+    (18, "node 1.2 stack 4095", 7), (19, "node 1.3 weak 6 1.0", 8), (21, "node g arr nil", 21), (21, "node g con 0", 21),
+    (21, "node g arr" + " nil" * 17, 21), (21, "", 17), (22, "end ", 22), (22, "end\nend", 23), (22, "", 22),
+    (12, HOSTILE.encode("utf-8", "replace").decode(), 12),
 ]
 
 

@@ -94,7 +94,8 @@ class Pages(unittest.TestCase):
 
     def test_numbers_of_the_worked_files(self):
         text = kept()
-        for words in ("<dt>commands</dt><dd>27, by 2 mutators</dd>", "<dt>promoted</dt><dd>12 objects</dd>", "<dt>kept</dt><dd>10 objects, by the last cycle</dd>",
+        for words in ("<dt>commands</dt><dd>27, by 2 mutators</dd>", "<dt>promoted</dt><dd>12 objects</dd>",
+                      "<dt>kept</dt><dd>10 objects, by the last cycle</dd>",
                       "<dt>heap left</dt><dd>11 objects</dd>", '<th scope="row">mutator 1</th><td>15</td><td>1</td><td>15</td>',
                       '<th scope="row">thunk</th><td>1</td><td>1</td><td>0</td><td>0</td><td>2</td>', "and what keeps 0.0"):
             self.assertIn(words, text)

@@ -87,7 +87,8 @@ class Paths(unittest.TestCase):
         heap = heap_of(text)
         found = search(heap)
         self.assertEqual((path_text(found, "0.1"), path_text(found, "9.9")), ("none\n", "none\n"))
-        self.assertEqual(keepers(heap, found), {"0.0": STRONG, "0.1": WEAK, "0.2": WEAK, "0.3": WEAK, "0.4": LOOSE, "0.5": LOOSE, "0.6": FINALISER, "g": STRONG})
+        kept = {"0.0": STRONG, "0.1": WEAK, "0.2": WEAK, "0.3": WEAK, "0.4": LOOSE, "0.5": LOOSE, "0.6": FINALISER, "g": STRONG}
+        self.assertEqual(keepers(heap, found), kept)
 
     def test_a_long_list(self):
         heap = heap_of(listed(20000))

@@ -11,13 +11,17 @@ from .support import HOSTILE, content, path, stream
 GOOD = content("examples", "cycle.report")
 # What is put in the place of a line of examples/cycle.report, and the line that is told.
 BAD = [
-    (1, "report 2", 1), (1, "", 1), (2, "stop 1 idle free 32 filled 0 sweep 0 promoted 0", 2), (2, "stop 0 busy free 32 filled 0 sweep 0 promoted 0", 2),
-    (2, "stop 0 idle free 032 filled 0 sweep 0 promoted 0", 2), (2, "stop 0 idle free 9999999999999999999 filled 0 sweep 0 promoted 0", 2),
-    (3, "round 2", 3), (4, "0 fine", 4), (4, "32 ok", 4), (4, "0  ok", 4), (4, "0 0.4294967296", 4), (4, "0 4611686018427387904", 4),
-    (5, "0 <b>", 5), (22, "1 ok\n0 ok", 23), (23, "stop 1 marking free 31 filled 1 sweep 1 promoted 16", 23), (30, "cycle 2 from 1 closed 2 swept 1 had 16 freed 0 kept 16 dead 0", 30),
-    (30, "cycle 1 from 2 closed 1 swept 1 had 16 freed 0 kept 16 dead 0", 30), (30, "cycle 1 from 1 closed 2 swept 1 had 16 freed 1 kept 16 dead 0", 31),
-    (30, "cycle 1 from 1 closed 2 swept 1 had 16 freed 17 kept 16 dead 0", 30), (30, "cycle 1 from 1 closed 2 swept 1 had 16 freed 0 kept 16 dead 1", 31),
-    (36, "freed <script>", 36), (36, "freed 0.0\nfreed 0.1", 37), (37, "end doné", 37), (37, "end done\nend done", 38), (37, "end " + "x" * 300, 37),
+    (1, "report 2", 1), (1, "", 1), (2, "stop 1 idle free 32 filled 0 sweep 0 promoted 0", 2),
+    (2, "stop 0 busy free 32 filled 0 sweep 0 promoted 0", 2), (2, "stop 0 idle free 032 filled 0 sweep 0 promoted 0", 2),
+    (2, "stop 0 idle free 9999999999999999999 filled 0 sweep 0 promoted 0", 2), (3, "round 2", 3), (4, "0 fine", 4),
+    (4, "32 ok", 4), (4, "0  ok", 4), (4, "0 0.4294967296", 4), (4, "0 4611686018427387904", 4), (5, "0 <b>", 5),
+    (22, "1 ok\n0 ok", 23), (23, "stop 1 marking free 31 filled 1 sweep 1 promoted 16", 23),
+    (30, "cycle 2 from 1 closed 2 swept 1 had 16 freed 0 kept 16 dead 0", 30),
+    (30, "cycle 1 from 2 closed 1 swept 1 had 16 freed 0 kept 16 dead 0", 30),
+    (30, "cycle 1 from 1 closed 2 swept 1 had 16 freed 1 kept 16 dead 0", 31),
+    (30, "cycle 1 from 1 closed 2 swept 1 had 16 freed 17 kept 16 dead 0", 30),
+    (30, "cycle 1 from 1 closed 2 swept 1 had 16 freed 0 kept 16 dead 1", 31), (36, "freed <script>", 36),
+    (36, "freed 0.0\nfreed 0.1", 37), (37, "end doné", 37), (37, "end done\nend done", 38), (37, "end " + "x" * 300, 37),
 ]
 
 
@@ -67,7 +71,8 @@ class Reports(unittest.TestCase):
         self.assertIs(run.part(1, 500), run)
 
     def test_a_run_without_a_round(self):
-        text = "report 1\nstop 0 idle free 1 filled 0 sweep 0 promoted 0\ncycle 1 from 0 closed 0 swept 0 had 0 freed 0 kept 1 dead 0\nend heapfull free 1 reserve 15\n"
+        text = "report 1\nstop 0 idle free 1 filled 0 sweep 0 promoted 0\n"
+        text += "cycle 1 from 0 closed 0 swept 0 had 0 freed 0 kept 1 dead 0\nend heapfull free 1 reserve 15\n"
         run = read_report(stream(text))
         self.assertEqual((run.rounds, run.cycles[0].is_full, run.end), (0, True, "heapfull free 1 reserve 15"))
 

@@ -15,7 +15,9 @@ def picture(text, title="A run"):
 class FewRounds(unittest.TestCase):
     def test_numbers_of_a_worked_report(self):
         svg = picture(content("examples", "cycle.report"))
-        for words in ("round 5", "stop 5", "19", "2", "cycle 1", "freed 0, kept 16", "freed 1 (0.0), kept 15", "16", "32 free", "31 free", "end done", "2 of 32 shown"):
+        for words in ("round 5", "stop 5", "19", "2", "cycle 1", "freed 0, kept 16", "freed 1 (0.0), kept 15", "16"):
+            self.assertIn(words, texts(svg))
+        for words in ("32 free", "31 free", "end done", "2 of 32 shown"):
             self.assertIn(words, texts(svg))
         self.assertEqual((texts(svg).count("marks"), texts(svg).count("sweeps"), texts(svg).count("31 free")), (2, 2, 4))
 
