@@ -4,7 +4,8 @@ Readers, each strict to its format (docs/FORMATS.md, docs/GUIDE.md), and telling
 
 - `report`: the report of `nmgc run`, as a `Run`. It is read line by line, and of names and values nothing is kept.
 - `image`: the image of a heap, as a `Heap`; `paths`: levels from the roots, shortest paths, and what keeps an object.
-- `world`: the heap that is never collected; `trace`: a trace of format 2, watched up to the line that can't happen.
+- `judge`: a trace, up to the line that can't happen; `trace`: the watch of format 2, `core`: that of the first one, with its
+  marker; `world`: the heap that is never collected, which both have.
 
 Pictures, each a text of SVG made on a `svg.Sheet`:
 

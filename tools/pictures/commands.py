@@ -9,7 +9,7 @@ import contextlib
 import os
 import sys
 
-from . import columns, dot, heap, page, rounds, trace, worlds
+from . import columns, dot, heap, judge, page, rounds, worlds
 from .image import read_image
 from .report import read_report
 from .text import BadInput, is_name
@@ -94,7 +94,7 @@ def of_dot(given, stream):
 
 def of_trace(given, stream):
     """The picture of a trace's refused line."""
-    watch = read(trace.watched, BAD_REPORT, stream)
+    watch = read(judge.watched, BAD_REPORT, stream)
     if watch.refusal is None:
         raise Fault(NOTHING, f"{watch.told()}: there is no refused line to draw")
     return worlds.drawn(watch, given.title or "The first line of a trace that can't happen")
@@ -136,7 +136,7 @@ def picture_words(tool):
         shown.add_argument("--hops", type=whole, metavar="N", help="what lies within N hops of the roots, or of NAME")
         shown.add_argument("--title")
         shown.set_defaults(draw=of_heap if sort == "heap" else of_dot)
-    refused = sorts.add_parser("trace", help="a trace of format 2 on standard input: an SVG picture of the line that can't happen")
+    refused = sorts.add_parser("trace", help="a trace on standard input: an SVG picture of the line that can't happen")
     for one, draw in ((run, of_run), (refused, of_trace)):
         one.add_argument("--title")
         one.set_defaults(draw=draw)

@@ -6,7 +6,7 @@ two of the bench want the program, for no report of it is stored.
 import os
 import subprocess
 
-from . import heap, trace, worlds
+from . import heap, judge, worlds
 from .commands import run_picture
 from .image import read_image
 from .report import read_report
@@ -35,7 +35,7 @@ def of_stored(name):
             return run_picture(read_report(stream), title)
         if source.endswith(".image"):
             return heap.drawn(heap.View(read_image(stream), KEPT), title)
-        return worlds.drawn(trace.watched(stream), title)
+        return worlds.drawn(judge.watched(stream), title)
 
 
 def of_bench(name, program):

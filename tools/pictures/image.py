@@ -70,6 +70,10 @@ class Heap:
         """The kind of an object."""
         return self.lines[name].partition(" ")[0]
 
+    def weaks(self):
+        """The weak pointers that are alive, in order of their names."""
+        return [name for name, words in self.lines.items() if words.startswith("weak ") and words != "weak dead"]
+
     def strong(self, name):
         """The strong fields of an object that refer to one: number and name."""
         node = self.node(name)

@@ -89,7 +89,7 @@ def all_found(heap, found):
     ])
     left = [name for name in heap.lines if name not in every]
     referred = {target for name in left for _, target in heap.node(name).references()}
-    alive = {name for name in left if heap.node(name).note == "weak"}
+    alive = set(heap.weaks()).intersection(left)
     for several in (alive - referred, set(left) - referred, alive, set(left)):
         for name in left:
             if name in several and name not in every:
@@ -149,14 +149,13 @@ def live(heap, found, names, weak=True):
     and the weak pointers whose key isn't. Without `weak` by strong fields alone."""
     kept = set(found)
     _reach(heap, kept, names)
-    weaks = [name for name in heap.lines if heap.node(name).note == "weak"] if weak else []
-    return kept, _live(heap, kept, weaks)
+    return kept, _live(heap, kept, heap.weaks() if weak else [])
 
 
 def keepers(heap, found):
     """For each object what keeps it: registers and g by strong fields, else a finaliser that waits or would be queued, else
     a weak pointer with a live key; or nothing."""
-    held = search(heap, queues=False)
+    held = search(heap, queues=False) if any(own.queue for own in heap.mutators) else found
     alive, dying = live(heap, found, [])
     kept = set(alive)
     _reach(heap, kept, [word for name in dying for word in heap.node(name).values[2:] if word in heap.lines])

@@ -1,4 +1,4 @@
-"""A trace of format 2 (docs/GUIDE.md, "Check a barrier by a trace"), watched up to the first line that can't happen.
+"""A trace of format 2 (docs/GUIDE.md, "Check a barrier by a trace"), watched event by event.
 
 It tells the same as `nmgc_trace`, and keeps what a picture of the refused line needs: the snapshot, the heap as it is there,
 and for a name that is due the field or the weak pointer from which it went.
@@ -7,7 +7,7 @@ from typing import NamedTuple, Optional
 
 from .paths import search
 from .paths import live as live_by
-from .text import MOST_BYTES, BadInput, is_number, order
+from .text import is_number, order
 from .world import World, command_of, is_answer, is_told_name
 
 HEAD = "trace 2"
@@ -35,14 +35,16 @@ class Refusal(NamedTuple):
     name: Optional[str]
     debt: Optional[Debt]
     answer: Optional[str]
+    reason: Optional[str]
 
 
-class _Refused(Exception):
-    """Ends the watch at a line: the sort of the reason, its words, its name, its debt, and what the heap answers."""
+class Refused(Exception):
+    """Ends the watch at a line: the sort of the reason, its words, its name, its debt, what the heap answers, and for a trace of
+    the first format what stands against it."""
 
-    def __init__(self, sort, told, name=None, debt=None, answer=None):
+    def __init__(self, sort, told, name=None, debt=None, answer=None, reason=None):
         super().__init__(told)
-        self.sort, self.told, self.name, self.debt, self.answer = sort, told, name, debt, answer
+        self.sort, self.told, self.name, self.debt, self.answer, self.reason = sort, told, name, debt, answer, reason
 
 
 class Watch:
@@ -53,8 +55,8 @@ class Watch:
         self.debts, self.pushed, self.opened, self.finalised = [], set(), [], set()
         self.kept, self.needed, self.refusal = set(), set(), None
 
-    def line(self, number, text):
-        """Does a line; raises `_Refused` where it can't happen."""
+    def event(self, number, text):
+        """Does a line; raises `Refused` where it can't happen."""
         word, _, rest = text.partition(" ")
         if text == "" or text.startswith("#") or text == HEAD:
             return
@@ -67,21 +69,29 @@ class Watch:
     def in_phase(self, *phases):
         """Refuses a line that can't stand there."""
         if self.phase not in phases:
-            raise _Refused("place", "can't stand there")
+            raise Refused("place", "can't stand there")
 
     def command(self, number, word, rest):
         """`M COMMAND = ANSWER`."""
+        mutator, words = self.words_of(word, rest)
+        self.in_phase("between", "marking", "ended")
+        self.give(number, mutator, words, rest.partition(" = ")[2])
+
+    def words_of(self, word, rest):
+        """The mutator and the words of a command that has an answer."""
         command, equals, answer = rest.partition(" = ")
         words = command_of(command) if is_number(word, 256) and equals else None
         if words is None or not is_answer(answer):
-            raise _unknown()
-        self.in_phase("between", "marking", "ended")
-        mutator = int(word)
+            raise unknown()
+        return int(word), words
+
+    def give(self, number, mutator, words, answer):
+        """A mutator gives a command."""
         if not self.world.can_apply(mutator):
-            raise _Refused("words", "can't happen: there is no such mutator or register")
+            raise Refused("words", "can't happen: there is no such mutator or register")
         effect = self.world.effect(mutator, words)
         if effect.reply != answer:
-            raise _Refused("answer", "can't happen: the heap has another answer", self.world.object_of(mutator, words), None, effect.reply)
+            raise Refused("answer", "can't happen: the heap has another answer", self.world.object_of(mutator, words), None, effect.reply)
         if self.phase == "marking":
             self.due(number, mutator, words, effect)
         self.world.apply(mutator, effect)
@@ -120,18 +130,18 @@ class Watch:
         """Refuses a line where something is due."""
         debt = self.unpaid(mutator)
         if debt:
-            raise _Refused("due", f"can't happen: {debt.name} is due since line {debt.line}, and nobody remembered it", debt.name, debt)
+            raise Refused("due", f"can't happen: {debt.name} is due since line {debt.line}, and nobody remembered it", debt.name, debt)
 
     def _mutators(self, number, rest, more):
         if not is_number(rest, 256):
-            raise _unknown()
+            raise unknown()
         if self.phase != "nothing" or not 1 <= int(rest) <= MUTATORS:
-            raise _Refused("place", "can't stand there")
+            raise Refused("place", "can't stand there")
         self.phase, self.world = "between", World(int(rest))
 
     def _mark(self, number, rest, more):
         if more:
-            raise _unknown()
+            raise unknown()
         self.in_phase("between", "ended")
         self.phase, self.mark_line, self.snapshot = "marking", number, self.world.copy()
         self.debts, self.pushed, self.opened, self.finalised = [], set(), [], set()
@@ -139,24 +149,24 @@ class Watch:
     def _push(self, number, rest, more):
         who, _, name = rest.partition(" ")
         if not (who == "-" or is_number(who, 256)) or not is_told_name(name):
-            raise _unknown()
+            raise unknown()
         self.in_phase("marking")
         if name not in self.world.lines:
-            raise _Refused("name", f"can't happen: the heap has no {name}", name)
+            raise Refused("name", f"can't happen: the heap has no {name}", name)
         self.pushed.add(name)
 
     def _settle(self, number, rest, more):
         if not is_number(rest, 256):
-            raise _unknown()
+            raise unknown()
         self.in_phase("marking")
         self.pay(int(rest))
 
     def _take(self, number, rest, more):
         if not is_told_name(rest):
-            raise _unknown()
+            raise unknown()
         self.in_phase("marking")
         if rest not in self.pushed or rest not in self.snapshot.lines:
-            raise _Refused("take", f"can't happen: {rest} wasn't pushed, or was made since the cycle began", rest)
+            raise Refused("take", f"can't happen: {rest} wasn't pushed, or was made since the cycle began", rest)
 
     def _close(self, number, rest, more):
         told = _names(rest) if more else None
@@ -167,7 +177,7 @@ class Watch:
         if told is not None:
             wrong = next((name for name in told if name not in sure), None)
             if wrong:
-                raise _Refused("dead", f"can't happen: {wrong} isn't dead", wrong)
+                raise Refused("dead", f"can't happen: {wrong} isn't dead", wrong)
             dead = set(told)
         self.kept, self.needed = live, needed
         for name in sorted(dead, key=order):
@@ -188,23 +198,23 @@ class Watch:
         told = set(names)
         missing = min(self.kept - told, key=order, default=None)
         if missing:
-            raise _Refused("told", f"can't happen: {missing} has to be marked", missing)
+            raise Refused("told", f"can't happen: {missing} has to be marked", missing)
         wrong = next((name for name in names if name not in self.kept), None)
         if wrong:
-            raise _Refused("marked", f"can't happen: nothing keeps {wrong}", wrong)
+            raise Refused("marked", f"can't happen: nothing keeps {wrong}", wrong)
 
     def _freed(self, number, rest, more):
         names = _names(rest)
         self.in_phase("ended")
         for name in names:
             if name not in self.world.lines:
-                raise _Refused("name", f"can't happen: the heap has no {name}", name)
+                raise Refused("name", f"can't happen: the heap has no {name}", name)
             if name in self.needed:
-                raise _Refused("needed", f"can't happen: {name} is needed", name)
+                raise Refused("needed", f"can't happen: {name} is needed", name)
 
     def _stop(self, number, rest, more):
         if more:
-            raise _unknown()
+            raise unknown()
         self.in_phase("ended")
         self.phase = "stopped"
 
@@ -217,14 +227,15 @@ class Watch:
         return "each line can happen" if self.phase == "stopped" else "nothing is marked"
 
 
-def _unknown():
-    return _Refused("words", "is none of a trace")
+def unknown():
+    """The line is none of a trace."""
+    return Refused("words", "is none of a trace")
 
 
 def _names(rest):
     names = rest.split(" ")
     if not all(is_told_name(name) for name in names):
-        raise _unknown()
+        raise unknown()
     return names
 
 
@@ -238,24 +249,3 @@ def _strong(words):
         first = int(kind == "thunk" and values[0] == "free")
         values = values[1:]
     return {first + at: word for at, word in enumerate(values) if "." in word or word == "g"}
-
-
-def watched(stream):
-    """Watches a trace, from a stream of bytes, up to its end or to the line that can't happen, which `refusal` then tells."""
-    data = stream.read(MOST_BYTES + 1)
-    if len(data) > MOST_BYTES:
-        raise BadInput("too long")
-    lines = data.decode("utf-8", "replace").split("\n")
-    lines = [line[:-1] if line.endswith("\r") else line for line in (lines[:-1] if lines[-1] == "" else lines)]
-    if not lines or lines[0] != HEAD:
-        raise BadInput("line 1 isn't `trace 2`: only traces of format 2 have a picture")
-    watch = Watch()
-    for number, text in enumerate(lines, 1):
-        try:
-            watch.line(number, text)
-        except _Refused as why:
-            if why.sort in ("words", "place"):
-                raise BadInput(f"line {number} {why.told}") from None
-            watch.refusal = Refusal(number, text, f"line {number} {why.told}", why.sort, why.name, why.debt, why.answer)
-            break
-    return watch

@@ -222,7 +222,8 @@ def events(sheet, watch):
     refusal, debt = watch.refusal, watch.refusal.debt
     rows = [(watch.mark_line, "mark", "the snapshot is taken")] if watch.snapshot else []
     if debt:
-        rows.append((debt.line, f"{debt.mutator} {debt.command}", f"from here on {debt.name} is due: {why_due(debt)}"))
+        word = "owed" if refusal.reason else "due"
+        rows.append((debt.line, f"{debt.mutator} {debt.command}", f"from here on {debt.name} is {word}: {why_due(debt)}"))
     rows.append((refusal.line, refusal.words, "this line can't happen" + (f": the heap answers {refusal.answer}" if refusal.answer else "")))
     for number, words, what in rows:
         sheet.text(96, sheet.y, f"line {number:,}", "end", font_size=12)
@@ -246,6 +247,8 @@ def why_due(debt):
 def told(watch, now):
     """What the two worlds show, in words."""
     refusal, name = watch.refusal, watch.refusal.name
+    if refusal.reason:
+        return refusal.reason + (f" Nothing leads to it any more at line {refusal.line:,}." if refusal.debt and not now else "")
     if refusal.sort == "due":
         gone = f"Nothing leads to it any more at line {refusal.line:,}; the rule asks for it all the same."
         held = f"Yet it can still be reached at line {refusal.line:,}." if now else gone

@@ -2,13 +2,14 @@
 import os
 import unittest
 
+from ..judge import watched
 from ..text import BadInput
-from ..trace import watched
 from ..worlds import broken_lead, drawn, lead
 from .support import HOSTILE, content, elements, ids_are_right, path, stream, texts, too_wide
 
 HEAD = "trace 2\nmutators 1\n"
 CELL = HEAD + "0 num r1 5 = ok\n0 con r2 0 r1 = 0.0\n0 var r0 r2 = 0.1\n0 nil r2 = ok\n"
+FIRST = CELL[len("trace 2\n") :]
 # A trace, and what is told of it.
 TOLD = [
     (HEAD, "nothing is marked"),
@@ -53,6 +54,20 @@ TOLD = [
     ),
     (HEAD + "0 con r1 0 = 0.0\n0 weak r0 r1 r1 r1 = 0.1\nmark\nclose 0.1\n", "line 6 can't happen: 0.1 isn't dead"),
 ]
+TOLD += [
+    ("", "nothing is marked"),
+    ("mutators 1\ntrace 2\n", "line 2 is none of a trace"),
+    ("mutators 1\nmark\nstop\n", "line 3 is none of a trace"),
+    ("mutators 1\nmark\nmark\n", "line 3 can't happen"),
+    ("mutators 1\nmark\nscan\n", "line 3 can't happen"),
+    (FIRST + "mark\npush 0\n", "line 7 can't happen"),
+    (FIRST + "mark\nclose\n", "line 7 can't happen"),
+    (FIRST + "mark\nscan\ndrain\n", "marking goes on, marked 0.0 0.1 g"),
+    (FIRST + "mark\n0 get r2 r0 0 = 0.1\n", "line 7 can't happen"),
+    (FIRST + "mark\n0 set r0 0 r1 = ok\npush 0\ntake 0 0.1\n", "line 9 can't happen"),
+    (FIRST + "mark\n0 set r0 0 r1 = ok\npush 0\ntake 0 0.0\ndrain\nclose\ndrain\n", "closed, kept 0.0 0.1 g"),
+    (FIRST + "0 thunk r3 r0 g = 0.2\n0 nil r0 = ok\nmark\nscan\nscan\n0 update r3 g = updated\nscan\n", "marking goes on, marked 0.1 0.2 g"),
+]
 
 
 def told(text):
@@ -64,28 +79,22 @@ def told(text):
 
 
 def stored():
-    """The traces of format 2 that the gate runs, each with what is told of it."""
+    """The traces that the gate runs, each with what is told of it."""
     for line in content("crates", "nmgc_trace", "stdout").splitlines():
         name, _, words = line.partition(": ")
         if os.path.exists(path("examples", "traces", name)):
-            text = content("examples", "traces", name)
-            if text.startswith("trace 2\n"):
-                yield name, text, words
+            yield name, content("examples", "traces", name), words
 
 
 class Traces(unittest.TestCase):
     def test_what_the_gate_tells_of_the_stored_traces(self):
-        self.assertGreaterEqual(len(list(stored())), 17)
+        self.assertGreaterEqual(len(list(stored())), 25)
         for name, text, words in stored():
             self.assertEqual(told(text), words, name)
 
     def test_more_traces(self):
         for text, words in TOLD:
             self.assertEqual(told(text), words, text)
-
-    def test_a_trace_of_format_1_has_no_picture(self):
-        self.assertEqual(told(content("examples", "traces", "deletion.trace")), "line 1 isn't `trace 2`: only traces of format 2 have a picture")
-        self.assertIn("line 1 isn't", told(""))
 
     def test_hostile_text_is_refused(self):
         self.assertEqual(told(HEAD + HOSTILE.encode("utf-8", "replace").decode() + "\n"), "line 3 is none of a trace")
@@ -122,7 +131,7 @@ class Worlds(unittest.TestCase):
                 self.assertNotIn("<script", svg)
                 self.assertEqual([words for words in too_wide(svg) if "script" not in words], [])
                 self.assertTrue(ids_are_right(svg))
-        self.assertEqual(sorts, {"due", "answer", "name", "take", "told", "needed", "marked", "dead"})
+        self.assertEqual(sorts, {"due", "answer", "name", "take", "told", "needed", "marked", "dead", "other", "push", "scan", "queue"})
 
     def test_a_long_path_is_shortened(self):
         lines = ["0 con r0 0 = 0.0"] + [f"0 con r0 0 r0 = 0.{at}" for at in range(1, 100)] + ["0 var r0 r0 = 0.100", "mark", "0 set r0 0 g = ok", "close"]
