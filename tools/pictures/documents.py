@@ -1,7 +1,7 @@
 """The pictures that the documents show: what each is made of, and how it is made again (tools/doc_pictures).
 
-Those of stored files are compared by the tests with what is made of them, so that no picture is older than its script. The
-two of the bench want the program, for no report of it is stored.
+Tests compare those that are stored with what is made now, so that no picture is older than its script. The two of the bench
+want the program, for no report of it is stored; the tests have its reports from their own rules.
 """
 import os
 import subprocess

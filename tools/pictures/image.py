@@ -196,7 +196,7 @@ def read_image(stream):
     while reader.line.startswith("node "):
         last = reader.node(last)
         reader.next()
-    if reader.line != "end" or reader.number > len(reader.lines) or last != "g":
+    if reader.line != "end" or reader.number > len(reader.lines) or "g" not in reader.declared:
         raise reader.bad()
     reader.next()
     if reader.number <= len(reader.lines) or reader.rest:

@@ -122,8 +122,8 @@ def places(sheet, cycle):
 
 
 def told(cycle, wide):
-    """What a cycle freed and kept, in one line where it fits, else in two."""
-    freed, kept = f"freed {cycle.freed}", f"kept {cycle.kept}"
+    """What a cycle freed and kept, and how many weak pointers died, in one line where it fits, else in two."""
+    freed, kept = f"freed {cycle.freed}", f"kept {cycle.kept}" + (f", dead {cycle.dead}" if cycle.dead else "")
     named = freed + (f" ({' '.join(cycle.names)})" if 0 < cycle.freed <= len(cycle.names) else "")
     one = first_fitting(wide - 6, (f"{named}, {kept}", f"{freed}, {kept}"))
     return [one] if one else [first_fitting(wide + 12, (named,)) or freed, kept]
@@ -159,6 +159,10 @@ class Bar:
 
 def cycles(sheet):
     """Each cycle as a bar from its snapshot to its end, with what it freed and kept; in several rows where words would meet."""
+    if not sheet.run.cycles:
+        sheet.lane("cycles", "none")
+        sheet.y += 44
+        return
     sheet.lane("cycles", "snapshot to end")
     top, height, apart, rows = sheet.y + 22, 22, 82, []
     for cycle in sheet.run.cycles:

@@ -62,6 +62,7 @@ class Images(unittest.TestCase):
 
     def test_a_name_may_have_its_line_later_and_behind_a_bad_one(self):
         self.assertEqual(told(GOOD.replace("node 0.4 con 0 0.3 5", "node 0.4 con 0 0.3 05")), "bad image line 15")
+        self.assertEqual(told(GOOD.replace("node g ", "end\nnode g ")), "bad image line 22")
         self.assertEqual(told(image({"0.0": "var 1.0", "1.0": "var 0.0"})), "")
 
     def test_images_of_every_kind(self):
