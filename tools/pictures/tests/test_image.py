@@ -68,7 +68,7 @@ class Images(unittest.TestCase):
     def test_images_of_every_kind(self):
         for seed in range(30):
             self.assertEqual(told(drawn(60, seed)), "")
-        self.assertEqual(told(arrays(16, 4000)), "")
+        self.assertEqual(told(arrays(16, 400)), "")
 
     def test_no_text_does_harm(self):
         draw = random.Random(5)

@@ -60,7 +60,7 @@ class ManyRounds(unittest.TestCase):
             run = read_report(stream(bench(batches)))
             promoted, freed = sum(stop.promoted for stop in run.stops), sum(cycle.freed for cycle in run.cycles)
             self.assertEqual((sum(map(sum, run.commands)), run.rounds, len(run.cycles), promoted, freed, run.cycles[-1].kept if run.cycles else 0), told)
-        svg = picture(bench(100))
+        svg = content("docs", "bench100.svg")  # which is what is made of bench(100): test_documents.py
         for words in ("102 rounds, 50 cycles; the longest is cycle 1, over 2 stops", "commands done: at most 1,027 by a mutator in a column",
                       "at most 8,192", "at most 4,096", "17 of 128 shown", "112 free at least", "end done"):
             self.assertIn(words, texts(svg))
