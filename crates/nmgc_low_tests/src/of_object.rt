@@ -1,5 +1,5 @@
 //! Worked numbers of words, sizes and places, and a queue from end to end.
-use nmgc_graph::{Kind, Name, Place};
+use nmgc_graph::{Kind, MAKERS, Name, Place};
 use nmgc_object::{
     Address, Field, FinQueue, Header, Layout, Nursery, block_words, class_of, decode_header,
     decode_name, decode_value, encode_header, encode_name, encode_value, fields_of, header_of,
@@ -42,7 +42,7 @@ fn headers(rt: HostRuntime) {
 fn names(rt: HostRuntime) {
     for (maker, serial, word) in [(3, 10, 643), (32, 0, 32)] {
         let name = Name { maker, serial };
-        assert!(rt; maker < 32 || serial == 0);
+        assert!(rt; maker < MAKERS || serial == 0);
         assert!(rt; encode_name(name) == word);
         assert!(rt; decode_name(word) == Some(name));
         assert!(rt; name_of(encode_name(name)) == name);

@@ -3,11 +3,15 @@
 //! A gate gives up after many turns of its spin, and notes it: so a round that has two of its workers on one thread fails
 //! the test and doesn't hang. It counts those who came: so a worker that passes no gate fails the test, and so does one that
 //! passes it under another number.
+ghost use Rattle.std.specs.Prelude.{◌≤◌, length, IfOk, IfSome};
+ghost use Rattle.nmgc_cycle.specs.Limits.{IsInLimits};
 
-use crate::of_cycle::{CYCLES, EXCHANGE, RUNS, told};
+use crate::of_cycle::{CYCLES, EXCHANGE, RUNS, script_of, told};
 use itoa::Buffer;
-use nmgc_graph::MAKERS;
+use nmgc_cycle::{Collector, StopEnd};
+use nmgc_graph::{MAKERS, NoMemory};
 use nmgc_round::{Gate, OpenGate};
+use nmgc_script::Script;
 use std::alloc::Global;
 use std::process::Abort;
 use std::sync::atomic::{AtomicU64, Ordering};
@@ -91,7 +95,7 @@ fn check_run<R: Threads + Sync + Abort, G: Gate>(
 // many as there may be.
 #[test]
 fn all_mutators_run_beside_the_marker(rt: HostRuntime) -> Result<(), Fail> {
-    for mutators in [8u8, 32] {
+    for mutators in [8u8, MAKERS] {
         let script = many(rt.alloc(), mutators)?;
         let meeting = Meeting::new(rt.alloc(), mutators, 3, &[(MAKERS, 1)])?;
         check_run(rt.alloc(), &rt, script.as_str(), &meeting)?;
@@ -190,4 +194,61 @@ fn each_unit_of_work_has_its_pass(rt: HostRuntime) -> Result<(), Fail> {
     check_passes(rt.alloc(), &rt, RUNS[3].0, &[(0, 18)])?;
     let passes = [(0, 52), (MAKERS, 33), (MAKERS + 1, 1)];
     check_passes(rt.alloc(), &rt, CYCLES[1].0, &passes)
+}
+
+// A collector after two rounds of a script, each after a stop. `None` where one of these ended the run.
+#[tactic(auto, using(crate::proofs::Rounds::has_line))]
+fn after_two_rounds<R: Threads + Sync, G: Gate>(
+    alloc: Global,
+    rt: &R,
+    script: &Script,
+    gate: &G,
+) -> Result<Option<Collector>, NoMemory>
+    requires { IsInLimits script.now }
+    ensures { IfOk result (λ found. IfSome found (λ collector. 1 ≤ length collector.inbox)) }
+{
+    let mut collector = Collector::new(alloc, script)?;
+    match collector.stop(rt, script)? {
+        StopEnd::GoOn => collector.round(rt, script, gate)?,
+        StopEnd::Done | StopEnd::HeapFull { .. } => return Ok(None),
+    }
+    match collector.stop(rt, script)? {
+        StopEnd::GoOn => collector.round(rt, script, gate)?,
+        StopEnd::Done | StopEnd::HeapFull { .. } => return Ok(None),
+    }
+    Ok(Some(collector))
+}
+
+// A variable is overwritten two hundred times while a cycle marks, whose collector scans three objects a round.
+const OFTEN: &str =
+    "nmgc 1\nheap 32 64 64 1000 3 0\nthread 0\nnum r1 5\ncon r4 0 r1\ncon r5 0 r1\nvar r0 r4\ncon r3 0 r3 r1\ncon r3 0 r3 r1\ncon r3 0 r3 r1\ncon r3 0 r3 r1\ncon r3 0 r3 r1\ncon r3 0 r3 r1\ncon r3 0 r3 r1\ncon r3 0 r3 r1\ncon r3 0 r3 r1\ncon r3 0 r3 r1\ncon r3 0 r3 r1\ncon r3 0 r3 r1\ncon r3 0 r3 r1\ncollect\nset r0 0 r5\nset r0 0 r4\nset r0 0 r5\nset r0 0 r4\nset r0 0 r5\nset r0 0 r4\nset r0 0 r5\nset r0 0 r4\nset r0 0 r5\nset r0 0 r4\nset r0 0 r5\nset r0 0 r4\nset r0 0 r5\nset r0 0 r4\nset r0 0 r5\nset r0 0 r4\nset r0 0 r5\nset r0 0 r4\nset r0 0 r5\nset r0 0 r4\nset r0 0 r5\nset r0 0 r4\nset r0 0 r5\nset r0 0 r4\nset r0 0 r5\nset r0 0 r4\nset r0 0 r5\nset r0 0 r4\nset r0 0 r5\nset r0 0 r4\nset r0 0 r5\nset r0 0 r4\nset r0 0 r5\nset r0 0 r4\nset r0 0 r5\nset r0 0 r4\nset r0 0 r5\nset r0 0 r4\nset r0 0 r5\nset r0 0 r4\nset r0 0 r5\nset r0 0 r4\nset r0 0 r5\nset r0 0 r4\nset r0 0 r5\nset r0 0 r4\nset r0 0 r5\nset r0 0 r4\nset r0 0 r5\nset r0 0 r4\nset r0 0 r5\nset r0 0 r4\nset r0 0 r5\nset r0 0 r4\nset r0 0 r5\nset r0 0 r4\nset r0 0 r5\nset r0 0 r4\nset r0 0 r5\nset r0 0 r4\nset r0 0 r5\nset r0 0 r4\nset r0 0 r5\nset r0 0 r4\nset r0 0 r5\nset r0 0 r4\nset r0 0 r5\nset r0 0 r4\nset r0 0 r5\nset r0 0 r4\nset r0 0 r5\nset r0 0 r4\nset r0 0 r5\nset r0 0 r4\nset r0 0 r5\nset r0 0 r4\nset r0 0 r5\nset r0 0 r4\nset r0 0 r5\nset r0 0 r4\nset r0 0 r5\nset r0 0 r4\nset r0 0 r5\nset r0 0 r4\nset r0 0 r5\nset r0 0 r4\nset r0 0 r5\nset r0 0 r4\nset r0 0 r5\nset r0 0 r4\nset r0 0 r5\nset r0 0 r4\nset r0 0 r5\nset r0 0 r4\nset r0 0 r5\nset r0 0 r4\nset r0 0 r5\nset r0 0 r4\nset r0 0 r5\nset r0 0 r4\nset r0 0 r5\nset r0 0 r4\nset r0 0 r5\nset r0 0 r4\nset r0 0 r5\nset r0 0 r4\nset r0 0 r5\nset r0 0 r4\nset r0 0 r5\nset r0 0 r4\nset r0 0 r5\nset r0 0 r4\nset r0 0 r5\nset r0 0 r4\nset r0 0 r5\nset r0 0 r4\nset r0 0 r5\nset r0 0 r4\nset r0 0 r5\nset r0 0 r4\nset r0 0 r5\nset r0 0 r4\nset r0 0 r5\nset r0 0 r4\nset r0 0 r5\nset r0 0 r4\nset r0 0 r5\nset r0 0 r4\nset r0 0 r5\nset r0 0 r4\nset r0 0 r5\nset r0 0 r4\nset r0 0 r5\nset r0 0 r4\nset r0 0 r5\nset r0 0 r4\nset r0 0 r5\nset r0 0 r4\nset r0 0 r5\nset r0 0 r4\nset r0 0 r5\nset r0 0 r4\nset r0 0 r5\nset r0 0 r4\nset r0 0 r5\nset r0 0 r4\nset r0 0 r5\nset r0 0 r4\nset r0 0 r5\nset r0 0 r4\nset r0 0 r5\nset r0 0 r4\nset r0 0 r5\nset r0 0 r4\nset r0 0 r5\nset r0 0 r4\nset r0 0 r5\nset r0 0 r4\nset r0 0 r5\nset r0 0 r4\nset r0 0 r5\nset r0 0 r4\nset r0 0 r5\nset r0 0 r4\nset r0 0 r5\nset r0 0 r4\nset r0 0 r5\nset r0 0 r4\nset r0 0 r5\nset r0 0 r4\nset r0 0 r5\nset r0 0 r4\nset r0 0 r5\nset r0 0 r4\nset r0 0 r5\nset r0 0 r4\nset r0 0 r5\nset r0 0 r4\nset r0 0 r5\nset r0 0 r4\nset r0 0 r5\nset r0 0 r4\nset r0 0 r5\nset r0 0 r4\nset r0 0 r5\nset r0 0 r4\nset r0 0 r5\nset r0 0 r4\nset r0 0 r5\nset r0 0 r4\nset r0 0 r5\nset r0 0 r4\nset r0 0 r5\nset r0 0 r4\nset r0 0 r5\nset r0 0 r4\nset r0 0 r5\nset r0 0 r4\nset r0 0 r5\nset r0 0 r4\ncollect\n";
+
+// How many entries the collector took out of the ring in the second round, and how many the mutator keeps.
+fn taken_and_kept<R: Threads + Sync, G: Gate>(
+    alloc: Global,
+    rt: &R,
+    gate: &G,
+) -> Result<(usize, usize), Fail> {
+    let script = script_of(alloc, OFTEN)?;
+    let Some(collector) = after_two_rounds(alloc, rt, &script, gate)? else {
+        return Err("the run has ended".into());
+    };
+    let Some(mutator) = collector.mutators().first() else {
+        return Err("no mutator".into());
+    };
+    Ok((
+        collector.inbox().entries(0).len(),
+        mutator.updrem.entries().len(),
+    ))
+}
+
+// The collector's first scan waits until the mutator has done its two hundred: three full blocks are in the ring by then,
+// and eight entries are kept. Before each of its three scans it takes a block out, so nothing is left there.
+#[test]
+fn full_blocks_reach_the_collector_before_the_stop(rt: HostRuntime) -> Result<(), Fail> {
+    let meeting = Meeting::new(rt.alloc(), 0, 0, &[(0, 219), (MAKERS, 1)])?;
+    let (taken, kept) = taken_and_kept(rt.alloc(), &rt, &meeting)?;
+    assert!(rt; meeting.has_met());
+    assert!(rt; taken == 192 && kept == 8);
+    Ok(())
 }

@@ -7,7 +7,7 @@ use super::walk::{
     check_weaks, check_words,
 };
 use nmgc_alloc::Segments;
-use nmgc_graph::{List, NoMemory, Room};
+use nmgc_graph::{List, NoMemory, REGISTERS, Room, SHARED_MAKER, SHARED_SLOTS};
 use nmgc_minor::{Move, Roots, Young, run_passes};
 use nmgc_object::{Address, FinQueue, Layout, Nursery};
 use std::alloc::Global;
@@ -148,9 +148,9 @@ pub fn make_heap(rt: &impl Abort, alloc: Global, layout: Layout) -> Result<Heap,
     assert!(rt; 1 <= layout.mutators && layout.mutators <= 4);
     let mut words = List::from_vec(vec![in alloc; 0u64; layout.total() as usize]?)?;
     store(rt, &mut words, 1, 32771);
-    store(rt, &mut words, 2, 32);
-    for i in 3..19u32 {
-        store(rt, &mut words, i, NIL);
+    store(rt, &mut words, 2, u64::from(SHARED_MAKER));
+    for i in 0..u32::from(SHARED_SLOTS) {
+        store(rt, &mut words, 3 + i, NIL);
     }
     let mut nurseries = List::new(alloc);
     let mut registers = List::new(alloc);
@@ -163,7 +163,7 @@ pub fn make_heap(rt: &impl Abort, alloc: Global, layout: Layout) -> Result<Heap,
             top: base,
             end,
         })?;
-        for _ in 0..64u8 {
+        for _ in 0..REGISTERS {
             registers.push(NIL)?;
         }
         queues.push(FinQueue::new(alloc))?;

@@ -9,7 +9,7 @@ ghost use Rattle.nmgc_minor.specs.Start.{words_of};
 use super::heap::NIL;
 use nmgc_alloc::Segments;
 use nmgc_blocks::laws::one_young_object;
-use nmgc_graph::{List, Name};
+use nmgc_graph::{List, Name, REGISTERS};
 use nmgc_minor::{Move, Promotion, Roots};
 use nmgc_object::{Address, FinQueue, Layout, Nursery};
 use std::alloc::Global;
@@ -60,7 +60,7 @@ fn promote_young(
 fn young_roots(alloc: Global) -> Result<Roots, Fail>
     ensures { IfOk result (λ roots. (roots.registers ≡ young_registers) × (words_of roots.queues ≡ [] ∷ [])) }
 {
-    let mut registers = [NIL; 64];
+    let mut registers = [NIL; REGISTERS as usize];
     registers[0] = 4160;
     registers[1] = 13;
     let registers = Vec::from_array(alloc, registers)?;

@@ -10,7 +10,7 @@ ghost use Rattle.nmgc_round.specs.Seating.{alone};
 ghost use Rattle.nmgc_mutator.specs.Ready.{IsNew};
 ghost use Rattle.nmgc_mutator.specs.Slice.{HasRoom};
 
-use nmgc_graph::{Command, List, Name, NoMemory, Operand, Place, Reply, Value};
+use nmgc_graph::{Command, List, MAKERS, Name, NoMemory, Operand, Place, Reply, Value};
 use nmgc_mutator::{Mutator, Slice, SliceEnd};
 use nmgc_object::Layout;
 use nmgc_round::chosen::Wanted;
@@ -575,7 +575,7 @@ fn work_all<R: Threads + Sync, G: Gate>(
     thread::for_each_mut(
         rt,
         seats,
-        32,
+        MAKERS as usize,
         &|number, seat: &mut MutatorSeat|
             requires { IsAt round.now seat.now × (seen seat.now ≡ alone (first_opening layout) number) ×
                 ((words : List ℕ) × CanOpen (first_opening layout) words) × IsLayout layout × (number < layout.mutators) × (layout.words ≡ 16) }
