@@ -36,7 +36,7 @@ use Rattle.nmgc_cycle.specs.declared.progress.Progress.{Progress as Doing}
 use Rattle.nmgc_cycle.specs.declared.progress.Progress.TheVariants as doing
 use Rattle.nmgc_cycle.specs.Cycles.{AddsTo, CanAdd, HasAdded, HasTaken, remembered_by}
 use Rattle.nmgc_cycle.specs.Lined.{IsLined, HasForgotten, HaveForgotten}
-use Rattle.nmgc_cycle.specs.Keeps.{HasClosingRoom, IsWellFormed, IsOwn, Sweeps}
+use Rattle.nmgc_cycle.specs.Keeps.{IsWellFormed, IsOwn, Sweeps}
 use Rattle.nmgc_cycle.specs.Shown.{seen, seen_mutator, marker_in, phase_in}
 use Rattle.nmgc_cycle.specs.Steps.{StandsPromoted, StandsWithin, IsPacedPromoted, IsPacedWithin, AddingLeads}
 use Rattle.nmgc_cycle.proofs.Items.{item}
@@ -162,8 +162,8 @@ module _ (script : Script) (old : Collector) (s : State) (h : StandsPromoted scr
   }
 
   pub stands_within : HoldsInCycle (λ (k : Cycle). IsPacedWithin script.config.quota k s (seen then)) s.progress s (seen then) h.heap.places →
-      HasClosingRoom p (length mutators.items) → Sweeps s.progress s then → StandsWithin script then s
-  stands_within cycle closing sweeper = record {
+      Sweeps s.progress s then → StandsWithin script then s
+  stands_within cycle sweeper = record {
     kept = kept;
     sound = h.sound;
     course = h.course;
@@ -173,7 +173,6 @@ module _ (script : Script) (old : Collector) (s : State) (h : StandsPromoted scr
     empty = subst AreEmpty (sym nurseries_are) h.empty;
     rest = at_rest;
     cycle = cycle;
-    closing = closing;
     sweeper = sweeper;
     named = h.named;
   }
@@ -208,8 +207,6 @@ module _ (script : Script) (old new : Collector) (s : State) (h : StandsPromoted
       (stands_within script old s h old.segments old.progress new.inbox new.mutators taken.inbox taken.lines taken.mutators refl refl h.kept.sound
       h.heap.holds.stands
       (unmarked_cycle script old s new.inbox new.mutators s.progress never h.heap.places h.cycle)
-      (subst (λ (n : ℕ). HasClosingRoom old.progress n) (sym (many script old s h old.segments old.progress new.inbox new.mutators taken.inbox
-      taken.lines taken.mutators refl refl h.kept.sound h.heap.holds.stands)) h.closing)
       (unmarked_sweeper old s new.inbox new.mutators s.progress never h.sweeper))
 
 -- where one does
@@ -265,12 +262,6 @@ module _ (laws : HasAddingLaws) (script : Script) (was : Collector) (r : State) 
             marker;
       })) inbox mutators inbox_is lines forgot refl added.marked.layout sound stands
       (marks, paced) (
-        h.closing.0,
-        subst (λ (n : ℕ). n ≤ vec_capacity m.queues) (sym (many script old s h segments (doing.Marking (record m {
-          marker =
-              marker;
-        })) inbox mutators inbox_is lines forgot refl added.marked.layout sound stands)) h.closing.1,
-      ) (
         record { notes = h.sweeper.0.notes; left = laws.left was.segments segments m.sweeper waits added.marked.layout h.sweeper.0.left },
         h.sweeper.1,
         h.sweeper.2,

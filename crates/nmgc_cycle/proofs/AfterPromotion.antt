@@ -1,8 +1,8 @@
 -- What a collector has once the promotion of its stop is done.
 use Rattle.std.proofs.Common.{ℕ, ◌≡◌, ◌↔◌, ◌+◌, ◌*◌, ◌<◌, List, length, map, arith, refl, sym, ap, subst, ◌∙◌, inl, inr, slice_index_or, Some}
-use Rattle.std.specs.Prelude.{All, Contains, slice_get}
+use Rattle.std.specs.Prelude.{Contains, slice_get}
 use Rattle.std.proofs.Math.ListN.{get_or-map}
-use Rattle.std.proofs.lemmas.List.{get_or_default, length-map}
+use Rattle.std.proofs.lemmas.List.{length-map}
 use Rattle.std.proofs.lemmas.Option.{slice_get-get_or}
 use Rattle.nmgc_limits.specs.declared.mutators.TheConstants.{REGISTERS}
 use Rattle.nmgc_graph.specs.World.{World}
@@ -20,9 +20,9 @@ use Rattle.nmgc_blocks.specs.Nurseries.{AreEmpty, nursery_at}
 use Rattle.nmgc_blocks.specs.Promoted.{PlacesEach}
 use Rattle.nmgc_blocks.specs.Stopped.{Stopped, IsSettled, young_base}
 use Rattle.nmgc_minor.specs.Placing.{moved_of}
-use Rattle.nmgc_minor.specs.Promotes.{emptied}
-use Rattle.nmgc_minor.specs.Start.{words_of}
+use Rattle.nmgc_heap.specs.Emptied.{emptied}
 use Rattle.nmgc_mutator.specs.declared.mutator.Mutator.{Mutator}
+use Rattle.nmgc_turn.specs.Worked as worked
 use Rattle.nmgc_script.specs.declared.script.Script.{Script}
 use Rattle.nmgc_run.specs.Collector.{AreNurseries}
 use Rattle.nmgc_run.specs.Heap.{HoldsAtStop, FitBlocks, IsPlaceAtStop, snapshots, registers_of, queues_of, serials_of}
@@ -32,23 +32,17 @@ use Rattle.nmgc_run.specs.Seen.{MutatorSeen, ends_of, nurseries_of}
 use Rattle.nmgc_run.specs.State.{Plan, State, plan_of, layout_of}
 use Rattle.nmgc_cycle.specs.declared.collector.Collector.{Collector}
 use Rattle.nmgc_cycle.specs.Keeps.{CanStop, IsWellFormed, IsOwn}
-use Rattle.nmgc_cycle.specs.Roots.{HasRegisters, own_registers, no_queue, given_back}
 use Rattle.nmgc_cycle.specs.Shown.{seen, seen_mutator, words_in}
 use Rattle.nmgc_cycle.specs.Steps.{HasOnlyEntries}
 use Rattle.nmgc_cycle.specs.Stopping.{HasListed, HasPromoted, moves_of, moved_names}
 use Rattle.nmgc_cycle.proofs.Begins.{Begins}
-use Rattle.nmgc_cycle.proofs.GivenBack.{HaveGiven, have_given, one_given, own_count}
-use Rattle.nmgc_cycle.proofs.MutatorLists.{registers_count}
+use Rattle.nmgc_cycle.proofs.Promoted.{one_promoted, serials_promoted, nurseries_promoted}
 use Rattle.nmgc_cycle.proofs.NewStops.{stopped_in}
 use Rattle.nmgc_cycle.proofs.RootLists.{seen_at}
 use Rattle.nmgc_cycle.proofs.Views.{registers_seen, queues_seen, serials_seen, nurseries_seen, whole_seen}
 use Rattle.nmgc_updrem.specs.Rings.{Receiver}
 use Rattle.nmgc_cycle.specs.Lined.{IsLined}
 use Rattle.nmgc_mutator.specs.Does.{remembered}
-
--- the mutators of a collector have all their registers
-pub all_whole : (script : Script) (c : Collector) → IsWellFormed script c → All HasRegisters c.mutators.items
-all_whole script c kept k d lt = (kept.own k (slice_index_or c.mutators.items k d) (slice_get-get_or c.mutators.items k d lt)).whole.size
 
 -- a stop may follow, so the collector is kept
 pub kept_of : (script : Script) (c : Collector) → CanStop script c → IsWellFormed script c
@@ -66,7 +60,8 @@ module _ (script : Script) (old new : Collector) (kept : IsWellFormed script old
   w = b.state.world
 
   -- what the promotion settled, and the allocation state then
-  pub settled_heap : IsSettled at_stop new.segments (words_in new.words) p.registers (words_of p.queues) (moves_of new)
+  pub settled_heap : IsSettled at_stop new.segments (words_in new.words) (worked.registers_of new.mutators.items)
+      (worked.queues_of new.mutators.items) (moves_of new)
   settled_heap = p.settled at_stop b.stopped
 
   abbrev pub placed : (a : AllocState) × PlacesEach old.segments.layout w b.state.allocation (moved_names new) a × StandsFor new.segments (words_in new.words) a
@@ -105,35 +100,13 @@ module _ (script : Script) (old new : Collector) (kept : IsWellFormed script old
 
   -- the mutators
 
-  whole : All HasRegisters old.mutators.items
-  whole = all_whole script old kept
-
-  registers_many : length p.registers ≡ REGISTERS * length old.mutators.items
-  registers_many =
-      let after = settled_heap.roots.count in
-      let before = b.stopped.roots.count in
-      let own = registers_count old.mutators.items whole in
-      omega (arith, after, before, own)
-
-  queues_many : length p.queues ≡ length old.mutators.items
-  queues_many =
-      let after = settled_heap.roots.mutators.0 in
-      let before = b.stopped.roots.mutators.0 in
-      let words = length-map p.queues (λ (queue : FinQueue). queue.words) in
-      let own = length-map old.mutators.items (λ (m : Mutator). m.queue.words) in
-      omega (arith, after, before, words, own)
-
-  pub lists : HaveGiven p.registers p.queues old.mutators.items new.mutators.items
-  lists = have_given p.registers p.queues old.mutators.items new.mutators.items p.given registers_many queues_many
-
   -- each mutator is whole, and nothing is left but what it remembers
   pub own : (k : ℕ) (m : Mutator) → slice_get new.mutators.items k ≡ Some m → IsOwn new k m × HasOnlyEntries (seen_mutator m)
   own k m e =
-      let was = one_given p.registers p.queues old.mutators.items new.mutators.items p.given k m e in
-      let before = kept.own k was.0 was.2 in
-      let back : Mutator = given_back (own_registers p.registers k) (slice_index_or p.queues k no_queue) was.0 in
-      let size : length (own_registers p.registers k) ≡ REGISTERS = own_count p.registers (length old.mutators.items) k registers_many was.1 in
-      subst (λ (x : Mutator). IsOwn new k x × HasOnlyEntries (seen_mutator x)) (sym was.3) (
+      let was = one_promoted p.forward old.mutators.items new.mutators.items p.held k m e in
+      let before = kept.own k was.0 was.1 in
+      let size : length (map p.forward was.0.registers) ≡ REGISTERS = length-map was.0.registers p.forward ∙ before.whole.size in
+      subst (λ (x : Mutator). IsOwn new k x × HasOnlyEntries (seen_mutator x)) (sym was.2) (
         record {
           number = before.number;
           layout = before.layout ∙ sym p.layout;
@@ -155,11 +128,12 @@ module _ (script : Script) (old new : Collector) (kept : IsWellFormed script old
       (slice_get (seen old).mutators k ≡ Some before) × (m.entries ≡ before.entries)
   remembers k m e =
       let x = map_item seen_mutator new.mutators.items k m e in
-      let was = one_given p.registers p.queues old.mutators.items new.mutators.items p.given k x.0 x.1 in
-      (seen_mutator was.0, seen_at old.mutators.items k was.0 was.2, ap (λ (y : MutatorSeen). y.entries) x.2 ∙ ap (λ (y : Mutator). remembered y) was.3)
+      let was = one_promoted p.forward old.mutators.items new.mutators.items p.held k x.0 x.1 in
+      (seen_mutator was.0, seen_at old.mutators.items k was.0 was.1, ap (λ (y : MutatorSeen). y.entries) x.2 ∙ ap (λ (y : Mutator). remembered y) was.2)
 
   emptied_are : nurseries_of (seen new) ≡ map emptied (nurseries_of (seen old))
-  emptied_are = nurseries_seen new ∙ lists.nurseries_are ∙ ap (λ (ns : List Nursery). map emptied ns) (sym (nurseries_seen old))
+  emptied_are = nurseries_seen new ∙ ap worked.nurseries_of p.held ∙ nurseries_promoted p.forward old.mutators.items ∙
+      ap (λ (ns : List Nursery). map emptied ns) (sym (nurseries_seen old))
 
   emptied_at : (maker : ℕ) → nursery_at (nurseries_of (seen new)) maker ≡ emptied (nursery_at (nurseries_of (seen old)) maker)
   emptied_at maker = ap (λ (ns : List Nursery). nursery_at ns maker) emptied_are ∙
@@ -193,35 +167,25 @@ module _ (script : Script) (old new : Collector) (kept : IsWellFormed script old
   -- the roots, as a report would tell them
   pub roots : RepresentsRoots places w (registers_of (ends_of (seen new))) (queues_of (ends_of (seen new))) (serials_of (ends_of (seen new)))
   roots =
-      let registers : p.registers ≡ registers_of (ends_of (seen new)) = sym (registers_seen new ∙ lists.registers_are) in
-      let queues : words_of p.queues ≡ queues_of (ends_of (seen new)) = sym (queues_seen new ∙ lists.queues_are) in
-      let serials : serials_of (ends_of (seen old)) ≡ serials_of (ends_of (seen new)) = sym (serials_seen new ∙ lists.serials_are ∙ sym (serials_seen old)) in
+      let registers : worked.registers_of new.mutators.items ≡ registers_of (ends_of (seen new)) = sym (registers_seen new) in
+      let queues : worked.queues_of new.mutators.items ≡ queues_of (ends_of (seen new)) = sym (queues_seen new) in
+      let same : worked.serials_of new.mutators.items ≡ worked.serials_of old.mutators.items =
+      ap worked.serials_of p.held ∙ serials_promoted p.forward old.mutators.items in
+      let serials : serials_of (ends_of (seen old)) ≡ serials_of (ends_of (seen new)) = sym (serials_seen new ∙ same ∙ sym (serials_seen old)) in
       subst (λ (y : List ℕ). RepresentsRoots places w (registers_of (ends_of (seen new))) (queues_of (ends_of (seen new))) y) serials
       (subst (λ (y : List (List ℕ)). RepresentsRoots places w (registers_of (ends_of (seen new))) y (serials_of (ends_of (seen old)))) queues
-      (subst (λ (y : List ℕ). RepresentsRoots places w y (words_of p.queues) (serials_of (ends_of (seen old)))) registers settled_heap.roots))
+      (subst (λ (y : List ℕ).
+      RepresentsRoots places w y (worked.queues_of new.mutators.items) (serials_of (ends_of (seen old)))) registers settled_heap.roots))
 
   -- of a mutator's queue the room is what it was
   pub same_spare : (k : ℕ) (m : MutatorSeen) → slice_get (seen new).mutators k ≡ Some m → (before : MutatorSeen) ×
       (slice_get (seen old).mutators k ≡ Some before) × (m.queue.spare ≡ before.queue.spare)
   same_spare k m e =
       let x = map_item seen_mutator new.mutators.items k m e in
-      let was = one_given p.registers p.queues old.mutators.items new.mutators.items p.given k x.0 x.1 in
-      let own : m.queue.spare ≡ (slice_index_or p.queues k no_queue).spare = ap (λ (y : MutatorSeen). y.queue.spare) x.2 ∙
-      ap (λ (y : Mutator). y.queue.spare) was.3 in
-      let given : slice_index_or (map (λ (queue : FinQueue). queue.spare) p.queues) k 0 ≡ (slice_index_or p.queues k no_queue).spare =
-      get_or-map (λ (queue : FinQueue). queue.spare) p.queues k no_queue in
-      let had : slice_index_or (map (λ (y : Mutator). y.queue.spare) old.mutators.items) k was.0.queue.spare ≡
-      (slice_index_or old.mutators.items k was.0).queue.spare = get_or-map (λ (y : Mutator). y.queue.spare) old.mutators.items k was.0 in
-      let there : k < length (map (λ (y : Mutator). y.queue.spare) old.mutators.items) =
-      rw (length-map old.mutators.items (λ (y : Mutator). y.queue.spare)) was.1 in
-      let one : slice_index_or (map (λ (y : Mutator). y.queue.spare) old.mutators.items) k 0 ≡
-      slice_index_or (map (λ (y : Mutator). y.queue.spare) old.mutators.items) k was.0.queue.spare =
-      get_or_default (map (λ (y : Mutator). y.queue.spare) old.mutators.items) k 0 was.0.queue.spare there in
-      let item : Some (slice_index_or old.mutators.items k was.0) ≡ Some was.0 = sym (slice_get-get_or old.mutators.items k was.0 was.1) ∙ was.2 in
-      let is : slice_index_or old.mutators.items k was.0 ≡ was.0 = cc in (
+      let was = one_promoted p.forward old.mutators.items new.mutators.items p.held k x.0 x.1 in (
         seen_mutator was.0,
-        seen_at old.mutators.items k was.0 was.2,
-        own ∙ sym given ∙ ap (λ (l : List ℕ). slice_index_or l k 0) p.spares ∙ one ∙ had ∙ ap (λ (y : Mutator). y.queue.spare) is,
+        seen_at old.mutators.items k was.0 was.1,
+        ap (λ (y : MutatorSeen). y.queue.spare) x.2 ∙ ap (λ (y : Mutator). y.queue.spare) was.2,
       )
 
   -- the heap at the stop

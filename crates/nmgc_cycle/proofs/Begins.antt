@@ -49,7 +49,7 @@ use Rattle.nmgc_sweep.specs.laws.Names.{named_first}
 use Rattle.nmgc_cycle.specs.declared.collector.Collector.{Collector}
 use Rattle.nmgc_cycle.specs.Bound.{AreFew}
 use Rattle.nmgc_cycle.specs.declared.progress.Progress.{Progress as Doing}
-use Rattle.nmgc_cycle.specs.Keeps.{CanStop, HasClosingRoom, IsFresh, HasWorked, Sweeps}
+use Rattle.nmgc_cycle.specs.Keeps.{CanStop, IsFresh, HasWorked, Sweeps}
 use Rattle.nmgc_cycle.specs.Shown.{seen, told_cycles}
 use Rattle.nmgc_cycle.specs.Limits.{IsInLimits}
 use Rattle.nmgc_cycle.specs.Stopping.{CanList, StandsStopped}
@@ -97,7 +97,6 @@ pub record Begins (script : Script) (c : Collector) : Type 0 where
   pub matches : Matches (seen c) state
   pub cycle : HoldsInCycle (λ (k : Cycle). IsPacedAfterRound script.config.quota k state (seen c)) state.progress state (seen c) places
   pub later : (k : Cycle) → state.progress ≡ marking k → k.from + 1 ≤ state.number
-  pub closing : HasClosingRoom c.progress (length c.mutators.items)
   pub sweeper : Sweeps state.progress state c
   pub named : AreNamed (layout_of (plan_of script)) c.names state.allocation
   pub low : (p : Place) → Contains places p → p.at < nursery_place (layout_of (plan_of script)) 0 →
@@ -189,7 +188,6 @@ new_begins script c limits f =
       matches = f.new.matches;
       cycle = f.new.settled;
       later = λ k e. absurd (let bad : idle ≡ marking k = e in cc);
-      closing = subst (λ (p : Doing). HasClosingRoom p (length c.mutators.items)) (sym (when_idle c.progress f.new.matches.phase)) tt;
       sweeper = tt;
       named = named_first (layout_of plan) c.names script.config.segments;
       low = λ p there at. (f.new.heap.all p).0 there;
@@ -312,7 +310,6 @@ module _ (script : Script) (c : Collector) (limits : IsInLimits script) (h : Has
     matches = h.after.matches;
     cycle = h.after.cycle;
     later = later;
-    closing = h.closing;
     sweeper = h.sweeper;
     named = h.named;
     low = λ p there at. elim (h.after.heap.sound p there) [

@@ -41,7 +41,6 @@ stands_on script c s goes h = record {
   empty = h.empty;
   rest = h.rest;
   cycle = in_pace script.config.quota s (seen c) h.heap.places s.progress goes h.cycle;
-  closing = h.closing;
   sweeper = h.sweeper;
   named = h.named;
 }

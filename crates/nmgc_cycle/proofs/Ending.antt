@@ -113,7 +113,6 @@ module _ (script : Script) (c : Collector) (s : State) (h : StandsAt script c s)
     empty = h.empty;
     rest = h.rest;
     cycle = (subst (λ (q : Progress). HoldsInCycle (λ (r : Cycle). IsPacedAtStop script.config.quota r s (seen c)) q s (seen c) h.heap.places) is h.cycle).1;
-    closing = tt;
     sweeper = tt;
     named = h.named;
   }

@@ -157,7 +157,6 @@ module _ (script : Script) (c : Collector) (st : State) (h : StandsAt script (re
     empty = h.empty;
     rest = h.rest;
     cycle = settled_then st.begun c.segments h.cycle;
-    closing = tt;
     sweeper = tt;
     named = named_retired layout c.names st.allocation h.named;
   }

@@ -361,7 +361,6 @@ module _ (Paced : Cycle → State → Seen → Type 0) (laws : ClosingLaws) (scr
       empty = subst AreEmpty (sym same_there) h.empty;
       rest = rest_then;
       cycle = sweeps_then;
-      closing = tt;
       sweeper = (left_turned, at_work);
       named = h.named;
     },

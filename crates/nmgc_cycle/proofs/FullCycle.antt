@@ -1,8 +1,7 @@
 -- A full cycle is the run's, and a stop goes on as the run does.
 use Rattle.std.proofs.Common.{ℕ, ◌≡◌, List, [], ◌++◌, length, Bool, false, refl, sym, ap, subst, ◌∙◌, inl, inr, arith, append-nil, append_assoc}
-use Rattle.std.specs.Prelude.{◌≤◌, ◌&&◌, nat_lt, All, IsSome}
+use Rattle.std.specs.Prelude.{◌≤◌, ◌&&◌, nat_lt, IsSome}
 use Rattle.nmgc_alloc.specs.Segments.{Segments, HasNone, IsSegments}
-use Rattle.nmgc_limits.specs.declared.mutators.TheConstants.{MAKERS}
 use Rattle.nmgc_object.specs.declared.layout.TheConstants.{FIRST_PLACE}
 use Rattle.nmgc_alloc.specs.Reserve as reserve
 use Rattle.nmgc_alloc.specs.declared.search.Sought.TheVariants as sought
@@ -26,11 +25,9 @@ use Rattle.nmgc_cycle.specs.Cycles.{Begins, Ends, CanBegin, HasClosed, HasStarte
 use Rattle.nmgc_cycle.specs.Full as full
 use Rattle.nmgc_cycle.specs.Full.{HasFinished}
 use Rattle.nmgc_cycle.specs.FullLaws.{StandsAtStop, FinishingNowLeads, SweepingRestLeads, FinishLeads, FilingLeads, FullLeads, ProceedingLeads}
-use Rattle.nmgc_cycle.specs.Roots.{HasRegisters}
 use Rattle.nmgc_cycle.specs.Shown.{words_in, told_cycles}
 use Rattle.nmgc_cycle.specs.Limits.{IsInLimits}
 use Rattle.nmgc_cycle.specs.Steps.{StandsAt, StartingLeads, EndLeads, BeginReady, BeginningLeads}
-use Rattle.nmgc_cycle.proofs.AfterPromotion.{all_whole}
 use Rattle.nmgc_cycle.proofs.Plans.{is_runnable}
 use Rattle.nmgc_cycle.proofs.StopFew.{none_waits}
 use Rattle.nmgc_cycle.proofs.Telling.{stands_told}
@@ -281,16 +278,12 @@ started_at starting stop old new (script, s, limits, number, h) none started = (
 pub record BeginsAt (c : Collector) : Type 0 where
   pub words : IsSome c.words
   pub inside : FIRST_PLACE ≤ length (words_in c.words)
-  pub few : length c.mutators.items ≤ MAKERS
-  pub whole : All HasRegisters c.mutators.items
   pub can : c.progress ≡ doing.Idle → CanBegin c
 
 pub begins_at : BeginReady → (stop : ℕ) (c : Collector) → StandsAtStop stop c → BeginsAt c
 begins_at ready stop c (script, s, limits, number, h) = record {
   words = h.kept.has_words;
   inside = (let total = h.heap.holds.represents.total in omega (arith, total));
-  few = (let few = (is_runnable script limits).few in let count = h.kept.count in omega (arith, few, count));
-  whole = all_whole script c h.kept;
   can = λ none. ready script c s limits h none;
 }
 

@@ -17,7 +17,7 @@ use Rattle.nmgc_run.specs.Seen as run
 use Rattle.nmgc_run.specs.State.{State, Progress, idle, marking, sweeping, plan_of}
 use Rattle.nmgc_cycle.specs.declared.collector.Collector.{Collector}
 use Rattle.nmgc_cycle.specs.Bound.{MayFollow, commands, one_cycle, no_cycle, AreFewAtStop, AreFewBeforeStop}
-use Rattle.nmgc_cycle.specs.Keeps.{HasClosingRoom, IsWellFormed, IsOwn, IsAfterStop, HasStopped, HasWorked, DidRound, Sweeps}
+use Rattle.nmgc_cycle.specs.Keeps.{IsWellFormed, IsOwn, IsAfterStop, HasStopped, HasWorked, DidRound, Sweeps}
 use Rattle.nmgc_cycle.specs.Lined.{HasMetSender, HaveLines, HaveMet}
 use Rattle.nmgc_cycle.specs.Shown.{seen, seen_mutator}
 use Rattle.nmgc_cycle.proofs.Items.{item}
@@ -87,7 +87,6 @@ module _ (script : Script) (c : Collector) (inbox : List Receiver) where
   stop_inbox run kept still = record {
     kept = kept;
     at_stop = still.at_stop;
-    closing = still.closing;
     sweeper = sweeps_both (last_state run).progress (last_state run) c inbox c.mutators still.sweeper;
     named = still.named;
     few = few_stop script c inbox c.mutators still.few;
@@ -163,7 +162,6 @@ module _ (script : Script) (c : Collector) (inbox : List Receiver) (mutators : V
     history = w.history;
     worked = w.worked;
     after = subst (λ (s : run.Seen). IsAfterRound (plan_of script) w.run w.replies w.history w.worked s) same_seen w.after;
-    closing = subst (HasClosingRoom c.progress) (sym met.count) w.closing;
     sweeper = sweeps_both w.worked.progress w.worked c inbox mutators w.sweeper;
     named = w.named;
     few = few_before script c inbox mutators (last_state w.run).world w.worked.world w.few;

@@ -31,7 +31,7 @@ use Rattle.nmgc_cycle.specs.declared.progress.Marking.{Marking}
 use Rattle.nmgc_cycle.specs.declared.progress.Progress.{Progress as Doing}
 use Rattle.nmgc_cycle.specs.declared.progress.Progress.TheVariants as doing
 use Rattle.nmgc_cycle.specs.Cycles.{HasHelped}
-use Rattle.nmgc_cycle.specs.Keeps.{HasClosingRoom, IsWellFormed, IsOwn, DidRound}
+use Rattle.nmgc_cycle.specs.Keeps.{IsWellFormed, IsOwn, DidRound}
 use Rattle.nmgc_cycle.specs.Shown.{seen, seen_mutator}
 use Rattle.nmgc_cycle.specs.Working.{cleared}
 use Rattle.nmgc_cycle.proofs.AfterRound.{gone_on, is_after}
@@ -51,17 +51,6 @@ use Rattle.nmgc_cycle.proofs.Lining.{lined_on, same_item}
 same_cleared : (ms : List Mutator) → map seen_mutator (map cleared ms) ≡ map seen_mutator ms
 same_cleared [] = refl
 same_cleared (m ∷ ms) = ap (λ (l : List run.MutatorSeen). seen_mutator m ∷ l) (same_cleared ms)
-
--- the list that takes the queues at the closing is as it was
-closing_on : (round : Round) (quota : ℕ) (from seat : RoundSeat) (old new : Segments) (names : List Name) (p q : Doing) (count : ℕ) →
-    HasHelped round quota from seat old new names p q → HasClosingRoom p count → HasClosingRoom q count
-closing_on round quota from seat old new names doing.Idle q count h room = subst (λ (d : Doing). HasClosingRoom d count) (sym h.2) tt
-closing_on round quota from seat old new names (doing.Marking m) q count h room =
-    let same : h.0.queues ≡ m.queues = ap (λ (n : Marking). n.queues) h.2.rest in
-    let kept : HasClosingRoom (doing.Marking h.0) count = subst (λ (queues : Vec FinQueue Global). (queues.items ≡ []) ×
-    (count ≤ vec_capacity queues)) (sym same) room in
-    subst (λ (d : Doing). HasClosingRoom d count) (sym h.1) kept
-closing_on round quota from seat old new names (doing.Sweeping w) q count h room = subst (λ (d : Doing). HasClosingRoom d count) (sym h.1) tt
 
 module _ (laws : HasLaws) (script : Script) (c new : Collector) (o : Opening) (x : IsOver script c new o) (mutators : Vec Mutator Global)
     (mutators_are : mutators.items ≡ map cleared new.mutators.items) where
@@ -156,8 +145,6 @@ module _ (laws : HasLaws) (script : Script) (c new : Collector) (o : Opening) (x
           history = rows script c new o x;
           worked = t script c new o x g.blocks;
           after = is;
-          closing = closing_on x.did.helped.round script.config.quota x.did.helped.from x.did.helped.seat c.segments new.segments c.names c.progress
-              new.progress (length mutators.items) x.did.helped.helped (subst (HasClosingRoom c.progress) (sym same_count) x.still.closing);
           sweeper = sweeps_on (t script c new o x g.blocks).progress (t script c new o x g.blocks) (last script c new o x) mutators g.sweeper;
           named = g.named;
           few = round_few script c after x.run (told script c new o x) (rows script c new o x) (t script c new o x g.blocks) x.limits x.still is

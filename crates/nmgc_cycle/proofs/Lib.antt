@@ -23,7 +23,6 @@ pub mod Fresh
 pub mod FullCycle
 pub mod FullFew
 pub mod Gathering
-pub mod GivenBack
 pub mod GoneOn
 pub mod Helping
 pub mod InboxOn
@@ -50,6 +49,7 @@ pub mod Plans
 pub mod Played
 pub mod Positions
 pub mod PreparedSegments
+pub mod Promoted
 pub mod Promoting
 pub mod QueueLists
 pub mod Ran
@@ -61,7 +61,6 @@ pub mod RoundFew
 pub mod RoundOver
 pub mod RoundWorked
 pub mod Rounded
-pub mod SameSeen
 pub mod SliceRoom
 pub mod SliceRule
 pub mod Sliced

@@ -22,9 +22,8 @@ use Rattle.nmgc_blocks.specs.Promoted.{PlacesEach}
 use Rattle.nmgc_heap.specs.Moves.{Moved, new_place, old_place, settled}
 use Rattle.nmgc_minor.specs.Promotion.{IsFor}
 use Rattle.nmgc_mutator.specs.declared.mutator.Mutator.{Mutator}
-use Rattle.nmgc_object.specs.FinQueue.{FinQueue}
 use Rattle.nmgc_sweep.specs.Names.{HaveNoted}
-use Rattle.nmgc_cycle.specs.Roots.{AreGivenBack}
+use Rattle.nmgc_cycle.specs.Roots.{promoted_by}
 use Rattle.nmgc_heap.specs.Places.{Place}
 use Rattle.nmgc_heap.specs.Roots.{ListsWeaks}
 use Rattle.nmgc_heap.specs.Tracked.{IsTracked}
@@ -173,7 +172,7 @@ module _ (left : LeavingLists) (joining : JoiningLists) (fresh : JoinersAreNew) 
         let kept = subst (λ (list : List OldWeak). ListsWeaks old.segments.layout t.places t.world (places_of list)) (sym l.list) then in
         subst (λ (y : Layout). ListsWeaks y t.places t.world (places_of a.weaks.list)) (ap (λ (s : Collector). s.segments.layout) (sym l.rest)) kept
 
-    settled_there : IsSettled t b.segments (words_in b.words) p.registers (map (λ (q : FinQueue). q.words) p.queues) (moves_of b)
+    settled_there : IsSettled t b.segments (words_in b.words) (registers_of b.mutators.items) (queues_of b.mutators.items) (moves_of b)
     settled_there = p.settled t (stopped_then old a l t h)
 
     moved_there : (m : Move) → Contains b.promotion.moves m → Contains (moves_of b) (moved_of m)
@@ -212,8 +211,8 @@ module _ (left : LeavingLists) (joining : JoiningLists) (fresh : JoinersAreNew) 
       new = λ m other c d.
           let d_then : Contains a.weaks.list other = subst (λ (list : List OldWeak). Contains list other) (ap (λ (w : Weaks). w.list) same) d in
           fresh t a.segments b.segments (words_in a.words) (words_in b.words) (nurseries_of a.mutators.items) (registers_of a.mutators.items)
-          p.registers (queues_of a.mutators.items) (map (λ (q : FinQueue).
-          q.words) p.queues) (recorded_of a.mutators.items) (young_weaks_of a.mutators.items) (moves_of b) (places_of a.weaks.list)
+          (registers_of b.mutators.items) (queues_of a.mutators.items) (queues_of b.mutators.items) (recorded_of a.mutators.items)
+          (young_weaks_of a.mutators.items) (moves_of b) (places_of a.weaks.list)
           (stopped_then old a l t h) settled_there left_listed (moved_of m) (place_of other) (moved_there m c)
           (contains_map place_of a.weaks.list other d_then);
       few = few;
@@ -277,8 +276,8 @@ module _ (left : LeavingLists) (joining : JoiningLists) (fresh : JoinersAreNew) 
       ];
       lists = λ t h can.
           let then = joining t a.segments b.segments (words_in a.words) (words_in b.words) (nurseries_of a.mutators.items)
-          (registers_of a.mutators.items) p.registers (queues_of a.mutators.items) (map (λ (q : FinQueue).
-          q.words) p.queues) (recorded_of a.mutators.items) (young_weaks_of a.mutators.items) (moves_of b) (places_of a.weaks.list)
+          (registers_of a.mutators.items) (registers_of b.mutators.items) (queues_of a.mutators.items) (queues_of b.mutators.items)
+          (recorded_of a.mutators.items) (young_weaks_of a.mutators.items) (moves_of b) (places_of a.weaks.list)
           (places_of new.weaks.list) (stopped_then old a l t h) (settled_there t h can) p.layout p.copied (left_listed t h can) joined_list in
           subst (λ (x : Collector).
           ListsWeaks x.segments.layout (settled (young_base x.segments) (moves_of x) t.places) t.world (places_of new.weaks.list)) (sym new_is) then;
@@ -307,13 +306,14 @@ module _ (left : LeavingLists) (joining : JoiningLists) (fresh : JoinersAreNew) 
           }) new_is);
       has_words = j.words.1;
       noted = subst (λ (y : Collector × Collector). HaveNoted (moves_of y.1) y.0.names y.1.names) (λ i. (l.rest i, sym new_is i)) p.noted;
-      registers = p.registers;
-      queues = p.queues;
-      given = subst (λ (x : Collector).
-          AreGivenBack p.registers p.queues old.mutators.items x.mutators.items) (sym new_is) (subst (λ (x : Collector).
-          AreGivenBack p.registers p.queues x.mutators.items b.mutators.items) l.rest p.given);
-      settled = λ t h. subst (λ (y : Collector × List ℕ). IsSettled t y.0.segments y.1 p.registers (map (λ (q : FinQueue).
-          q.words) p.queues) (moves_of y.0)) (λ i. (sym new_is i, sym j.words.0 i)) (p.settled t (stopped_then old a l t h));
+      forward = p.forward;
+      held = ap (λ (x : Collector). x.mutators.items) new_is ∙ p.held ∙
+          ap (λ (x : Collector). map (promoted_by p.forward) x.mutators.items) l.rest;
+      settled = λ t h. subst (λ (y : Collector × List ℕ).
+          IsSettled t y.0.segments y.1 (registers_of y.0.mutators.items) (queues_of y.0.mutators.items) (moves_of y.0)) (λ i. (
+            sym new_is i,
+            sym j.words.0 i,
+          )) (p.settled t (stopped_then old a l t h));
       places = λ t h x shown.
           let shown_then : StandsFor a.segments (words_in a.words) x =
           subst (λ (y : Segments × List ℕ). StandsFor y.0 y.1 x) (λ i. (sym (segments_same old a l) i, sym l.words.0 i)) shown in
@@ -327,7 +327,6 @@ module _ (left : LeavingLists) (joining : JoiningLists) (fresh : JoinersAreNew) 
       marks = subst (λ (y : Collector × Collector). KeepsMarks y.0.segments y.1.segments) (λ i. (l.rest i, sym new_is i)) p.marks;
       layout = ap (λ (x : Collector). x.segments.layout) new_is ∙ p.layout ∙ ap (λ (x : Collector). x.segments.layout) l.rest;
       lists = subst (λ (y : Collector × Collector). IsFor y.0.segments.layout y.1.promotion) (λ i. (l.rest i, sym new_is i)) p.lists;
-      spares = p.spares ∙ ap (λ (x : Collector). map (λ (m : Mutator). m.queue.spare) x.mutators.items) l.rest;
       copied = subst (λ (y : Collector × Collector × List ℕ × List ℕ). HaveMoved (young_base y.0.segments) (moves_of y.1) y.2 y.3) (λ i. (
         l.rest i,
         sym new_is i,

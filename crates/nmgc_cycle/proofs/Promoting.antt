@@ -1,5 +1,5 @@
 -- After its promotion the collector stands for the state that the promotion left: the heap, and the cycle in progress.
-use Rattle.std.proofs.Common.{ℕ, ◌≡◌, ◌≢◌, ◌⊎◌, ◌<◌, ◌≤◌, ◌+◌, ◌*◌, List, [], ◌∷◌, arith, refl, sym, ap, subst, ◌∙◌, inl, inr, Some, None}
+use Rattle.std.proofs.Common.{ℕ, ◌≡◌, ◌≢◌, ◌⊎◌, ◌<◌, ◌≤◌, ◌+◌, ◌*◌, List, [], ◌∷◌, length, arith, refl, sym, ap, subst, ◌∙◌, inl, inr, Some, None}
 use Rattle.std.specs.Prelude.{slice_get, slice_index, Contains, IsSome}
 use Rattle.nmgc_graph.specs.declared.value.Name.{Name}
 use Rattle.nmgc_graph.specs.Step.{shared_name}
@@ -18,7 +18,10 @@ use Rattle.nmgc_heap.specs.Places.{Place}
 use Rattle.nmgc_heap.specs.Tracked.{IsTracked}
 use Rattle.nmgc_heap.specs.laws.Moving.{contains_map, settled_cases, settled_comes}
 use Rattle.nmgc_minor.specs.Promotion.{IsFor}
-use Rattle.nmgc_minor.specs.Start.{words_of}
+use Rattle.nmgc_turn.specs.Worked as worked
+use Rattle.std.proofs.lemmas.List.{length-map}
+use Rattle.nmgc_mutator.specs.declared.mutator.Mutator.{Mutator}
+use Rattle.nmgc_cycle.specs.Roots.{promoted_by}
 use Rattle.nmgc_script.specs.declared.script.Script.{Script}
 use Rattle.nmgc_run.specs.Collector.{EachMutator, HoldsInCycle, IsPacedAfterRound, weak_count}
 use Rattle.nmgc_run.specs.Heap.{HoldsAtStop, snapshots}
@@ -40,7 +43,7 @@ use Rattle.nmgc_weak.specs.declared.weaks.Death.{Death}
 use Rattle.nmgc_sweep.specs.Names.{AreNamed, entry_of, named_at}
 use Rattle.nmgc_sweep.specs.laws.Names.{named_noted}
 use Rattle.nmgc_cycle.specs.declared.collector.Collector.{Collector}
-use Rattle.nmgc_cycle.specs.Keeps.{HasClosingRoom, IsWellFormed, Sweeps}
+use Rattle.nmgc_cycle.specs.Keeps.{IsWellFormed, Sweeps}
 use Rattle.nmgc_cycle.specs.Shown.{seen, words_in, sweeper_in, cycle_in, died}
 use Rattle.nmgc_cycle.specs.Steps.{StandsPromoted, IsPacedPromoted}
 use Rattle.nmgc_cycle.specs.StopLaws.{HasPromotionLaws}
@@ -172,8 +175,8 @@ module _ (laws : HasPromotionLaws) (script : Script) (old new : Collector) (kept
     -- the cycle in progress
 
     was_promoted : (c : Cycle) → snapshots s.progress ≡ c.snapshot ∷ [] →
-        beside.HasPromoted c (after.at_stop script old new kept b p) old.segments new.segments (seen old).words (words_in new.words) p.registers
-        (words_of p.queues) (moves_of new) s.allocation t.allocation
+        beside.HasPromoted c (after.at_stop script old new kept b p) old.segments new.segments (seen old).words (words_in new.words)
+        (worked.registers_of new.mutators.items) (worked.queues_of new.mutators.items) (moves_of new) s.allocation t.allocation
     was_promoted c later = record {
       later_is = later;
       round = b.stopped.round;
@@ -225,8 +228,9 @@ module _ (laws : HasPromotionLaws) (script : Script) (old new : Collector) (kept
         HoldsInCycle (λ (k : Cycle). IsPacedPromoted script.config.quota k t (seen mid)) q t (seen mid) heap.places
     cycle idle spoken is later h = laws.settled s.begun old.segments new.segments (seen old).words (words_in new.words) s.allocation t.allocation placed h
     cycle (marking c) spoken is later h = (
-      laws.marking c s (seen old) (seen mid) (after.at_stop script old new kept b p) (seen old).words (words_in new.words) p.registers
-          (words_of p.queues) (moves_of new) t.allocation is.0 refl h.0 (was_promoted c spoken) refl (left_of c spoken h.0.queue_room)
+      laws.marking c s (seen old) (seen mid) (after.at_stop script old new kept b p) (seen old).words (words_in new.words)
+          (worked.registers_of new.mutators.items) (worked.queues_of new.mutators.items) (moves_of new) t.allocation is.0 refl h.0
+          (was_promoted c spoken) refl (left_of c spoken h.0.queue_room)
           (after.remembers script old new kept b p),
       record {
         paced = record { scanned = h.1.scanned; most = h.1.most; some = h.1.some; quota_or_done = h.1.quota_or_done; empty = h.1.empty };
@@ -309,7 +313,7 @@ module _ (laws : HasPromotionLaws) (script : Script) (old new : Collector) (kept
       lists = subst (λ (l : Layout). IsFor l new.promotion) (sym p.layout) p.lists;
       entries = subst (λ (y : Layout × ℕ). y.0.segments * y.0.words ≤ MIN_BLOCK_WORDS * y.1) (λ i. (sym p.layout i, sym p.noted.count i)) kept.entries;
       has_words = p.has_words;
-      count = p.given.count ∙ kept.count;
+      count = ap (λ (l : List Mutator). length l) p.held ∙ length-map old.mutators.items (promoted_by p.forward) ∙ kept.count;
       own = λ k m e. let own = (after.own script old new kept b p k m e).0 in
           record {
             number = own.number;
@@ -336,7 +340,6 @@ module _ (laws : HasPromotionLaws) (script : Script) (old new : Collector) (kept
       empty = after.are_empty script old new kept b p;
       rest = after.rest script old new kept b p;
       cycle = cycle s.progress refl b.sound.cycle b.later b.cycle;
-      closing = subst (λ (n : ℕ). HasClosingRoom old.progress n) (sym p.given.count) b.closing;
       sweeper = sweeper s.progress b.sweeper;
       named = named_then;
     }

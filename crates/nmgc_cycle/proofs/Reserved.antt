@@ -18,7 +18,7 @@ use Rattle.nmgc_run.specs.State.{State, Progress, idle, marking, sweeping, plan_
 use Rattle.nmgc_sweep.specs.Names.{AreNamed}
 use Rattle.nmgc_cycle.specs.declared.collector.Collector.{Collector}
 use Rattle.nmgc_cycle.specs.Bound.{MayFollow, commands, one_cycle, no_cycle, AreFewAtStop}
-use Rattle.nmgc_cycle.specs.Keeps.{HasClosingRoom, IsWellFormed, IsOwn, IsAfterStop, HasStopped, Sweeps}
+use Rattle.nmgc_cycle.specs.Keeps.{IsWellFormed, IsOwn, IsAfterStop, HasStopped, Sweeps}
 use Rattle.nmgc_cycle.specs.Shown.{seen, seen_mutator}
 use Rattle.nmgc_cycle.specs.Working.{AreReserved}
 use Rattle.nmgc_cycle.proofs.Items.{item}
@@ -136,7 +136,6 @@ module _ (script : Script) (c : Collector) (run : Run) (still : IsAfterStop scri
       mutators =
           l;
     })) (sym (reserved_seen c.mutators.items mutators.items reserved)) still.at_stop;
-    closing = subst (HasClosingRoom c.progress) (sym reserved.count) still.closing;
     sweeper = sweeps_on (last_state run).progress (last_state run) c mutators still.sweeper;
     named = still.named;
     few = few_on script c mutators still.few;
@@ -151,8 +150,6 @@ still_before script old new run kept rest reserved still =
     record {
       kept = kept;
       at_stop = subst (IsAtStop (plan_of script) run) same still.at_stop;
-      closing = subst (HasClosingRoom old.progress) reserved.count (subst (λ (x : Collector).
-          HasClosingRoom x.progress (length new.mutators.items)) rest still.closing);
       sweeper = sweeps_on (last_state run).progress (last_state run) (record old {
         mutators =
             new.mutators;

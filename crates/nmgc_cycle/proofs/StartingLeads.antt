@@ -1,9 +1,6 @@
 -- A cycle that was started where one is due is the run's next cycle.
 use Rattle.std.proofs.Common.{ℕ, suc, ◌≡◌, ◌≢◌, ◌+◌, ◌*◌, ◌≤◌, List, [], ◌∷◌, length, map, false, refl, sym, ap, subst, ◌∙◌, arith, Option, Some, inl, inr}
-use Rattle.std.specs.Prelude.{slice_get, slice_index_or, option_map}
-use Rattle.std.proofs.lemmas.List.{length-append}
-use Rattle.std.proofs.lemmas.Option.{get_or_from_slice_get, slice_get-map}
-use Rattle.nmgc_limits.specs.declared.mutators.TheConstants.{REGISTERS}
+use Rattle.std.specs.Prelude.{slice_get}
 use Rattle.nmgc_graph.specs.declared.value.Name.{Name}
 use Rattle.nmgc_graph.specs.World.{World}
 use Rattle.nmgc_graph.specs.Step.{shared_name}
@@ -36,7 +33,7 @@ use Rattle.nmgc_run.specs.Collector.{AreNurseries, EachMutator, IsAtRest, IsMark
 use Rattle.nmgc_run.specs.Course.{CyclesBeginInCourse}
 use Rattle.nmgc_run.specs.Heap.{HoldsAtStop, snapshots}
 use Rattle.nmgc_run.specs.Marks.{epoch_of}
-use Rattle.nmgc_run.specs.Seen.{MutatorSeen, end_of, ends_of, nurseries_of}
+use Rattle.nmgc_run.specs.Seen.{MutatorSeen, ends_of, nurseries_of}
 use Rattle.nmgc_run.specs.Sound.{IsSoundState}
 use Rattle.nmgc_run.specs.State.{State, Cycle, next_cycle, cycle_started, plan_of, layout_of}
 use Rattle.nmgc_run.specs.laws.Filing.{begun_filed}
@@ -45,7 +42,6 @@ use Rattle.nmgc_script.specs.declared.script.Script.{Script}
 use Rattle.nmgc_sweep.specs.Statements.{StartIsNoted, LeftStays}
 use Rattle.nmgc_sweep.specs.Sweeper.{AreLeft, HasNotes}
 use Rattle.nmgc_sweep.specs.Work.{HasBegun}
-use Rattle.nmgc_turn.specs.Worked.{registers_of}
 use Rattle.nmgc_sweep.specs.laws.Names.{named_begun}
 use Rattle.nmgc_sweep.specs.Names.{HaveEntries}
 use Rattle.nmgc_cycle.specs.declared.collector.Collector.{Collector}
@@ -54,15 +50,11 @@ use Rattle.nmgc_cycle.specs.declared.progress.Progress.TheVariants as doing
 use Rattle.nmgc_cycle.specs.Cycles.{StartsMarking, next_epoch}
 use Rattle.nmgc_cycle.specs.Keeps.{IsWellFormed, IsOwn}
 use Rattle.nmgc_cycle.specs.Listed.{HasQueueRoom, count_made_by}
-use Rattle.nmgc_cycle.specs.Roots.{AreGivenBack, given_back, no_queue, own_registers, queues_in}
 use Rattle.nmgc_cycle.specs.Shown.{seen, seen_mutator, words_in}
 use Rattle.nmgc_cycle.specs.Steps.{StandsAt, StartingLeads}
 use Rattle.nmgc_cycle.proofs.Closing.{words_same}
-use Rattle.nmgc_cycle.proofs.GivenBack.{one_given, own_count}
-use Rattle.nmgc_cycle.proofs.MutatorLists.{given_without}
 use Rattle.nmgc_cycle.proofs.QueueRoom.{counted, one_room, room_ends, room_nurseries}
 use Rattle.nmgc_cycle.proofs.RootLists.{seen_at}
-use Rattle.nmgc_cycle.proofs.SameSeen.{IsQuiet, same_seen}
 use Rattle.nmgc_cycle.proofs.StepReady.{PreparedBegins, none, snapshot_opening, beginning, prepared_shown}
 
 -- the laws on which a beginning rests
@@ -77,16 +69,6 @@ pub record BeginningLaws : Type 0 where
   pub waits : MarkedWait
   pub pace : PaceBegins
   pub course : CyclesBeginInCourse
-
--- so many registers, where each mutator has all of its own
-registers_long : (ms : List Mutator) → ((n : ℕ) (m : Mutator) → slice_get ms n ≡ Some m → length m.registers ≡ REGISTERS) →
-    length (registers_of ms) ≡ REGISTERS * length ms
-registers_long [] each = refl
-registers_long (m ∷ ms) each =
-    let all : length (registers_of (m ∷ ms)) ≡ length m.registers + length (registers_of ms) = length-append m.registers (registers_of ms) in
-    let own : length m.registers ≡ REGISTERS = each 0 m refl in
-    let rest : length (registers_of ms) ≡ REGISTERS * length ms = registers_long ms (λ n x e. each (suc n) x e) in
-    omega (arith, all, own, rest)
 
 module _ (laws : BeginningLaws) (script : Script) (c : Collector) (s : State) (h : StandsAt script c s) (at : c.progress ≡ doing.Idle)
     (before : Collector) (mk : Marking) (st : StartsMarking s.number c before mk) where
@@ -113,38 +95,16 @@ module _ (laws : BeginningLaws) (script : Script) (c : Collector) (s : State) (h
 
   -- the mutators are as they were, but for the room in their queues
 
-  quiet : (n : ℕ) (m : Mutator) → slice_get c.mutators.items n ≡ Some m → IsQuiet m
-  quiet n m e =
-      let there : slice_get (map seen_mutator c.mutators.items) n ≡ Some (seen_mutator m) = seen_at c.mutators.items n m e in
-      let rest : IsAtRest (seen_mutator m) = h.rest n (seen_mutator m) there in
-      let none_there : Nursery = record { base = 0; top = 0; end = 0 } in
-      let own : slice_index_or (nurseries_of (seen c)) n none_there ≡ m.nursery =
-      get_or_from_slice_get (nurseries_of (seen c)) n m.nursery none_there (slice_get-map (λ (x : MutatorSeen).
-      x.nursery) (map seen_mutator c.mutators.items) n ∙ ap (option_map (λ (x : MutatorSeen). x.nursery)) there) in
-      record {
-        top = ap (λ (x : Nursery). x.top) (sym own) ∙ h.empty n ∙ ap (λ (x : Nursery). x.base) own;
-        recorded = rest.recorded;
-        young_weaks = rest.young_weaks;
-        size = (h.kept.own n m e).whole.size;
-      }
-
-  given : AreGivenBack (registers_of c.mutators.items) (queues_in c.mutators.items) c.mutators.items st.between
-  given = given_without (registers_of c.mutators.items) (queues_in c.mutators.items) c.mutators.items st.between st.given
-
-  between_same : map seen_mutator st.between ≡ map seen_mutator c.mutators.items
-  between_same = same_seen c.mutators.items st.between quiet given
-
   ends_same : ends_of (seen next) ≡ ends_of (seen c)
-  ends_same = room_ends c.weaks.list st.between before.mutators.items st.queue_room ∙ ap (λ (l : List MutatorSeen). map end_of l) between_same
+  ends_same = room_ends c.weaks.list c.mutators.items before.mutators.items st.queue_room
 
   nurseries_same : nurseries_of (seen next) ≡ nurseries_of (seen c)
-  nurseries_same = room_nurseries c.weaks.list st.between before.mutators.items st.queue_room ∙
-      ap (λ (l : List MutatorSeen). map (λ (m : MutatorSeen). m.nursery) l) between_same
+  nurseries_same = room_nurseries c.weaks.list c.mutators.items before.mutators.items st.queue_room
 
   -- one of them, without the room
-  was : (n : ℕ) (m : Mutator) → slice_get before.mutators.items n ≡ Some m → (b : Mutator) × (slice_get st.between n ≡ Some b) ×
+  was : (n : ℕ) (m : Mutator) → slice_get before.mutators.items n ≡ Some m → (b : Mutator) × (slice_get c.mutators.items n ≡ Some b) ×
       HasQueueRoom (count_made_by b.number c.weaks.list) b m
-  was n m e = one_room c.weaks.list st.between before.mutators.items st.queue_room n m e
+  was n m e = one_room c.weaks.list c.mutators.items before.mutators.items st.queue_room n m e
 
   layout_is : segments.layout ≡ c.segments.layout
   layout_is = st.marked.layout
@@ -152,19 +112,11 @@ module _ (laws : BeginningLaws) (script : Script) (c : Collector) (s : State) (h
   own_then : (n : ℕ) (m : Mutator) → slice_get before.mutators.items n ≡ Some m → IsOwn next n m
   own_then n m e =
       let b = was n m e in
-      let one = one_given (registers_of c.mutators.items) (queues_in c.mutators.items) c.mutators.items st.between given n b.0 b.1 in
-      let own = h.kept.own n one.0 one.2 in
-      let long = registers_long c.mutators.items (λ i x there. (h.kept.own i x there).whole.size) in
-      let is : m ≡ record (given_back (own_registers (registers_of c.mutators.items) n) (slice_index_or (queues_in c.mutators.items) n no_queue)
-      one.0) { queue = m.queue } = b.2.rest ∙ ap (λ (x : Mutator). record x { queue = m.queue }) one.3 in
-      subst (λ (x : Mutator). IsOwn next n x) (sym is) (record {
+      let own = h.kept.own n b.0 b.1 in
+      subst (λ (x : Mutator). IsOwn next n x) (sym b.2.rest) (record {
         number = own.number;
         layout = own.layout ∙ sym layout_is;
-        whole = record {
-          layout = own.whole.layout;
-          number = own.whole.number;
-          size = own_count (registers_of c.mutators.items) (length c.mutators.items) n long one.1;
-        };
+        whole = record { layout = own.whole.layout; number = own.whole.number; size = own.whole.size };
         no_replies = own.no_replies;
         line = own.line;
       })
@@ -173,9 +125,7 @@ module _ (laws : BeginningLaws) (script : Script) (c : Collector) (s : State) (h
   rest_then n mutator e =
       let x = map_item seen_mutator before.mutators.items n mutator e in
       let b = was n x.0 x.1 in
-      let there : slice_get (seen c).mutators n ≡ Some (seen_mutator b.0) = ap (λ (l : List MutatorSeen). slice_get l n) (sym between_same) ∙
-      seen_at st.between n b.0 b.1 in
-      let left : IsAtRest (seen_mutator b.0) = h.rest n (seen_mutator b.0) there in
+      let left : IsAtRest (seen_mutator b.0) = h.rest n (seen_mutator b.0) (seen_at c.mutators.items n b.0 b.1) in
       subst IsAtRest (sym (x.2 ∙ ap seen_mutator b.2.rest)) (record { recorded = left.recorded; young_weaks = left.young_weaks; entries = left.entries })
 
   queue_room_then : EachMutator (seen next) (λ n mutator. weak_count s.world n (seen next).weaks ≤ mutator.queue.spare)
@@ -196,7 +146,7 @@ module _ (laws : BeginningLaws) (script : Script) (c : Collector) (s : State) (h
     lists = subst (λ (l : Layout). IsFor l c.promotion) (sym layout_is) h.kept.lists;
     entries = subst (λ (l : Layout). HaveEntries l c.names) (sym layout_is) h.kept.entries;
     has_words = h.kept.has_words;
-    count = st.queue_room.count ∙ given.count ∙ h.kept.count;
+    count = st.queue_room.count ∙ h.kept.count;
     own = own_then;
     inbox = h.kept.inbox;
     positions_are = h.kept.positions_are;
@@ -298,7 +248,6 @@ module _ (laws : BeginningLaws) (script : Script) (c : Collector) (s : State) (h
     empty = subst AreEmpty (sym nurseries_same) h.empty;
     rest = rest_then;
     cycle = (is_marking heap.0.places heap.1, in_pace);
-    closing = st.closing_room;
     sweeper = (record { notes = notes; left = left_then }, begun_then.swept, begun_then.had, begun_then.freed);
     named = named_begun plan c.names s.allocation h.named;
   }

@@ -15,7 +15,6 @@ use Rattle.nmgc_run.specs.Seen.{MarkerSeen, end_of}
 use Rattle.nmgc_weak.specs.Closes.{DeathsHaveRoom}
 use Rattle.nmgc_weak.specs.declared.weaks.OldWeak.{OldWeak}
 use Rattle.nmgc_cycle.specs.declared.progress.Marking.{Marking}
-use Rattle.nmgc_cycle.specs.Keeps.{HasClosingRoom}
 use Rattle.nmgc_cycle.specs.Shown.{seen_mutator}
 use Rattle.nmgc_alloc.specs.AllocState.{AllocState, StandsFor, NoneIs, IsIn, cycle_begun}
 use Rattle.nmgc_alloc.specs.Segments.{Segments, HasNone}
@@ -112,9 +111,9 @@ module _ (Paced : Cycle → State → Seen →
       sym (length-map (map seen_mutator c.mutators.items) end_of) ∙ sym (length-map (ends_of (seen c)) (λ (m : MutatorEnd). m.queue)) ∙
       h.heap.holds.roots.mutators.0 ∙ ap (λ (w : World). length w.mutators) (sym now.0.machine.world_is)
 
-  pub ready : (m : Marking) → m.marker ≡ (seen c).marker → HasClosingRoom (doing.Marking m) (length c.mutators.items) →
+  pub ready : (m : Marking) → m.marker ≡ (seen c).marker →
       IsReadyToClose (words_in c.words) c.segments c.weaks.list (queues_in c.mutators.items) m
-  ready m marker closing = record {
+  ready m marker = record {
     room = subst (HasRoomToMark c.segments) (sym marker) now.0.room;
     opening = stop_opening (layout_of (plan_of script)) k s (seen c) c.mutators.items here;
     ready = subst (λ (x : MarkerSeen).
@@ -126,8 +125,6 @@ module _ (Paced : Cycle → State → Seen →
         (may (layout_of (plan_of script)) k s (seen c) c.mutators.items between finisher here f) r
         (many_queues ∙ ap (λ (x : Core). length x.world.mutators) (sym f.rest))
         (λ m queue is. subst (λ (w : World). weak_count w m (seen c).weaks ≤ queue.spare) (ap (λ (x : Core). x.snapshot) (sym f.rest)) (own_room m queue is));
-    none_held = closing.0;
-    holds_all = subst (λ (n : ℕ). n ≤ vec_capacity m.queues) (sym (length-map c.mutators.items (λ (x : Mutator). x.queue))) closing.1;
   }
 
 module _ (Paced : Cycle → State → Seen →
@@ -138,8 +135,7 @@ module _ (Paced : Cycle → State → Seen →
   now_by doing.Idle q at is e = tt
   now_by (doing.Marking m) idle at is e = absurd (let bad : phase.Marking ≡ phase.Idle = e in cc)
   now_by (doing.Marking m) (marking k) at is e =
-      ready Paced rests core_snapshot may deaths_room script c s h k is m (sym (ap marker_in at)) (subst (λ (p : Doing).
-      HasClosingRoom p (length c.mutators.items)) at h.closing)
+      ready Paced rests core_snapshot may deaths_room script c s h k is m (sym (ap marker_in at))
   now_by (doing.Marking m) (sweeping k closed) at is e = absurd (let bad : phase.Marking ≡ phase.Sweeping = e in cc)
   now_by (doing.Sweeping w) q at is e = tt
 

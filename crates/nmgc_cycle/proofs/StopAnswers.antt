@@ -42,7 +42,6 @@ still script c rounds stops cycles row t rounds_are stops_are cycles_are told st
         at_rest = record { nurseries = at.nurseries; empty = at.empty; nothing = at.rest };
         cycle = at.cycle;
       };
-      closing = at.closing;
       sweeper = at.sweeper;
       named = at.named;
       few = few;

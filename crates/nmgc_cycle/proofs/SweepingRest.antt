@@ -174,7 +174,6 @@ module _ (laws : SweepingLaws) (script : Script) (c : Collector) (st : State) (k
     empty = h.empty;
     rest = h.rest;
     cycle = (swept.2.sweeping, subst (λ (n : ℕ). AreSettled n new) h.course.0.number_is swept.2.settled);
-    closing = tt;
     sweeper = (record { numbers = sw.swept.left.numbers; room = sw.swept.left.room }, swept.2);
     named = named_swept layout c.names (IsKeptIn k) (length w.sweeper.left) st.allocation b swept.1 h.named;
   }

@@ -93,7 +93,6 @@ module _ (script : Script) (old new : Collector) (s t : State) where
     empty = h.empty;
     rest = h.rest;
     cycle = cycle_told s.progress h.heap.places h.cycle;
-    closing = h.closing;
     sweeper = sweeper_told s.progress h.sweeper;
     named = h.named;
   }

@@ -31,7 +31,7 @@ use Rattle.nmgc_cycle.specs.declared.progress.Progress.TheVariants as progress
 use Rattle.nmgc_cycle.specs.declared.progress.Sweeping.{Sweeping}
 use Rattle.nmgc_core.specs.State.{opening}
 use Rattle.nmgc_turn.specs.Worked.{registers_of}
-use Rattle.nmgc_cycle.specs.Roots.{queues_in, without_queue, AreGivenBack}
+use Rattle.nmgc_cycle.specs.Roots.{queues_in}
 use Rattle.nmgc_cycle.specs.Lined.{IsLined, HaveForgotten}
 use Rattle.nmgc_cycle.specs.Listed.{FinalisersQueued, HaveQueueRoom}
 use Rattle.nmgc_cycle.specs.Shown.{died, seen_mutator, words_in}
@@ -129,7 +129,7 @@ pub record HasTaken (old new : Collector) : Type 0 where
 
 -- a marker may finish: it has room, and its marks and its queue are those of a state that opens a round on these
 -- words. After that the weak pointers of the list may be resolved, and the finalisers of those that die have room in
--- the queues; and there is room for the queues themselves
+-- the queues
 pub record IsReadyToClose (words : List ℕ) (segments : Segments) (weaks : List OldWeak) (queues : List FinQueue) (m : Marking) : Type 0 where
   pub room : HasRoomToMark segments m.marker
   pub opening : Opening
@@ -138,8 +138,6 @@ pub record IsReadyToClose (words : List ℕ) (segments : Segments) (weaks : List
       CanResolve (finished_on opening between finisher f) words between finisher (places_of weaks)
   pub queue_room : (between marked : Segments) (finisher marker : MarkerSeen) (after : List ℕ) (list : List OldWeak) (deaths : List Death)
       (f : HasFinished opening between finisher) → HasResolved (finished_on opening between finisher f) after marked marker list deaths → HaveRoom deaths queues
-  pub none_held : m.queues.items ≡ []
-  pub holds_all : length queues ≤ vec_capacity m.queues
 
 -- so may one whose last work left nothing
 abbrev pub CanClose : List ℕ → Segments → List OldWeak → List FinQueue → Progress → Type 0
@@ -227,18 +225,15 @@ pub record CanBegin (c : Collector) : Type 0 where
       IsBeginning o (all_prepared c.segments) (next_epoch c) (words_in c.words) (registers_of c.mutators.items) (queues_in c.mutators.items)
 
 -- a marking cycle was started at this stop: the segments were prepared, the sweeper noted which segments wait, and
--- the marker marked what the roots refer to, both with the collector's count of the gate's passes; the mutators have
--- their roots again, and their queues have room for what the closing adds
+-- the marker marked what the roots refer to, both with the collector's count of the gate's passes; the mutators'
+-- queues have room for what the closing adds
 pub record StartsMarking (stop : ℕ) (old new : Collector) (marking : Marking) : Type 0 where
   pub rest : new ≡ record old { words = new.words; segments = new.segments; mutators = new.mutators }
   pub from_is : marking.from ≡ stop
   pub last : marking.last ≡ record { scanned = 0; empty = false }
   pub words : (words_in new.words ≡ words_in old.words) × IsSome new.words
   pub sound : IsSegments new.segments
-  pub between : List Mutator
-  pub given : AreGivenBack (registers_of old.mutators.items) (queues_in old.mutators.items) (map without_queue old.mutators.items) between
-  pub queue_room : HaveQueueRoom old.weaks.list between new.mutators.items
-  pub closing_room : (marking.queues.items ≡ []) × (length new.mutators.items ≤ vec_capacity marking.queues)
+  pub queue_room : HaveQueueRoom old.weaks.list old.mutators.items new.mutators.items
   pub sweeper : HasBegun (all_prepared old.segments) (next_epoch old) marking.sweeper
   pub turns : (marking.marker.turns ≡ old.turns) × (marking.sweeper.turns ≡ old.turns) × (marking.sweeper.upper_turns ≡ old.upper_turns)
   pub marked : HasMarked (all_prepared old.segments) new.segments (blank (next_epoch old) (most_blocks old.segments.layout)) marking.marker 0

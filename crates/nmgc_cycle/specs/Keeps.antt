@@ -25,11 +25,6 @@ use Rattle.nmgc_cycle.specs.Bound.{AreFewAtStop, AreFewBeforeStop}
 use Rattle.nmgc_cycle.specs.Lined.{IsLined}
 use Rattle.nmgc_cycle.specs.Shown.{seen, sweeper_in}
 
--- while a cycle marks, there is a list with room for the queues of so many mutators, for its closing
-abbrev pub HasClosingRoom : Doing → ℕ → Type 0
-HasClosingRoom (doing.Marking m) count = (m.queues.items ≡ []) × (count ≤ vec_capacity m.queues)
-HasClosingRoom p count = Unit {0}
-
 -- the sweeper of a cycle that marks: it noted the segments that are to be swept, and all that wait are left
 pub record HasSweeper (k : Cycle) (c : Collector) : Type 0 where
   pub notes : HasNotes k (sweeper_in c.progress)
@@ -77,7 +72,6 @@ pub record IsFresh (script : Script) (c : Collector) : Type 0 where
 pub record IsAfterStop (script : Script) (c : Collector) (run : Run) : Type 0 where
   pub kept : IsWellFormed script c
   pub at_stop : IsAtStop (plan_of script) run (seen c)
-  pub closing : HasClosingRoom c.progress (length c.mutators.items)
   pub sweeper : Sweeps (last_state run).progress (last_state run) c
   pub named : AreNamed (layout_of (plan_of script)) c.names (last_state run).allocation
   pub few : AreFewAtStop script c
@@ -95,7 +89,6 @@ pub record HasWorked (script : Script) (c : Collector) : Type 0 where
   pub history : List Row
   pub worked : State
   pub after : IsAfterRound (plan_of script) run replies history worked (seen c)
-  pub closing : HasClosingRoom c.progress (length c.mutators.items)
   pub sweeper : Sweeps worked.progress worked c
   pub named : AreNamed (layout_of (plan_of script)) c.names worked.allocation
   pub few : AreFewBeforeStop script c (last_state run).world worked.world

@@ -22,7 +22,7 @@ use Rattle.nmgc_cycle.specs.declared.progress.Marking.{Marking}
 use Rattle.nmgc_cycle.specs.declared.progress.Progress.TheVariants as doing
 use Rattle.nmgc_cycle.specs.declared.progress.Sweeping.{Sweeping}
 use Rattle.nmgc_cycle.specs.Cycles.{HasTaken, CanClose, Closes as ClosesThen, HasClosed, IsClosed, Ends, CanBegin, HasStarted, Begins}
-use Rattle.nmgc_cycle.specs.Keeps.{IsWellFormed, HasClosingRoom, Sweeps}
+use Rattle.nmgc_cycle.specs.Keeps.{IsWellFormed, Sweeps}
 use Rattle.nmgc_cycle.specs.Roots.{queues_in}
 use Rattle.nmgc_cycle.specs.Shown.{seen, told_cycles, words_in}
 use Rattle.nmgc_cycle.specs.Limits.{IsInLimits}
@@ -53,7 +53,6 @@ pub record StandsForState (Paced : Cycle → State → Seen → Type 0) (Rests :
   pub empty : AreEmpty (nurseries_of (seen c))
   pub rest : EachMutator (seen c) (λ m mutator. Rests mutator)
   pub cycle : HoldsInCycle (λ k. Paced k s (seen c)) s.progress s (seen c) heap.places
-  pub closing : HasClosingRoom c.progress (length c.mutators.items)
   pub sweeper : Sweeps s.progress s c
   pub named : AreNamed (layout_of (plan_of script)) c.names s.allocation
 

@@ -30,7 +30,7 @@ use Rattle.nmgc_cycle.specs.declared.collector.Collector.{Collector}
 use Rattle.nmgc_cycle.specs.declared.progress.Progress.TheVariants as doing
 use Rattle.nmgc_cycle.specs.declared.stop.StopEnd.{StopEnd}
 use Rattle.nmgc_cycle.specs.declared.stop.StopEnd.TheVariants as answer
-use Rattle.nmgc_cycle.specs.Roots.{AreGivenBack}
+use Rattle.nmgc_cycle.specs.Roots.{promoted_by}
 use Rattle.nmgc_cycle.specs.Shown.{words_in}
 
 -- words, segments and mutators of the collector stand for the heap at a stop
@@ -59,18 +59,16 @@ pub record HasPromoted (old new : Collector) : Type 0 where
   }
   pub has_words : IsSome new.words
   pub noted : HaveNoted (moves_of new) old.names new.names
-  pub registers : List ℕ
-  pub queues : List FinQueue
-  pub given : AreGivenBack registers queues old.mutators.items new.mutators.items
-  pub settled : (t : Stopped) → StandsStopped t old → IsSettled t new.segments (words_in new.words) registers (map (λ (queue : FinQueue).
-      queue.words) queues) (moves_of new)
+  pub forward : ℕ → ℕ
+  pub held : new.mutators.items ≡ map (promoted_by forward) old.mutators.items
+  pub settled : (t : Stopped) → StandsStopped t old →
+      IsSettled t new.segments (words_in new.words) (registers_of new.mutators.items) (queues_of new.mutators.items) (moves_of new)
   pub places : (t : Stopped) → StandsStopped t old → (a : AllocState) → StandsFor old.segments (words_in old.words) a → (b : AllocState) ×
       PlacesEach old.segments.layout t.world a (moved_names new) b × StandsFor new.segments (words_in new.words) b
   pub sound : IsSegments new.segments
   pub marks : KeepsMarks old.segments new.segments
   pub layout : new.segments.layout ≡ old.segments.layout
   pub lists : IsFor old.segments.layout new.promotion
-  pub spares : map (λ (queue : FinQueue). queue.spare) queues ≡ map (λ (m : Mutator). m.queue.spare) old.mutators.items
   pub copied : HaveMoved (young_base old.segments) (moves_of new) (words_in old.words) (words_in new.words)
 
 -- the list is that of the weak pointers that were alive as the round began, and the round made none of these anew

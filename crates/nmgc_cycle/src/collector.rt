@@ -38,7 +38,7 @@ use crate::names::put_rows_in_order;
 use crate::progress::Progress;
 use crate::stop::StopEnd;
 use nmgc_alloc::Segments;
-use nmgc_graph::{Kind, List, Name, NoMemory, Place, SHARED_SLOTS};
+use nmgc_graph::{Kind, List, Name, NoMemory, Place, Placed, SHARED_SLOTS};
 use nmgc_journal::{CycleRow, End, FinalWords, MutatorEnd, Report, RoundRows, StopRow};
 use nmgc_minor::Promotion;
 use nmgc_mutator::Mutator;
@@ -156,13 +156,14 @@ fn new_mutators(alloc: Global, layout: Layout) -> Result<(Vec<Mutator>, Inbox), 
     ensures unsent { IfOk result (λ made. (k : ℕ) (m : MutatorShown) → slice_get made.0.items k ≡ Some m → m.sender.since ≡ []) }
 {
     let mut mutators = Vec::with_capacity(alloc, layout.mutators as usize)?;
-    let mut receivers = List::new(alloc);
+    let place = Place::new(alloc)?;
+    let mut receivers = Vec::with_capacity(alloc, layout.mutators as usize)?;
     for number in 0..layout.mutators {
         let (sender, receiver) = link(alloc)?;
         mutators.push(Mutator::new(alloc, number, layout, sender)?)?;
         receivers.push(receiver)?;
     }
-    Ok((mutators, Inbox::new(receivers)))
+    Ok((mutators, Inbox::new(Placed::of(receivers, place))))
 }
 
 // The words of a new run, in their table. The list that they are copied from is given back.
@@ -347,7 +348,7 @@ fn end_of(mutator: Mutator) -> MutatorEnd
         ..
     } = mutator;
     MutatorEnd {
-        registers,
+        registers: registers.into_list(),
         queue: queue.into_list(queue_place),
         serial,
     }

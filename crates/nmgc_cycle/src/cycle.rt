@@ -10,14 +10,13 @@
 //! Easy to get wrong: the marker gets what the mutators remember at each stop while it marks, also where the cycle
 //! goes on, and before it is asked whether the cycle is to be closed. The closing itself goes by what the last work
 //! answered: what was just added is scanned by the closing.
-ghost use Rattle.std.specs.Prelude.{ℕ, ◌≡◌, ◌↔◌, ◌+◌, ◌*◌, ◌<◌, ◌≤◌, ◌^◌, All, IfOk, IfSome, IfNone, OnOk, IsSome, IsTrue, Some, length, slice_get};
-ghost use Rattle.nmgc_limits.specs.declared.mutators.TheConstants.{MAKERS};
+ghost use Rattle.std.specs.Prelude.{ℕ, ◌≡◌, ◌↔◌, ◌+◌, ◌*◌, ◌<◌, ◌≤◌, ◌^◌, IfOk, IfSome, IfNone, OnOk, IsSome, IsTrue, Some, length, slice_get};
 ghost use Rattle.nmgc_object.specs.declared.layout.TheConstants.{FIRST_PLACE};
 ghost use Rattle.nmgc_alloc.specs.Segments.{IsSegments};
 ghost use Rattle.nmgc_run.specs.Marker.{HasRoomToMark};
 ghost use Rattle.nmgc_run.specs.Marks.{epoch_of as epoch_by};
 ghost use Rattle.nmgc_segment.specs.Marks.{IsEpoch};
-ghost use Rattle.nmgc_cycle.specs.Roots.{HasRegisters, queues_in};
+ghost use Rattle.nmgc_cycle.specs.Roots.{queues_in};
 ghost use Rattle.nmgc_cycle.specs.Shown.{words_in};
 ghost use Rattle.nmgc_updrem.specs.Lines.{TakesRestSo, IsLevelSo};
 ghost use Rattle.nmgc_updrem.specs.Rings.{AtLine};
@@ -27,7 +26,7 @@ ghost use Rattle.nmgc_cycle.specs.Lined.{IsLined, IsPaired, AnyLine, HasForgotte
 ghost use Rattle.nmgc_cycle.specs.Cycles.{remembered_by, CanAdd, HasAdded, HasTaken, CanClose, Closes, HasClosed, IsClosed, IsReadyToClose, row_of as row_shown, IsSwept, Ends, IsDue, CanBegin, StartsMarking, HasStarted, Begins};
 
 use crate::progress::{Marking, Progress, Sweeping};
-use crate::{Collector, roots, weaks};
+use crate::{Collector, weaks};
 use nmgc_alloc::Segments;
 use nmgc_graph::{List, Name, NoMemory};
 use nmgc_journal::CycleRow;
@@ -180,19 +179,13 @@ impl Collector {
             mut marker,
             last: _,
             mut sweeper,
-            queues,
         } = marking;
         let Some(words) = &mut self.words else {
             unreachable!()
         };
         marker.finish(words, &mut self.segments);
         self.weaks.resolve(&mut marker, words, &mut self.segments);
-        weaks::queue_all(
-            self.alloc,
-            self.weaks.deaths(),
-            self.mutators.as_mut_slice(),
-            queues,
-        );
+        weaks::queue_all(self.weaks.deaths(), self.mutators.as_mut_slice());
         let _ = self.segments.layout();
         self.segments.carry(marker.epoch());
         sweeper.turns = marker.turns;
@@ -246,8 +239,6 @@ impl Collector {
     pub(crate) fn begin(&mut self, trigger: u32, stop: u32) -> Result<(), NoMemory>
         requires words { IsSome self.old.words }
         requires inside { FIRST_PLACE ≤ length (words_in self.old.words) }
-        requires few { length self.old.mutators.items ≤ MAKERS }
-        requires whole { All HasRegisters self.old.mutators.items }
         requires number { self.old.begun + 1 < 2 ^ 32 }
         requires can { IsDue trigger self.old → CanBegin self.old }
         ensures { OnOk result (Begins trigger stop self.old self.new) }
@@ -262,8 +253,6 @@ impl Collector {
     pub(crate) fn start(&mut self, stop: u32) -> Result<(), NoMemory>
         requires words { IsSome self.old.words }
         requires inside { FIRST_PLACE ≤ length (words_in self.old.words) }
-        requires few { length self.old.mutators.items ≤ MAKERS }
-        requires whole { All HasRegisters self.old.mutators.items }
         requires number { self.old.begun + 1 < 2 ^ 32 }
         requires can { CanBegin self.old }
         ensures { OnOk result (HasStarted stop self.old self.new) }
@@ -279,15 +268,12 @@ impl Collector {
     fn start_marking(&mut self, stop: u32) -> Result<Marking, NoMemory>
         requires words { IsSome self.old.words }
         requires inside { FIRST_PLACE ≤ length (words_in self.old.words) }
-        requires few { length self.old.mutators.items ≤ MAKERS }
-        requires whole { All HasRegisters self.old.mutators.items }
         requires number { self.old.begun + 1 < 2 ^ 32 }
         requires can { CanBegin self.old }
         ensures { IfOk result (λ marking. StartsMarking stop self.old self.new marking) }
     {
         let epoch = epoch_of(self.begun + 1);
         self.segments.prepare();
-        let roots = roots::taken(self.alloc, self.mutators.as_mut_slice())?;
         let Some(words) = &mut self.words else {
             unreachable!()
         };
@@ -296,14 +282,11 @@ impl Collector {
             self.alloc,
             words,
             &mut self.segments,
-            roots.registers.items(),
-            roots.queues.items(),
+            self.mutators.as_slice(),
             epoch,
         )?;
         let _ = self.segments.layout();
-        roots::give_back(self.mutators.as_mut_slice(), roots);
         weaks::reserve_queues(self.mutators.as_mut_slice(), self.weaks.list())?;
-        let queues = Vec::with_capacity(self.alloc, self.mutators.len())?;
         marker.turns = self.turns;
         sweeper.turns = self.turns;
         sweeper.upper_turns = self.upper_turns;
@@ -315,7 +298,6 @@ impl Collector {
                 empty: false,
             },
             sweeper,
-            queues,
         })
     }
 }

@@ -31,7 +31,6 @@ mod full;
 mod leading;
 mod names;
 mod progress;
-mod roots;
 mod round;
 mod stop;
 mod weaks;

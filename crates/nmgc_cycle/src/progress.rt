@@ -16,7 +16,6 @@ ghost use Rattle.nmgc_cycle.specs.Cycles.{CanHelp, HasHelped};
 use nmgc_alloc::Segments;
 use nmgc_journal::Phase;
 use nmgc_mark::{Marker, Work};
-use nmgc_object::FinQueue;
 use nmgc_round::{CollectorSeat, Gate, Round};
 use nmgc_sweep::{Names, Sweeper};
 use nmgc_updrem::Inbox;
@@ -32,8 +31,6 @@ pub struct Marking {
     pub last: Work,
     /// It noted, as the cycle began, which segments are to be swept.
     pub sweeper: Sweeper,
-    /// Empty, with room for the finaliser queues of all mutators: the closing has them in hand, and takes no memory.
-    pub queues: Vec<FinQueue>,
 }
 
 /// A cycle that was closed, and is sweeping.

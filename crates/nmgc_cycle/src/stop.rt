@@ -1,7 +1,7 @@
 //! A stop: what the round made is promoted, a cycle is led on, and the stop tells its row.
 //!
-//! The mutators stand still, so the words are read and written plainly. Roots and recorded fields are taken off the
-//! mutators (`roots`), promoted, and given back; then the nurseries are empty, and of the round only what the mutators
+//! The mutators stand still, so the words are read and written plainly, and what mutators hold is read and changed where
+//! it lies: roots and recorded fields are promoted, the nurseries are empty then, and of the round only what the mutators
 //! remember is left. That goes to the marker; then a cycle may be closed, one may end, and one may begin (`cycle`), or
 //! a full cycle is done in its place (`full`).
 //! After each of these steps the collector stands for a state of the run at this stop (`specs/Steps.antt`), and
@@ -13,20 +13,19 @@
 //! Easy to get wrong: fewer free segments than the reserve end a run only while commands are left, and only where a full
 //! cycle at this stop left it so. And where no commands are left, the run goes on as long as a cycle is in progress,
 //! since its row is still to be told.
-ghost use Rattle.std.specs.Prelude.{ℕ, ◌≡◌, ◌↔◌, ◌^◌, ◌<◌, [], ◌∷◌, ◌++◌, All, IfOk, OnOk, IsSome, IsTrue, length};
+ghost use Rattle.std.specs.Prelude.{ℕ, ◌≡◌, ◌↔◌, ◌^◌, ◌<◌, [], ◌∷◌, ◌++◌, IfOk, OnOk, IsSome, IsTrue, length};
 ghost use Rattle.nmgc_blocks.specs.Stopped.{Stopped};
 ghost use Rattle.nmgc_minor.specs.Promotion.{IsFor};
 ghost use Rattle.nmgc_cycle.specs.Limits.{IsInLimits};
-ghost use Rattle.nmgc_cycle.specs.Roots.{HasRegisters};
 ghost use Rattle.nmgc_cycle.specs.Shown.{turns_of, upper_turns_of};
 ghost use Rattle.nmgc_cycle.specs.declared.stop.StopEnd.TheVariants as answer;
 ghost use Rattle.nmgc_sweep.specs.Names.{HaveEntries};
 ghost use Rattle.nmgc_cycle.specs.Keeps.{CanStop, HasAnswered, StopsAfter};
 ghost use Rattle.nmgc_cycle.specs.Stopping.{StandsStopped, CanList, HasListed, HasPromoted, SomeIsLeft, IsDone, IsHeapFullAt, ended_by};
 
+use crate::Collector;
 use crate::leading::a_stop_leads;
 use crate::names::note_moves;
-use crate::{Collector, roots};
 use nmgc_beside::laws::the_list_is_joined;
 use nmgc_graph::NoMemory;
 use nmgc_journal::{End, Phase, StopRow};
@@ -57,10 +56,10 @@ impl Collector {
     /// died, where a cycle was closed. A full cycle sweeps in two halves, each in a thread of its own. The collector
     /// passes no gate here, and hands on how often it did.
     ///
-    /// Takes memory for the roots and the recorded fields, for weak pointers that join the list, for the row of a cycle that
-    /// ends, and where one begins for its marker's queue, its sweeper's lists and room in the finaliser queues. Takes time
-    /// for what is promoted, the roots, the list of weak pointers, the recorded and the remembered fields and the number of
-    /// segments; at a closing for what is left to scan, for the list once for each pass over it, and for the mark bytes of
+    /// Takes memory for weak pointers that join the list, for the row of a cycle that ends, and where one begins for its
+    /// marker's queue, its sweeper's lists and room in the finaliser queues. Takes time for what is promoted, the roots, the
+    /// list of weak pointers, the recorded and the remembered fields and the number of segments; at a closing for
+    /// what is left to scan, for the list once for each pass over it, and for the mark bytes of
     /// the segments in use that don't wait to be swept; a full cycle takes time for all that is reached and for every
     /// block. After `NoMemory` nothing is known of the collector.
     pub fn stop<R: Threads + Sync>(&mut self, rt: &R, script: &Script) -> Result<StopEnd, NoMemory>
@@ -119,7 +118,6 @@ impl Collector {
     // Promotes what the round made, and answers how many objects moved. Weak pointers that were finalised in the round leave
     // the list, and those that moved and are alive join it.
     fn promote(&mut self) -> Result<u32, NoMemory>
-        requires whole { All HasRegisters self.old.mutators.items }
         requires words { IsSome self.old.words }
         requires lists { IsFor self.old.segments.layout self.old.promotion }
         requires entries { HaveEntries self.old.segments.layout self.old.names }
@@ -131,40 +129,27 @@ impl Collector {
         the_list_is_left();
         the_list_is_joined();
         self.leave();
-        self.move_promoted()?;
+        self.move_promoted();
         self.join()?;
         Ok(self.promotion.moves().len() as u32)
     }
 
-    // Moves what is promoted, and notes its names.
-    fn move_promoted(&mut self) -> Result<(), NoMemory>
-        requires whole { All HasRegisters self.old.mutators.items }
+    // Moves what is promoted, and notes its names. Takes no memory.
+    fn move_promoted(&mut self)
         requires words { IsSome self.old.words }
         requires lists { IsFor self.old.segments.layout self.old.promotion }
         requires entries { HaveEntries self.old.segments.layout self.old.names }
         requires stopped { (t : Stopped) × StandsStopped t self.old }
-        ensures promoted { OnOk result (HasPromoted self.old self.new) }
-        ensures weaks { OnOk result (self.new.weaks ≡ self.old.weaks) }
-        ensures few { OnOk result (length self.new.promotion.moves < 2 ^ 32) }
+        ensures promoted { HasPromoted self.old self.new }
+        ensures weaks { self.new.weaks ≡ self.old.weaks }
+        ensures few { length self.new.promotion.moves < 2 ^ 32 }
     {
-        let mut roots = roots::taken(self.alloc, self.mutators.as_mut_slice())?;
-        let mut nurseries = roots::nurseries(self.alloc, self.mutators.as_slice())?;
-        let recorded = roots::recorded(self.alloc, self.mutators.as_slice())?;
-        let young = roots::young_weaks(self.alloc, self.mutators.as_slice())?;
         let Some(words) = &mut self.words else {
             unreachable!()
         };
-        self.promotion.promote(
-            words,
-            &mut self.segments,
-            nurseries.as_mut_slice(),
-            &mut roots,
-            recorded.as_slice(),
-            young.as_slice(),
-        );
+        self.promotion
+            .promote(words, &mut self.segments, self.mutators.as_mut_slice());
         note_moves(&mut self.names, self.promotion.moves());
-        roots::give_back(self.mutators.as_mut_slice(), roots);
-        Ok(())
     }
 }
 

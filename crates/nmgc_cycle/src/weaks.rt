@@ -7,15 +7,15 @@
 //! Easy to get wrong: of a weak pointer that was finalised in the round nobody need speak once the promotion is done, and
 //! then its words mean nothing. So those leave before the promotion, while the world as the round began is still
 //! spoken of; the others join after it, at their new places.
-ghost use Rattle.std.specs.Prelude.{ℕ, ◌≡◌, ◌≢◌, ◌+◌, ◌<◌, ◌≤◌, ◌^◌, [], length, map, vec_len, vec_capacity, Contains, IfOk, OnOk, IsSome, IsTrue};
+ghost use Rattle.std.specs.Prelude.{ℕ, ◌≡◌, ◌≢◌, ◌+◌, ◌<◌, ◌≤◌, ◌^◌, length, Contains, IfOk, OnOk, IsSome, IsTrue};
 ghost use Rattle.nmgc_graph.specs.Reach.{IsInOrder};
 ghost use Rattle.nmgc_object.specs.declared.size.TheConstants.{HEADER_WORDS};
 ghost use Rattle.nmgc_weak.specs.Queues.{HaveRoom};
 ghost use Rattle.nmgc_weak.specs.Weaks.{AreInside, names_of};
 ghost use Rattle.nmgc_weak.specs.declared.weaks.OldWeak.{OldWeak as Old};
-ghost use Rattle.nmgc_cycle.specs.Roots.{queues_in, without_queue};
+ghost use Rattle.nmgc_cycle.specs.Roots.{queues_in};
 ghost use Rattle.nmgc_cycle.specs.Shown.{died, words_in};
-ghost use Rattle.nmgc_cycle.specs.Listed.{is_alive_at, moved_weaks, AreMovedInside, CanJoin, IsMergeOf, FinalisedLeft, MovedJoined, count_made_by, HasQueueRoom, HaveQueueRoom, HaveQueues, FinalisersQueued};
+ghost use Rattle.nmgc_cycle.specs.Listed.{is_alive_at, moved_weaks, AreMovedInside, CanJoin, IsMergeOf, FinalisedLeft, MovedJoined, count_made_by, HasQueueRoom, HaveQueueRoom, FinalisersQueued};
 
 use crate::Collector;
 use nmgc_graph::{Kind, List, Name, NoMemory};
@@ -23,10 +23,9 @@ use nmgc_heap::HeapWords;
 use nmgc_minor::Move;
 use nmgc_mutator::Mutator;
 use nmgc_object::words::encode_header;
-use nmgc_object::{Address, FinQueue, HEADER_WORDS, Header};
+use nmgc_object::{Address, HEADER_WORDS, Header};
 use nmgc_weak::{Death, OldWeak, Weaks, queue_finalisers};
 use std::alloc::Global;
-use std::mem;
 
 // Whether by its words a weak pointer stands at a place that is alive.
 fn is_alive<W: HeapWords>(words: &mut W, at: Address) -> bool
@@ -39,9 +38,8 @@ fn is_alive<W: HeapWords>(words: &mut W, at: Address) -> bool
         tag: 0,
         fields: 3,
     });
-    let found = words.load(at.0 as usize);
-    let value = words.load(at.0 as usize + HEADER_WORDS as usize + 1);
-    found == header && value != 0
+    words.load(at.0 as usize) == header
+        && words.load(at.0 as usize + HEADER_WORDS as usize + 1) != 0
 }
 
 // Of what moved, the weak pointers that are alive, at their new places, in order of names.
@@ -134,48 +132,12 @@ pub fn reserve_queues(mutators: &mut [Mutator], list: &[OldWeak]) -> Result<(), 
     Ok(())
 }
 
-// Takes the queues off the mutators, into a list that has room for them.
-fn take_queues(alloc: Global, mutators: &mut [Mutator], room: Vec<FinQueue>) -> Vec<FinQueue>
-    requires empty { room.items ≡ [] }
-    requires room { length mutators.old ≤ vec_capacity room }
-    ensures taken { result.items ≡ queues_in mutators.old }
-    ensures left { mutators.new ≡ map without_queue mutators.old }
-{
-    let mut queues = room;
-    for mutator in mutators.iter_mut() {
-        queues.push_reserved(mem::replace(&mut mutator.queue, FinQueue::new(alloc)));
-    }
-    queues
-}
-
-// The mutator gets this queue.
-fn give_queue(mutator: &mut Mutator, queue: &mut FinQueue)
-    ensures { mutator.new ≡ record mutator.old { queue = queue.old } }
-{
-    mem::swap(&mut mutator.queue, queue);
-}
-
-// The mutators get these queues.
-fn give_queues(mutators: &mut [Mutator], queues: &mut [FinQueue])
-    requires { length queues.old ≡ length mutators.old }
-    ensures { HaveQueues queues.old mutators.old mutators.new }
-{
-    for (number, mutator) in mutators.iter_mut().enumerate() {
-        give_queue(mutator, &mut queues[number]);
-    }
-}
-
-/// The finalisers of those that died join the queues of their makers. `room` is an empty list with room for the
-/// queues of all mutators, which are in it for the time of the call. Takes no memory.
-pub fn queue_all(alloc: Global, deaths: &[Death], mutators: &mut [Mutator], room: Vec<FinQueue>)
-    requires empty { room.items ≡ [] }
-    requires room { length mutators.old ≤ vec_capacity room }
-    requires queues { HaveRoom deaths.now (queues_in mutators.old) }
+/// The finalisers of those that died join the queues of their makers, where they lie. Takes no memory.
+pub fn queue_all(deaths: &[Death], mutators: &mut [Mutator])
+    requires { HaveRoom deaths.now (queues_in mutators.old) }
     ensures { FinalisersQueued deaths.now mutators.old mutators.new }
 {
-    let mut queues = take_queues(alloc, mutators, room);
-    queue_finalisers(deaths, queues.as_mut_slice());
-    give_queues(mutators, queues.as_mut_slice());
+    queue_finalisers(deaths, mutators);
 }
 
 /// The names of those that died, in order.

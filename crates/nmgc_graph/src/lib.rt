@@ -27,7 +27,7 @@ pub use command::{Command, Operand, Reply};
 pub use marks::Marks;
 pub use mutator_state::MutatorState;
 pub use nmgc_limits::{MAKERS, REGISTERS, SHARED_MAKER, SHARED_SLOTS};
-pub use nmgc_lists::{List, NoMemory, Place, Queue, Room};
+pub use nmgc_lists::{List, NoMemory, Place, Placed, Queue, Room};
 pub use node::{Kind, Node, Parts};
 pub use value::{Name, Value};
 pub use world::World;

@@ -1,5 +1,5 @@
 -- The two small heaps: each word is as it is said to be.
-use Rattle.std.proofs.Common.{◌≡◌, inl, inr, ℕ, zero, suc, ◌+◌, ◌*◌, ◌<◌, List, [], ◌∷◌, ◌++◌, length, map, replicate, refl, sym, ap, subst, ◌∙◌, arith, slice_index, Option, Some, lit≤, lit<}
+use Rattle.std.proofs.Common.{◌-◌, ◌≡◌, inl, inr, ℕ, zero, suc, ◌+◌, ◌*◌, ◌<◌, List, [], ◌∷◌, ◌++◌, length, map, replicate, refl, sym, ap, subst, ◌∙◌, arith, slice_index, Option, Some, lit≤, lit<}
 use Rattle.std.specs.Prelude.{slice_get, Contains}
 use Rattle.std.proofs.lemmas.Option.{slice_get-get_or}
 use Rattle.nmgc_graph.specs.declared.value.Name.{Name}
@@ -85,10 +85,10 @@ one_object rest count = (represents, roots, listed)
         ((refl, (lit< tt, lit≤ tt), lit≤ tt, refl, (refl, tt), refl), tt)
         none_earlier
 
-    roots : RepresentsRoots (places_of object_serials) object_world (64 ∷ 13 ∷ 13 ∷ replicate 61 1) ([] ∷ []) (1 ∷ [])
+    roots : RepresentsRoots (places_of object_serials) object_world (64 ∷ 13 ∷ 13 ∷ replicate (REGISTERS - 3) 1) ([] ∷ []) (1 ∷ [])
     roots = roots_of (places_of object_serials) object_world (64 ∷ 13 ∷ 13 ∷
-        replicate 61 1) 1 refl refl refl refl (rows_mean (Contains (places_of object_serials)) (64 ∷ 13 ∷ 13 ∷
-        replicate 61 1) object_state.registers ((32, refl, (1, lit< tt, refl)), (refl, (refl, fills_nil (Contains (places_of object_serials)) 61))))
+        replicate (REGISTERS - 3) 1) 1 refl refl refl refl (rows_mean (Contains (places_of object_serials)) (64 ∷ 13 ∷ 13 ∷
+        replicate (REGISTERS - 3) 1) object_state.registers ((32, refl, (1, lit< tt, refl)), (refl, (refl, fills_nil (Contains (places_of object_serials)) (REGISTERS - 3)))))
 
     listed : ListsWeaks small_layout (places_of object_serials) object_world []
     listed = record {
@@ -188,12 +188,12 @@ snapshot_stands rest count = (represents, roots)
         )
         none_earlier
 
-    roots : RepresentsRoots (places_of chain_serials) snapshot (72 ∷ 13 ∷ 1 ∷ 184 ∷ replicate 60 1) ([] ∷ []) (16 ∷ [])
+    roots : RepresentsRoots (places_of chain_serials) snapshot (72 ∷ 13 ∷ 1 ∷ 184 ∷ replicate (REGISTERS - 4) 1) ([] ∷ []) (16 ∷ [])
     roots = roots_of (places_of chain_serials) snapshot (72 ∷ 13 ∷ 1 ∷ 184 ∷
-        replicate 60 1) 16 refl refl refl refl (rows_mean (Contains (places_of chain_serials)) (72 ∷ 13 ∷ 1 ∷ 184 ∷
-        replicate 60 1) snapshot_state.registers (
+        replicate (REGISTERS - 4) 1) 16 refl refl refl refl (rows_mean (Contains (places_of chain_serials)) (72 ∷ 13 ∷ 1 ∷ 184 ∷
+        replicate (REGISTERS - 4) 1) snapshot_state.registers (
           (36, refl, (2, lit< tt, refl)),
-          (refl, (refl, ((92, refl, (16, lit< tt, refl)), fills_nil (Contains (places_of chain_serials)) 60))),
+          (refl, (refl, ((92, refl, (16, lit< tt, refl)), fills_nil (Contains (places_of chain_serials)) (REGISTERS - 4)))),
         ))
 
 -- no thunk waits in the snapshot

@@ -1,5 +1,6 @@
 pub mod Changes
 pub mod Commands
+pub mod Emptied
 pub mod Moves
 pub mod Places
 pub mod Represents

@@ -7,7 +7,8 @@
 //! what it knows of its objects between two steps, by definitions of its own.
 //!
 //! `laws` has what holds of them for all worlds and words. `heap_words` has the words themselves, one at
-//! a time: a list's, or those of the table that a run keeps.
+//! a time: a list's, or those of the table that a run keeps. `mutator_roots` has what a mutator holds outside
+//! the words, where it lies.
 //!
 //! Easy to get wrong: a word means nothing by itself. A pointer means the name of the object at its place,
 //! and a field of an object of which nobody speaks may hold any word at all.
@@ -15,5 +16,7 @@
 
 pub mod heap_words;
 pub mod laws;
+pub mod mutator_roots;
 
 pub use heap_words::HeapWords;
+pub use mutator_roots::MutatorRoots;

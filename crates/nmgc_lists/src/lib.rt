@@ -1,6 +1,6 @@
 //! Growing lists with one answer for want of memory: `NoMemory`.
 //!
-//! These are the small types that all crates share. `List` and `Queue` are lists to contracts; a `Room` has items and
+//! These are the small types that all crates share. `List`, `Placed` and `Queue` are lists to contracts; a `Room` has items and
 //! room for more, so that what mustn't fail in a round can't.
 #![tactic(auto)]
 
@@ -8,10 +8,12 @@ mod cells;
 mod few;
 pub mod list;
 pub mod memory;
+pub mod placed;
 pub mod queue;
 pub mod room;
 
 pub use list::{List, Place};
 pub use memory::NoMemory;
+pub use placed::Placed;
 pub use queue::Queue;
 pub use room::Room;

@@ -3,7 +3,7 @@
 //! Parts of the collector may not fail half way: they reserve room while failing is still harmless,
 //! and add items later, where no memory may be taken. So contracts see two things of a room, its
 //! items, and for how many more there is room. Only adding an item uses room up, one for each.
-ghost use Rattle.std.specs.Prelude.{◌≡◌, ◌+◌, ◌<◌, ◌≤◌, [], ◌∷◌, ◌++◌, length, OnOk, OnErr};
+ghost use Rattle.std.specs.Prelude.{◌≡◌, ◌+◌, ◌<◌, ◌≤◌, [], ◌∷◌, ◌++◌, length, OnOk, OnErr, IfSome, IfNone};
 
 use crate::NoMemory;
 use std::alloc::Global;
@@ -62,6 +62,15 @@ impl<T> Room<T> {
         ensures spare { self.new.spare + 1 ≡ self.old.spare }
     {
         self.items.push_reserved(item);
+    }
+
+    /// Takes the last item off. `None` comes exactly where there is none. Its room comes back. Takes no memory, and constant
+    /// time.
+    pub fn take_last(&mut self) -> Option<T>
+        ensures some { IfSome result (λ item. (self.old.items ≡ self.new.items ++ item ∷ []) × (self.new.spare ≡ self.old.spare + 1)) }
+        ensures none { IfNone result ((self.old.items ≡ []) × (self.new ≡ self.old)) }
+    {
+        self.items.pop()
     }
 
     /// The items in order.

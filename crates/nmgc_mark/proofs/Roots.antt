@@ -7,7 +7,6 @@ use Rattle.nmgc_graph.specs.declared.mutator_state.MutatorState.{MutatorState}
 use Rattle.nmgc_graph.specs.Step.{shared_name}
 use Rattle.nmgc_graph.specs.Reach.{strong_fields}
 use Rattle.nmgc_graph.specs.laws.Orders.{contains_head, contains_cases}
-use Rattle.nmgc_reach.specs.laws.ItemLaws.{contains_flat}
 use Rattle.nmgc_object.specs.FinQueue.{FinQueue}
 use Rattle.nmgc_object.specs.Places.{word_total}
 use Rattle.nmgc_object.specs.Size.{block_size}
@@ -139,11 +138,3 @@ blank_tied o s epoch spare words registers queues sound h = record {
   queue = tt;
   count = refl;
 }
-
-flat_has : (queues : List FinQueue) (q : FinQueue) (w : ℕ) → Contains queues q → Contains q.words w → Contains (flat_map (λ (x : FinQueue). x.words) queues) w
-flat_has queues q w a b = contains_flat (λ (x : FinQueue). x.words) queues q w a b
-
-pub flat_small : (o : Opening) (queues : List FinQueue) (values : List Value) → AreApart o.layout o.places →
-    ListMeans (Contains o.places) (flat_map (λ (q : FinQueue). q.words) queues) values → (q : FinQueue) (w at : ℕ) → Contains queues q →
-    Contains q.words w → w ≡ 2 * at → at + 2 ≤ word_total o.layout
-flat_small o queues values h means q w at a b e = words_small o (flat_map (λ (x : FinQueue). x.words) queues) values h means w at (flat_has queues q w a b) e

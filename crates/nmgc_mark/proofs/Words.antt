@@ -1,6 +1,7 @@
 -- Words and places that are marked one after another.
-use Rattle.std.proofs.Common.{◌≡◌, ℕ, zero, suc, ◌+◌, ◌<◌, ◌≤◌, List, [], ◌∷◌, ◌++◌, length, refl, sym, ap, ◌∙◌, arith, take, drop, get_or, length-drop}
-use Rattle.std.proofs.lemmas.List.{get_or-take, get_or-drop, length-take-le}
+use Rattle.std.proofs.Common.{◌≡◌, ℕ, zero, suc, ◌+◌, ◌<◌, ◌≤◌, List, [], ◌∷◌, ◌++◌, length, map, refl, sym, ap, ◌∙◌, arith, take, drop, get_or, length-drop, append-nil}
+use Rattle.std.proofs.lemmas.List.{get_or-take, get_or-drop, length-take-le, take_more, map-append}
+use Rattle.std.proofs.lemmas.List.Concat.{flat_map-append}
 use Rattle.std.specs.List.{flat_map}
 use Rattle.nmgc_object.specs.declared.words.Address.{Address}
 use Rattle.nmgc_object.specs.FinQueue.{FinQueue}
@@ -26,14 +27,6 @@ words_more o m (x ∷ xs) (suc i) lt =
     let z : suc i + 1 ≡ suc (i + 1) = omega arith in
     ap (λ n. with_words o m (take n (x ∷ xs))) z ∙ words_more o (with_name o.core.snapshot m (name_meant o.places x)) xs i (omega arith)
 
-pub queues_more : (o : Opening) (m : Marks) (xs : List FinQueue) (i : ℕ) (d : FinQueue) → i < length xs →
-    with_queues o m (take (i + 1) xs) ≡ with_words o (with_queues o m (take i xs)) (get_or xs i d).words
-queues_more o m [] i d lt = absurd (omega arith)
-queues_more o m (x ∷ xs) zero d lt = refl
-queues_more o m (x ∷ xs) (suc i) d lt =
-    let z : suc i + 1 ≡ suc (i + 1) = omega arith in
-    ap (λ n. with_queues o m (take n (x ∷ xs))) z ∙ queues_more o (with_words o m x.words) xs i d (omega arith)
-
 pub words_append : (o : Opening) (m : Marks) (xs ys : List ℕ) → with_words o m (xs ++ ys) ≡ with_words o (with_words o m xs) ys
 words_append o m [] ys = refl
 words_append o m (x ∷ xs) ys = words_append o (with_name o.core.snapshot m (name_meant o.places x)) xs ys
@@ -41,6 +34,26 @@ words_append o m (x ∷ xs) ys = words_append o (with_name o.core.snapshot m (na
 pub queues_flat : (o : Opening) (m : Marks) (qs : List FinQueue) → with_queues o m qs ≡ with_words o m (flat_map (λ (q : FinQueue). q.words) qs)
 queues_flat o m [] = refl
 queues_flat o m (q ∷ qs) = queues_flat o (with_words o m q.words) qs ∙ sym (words_append o m q.words (flat_map (λ (q : FinQueue). q.words) qs))
+
+-- with the next item, what all of them have
+pub flat_more : {A : Type 0} (f : A → List ℕ) (xs : List A) (i : ℕ) (x : A) → i < length xs → x ≡ get_or xs i x →
+    flat_map f (take (i + 1) xs) ≡ flat_map f (take i xs) ++ f x
+flat_more {A} f xs i x lt is =
+    ap (λ (l : List A). flat_map f l) (take_more xs i x lt ∙ ap (λ (y : A). take i xs ++ y ∷ []) (sym is))
+    ∙ flat_map-append f (take i xs) (x ∷ [])
+    ∙ ap (λ (l : List ℕ). flat_map f (take i xs) ++ l) (append-nil (f x))
+
+last_queue : (o : Opening) (m : Marks) (qs : List FinQueue) (q : FinQueue) → with_queues o m (qs ++ q ∷ []) ≡ with_words o (with_queues o m qs) q.words
+last_queue o m [] q = refl
+last_queue o m (x ∷ xs) q = last_queue o (with_words o m x.words) xs q
+
+-- with the next mutator's queue
+pub queues_more : {A : Type 0} (f : A → FinQueue) (o : Opening) (m : Marks) (xs : List A) (i : ℕ) (x : A) → i < length xs → x ≡ get_or xs i x →
+    with_queues o m (map f (take (i + 1) xs)) ≡ with_words o (with_queues o m (map f (take i xs))) (f x).words
+queues_more {A} f o m xs i x lt is =
+    ap (λ (l : List A). with_queues o m (map f l)) (take_more xs i x lt ∙ ap (λ (y : A). take i xs ++ y ∷ []) (sym is))
+    ∙ ap (λ (l : List FinQueue). with_queues o m l) (map-append f (take i xs) (x ∷ []))
+    ∙ last_queue o m (map f (take i xs)) (f x)
 
 -- a slot of g is a word of the heap
 pub slot_word : (words : List ℕ) (i : ℕ) → i < 16 → get_or (slots_of words) i 0 ≡ get_or words (3 + i) 0

@@ -23,6 +23,10 @@ use Rattle.nmgc_mark.specs.Tie.{IsRightSnapshot}
 abbrev pub slots_of : List ℕ → List ℕ
 slots_of words = take SHARED_SLOTS (drop (SHARED_PLACE + HEADER_WORDS) words)
 
+-- the words of all finaliser queues, one after another
+abbrev pub queue_words : List FinQueue → List ℕ
+queue_words queues = flat_map (λ (q : FinQueue). q.words) queues
+
 -- no more blocks than these can be in use
 abbrev pub most_blocks : Layout → ℕ
 most_blocks layout = layout.segments * layout.words / MIN_BLOCK_WORDS
@@ -33,8 +37,7 @@ pub record IsBeginning (o : Opening) (s : Segments) (epoch : ℕ) (words registe
   pub shared : Contains o.places shared_place
   pub unmarked : (at : ℕ) → IsMarkedAt s epoch at → ⊥
   pub registers_are : ListMeans (Contains o.places) registers (flat_map (λ (state : MutatorState). state.registers) o.core.snapshot.mutators)
-  pub queues_are : ListMeans (Contains o.places) (flat_map (λ (q : FinQueue). q.words) queues) (flat_map (λ (state : MutatorState).
-      state.queue) o.core.snapshot.mutators)
+  pub queues_are : ListMeans (Contains o.places) (queue_words queues) (flat_map (λ (state : MutatorState). state.queue) o.core.snapshot.mutators)
   pub slots_are : ListMeans (Contains o.places) (slots_of words) (strong_fields o.core.snapshot.shared)
 
 -- a heap at a stop whose segments were just prepared for a cycle: words and roots stand for the snapshot, the places

@@ -6,23 +6,23 @@
 //!
 //! Easy to get wrong: a pointer may lead to g, or to an object that was born in a round, and there no block
 //! begins. So each mark is a try, and one look-up tells both whether a block begins there and which.
-ghost use Rattle.std.specs.Prelude.{ℕ, ◌≡◌, ◌+◌, ◌-◌, ◌*◌, ◌^◌, ◌<◌, ◌≤◌, [], ◌∷◌, ◌++◌, ◌↔◌, length, Contains, IsTrue, IfSome, IfNone, IfOk};
+ghost use Rattle.std.specs.Prelude.{ℕ, ◌≡◌, ◌+◌, ◌-◌, ◌*◌, ◌^◌, ◌<◌, ◌≤◌, [], ◌∷◌, ◌++◌, ◌↔◌, length, map, Contains, IsTrue, IfSome, IfNone, IfOk};
+ghost use Rattle.std.specs.List.{flat_map};
 ghost use Rattle.nmgc_segment.specs.Marks.{IsEpoch};
 ghost use Rattle.nmgc_object.specs.declared.layout.TheConstants.{FIRST_PLACE};
 ghost use Rattle.nmgc_object.specs.Places.{IsLayout};
-ghost use Rattle.nmgc_object.specs.FinQueue.{FinQueue as Queue};
 ghost use Rattle.nmgc_core.specs.State.{opening};
 ghost use Rattle.nmgc_round.specs.View.{Opening};
 ghost use Rattle.nmgc_round.specs.Marking.{Marks, marks_of, with_name, name_meant};
 ghost use Rattle.nmgc_run.specs.Marker.{HasRoomToMark};
-ghost use Rattle.nmgc_mark.specs.Beginning.{IsBeginning, slots_of, most_blocks};
+ghost use Rattle.nmgc_mark.specs.Beginning.{IsBeginning, slots_of, queue_words, most_blocks};
 ghost use Rattle.nmgc_mark.specs.Marker.{MarksAt, HasMarked, places, blank};
 ghost use Rattle.nmgc_mark.specs.Tie.{IsTied, with_places, with_words, with_queues};
 
 use nmgc_alloc::Segments;
 use nmgc_graph::{NoMemory, Room, SHARED_SLOTS};
-use nmgc_heap::HeapWords;
-use nmgc_object::{Address, FinQueue, HEADER_WORDS, Layout, MIN_BLOCK_WORDS, SHARED_PLACE};
+use nmgc_heap::{HeapWords, MutatorRoots};
+use nmgc_object::{Address, HEADER_WORDS, Layout, MIN_BLOCK_WORDS, SHARED_PLACE};
 use std::alloc::Global;
 use std::marker::Model;
 
@@ -90,30 +90,30 @@ impl Marker {
     }
 
     /// Begins to mark: what registers, finaliser queues and the slots of g refer to is marked and queued, in
-    /// this order. `Segments::prepare` was just called, and no mark byte is the epoch. Marks and queue are those
-    /// with which the core machine opens. There is room for every block, which is the only memory that a marker
-    /// takes; after `NoMemory` no block was marked. `turns` is 0 then.
-    pub fn snapshot<W: HeapWords>(
+    /// this order. Registers and queues are read where they lie, in the mutators. `Segments::prepare` was just called, and
+    /// no mark byte is the epoch. Marks and queue are those with which the core machine opens. There is room for every
+    /// block, which is the only memory that a marker takes; after `NoMemory` no block was marked. `turns` is 0 then.
+    pub fn snapshot<W: HeapWords, M: MutatorRoots>(
         alloc: Global,
         words: &mut W,
         segments: &mut Segments,
-        registers: &[u64],
-        queues: &[FinQueue],
+        mutators: &[M],
         epoch: u8,
     ) -> Result<Marker, NoMemory>
         requires epoch { IsEpoch epoch }
         requires inside { FIRST_PLACE ≤ length (W.words words.old) }
-        requires begins { (o : Opening) × IsBeginning o segments.old epoch (W.words words.old) registers.now queues.now }
+        requires begins { (o : Opening) × IsBeginning o segments.old epoch (W.words words.old) (flat_map M.registers mutators.now) (map M.queue mutators.now) }
         ensures words { W.words words.new ≡ W.words words.old }
         ensures marked { IfOk result (λ marker. HasMarked segments.old segments.new (blank epoch (most_blocks segments.old.layout)) marker 0) }
         ensures turns { IfOk result (λ marker. marker.turns ≡ 0) }
-        ensures tied { IfOk result (λ marker. (o : Opening) → IsBeginning o segments.old epoch (W.words words.old) registers.now queues.now →
+        ensures tied { IfOk result (λ marker. (o : Opening) →
+            IsBeginning o segments.old epoch (W.words words.old) (flat_map M.registers mutators.now) (map M.queue mutators.now) →
             IsTied o (marks_of (opening o.core.snapshot)) segments.new marker) }
     {
         let blocks = most_blocks(segments.layout());
         let mut marker = Marker::blank(alloc, epoch, blocks)?;
-        marker.mark_all(segments, registers);
-        marker.mark_queues(segments, queues);
+        marker.mark_registers(segments, mutators);
+        marker.mark_queues(segments, mutators);
         marker.mark_shared(words, segments);
         Ok(marker)
     }
@@ -131,16 +131,31 @@ impl Marker {
         }
     }
 
-    // Marks what finaliser queues refer to.
-    fn mark_queues(&mut self, segments: &mut Segments, queues: &[FinQueue])
+    // Marks what registers refer to.
+    fn mark_registers<M: MutatorRoots>(&mut self, segments: &mut Segments, mutators: &[M])
         requires room { HasRoomToMark segments.old self.old }
-        requires small { (queue : Queue) (w at : ℕ) → Contains queues.now queue → Contains queue.words w → w ≡ 2 * at → at < 2 ^ 32 }
+        requires small { (w at : ℕ) → Contains (flat_map M.registers mutators.now) w → w ≡ 2 * at → at < 2 ^ 32 }
         ensures marked { HasMarked segments.old segments.new self.old self.new 0 }
         ensures turns { self.new.turns ≡ self.old.turns }
-        ensures tied { (o : Opening) (m : Marks) → IsTied o m segments.old self.old → IsTied o (with_queues o m queues.now) segments.new self.new }
+        ensures tied { (o : Opening) (m : Marks) → IsTied o m segments.old self.old →
+            IsTied o (with_words o m (flat_map M.registers mutators.now)) segments.new self.new }
     {
-        for queue in queues {
-            self.mark_all(segments, queue.words());
+        for mutator in mutators {
+            self.mark_all(segments, mutator.registers());
+        }
+    }
+
+    // Marks what finaliser queues refer to.
+    fn mark_queues<M: MutatorRoots>(&mut self, segments: &mut Segments, mutators: &[M])
+        requires room { HasRoomToMark segments.old self.old }
+        requires small { (w at : ℕ) → Contains (queue_words (map M.queue mutators.now)) w → w ≡ 2 * at → at < 2 ^ 32 }
+        ensures marked { HasMarked segments.old segments.new self.old self.new 0 }
+        ensures turns { self.new.turns ≡ self.old.turns }
+        ensures tied { (o : Opening) (m : Marks) → IsTied o m segments.old self.old →
+            IsTied o (with_queues o m (map M.queue mutators.now)) segments.new self.new }
+    {
+        for mutator in mutators {
+            self.mark_all(segments, mutator.queue().words());
         }
     }
 

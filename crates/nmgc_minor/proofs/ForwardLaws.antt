@@ -73,6 +73,28 @@ module _ (table : List ℕ) (base : ℕ) where
     goes = λ m c. let h = entries m c in high_goes m.from m.to h.0 h.1 h.2;
   }
 
+  -- words that were forwarded at some places, and then at more
+  pub forwards_then : (old mid new : List ℕ) (P Q R : ℕ → Type 0) → ((k : ℕ) → slice_index table k < base) →
+      ForwardsAt (forward_word table base) old mid P → ForwardsAt (forward_word table base) mid new Q → ((k : ℕ) → P k → R k) → ((k : ℕ) → Q k → R k) →
+      ((k : ℕ) → R k → P k ⊎ Q k) → ForwardsAt (forward_word table base) old new R
+  forwards_then old mid new P Q R small f g left right cases =
+      let forward : ℕ → ℕ = forward_word table base in
+      record {
+        total = g.total ∙ f.total;
+        each = λ k l.
+            let within : k < length mid = (let t = f.total in omega (arith, l, t)) in
+            elim (f.each k l) [
+              | inl p ↦ elim (g.each k within) [
+                | inl q ↦ inl (q.0 ∙ ap forward p.0 ∙ twice small (slice_index old k), left k p.1)
+                | inr q ↦ inl (q.0 ∙ p.0, left k p.1)
+              ]
+              | inr p ↦ elim (g.each k within) [
+                | inl q ↦ inl (q.0 ∙ ap forward p.0, right k q.1)
+                | inr q ↦ inr (q.0 ∙ p.0, λ r. elim (cases k r) [ inl x ↦ p.1 x | inr y ↦ q.1 y ])
+              ]
+            ];
+      }
+
   -- one more recorded field
   pub recorded_more : (old cur : List ℕ) (xs : List Address) (i : ℕ) (x : Address) → ((k : ℕ) → slice_index table k < base) → i < length xs →
       x ≡ get_or xs i x → x.0 < length cur

@@ -1,3 +1,4 @@
+pub mod Listing
 pub mod NoteLaws
 pub mod StartLaws
 pub mod FoundLaws

@@ -233,6 +233,26 @@ range_skip base words s s' t t' added from at low le free r =
       rising = r.rising;
     }
 
+-- nothing was found up to a later place
+pub range_later : (base : ℕ) (words : List ℕ) (s s' : Segments) (t t' : List ℕ) (added : List Move) (from at later : ℕ) → base ≤ from →
+    at ≤ later → ((k : ℕ) → at ≤ k → k < later → slice_index t' (k - base) ≡ 0) → PlacesRange base words s s' t t' added from at →
+    PlacesRange base words s s' t t' added from later
+range_later base words s s' t t' added from at later low more free r = record {
+  placing = r.placing;
+  size = r.size;
+  outside = λ k l o. r.outside k l (elim o [ inl a ↦ inl a | inr a ↦ inr (omega (arith, a, more)) ]);
+  unmarked = λ k l h u. elim (cases_lt k at) [ inl lt ↦ r.unmarked k l lt u | inr ge ↦ free k ge h ];
+  entries = λ k l h u. elim (cases_lt k at) [
+    | inl lt ↦ r.entries k l lt u
+    | inr ge ↦ let same = r.outside k (omega (arith, low, l)) (inr ge) in absurd (u (sym same ∙ free k ge h))
+  ];
+  marked = λ m c. let h = r.marked m c in (h.0, omega (arith, h.1, more), h.2);
+  named = r.named;
+  once = r.once;
+  stands = r.stands;
+  rising = r.rising;
+}
+
 pub range_more : (base : ℕ) (words : List ℕ) (s cur next : Segments) (t t' : List ℕ) (added : List Move) (from at maker : ℕ) (m : Move) →
     base ≤ from → from ≤ at → at - base < length t' → IsSegments cur → IsSegments next → slice_index t' (at - base) ≢ 0 → m.from.0 ≡ at →
     PlacesOne cur next words maker m
@@ -311,6 +331,16 @@ reaches_skip layout base words t s before from at to r = record {
   above = r.above;
   within = r.within;
   next = λ k l h u. r.next k (omega arith) h u;
+  reserve = r.reserve;
+}
+
+pub reaches_later : (layout : Layout) (base : ℕ) (words t : List ℕ) (s : Segments) (before from at later to : ℕ) → at ≤ later →
+    Reaches layout base words t s before from at to → Reaches layout base words t s before from later to
+reaches_later layout base words t s before from at later to more r = record {
+  reach = r.reach;
+  above = r.above;
+  within = r.within;
+  next = λ k l h u. r.next k (omega (arith, more, l)) h u;
   reserve = r.reserve;
 }
 

@@ -1,6 +1,7 @@
 -- The words that the search starts at, one kind after the other.
 use Rattle.std.proofs.Common.{◌≡◌, ◌<◌, ◌+◌, ◌*◌, ℕ, List, [], ◌∷◌, ◌++◌, length, map, take, get_or, inl, inr, refl, sym, ap, subst, ◌∙◌, arith, ◌⊎◌}
 use Rattle.std.specs.Prelude.{Contains, slice_index}
+use Rattle.std.specs.List.{flat_map}
 use Rattle.std.proofs.lemmas.List.{take_more}
 use Rattle.std.proofs.lemmas.List.Elements.{Contains-append_left, Contains-push, Contains-push_cases}
 use Rattle.nmgc_limits.specs.declared.mutators.TheConstants.{SHARED_SLOTS}
@@ -13,7 +14,8 @@ use Rattle.nmgc_minor.specs.Inputs.{Inputs}
 use Rattle.nmgc_minor.specs.Found.{IsAliveAt, IsStart, IsFound}
 use Rattle.nmgc_minor.specs.Young.{IsYoung, IsWithin, Notes, PointsIn, CanFollow, Follows}
 use Rattle.nmgc_minor.specs.Start.{inputs_of, IsWeakStart, Finds}
-use Rattle.nmgc_minor.proofs.NoteLaws.{notes_then, notes_none}
+use Rattle.nmgc_reach.specs.laws.ItemLaws.{contains_flat, flat_contains}
+use Rattle.nmgc_minor.proofs.NoteLaws.{notes_then, notes_none, notes_as}
 
 -- one more item of a list
 pub notes_item : {X : Type 0} (G : X → ℕ → Type 0) (a b c : Young) (xs : List X) (i : ℕ) (x : X) → i < length xs → x ≡ get_or xs i x →
@@ -35,19 +37,40 @@ notes_first G y xs h = notes_none y (λ w. (x : _) × Contains (take 0 xs) x × 
 pub within_after : (a b : Young) (P : ℕ → Type 0) → Notes a b P → (word : ℕ) → IsWithin a word → IsWithin b word
 within_after a b P n word h at e l = let s = n.base in let t = n.size in let r = h at e (omega (arith, s, l)) in omega (arith, s, t, r)
 
-map_in : {A B : Type 0} (f : A → B) (xs : List A) (x : A) → Contains xs x → Contains (map f xs) (f x)
+pub map_in : {A B : Type 0} (f : A → B) (xs : List A) (x : A) → Contains xs x → Contains (map f xs) (f x)
 map_in f [] x c = absurd (omega (arith, c.1))
 map_in {A} {B} f (y ∷ xs) x c = elim (contains_cases y xs x c) [
   | inl e ↦ subst (λ (z : A). Contains (f y ∷ map f xs) (f z)) e (contains_head (f y) (map f xs))
   | inr d ↦ contains_tail (f y) (map f xs) (f x) (map_in f xs x d)
 ]
 
-map_from : {A B : Type 0} (f : A → B) (xs : List A) (y : B) → Contains (map f xs) y → (x : A) × Contains xs x × (y ≡ f x)
+pub map_from : {A B : Type 0} (f : A → B) (xs : List A) (y : B) → Contains (map f xs) y → (x : A) × Contains xs x × (y ≡ f x)
 map_from f [] y c = absurd (omega (arith, c.1))
 map_from f (x ∷ xs) y c = elim (contains_cases (f x) (map f xs) y c) [
   | inl e ↦ (x, contains_head x xs, sym e)
   | inr d ↦ let r = map_from f xs y d in (r.0, contains_tail x xs r.0 r.1, r.2)
 ]
+
+-- what mutators hold, as one list: words, what else is one after another, and one each
+pub notes_words : {A : Type 0} (f : A → List ℕ) (a b : Young) (xs : List A) → Notes a b (λ w. (x : A) × Contains xs x × Contains (f x) w) →
+    Notes a b (Contains (flat_map f xs))
+notes_words {A} f a b xs n =
+    notes_as a b (λ w. (x : A) × Contains xs x × Contains (f x) w) (Contains (flat_map f xs)) n (λ w h. contains_flat f xs h.0 w h.1 h.2)
+    (λ w h. flat_contains f xs w h)
+
+pub notes_flat : {A B : Type 0} (f : A → List B) (G : B → ℕ → Type 0) (a b : Young) (xs : List A) →
+    Notes a b (λ w. (x : A) × Contains xs x × ((y : B) × Contains (f x) y × G y w)) → Notes a b (λ w. (y : B) × Contains (flat_map f xs) y × G y w)
+notes_flat {A} {B} f G a b xs n =
+    notes_as a b (λ w. (x : A) × Contains xs x × ((y : B) × Contains (f x) y × G y w)) (λ w. (y : B) × Contains (flat_map f xs) y × G y w) n
+    (λ w h. (h.2.0, contains_flat f xs h.0 h.2.0 h.1 h.2.1, h.2.2))
+    (λ w h. let k = flat_contains f xs h.0 h.1 in (k.0, k.1, (h.0, k.2, h.2)))
+
+pub notes_mapped : {A B : Type 0} (f : A → B) (G : B → ℕ → Type 0) (a b : Young) (xs : List A) →
+    Notes a b (λ w. (x : A) × Contains xs x × G (f x) w) → Notes a b (λ w. (y : B) × Contains (map f xs) y × G y w)
+notes_mapped {A} {B} f G a b xs n =
+    notes_as a b (λ w. (x : A) × Contains xs x × G (f x) w) (λ w. (y : B) × Contains (map f xs) y × G y w) n
+    (λ w h. (f h.0, map_in f xs h.0 h.1, h.2))
+    (λ w h. let k = map_from f xs h.0 h.1 in (k.0, k.1, subst (λ (y : B). G y w) k.2 h.2))
 
 module _ (registers : List ℕ) (queues : List FinQueue) (recorded weaks : List Address) (words : List ℕ) where
   abbrev pub Starts : ℕ → Type 0

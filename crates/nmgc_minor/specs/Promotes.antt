@@ -1,12 +1,16 @@
 -- What the three passes together do to words and segments.
+use Rattle.std.specs.List.{flat_map}
 use Rattle.std.specs.Prelude.{ℕ, ◌≡◌, ◌≢◌, ◌+◌, ◌*◌, ◌<◌, ◌≤◌, ◌⊎◌, List, [], length, map, slice_index, Contains}
 use Rattle.nmgc_object.specs.Words.{name_word, IsName}
 use Rattle.nmgc_object.specs.Places.{nursery_place}
 use Rattle.nmgc_object.specs.declared.layout.Nursery.{Nursery}
+use Rattle.nmgc_object.specs.declared.words.Address.{Address}
+use Rattle.nmgc_object.specs.FinQueue.{FinQueue}
 use Rattle.nmgc_alloc.specs.Segments.{Segments, IsSegments}
 use Rattle.nmgc_alloc.specs.Reserve.{KeepsReserve}
 use Rattle.nmgc_heap.specs.Moves.{Moved, Forwards}
 use Rattle.nmgc_blocks.specs.Nurseries.{AreEmpty}
+use Rattle.nmgc_blocks.specs.Stopped.{Stopped, IsStopped}
 use Rattle.nmgc_minor.specs.declared.placing.Move.{Move}
 use Rattle.nmgc_minor.specs.declared.young.Young.{Young}
 use Rattle.nmgc_minor.specs.Inputs.{Inputs}
@@ -14,6 +18,7 @@ use Rattle.nmgc_minor.specs.Found.{IsStart, IsFound}
 use Rattle.nmgc_minor.specs.Young.{IsIn, IsYoung, IsWithin, CanFollow}
 use Rattle.nmgc_minor.specs.Placing.{AreNurseries, CanPlaceEach, IsMarked, IsPlacing, Rewrites, StandsAfter, AreRising, moved_of}
 use Rattle.nmgc_minor.specs.Forwarding.{forward_word}
+use Rattle.nmgc_minor.specs.Start.{words_of, places_of}
 
 -- what the passes ask of the words, of segments and of their own lists, all of which the world gives
 pub record CanPromote (y : Young) (s : Segments) (words : List ℕ) (nurseries : List Nursery) (inputs : Inputs) : Type 0 where
@@ -35,10 +40,6 @@ pub record CanPromote (y : Young) (s : Segments) (words : List ℕ) (nurseries :
 abbrev pub CanPromoteWith : Segments → List ℕ → List Nursery → Inputs → Type 0
 CanPromoteWith s words nurseries inputs = (y : Young) → IsYoung y → y.found.items ≡ [] → y.base ≡ nursery_place s.layout 0 →
     length y.table.items ≡ s.layout.mutators * s.layout.nursery → CanPromote y s words nurseries inputs
-
--- a nursery without objects
-abbrev pub emptied : Nursery → Nursery
-emptied nursery = record nursery { top = nursery.base }
 
 -- what is left in the lists: only found objects have entries, and no room was lost
 pub record Leaves (old new : Young) : Type 0 where
@@ -70,3 +71,19 @@ pub record Changes (base : ℕ) (recorded : List ℕ) (moves : List Moved) (forw
   pub fields : (at : ℕ) → Contains recorded at → slice_index new at ≡ forward (slice_index old at)
   pub held : registers' ≡ map forward registers
   pub queued : queues' ≡ map (map forward) queues
+
+-- words, segments and mutators stand for the heap at a stop, by what each mutator has
+abbrev pub IsStoppedBy : {M : Type 0} → (M → Nursery) → (M → List ℕ) → (M → FinQueue) → (M → List Address) → (M → List Address) → Stopped → Segments →
+    List ℕ → List M → Type 0
+IsStoppedBy nursery registers queue recorded weaks t s words mutators =
+    IsStopped t s words (map nursery mutators) (flat_map registers mutators) (words_of (map queue mutators)) (places_of (flat_map recorded mutators))
+    (places_of (flat_map weaks mutators))
+
+-- a queue with its words forwarded
+abbrev pub forwarded : (ℕ → ℕ) → FinQueue → FinQueue
+forwarded forward queue = record queue { words = map forward queue.words }
+
+-- a mutator once what it had was promoted: its words are forwarded, and it is as after a stop
+abbrev pub promoted : {M : Type 0} → (M → List ℕ) → (M → List ℕ → M) → (M → FinQueue) → (M → FinQueue → M) → (M → M) → (ℕ → ℕ) → M → M
+promoted registers with_registers queue with_queue after_stop forward m =
+    after_stop (with_queue (with_registers m (map forward (registers m))) (forwarded forward (queue (with_registers m (map forward (registers m))))))

@@ -1,5 +1,6 @@
 -- What the first pass reads and finds.
 use Rattle.std.specs.Prelude.{ℕ, ◌≡◌, ◌+◌, ◌*◌, ◌<◌, ◌⊎◌, List, length, map, slice_index}
+use Rattle.std.specs.List.{flat_map}
 use Rattle.nmgc_object.specs.FinQueue.{FinQueue}
 use Rattle.nmgc_object.specs.declared.words.Address.{Address}
 use Rattle.nmgc_object.specs.declared.words.TheConstants.{WEAK_FIELDS}
@@ -26,6 +27,11 @@ inputs_of registers queues recorded weaks = record {
   recorded = places_of recorded;
   weaks = places_of weaks;
 }
+
+-- the inputs as mutators hold them, by what each of these has
+abbrev pub inputs_by : {M : Type 0} → (M → List ℕ) → (M → FinQueue) → (M → List Address) → (M → List Address) → List M → Inputs
+inputs_by registers queue recorded weaks mutators =
+    inputs_of (flat_map registers mutators) (map queue mutators) (flat_map recorded mutators) (flat_map weaks mutators)
 
 -- the word points to the alive weak pointer, or is one of its parts
 abbrev pub IsWeakStart : List ℕ → Address → ℕ → Type 0

@@ -4,6 +4,7 @@
 //! its result, and they may have any value. So `forwarded` asks nothing of its word: one that doesn't point
 //! into the table is left.
 ghost use Rattle.std.specs.Prelude.{ℕ, ◌≡◌, ◌+◌, ◌<◌, ◌≤◌, length, slice_index, set, map, Contains};
+ghost use Rattle.std.specs.List.{flat_map};
 ghost use Rattle.nmgc_minor.specs.Young.{HasHeader};
 ghost use Rattle.nmgc_minor.specs.Placing.{IsSharedSlot, HasHeaderWord};
 ghost use Rattle.nmgc_minor.specs.Forwarding.{forward_word, ForwardsAt, CopiesFields, CopiesObject, CanCopyAll, CopiesAll};
@@ -12,7 +13,7 @@ ghost use Rattle.nmgc_object.specs.declared.size.TheConstants.{HEADER_WORDS as H
 
 use crate::placing::Move;
 use nmgc_graph::SHARED_SLOTS;
-use nmgc_heap::HeapWords;
+use nmgc_heap::{HeapWords, MutatorRoots};
 use nmgc_object::laws::words_differ;
 use nmgc_object::{Address, HEADER_WORDS, SHARED_PLACE, fields_of};
 
@@ -77,14 +78,31 @@ pub fn forward_shared<W: HeapWords>(table: &[u32], base: u32, words: &mut W)
     }
 }
 
-/// Forwards the fields at these places, of which one may be named more than once.
-pub fn forward_recorded<W: HeapWords>(table: &[u32], base: u32, words: &mut W, recorded: &[Address])
+// Forwards the fields at these places, of which one may be named more than once.
+fn forward_places<W: HeapWords>(table: &[u32], base: u32, words: &mut W, recorded: &[Address])
     requires inside { (at : Address) → Contains recorded.now at → at.0 < length (W.words words.old) }
     requires small { (k : ℕ) → slice_index table.now k < base }
     ensures { ForwardsAt (forward_word table.now base) (W.words words.old) (W.words words.new) (λ i. Contains recorded.now (record { 0 = i })) }
 {
     for at in recorded {
         forward_at(table, base, words, at.0 as usize);
+    }
+}
+
+/// Forwards the fields that the mutators recorded, of which one may be named more than once.
+pub fn forward_recorded<W: HeapWords, M: MutatorRoots>(
+    table: &[u32],
+    base: u32,
+    words: &mut W,
+    mutators: &[M],
+)
+    requires inside { (at : Address) → Contains (flat_map M.recorded mutators.now) at → at.0 < length (W.words words.old) }
+    requires small { (k : ℕ) → slice_index table.now k < base }
+    ensures { ForwardsAt (forward_word table.now base) (W.words words.old) (W.words words.new) (λ i.
+        Contains (flat_map M.recorded mutators.now) (record { 0 = i })) }
+{
+    for mutator in mutators {
+        forward_places(table, base, words, mutator.recorded());
     }
 }
 

@@ -29,12 +29,10 @@ mod nurseries;
 mod passes;
 mod placing;
 mod promotion;
-mod roots;
 mod starts;
 mod young;
 
 pub use passes::run_passes;
 pub use placing::Move;
 pub use promotion::Promotion;
-pub use roots::Roots;
 pub use young::Young;

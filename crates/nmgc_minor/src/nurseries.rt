@@ -1,9 +1,9 @@
 //! The second pass through the nurseries, and through the words of one.
 //!
-//! Easy to get wrong: an object's words beyond its first have free entries, so the loop steps over
-//! them; that the objects lie apart is what keeps their words within the nursery's, and so the reserve
-//! sufficient.
-ghost use Rattle.std.specs.Prelude.{ℕ, ◌≡◌, ◌+◌, ◌-◌, ◌*◌, ◌<◌, ◌≤◌, ◌⊎◌, ◌++◌, List, length};
+//! Easy to get wrong: an object's words beyond its first have free entries, so where one was found the loop
+//! goes on behind its words. That the objects lie apart is what keeps their words within the nursery's, and so
+//! the reserve sufficient.
+ghost use Rattle.std.specs.Prelude.{ℕ, ◌≡◌, ◌+◌, ◌-◌, ◌*◌, ◌<◌, ◌≤◌, ◌⊎◌, ◌++◌, List, length, map};
 ghost use Rattle.nmgc_alloc.specs.Reserve.{KeepsReserve};
 ghost use Rattle.nmgc_blocks.specs.Nurseries.{AreEmpty};
 ghost use Rattle.nmgc_alloc.specs.Segments.{IsSegments, IsMutator};
@@ -11,11 +11,10 @@ ghost use Rattle.nmgc_minor.specs.declared.placing.Move.{Move as Shown};
 ghost use Rattle.nmgc_object.specs.Places.{nursery_place};
 ghost use Rattle.nmgc_minor.specs.Placing.{CanPlaceAll, CanPlaceEach, AreNurseries, PlacesRange};
 
-use crate::placing::{Move, place_object};
+use crate::placing::{Move, object_words, place_object};
 use nmgc_alloc::Segments;
 use nmgc_graph::Room;
-use nmgc_heap::HeapWords;
-use nmgc_object::Nursery;
+use nmgc_heap::{HeapWords, MutatorRoots};
 
 /// Gives each found object of a part of the table a block, in their order.
 pub fn place_all<W: HeapWords>(
@@ -47,30 +46,35 @@ pub fn place_all<W: HeapWords>(
         KeepsReserve segments.new.layout segments.new.segments ((maker + 1) * segments.old.layout.nursery) }
     ensures same { W.words words.new ≡ W.words words.old }
 {
-    for at in from..to {
+    let mut at = from;
+    while at < to {
         let index = (at - base) as usize;
         if table[index] != 0 {
+            let size = object_words(words, at);
             let moved = place_object(words, segments, maker, at);
             table[index] = moved.to.0;
             moves.add(moved);
+            at += size;
+        } else {
+            at += 1;
         }
     }
 }
 
-/// Gives each found object of all nurseries a block, in the order of their places.
-pub fn place_nurseries<W: HeapWords>(
+/// Gives each found object of the nurseries of all mutators a block, in the order of their places.
+pub fn place_nurseries<W: HeapWords, M: MutatorRoots>(
     base: u32,
     table: &mut [u32],
     moves: &mut Room<Move>,
     words: &mut W,
     segments: &mut Segments,
-    nurseries: &[Nursery],
+    mutators: &[M],
 )
     requires sound { IsSegments segments.old }
-    requires nurseries { AreNurseries segments.old.layout base table.old nurseries.now }
-    requires objects { CanPlaceEach segments.old.layout (W.words words.old) table.old base nurseries.now }
+    requires nurseries { AreNurseries segments.old.layout base table.old (map M.nursery mutators.now) }
+    requires objects { CanPlaceEach segments.old.layout (W.words words.old) table.old base (map M.nursery mutators.now) }
     requires spare { length table.old ≤ moves.old.spare }
-    requires reserve { KeepsReserve segments.old.layout segments.old.segments 0 ⊎ AreEmpty nurseries.now }
+    requires reserve { KeepsReserve segments.old.layout segments.old.segments 0 ⊎ AreEmpty (map M.nursery mutators.now) }
     ensures sound { IsSegments segments.new }
     ensures layout { segments.new.layout ≡ segments.old.layout }
     ensures places { (added : List Shown) × (moves.new.items ≡ moves.old.items ++ added) ×
@@ -78,7 +82,8 @@ pub fn place_nurseries<W: HeapWords>(
     ensures room { moves.new.spare + length moves.new.items ≡ moves.old.spare + length moves.old.items }
     ensures same { W.words words.new ≡ W.words words.old }
 {
-    for (maker, nursery) in nurseries.iter().enumerate() {
+    for (maker, mutator) in mutators.iter().enumerate() {
+        let nursery = mutator.nursery();
         place_all(
             base,
             table,

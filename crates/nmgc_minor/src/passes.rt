@@ -3,50 +3,48 @@
 //! The working lists rest between two promotions with what the last one found: its entries are freed one
 //! by one as the next begins, since a table as long as all nurseries is too long to be wiped at each stop.
 //!
+//! What mutators hold is read and changed where it lies, one mutator after the other; no list is made of it.
+//!
 //! Easy to get wrong: no pass writes to a nursery. So the third may copy the objects in whatever order, and reads
 //! each as the round left it.
 ghost use Rattle.std.specs.Prelude.{ℕ, ◌≡◌, ◌≢◌, ◌+◌, ◌*◌, ◌<◌, ◌≤◌, List, [], length, map, slice_index, Contains};
 ghost use Rattle.nmgc_object.specs.Places.{nursery_place};
 ghost use Rattle.nmgc_alloc.specs.Segments.{IsSegments};
-ghost use Rattle.nmgc_minor.specs.Start.{inputs_of, forwarded_queue};
+ghost use Rattle.nmgc_minor.specs.Start.{inputs_by, forwarded_queue};
 ghost use Rattle.nmgc_minor.specs.Forwarding.{forward_word};
-ghost use Rattle.nmgc_minor.specs.Promotes.{CanPromote, CanPromoteWith, Promotes, Leaves, emptied};
+ghost use Rattle.nmgc_minor.specs.Promotes.{CanPromote, CanPromoteWith, Promotes, Leaves, promoted};
 ghost use Rattle.nmgc_minor.specs.Resting.{IsResting, IsCleared};
 
 use crate::forwarding::{copy_all, forward_recorded, forward_shared, forward_words, forwarded};
 use crate::nurseries::place_nurseries;
 use crate::placing::Move;
-use crate::roots::Roots;
 use crate::starts::mark;
 use crate::young::Young;
 use nmgc_alloc::Segments;
 use nmgc_graph::Room;
-use nmgc_heap::HeapWords;
-use nmgc_object::{Address, FinQueue, Nursery};
+use nmgc_heap::{HeapWords, MutatorRoots};
+use nmgc_object::{Address, FinQueue};
 
 // The three passes, over words.
-fn promote_words<W: HeapWords>(
+fn promote_words<W: HeapWords, M: MutatorRoots>(
     young: &mut Young,
     moves: &mut Room<Move>,
     words: &mut W,
     segments: &mut Segments,
-    nurseries: &[Nursery],
-    registers: &[u64],
-    queues: &[FinQueue],
-    recorded: &[Address],
-    weaks: &[Address],
+    mutators: &[M],
 )
-    requires can { CanPromote young.old segments.old (W.words words.old) nurseries.now (inputs_of registers.now queues.now recorded.now weaks.now) }
+    requires can { CanPromote young.old segments.old (W.words words.old) (map M.nursery mutators.now)
+        (inputs_by M.registers M.queue M.recorded M.young_weaks mutators.now) }
     requires moves { moves.old.items ≡ [] }
     requires spare { length young.old.table.items ≤ moves.old.spare }
     ensures promotes { Promotes young.old.base (W.words words.old) (W.words words.new) segments.old segments.new moves.new.items
-        (inputs_of registers.now queues.now recorded.now weaks.now) young.new.table.items }
+        (inputs_by M.registers M.queue M.recorded M.young_weaks mutators.now) young.new.table.items }
     ensures leaves { Leaves young.old young.new }
     ensures room { moves.new.spare + length moves.new.items ≡ moves.old.spare + length moves.old.items }
     ensures sound { IsSegments segments.new }
     ensures layout { segments.new.layout ≡ segments.old.layout }
 {
-    mark(young, words, registers, queues, recorded, weaks);
+    mark(young, words, mutators);
     let base = young.base;
     place_nurseries(
         base,
@@ -54,21 +52,12 @@ fn promote_words<W: HeapWords>(
         moves,
         words,
         segments,
-        nurseries,
+        mutators,
     );
     let table = young.table.as_slice();
     forward_shared(table, base, words);
-    forward_recorded(table, base, words, recorded);
+    forward_recorded(table, base, words, mutators);
     copy_all(table, base, words, moves.items());
-}
-
-// Empties nurseries.
-fn empty(nurseries: &mut [Nursery])
-    ensures { nurseries.new ≡ map emptied nurseries.old }
-{
-    for nursery in nurseries.iter_mut() {
-        nursery.top = nursery.base;
-    }
 }
 
 // Frees the entries of these objects.
@@ -82,24 +71,6 @@ fn forget(base: u32, table: &mut [u32], found: &[Address])
     }
 }
 
-// What the mutators hold points to the new places.
-fn forward_roots(table: &[u32], base: u32, roots: &mut Roots)
-    ensures registers { roots.new.registers ≡ map (forward_word table.now base) roots.old.registers }
-    ensures queues { roots.new.queues ≡ map (forwarded_queue table.now base) roots.old.queues }
-{
-    forward_words(table, base, roots.registers.items_mut());
-    forward_queues(table, base, roots.queues.items_mut());
-}
-
-// Forwards the words of queues.
-fn forward_queues(table: &[u32], base: u32, queues: &mut [FinQueue])
-    ensures { queues.new ≡ map (forwarded_queue table.now base) queues.old }
-{
-    for queue in queues.iter_mut() {
-        forward_queue(table, base, queue);
-    }
-}
-
 // Forwards the words of a queue.
 fn forward_queue(table: &[u32], base: u32, queue: &mut FinQueue)
     ensures { queue.new ≡ forwarded_queue table.now base queue.old }
@@ -107,6 +78,26 @@ fn forward_queue(table: &[u32], base: u32, queue: &mut FinQueue)
     for i in 0..queue.words().len() {
         let word = queue.words()[i];
         queue.set(i, forwarded(table, base, word));
+    }
+}
+
+// What a mutator holds points to the new places; its nursery is empty, and nothing of the round is left.
+fn settle_one<M: MutatorRoots>(table: &[u32], base: u32, mutator: &mut M)
+    ensures { mutator.new ≡
+        promoted M.registers M.with_registers M.queue M.with_queue M.after_stop (forward_word table.now base) mutator.old }
+{
+    forward_words(table, base, mutator.registers_mut());
+    forward_queue(table, base, mutator.queue_mut());
+    mutator.empty();
+}
+
+// The same for all mutators.
+fn settle<M: MutatorRoots>(table: &[u32], base: u32, mutators: &mut [M])
+    ensures { mutators.new ≡
+        map (promoted M.registers M.with_registers M.queue M.with_queue M.after_stop (forward_word table.now base)) mutators.old }
+{
+    for mutator in mutators.iter_mut() {
+        settle_one(table, base, mutator);
     }
 }
 
@@ -123,33 +114,30 @@ fn clear(young: &mut Young, moves: &mut Room<Move>)
 }
 
 /// The three passes over words of which no world need be known, and over what is outside them: registers, queues and
-/// nurseries. Asks that the working lists are for the nurseries of the segments' layout, that pointers to young objects
-/// lead to objects which lie one after another in the used part of their maker's nursery, and that the reserve is
-/// free or no nursery has an object (`specs/Promotes.antt`, `CanPromoteWith`).
+/// nurseries, where they lie in the mutators. Asks that the working lists are for the nurseries of the segments'
+/// layout, that pointers to young objects lead to objects which lie one after another in the used part of their
+/// maker's nursery, and that the reserve is free or no nursery has an object (`specs/Promotes.antt`, `CanPromoteWith`).
 ///
 /// Exactly the young objects that the roots, the slots of g, the recorded fields and the alive young weak pointers
 /// reach are copied, each once, in order of names; `moves` tells them. Each pointer to one leads to its new place:
-/// in registers and queues, the slots of g, the recorded fields and the copies. No other word changes, and the nurseries are empty
-/// afterwards. Takes no memory.
-pub fn run_passes<W: HeapWords>(
+/// in registers and queues, the slots of g, the recorded fields and the copies. No other word changes, the nurseries are
+/// empty afterwards, and of the round nothing is recorded any more. Takes no memory.
+pub fn run_passes<W: HeapWords, M: MutatorRoots>(
     young: &mut Young,
     moves: &mut Room<Move>,
     words: &mut W,
     segments: &mut Segments,
-    nurseries: &mut [Nursery],
-    roots: &mut Roots,
-    recorded: &[Address],
-    weaks: &[Address],
+    mutators: &mut [M],
 )
     requires resting { IsResting young.old moves.old }
     requires base { young.old.base ≡ nursery_place segments.old.layout 0 }
     requires size { length young.old.table.items ≡ segments.old.layout.mutators * segments.old.layout.nursery }
-    requires can { CanPromoteWith segments.old (W.words words.old) nurseries.old (inputs_of roots.old.registers roots.old.queues recorded.now weaks.now) }
+    requires can { CanPromoteWith segments.old (W.words words.old) (map M.nursery mutators.old)
+        (inputs_by M.registers M.queue M.recorded M.young_weaks mutators.old) }
     ensures promotes { Promotes (nursery_place segments.old.layout 0) (W.words words.old) (W.words words.new) segments.old segments.new
-        moves.new.items (inputs_of roots.old.registers roots.old.queues recorded.now weaks.now) young.new.table.items }
-    ensures registers { roots.new.registers ≡ map (forward_word young.new.table.items (nursery_place segments.old.layout 0)) roots.old.registers }
-    ensures queues { roots.new.queues ≡ map (forwarded_queue young.new.table.items (nursery_place segments.old.layout 0)) roots.old.queues }
-    ensures emptied { nurseries.new ≡ map emptied nurseries.old }
+        moves.new.items (inputs_by M.registers M.queue M.recorded M.young_weaks mutators.old) young.new.table.items }
+    ensures mutators { mutators.new ≡ map (promoted M.registers M.with_registers M.queue M.with_queue M.after_stop
+        (forward_word young.new.table.items (nursery_place segments.old.layout 0))) mutators.old }
     ensures sound { IsSegments segments.new }
     ensures layout { segments.new.layout ≡ segments.old.layout }
     ensures base { young.new.base ≡ young.old.base }
@@ -158,17 +146,6 @@ pub fn run_passes<W: HeapWords>(
 {
     let _ = segments.layout();
     clear(young, moves);
-    promote_words(
-        young,
-        moves,
-        words,
-        segments,
-        nurseries,
-        roots.registers.items(),
-        roots.queues.items(),
-        recorded,
-        weaks,
-    );
-    forward_roots(young.table.as_slice(), young.base, roots);
-    empty(nurseries);
+    promote_words(young, moves, words, segments, mutators);
+    settle(young.table.as_slice(), young.base, mutators);
 }

@@ -26,8 +26,8 @@ pub struct Move {
     pub to: Address,
 }
 
-// The words of an object.
-fn object_words<W: HeapWords>(words: &mut W, from: u32) -> u32
+/// The words of an object. No word changes.
+pub fn object_words<W: HeapWords>(words: &mut W, from: u32) -> u32
     requires { HasHeader (W.words words.old) from }
     ensures holds { (header : Header) → HasHeaderWord (W.words words.old) from header → result ≡ HEADERS + header.fields }
     ensures least { 2 ≤ result }

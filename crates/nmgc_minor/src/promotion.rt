@@ -1,23 +1,24 @@
 //! Promotion as a whole: what it is given, and what it promises of the world.
 ghost use Rattle.std.specs.Prelude.{ℕ, ◌≡◌, ◌+◌, ◌*◌, ◌<◌, ◌≤◌, length, map, IfOk};
+ghost use Rattle.std.specs.List.{flat_map};
 ghost use Rattle.nmgc_alloc.specs.AllocState.{AllocState, StandsFor};
 ghost use Rattle.nmgc_alloc.specs.Segments.{IsSegments};
 ghost use Rattle.nmgc_blocks.specs.Occupied.{KeepsMarks};
 ghost use Rattle.nmgc_blocks.specs.Promoted.{PlacesEach};
-ghost use Rattle.nmgc_blocks.specs.Stopped.{Stopped, IsStopped, IsSettled, young_base};
+ghost use Rattle.nmgc_blocks.specs.Stopped.{Stopped, IsSettled, young_base};
 ghost use Rattle.nmgc_minor.specs.Placing.{moved_of};
-ghost use Rattle.nmgc_minor.specs.Promotes.{Changes, emptied};
+ghost use Rattle.nmgc_heap.specs.Emptied.{emptied};
+ghost use Rattle.nmgc_minor.specs.Promotes.{Changes, IsStoppedBy, promoted};
 ghost use Rattle.nmgc_minor.specs.Start.{words_of, places_of};
 
 use crate::passes::run_passes;
 use crate::placing::Move;
-use crate::roots::Roots;
 use crate::young::Young;
 use nmgc_alloc::Segments;
 use nmgc_graph::{NoMemory, Room};
-use nmgc_heap::HeapWords;
+use nmgc_heap::{HeapWords, MutatorRoots};
+use nmgc_object::Layout;
 use nmgc_object::laws::words_differ;
-use nmgc_object::{Address, Layout, Nursery};
 use std::alloc::Global;
 use std::marker::Model;
 
@@ -82,40 +83,34 @@ impl Promotion {
     /// lists and the used words of the nurseries, for which the table is read. Where a segment was filled, the
     /// search for the next one comes to that. It grows neither with the heap nor with the unused words.
     ///
-    /// `recorded` are the places of the fields of older objects that the round wrote, `young_weaks` the
-    /// weak pointers that it made. At least as many segments are free as the layout's reserve, or no
-    /// nursery has an object.
-    pub fn promote<W: HeapWords>(
+    /// What the mutators hold is read and changed where it lies: registers, queue and nursery, and the lists of the
+    /// round, which are empty afterwards. `recorded` of a mutator are the places of the fields of older objects that it
+    /// gave a young one in the round, `young_weaks` the weak pointers that it made. At least as many segments are free as
+    /// the layout's reserve, or no nursery has an object.
+    pub fn promote<W: HeapWords, M: MutatorRoots>(
         &mut self,
         words: &mut W,
         segments: &mut Segments,
-        nurseries: &mut [Nursery],
-        roots: &mut Roots,
-        recorded: &[Address],
-        young_weaks: &[Address],
+        mutators: &mut [M],
     )
         requires layout { IsFor segments.old.layout self.old }
-        requires stopped { (t : Stopped) ×
-            IsStopped t segments.old (W.words words.old) nurseries.old roots.old.registers (words_of roots.old.queues) (places_of recorded.now)
-            (places_of young_weaks.now) }
+        requires stopped { (t : Stopped) × IsStoppedBy M.nursery M.registers M.queue M.recorded M.young_weaks t segments.old (W.words words.old) mutators.old }
 
         // What words, roots and blocks stand for; that exactly the promoted objects moved; and the state
         // of the segments.
-        ensures settled { (t : Stopped) →
-            IsStopped t segments.old (W.words words.old) nurseries.old roots.old.registers (words_of roots.old.queues) (places_of recorded.now)
-            (places_of young_weaks.now) →
-            IsSettled t segments.new (W.words words.new) roots.new.registers (words_of roots.new.queues) (map moved_of self.new.moves) }
-        ensures places { (t : Stopped) →
-            IsStopped t segments.old (W.words words.old) nurseries.old roots.old.registers (words_of roots.old.queues) (places_of recorded.now)
-            (places_of young_weaks.now) → (a : AllocState) → StandsFor segments.old (W.words words.old) a → (b : AllocState) ×
+        ensures settled { (t : Stopped) → IsStoppedBy M.nursery M.registers M.queue M.recorded M.young_weaks t segments.old (W.words words.old) mutators.old →
+            IsSettled t segments.new (W.words words.new) (flat_map M.registers mutators.new) (words_of (map M.queue mutators.new)) (map moved_of self.new.moves) }
+        ensures places { (t : Stopped) → IsStoppedBy M.nursery M.registers M.queue M.recorded M.young_weaks t segments.old (W.words words.old) mutators.old →
+            (a : AllocState) → StandsFor segments.old (W.words words.old) a → (b : AllocState) ×
             PlacesEach segments.old.layout t.world a (map (λ m. m.name) (map moved_of self.new.moves)) b × StandsFor segments.new (W.words words.new) b }
 
-        // Which words changed, and how.
-        ensures changes { (forward : ℕ → ℕ) ×
-            Changes (young_base segments.old) (places_of recorded.now) (map moved_of self.new.moves) forward (W.words words.old) (W.words words.new)
-            roots.old.registers roots.new.registers (words_of roots.old.queues) (words_of roots.new.queues) }
-        ensures room { map (λ queue. queue.spare) roots.new.queues ≡ map (λ queue. queue.spare) roots.old.queues }
-        ensures emptied { nurseries.new ≡ map emptied nurseries.old }
+        // Which words changed, and how; and what became of the mutators.
+        ensures changes { (forward : ℕ → ℕ) × Changes (young_base segments.old) (places_of (flat_map M.recorded mutators.old)) (map moved_of self.new.moves)
+            forward (W.words words.old) (W.words words.new) (flat_map M.registers mutators.old) (flat_map M.registers mutators.new)
+            (words_of (map M.queue mutators.old)) (words_of (map M.queue mutators.new)) ×
+            (mutators.new ≡ map (promoted M.registers M.with_registers M.queue M.with_queue M.after_stop forward) mutators.old) }
+        ensures room { map (λ queue. queue.spare) (map M.queue mutators.new) ≡ map (λ queue. queue.spare) (map M.queue mutators.old) }
+        ensures emptied { map M.nursery mutators.new ≡ map emptied (map M.nursery mutators.old) }
         ensures sound { IsSegments segments.new }
         ensures marks { KeepsMarks segments.old segments.new }
         ensures layout { segments.new.layout ≡ segments.old.layout }
@@ -123,15 +118,6 @@ impl Promotion {
         ensures few { length self.new.moves ≤ segments.old.layout.mutators * segments.old.layout.nursery }
     {
         words_differ();
-        run_passes(
-            &mut self.young,
-            &mut self.moves,
-            words,
-            segments,
-            nurseries,
-            roots,
-            recorded,
-            young_weaks,
-        );
+        run_passes(&mut self.young, &mut self.moves, words, segments, mutators);
     }
 }

@@ -1,31 +1,43 @@
 //! The first pass: what the search starts at, and the search.
-ghost use Rattle.std.specs.Prelude.{ℕ, ◌≡◌, ◌+◌, ◌≤◌, ◌<◌, List, [], length, slice_index, Contains};
+ghost use Rattle.std.specs.Prelude.{ℕ, ◌≡◌, ◌+◌, ◌≤◌, ◌<◌, List, [], length, map, slice_index, Contains};
+ghost use Rattle.std.specs.List.{flat_map};
 ghost use Rattle.nmgc_limits.specs.declared.mutators.TheConstants.{SHARED_SLOTS};
 ghost use Rattle.nmgc_object.specs.declared.words.Address.{Address};
 ghost use Rattle.nmgc_object.specs.FinQueue.{FinQueue as Queue};
 ghost use Rattle.nmgc_minor.specs.Found.{IsStart, IsFound};
 ghost use Rattle.nmgc_minor.specs.Young.{IsYoung, IsIn, IsWithin, Notes, CanFollow};
-ghost use Rattle.nmgc_minor.specs.Start.{inputs_of, IsWeakStart, Finds};
+ghost use Rattle.nmgc_minor.specs.Start.{inputs_by, IsWeakStart, Finds};
 
 use crate::young::Young;
 use nmgc_graph::SHARED_SLOTS;
-use nmgc_heap::HeapWords;
+use nmgc_heap::{HeapWords, MutatorRoots};
 use nmgc_object::words::WEAK_FIELDS;
-use nmgc_object::{Address, FinQueue, HEADER_WORDS, SHARED_PLACE};
+use nmgc_object::{Address, HEADER_WORDS, SHARED_PLACE};
+
+// Notes what registers hold.
+fn note_registers<M: MutatorRoots>(young: &mut Young, mutators: &[M])
+    requires young { IsYoung young.old }
+    requires within { (word : ℕ) → Contains (flat_map M.registers mutators.now) word → IsWithin young.old word }
+    ensures { Notes young.old young.new (Contains (flat_map M.registers mutators.now)) }
+{
+    for mutator in mutators {
+        young.note_all(mutator.registers());
+    }
+}
 
 // Notes what queues hold.
-fn note_queues(young: &mut Young, queues: &[FinQueue])
+fn note_queues<M: MutatorRoots>(young: &mut Young, mutators: &[M])
     requires young { IsYoung young.old }
-    requires within { (queue : Queue) (word : ℕ) → Contains queues.now queue → Contains queue.words word → IsWithin young.old word }
-    ensures { Notes young.old young.new (λ w. (queue : Queue) × Contains queues.now queue × Contains queue.words w) }
+    requires within { (queue : Queue) (word : ℕ) → Contains (map M.queue mutators.now) queue → Contains queue.words word → IsWithin young.old word }
+    ensures { Notes young.old young.new (λ w. (queue : Queue) × Contains (map M.queue mutators.now) queue × Contains queue.words w) }
 {
-    for queue in queues {
-        young.note_all(queue.words());
+    for mutator in mutators {
+        young.note_all(mutator.queue().words());
     }
 }
 
 // Notes what the fields at these places hold.
-fn note_recorded<W: HeapWords>(young: &mut Young, words: &mut W, recorded: &[Address])
+fn note_places<W: HeapWords>(young: &mut Young, words: &mut W, recorded: &[Address])
     requires young { IsYoung young.old }
     requires inside { (at : Address) → Contains recorded.now at → at.0 < length (W.words words.old) }
     requires within { (at : Address) → Contains recorded.now at → IsWithin young.old (slice_index (W.words words.old) at.0) }
@@ -35,6 +47,20 @@ fn note_recorded<W: HeapWords>(young: &mut Young, words: &mut W, recorded: &[Add
     for at in recorded {
         let word = words.load(at.0 as usize);
         young.note(word);
+    }
+}
+
+// Notes what the fields hold that the mutators recorded.
+fn note_recorded<W: HeapWords, M: MutatorRoots>(young: &mut Young, words: &mut W, mutators: &[M])
+    requires young { IsYoung young.old }
+    requires inside { (at : Address) → Contains (flat_map M.recorded mutators.now) at → at.0 < length (W.words words.old) }
+    requires within { (at : Address) → Contains (flat_map M.recorded mutators.now) at → IsWithin young.old (slice_index (W.words words.old) at.0) }
+    ensures notes { Notes young.old young.new (λ w. (at : Address) × Contains (flat_map M.recorded mutators.now) at ×
+        (slice_index (W.words words.old) at.0 ≡ w)) }
+    ensures same { W.words words.new ≡ W.words words.old }
+{
+    for mutator in mutators {
+        note_places(young, words, mutator.recorded());
     }
 }
 
@@ -54,7 +80,7 @@ fn note_weak<W: HeapWords>(young: &mut Young, words: &mut W, at: Address)
 }
 
 // Notes the young weak pointers that are alive, and their parts.
-fn note_weaks<W: HeapWords>(young: &mut Young, words: &mut W, weaks: &[Address])
+fn note_all_weaks<W: HeapWords>(young: &mut Young, words: &mut W, weaks: &[Address])
     requires young { IsYoung young.old }
     requires inside { (at : Address) → Contains weaks.now at → at.0 + 5 ≤ length (W.words words.old) }
     requires within { (at : Address) (word : ℕ) → Contains weaks.now at → IsWeakStart (W.words words.old) at word → IsWithin young.old word }
@@ -63,6 +89,21 @@ fn note_weaks<W: HeapWords>(young: &mut Young, words: &mut W, weaks: &[Address])
 {
     for at in weaks {
         note_weak(young, words, *at);
+    }
+}
+
+// Notes the young weak pointers of the mutators that are alive, and their parts.
+fn note_weaks<W: HeapWords, M: MutatorRoots>(young: &mut Young, words: &mut W, mutators: &[M])
+    requires young { IsYoung young.old }
+    requires inside { (at : Address) → Contains (flat_map M.young_weaks mutators.now) at → at.0 + 5 ≤ length (W.words words.old) }
+    requires within { (at : Address) (word : ℕ) → Contains (flat_map M.young_weaks mutators.now) at → IsWeakStart (W.words words.old) at word →
+        IsWithin young.old word }
+    ensures notes { Notes young.old young.new (λ w. (at : Address) × Contains (flat_map M.young_weaks mutators.now) at ×
+        IsWeakStart (W.words words.old) at w) }
+    ensures same { W.words words.new ≡ W.words words.old }
+{
+    for mutator in mutators {
+        note_all_weaks(young, words, mutator.young_weaks());
     }
 }
 
@@ -78,31 +119,24 @@ fn note_shared<W: HeapWords>(young: &mut Young, words: &mut W)
     young.note_range(words, first, first + usize::from(SHARED_SLOTS));
 }
 
-/// Finds the young objects that are to be moved.
-pub fn mark<W: HeapWords>(
-    young: &mut Young,
-    words: &mut W,
-    registers: &[u64],
-    queues: &[FinQueue],
-    recorded: &[Address],
-    weaks: &[Address],
-)
+/// Finds the young objects that are to be moved. What mutators hold is read where it lies.
+pub fn mark<W: HeapWords, M: MutatorRoots>(young: &mut Young, words: &mut W, mutators: &[M])
     requires young { IsYoung young.old }
     requires empty { young.old.found.items ≡ [] }
     requires inside { 32 ≤ length (W.words words.old) }
-    requires recorded { (at : Address) → Contains recorded.now at → at.0 < length (W.words words.old) }
-    requires weaks { (at : Address) → Contains weaks.now at → at.0 + 5 ≤ length (W.words words.old) }
-    requires within { (word : ℕ) → IsStart (inputs_of registers.now queues.now recorded.now weaks.now) (W.words words.old) word → IsWithin young.old word }
-    requires can { (at : ℕ) →
-        IsFound young.old.base (W.words words.old) (IsStart (inputs_of registers.now queues.now recorded.now weaks.now) (W.words words.old)) at →
-        CanFollow young.old (W.words words.old) at }
-    ensures finds { Finds young.old young.new (W.words words.old) (inputs_of registers.now queues.now recorded.now weaks.now) }
+    requires recorded { (at : Address) → Contains (flat_map M.recorded mutators.now) at → at.0 < length (W.words words.old) }
+    requires weaks { (at : Address) → Contains (flat_map M.young_weaks mutators.now) at → at.0 + 5 ≤ length (W.words words.old) }
+    requires within { (word : ℕ) → IsStart (inputs_by M.registers M.queue M.recorded M.young_weaks mutators.now) (W.words words.old) word →
+        IsWithin young.old word }
+    requires can { (at : ℕ) → IsFound young.old.base (W.words words.old)
+        (IsStart (inputs_by M.registers M.queue M.recorded M.young_weaks mutators.now) (W.words words.old)) at → CanFollow young.old (W.words words.old) at }
+    ensures finds { Finds young.old young.new (W.words words.old) (inputs_by M.registers M.queue M.recorded M.young_weaks mutators.now) }
     ensures same { W.words words.new ≡ W.words words.old }
 {
-    young.note_all(registers);
-    note_queues(young, queues);
+    note_registers(young, mutators);
+    note_queues(young, mutators);
     note_shared(young, words);
-    note_recorded(young, words, recorded);
-    note_weaks(young, words, weaks);
+    note_recorded(young, words, mutators);
+    note_weaks(young, words, mutators);
     young.follow(words);
 }

@@ -1,12 +1,15 @@
 -- Finalisers join their makers' queues one after another.
 use Rattle.std.proofs.Common.{◌≡◌, ◌≢◌, ◌+◌, ◌<◌, ◌≤◌, ℕ, zero, suc, Bool, true, false, cond, List, [], ◌∷◌, ◌++◌, map, length, take, set, get_or, refl, sym, ap, subst, ◌∙◌, append-nil, append_assoc, length-append, length-set, arith, inl, inr}
 use Rattle.std.specs.Prelude.{filter, slice_get, Some}
+use Rattle.std.specs.Option.{option_map}
+use Rattle.std.proofs.lemmas.List.{length-map, map-set}
+use Rattle.std.proofs.lemmas.Option.{slice_get-map}
 use Rattle.std.proofs.lemmas.Bool.{cases_eq}
 use Rattle.std.proofs.lemmas.Bool.Decides.{eqb_tells}
 use Rattle.nmgc_graph.specs.laws.Worlds.{slice_get-set_same, slice_get-set_other}
 use Rattle.nmgc_object.specs.FinQueue.{FinQueue}
 use Rattle.nmgc_weak.specs.declared.weaks.Death.{Death}
-use Rattle.nmgc_weak.specs.Queues.{joins, joined, HaveRoom, Joins, AllJoin}
+use Rattle.nmgc_weak.specs.Queues.{joins, joined, HaveRoom, Joins, AllJoin, HaveJoined}
 
 -- the word of a death, where it joins this queue
 abbrev pub one_of : ℕ → Death → List ℕ
@@ -167,3 +170,49 @@ module _ (ds : List Death) (i : ℕ) (e : Death) (old now : List FinQueue) (lt :
 
 pub none_join : (old : List FinQueue) → AllJoin [] old old
 none_join old = (refl, λ maker before is. (before, is, record { words_are = sym (append-nil before.words); spare = omega arith }))
+
+module _ {M : Type 0} (queue : M → FinQueue) (with_queue : M → FinQueue → M) where
+  -- no death, no change
+  pub none_joined : ((m : M) → with_queue m (queue m) ≡ m) → (old : List M) → HaveJoined queue with_queue [] old old
+  none_joined same old = record { joined = none_join (map queue old); rest = λ k m is. (queue m, is ∙ ap (λ (x : M). Some x) (sym (same m))) }
+
+  pub joined_count : (ds : List Death) (old now : List M) → HaveJoined queue with_queue ds old now → length now ≡ length old
+  joined_count ds old now h = sym (length-map now queue) ∙ h.joined.0 ∙ length-map old queue
+
+  -- the queue of one that is there
+  pub queue_at : (now : List M) (k : ℕ) (m : M) → slice_get now k ≡ Some m → slice_get (map queue now) k ≡ Some (queue m)
+  queue_at now k m here = slice_get-map queue now k ∙ ap (option_map queue) here
+
+  module _ (ds : List Death) (i : ℕ) (e : Death) (old now : List M) (lt : i < length ds) (h : HaveJoined queue with_queue (take i ds) old now) where
+    -- nil joins no queue
+    pub nil_stays : (get_or ds i e).finaliser ≡ 1 → HaveJoined queue with_queue (take (i + 1) ds) old now
+    nil_stays nil = record { joined = nil_joins ds i e (map queue old) (map queue now) lt h.joined nil; rest = h.rest }
+
+    -- any other joins that of its maker, which is the one before with another queue
+    pub one_joined : ((m : M) (q : FinQueue) → queue (with_queue m q) ≡ q) →
+        ((m : M) (q r : FinQueue) → with_queue (with_queue m q) r ≡ with_queue m r) → (m : M) (r : FinQueue) → (get_or ds i e).finaliser ≢ 1 →
+        slice_get now (get_or ds i e).weak.maker ≡ Some m → r.words ≡ (queue m).words ++ (get_or ds i e).finaliser ∷ [] →
+        r.spare + 1 ≡ (queue m).spare → HaveJoined queue with_queue (take (i + 1) ds) old (set now (get_or ds i e).weak.maker (with_queue m r))
+    one_joined own last m r ne here words spare = record {
+      joined = subst (λ (l : List FinQueue). AllJoin (take (i + 1) ds) (map queue old) l)
+          (sym (map-set queue now maker (with_queue m r) ∙ ap (λ (q : FinQueue). set (map queue now) maker q) (own m r)))
+          (one_joins ds i e (map queue old) (map queue now) lt h.joined (queue m) r ne (queue_at now maker m here) words spare);
+      rest = λ k before is. by_maker k before (h.rest k before is);
+    }
+      where
+        maker : ℕ
+        maker = (get_or ds i e).weak.maker
+
+        by_maker : (k : ℕ) (before : M) → (q : FinQueue) × (slice_get now k ≡ Some (with_queue before q)) → (q : FinQueue) ×
+            (slice_get (set now maker (with_queue m r)) k ≡ Some (with_queue before q))
+        by_maker k before a = elim (cases_eq k maker) [
+          | inl same ↦
+              let both : Some m ≡ Some (with_queue before a.0) = sym here ∙ ap (λ (n : ℕ). slice_get now n) (sym same) ∙ a.1 in
+              let eq : m ≡ with_queue before a.0 = cc in
+              let within : maker < length now = get_within now maker m here in (
+                r,
+                ap (λ (n : ℕ). slice_get (set now maker (with_queue m r)) n) same ∙ slice_get-set_same now maker (with_queue m r) within ∙
+                    ap (λ (x : M). Some (with_queue x r)) eq ∙ ap (λ (x : M). Some x) (last before a.0 r),
+              )
+          | inr other ↦ (a.0, slice_get-set_other now maker k (with_queue m r) other ∙ a.1)
+        ]

@@ -26,3 +26,8 @@ pub record Joins (old new : FinQueue) (words : List ℕ) : Type 0 where
 abbrev pub AllJoin : List Death → List FinQueue → List FinQueue → Type 0
 AllJoin deaths old new = (length new ≡ length old) × ((maker : ℕ) (before : FinQueue) → slice_get old maker ≡ Some before → (after : FinQueue) ×
     (slice_get new maker ≡ Some after) × Joins before after (joined maker deaths))
+
+-- the same of mutators: their queues have them, and each mutator is the one before with its new queue
+pub record HaveJoined {M : Type 0} (queue : M → FinQueue) (with_queue : M → FinQueue → M) (deaths : List Death) (old new : List M) : Type 0 where
+  pub joined : AllJoin deaths (map queue old) (map queue new)
+  pub rest : (maker : ℕ) (before : M) → slice_get old maker ≡ Some before → (own : FinQueue) × (slice_get new maker ≡ Some (with_queue before own))

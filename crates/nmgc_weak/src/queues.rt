@@ -1,19 +1,23 @@
 //! Finalisers join the queues of their makers.
-ghost use Rattle.nmgc_weak.specs.Queues.{HaveRoom, AllJoin};
+ghost use Rattle.std.specs.Prelude.{map};
+ghost use Rattle.nmgc_weak.specs.Queues.{HaveRoom, HaveJoined};
 
 use crate::weaks::Death;
-use nmgc_object::FinQueue;
+use nmgc_heap::MutatorRoots;
 use nmgc_object::words::NIL_WORD;
 
 /// Adds the finaliser of each death, unless it is nil, to the queue of the weak pointer's maker, in the order of
-/// the deaths. Each maker among them has a queue, and the queues have room. Takes no memory.
-pub fn queue_finalisers(deaths: &[Death], queues: &mut [FinQueue])
-    requires { HaveRoom deaths.now queues.old }
-    ensures { AllJoin deaths.now queues.old queues.new }
+/// the deaths. The queues are those of the mutators, by their numbers, and nothing else of these changes. Each maker
+/// among the deaths is one of them, and the queues have room. Takes no memory.
+pub fn queue_finalisers<M: MutatorRoots>(deaths: &[Death], mutators: &mut [M])
+    requires { HaveRoom deaths.now (map M.queue mutators.old) }
+    ensures { HaveJoined M.queue M.with_queue deaths.now mutators.old mutators.new }
 {
     for death in deaths {
         if death.finaliser != NIL_WORD {
-            queues[usize::from(death.weak.maker)].add(death.finaliser);
+            mutators[usize::from(death.weak.maker)]
+                .queue_mut()
+                .add(death.finaliser);
         }
     }
 }

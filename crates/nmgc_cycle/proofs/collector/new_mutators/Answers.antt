@@ -35,14 +35,14 @@ loop-number-preserved c =
     let l = c.loop-number in
     let inv = l.invariant in
     let m : Mutator = c.in_ok-new.field-0 in
-    let before : AreMade c.args.layout l.mutators.items l.receivers = record { new = inv.new; lines = inv.lines; unsent = inv.unsent } in
-    let more = made_more c.args.layout l.number l.mutators.items l.receivers m inv.count inv.many before c.in_ok-sender.ensures
+    let before : AreMade c.args.layout l.mutators.items l.receivers.items = record { new = inv.new; lines = inv.lines; unsent = inv.unsent } in
+    let more = made_more c.args.layout l.number l.mutators.items l.receivers.items m inv.count inv.many before c.in_ok-sender.ensures
     c.in_ok-new.ensures.sender c.in_ok-new.ensures.new in
     let items = c.in_ok-push.ensures.items in
-    let listed = c.in_ok-push-2.ensures.ok in
+    let listed = c.in_ok-push-2.ensures.items in
     let all = subst (λ (receivers : List Receiver). AreMade c.args.layout c.push.new.self.items receivers) (sym {A =
     List Receiver} listed) (subst (λ (mutators : List Mutator).
-    AreMade c.args.layout mutators (l.receivers ++ c.in_ok-sender.receiver ∷ [])) (sym {A = List Mutator} items) more) in
+    AreMade c.args.layout mutators (l.receivers.items ++ c.in_ok-sender.receiver ∷ [])) (sym {A = List Mutator} items) more) in
     record {
       count = grind (arith, common_steps);
       many = grind (arith, common_steps);
@@ -52,7 +52,7 @@ loop-number-preserved c =
     }
 
 pub returns-clause-lines : goal.returns-clause-lines
-returns-clause-lines c = λ k m e. subst (λ (inbox : List Receiver). IsLined inbox k m.sender) (sym c.new-2.ensures) (c.loop-number.invariant.lines k m e)
+returns-clause-lines c = λ k m e. subst (λ (inbox : List Receiver). IsLined inbox k m.sender) (sym (c.new-2.ensures ∙ c.of.ensures)) (c.loop-number.invariant.lines k m e)
 
 pub returns-clause-unsent : goal.returns-clause-unsent
 returns-clause-unsent c = c.loop-number.invariant.unsent

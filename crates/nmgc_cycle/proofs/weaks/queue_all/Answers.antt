@@ -1,26 +1,29 @@
-use Rattle.std.proofs.Common.{◌≡◌, List, length, map, ap, subst, ◌∙◌}
+use Rattle.std.proofs.Common.{◌≡◌, ℕ, List, length, map, ap, sym, ◌∙◌, slice_index_or, Some}
+use Rattle.std.specs.Prelude.{slice_get}
+use Rattle.std.specs.Option.{option_map}
+use Rattle.std.proofs.lemmas.List.{length-map}
+use Rattle.std.proofs.lemmas.Option.{get_or_from_slice_get, slice_get-map}
 use Rattle.nmgc_mutator.specs.declared.mutator.Mutator.{Mutator}
 use Rattle.nmgc_object.specs.FinQueue.{FinQueue}
-use Rattle.nmgc_weak.specs.Queues.{AllJoin}
-use Rattle.nmgc_cycle.specs.Listed.{HaveQueues}
-use Rattle.nmgc_cycle.specs.Roots.{queues_in, without_queue}
-use Rattle.nmgc_cycle.proofs.MutatorLists.{vec_back}
-use Rattle.nmgc_cycle.proofs.QueueLists.{have_without}
+use Rattle.nmgc_cycle.specs.Roots.{queues_in, no_queue}
 use Rattle.nmgc_cycle.proofs.weaks.queue_all.Goals as goal
+
+abbrev own : Mutator → FinQueue
+own m = m.queue
 
 pub returns : goal.returns
 returns c =
     let old : List Mutator = c.args.mutators.now in
-    let new : List Mutator = c.give_queues.new.mutators in
-    let queues : List FinQueue = c.queue_finalisers.new.queues in
-    let v = c.take_queues-queues.result in
-    let was : c.as_mut_slice.result.now ≡ queues_in old = c.as_mut_slice.ensures.value ∙ c.take_queues-queues.ensures.taken in
-    let many : length queues ≡ length v.items = c.queue_finalisers.ensures.0 ∙ ap (λ (l : List FinQueue). length l) c.as_mut_slice.ensures.value in
-    let back : c.as_mut_slice-2.result.now ≡ queues = c.as_mut_slice-2.ensures.value ∙ vec_back v queues many in
-    let given : HaveQueues c.as_mut_slice-2.result.now (map without_queue old) new =
-    subst (λ (ms : List Mutator). HaveQueues c.as_mut_slice-2.result.now ms new) c.take_queues-queues.ensures.left c.give_queues.ensures in
+    let new : List Mutator = c.queue_finalisers.new.mutators in
+    let joined = c.queue_finalisers.ensures in
     record {
-      queues = queues;
-      joined = subst (λ (l : List FinQueue). AllJoin c.args.deaths.now l queues) was c.queue_finalisers.ensures;
-      have = have_without queues old new (subst (λ (l : List FinQueue). HaveQueues l (map without_queue old) new) back given);
+      queues = queues_in new;
+      joined = joined.joined;
+      have = record {
+        count = sym (length-map new own) ∙ joined.joined.0 ∙ length-map old own;
+        each = λ k m e.
+            let now = joined.rest k m e in
+            let there : slice_get (queues_in new) k ≡ Some now.0 = slice_get-map own new k ∙ ap (option_map own) now.1 in
+            now.1 ∙ ap (λ (q : FinQueue). Some (record m { queue = q })) (sym (get_or_from_slice_get (queues_in new) k now.0 no_queue there));
+      };
     }

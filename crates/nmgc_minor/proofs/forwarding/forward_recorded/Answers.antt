@@ -1,37 +1,53 @@
-use Rattle.std.proofs.Common.{◌≡◌, List, take, get_or, subst, arith}
+use Rattle.std.proofs.Common.{ℕ, ◌≡◌, ◌+◌, ◌++◌, List, take, subst, sym, arith}
 use Rattle.std.specs.Prelude.{Contains}
-use Rattle.std.proofs.lemmas.List.{take_all, get_or_default}
-use Rattle.std.proofs.lemmas.List.Elements.{Contains-get_or}
+use Rattle.std.specs.List.{flat_map}
+use Rattle.std.proofs.lemmas.List.{take_all}
+use Rattle.std.proofs.lemmas.List.Elements.{Contains-get_or, Contains-append_left, Contains-append_right, Contains-append_cases}
 use Rattle.nmgc_object.specs.declared.words.Address.{Address}
+use Rattle.nmgc_reach.specs.laws.ItemLaws.{contains_flat}
 use Rattle.nmgc_minor.specs.Forwarding.{ForwardsAt, forward_word}
-use Rattle.nmgc_minor.proofs.ForwardLaws.{none_forwarded, recorded_more}
+use Rattle.nmgc_minor.proofs.ForwardLaws.{none_forwarded, forwards_then}
+use Rattle.nmgc_minor.proofs.Listing.{flat_more}
 use Rattle.nmgc_minor.proofs.forwarding.forward_recorded.Goals as goal
 
-pub loop-at-init : goal.loop-at-init
-loop-at-init g c = none_forwarded (forward_word c.args.table.now c.args.base) (g.W.HeapWords.words c.args.words.now) (λ i.
-    Contains (take 0 c.args.recorded.now) (record { 0 = i })) (λ i h. omega (arith, h.1))
+pub loop-mutator-init : goal.loop-mutator-init
+loop-mutator-init g c = none_forwarded (forward_word c.args.table.now c.args.base) (g.W.HeapWords.words c.args.words.now) (λ i.
+    Contains (flat_map g.M.MutatorRoots.recorded (take 0 c.args.mutators.now)) (record { 0 = i })) (λ i h. omega (arith, h.1))
 
-pub forward_at-requires : goal.forward_at-requires
-forward_at-requires g c =
-    let h = c.requires.inside (get_or c.args.recorded.now c.loop-at.at-index (record {
-      0 =
-          0;
-    })) (Contains-get_or c.args.recorded.now c.loop-at.at-index (record { 0 = 0 }) c.loop-at-test.true) in
-    let e = c.loop-at.invariant.total in
-    omega (arith, h, e)
+pub forward_places-requires-clause-inside : goal.forward_places-requires-clause-inside
+forward_places-requires-clause-inside g c = λ at h.
+    let f = g.M.MutatorRoots.recorded in
+    let ms = c.args.mutators.now in
+    let x = c.mutator-item.result in
+    let there = subst (λ y. Contains ms y) (sym c.mutator-item.is) (Contains-get_or ms c.loop-mutator.mutator-index x c.loop-mutator-test.true) in
+    let inside = c.requires.inside at (contains_flat f ms x at there (subst (λ (l : List Address). Contains l at) c.recorded.ensures h)) in
+    let total = c.loop-mutator.invariant.total in
+    omega (arith, inside, total)
 
-pub loop-at-preserved : goal.loop-at-preserved
-loop-at-preserved g c =
-    let x : Address = get_or c.args.recorded.now c.loop-at.at-index (record { 0 = 0 }) in
-    let h = c.requires.inside x (Contains-get_or c.args.recorded.now c.loop-at.at-index (record { 0 = 0 }) c.loop-at-test.true) in
-    let e = c.loop-at.invariant.total in
-    rw (c.forward_at.ensures) (recorded_more c.args.table.now c.args.base (g.W.HeapWords.words c.args.words.now)
-    (g.W.HeapWords.words c.loop-at.words) c.args.recorded.now c.loop-at.at-index x c.requires.small c.loop-at-test.true
-    (get_or_default c.args.recorded.now c.loop-at.at-index (record { 0 = 0 }) x c.loop-at-test.true) (omega (arith, h, e)) c.loop-at.invariant)
+pub loop-mutator-preserved : goal.loop-mutator-preserved
+loop-mutator-preserved g c =
+    let f = g.M.MutatorRoots.recorded in
+    let ms = c.args.mutators.now in
+    let i : ℕ = c.loop-mutator.mutator-index in
+    let x = c.mutator-item.result in
+    let old : List ℕ = g.W.HeapWords.words c.args.words.now in
+    let mid : List ℕ = g.W.HeapWords.words c.loop-mutator.words in
+    let new : List ℕ = g.W.HeapWords.words c.forward_places.new.words in
+    let before : List Address = flat_map f (take i ms) in
+    let more : flat_map f (take (i + 1) ms) ≡ before ++ f x = flat_more f ms i x c.loop-mutator-test.true c.mutator-item.is in
+    let step : ForwardsAt (forward_word c.args.table.now c.args.base) mid new (λ k. Contains (f x) (record { 0 = k })) =
+    subst (λ (l : List Address). ForwardsAt (forward_word c.args.table.now c.args.base) mid new (λ k. Contains l (record { 0 = k })))
+    c.recorded.ensures c.forward_places.ensures in
+    subst (λ (l : List Address). ForwardsAt (forward_word c.args.table.now c.args.base) old new (λ k. Contains l (record { 0 = k }))) (sym more)
+    (forwards_then c.args.table.now c.args.base old mid new (λ k. Contains before (record { 0 = k })) (λ k. Contains (f x) (record { 0 = k })) (λ k.
+    Contains (before ++ f x) (record { 0 = k })) c.requires.small c.loop-mutator.invariant step
+    (λ k h. Contains-append_left before (f x) (record { 0 = k }) h)
+    (λ k h. Contains-append_right before (f x) (record { 0 = k }) h)
+    (λ k h. Contains-append_cases before (f x) (record { 0 = k }) h))
 
 pub returns : goal.returns
 returns g c =
-    let all : take c.loop-at.at-index c.args.recorded.now ≡ c.args.recorded.now = take_all c.loop-at.at-index c.args.recorded.now c.loop-at-test.false in
-    subst (λ (xs : List Address).
-    ForwardsAt (forward_word c.args.table.now c.args.base) (g.W.HeapWords.words c.args.words.now) (g.W.HeapWords.words c.loop-at.words) (λ i.
-    Contains xs (record { 0 = i }))) all c.loop-at.invariant
+    let f = g.M.MutatorRoots.recorded in
+    let all = take_all c.loop-mutator.mutator-index c.args.mutators.now c.loop-mutator-test.false in
+    subst (λ xs. ForwardsAt (forward_word c.args.table.now c.args.base) (g.W.HeapWords.words c.args.words.now)
+    (g.W.HeapWords.words c.loop-mutator.words) (λ i. Contains (flat_map f xs) (record { 0 = i }))) all c.loop-mutator.invariant

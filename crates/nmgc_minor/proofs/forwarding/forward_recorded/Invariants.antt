@@ -1,8 +1,9 @@
 use Rattle.std.proofs.Common.{take}
 use Rattle.std.specs.Prelude.{Contains}
+use Rattle.std.specs.List.{flat_map}
 use Rattle.nmgc_minor.specs.Forwarding.{forward_word, ForwardsAt}
 use Rattle.nmgc_minor.proofs.forwarding.forward_recorded.Given as goal
 
-abbrev pub invariant-loop-at : goal.invariant-loop-at
-invariant-loop-at g l = ForwardsAt (forward_word l.table l.base) (g.W.HeapWords.words l.initial.words) (g.W.HeapWords.words l.words) (λ i.
-    Contains (take l.at-index l.recorded) (record { 0 = i }))
+abbrev pub invariant-loop-mutator : goal.invariant-loop-mutator
+invariant-loop-mutator g l = ForwardsAt (forward_word l.table l.base) (g.W.HeapWords.words l.initial.words) (g.W.HeapWords.words l.words) (λ i.
+    Contains (flat_map g.M.MutatorRoots.recorded (take l.mutator-index l.mutators)) (record { 0 = i }))

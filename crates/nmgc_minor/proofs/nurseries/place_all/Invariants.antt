@@ -1,4 +1,4 @@
-use Rattle.std.proofs.Common.{◌≡◌, ◌+◌, ◌*◌, ◌≤◌, ◌++◌, List, length}
+use Rattle.std.proofs.Common.{◌≡◌, ◌+◌, ◌-◌, ◌*◌, ◌≤◌, ◌++◌, List, length}
 use Rattle.nmgc_alloc.specs.Segments.{IsSegments}
 use Rattle.nmgc_alloc.specs.Reserve.{KeepsReserve}
 use Rattle.nmgc_minor.specs.declared.placing.Move.{Move}
@@ -7,6 +7,8 @@ use Rattle.nmgc_minor.proofs.nurseries.place_all.Given as goal
 
 abbrev pub invariant-loop-at : goal.invariant-loop-at
 invariant-loop-at g l = record {
+  low : l.from ≤ l.at;
+  high : l.at ≤ l.to;
   sound : IsSegments l.segments;
   layout : l.segments.layout ≡ l.initial.segments.layout;
   placed : (added : List Move) × (l.moves.items ≡ l.initial.moves.items ++ added) ×
@@ -18,3 +20,6 @@ invariant-loop-at g l = record {
       (l.maker * l.initial.segments.layout.nursery) l.from l.at l.to;
   same : g.W.HeapWords.words l.words ≡ g.W.HeapWords.words l.initial.words;
 }
+
+abbrev pub decreases-loop-at : goal.decreases-loop-at
+decreases-loop-at g l = l.to - l.at

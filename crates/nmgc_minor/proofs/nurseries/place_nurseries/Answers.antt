@@ -1,6 +1,7 @@
 use Rattle.std.proofs.Common.{◌≡◌, ◌+◌, ◌-◌, ◌*◌, ◌<◌, ◌≤◌, ◌++◌, ℕ, List, [], length, refl, sym, ap, subst, ◌∙◌, arith, inl, inr, append_assoc, slice_index}
 use Rattle.std.proofs.Math.Nat.{mul-le-mul_right}
-use Rattle.std.proofs.lemmas.List.{append-nil}
+use Rattle.std.specs.Prelude.{map}
+use Rattle.std.proofs.lemmas.List.{append-nil, length-map}
 use Rattle.nmgc_object.specs.Places.{nursery_place}
 use Rattle.nmgc_object.specs.declared.layout.Layout.{Layout}
 use Rattle.nmgc_object.specs.declared.layout.Nursery.{Nursery}
@@ -8,6 +9,7 @@ use Rattle.nmgc_alloc.specs.Reserve.{KeepsReserve}
 use Rattle.nmgc_minor.specs.declared.placing.Move.{Move}
 use Rattle.nmgc_blocks.specs.Nurseries.{nursery_at}
 use Rattle.nmgc_minor.specs.Placing.{AreNurseries, CanPlaceAll, PlacesRange}
+use Rattle.nmgc_minor.proofs.Listing.{nursery_is}
 use Rattle.nmgc_minor.proofs.PlacingLaws.{range_none, range_gap, range_then, still_can_place}
 use Rattle.nmgc_minor.proofs.nurseries.place_nurseries.Goals as goal
 
@@ -43,6 +45,12 @@ lies layout base table nurseries maker a lt =
       next = omega (arith, flat);
     }
 
+-- the same of a nursery that is that one
+lies_by : (layout : Layout) (base : ℕ) (table : List ℕ) (nurseries : List Nursery) (maker : ℕ) (n : Nursery) → AreNurseries layout base table nurseries →
+    maker < length nurseries → n ≡ nursery_at nurseries maker → Lies layout base (length table) n maker
+lies_by layout base table nurseries maker n a lt is =
+    subst (λ (y : Nursery). Lies layout base (length table) y maker) (sym is) (lies layout base table nurseries maker a lt)
+
 pub loop-maker-init : goal.loop-maker-init
 loop-maker-init g c =
     let l = c.args.segments.now.layout in
@@ -50,6 +58,7 @@ loop-maker-init g c =
     let place : c.args.base ≡ nursery_place c.args.segments.now.layout 0 = begins in
     record {
       sound = c.requires.sound;
+      count = sym (length-map c.args.mutators.now g.M.MutatorRoots.nursery) ∙ c.requires.nurseries.count;
       layout = refl;
       placed = (
         [],
@@ -70,7 +79,12 @@ loop-maker-init g c =
 
 pub place_all-requires-clause-inside : goal.place_all-requires-clause-inside
 place_all-requires-clause-inside g c =
-    let f = lies c.args.segments.now.layout c.args.base c.args.table.now c.args.nurseries.now c.loop-maker.maker c.requires.nurseries c.loop-maker-test.true in
+    let x = c.index-mutators-maker.result in
+    let n = c.nursery-nursery.result in
+    let is : n ≡ nursery_at (map g.M.MutatorRoots.nursery c.args.mutators.now) c.loop-maker.maker = c.nursery-nursery.ensures ∙
+    nursery_is g.M.MutatorRoots.nursery c.args.mutators.now c.loop-maker.maker x c.loop-maker-test.true c.index-mutators-maker.is in
+    let f = lies_by c.args.segments.now.layout c.args.base c.args.table.now (map g.M.MutatorRoots.nursery c.args.mutators.now) c.loop-maker.maker n
+    c.requires.nurseries (rw (length-map c.args.mutators.now g.M.MutatorRoots.nursery) c.loop-maker-test.true) is in
     let size = c.loop-maker.invariant.placed.2.size in
     let at = f.at in let within = f.within in let inside = f.inside in
     omega (arith, at, within, inside, size)
@@ -78,28 +92,77 @@ place_all-requires-clause-inside g c =
 pub place_all-requires-clause-objects : goal.place_all-requires-clause-objects
 place_all-requires-clause-objects g c =
     let layout = c.args.segments.now.layout in
-    let f = lies c.args.segments.now.layout c.args.base c.args.table.now c.args.nurseries.now c.loop-maker.maker c.requires.nurseries c.loop-maker-test.true in
-    let n = nursery_at c.args.nurseries.now c.loop-maker.maker in
+    let x = c.index-mutators-maker.result in
+    let n = c.nursery-nursery.result in
+    let is : n ≡ nursery_at (map g.M.MutatorRoots.nursery c.args.mutators.now) c.loop-maker.maker = c.nursery-nursery.ensures ∙
+    nursery_is g.M.MutatorRoots.nursery c.args.mutators.now c.loop-maker.maker x c.loop-maker-test.true c.index-mutators-maker.is in
+    let f = lies_by c.args.segments.now.layout c.args.base c.args.table.now (map g.M.MutatorRoots.nursery c.args.mutators.now) c.loop-maker.maker n
+    c.requires.nurseries (rw (length-map c.args.mutators.now g.M.MutatorRoots.nursery) c.loop-maker-test.true) is in
     let at = f.at in
     let place = f.place in
     let r = c.loop-maker.invariant.placed.2 in
     let can = still_can_place c.args.segments.now.layout c.loop-maker.maker (g.W.HeapWords.words c.args.words.now) c.args.table.now
     c.loop-maker.table c.args.base n.base n.top (omega (arith, at)) (λ k l.
-    r.outside k (omega (arith, at, l)) (inr (omega (arith, place, l)))) (c.requires.objects c.loop-maker.maker f.exists) in
+    r.outside k (omega (arith, at, l)) (inr (omega (arith, place, l)))) (subst (λ (y : Nursery).
+    CanPlaceAll layout c.loop-maker.maker (g.W.HeapWords.words c.args.words.now) c.args.table.now c.args.base y.base y.top) (sym is)
+    (c.requires.objects c.loop-maker.maker f.exists)) in
     rw (c.loop-maker.invariant.same) (subst (λ (x : Layout).
     CanPlaceAll x c.loop-maker.maker (g.W.HeapWords.words c.args.words.now) c.loop-maker.table c.args.base n.base n.top)
     (sym c.loop-maker.invariant.layout) can)
 
 pub place_all-requires-clause-reserve : goal.place_all-requires-clause-reserve
-place_all-requires-clause-reserve g c = elim c.loop-maker.invariant.reserve [
-  | inl k ↦ inl (subst (λ (l : Layout).
-      KeepsReserve c.loop-maker.segments.layout c.loop-maker.segments.segments (c.loop-maker.maker * l.nursery)) (sym c.loop-maker.invariant.layout) k)
-  | inr none ↦ inr (sym (none c.loop-maker.maker))
-]
+place_all-requires-clause-reserve g c =
+    let x = c.index-mutators-maker.result in
+    let n = c.nursery-nursery.result in
+    let is : n ≡ nursery_at (map g.M.MutatorRoots.nursery c.args.mutators.now) c.loop-maker.maker = c.nursery-nursery.ensures ∙
+    nursery_is g.M.MutatorRoots.nursery c.args.mutators.now c.loop-maker.maker x c.loop-maker-test.true c.index-mutators-maker.is in
+    elim c.loop-maker.invariant.reserve [
+      | inl k ↦ inl (subst (λ (l : Layout).
+          KeepsReserve c.loop-maker.segments.layout c.loop-maker.segments.segments (c.loop-maker.maker * l.nursery)) (sym c.loop-maker.invariant.layout) k)
+      | inr none ↦ inr (sym (subst (λ (y : Nursery). y.top ≡ y.base) (sym is) (none c.loop-maker.maker)))
+    ]
+
+pub place_all-requires-clause-above : goal.place_all-requires-clause-above
+place_all-requires-clause-above g c =
+    let x = c.index-mutators-maker.result in
+    let n = c.nursery-nursery.result in
+    let is : n ≡ nursery_at (map g.M.MutatorRoots.nursery c.args.mutators.now) c.loop-maker.maker = c.nursery-nursery.ensures ∙
+    nursery_is g.M.MutatorRoots.nursery c.args.mutators.now c.loop-maker.maker x c.loop-maker-test.true c.index-mutators-maker.is in
+    let f = lies_by c.args.segments.now.layout c.args.base c.args.table.now (map g.M.MutatorRoots.nursery c.args.mutators.now) c.loop-maker.maker n
+    c.requires.nurseries (rw (length-map c.args.mutators.now g.M.MutatorRoots.nursery) c.loop-maker-test.true) is in
+    let at = f.at in
+    omega (arith, at)
+
+pub place_all-requires-clause-ordered : goal.place_all-requires-clause-ordered
+place_all-requires-clause-ordered g c =
+    let x = c.index-mutators-maker.result in
+    let n = c.nursery-nursery.result in
+    let is : n ≡ nursery_at (map g.M.MutatorRoots.nursery c.args.mutators.now) c.loop-maker.maker = c.nursery-nursery.ensures ∙
+    nursery_is g.M.MutatorRoots.nursery c.args.mutators.now c.loop-maker.maker x c.loop-maker-test.true c.index-mutators-maker.is in
+    let f = lies_by c.args.segments.now.layout c.args.base c.args.table.now (map g.M.MutatorRoots.nursery c.args.mutators.now) c.loop-maker.maker n
+    c.requires.nurseries (rw (length-map c.args.mutators.now g.M.MutatorRoots.nursery) c.loop-maker-test.true) is in
+    f.ordered
+
+pub place_all-requires-clause-nursery : goal.place_all-requires-clause-nursery
+place_all-requires-clause-nursery g c =
+    let x = c.index-mutators-maker.result in
+    let n = c.nursery-nursery.result in
+    let is : n ≡ nursery_at (map g.M.MutatorRoots.nursery c.args.mutators.now) c.loop-maker.maker = c.nursery-nursery.ensures ∙
+    nursery_is g.M.MutatorRoots.nursery c.args.mutators.now c.loop-maker.maker x c.loop-maker-test.true c.index-mutators-maker.is in
+    let f = lies_by c.args.segments.now.layout c.args.base c.args.table.now (map g.M.MutatorRoots.nursery c.args.mutators.now) c.loop-maker.maker n
+    c.requires.nurseries (rw (length-map c.args.mutators.now g.M.MutatorRoots.nursery) c.loop-maker-test.true) is in
+    let within = f.within in
+    let same = ap (λ (l : Layout). l.nursery) c.loop-maker.invariant.layout in
+    omega (arith, within, same)
 
 pub place_all-requires-clause-spare : goal.place_all-requires-clause-spare
 place_all-requires-clause-spare g c =
-    let f = lies c.args.segments.now.layout c.args.base c.args.table.now c.args.nurseries.now c.loop-maker.maker c.requires.nurseries c.loop-maker-test.true in
+    let x = c.index-mutators-maker.result in
+    let n = c.nursery-nursery.result in
+    let is : n ≡ nursery_at (map g.M.MutatorRoots.nursery c.args.mutators.now) c.loop-maker.maker = c.nursery-nursery.ensures ∙
+    nursery_is g.M.MutatorRoots.nursery c.args.mutators.now c.loop-maker.maker x c.loop-maker-test.true c.index-mutators-maker.is in
+    let f = lies_by c.args.segments.now.layout c.args.base c.args.table.now (map g.M.MutatorRoots.nursery c.args.mutators.now) c.loop-maker.maker n
+    c.requires.nurseries (rw (length-map c.args.mutators.now g.M.MutatorRoots.nursery) c.loop-maker-test.true) is in
     let spare = c.loop-maker.invariant.spare in
     let at = f.at in let place = f.place in let within = f.within in let inside = f.inside in
     omega (arith, at, place, within, inside, spare)
@@ -110,8 +173,12 @@ loop-maker-preserved g c =
     let layout = c.args.segments.now.layout in
     let maker = c.loop-maker.maker in
     let i = c.loop-maker.invariant in
-    let f = lies c.args.segments.now.layout c.args.base c.args.table.now c.args.nurseries.now c.loop-maker.maker c.requires.nurseries c.loop-maker-test.true in
-    let n = nursery_at c.args.nurseries.now c.loop-maker.maker in
+    let x = c.index-mutators-maker.result in
+    let n = c.nursery-nursery.result in
+    let is : n ≡ nursery_at (map g.M.MutatorRoots.nursery c.args.mutators.now) c.loop-maker.maker = c.nursery-nursery.ensures ∙
+    nursery_is g.M.MutatorRoots.nursery c.args.mutators.now c.loop-maker.maker x c.loop-maker-test.true c.index-mutators-maker.is in
+    let f = lies_by c.args.segments.now.layout c.args.base c.args.table.now (map g.M.MutatorRoots.nursery c.args.mutators.now) c.loop-maker.maker n
+    c.requires.nurseries (rw (length-map c.args.mutators.now g.M.MutatorRoots.nursery) c.loop-maker-test.true) is in
     let at = f.at in let place = f.place in let ordered = f.ordered in let within = f.within in let next = f.next in let inside = f.inside in
     let p = c.place_all.ensures in
     let from = nursery_place c.args.segments.now.layout c.loop-maker.maker in
@@ -121,7 +188,7 @@ loop-maker-preserved g c =
     n.top) i.same p.places.2 in
     let gap : (k : ℕ) → n.top ≤ k → k < to → slice_index c.loop-maker.table (k - c.args.base) ≡ 0 = λ k l h.
     i.placed.2.outside k (omega (arith, at, ordered, l)) (inr (omega (arith, place, ordered, l))) ∙
-    c.requires.nurseries.unused c.loop-maker.maker k f.exists l (omega (arith, next, h)) in
+    c.requires.nurseries.unused c.loop-maker.maker k f.exists (subst (λ (y : Nursery). y.top ≤ k) is l) (omega (arith, next, h)) in
     let part = range_gap c.args.base (g.W.HeapWords.words c.args.words.now) c.loop-maker.segments c.place_all.new.segments c.loop-maker.table
     c.place_all.new.table p.places.0 n.base n.top to (omega (arith, at)) ordered (omega (arith, within, place, next)) gap places in
     let part' = subst (λ (k : ℕ).
@@ -130,6 +197,7 @@ loop-maker-preserved g c =
     let low : c.args.base ≤ from = omega (arith, at, place) in
     record {
       sound = p.sound;
+      count = i.count;
       layout = p.layout ∙ i.layout;
       placed = (
         i.placed.0 ++ p.places.0,
@@ -156,7 +224,7 @@ pub returns-clause-places : goal.returns-clause-places
 returns-clause-places g c =
     let layout = c.args.segments.now.layout in
     let i = c.loop-maker.invariant in
-    let count = c.requires.nurseries.count in
+    let count = i.count in
     let begins = c.requires.nurseries.begins in
     let size = c.requires.nurseries.size in
     let all : c.loop-maker.maker ≡ layout.mutators = omega (arith, c.loop-maker-test.false, c.loop-maker.auto.maker-end, count) in

@@ -1,4 +1,5 @@
-use Rattle.std.proofs.Common.{◌+◌, ◌++◌, ℕ, List, length, refl, sym, ap, subst, ◌∙◌, arith}
+use Rattle.std.specs.List.{flat_map}
+use Rattle.std.proofs.Common.{◌+◌, ◌++◌, ℕ, List, length, map, refl, sym, ap, subst, ◌∙◌, arith}
 use Rattle.nmgc_minor.specs.declared.placing.Move.{Move}
 use Rattle.nmgc_minor.specs.Start.{inputs_of}
 use Rattle.nmgc_minor.specs.Placing.{IsSharedSlot, PlacesRange}
@@ -9,23 +10,27 @@ use Rattle.nmgc_minor.proofs.passes.promote_words.Goals as goal
 
 pub mark-requires-clause-recorded : goal.mark-requires-clause-recorded
 mark-requires-clause-recorded g c = λ at h.
-    let b = c.requires.can.recorded at.0 (address_in c.args.recorded.now at h) in
+    let b = c.requires.can.recorded at.0 (address_in (flat_map g.M.MutatorRoots.recorded c.args.mutators.now) at h) in
     let i = c.requires.can.inside in
     omega (arith, b, i)
 
 pub mark-requires-clause-weaks : goal.mark-requires-clause-weaks
-mark-requires-clause-weaks g c = λ at h. c.requires.can.weaks at.0 (address_in c.args.weaks.now at h)
+mark-requires-clause-weaks g c = λ at h. c.requires.can.weaks at.0 (address_in (flat_map g.M.MutatorRoots.young_weaks c.args.mutators.now) at h)
 
 pub place_nurseries-requires-clause-nurseries : goal.place_nurseries-requires-clause-nurseries
 place_nurseries-requires-clause-nurseries g c =
-    (parts_of c.args.young.now c.mark.new.young c.args.segments.now (g.W.HeapWords.words c.args.words.now) c.args.nurseries.now
-    (inputs_of c.args.registers.now c.args.queues.now c.args.recorded.now c.args.weaks.now) c.as_mut_slice.result.now c.requires.can
+    (parts_of c.args.young.now c.mark.new.young c.args.segments.now (g.W.HeapWords.words c.args.words.now) (map g.M.MutatorRoots.nursery c.args.mutators.now)
+    (inputs_of (flat_map g.M.MutatorRoots.registers c.args.mutators.now) (map g.M.MutatorRoots.queue c.args.mutators.now)
+    (flat_map g.M.MutatorRoots.recorded c.args.mutators.now) (flat_map g.M.MutatorRoots.young_weaks c.args.mutators.now))
+    c.as_mut_slice.result.now c.requires.can
     c.mark.ensures.finds c.as_mut_slice.ensures.value).0
 
 pub place_nurseries-requires-clause-objects : goal.place_nurseries-requires-clause-objects
 place_nurseries-requires-clause-objects g c =
     rw (c.mark.ensures.same) ((parts_of c.args.young.now c.mark.new.young c.args.segments.now (g.W.HeapWords.words c.args.words.now)
-    c.args.nurseries.now (inputs_of c.args.registers.now c.args.queues.now c.args.recorded.now c.args.weaks.now) c.as_mut_slice.result.now
+    (map g.M.MutatorRoots.nursery c.args.mutators.now) (inputs_of (flat_map g.M.MutatorRoots.registers c.args.mutators.now)
+    (map g.M.MutatorRoots.queue c.args.mutators.now) (flat_map g.M.MutatorRoots.recorded c.args.mutators.now)
+    (flat_map g.M.MutatorRoots.young_weaks c.args.mutators.now)) c.as_mut_slice.result.now
     c.requires.can c.mark.ensures.finds c.as_mut_slice.ensures.value).1)
 
 pub forward_shared-requires : goal.forward_shared-requires
@@ -38,7 +43,7 @@ forward_shared-requires g c =
 pub forward_recorded-requires-clause-inside : goal.forward_recorded-requires-clause-inside
 forward_recorded-requires-clause-inside g c = λ at h.
     let e = ap length (c.place_nurseries.ensures.same ∙ c.mark.ensures.same) in
-    let b = c.requires.can.recorded at.0 (address_in c.args.recorded.now at h) in
+    let b = c.requires.can.recorded at.0 (address_in (flat_map g.M.MutatorRoots.recorded c.args.mutators.now) at h) in
     let i = c.requires.can.inside in
     let t = c.forward_shared.ensures.total in
     omega (arith, b, i, t, e)
@@ -54,12 +59,16 @@ forward_recorded-requires-clause-small g c =
     let back = lent_back c.mark.new.young.table.len c.mark.new.young.table.items c.as_mut_slice.result.now c.place_nurseries.new.table
     c.as_slice-table.result.now c.as_mut_slice.ensures.len p.places.2.size c.as_slice-table.ensures.value in
     let all = p.places.1 ∙ ap (λ (xs : List Move). xs ++ p.places.0) c.requires.moves in
-    let r = ready c.args.young.now c.mark.new.young c.args.segments.now c.place_nurseries.new.segments words c.args.nurseries.now
-    (inputs_of c.args.registers.now c.args.queues.now c.args.recorded.now c.args.weaks.now) c.args.recorded.now c.as_mut_slice.result.now
+    let r = ready c.args.young.now c.mark.new.young c.args.segments.now c.place_nurseries.new.segments words (map g.M.MutatorRoots.nursery c.args.mutators.now)
+    (inputs_of (flat_map g.M.MutatorRoots.registers c.args.mutators.now) (map g.M.MutatorRoots.queue c.args.mutators.now)
+    (flat_map g.M.MutatorRoots.recorded c.args.mutators.now) (flat_map g.M.MutatorRoots.young_weaks c.args.mutators.now))
+    (flat_map g.M.MutatorRoots.recorded c.args.mutators.now) c.as_mut_slice.result.now
     c.place_nurseries.new.table c.as_slice-table.result.now c.place_nurseries.new.moves.items p.places.0 c.requires.can c.mark.ensures.finds
     refl c.as_mut_slice.ensures.value back all p.sound p.layout range in
     ready_small c.mark.new.young words c.args.segments.now c.place_nurseries.new.segments c.as_slice-table.result.now
-    c.place_nurseries.new.moves.items (inputs_of c.args.registers.now c.args.queues.now c.args.recorded.now c.args.weaks.now) c.args.recorded.now r
+    c.place_nurseries.new.moves.items (inputs_of (flat_map g.M.MutatorRoots.registers c.args.mutators.now)
+    (map g.M.MutatorRoots.queue c.args.mutators.now) (flat_map g.M.MutatorRoots.recorded c.args.mutators.now)
+    (flat_map g.M.MutatorRoots.young_weaks c.args.mutators.now)) (flat_map g.M.MutatorRoots.recorded c.args.mutators.now) r
 
 pub copy_all-requires : goal.copy_all-requires
 copy_all-requires g c =
@@ -72,8 +81,10 @@ copy_all-requires g c =
     let back = lent_back c.mark.new.young.table.len c.mark.new.young.table.items c.as_mut_slice.result.now c.place_nurseries.new.table
     c.as_slice-table.result.now c.as_mut_slice.ensures.len p.places.2.size c.as_slice-table.ensures.value in
     let all = p.places.1 ∙ ap (λ (xs : List Move). xs ++ p.places.0) c.requires.moves in
-    let r = ready c.args.young.now c.mark.new.young c.args.segments.now c.place_nurseries.new.segments words c.args.nurseries.now
-    (inputs_of c.args.registers.now c.args.queues.now c.args.recorded.now c.args.weaks.now) c.args.recorded.now c.as_mut_slice.result.now
+    let r = ready c.args.young.now c.mark.new.young c.args.segments.now c.place_nurseries.new.segments words (map g.M.MutatorRoots.nursery c.args.mutators.now)
+    (inputs_of (flat_map g.M.MutatorRoots.registers c.args.mutators.now) (map g.M.MutatorRoots.queue c.args.mutators.now)
+    (flat_map g.M.MutatorRoots.recorded c.args.mutators.now) (flat_map g.M.MutatorRoots.young_weaks c.args.mutators.now))
+    (flat_map g.M.MutatorRoots.recorded c.args.mutators.now) c.as_mut_slice.result.now
     c.place_nurseries.new.table c.as_slice-table.result.now c.place_nurseries.new.moves.items p.places.0 c.requires.can c.mark.ensures.finds
     refl c.as_mut_slice.ensures.value back all p.sound p.layout range in
     let shared = subst (λ (ws : List ℕ).
@@ -82,8 +93,11 @@ copy_all-requires g c =
     subst (λ (xs : List Move).
     CanCopyAll c.mark.new.young.base (g.W.HeapWords.words c.forward_recorded.new.words) xs) (sym c.items.ensures)
     (ready_copy c.mark.new.young words c.args.segments.now c.place_nurseries.new.segments c.as_slice-table.result.now
-    c.place_nurseries.new.moves.items (inputs_of c.args.registers.now c.args.queues.now c.args.recorded.now c.args.weaks.now)
-    c.args.recorded.now r (g.W.HeapWords.words c.forward_shared.new.words) (g.W.HeapWords.words c.forward_recorded.new.words) shared
+    c.place_nurseries.new.moves.items (inputs_of (flat_map g.M.MutatorRoots.registers c.args.mutators.now)
+    (map g.M.MutatorRoots.queue c.args.mutators.now) (flat_map g.M.MutatorRoots.recorded c.args.mutators.now)
+    (flat_map g.M.MutatorRoots.young_weaks c.args.mutators.now))
+    (flat_map g.M.MutatorRoots.recorded c.args.mutators.now) r (g.W.HeapWords.words c.forward_shared.new.words)
+    (g.W.HeapWords.words c.forward_recorded.new.words) shared
     c.forward_recorded.ensures)
 
 pub returns-clause-promotes : goal.returns-clause-promotes
@@ -98,8 +112,10 @@ returns-clause-promotes g c =
     let back = lent_back c.mark.new.young.table.len c.mark.new.young.table.items c.as_mut_slice.result.now c.place_nurseries.new.table
     c.as_slice-table.result.now c.as_mut_slice.ensures.len p.places.2.size c.as_slice-table.ensures.value in
     let all = p.places.1 ∙ ap (λ (xs : List Move). xs ++ p.places.0) c.requires.moves in
-    let r = ready c.args.young.now c.mark.new.young c.args.segments.now c.place_nurseries.new.segments words c.args.nurseries.now
-    (inputs_of c.args.registers.now c.args.queues.now c.args.recorded.now c.args.weaks.now) c.args.recorded.now c.as_mut_slice.result.now
+    let r = ready c.args.young.now c.mark.new.young c.args.segments.now c.place_nurseries.new.segments words (map g.M.MutatorRoots.nursery c.args.mutators.now)
+    (inputs_of (flat_map g.M.MutatorRoots.registers c.args.mutators.now) (map g.M.MutatorRoots.queue c.args.mutators.now)
+    (flat_map g.M.MutatorRoots.recorded c.args.mutators.now) (flat_map g.M.MutatorRoots.young_weaks c.args.mutators.now))
+    (flat_map g.M.MutatorRoots.recorded c.args.mutators.now) c.as_mut_slice.result.now
     c.place_nurseries.new.table c.as_slice-table.result.now c.place_nurseries.new.moves.items p.places.0 c.requires.can c.mark.ensures.finds
     refl c.as_mut_slice.ensures.value back all p.sound p.layout range in
     let shared = subst (λ (ws : List ℕ).
@@ -109,15 +125,22 @@ returns-clause-promotes g c =
     CopiesAll (forward_word c.as_slice-table.result.now c.mark.new.young.base) (g.W.HeapWords.words c.forward_recorded.new.words) final xs)
     c.items.ensures c.copy_all.ensures in
     let made = ready_promotes c.mark.new.young words c.args.segments.now c.place_nurseries.new.segments c.as_slice-table.result.now
-    c.place_nurseries.new.moves.items (inputs_of c.args.registers.now c.args.queues.now c.args.recorded.now c.args.weaks.now)
-    c.args.recorded.now r (g.W.HeapWords.words c.forward_shared.new.words) (g.W.HeapWords.words c.forward_recorded.new.words) final shared
+    c.place_nurseries.new.moves.items (inputs_of (flat_map g.M.MutatorRoots.registers c.args.mutators.now)
+    (map g.M.MutatorRoots.queue c.args.mutators.now) (flat_map g.M.MutatorRoots.recorded c.args.mutators.now)
+    (flat_map g.M.MutatorRoots.young_weaks c.args.mutators.now))
+    (flat_map g.M.MutatorRoots.recorded c.args.mutators.now) r (g.W.HeapWords.words c.forward_shared.new.words)
+    (g.W.HeapWords.words c.forward_recorded.new.words) final shared
     c.forward_recorded.ensures copies in
     let at_old = subst (λ (b : ℕ).
     Promotes b words final c.args.segments.now c.place_nurseries.new.segments c.place_nurseries.new.moves.items
-    (inputs_of c.args.registers.now c.args.queues.now c.args.recorded.now c.args.weaks.now) c.as_slice-table.result.now) c.mark.ensures.finds.base made in
+    (inputs_of (flat_map g.M.MutatorRoots.registers c.args.mutators.now) (map g.M.MutatorRoots.queue c.args.mutators.now)
+    (flat_map g.M.MutatorRoots.recorded c.args.mutators.now) (flat_map g.M.MutatorRoots.young_weaks c.args.mutators.now))
+    c.as_slice-table.result.now) c.mark.ensures.finds.base made in
     subst (λ (t : List ℕ).
     Promotes c.args.young.now.base words final c.args.segments.now c.place_nurseries.new.segments c.place_nurseries.new.moves.items
-    (inputs_of c.args.registers.now c.args.queues.now c.args.recorded.now c.args.weaks.now) t) c.as_slice-table.ensures.value at_old
+    (inputs_of (flat_map g.M.MutatorRoots.registers c.args.mutators.now) (map g.M.MutatorRoots.queue c.args.mutators.now)
+    (flat_map g.M.MutatorRoots.recorded c.args.mutators.now) (flat_map g.M.MutatorRoots.young_weaks c.args.mutators.now)) t)
+    c.as_slice-table.ensures.value at_old
 
 pub returns-clause-leaves : goal.returns-clause-leaves
 returns-clause-leaves g c =
@@ -130,10 +153,14 @@ returns-clause-leaves g c =
     let back = lent_back c.mark.new.young.table.len c.mark.new.young.table.items c.as_mut_slice.result.now c.place_nurseries.new.table
     c.as_slice-table.result.now c.as_mut_slice.ensures.len p.places.2.size c.as_slice-table.ensures.value in
     let all = p.places.1 ∙ ap (λ (xs : List Move). xs ++ p.places.0) c.requires.moves in
-    let r = ready c.args.young.now c.mark.new.young c.args.segments.now c.place_nurseries.new.segments words c.args.nurseries.now
-    (inputs_of c.args.registers.now c.args.queues.now c.args.recorded.now c.args.weaks.now) c.args.recorded.now c.as_mut_slice.result.now
+    let r = ready c.args.young.now c.mark.new.young c.args.segments.now c.place_nurseries.new.segments words (map g.M.MutatorRoots.nursery c.args.mutators.now)
+    (inputs_of (flat_map g.M.MutatorRoots.registers c.args.mutators.now) (map g.M.MutatorRoots.queue c.args.mutators.now)
+    (flat_map g.M.MutatorRoots.recorded c.args.mutators.now) (flat_map g.M.MutatorRoots.young_weaks c.args.mutators.now))
+    (flat_map g.M.MutatorRoots.recorded c.args.mutators.now) c.as_mut_slice.result.now
     c.place_nurseries.new.table c.as_slice-table.result.now c.place_nurseries.new.moves.items p.places.0 c.requires.can c.mark.ensures.finds
     refl c.as_mut_slice.ensures.value back all p.sound p.layout range in
     leaves c.args.young.now c.mark.new.young _ words c.args.segments.now c.place_nurseries.new.segments c.as_slice-table.result.now
-    c.place_nurseries.new.moves.items (inputs_of c.args.registers.now c.args.queues.now c.args.recorded.now c.args.weaks.now)
-    c.args.recorded.now c.mark.ensures.finds r refl (sym c.as_slice-table.ensures.value) refl refl
+    c.place_nurseries.new.moves.items (inputs_of (flat_map g.M.MutatorRoots.registers c.args.mutators.now)
+    (map g.M.MutatorRoots.queue c.args.mutators.now) (flat_map g.M.MutatorRoots.recorded c.args.mutators.now)
+    (flat_map g.M.MutatorRoots.young_weaks c.args.mutators.now))
+    (flat_map g.M.MutatorRoots.recorded c.args.mutators.now) c.mark.ensures.finds r refl (sym c.as_slice-table.ensures.value) refl refl

@@ -1,33 +1,38 @@
-use Rattle.std.proofs.Common.{ℕ, ◌≡◌, List, take, subst, sym}
+use Rattle.std.proofs.Common.{ℕ, ◌≡◌, List, take, subst, sym, ap, ◌∙◌}
 use Rattle.std.specs.Prelude.{Contains}
 use Rattle.std.proofs.lemmas.List.{take_all}
 use Rattle.std.proofs.lemmas.List.Elements.{Contains-get_or}
 use Rattle.nmgc_object.specs.FinQueue.{FinQueue}
 use Rattle.nmgc_minor.specs.Young.{Notes}
-use Rattle.nmgc_minor.proofs.StartLaws.{notes_item, within_after}
+use Rattle.nmgc_minor.proofs.StartLaws.{map_in, notes_first, notes_item, notes_mapped, within_after}
 use Rattle.nmgc_minor.proofs.starts.note_queues.Goals as goal
 
-abbrev Of : List FinQueue → ℕ → Type 0
-Of queues w = (queue : FinQueue) × Contains queues queue × Contains queue.words w
+pub loop-mutator-init : goal.loop-mutator-init
+loop-mutator-init g c = notes_first (λ m w. Contains (g.M.MutatorRoots.queue m).words w) c.args.young.now c.args.mutators.now c.requires.young
 
 pub note_all-requires-clause-within : goal.note_all-requires-clause-within
-note_all-requires-clause-within c =
-    let q = c.queue-item.result in
-    let there : Contains c.args.queues.now q = subst (λ (x : FinQueue).
-    Contains c.args.queues.now x) (sym c.queue-item.is) (Contains-get_or c.args.queues.now c.loop-queue.queue-index q c.loop-queue-test.true) in
-    λ word h. within_after c.args.young.now c.loop-queue.young (Of (take c.loop-queue.queue-index c.args.queues.now)) c.loop-queue.invariant word
-    (c.requires.within q word there (subst (λ (xs : List ℕ). Contains xs word) c.words.ensures h))
+note_all-requires-clause-within g c =
+    let f = g.M.MutatorRoots.queue in
+    let ms = c.args.mutators.now in
+    let x = c.mutator-item.result in
+    let there = subst (λ y. Contains ms y) (sym c.mutator-item.is) (Contains-get_or ms c.loop-mutator.mutator-index x c.loop-mutator-test.true) in
+    let read : c.words.result.now ≡ (f x).words = c.words.ensures ∙ ap (λ (q : FinQueue). q.words) c.queue.ensures in
+    λ word h. within_after c.args.young.now c.loop-mutator.young (λ w. (m : _) × Contains (take c.loop-mutator.mutator-index ms) m × Contains (f m).words w)
+    c.loop-mutator.invariant word (c.requires.within (f x) word (map_in f ms x there) (subst (λ (ws : List ℕ). Contains ws word) read h))
 
-pub loop-queue-preserved : goal.loop-queue-preserved
-loop-queue-preserved c =
-    let q = c.queue-item.result in
-    notes_item (λ queue w.
-    Contains queue.words w) c.args.young.now c.loop-queue.young c.note_all.new.self c.args.queues.now c.loop-queue.queue-index q
-    c.loop-queue-test.true c.queue-item.is c.loop-queue.invariant (subst (λ (xs : List ℕ).
-    Notes c.loop-queue.young c.note_all.new.self (Contains xs)) c.words.ensures c.note_all.ensures)
+pub loop-mutator-preserved : goal.loop-mutator-preserved
+loop-mutator-preserved g c =
+    let f = g.M.MutatorRoots.queue in
+    let x = c.mutator-item.result in
+    let read : c.words.result.now ≡ (f x).words = c.words.ensures ∙ ap (λ (q : FinQueue). q.words) c.queue.ensures in
+    notes_item (λ m w. Contains (f m).words w) c.args.young.now c.loop-mutator.young c.note_all.new.self c.args.mutators.now c.loop-mutator.mutator-index
+    x c.loop-mutator-test.true c.mutator-item.is c.loop-mutator.invariant
+    (subst (λ (ws : List ℕ). Notes c.loop-mutator.young c.note_all.new.self (Contains ws)) read c.note_all.ensures)
 
 pub returns : goal.returns
-returns c =
-    let all : take c.loop-queue.queue-index c.args.queues.now ≡ c.args.queues.now =
-    take_all c.loop-queue.queue-index c.args.queues.now c.loop-queue-test.false in
-    subst (λ (xs : List FinQueue). Notes c.args.young.now c.loop-queue.young (Of xs)) all c.loop-queue.invariant
+returns g c =
+    let f = g.M.MutatorRoots.queue in
+    let ms = c.args.mutators.now in
+    let all = take_all c.loop-mutator.mutator-index ms c.loop-mutator-test.false in
+    notes_mapped f (λ (q : FinQueue) w. Contains q.words w) c.args.young.now c.loop-mutator.young ms
+    (subst (λ xs. Notes c.args.young.now c.loop-mutator.young (λ w. (m : _) × Contains xs m × Contains (f m).words w)) all c.loop-mutator.invariant)

@@ -1,8 +1,8 @@
 use Rattle.std.proofs.Common.{take}
 use Rattle.std.specs.Prelude.{Contains}
-use Rattle.nmgc_object.specs.FinQueue.{FinQueue}
 use Rattle.nmgc_minor.specs.Young.{Notes}
 use Rattle.nmgc_minor.proofs.starts.note_queues.Given as goal
 
-abbrev pub invariant-loop-queue : goal.invariant-loop-queue
-invariant-loop-queue l = Notes l.initial.young l.young (λ w. (queue : FinQueue) × Contains (take l.queue-index l.queues) queue × Contains queue.words w)
+abbrev pub invariant-loop-mutator : goal.invariant-loop-mutator
+invariant-loop-mutator g l =
+    Notes l.initial.young l.young (λ w. (m : _) × Contains (take l.mutator-index l.mutators) m × Contains (g.M.MutatorRoots.queue m).words w)

@@ -1,55 +1,63 @@
-use Rattle.std.proofs.Common.{ℕ, ◌≡◌, List, take, get_or, slice_index, length, ap, subst, refl, sym, ◌∙◌, arith}
+use Rattle.std.proofs.Common.{ℕ, ◌≡◌, List, take, length, slice_index, refl, subst, sym, ap, ◌∙◌, arith}
 use Rattle.std.specs.Prelude.{Contains}
-use Rattle.std.proofs.lemmas.List.{take_all, get_or_default}
+use Rattle.std.proofs.lemmas.List.{take_all}
 use Rattle.std.proofs.lemmas.List.Elements.{Contains-get_or}
 use Rattle.nmgc_object.specs.declared.words.Address.{Address}
-use Rattle.nmgc_minor.specs.Young.{Notes}
-use Rattle.nmgc_minor.proofs.NoteLaws.{notes_as}
-use Rattle.nmgc_minor.proofs.StartLaws.{notes_first, notes_item, within_after}
+use Rattle.nmgc_reach.specs.laws.ItemLaws.{contains_flat}
+use Rattle.nmgc_minor.specs.Young.{Notes, IsWithin}
+use Rattle.nmgc_minor.proofs.StartLaws.{notes_first, notes_item, notes_flat, within_after}
 use Rattle.nmgc_minor.proofs.starts.note_recorded.Goals as goal
 
-abbrev Of : List ℕ → List Address → ℕ → Type 0
-Of words recorded w = (at : Address) × Contains recorded at × (slice_index words at.0 ≡ w)
+-- the fields at these places have the word
+abbrev Has : List ℕ → List Address → ℕ → Type 0
+Has words recorded w = (at : Address) × Contains recorded at × (slice_index words at.0 ≡ w)
 
-pub loop-at-init : goal.loop-at-init
-loop-at-init g c = record {
-  notes = notes_first (λ (at : Address) w. slice_index (g.W.HeapWords.words c.args.words.now) at.0 ≡
-      w) c.args.young.now c.args.recorded.now c.requires.young;
+pub loop-mutator-init : goal.loop-mutator-init
+loop-mutator-init g c = record {
+  notes = notes_first (λ m w. Has (g.W.HeapWords.words c.args.words.now) (g.M.MutatorRoots.recorded m) w) c.args.young.now c.args.mutators.now c.requires.young;
   same = refl;
 }
 
-pub load-word-requires : goal.load-word-requires
-load-word-requires g c =
-    let size = ap length c.loop-at.invariant.same in
-    let inside = c.requires.inside (get_or c.args.recorded.now c.loop-at.at-index (record {
-      0 =
-          0;
-    })) (Contains-get_or c.args.recorded.now c.loop-at.at-index (record { 0 = 0 }) c.loop-at-test.true) in
-    omega (arith, size, inside)
+pub note_places-requires-clause-inside : goal.note_places-requires-clause-inside
+note_places-requires-clause-inside g c = λ at h.
+    let f = g.M.MutatorRoots.recorded in
+    let ms = c.args.mutators.now in
+    let x = c.mutator-item.result in
+    let there = subst (λ y. Contains ms y) (sym c.mutator-item.is) (Contains-get_or ms c.loop-mutator.mutator-index x c.loop-mutator-test.true) in
+    let inside = c.requires.inside at (contains_flat f ms x at there (subst (λ (l : List Address). Contains l at) c.recorded.ensures h)) in
+    let size = ap length c.loop-mutator.invariant.same in
+    omega (arith, inside, size)
 
-pub note-requires-clause-within : goal.note-requires-clause-within
-note-requires-clause-within g c =
-    let x : Address = get_or c.args.recorded.now c.loop-at.at-index (record { 0 = 0 }) in
+pub note_places-requires-clause-within : goal.note_places-requires-clause-within
+note_places-requires-clause-within g c = λ at h.
+    let f = g.M.MutatorRoots.recorded in
+    let ms = c.args.mutators.now in
     let words = g.W.HeapWords.words c.args.words.now in
-    let read = c.load-word.ensures.word ∙ ap (λ (xs : List ℕ). slice_index xs x.0) c.loop-at.invariant.same in
-    rw read (within_after c.args.young.now c.loop-at.young (Of words (take c.loop-at.at-index c.args.recorded.now)) c.loop-at.invariant.notes
-    (slice_index words x.0) (c.requires.within x (Contains-get_or c.args.recorded.now c.loop-at.at-index (record { 0 = 0 }) c.loop-at-test.true)))
+    let x = c.mutator-item.result in
+    let there = subst (λ y. Contains ms y) (sym c.mutator-item.is) (Contains-get_or ms c.loop-mutator.mutator-index x c.loop-mutator-test.true) in
+    let own = contains_flat f ms x at there (subst (λ (l : List Address). Contains l at) c.recorded.ensures h) in
+    subst (λ (ws : List ℕ). IsWithin c.loop-mutator.young (slice_index ws at.0)) (sym c.loop-mutator.invariant.same)
+    (within_after c.args.young.now c.loop-mutator.young (λ w. (m : _) × Contains (take c.loop-mutator.mutator-index ms) m × Has words (f m) w)
+    c.loop-mutator.invariant.notes (slice_index words at.0) (c.requires.within at own))
 
-pub loop-at-preserved : goal.loop-at-preserved
-loop-at-preserved g c =
-    let x : Address = get_or c.args.recorded.now c.loop-at.at-index (record { 0 = 0 }) in
+pub loop-mutator-preserved : goal.loop-mutator-preserved
+loop-mutator-preserved g c =
+    let f = g.M.MutatorRoots.recorded in
     let words = g.W.HeapWords.words c.args.words.now in
-    let read = c.load-word.ensures.word ∙ ap (λ (xs : List ℕ). slice_index xs x.0) c.loop-at.invariant.same in
-    let more = notes_as c.loop-at.young c.note.new.self (λ w. w ≡ c.load-word.result) (λ w. slice_index words x.0 ≡ w) c.note.ensures (λ w e.
-    sym read ∙ sym e) (λ w e. sym e ∙ sym read) in
+    let x = c.mutator-item.result in
+    let more = subst (λ (y : List ℕ × List Address). Notes c.loop-mutator.young c.note_places.new.young (Has y.0 y.1)) (λ i.
+    (c.loop-mutator.invariant.same i, c.recorded.ensures i)) c.note_places.ensures.notes in
     record {
-      notes = notes_item (λ at w. slice_index words at.0 ≡
-          w) c.args.young.now c.loop-at.young c.note.new.self c.args.recorded.now c.loop-at.at-index x c.loop-at-test.true
-          (get_or_default c.args.recorded.now c.loop-at.at-index (record { 0 = 0 }) x c.loop-at-test.true) c.loop-at.invariant.notes more;
-      same = c.load-word.ensures.same ∙ c.loop-at.invariant.same;
+      notes = notes_item (λ m w. Has words (f m) w) c.args.young.now c.loop-mutator.young c.note_places.new.young c.args.mutators.now
+          c.loop-mutator.mutator-index x c.loop-mutator-test.true c.mutator-item.is c.loop-mutator.invariant.notes more;
+      same = c.note_places.ensures.same ∙ c.loop-mutator.invariant.same;
     }
 
 pub returns-clause-notes : goal.returns-clause-notes
 returns-clause-notes g c =
-    let all : take c.loop-at.at-index c.args.recorded.now ≡ c.args.recorded.now = take_all c.loop-at.at-index c.args.recorded.now c.loop-at-test.false in
-    subst (λ (xs : List Address). Notes c.args.young.now c.loop-at.young (Of (g.W.HeapWords.words c.args.words.now) xs)) all c.loop-at.invariant.notes
+    let f = g.M.MutatorRoots.recorded in
+    let ms = c.args.mutators.now in
+    let words = g.W.HeapWords.words c.args.words.now in
+    let all = take_all c.loop-mutator.mutator-index ms c.loop-mutator-test.false in
+    notes_flat f (λ (at : Address) w. slice_index words at.0 ≡ w) c.args.young.now c.loop-mutator.young ms
+    (subst (λ xs. Notes c.args.young.now c.loop-mutator.young (λ w. (m : _) × Contains xs m × Has words (f m) w)) all c.loop-mutator.invariant.notes)

@@ -1,56 +1,65 @@
-use Rattle.std.proofs.Common.{ℕ, ◌≡◌, List, take, get_or, length, ap, subst, refl, ◌∙◌, arith}
+use Rattle.std.proofs.Common.{ℕ, ◌≡◌, List, take, length, refl, subst, sym, ap, ◌∙◌, arith}
 use Rattle.std.specs.Prelude.{Contains}
-use Rattle.std.proofs.lemmas.List.{take_all, get_or_default}
+use Rattle.std.proofs.lemmas.List.{take_all}
 use Rattle.std.proofs.lemmas.List.Elements.{Contains-get_or}
 use Rattle.nmgc_object.specs.declared.words.Address.{Address}
-use Rattle.nmgc_minor.specs.Young.{Notes}
+use Rattle.nmgc_reach.specs.laws.ItemLaws.{contains_flat}
 use Rattle.nmgc_minor.specs.Start.{IsWeakStart}
-use Rattle.nmgc_minor.proofs.StartLaws.{notes_first, notes_item, within_after}
+use Rattle.nmgc_minor.specs.Young.{Notes}
+use Rattle.nmgc_minor.proofs.StartLaws.{notes_first, notes_item, notes_flat, within_after}
 use Rattle.nmgc_minor.proofs.starts.note_weaks.Goals as goal
 
-abbrev Of : List ℕ → List Address → ℕ → Type 0
-Of words weaks w = (at : Address) × Contains weaks at × IsWeakStart words at w
+-- the weak pointers at these places are alive, and the word is that of one or one of its parts
+abbrev Has : List ℕ → List Address → ℕ → Type 0
+Has words weaks w = (at : Address) × Contains weaks at × IsWeakStart words at w
 
-pub loop-at-init : goal.loop-at-init
-loop-at-init g c = record {
-  notes =
-      notes_first (IsWeakStart (g.W.HeapWords.words c.args.words.now)) c.args.young.now c.args.weaks.now c.requires.young;
+pub loop-mutator-init : goal.loop-mutator-init
+loop-mutator-init g c = record {
+  notes = notes_first (λ m w.
+      Has (g.W.HeapWords.words c.args.words.now) (g.M.MutatorRoots.young_weaks m) w) c.args.young.now c.args.mutators.now c.requires.young;
   same = refl;
 }
 
-pub note_weak-requires-clause-inside : goal.note_weak-requires-clause-inside
-note_weak-requires-clause-inside g c =
-    let size = ap length c.loop-at.invariant.same in
-    let inside = c.requires.inside (get_or c.args.weaks.now c.loop-at.at-index (record {
-      0 =
-          0;
-    })) (Contains-get_or c.args.weaks.now c.loop-at.at-index (record { 0 = 0 }) c.loop-at-test.true) in
-    omega (arith, size, inside)
+pub note_all_weaks-requires-clause-inside : goal.note_all_weaks-requires-clause-inside
+note_all_weaks-requires-clause-inside g c = λ at h.
+    let f = g.M.MutatorRoots.young_weaks in
+    let ms = c.args.mutators.now in
+    let x = c.mutator-item.result in
+    let there = subst (λ y. Contains ms y) (sym c.mutator-item.is) (Contains-get_or ms c.loop-mutator.mutator-index x c.loop-mutator-test.true) in
+    let inside = c.requires.inside at (contains_flat f ms x at there (subst (λ (l : List Address). Contains l at) c.young_weaks.ensures h)) in
+    let size = ap length c.loop-mutator.invariant.same in
+    omega (arith, inside, size)
 
-pub note_weak-requires-clause-within : goal.note_weak-requires-clause-within
-note_weak-requires-clause-within g c =
-    let x : Address = get_or c.args.weaks.now c.loop-at.at-index (record { 0 = 0 }) in
-    rw (c.loop-at.invariant.same) (λ word h.
-    within_after c.args.young.now c.loop-at.young (Of (g.W.HeapWords.words c.args.words.now) (take c.loop-at.at-index c.args.weaks.now))
-    c.loop-at.invariant.notes word (c.requires.within x word (Contains-get_or c.args.weaks.now c.loop-at.at-index (record {
-      0 =
-          0;
-    }) c.loop-at-test.true) h))
+pub note_all_weaks-requires-clause-within : goal.note_all_weaks-requires-clause-within
+note_all_weaks-requires-clause-within g c = λ at word h starts.
+    let f = g.M.MutatorRoots.young_weaks in
+    let ms = c.args.mutators.now in
+    let words = g.W.HeapWords.words c.args.words.now in
+    let x = c.mutator-item.result in
+    let there = subst (λ y. Contains ms y) (sym c.mutator-item.is) (Contains-get_or ms c.loop-mutator.mutator-index x c.loop-mutator-test.true) in
+    let own = contains_flat f ms x at there (subst (λ (l : List Address). Contains l at) c.young_weaks.ensures h) in
+    within_after c.args.young.now c.loop-mutator.young (λ w. (m : _) × Contains (take c.loop-mutator.mutator-index ms) m × Has words (f m) w)
+    c.loop-mutator.invariant.notes word
+    (c.requires.within at word own (subst (λ (ws : List ℕ). IsWeakStart ws at word) c.loop-mutator.invariant.same starts))
 
-pub loop-at-preserved : goal.loop-at-preserved
-loop-at-preserved g c =
-    let x : Address = get_or c.args.weaks.now c.loop-at.at-index (record { 0 = 0 }) in
-    let notes = subst (λ (ws : List ℕ). Notes c.loop-at.young c.note_weak.new.young (IsWeakStart ws x)) c.loop-at.invariant.same c.note_weak.ensures.notes in
+pub loop-mutator-preserved : goal.loop-mutator-preserved
+loop-mutator-preserved g c =
+    let f = g.M.MutatorRoots.young_weaks in
+    let words = g.W.HeapWords.words c.args.words.now in
+    let x = c.mutator-item.result in
+    let more = subst (λ (y : List ℕ × List Address). Notes c.loop-mutator.young c.note_all_weaks.new.young (Has y.0 y.1)) (λ i.
+    (c.loop-mutator.invariant.same i, c.young_weaks.ensures i)) c.note_all_weaks.ensures.notes in
     record {
-      notes = notes_item (IsWeakStart (g.W.HeapWords.words c.args.words.now)) c.args.young.now c.loop-at.young c.note_weak.new.young
-          c.args.weaks.now c.loop-at.at-index x c.loop-at-test.true (get_or_default c.args.weaks.now c.loop-at.at-index (record {
-            0 =
-                0;
-          }) x c.loop-at-test.true) c.loop-at.invariant.notes notes;
-      same = c.note_weak.ensures.same ∙ c.loop-at.invariant.same;
+      notes = notes_item (λ m w. Has words (f m) w) c.args.young.now c.loop-mutator.young c.note_all_weaks.new.young c.args.mutators.now
+          c.loop-mutator.mutator-index x c.loop-mutator-test.true c.mutator-item.is c.loop-mutator.invariant.notes more;
+      same = c.note_all_weaks.ensures.same ∙ c.loop-mutator.invariant.same;
     }
 
 pub returns-clause-notes : goal.returns-clause-notes
 returns-clause-notes g c =
-    let all : take c.loop-at.at-index c.args.weaks.now ≡ c.args.weaks.now = take_all c.loop-at.at-index c.args.weaks.now c.loop-at-test.false in
-    subst (λ (xs : List Address). Notes c.args.young.now c.loop-at.young (Of (g.W.HeapWords.words c.args.words.now) xs)) all c.loop-at.invariant.notes
+    let f = g.M.MutatorRoots.young_weaks in
+    let ms = c.args.mutators.now in
+    let words = g.W.HeapWords.words c.args.words.now in
+    let all = take_all c.loop-mutator.mutator-index ms c.loop-mutator-test.false in
+    notes_flat f (λ (at : Address) w. IsWeakStart words at w) c.args.young.now c.loop-mutator.young ms
+    (subst (λ xs. Notes c.args.young.now c.loop-mutator.young (λ w. (m : _) × Contains xs m × Has words (f m) w)) all c.loop-mutator.invariant.notes)

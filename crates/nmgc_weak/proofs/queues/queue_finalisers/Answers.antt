@@ -1,10 +1,11 @@
-use Rattle.std.proofs.Common.{◌≡◌, ◌+◌, ◌<◌, ℕ, List, set, get_or, length, take, sym, ap, subst, ◌∙◌, arith}
+use Rattle.std.proofs.Common.{◌≡◌, ◌+◌, ◌<◌, ◌++◌, ◌∷◌, [], ℕ, map, set, get_or, length, take, sym, ap, subst, ◌∙◌, arith, rules}
 use Rattle.std.specs.Prelude.{slice_get, Some}
+use Rattle.std.proofs.lemmas.List.{length-map}
 use Rattle.nmgc_object.specs.FinQueue.{FinQueue}
 use Rattle.nmgc_reach.specs.laws.ItemLaws.{contains_at}
 use Rattle.nmgc_weak.specs.declared.weaks.Death.{Death}
-use Rattle.nmgc_weak.specs.Queues.{AllJoin}
-use Rattle.nmgc_weak.proofs.Joining.{none_join, nil_joins, one_joins, has_room, get_default}
+use Rattle.nmgc_weak.specs.Queues.{HaveJoined}
+use Rattle.nmgc_weak.proofs.Joining.{none_joined, joined_count, nil_stays, one_joined, queue_at, has_room, get_default}
 use Rattle.nmgc_weak.proofs.queues.queue_finalisers.Goals as goal
 use Rattle.nmgc_weak.proofs.queues.queue_finalisers.Goals.{then-death-ne-NIL_WORD, else-death-ne-NIL_WORD}
 
@@ -12,51 +13,77 @@ abbrev nothing : Death
 nothing = record { weak = record { maker = 0; serial = 0 }; finaliser = 0 }
 
 pub loop-death-init : goal.loop-death-init
-loop-death-init c = none_join c.args.queues.now
+loop-death-init g c = none_joined g.M.MutatorRoots.queue g.M.MutatorRoots.with_queue g.met.M.MutatorRoots.same_queue c.args.mutators.now
 
-pub bounds-queues-from : goal.bounds-queues-from
-bounds-queues-from c =
+pub bounds-mutators-from : goal.bounds-mutators-from
+bounds-mutators-from g c =
     let x = get_or c.args.deaths.now c.loop-death.death-index nothing in
     let m = c.requires.makers x (contains_at c.args.deaths.now c.loop-death.death-index x
     (get_default c.args.deaths.now c.loop-death.death-index nothing c.loop-death-test.true)) in
-    let l = c.loop-death.invariant.0 in
+    let l = joined_count g.M.MutatorRoots.queue g.M.MutatorRoots.with_queue (take c.loop-death.death-index c.args.deaths.now) c.args.mutators.now
+    c.loop-death.mutators c.loop-death.invariant in
+    let n = length-map c.args.mutators.now g.M.MutatorRoots.queue in
     let f = c.from.ensures in
-    omega (arith, m, l, f)
+    omega (arith, m, l, n, f)
 
 pub add-requires : goal.add-requires
-add-requires c =
+add-requires g c =
+    let queue = g.M.MutatorRoots.queue in
+    let with_queue = g.M.MutatorRoots.with_queue in
+    let ds = c.args.deaths.now in
     let i : ℕ = c.loop-death.death-index in
-    let x = get_or c.args.deaths.now i nothing in
-    let m = c.requires.makers x (contains_at c.args.deaths.now i x (get_default c.args.deaths.now i nothing c.loop-death-test.true)) in
-    let l = c.loop-death.invariant.0 in
+    let x = get_or ds i nothing in
+    let ms = c.loop-death.mutators in
+    let was = c.args.mutators.now in
+    let bound = c.requires.makers x (contains_at ds i x (get_default ds i nothing c.loop-death-test.true)) in
+    let l = joined_count queue with_queue (take i ds) was ms c.loop-death.invariant in
+    let n = length-map was queue in
     let f = c.from.ensures in
-    let q = get_or c.loop-death.queues c.from.result c.index-queues-from.result in
-    let at : c.from.result < length c.loop-death.queues = omega (arith, m, l, f) in
-    let here : slice_get c.loop-death.queues x.weak.maker ≡ Some q = ap (λ (j : ℕ). slice_get c.loop-death.queues j) (sym f) ∙
-    get_default c.loop-death.queues c.from.result c.index-queues-from.result at in
-    has_room c.args.deaths.now i nothing c.args.queues.now c.loop-death.queues c.loop-death-test.true c.loop-death.invariant c.requires q
-    c.if-death-ne-NIL_WORD.true here
+    let m = get_or ms c.from.result c.index-mutators-from.result in
+    let at : c.from.result < length ms = omega (arith, bound, l, n, f) in
+    let here : slice_get ms x.weak.maker ≡ Some m = ap (λ (j : ℕ). slice_get ms j) (sym f) ∙ get_default ms c.from.result c.index-mutators-from.result at in
+    subst (λ (q : FinQueue). 0 < q.spare) (sym c.queue_mut.ensures.value)
+    (has_room ds i nothing (map queue was) (map queue ms) c.loop-death-test.true c.loop-death.invariant.joined c.requires (queue m)
+    c.if-death-ne-NIL_WORD.true (queue_at queue with_queue ms x.weak.maker m here))
 
 pub loop-death-preserved : goal.loop-death-preserved
-loop-death-preserved c =
+loop-death-preserved g c =
+    let queue = g.M.MutatorRoots.queue in
+    let with_queue = g.M.MutatorRoots.with_queue in
+    let laws = g.met.M.MutatorRoots in
+    let ds = c.args.deaths.now in
     let i : ℕ = c.loop-death.death-index in
-    let x = get_or c.args.deaths.now i nothing in
-    let m = c.requires.makers x (contains_at c.args.deaths.now i x (get_default c.args.deaths.now i nothing c.loop-death-test.true)) in
-    let l = c.loop-death.invariant.0 in
+    let x = get_or ds i nothing in
+    let ms = c.loop-death.mutators in
+    let was = c.args.mutators.now in
+    let bound = c.requires.makers x (contains_at ds i x (get_default ds i nothing c.loop-death-test.true)) in
+    let l = joined_count queue with_queue (take i ds) was ms c.loop-death.invariant in
+    let n = length-map was queue in
     elim c.if-death-ne-NIL_WORD.branch [
       | then-death-ne-NIL_WORD w ↦
           let f = w.from.ensures in
-          let q = get_or c.loop-death.queues w.from.result w.index-queues-from.result in
-          let at : w.from.result < length c.loop-death.queues = omega (arith, m, l, f) in
-          let here : slice_get c.loop-death.queues x.weak.maker ≡ Some q = ap (λ (j : ℕ). slice_get c.loop-death.queues j) (sym f) ∙
-          get_default c.loop-death.queues w.from.result w.index-queues-from.result at in
-          let joins = one_joins c.args.deaths.now i nothing c.args.queues.now c.loop-death.queues c.loop-death-test.true c.loop-death.invariant q
-          w.add.new.self w.if-death-ne-NIL_WORD.true here w.add.ensures.words w.add.ensures.spare in
-          let at_from = subst (λ (j : ℕ).
-          AllJoin (take (i + 1) c.args.deaths.now) c.args.queues.now (set c.loop-death.queues j w.add.new.self)) (sym f) joins in
-          subst (λ (qs : List FinQueue). AllJoin (take (i + 1) c.args.deaths.now) c.args.queues.now qs) (sym w.queues-is) at_from
+          let m = get_or ms w.from.result w.index-mutators-from.result in
+          let at : w.from.result < length ms = omega (arith, bound, l, n, f) in
+          let here : slice_get ms x.weak.maker ≡ Some m = ap (λ (j : ℕ). slice_get ms j) (sym f) ∙
+          get_default ms w.from.result w.index-mutators-from.result at in
+          let value = w.queue_mut.ensures.value in
+          let words = w.add.ensures.words ∙ ap (λ (q : FinQueue). q.words ++ x.finaliser ∷ []) value in
+          let spare = w.add.ensures.spare ∙ ap (λ (q : FinQueue). q.spare) value in
+          let joins = one_joined queue with_queue ds i nothing was ms c.loop-death-test.true c.loop-death.invariant laws.own_queue laws.last_queue m
+          w.add.new.self w.if-death-ne-NIL_WORD.true here words spare in
+          let at_from = subst (λ (j : ℕ). HaveJoined queue with_queue (take (i + 1) ds) was (set ms j (with_queue m w.add.new.self))) (sym f) joins in
+          subst (λ xs. HaveJoined queue with_queue (take (i + 1) ds) was xs) (sym w.mutators-is) at_from
       | else-death-ne-NIL_WORD w ↦
-          subst (λ (qs : List FinQueue). AllJoin (take (i + 1) c.args.deaths.now) c.args.queues.now qs) (sym w.queues-is)
-          (nil_joins c.args.deaths.now i nothing c.args.queues.now c.loop-death.queues c.loop-death-test.true c.loop-death.invariant
-          w.if-death-ne-NIL_WORD.false)
+          subst (λ xs. HaveJoined queue with_queue (take (i + 1) ds) was xs) (sym w.mutators-is)
+          (nil_stays queue with_queue ds i nothing was ms c.loop-death-test.true c.loop-death.invariant w.if-death-ne-NIL_WORD.false)
     ]
+
+pub offset_bounds-mutators-from : goal.offset_bounds-mutators-from
+offset_bounds-mutators-from g c =
+    let x = get_or c.args.deaths.now c.loop-death.death-index nothing in
+    let m = c.requires.makers x (contains_at c.args.deaths.now c.loop-death.death-index x
+    (get_default c.args.deaths.now c.loop-death.death-index nothing c.loop-death-test.true)) in
+    let n = length-map c.args.mutators.now g.M.MutatorRoots.queue in
+    let f = c.from.ensures in
+    let h : c.from.result < length c.args.mutators.now = omega (arith, m, n, f) in
+    search rules

@@ -1,6 +1,6 @@
 use Rattle.std.proofs.Common.{take}
-use Rattle.nmgc_weak.specs.Queues.{AllJoin}
+use Rattle.nmgc_weak.specs.Queues.{HaveJoined}
 use Rattle.nmgc_weak.proofs.queues.queue_finalisers.Given as goal
 
 abbrev pub invariant-loop-death : goal.invariant-loop-death
-invariant-loop-death l = AllJoin (take l.death-index l.deaths) l.fn.queues l.queues
+invariant-loop-death g l = HaveJoined g.M.MutatorRoots.queue g.M.MutatorRoots.with_queue (take l.death-index l.deaths) l.fn.mutators l.mutators

@@ -1,5 +1,4 @@
-use Rattle.std.proofs.Common.{ℕ, ◌≡◌, ◌≤◌, List, length, map, sym, ap, subst, ◌∙◌, vec_capacity}
-use Rattle.std.proofs.lemmas.List.{length-map}
+use Rattle.std.proofs.Common.{ℕ, ◌≡◌, List, length, map, sym, ap, subst, ◌∙◌}
 use Rattle.nmgc_alloc.specs.Segments.{Segments}
 use Rattle.nmgc_alloc.specs.CycleSteps.{carried_over}
 use Rattle.nmgc_beside.specs.Resolves.{finished_on}
@@ -48,15 +47,8 @@ resolve-requires-clause-can c =
           (places_of c.args.self.now.weaks.list)) (sym words) (ready.resolves c.finish.new.segments c.finish.new.self f),
     )
 
-pub queue_all-requires-clause-room : goal.queue_all-requires-clause-room
-queue_all-requires-clause-room c =
-    let v = c.args.self.now.mutators in
-    let many : length (queues_in v.items) ≡ length c.as_mut_slice.result.now = length-map v.items (λ (x : Mutator). x.queue) ∙
-    sym (ap (λ (ms : List Mutator). length ms) c.as_mut_slice.ensures.value) in
-    subst (λ (n : ℕ). n ≤ vec_capacity c.args.marking.queues) many c.requires.ready.holds_all
-
-pub queue_all-requires-clause-queues : goal.queue_all-requires-clause-queues
-queue_all-requires-clause-queues c =
+pub queue_all-requires : goal.queue_all-requires
+queue_all-requires c =
     let ready = c.requires.ready in
     let held : words_in c.args.self.now.words ≡ c.in-Some.words = ap words_in c.in-Some.is in
     let words : c.finish.new.words ≡ words_in c.args.self.now.words = c.finish.ensures.words ∙ sym held in

@@ -10,12 +10,6 @@ start-requires-clause-inside g c =
     c.args.self.now c.finish_cycle.new.self c.retire_all.new.self c.requires.stands c.in_ok-finish_cycle.ensures c.retire_all.ensures.value
     c.retire_all.ensures.sound).begins.inside
 
-pub start-requires-clause-whole : goal.start-requires-clause-whole
-start-requires-clause-whole g c =
-    (is_filed_at c.a_full_cycle_leads.ensures.finish c.a_full_cycle_leads.ensures.filing c.a_full_cycle_leads.ensures.begin_ready c.args.stop
-    c.args.self.now c.finish_cycle.new.self c.retire_all.new.self c.requires.stands c.in_ok-finish_cycle.ensures c.retire_all.ensures.value
-    c.retire_all.ensures.sound).begins.whole
-
 pub start-requires-clause-can : goal.start-requires-clause-can
 start-requires-clause-can g c =
     let at = is_filed_at c.a_full_cycle_leads.ensures.finish c.a_full_cycle_leads.ensures.filing c.a_full_cycle_leads.ensures.begin_ready

@@ -3,9 +3,6 @@ use Rattle.std.proofs.lemmas.Bool.{false≢true}
 use Rattle.nmgc_cycle.proofs.FullCycle.{begins_at}
 use Rattle.nmgc_cycle.proofs.collector.Collector.proceed.Goals as goal
 
-pub begin-requires-clause-whole : goal.begin-requires-clause-whole
-begin-requires-clause-whole g c = (begins_at c.a_full_cycle_leads.ensures.begin_ready c.args.stop c.args.self.now c.requires.stands).whole
-
 pub begin-requires-clause-can : goal.begin-requires-clause-can
 begin-requires-clause-can g c = λ due. (begins_at c.a_full_cycle_leads.ensures.begin_ready c.args.stop c.args.self.now c.requires.stands).can due.0
 

@@ -1,17 +1,12 @@
 use Rattle.std.proofs.Common.{sym, subst}
-use Rattle.std.specs.Prelude.{All}
 use Rattle.nmgc_minor.specs.Promotion.{IsFor}
 use Rattle.nmgc_sweep.specs.Names.{HaveEntries}
 use Rattle.nmgc_cycle.specs.declared.collector.Collector.{Collector}
-use Rattle.nmgc_cycle.specs.Roots.{HasRegisters}
 use Rattle.nmgc_cycle.proofs.ListOver.{can_join, lists_inside, listed, promoted, stopped_then}
 use Rattle.nmgc_cycle.proofs.collector.Collector.promote.Goals as goal
 
 pub leave-requires-clause-inside : goal.leave-requires-clause-inside
 leave-requires-clause-inside c = let h = c.requires.stopped in lists_inside h.0 c.args.self.now h.1 h.2
-
-pub move_promoted-requires-clause-whole : goal.move_promoted-requires-clause-whole
-move_promoted-requires-clause-whole c = subst (λ (x : Collector). All HasRegisters x.mutators.items) (sym c.leave.ensures.rest) c.requires.whole
 
 pub move_promoted-requires-clause-words : goal.move_promoted-requires-clause-words
 move_promoted-requires-clause-words c = c.leave.ensures.words.1
@@ -26,23 +21,23 @@ pub move_promoted-requires-clause-stopped : goal.move_promoted-requires-clause-s
 move_promoted-requires-clause-stopped c = let h = c.requires.stopped in (h.0, stopped_then c.args.self.now c.leave.new.self c.leave.ensures h.0 h.1)
 
 pub join-requires-clause-words : goal.join-requires-clause-words
-join-requires-clause-words c = c.in_ok-move_promoted.ensures.promoted.has_words
+join-requires-clause-words c = c.move_promoted.ensures.promoted.has_words
 
 pub join-requires-clause-can : goal.join-requires-clause-can
 join-requires-clause-can c =
     let h = c.requires.stopped in
-    let m = c.in_ok-move_promoted.ensures in
+    let m = c.move_promoted.ensures in
     can_join c.the_list_is_left.ensures c.the_list_is_joined.ensures.joining c.the_list_is_joined.ensures.new c.args.self.now c.leave.new.self
     c.move_promoted.new.self c.move_promoted.new.self c.leave.ensures m.promoted m.weaks h.0 h.1 h.2 m.few
 
 pub returns-clause-promoted : goal.returns-clause-promoted
 returns-clause-promoted c =
-    let m = c.in_ok-move_promoted.ensures in
+    let m = c.move_promoted.ensures in
     promoted c.the_list_is_left.ensures c.the_list_is_joined.ensures.joining c.the_list_is_joined.ensures.new c.args.self.now c.leave.new.self
     c.move_promoted.new.self c.join.new.self c.leave.ensures m.promoted m.weaks c.in_ok-join.ensures
 
 pub returns-clause-listed : goal.returns-clause-listed
 returns-clause-listed c =
-    let m = c.in_ok-move_promoted.ensures in
+    let m = c.move_promoted.ensures in
     listed c.the_list_is_left.ensures c.the_list_is_joined.ensures.joining c.the_list_is_joined.ensures.new c.args.self.now c.leave.new.self
     c.move_promoted.new.self c.join.new.self c.leave.ensures m.promoted m.weaks c.in_ok-join.ensures

@@ -30,9 +30,6 @@ overflow_cast-number g c =
     let same = ap (λ (rows : List StopRow). length rows) c.items.ensures in
     omega (arith, few, same)
 
-pub promote-requires-clause-whole : goal.promote-requires-clause-whole
-promote-requires-clause-whole g c = after.all_whole c.args.script.now c.args.self.now (after.kept_of c.args.script.now c.args.self.now c.requires.can)
-
 pub promote-requires-clause-entries : goal.promote-requires-clause-entries
 promote-requires-clause-entries g c = (after.kept_of c.args.script.now c.args.self.now c.requires.can).entries
 

@@ -1,6 +1,8 @@
-use Rattle.std.proofs.Common.{ℕ, ◌≡◌, ◌∙◌, List, take, get_or, refl, sym, subst, ap}
+use Rattle.std.proofs.Common.{ℕ, ◌≡◌, ◌∙◌, List, map, take, refl, sym, subst, ap}
 use Rattle.std.specs.Prelude.{Contains}
 use Rattle.std.proofs.lemmas.List.Elements.{Contains-get_or}
+use Rattle.nmgc_reach.specs.laws.ItemLaws.{contains_flat}
+use Rattle.nmgc_heap.specs.laws.Moving.{contains_map}
 use Rattle.nmgc_object.specs.FinQueue.{FinQueue}
 use Rattle.nmgc_round.specs.Marking.{Marks}
 use Rattle.nmgc_mark.specs.Tie.{IsTied, with_queues, with_words}
@@ -8,30 +10,37 @@ use Rattle.nmgc_mark.proofs.Words.{queues_more}
 use Rattle.nmgc_mark.proofs.Fields.{marked_none, marked_more}
 use Rattle.nmgc_mark.proofs.marker.Marker.mark_queues.Goals as goal
 
-pub loop-queue-init : goal.loop-queue-init
-loop-queue-init c = record { marked = marked_none c.args.segments.now c.args.self.now c.requires.room; turns = refl; tied = λ o m h. h }
+pub loop-mutator-init : goal.loop-mutator-init
+loop-mutator-init g c = record { marked = marked_none c.args.segments.now c.args.self.now c.requires.room; turns = refl; tied = λ o m h. h }
 
 pub mark_all-requires-clause-room : goal.mark_all-requires-clause-room
-mark_all-requires-clause-room c = c.loop-queue.invariant.marked.room
+mark_all-requires-clause-room g c = c.loop-mutator.invariant.marked.room
 
 pub mark_all-requires-clause-small : goal.mark_all-requires-clause-small
-mark_all-requires-clause-small c =
-    let q : FinQueue = c.queue-item.result in
-    let in_ : Contains c.args.queues.now q = subst (λ (k : FinQueue).
-    Contains c.args.queues.now k) (sym c.queue-item.is) (Contains-get_or c.args.queues.now c.loop-queue.queue-index q c.loop-queue-test.true) in
-    λ w at k e. c.requires.small q w at in_ (subst (λ (l : List ℕ). Contains l w) c.words.ensures k) e
+mark_all-requires-clause-small g c =
+    let f = g.M.MutatorRoots.queue in
+    let x = c.mutator-item.result in
+    let in_ = subst (λ k.
+    Contains c.args.mutators.now k) (sym c.mutator-item.is)
+    (Contains-get_or c.args.mutators.now c.loop-mutator.mutator-index x c.loop-mutator-test.true) in
+    let there : Contains (map f c.args.mutators.now) (f x) = contains_map f c.args.mutators.now x in_ in
+    let read : c.words.result.now ≡ (f x).words = c.words.ensures ∙ ap (λ (q : FinQueue). q.words) c.queue.ensures in
+    λ w at k e. c.requires.small w at (contains_flat (λ (q : FinQueue).
+    q.words) (map f c.args.mutators.now) (f x) w there (subst (λ (l : List ℕ). Contains l w) read k)) e
 
-pub loop-queue-preserved : goal.loop-queue-preserved
-loop-queue-preserved c =
-    let q : FinQueue = c.queue-item.result in
-    let is : c.words.result.now ≡ (get_or c.args.queues.now c.loop-queue.queue-index c.queue-item.result).words = c.words.ensures ∙
-    ap (λ (k : FinQueue). k.words) c.queue-item.is in
+pub loop-mutator-preserved : goal.loop-mutator-preserved
+loop-mutator-preserved g c =
+    let f = g.M.MutatorRoots.queue in
+    let xs = c.args.mutators.now in
+    let i : ℕ = c.loop-mutator.mutator-index in
+    let x = c.mutator-item.result in
+    let read : c.words.result.now ≡ (f x).words = c.words.ensures ∙ ap (λ (q : FinQueue). q.words) c.queue.ensures in
     record {
-      marked = marked_more c.args.segments.now c.loop-queue.segments c.mark_all.new.segments c.args.self.now c.loop-queue.self c.mark_all.new.self
-          c.loop-queue.invariant.marked c.mark_all.ensures.marked;
-      turns = c.mark_all.ensures.turns ∙ c.loop-queue.invariant.turns;
+      marked = marked_more c.args.segments.now c.loop-mutator.segments c.mark_all.new.segments c.args.self.now c.loop-mutator.self
+          c.mark_all.new.self c.loop-mutator.invariant.marked c.mark_all.ensures.marked;
+      turns = c.mark_all.ensures.turns ∙ c.loop-mutator.invariant.turns;
       tied = λ o m h. subst (λ (k : Marks). IsTied o k c.mark_all.new.segments c.mark_all.new.self)
-          (ap (λ (l : List ℕ). with_words o (with_queues o m (take c.loop-queue.queue-index c.args.queues.now)) l) is ∙
-          sym (queues_more o m c.args.queues.now c.loop-queue.queue-index c.queue-item.result c.loop-queue-test.true))
-          (c.mark_all.ensures.tied o (with_queues o m (take c.loop-queue.queue-index c.args.queues.now)) (c.loop-queue.invariant.tied o m h));
+          (ap (λ (l : List ℕ). with_words o (with_queues o m (map f (take i xs))) l) read ∙
+          sym (queues_more f o m xs i x c.loop-mutator-test.true c.mutator-item.is))
+          (c.mark_all.ensures.tied o (with_queues o m (map f (take i xs))) (c.loop-mutator.invariant.tied o m h));
     }

@@ -1,13 +1,14 @@
-use Rattle.std.proofs.Common.{◌≡◌, take}
+use Rattle.std.proofs.Common.{◌≡◌, map, take}
 use Rattle.nmgc_round.specs.View.{Opening}
 use Rattle.nmgc_round.specs.Marking.{Marks}
 use Rattle.nmgc_mark.specs.Marker.{HasMarked}
 use Rattle.nmgc_mark.specs.Tie.{IsTied, with_queues}
 use Rattle.nmgc_mark.proofs.marker.Marker.mark_queues.Given as goal
 
-abbrev pub invariant-loop-queue : goal.invariant-loop-queue
-invariant-loop-queue l = record {
+abbrev pub invariant-loop-mutator : goal.invariant-loop-mutator
+invariant-loop-mutator g l = record {
   marked : HasMarked l.initial.segments l.segments l.initial.self l.self 0;
   turns : l.self.turns ≡ l.initial.self.turns;
-  tied : (o : Opening) (m : Marks) → IsTied o m l.initial.segments l.initial.self → IsTied o (with_queues o m (take l.queue-index l.queues)) l.segments l.self;
+  tied : (o : Opening) (m : Marks) → IsTied o m l.initial.segments l.initial.self →
+      IsTied o (with_queues o m (map g.M.MutatorRoots.queue (take l.mutator-index l.mutators))) l.segments l.self;
 }

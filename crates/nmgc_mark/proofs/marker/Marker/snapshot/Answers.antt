@@ -1,34 +1,35 @@
-use Rattle.std.proofs.Common.{◌≡◌, ◌∙◌, arith, sym, subst, ap}
+use Rattle.std.proofs.Common.{◌≡◌, ◌∙◌, arith, map, sym, subst, ap}
+use Rattle.std.specs.List.{flat_map}
 use Rattle.nmgc_object.specs.Places.{IsLayout}
 use Rattle.nmgc_core.specs.State.{unmarked}
 use Rattle.nmgc_round.specs.Marking.{Marks, marks_of}
-use Rattle.nmgc_mark.specs.Beginning.{slots_of, most_blocks}
+use Rattle.nmgc_mark.specs.Beginning.{slots_of, queue_words, most_blocks}
 use Rattle.nmgc_mark.specs.Marker.{blank}
 use Rattle.nmgc_run.specs.Seen.{MarkerSeen}
 use Rattle.nmgc_run.specs.Marker.{HasRoomToMark}
 use Rattle.nmgc_mark.specs.Tie.{IsTied, with_words, with_queues}
 use Rattle.nmgc_mark.proofs.Fields.{total_small}
 use Rattle.nmgc_mark.proofs.Rooms.{blank_room}
-use Rattle.nmgc_mark.proofs.Roots.{words_small, flat_small, roots_mark, blank_tied}
+use Rattle.nmgc_mark.proofs.Roots.{words_small, roots_mark, blank_tied}
 use Rattle.nmgc_mark.proofs.marker.Marker.snapshot.Goals as goal
 
-pub mark_all-requires-clause-room : goal.mark_all-requires-clause-room
-mark_all-requires-clause-room g c =
+pub mark_registers-requires-clause-room : goal.mark_registers-requires-clause-room
+mark_registers-requires-clause-room g c =
     let is : c.in_ok-marker.marker ≡ blank c.args.epoch (most_blocks c.args.segments.now.layout) = c.in_ok-marker.ensures ∙
     ap (λ n. blank c.args.epoch n) (c.most_blocks-blocks.ensures ∙ ap most_blocks c.layout.ensures.layout) in
     subst (λ (m : MarkerSeen). HasRoomToMark c.args.segments.now m) (sym is) (blank_room c.args.segments.now c.args.epoch c.layout.ensures.sound)
 
-pub mark_all-requires-clause-small : goal.mark_all-requires-clause-small
-mark_all-requires-clause-small g c = λ w at k e.
+pub mark_registers-requires-clause-small : goal.mark_registers-requires-clause-small
+mark_registers-requires-clause-small g c = λ w at k e.
     let b = c.requires.begins in
-    let l = words_small b.0 c.args.registers.now _ b.1.right.apart b.1.registers_are w at k e in
+    let l = words_small b.0 (flat_map g.M.MutatorRoots.registers c.args.mutators.now) _ b.1.right.apart b.1.registers_are w at k e in
     let t = total_small b.0.layout (subst IsLayout b.1.right.layout c.layout.ensures.sound.layout) in
     omega (arith, l, t)
 
 pub mark_queues-requires-clause-small : goal.mark_queues-requires-clause-small
-mark_queues-requires-clause-small g c = λ q w at a k e.
+mark_queues-requires-clause-small g c = λ w at k e.
     let b = c.requires.begins in
-    let l = flat_small b.0 c.args.queues.now _ b.1.right.apart b.1.queues_are q w at a k e in
+    let l = words_small b.0 (queue_words (map g.M.MutatorRoots.queue c.args.mutators.now)) _ b.1.right.apart b.1.queues_are w at k e in
     let t = total_small b.0.layout (subst IsLayout b.1.right.layout c.layout.ensures.sound.layout) in
     omega (arith, l, t)
 
@@ -40,18 +41,18 @@ mark_shared-requires-clause-small g c = λ w at k e.
     omega (arith, l, t)
 
 pub returns-clause-turns : goal.returns-clause-turns
-returns-clause-turns g c = c.mark_shared.ensures.turns ∙ c.mark_queues.ensures.turns ∙ c.mark_all.ensures.turns ∙
+returns-clause-turns g c = c.mark_shared.ensures.turns ∙ c.mark_queues.ensures.turns ∙ c.mark_registers.ensures.turns ∙
     ap (λ (m : MarkerSeen). m.turns) c.in_ok-marker.ensures
 
 pub returns-clause-tied : goal.returns-clause-tied
 returns-clause-tied g c = λ o b.
     let ws = g.W.HeapWords.words c.args.words.now in
+    let registers = flat_map g.M.MutatorRoots.registers c.args.mutators.now in
+    let queues = map g.M.MutatorRoots.queue c.args.mutators.now in
     let first : Marks = marks_of (unmarked o.core.snapshot) in
-    let a = c.mark_all.ensures.tied o first (subst (λ (m : MarkerSeen).
+    let a = c.mark_registers.ensures.tied o first (subst (λ (m : MarkerSeen).
     IsTied o first c.args.segments.now m) (sym c.in_ok-marker.ensures)
-    (blank_tied o c.args.segments.now c.args.epoch c.most_blocks-blocks.result ws c.args.registers.now c.args.queues.now c.layout.ensures.sound b)) in
-    let d = c.mark_queues.ensures.tied o (with_words o first c.args.registers.now) a in
-    let e = c.mark_shared.ensures.tied o (with_queues o (with_words o first c.args.registers.now) c.args.queues.now) d in
-    subst (λ (m : Marks).
-    IsTied o m c.mark_shared.new.segments c.mark_shared.new.self)
-    (roots_mark o c.args.segments.now c.args.epoch ws c.args.registers.now c.args.queues.now b) e
+    (blank_tied o c.args.segments.now c.args.epoch c.most_blocks-blocks.result ws registers queues c.layout.ensures.sound b)) in
+    let d = c.mark_queues.ensures.tied o (with_words o first registers) a in
+    let e = c.mark_shared.ensures.tied o (with_queues o (with_words o first registers) queues) d in
+    subst (λ (m : Marks). IsTied o m c.mark_shared.new.segments c.mark_shared.new.self) (roots_mark o c.args.segments.now c.args.epoch ws registers queues b) e

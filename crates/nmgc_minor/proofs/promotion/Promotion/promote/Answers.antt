@@ -1,67 +1,97 @@
-use Rattle.std.proofs.Common.{◌≡◌, ◌∷◌, [], ℕ, List, map, refl, ap, ◌∙◌, arith}
+use Rattle.std.proofs.Common.{◌≡◌, ℕ, List, map, ap, ◌∙◌, arith}
+use Rattle.std.specs.List.{flat_map}
 use Rattle.nmgc_object.specs.FinQueue.{FinQueue}
+use Rattle.nmgc_object.specs.declared.layout.Nursery.{Nursery}
 use Rattle.nmgc_blocks.specs.Stopped.{young_base}
-use Rattle.nmgc_minor.specs.Start.{inputs_of, words_of, forwarded_queue}
+use Rattle.nmgc_minor.specs.Start.{inputs_by, words_of}
 use Rattle.nmgc_minor.specs.Forwarding.{forward_word}
+use Rattle.nmgc_minor.specs.Promotes.{forwarded}
 use Rattle.nmgc_minor.specs.Promotion.{Promotion}
+use Rattle.nmgc_minor.proofs.Listing.{registers_then, queues_then, nurseries_then, words_forwarded, room_forwarded}
 use Rattle.nmgc_minor.proofs.Stops.{stop_allows, stop_settles, stop_places, stop_fields}
 use Rattle.nmgc_minor.proofs.promotion.Promotion.promote.Goals as goal
 
--- the words of forwarded queues, and their room
-words_forwarded : (table : List ℕ) (base : ℕ) (queues : List FinQueue) →
-    words_of (map (forwarded_queue table base) queues) ≡ map (map (forward_word table base)) (words_of queues)
-words_forwarded table base [] = refl
-words_forwarded table base (queue ∷ queues) = ap (λ (rest : List (List ℕ)). map (forward_word table base) queue.words ∷
-    rest) (words_forwarded table base queues)
-
-room_forwarded : (table : List ℕ) (base : ℕ) (queues : List FinQueue) →
-    map (λ (queue : FinQueue). queue.spare) (map (forwarded_queue table base) queues) ≡ map (λ (queue : FinQueue). queue.spare) queues
-room_forwarded table base [] = refl
-room_forwarded table base (queue ∷ queues) = ap (λ (rest : List ℕ). queue.spare ∷ rest) (room_forwarded table base queues)
-
 pub run_passes-requires-clause-can : goal.run_passes-requires-clause-can
 run_passes-requires-clause-can g c =
-    let inputs = inputs_of c.args.roots.now.registers c.args.roots.now.queues c.args.recorded.now c.args.young_weaks.now in
-    stop_allows c.requires.stopped.0 c.args.segments.now (g.W.HeapWords.words c.args.words.now) c.args.nurseries.now inputs
+    let m = g.M.MutatorRoots in
+    let ms = c.args.mutators.now in
+    let inputs = inputs_by m.registers m.queue m.recorded m.young_weaks ms in
+    stop_allows c.requires.stopped.0 c.args.segments.now (g.W.HeapWords.words c.args.words.now) (map m.nursery ms) inputs
     c.words_differ.ensures.headers c.words_differ.ensures.names c.requires.stopped.1
 
 pub returns-clause-settled : goal.returns-clause-settled
 returns-clause-settled g c = λ t h.
-    let inputs = inputs_of c.args.roots.now.registers c.args.roots.now.queues c.args.recorded.now c.args.young_weaks.now in
+    let m = g.M.MutatorRoots in
+    let laws = g.met.M.MutatorRoots in
+    let ms = c.args.mutators.now in
+    let inputs = inputs_by m.registers m.queue m.recorded m.young_weaks ms in
     let p = c.run_passes.ensures in
-    let done = stop_settles t c.args.segments.now (g.W.HeapWords.words c.args.words.now) c.args.nurseries.now inputs c.words_differ.ensures.headers
+    let forward : ℕ → ℕ = forward_word c.run_passes.new.young.table.items (young_base c.args.segments.now) in
+    let done = stop_settles t c.args.segments.now (g.W.HeapWords.words c.args.words.now) (map m.nursery ms) inputs c.words_differ.ensures.headers
     c.words_differ.ensures.names h c.run_passes.new.segments (g.W.HeapWords.words c.run_passes.new.words) c.run_passes.new.moves.items
     c.run_passes.new.young.table.items p.sound p.layout p.promotes in
-    let queues = ap words_of p.queues ∙ words_forwarded c.run_passes.new.young.table.items (young_base c.args.segments.now) c.args.roots.now.queues in
-    rw (p.registers, queues) done
+    let registers : flat_map m.registers c.run_passes.new.mutators ≡ map forward (flat_map m.registers ms) = ap (λ l. flat_map m.registers l) p.mutators ∙
+    registers_then m.registers m.with_registers m.queue m.with_queue m.after_stop forward laws.own_registers laws.queue_apart laws.registers_stay ms in
+    let queues : words_of (map m.queue c.run_passes.new.mutators) ≡ map (map forward) (words_of (map m.queue ms)) =
+    ap (λ l. words_of (map m.queue l)) p.mutators ∙
+    ap words_of (queues_then m.registers m.with_registers m.queue m.with_queue m.after_stop forward laws.own_queue laws.queue_stays laws.registers_apart ms) ∙
+    words_forwarded forward (map m.queue ms) in
+    rw (registers, queues) done
 
 pub returns-clause-places : goal.returns-clause-places
 returns-clause-places g c = λ t h a st.
-    let inputs = inputs_of c.args.roots.now.registers c.args.roots.now.queues c.args.recorded.now c.args.young_weaks.now in
+    let m = g.M.MutatorRoots in
+    let ms = c.args.mutators.now in
+    let inputs = inputs_by m.registers m.queue m.recorded m.young_weaks ms in
     let p = c.run_passes.ensures in
-    stop_places t c.args.segments.now (g.W.HeapWords.words c.args.words.now) c.args.nurseries.now inputs c.words_differ.ensures.headers
+    stop_places t c.args.segments.now (g.W.HeapWords.words c.args.words.now) (map m.nursery ms) inputs c.words_differ.ensures.headers
     c.words_differ.ensures.names h c.run_passes.new.segments (g.W.HeapWords.words c.run_passes.new.words) c.run_passes.new.moves.items
     c.run_passes.new.young.table.items p.sound p.layout p.promotes a st
 
 pub returns-clause-changes : goal.returns-clause-changes
 returns-clause-changes g c =
-    let inputs = inputs_of c.args.roots.now.registers c.args.roots.now.queues c.args.recorded.now c.args.young_weaks.now in
+    let m = g.M.MutatorRoots in
+    let laws = g.met.M.MutatorRoots in
+    let ms = c.args.mutators.now in
+    let inputs = inputs_by m.registers m.queue m.recorded m.young_weaks ms in
+    let forward : ℕ → ℕ = forward_word c.run_passes.new.young.table.items (young_base c.args.segments.now) in
     let p = c.run_passes.ensures in (
-      forward_word c.run_passes.new.young.table.items (young_base c.args.segments.now),
+      forward,
       record {
         forwards = p.promotes.forwards;
         rewrites = p.promotes.rewrites;
-        fields = stop_fields c.requires.stopped.0 c.args.segments.now (g.W.HeapWords.words c.args.words.now) c.args.nurseries.now inputs
+        fields = stop_fields c.requires.stopped.0 c.args.segments.now (g.W.HeapWords.words c.args.words.now) (map m.nursery ms) inputs
             c.words_differ.ensures.headers c.words_differ.ensures.names c.requires.stopped.1 c.run_passes.new.segments
             (g.W.HeapWords.words c.run_passes.new.words) c.run_passes.new.moves.items c.run_passes.new.young.table.items p.sound p.layout p.promotes;
-        held = p.registers;
-        queued = ap words_of p.queues ∙ words_forwarded c.run_passes.new.young.table.items (young_base c.args.segments.now) c.args.roots.now.queues;
+        held = ap (λ l. flat_map m.registers l) p.mutators ∙
+            registers_then m.registers m.with_registers m.queue m.with_queue m.after_stop forward laws.own_registers laws.queue_apart laws.registers_stay ms;
+        queued = ap (λ l. words_of (map m.queue l)) p.mutators ∙
+            ap words_of (queues_then m.registers m.with_registers m.queue m.with_queue m.after_stop forward laws.own_queue laws.queue_stays
+            laws.registers_apart ms) ∙
+            words_forwarded forward (map m.queue ms);
       },
+      p.mutators,
     )
 
 pub returns-clause-room : goal.returns-clause-room
-returns-clause-room g c = ap (λ (queues : List FinQueue). map (λ (queue : FinQueue). queue.spare) queues) c.run_passes.ensures.queues ∙
-    room_forwarded c.run_passes.new.young.table.items (young_base c.args.segments.now) c.args.roots.now.queues
+returns-clause-room g c =
+    let m = g.M.MutatorRoots in
+    let laws = g.met.M.MutatorRoots in
+    let ms = c.args.mutators.now in
+    let forward : ℕ → ℕ = forward_word c.run_passes.new.young.table.items (young_base c.args.segments.now) in
+    ap (λ l. map (λ (queue : FinQueue). queue.spare) (map m.queue l)) c.run_passes.ensures.mutators ∙
+    ap (λ (l : List FinQueue). map (λ (queue : FinQueue). queue.spare) l) (queues_then m.registers m.with_registers m.queue m.with_queue m.after_stop
+    forward laws.own_queue laws.queue_stays laws.registers_apart ms) ∙ room_forwarded forward (map m.queue ms)
+
+pub returns-clause-emptied : goal.returns-clause-emptied
+returns-clause-emptied g c =
+    let m = g.M.MutatorRoots in
+    let laws = g.met.M.MutatorRoots in
+    let ms = c.args.mutators.now in
+    let forward : ℕ → ℕ = forward_word c.run_passes.new.young.table.items (young_base c.args.segments.now) in
+    ap (λ l. map m.nursery l) c.run_passes.ensures.mutators ∙
+    nurseries_then m.registers m.with_registers m.queue m.with_queue m.after_stop forward m.nursery laws.nursery_empties laws.queue_nursery
+    laws.registers_nursery ms
 
 pub returns-clause-marks : goal.returns-clause-marks
 returns-clause-marks g c = c.run_passes.ensures.promotes.placing.marks

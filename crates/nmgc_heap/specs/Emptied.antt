@@ -1,0 +1,6 @@
+-- A nursery once a stop has promoted what it had.
+use Rattle.nmgc_object.specs.declared.layout.Nursery.{Nursery}
+
+-- a nursery without objects
+abbrev pub emptied : Nursery → Nursery
+emptied nursery = record nursery { top = nursery.base }

@@ -1,0 +1,83 @@
+-- What mutators hold, as lists of all of it.
+use Rattle.std.proofs.Common.{ℕ, ◌≡◌, ◌+◌, ◌<◌, List, [], ◌∷◌, ◌++◌, length, map, take, get_or, refl, sym, ap, ◌∙◌, append-nil}
+use Rattle.std.specs.List.{flat_map}
+use Rattle.std.proofs.Math.ListN.{get_or-map}
+use Rattle.std.proofs.lemmas.List.{take_more, get_or_default, length-map, map-append}
+use Rattle.std.proofs.lemmas.List.Concat.{flat_map-append}
+use Rattle.nmgc_object.specs.FinQueue.{FinQueue}
+use Rattle.nmgc_object.specs.declared.layout.Nursery.{Nursery}
+use Rattle.nmgc_heap.specs.Emptied.{emptied}
+use Rattle.nmgc_blocks.specs.Nurseries.{nursery_at}
+use Rattle.nmgc_minor.specs.Promotes.{forwarded, promoted}
+
+-- with the next item, what all of them have
+pub flat_more : {A B : Type 0} (f : A → List B) (xs : List A) (i : ℕ) (x : A) → i < length xs → x ≡ get_or xs i x →
+    flat_map f (take (i + 1) xs) ≡ flat_map f (take i xs) ++ f x
+flat_more {A} {B} f xs i x lt is =
+    ap (λ (l : List A). flat_map f l) (take_more xs i x lt ∙ ap (λ (y : A). take i xs ++ y ∷ []) (sym is))
+    ∙ flat_map-append f (take i xs) (x ∷ [])
+    ∙ ap (λ (l : List B). flat_map f (take i xs) ++ l) (append-nil (f x))
+
+-- a mutator's nursery among all
+pub nursery_is : {A : Type 0} (f : A → Nursery) (ms : List A) (k : ℕ) (x : A) → k < length ms → x ≡ get_or ms k x → f x ≡ nursery_at (map f ms) k
+nursery_is f ms k x lt is =
+    let there : k < length (map f ms) = rw (length-map ms f) lt in
+    ap f is ∙ sym (get_or-map f ms k x) ∙ get_or_default (map f ms) k (f x) (record { base = 0; top = 0; end = 0 }) there
+
+-- what mutators have once what they held was promoted
+
+module _ {M : Type 0} (registers : M → List ℕ) (with_registers : M → List ℕ → M) (queue : M → FinQueue) (with_queue : M → FinQueue → M)
+    (after_stop : M → M) (forward : ℕ → ℕ) where
+  abbrev then : M → M
+  then m = promoted registers with_registers queue with_queue after_stop forward m
+
+  abbrev changed : M → M
+  changed m = with_registers m (map forward (registers m))
+
+  -- its queue once it is changed too
+  abbrev own_queue : M → FinQueue
+  own_queue m = forwarded forward (queue (changed m))
+
+  pub registers_then : ((m : M) (words : List ℕ) → length words ≡ length (registers m) → registers (with_registers m words) ≡ words) →
+      ((m : M) (q : FinQueue) → registers (with_queue m q) ≡ registers m) → ((m : M) → registers (after_stop m) ≡ registers m) → (ms : List M) →
+      flat_map registers (map then ms) ≡ map forward (flat_map registers ms)
+  registers_then own apart stay [] = refl
+  registers_then own apart stay (m ∷ ms) =
+      let one : registers (then m) ≡ map forward (registers m) =
+      stay (with_queue (changed m) (own_queue m))
+      ∙ apart (changed m) (own_queue m)
+      ∙ own m (map forward (registers m)) (length-map (registers m) forward) in
+      ap (λ (l : List ℕ). l ++ flat_map registers (map then ms)) one
+      ∙ ap (λ (l : List ℕ). map forward (registers m) ++ l) (registers_then own apart stay ms)
+      ∙ sym (map-append forward (registers m) (flat_map registers ms))
+
+  pub queues_then : ((m : M) (q : FinQueue) → queue (with_queue m q) ≡ q) → ((m : M) → queue (after_stop m) ≡ queue m) →
+      ((m : M) (words : List ℕ) → queue (with_registers m words) ≡ queue m) → (ms : List M) →
+      map queue (map then ms) ≡ map (forwarded forward) (map queue ms)
+  queues_then own stays apart [] = refl
+  queues_then own stays apart (m ∷ ms) =
+      let one : queue (then m) ≡ forwarded forward (queue m) =
+      stays (with_queue (changed m) (own_queue m)) ∙ own (changed m) (own_queue m) ∙ ap (forwarded forward) (apart m (map forward (registers m))) in
+      ap (λ (q : FinQueue). q ∷ map queue (map then ms)) one
+      ∙ ap (λ (l : List FinQueue). forwarded forward (queue m) ∷ l) (queues_then own stays apart ms)
+
+  pub nurseries_then : (nursery : M → Nursery) → ((m : M) → nursery (after_stop m) ≡ emptied (nursery m)) →
+      ((m : M) (q : FinQueue) → nursery (with_queue m q) ≡ nursery m) → ((m : M) (words : List ℕ) → nursery (with_registers m words) ≡ nursery m) →
+      (ms : List M) → map nursery (map then ms) ≡ map emptied (map nursery ms)
+  nurseries_then nursery empties by_queue by_registers [] = refl
+  nurseries_then nursery empties by_queue by_registers (m ∷ ms) =
+      let one : nursery (then m) ≡ emptied (nursery m) =
+      empties (with_queue (changed m) (own_queue m)) ∙ ap emptied (by_queue (changed m) (own_queue m) ∙ by_registers m (map forward (registers m))) in
+      ap (λ (n : Nursery). n ∷ map nursery (map then ms)) one
+      ∙ ap (λ (l : List Nursery). emptied (nursery m) ∷ l) (nurseries_then nursery empties by_queue by_registers ms)
+
+-- the words of forwarded queues, and their room
+pub words_forwarded : (forward : ℕ → ℕ) (queues : List FinQueue) →
+    map (λ (queue : FinQueue). queue.words) (map (forwarded forward) queues) ≡ map (map forward) (map (λ (queue : FinQueue). queue.words) queues)
+words_forwarded forward [] = refl
+words_forwarded forward (queue ∷ queues) = ap (λ (rest : List (List ℕ)). map forward queue.words ∷ rest) (words_forwarded forward queues)
+
+pub room_forwarded : (forward : ℕ → ℕ) (queues : List FinQueue) →
+    map (λ (queue : FinQueue). queue.spare) (map (forwarded forward) queues) ≡ map (λ (queue : FinQueue). queue.spare) queues
+room_forwarded forward [] = refl
+room_forwarded forward (queue ∷ queues) = ap (λ (rest : List ℕ). queue.spare ∷ rest) (room_forwarded forward queues)

@@ -1,0 +1,8 @@
+use Rattle.std.proofs.Common.{take}
+use Rattle.std.specs.Prelude.{Contains}
+use Rattle.nmgc_minor.specs.Forwarding.{forward_word, ForwardsAt}
+use Rattle.nmgc_minor.proofs.forwarding.forward_places.Given as goal
+
+abbrev pub invariant-loop-at : goal.invariant-loop-at
+invariant-loop-at g l = ForwardsAt (forward_word l.table l.base) (g.W.HeapWords.words l.initial.words) (g.W.HeapWords.words l.words) (λ i.
+    Contains (take l.at-index l.recorded) (record { 0 = i }))

@@ -1,0 +1,8 @@
+-- Words that take the places of as many others.
+use Rattle.std.proofs.Common.{ℕ, ◌≡◌, ◌++◌, List, length, take, drop, ap, sym, ◌∙◌}
+use Rattle.std.proofs.Math.Seq.{take-append_seam}
+use Rattle.std.specs.List.{refill}
+
+-- none of the old ones is left
+pub refill_all : (old words : List ℕ) → length words ≡ length old → refill (length old) old words ≡ words
+refill_all old words e = ap (λ (n : ℕ). take n (words ++ drop (length words) old)) (sym e) ∙ take-append_seam words (drop (length words) old)
