@@ -1,11 +1,12 @@
 -- Sweeping the mark bytes of segments first, and settling their states one after the other, is sweeping one after the other.
-use Rattle.std.proofs.Common.{ℕ, zero, suc, ◌≡◌, ◌≢◌, ◌↔◌, ◌*◌, ◌/◌, ◌<◌, ◌≤◌, ◌⊎◌, ◌∙◌, inl, inr, refl, ap, subst, sym, arith, List, [], ◌∷◌, length, map, set, take, slice_index}
+use Rattle.std.proofs.Common.{ℕ, zero, suc, ◌≡◌, ◌≢◌, ◌↔◌, ◌+◌, ◌-◌, ◌*◌, ◌/◌, ◌<◌, ◌≤◌, ◌⊎◌, ◌∙◌, inl, inr, refl, ap, subst, sym, arith, List, [], ◌∷◌, length, map, set, take, slice_index}
 use Rattle.std.specs.Prelude.{slice_index_or}
 use Rattle.std.proofs.Math.ListN.{length-set, length-map}
 use Rattle.std.proofs.lemmas.List.{get_or-take, get_or_default, ext_get_or}
 use Rattle.std.proofs.lemmas.Bool.{cases_eq, cases_lt, cases_Bool}
 use Rattle.std.proofs.lemmas.Bool.Decides.{nat_tests}
 use lib.Seq.{take-set-lt, length-take-le}
+use Rattle.nmgc_object.specs.declared.layout.Layout.{Layout}
 use Rattle.nmgc_object.specs.Size.{block_size}
 use Rattle.nmgc_segment.specs.Marks.{IsEpoch, swept}
 use Rattle.nmgc_segment.specs.Segment.{Segment, InUse, IsMarked, block_count, segment_words, mark_of, free_segment}
@@ -13,8 +14,8 @@ use Rattle.nmgc_segment.specs.declared.state.State.TheVariants as state
 use Rattle.nmgc_segment.specs.laws.Segments.{mark-map, zero_swept}
 use Rattle.nmgc_alloc.specs.declared.search.Sought.TheVariants.{Sweeping}
 use Rattle.nmgc_alloc.specs.Search.{nth, is, NoneBelow, sought_count}
-use Rattle.nmgc_alloc.specs.Segments.{Segments, IsLeast, HasNone, SweepsSegment, SweepsNext}
-use Rattle.nmgc_alloc.specs.Halves.{SweepsMany, HasSweptBytes, SweptWaiting, FirstSwept, Settles, SettlesNext}
+use Rattle.nmgc_alloc.specs.Segments.{Segments, IsLeast, IsSegments, HasNumber, HasNone, HasNoneIn, SweepsSegment, SweepsNext}
+use Rattle.nmgc_alloc.specs.Halves.{SweepsMany, HasSweptBytes, SweptWaiting, FirstSwept, Settles, SettlesNext, SettlesAt}
 use Rattle.nmgc_alloc.specs.laws.Counts.{none_counted, one_counted}
 use Rattle.nmgc_alloc.specs.laws.Numbers.{nth-set_same, nth-set_other}
 use Rattle.nmgc_alloc.proofs.TallyLaws.{count_falls, passes, from_test}
@@ -285,16 +286,106 @@ settling_bytes epoch done left old s e some h number least =
     bytes_stay (nth t.segments number) (nth s.segments number) epoch e ((h.half.below number first).0 waits)
 
 -- as the loop counts them
-pub settling_begins : (epoch count left : ℕ) (old s : Segments) → left ≡ count → s ≡ record old { segments = s.segments } →
-    FirstSwept epoch count old.segments s.segments → IsSettling epoch 0 left old s
-settling_begins epoch count left old s e rest h = subst (λ (n : ℕ). IsSettling epoch 0 n old s) (sym e) (settling_first epoch count old s rest h)
-
-pub settling_step : (epoch done next left fewer : ℕ) (old s u : Segments) → next ≡ suc done → left ≡ suc fewer → IsSettling epoch done left old s →
+settling_step : (epoch done next left fewer : ℕ) (old s u : Segments) → next ≡ suc done → left ≡ suc fewer → IsSettling epoch done left old s →
     (number : ℕ) × SettlesNext s u number → IsSettling epoch next fewer old u
 settling_step epoch done next left fewer old s u n l h found =
     subst (λ (k : ℕ). IsSettling epoch k fewer old u) (sym n)
     (settling_next epoch done fewer found.0 old s u (subst (λ (k : ℕ). IsSettling epoch done k old s) l h) found.1)
 
-pub settling_ends : (epoch done count left : ℕ) (old s : Segments) → done ≡ count → left ≡ 0 → IsSettling epoch done left old s → SweepsMany epoch count old s
+settling_ends : (epoch done count left : ℕ) (old s : Segments) → done ≡ count → left ≡ 0 → IsSettling epoch done left old s → SweepsMany epoch count old s
 settling_ends epoch done count left old s d l h =
     settling_done epoch count old s (subst (λ (k : ℕ). IsSettling epoch k 0 old s) d (subst (λ (k : ℕ). IsSettling epoch done k old s) l h))
+
+-- a loop over numbers that settles the segments which wait: below the next number none waits
+pub record IsCounting (epoch count left number : ℕ) (old s : Segments) : Type 0 where
+  pub settling : IsSettling epoch (count - left) left old s
+  pub few : left ≤ count
+  pub below : NoneBelow Sweeping s.segments number
+  pub layout : s.layout ≡ old.layout
+  pub sound : IsSegments s
+
+pub counting_begins : (epoch count from : ℕ) (old s : Segments) → s ≡ record old { segments = s.segments } →
+    FirstSwept epoch count old.segments s.segments → NoneBelow Sweeping s.segments from → IsSegments s → IsCounting epoch count count from old s
+counting_begins epoch count from old s rest h below sound = record {
+  settling = subst (λ (n : ℕ). IsSettling epoch n count old s) (let e : 0 ≡ count - count = omega arith in e) (settling_first epoch count old s rest h);
+  few = omega arith;
+  below = below;
+  layout = ap (λ (t : Segments). t.layout) rest;
+  sound = sound;
+}
+
+-- how many segments there are stays
+pub as_many : (told : Layout) (old s : Segments) → told ≡ s.layout → s ≡ record old { segments = s.segments } → told.segments ≡ old.layout.segments
+as_many told old s is rest = ap (λ (l : Layout). l.segments) (is ∙ ap (λ (t : Segments). t.layout) rest)
+
+-- each number is a segment's
+pub counting_exists : (epoch count left number : ℕ) (old s : Segments) → IsCounting epoch count left number old s → number < old.layout.segments →
+    HasNumber s number
+counting_exists epoch count left number old s h low =
+    let same : s.layout.segments ≡ old.layout.segments = ap (λ (l : Layout). l.segments) h.layout in
+    let all = h.sound.count in
+    omega (arith, low, same, all)
+
+-- and where it waits, its bytes were swept
+pub counting_bytes : (epoch count left number : ℕ) (old s : Segments) → IsEpoch epoch → left ≢ 0 → IsCounting epoch count left number old s →
+    HasNumber s number → (nth s.segments number).state ≡ state.Sweeping → HasSweptBytes epoch (nth s.segments number) (nth s.segments number)
+counting_bytes epoch count left number old s e some h exists waits =
+    settling_bytes epoch (count - left) left old s e (omega (arith, some)) h.settling number (record { exists = exists; is = waits; none_below = h.below })
+
+-- the next number
+pub counting_next : (epoch count left after number : ℕ) (old s u : Segments) → IsCounting epoch count left number old s →
+    SettlesAt s u number left after → IsSegments u → IsCounting epoch count after (number + 1) old u
+counting_next epoch count left after number old s u h (inl settled) sound =
+    let next = settled.0 in
+    let one = settled.1 in
+    let few = h.few in
+    let y : Segment = nth u.segments number in
+    let others : (i : ℕ) → i ≢ number → nth u.segments i ≡ nth s.segments i = λ i ne.
+    ap (λ (t : Segments). nth t.segments i) next.others ∙ nth-set_other s.segments number i y ne in
+    record {
+      settling =
+          settling_step epoch (count - left) (count - after) left after old s u (omega (arith, one, few)) (omega (arith, one)) h.settling (number, next);
+      few = omega (arith, one, few);
+      below = λ i low waits. elim (cases_eq i number) [
+        | inl same ↦ settled_not_waiting (nth s.segments number) y next.settles (subst (λ (k : ℕ). (nth u.segments k).state ≡ state.Sweeping) same waits)
+        | inr ne ↦ h.below i (omega (arith, low, ne)) (ap (λ (x : Segment). x.state) (sym (others i ne)) ∙ waits)
+      ];
+      layout = ap (λ (t : Segments). t.layout) next.others ∙ h.layout;
+      sound = sound;
+    }
+counting_next epoch count left after number old s u h (inr none) sound =
+    let same : IsCounting epoch count left (number + 1) old s = record {
+      settling = h.settling;
+      few = h.few;
+      below = λ i low waits. elim (cases_eq i number) [
+        | inl here ↦ none.0 (subst (λ (k : ℕ). (nth s.segments k).state ≡ state.Sweeping) here waits)
+        | inr ne ↦ h.below i (omega (arith, low, ne)) waits
+      ];
+      layout = h.layout;
+      sound = h.sound;
+    } in
+    subst (λ (n : ℕ). IsCounting epoch count n (number + 1) old u) (sym none.2) (subst (λ (t : Segments).
+    IsCounting epoch count left (number + 1) old t) (sym none.1) same)
+
+-- none is left, or no number is
+pub counting_done : (epoch count left number : ℕ) (old s : Segments) → IsCounting epoch count left number old s → left ≡ 0 → SweepsMany epoch count old s
+counting_done epoch count left number old s h none = settling_ends epoch (count - left) count left old s (omega (arith, none)) none h.settling
+
+pub counting_ends : (epoch count left number : ℕ) (old s : Segments) → IsCounting epoch count left number old s → old.layout.segments ≤ number →
+    SweepsMany epoch count old s
+counting_ends epoch count left number old s h past = elim (cases_eq left 0) [
+  | inl none ↦ counting_done epoch count left number old s h none
+  | inr some ↦
+      let same : s.layout.segments ≡ old.layout.segments = ap (λ (l : Layout). l.segments) h.layout in
+      let all = h.sound.count in
+      absurd (settling_some epoch (count - left) left old s (omega (arith, some)) h.settling (λ i low waits.
+      h.below i (omega (arith, low, same, all, past)) waits))
+]
+
+-- a single sweep is one of so many
+pub one_many : (epoch number : ℕ) (old new : Segments) → SweepsNext old new epoch number → SweepsMany epoch 1 old new
+one_many epoch number old new next = (new, number, next, refl)
+
+-- where some are to be swept, not none is
+pub some_sought : (s : Segments) → 0 < sought_count Sweeping s.segments → HasNoneIn state.Sweeping s → ⊥
+some_sought s some none = let found = one_counted state.Sweeping s.segments some in none found.0 found.1 (from_test Sweeping (nth s.segments found.0) found.2)

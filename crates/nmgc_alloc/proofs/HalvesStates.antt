@@ -150,3 +150,10 @@ search_begins s now at filled t slice current tallies seen h place read is =
     let told : IsTally Sweeping s.segments t = subst (λ (k : Tally). IsTally Sweeping s.segments k) found.1 (h.2.tally Sweeping tt) in
     let w = told.within in
     subst (λ (xs : List Segment). (t.from ≤ length xs) × NoneBelow Sweeping xs t.from) (sym is) (omega (arith, w), told.below)
+
+-- so none waits below it
+pub none_waits_below : (s now : Segments) (at filled : ℕ) (t : Tally) (current : List ℕ) (tallies : List Tally) → s ≡ now → IsSegments s ×
+    Leads s.segments current × Tells s.segments tallies filled → at ≡ tally_place Sweeping → t ≡ slice_index_or tallies at t →
+    NoneBelow Sweeping now.segments t.from
+none_waits_below s now at filled t current tallies seen h place read =
+    subst (λ (x : Segments). NoneBelow Sweeping x.segments t.from) seen (search_begins s now at filled t s.segments current tallies seen h place read refl).1

@@ -51,7 +51,7 @@ fn sweep_part<F: Fn(u8, u32)>(before: &F, half: u8, epoch: u8, segments: &mut [S
     }
 }
 
-// Two parts in two threads.
+// Two parts in two threads; the caller has the lower one, which is the larger.
 fn sweep_both<R: Threads + Sync, F: Fn(u8, u32) + Sync>(
     rt: &R,
     before: &F,
@@ -78,7 +78,7 @@ fn sweep_both<R: Threads + Sync, F: Fn(u8, u32) + Sync>(
         requires { IsEpoch epoch × (length upper.now ≤ most_segments) × ((i : ℕ) → i < sought_count Sweeping upper.now → F.pre before.now 1 i) }
         ensures { AllSwept epoch upper.entry.now upper.exit.now }
     { sweep_part(before, 1, epoch, upper) };
-    join_mut(rt, &mut first, &mut second);
+    join_mut(rt, &mut second, &mut first);
 }
 
 // Whether the segment waits, as a number.

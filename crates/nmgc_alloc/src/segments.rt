@@ -15,8 +15,8 @@ ghost use Rattle.nmgc_object.specs.Places.{IsLayout, IsSegmentSize};
 ghost use Rattle.nmgc_segment.specs.Marks.{IsEpoch};
 ghost use Rattle.nmgc_segment.specs.Segment.{free_segment, block_count};
 ghost use Rattle.nmgc_alloc.specs.CycleSteps.{prepared, carried_over, retired};
-ghost use Rattle.nmgc_alloc.specs.Search.{is, nth, sought_count, IsKind, tally_from};
-ghost use Rattle.nmgc_alloc.specs.Halves.{IsInHalf, SweepsMany, IsSwept, FirstSwept, Settles, SettlesNext};
+ghost use Rattle.nmgc_alloc.specs.Search.{is, nth, sought_count, Is, IsKind, NoneBelow, tally_from};
+ghost use Rattle.nmgc_alloc.specs.Halves.{IsInHalf, SweepsMany, IsSwept, FirstSwept, Settles, SettlesAt};
 
 use crate::search::{self, Sought};
 use crate::tables::{CLASSES, KINDS, PAIRS};
@@ -454,11 +454,49 @@ impl Segments {
         ensures sound { IsSegments self.new }
     {
         let count = quota.min(self.sweep_count());
+        if count == 1 {
+            self.sweep_one(epoch, before);
+            return count;
+        }
         self.sweep_bytes(rt, epoch, count, before);
-        for _settled in 0..count {
-            self.settle_next(epoch);
+        let mut left = count;
+        for number in self.sweeping_from()..self.layout().segments {
+            if left == 0 {
+                return count;
+            }
+            left = self.settle_at(number, epoch, left);
         }
         count
+    }
+
+    // A number below which no segment is to be swept.
+    fn sweeping_from(&self) -> u32
+        ensures { NoneBelow Sought.Sweeping self.now.segments result }
+    {
+        let _ = &self.segments;
+        self.tallies[Sought::Sweeping.place()].from
+    }
+
+    // Whether a segment is to be swept.
+    fn waits_at(&self, number: u32) -> bool
+        requires { HasNumber self.now number }
+        ensures { IsTrue result ↔ Is Sought.Sweeping (nth self.now.segments number) }
+    {
+        self.segment(number).state() == State::Sweeping
+    }
+
+    // Sweeps the one segment that is to be swept.
+    fn sweep_one<F: Fn(u8, u32)>(&mut self, epoch: u8, before: &F)
+        requires epoch { IsEpoch epoch }
+        requires some { HasNoneIn State.Sweeping self.old → ⊥ }
+        requires before { F.pre before.now 0 0 }
+        ensures swept { SweepsMany epoch 1 self.old self.new }
+        ensures sound { IsSegments self.new }
+    {
+        before(0, 0);
+        let Some(_) = self.sweep_next(epoch) else {
+            unreachable!();
+        };
     }
 
     // Sweeps the mark bytes of so many segments that wait, the first of them.
@@ -480,18 +518,23 @@ impl Segments {
         halves::sweep_from(rt, before, epoch, count, from, self.segments.as_mut_slice());
     }
 
-    // Puts the segment of least number that waits, and whose bytes were swept, into its state.
-    fn settle_next(&mut self, epoch: u8)
+    // Puts a segment below which none waits into its state, if it waits itself; its bytes were swept then. Answers how many
+    // of so many are left.
+    fn settle_at(&mut self, number: u32, epoch: u8, left: u32) -> u32
         requires epoch { IsEpoch epoch }
-        requires some { HasNone Sought.Sweeping self.old → ⊥ }
-        requires swept { (number : ℕ) → IsLeast Sought.Sweeping self.old number → IsSwept epoch (nth self.old.segments number) }
-        ensures settles { (number : ℕ) × SettlesNext self.old self.new number }
+        requires some { left ≢ 0 }
+        requires exists { HasNumber self.old number }
+        requires below { NoneBelow Sought.Sweeping self.old.segments number }
+        requires swept { Is Sought.Sweeping (nth self.old.segments number) → IsSwept epoch (nth self.old.segments number) }
+        ensures settles { SettlesAt self.old self.new number left result }
         ensures sound { IsSegments self.new }
     {
-        let Some(number) = self.least(Sought::Sweeping) else {
-            unreachable!();
-        };
+        let _ = &self.segments;
+        if !self.waits_at(number) {
+            return left;
+        }
         self.settle(number, epoch);
+        left - 1
     }
 
     // Puts a segment whose bytes were swept into its state, and notes it.
@@ -505,7 +548,7 @@ impl Segments {
     {
         let segment = &mut self.segments[number as usize];
         let class = segment.class();
-        let swept = cycle_steps::settle(segment, epoch);
+        let swept = cycle_steps::settle(segment);
         self.tallies[Sought::Sweeping.place()].leave(number, self.layout.segments);
         match swept {
             Swept::Free => self.tallies[Sought::Free.place()].enter(number),

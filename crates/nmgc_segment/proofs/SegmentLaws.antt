@@ -1,16 +1,16 @@
 -- What keeps a segment's invariant, and which blocks are in use afterwards.
-use Rattle.std.proofs.Common.{ℕ, ◌≡◌, ◌≢◌, ◌<◌, ◌≤◌, ◌↔◌, ◌∙◌, inl, inr, ap, subst, sym, arith, List, length, slice_index, map, take, drop, ◌++◌, Bool, IsTrue}
-use Rattle.std.proofs.lemmas.List.{take_at}
+use Rattle.std.proofs.Common.{ℕ, ◌≡◌, ◌≢◌, ◌<◌, ◌≤◌, ◌*◌, ◌/◌, ◌↔◌, ◌∙◌, ◌⊎◌, inl, inr, refl, ap, subst, sym, arith, List, length, get_or, set, slice_index, map, take, drop, ◌++◌, Bool, true, IsTrue}
+use Rattle.std.proofs.lemmas.List.{take_at, get_or-set_same}
 use Rattle.std.proofs.lemmas.Bool.{cases_eq, cases_lt}
 use Rattle.std.proofs.Math.Nat.{le-div_iff_mul-le}
-use Rattle.std.proofs.Math.ListN.{length-map, get_or-eq_default}
+use Rattle.std.proofs.Math.ListN.{length-map}
 use Rattle.nmgc_object.specs.Size.{block_size}
 use Rattle.nmgc_segment.specs.declared.state.State.{State}
 use Rattle.nmgc_segment.specs.declared.state.State.TheVariants.{Free, Current}
 use Rattle.nmgc_segment.specs.Marks.{IsEpoch, carried, swept, IsFirstUnmarked}
 use Rattle.nmgc_object.specs.laws.Classes.{class_few, least_block}
-use Rattle.nmgc_segment.specs.laws.Segments.{few_blocks, mark-map, all_carried, swept_bounds, zero_swept}
-use Rattle.nmgc_segment.specs.Segment.{Segment, IsSegment, IsUnused, HasBlocks, InUse, IsMarked, block_count, segment_words, mark_of}
+use Rattle.nmgc_segment.specs.laws.Segments.{few_blocks, mark-map, all_carried, carried_bounds, swept_bounds, swept_is, zero_swept}
+use Rattle.nmgc_segment.specs.Segment.{Segment, IsSegment, IsUnused, HasBlocks, TellsMarked, InUse, IsMarked, block_count, segment_words, mark_of}
 
 -- nothing is in use
 pub unused_from : (s : Segment) → ((b : ℕ) → InUse s b → ⊥) → IsUnused s
@@ -130,24 +130,43 @@ swept_use_to s now blocks epoch at marks slice seen e h is same first =
     let here = subst (λ (ms : List ℕ). IsFirstUnmarked ms 0 blocks at) (same ∙ sym is) first in
     subst (λ (t : Segment). P marks t) seen (subst (λ (ms : List ℕ). P ms s) is (swept_use s blocks epoch at e h here))
 
--- a mark byte is of the epoch
-abbrev pub HasMark : List ℕ → ℕ → Type 0
-HasMark marks epoch = (b : ℕ) × (b < length marks) × (slice_index marks b ≡ epoch)
-
 through : {P Q R : Type 0} → (P ↔ Q) → (Q ↔ R) → P ↔ R
 through f g = ((λ p. g.0 (f.0 p)), (λ r. f.1 (g.1 r)))
 
--- a marked block has a mark byte
-within : (marks : List ℕ) (b : ℕ) → slice_index marks b ≢ 0 → b < length marks
-within marks b nz = elim (cases_lt b (length marks)) [ inl lt ↦ lt | inr ge ↦ absurd (nz (get_or-eq_default marks 0 ge)) ]
+-- whether any block is marked, after one was
+pub one_marked : (s now : Segment) (blocks block epoch : ℕ) → s ≡ now → HasBlocks s blocks → IsEpoch epoch → block < block_count now →
+    TellsMarked (set s.marks block epoch) true
+one_marked s now blocks block epoch seen n e inside =
+    let same : block_count s ≡ block_count now = ap (λ (t : Segment). block_count t) seen in
+    let low : block < length s.marks = omega (arith, n.count, n.marked, inside, same) in
+    let here : get_or (set s.marks block epoch) block 0 ≡ epoch = get_or-set_same s.marks block epoch 0 low in
+    ((λ _. (block, λ z. omega (arith, here, z, e.0))), (λ _. refl))
 
--- a sweep finds nothing exactly where no mark byte was of the epoch
-pub finds_none : (now : Segment) (epoch : ℕ) (any : Bool) → IsEpoch epoch → IsTrue any ↔ HasMark now.marks epoch → ¬ IsTrue any ↔
-    ((b : ℕ) → IsMarked now epoch b → ⊥)
-finds_none now epoch any e found = (
-  (λ none b marked. none (found.1 (b, within now.marks b (λ z. omega arith), marked))),
-  (λ none is. let w = found.0 is in none w.0 w.2),
-)
+-- and once marks were carried over
+pub carried_marked : (before marks : List ℕ) (marked : Bool) (epoch : ℕ) → IsEpoch epoch → TellsMarked before marked →
+    map (carried epoch) before ≡ marks → TellsMarked marks marked
+carried_marked before marks marked epoch e h is =
+    let at : (b : ℕ) → (slice_index marks b ≡ 0) ↔ (slice_index before b ≡ 0) = λ b.
+    subst (λ (ms : List ℕ). (slice_index ms b ≡ 0) ↔ (slice_index before b ≡ 0)) is
+    (subst (λ (m : ℕ). (m ≡ 0) ↔
+    (slice_index before b ≡ 0)) (sym (mark-map (carried epoch) before b refl)) (carried_bounds epoch (slice_index before b) e).1) in (
+      (λ yes. let w = h.0 yes in (w.0, λ z. w.1 ((at w.0).0 z))),
+      (λ w. h.1 (w.0, λ z. w.1 ((at w.0).1 z))),
+    )
+
+-- what a sweep leaves of the bytes is of its epoch
+pub left_is : (s : Segment) (epoch : ℕ) (marks slice : List ℕ) → IsEpoch epoch → IsSegment s → map (swept epoch) s.marks ≡ marks → slice ≡ marks →
+    (b : ℕ) → slice_index slice b ≢ 0 → slice_index slice b ≡ epoch
+left_is s epoch marks slice e h is same =
+    let P : List ℕ → Type 0 = λ ms. (b : ℕ) → slice_index ms b ≢ 0 → slice_index ms b ≡ epoch in
+    subst P (is ∙ sym same) (λ b nz. mark-map (swept epoch) s.marks b (zero_swept epoch e) ∙
+    (swept_is epoch (mark_of s b) e).1 ((kept_byte s epoch e h b).0 nz))
+
+-- a block before the first unmarked one is marked
+pub first_left : (marks slice other : List ℕ) (blocks first : ℕ) → slice ≡ marks → other ≡ marks → IsFirstUnmarked slice 0 blocks first →
+    first ≢ 0 → slice_index other 0 ≢ 0
+first_left marks slice other blocks first is same unmarked some z =
+    unmarked.before 0 (omega arith) (omega (arith, some)) (ap (λ (ms : List ℕ). slice_index ms 0) (is ∙ sym same) ∙ z)
 
 -- there is a block
 some_block : (s : Segment) → IsSegment s → 0 < block_count s
@@ -155,69 +174,48 @@ some_block s h =
     let pos : 0 < block_size s.class = omega (arith, least_block s.class) in
     (le-div_iff_mul-le pos).1 (omega (arith, h.fits))
 
--- a sweep finds all exactly where every block was of the epoch
-pub finds_all : (s : Segment) (blocks epoch at : ℕ) (any : Bool) → IsEpoch epoch → IsSegment s → HasBlocks s blocks → IsTrue any ↔
-    HasMark s.marks epoch → IsFirstUnmarked (map (swept epoch) s.marks) 0 blocks at → (IsTrue any × (at ≡ blocks)) ↔
-    ((b : ℕ) → b < block_count s → IsMarked s epoch b)
-finds_all s blocks epoch at any e h n found first = (
-  (λ all b inside. (kept_byte s epoch e h b).0 (first.before b (omega arith) (omega (arith, all.1, n.count)))),
+-- none is in use where none is marked and the first one isn't in use
+pub none_used : (s now : Segment) (marked : Bool) (P : Type 0) → s ≡ now → TellsMarked s.marks marked → P ↔
+    ((¬ IsTrue marked) × (s.next_free ≡ 0)) → P ↔ ((b : ℕ) → InUse now b → ⊥)
+none_used s now marked P seen tells answer = subst (λ (t : Segment). P ↔ ((b : ℕ) → InUse t b → ⊥)) seen (through answer (
+  (λ none b used. elim used [ inl below ↦ omega (arith, below, none.1) | inr nz ↦ none.0 (tells.1 (b, nz)) ]),
+  (λ none. ((λ yes. let w = tells.0 yes in none w.0 (inr w.1)), (unused_from s none).next_free)),
+))
+
+-- all are where there is no first one that isn't
+pub all_used : (s now : Segment) (blocks : ℕ) (marked : Bool) (P : Type 0) → s ≡ now → IsSegment s → HasBlocks s blocks → P ↔
+    ((s.next_free ≡ blocks) × (IsTrue marked ⊎ (s.next_free ≢ 0))) → P ↔ ((b : ℕ) → b < block_count now → InUse now b)
+all_used s now blocks marked P seen h n answer = subst (λ (t : Segment). P ↔ ((b : ℕ) → b < block_count t → InUse t b)) seen (through answer (
+  (λ all b inside. inl (omega (arith, all.0, n.count, inside))),
   (λ all.
-      let some : 0 < blocks = omega (arith, some_block s h, n.count) in (
-        found.1 (0, omega (arith, n.marked), all 0 (some_block s h)),
-        elim (cases_lt at blocks) [
-          | inl lt ↦ absurd ((kept_byte s epoch e h at).1 (all at (omega (arith, n.count))) (first.found lt))
-          | inr ge ↦ omega (arith, first.within)
-        ],
-      )),
+      let full : s.next_free ≡ blocks = elim (cases_lt s.next_free (block_count s)) [
+        | inl lt ↦ elim (all s.next_free lt) [
+          | inl below ↦ absurd (omega (arith, below))
+          | inr marked ↦ absurd (marked h.next_unmarked)
+        ]
+        | inr ge ↦ omega (arith, ge, h.next_free, n.count)
+      ] in
+      (full, inr (omega (arith, full, some_block s h, n.count)))),
+))
+
+-- as many as before
+pub swept_blocks : (s now : Segment) (epoch at : ℕ) (marks : List ℕ) → s ≡ now → map (swept epoch) s.marks ≡ marks →
+    block_count (record s { marks = marks; next_free = at; snap = 0 }) ≡ block_count now
+swept_blocks s now epoch at marks seen is =
+    ap (λ (n : ℕ). 4 * n / block_size s.class) (sym (ap (λ (ms : List ℕ). length ms) is) ∙ length-map s.marks (swept epoch)) ∙
+    ap (λ (t : Segment). block_count t) seen
+
+-- where the blocks in use are those that were marked, so are none of them and all
+pub none_marked : (old new : Segment) (epoch : ℕ) (P : Type 0) → ((b : ℕ) → InUse new b ↔ IsMarked old epoch b) → P ↔ ((b : ℕ) → InUse new b → ⊥) →
+    P ↔ ((b : ℕ) → IsMarked old epoch b → ⊥)
+none_marked old new epoch P same answer = (
+  (λ p b marked. answer.0 p b ((same b).1 marked)),
+  (λ none. answer.1 (λ b used. none b ((same b).0 used))),
 )
 
--- both, of what the code has
-pub free_from : (s now : Segment) (epoch : ℕ) (any : Bool) (slice : List ℕ) (P : Type 0) → s ≡ now → IsEpoch epoch → slice ≡ s.marks → IsTrue any ↔
-    HasMark slice epoch → P ↔ (¬ IsTrue any) → P ↔ ((b : ℕ) → IsMarked now epoch b → ⊥)
-free_from s now epoch any slice P seen e is found answer =
-    let marks : slice ≡ now.marks = is ∙ ap (λ (t : Segment). t.marks) seen in
-    let here = subst (λ (ms : List ℕ). IsTrue any ↔ HasMark ms epoch) marks found in
-    through answer (finds_none now epoch any e here)
-
-pub filled_from : (s now : Segment) (blocks epoch at : ℕ) (any : Bool) (slice marks slice_after : List ℕ) (P : Type 0) → s ≡ now → IsEpoch epoch →
-    IsSegment s × HasBlocks s blocks → slice ≡ s.marks → IsTrue any ↔ HasMark slice epoch → map (swept epoch) s.marks ≡ marks →
-    slice_after ≡ marks → IsFirstUnmarked slice_after 0 blocks at → P ↔ (IsTrue any × (at ≡ blocks)) → P ↔
-    ((b : ℕ) → b < block_count now → IsMarked now epoch b)
-filled_from s now blocks epoch at any slice marks slice_after P seen e h is found swept_is same first answer =
-    let here = subst (λ (ms : List ℕ). IsTrue any ↔ HasMark ms epoch) is found in
-    let first_here = subst (λ (ms : List ℕ). IsFirstUnmarked ms 0 blocks at) (same ∙ sym swept_is) first in
-    subst (λ (t : Segment). P ↔ ((b : ℕ) → b < block_count t →
-    IsMarked t epoch b)) seen (through answer (finds_all s blocks epoch at any e h.0 h.1 here first_here))
-
--- where the blocks in use are those of the epoch, none and all are told by the mark bytes too
-pub unused_as : (now : Segment) (epoch : ℕ) (P : Type 0) → ((b : ℕ) → InUse now b ↔ IsMarked now epoch b) → P ↔
-    ((b : ℕ) → IsMarked now epoch b → ⊥) → P ↔ ((b : ℕ) → InUse now b → ⊥)
-unused_as now epoch P same answer = (
-  (λ p b used. answer.0 p b ((same b).0 used)),
-  (λ none. answer.1 (λ b marked. none b ((same b).1 marked))),
+pub all_marked : (old new : Segment) (epoch : ℕ) (P : Type 0) → block_count new ≡ block_count old → ((b : ℕ) → InUse new b ↔ IsMarked old epoch b) →
+    P ↔ ((b : ℕ) → b < block_count new → InUse new b) → P ↔ ((b : ℕ) → b < block_count old → IsMarked old epoch b)
+all_marked old new epoch P blocks same answer = (
+  (λ p b inside. (same b).0 (answer.0 p b (omega (arith, inside, blocks)))),
+  (λ all. answer.1 (λ b inside. (same b).1 (all b (omega (arith, inside, blocks))))),
 )
-
-all_used : (s : Segment) (blocks epoch : ℕ) (any : Bool) → IsSegment s → HasBlocks s blocks → IsTrue any ↔ HasMark s.marks epoch →
-    ((b : ℕ) → InUse s b ↔ IsMarked s epoch b) → (IsTrue any × (s.next_free ≡ blocks)) ↔ ((b : ℕ) → b < block_count s → InUse s b)
-all_used s blocks epoch any h n found same = (
-  (λ all b inside. inl (omega (arith, all.1, n.count, inside))),
-  (λ all.
-      let some : 0 < blocks = omega (arith, some_block s h, n.count) in (
-        found.1 (0, omega (arith, n.marked, some), (same 0).0 (all 0 (some_block s h))),
-        elim (cases_lt s.next_free (block_count s)) [
-          | inl lt ↦ elim (all s.next_free lt) [
-            | inl below ↦ absurd (omega (arith, below))
-            | inr marked ↦ absurd (marked h.next_unmarked)
-          ]
-          | inr ge ↦ omega (arith, ge, h.next_free, n.count)
-        ],
-      )),
-)
-
-pub used_from : (s now : Segment) (blocks epoch : ℕ) (any : Bool) (slice : List ℕ) (P : Type 0) → s ≡ now → IsSegment s × HasBlocks s blocks →
-    slice ≡ s.marks → IsTrue any ↔ HasMark slice epoch → ((b : ℕ) → InUse now b ↔ IsMarked now epoch b) → P ↔
-    (IsTrue any × (s.next_free ≡ blocks)) → P ↔ ((b : ℕ) → b < block_count now → InUse now b)
-used_from s now blocks epoch any slice P seen h is found same answer =
-    let here = subst (λ (ms : List ℕ). IsTrue any ↔ HasMark ms epoch) is found in
-    let same_here = subst (λ (t : Segment). (b : ℕ) → InUse t b ↔ IsMarked t epoch b) (sym seen) same in
-    subst (λ (t : Segment). P ↔ ((b : ℕ) → b < block_count t → InUse t b)) seen (through answer (all_used s blocks epoch any h.0 h.1 here same_here))

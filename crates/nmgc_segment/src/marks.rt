@@ -5,10 +5,11 @@
 //!
 //! Easy to get wrong: a search that goes on by how many bytes it just found waits for each sixteen before it loads the
 //! next. So it goes on by sixteen, and looks at the number only where it ends.
-ghost use Rattle.std.specs.Prelude.{◌≡◌, ℕ, ◌↔◌, ◌+◌, ◌<◌, ◌≤◌, ◌==◌, not, map, length, slice_index, IsTrue};
+ghost use Rattle.std.specs.Prelude.{◌≡◌, ◌≢◌, ℕ, ◌↔◌, ◌+◌, ◌<◌, ◌≤◌, ◌==◌, not, map, length, slice_index, IsTrue};
 ghost use Rattle.std.specs.List.{prefix_len};
 ghost use Rattle.std.specs.Simd.Lanes.{chunk, put_chunk};
-ghost use Rattle.nmgc_segment.specs.Marks.{carried, swept, IsFirst, IsFirstUnmarked};
+ghost use Rattle.nmgc_segment.specs.Marks.{IsEpoch, carried, swept, IsFirst, IsFirstUnmarked};
+ghost use Rattle.nmgc_segment.specs.Segment.{TellsMarked};
 
 use std::simd::prelude::*;
 
@@ -59,14 +60,29 @@ pub fn first_unmarked(marks: &[u8], from: u32, blocks: u32) -> u32
     requires blocks { blocks ≤ length marks.now }
     ensures { IsFirstUnmarked marks.now from blocks result }
 {
+    // Most segments are filled from their beginning on, and then it is the next one.
+    if from < blocks && marks[from as usize] == 0 {
+        return from;
+    }
     first_of(marks, from as usize, blocks as usize, 0) as u32
 }
 
-/// Whether a mark byte is of the epoch.
-pub fn has_mark(marks: &[u8], epoch: u8) -> bool
+// Whether a mark byte is of the epoch.
+fn has_mark(marks: &[u8], epoch: u8) -> bool
     ensures { IsTrue result ↔ ((b : ℕ) × (b < length marks.now) × (slice_index marks.now b ≡ epoch)) }
 {
     marks.contains(&epoch)
+}
+
+/// Whether any block is marked once all bytes that aren't of the epoch are 0. `first` is the first that is unmarked: only
+/// where this is 0 the bytes are looked at.
+pub fn has_left(marks: &[u8], first: u32, epoch: u8) -> bool
+    requires epoch { IsEpoch epoch }
+    requires swept { (b : ℕ) → slice_index marks.now b ≢ 0 → slice_index marks.now b ≡ epoch }
+    requires before { first ≢ 0 → slice_index marks.now 0 ≢ 0 }
+    ensures { TellsMarked marks.now result }
+{
+    first != 0 || has_mark(marks, epoch)
 }
 
 // Mark bytes, carried over to the epoch.

@@ -2,4 +2,5 @@ pub mod Begins
 pub mod Going
 pub mod Listed
 pub mod Lists
+pub mod Parts
 pub mod Steps
