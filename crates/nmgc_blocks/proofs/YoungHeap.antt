@@ -1,5 +1,5 @@
 -- The heap of one young object: each of its words is as it is said to be, and nothing else is in it.
-use Rattle.std.proofs.Common.{◌≡◌, ◌≢◌, ◌⊎◌, inl, inr, ℕ, zero, suc, ◌+◌, ◌*◌, ◌<◌, ◌≤◌, List, [], ◌∷◌, replicate, get_or, refl, sym, ap, subst, ◌∙◌, arith, zero-add, slice_index, Option, Some, None, Bool, true, false, lit≤, lit<}
+use Rattle.std.proofs.Common.{◌-◌, ◌≡◌, ◌≢◌, ◌⊎◌, inl, inr, ℕ, zero, suc, ◌+◌, ◌*◌, ◌<◌, ◌≤◌, List, [], ◌∷◌, replicate, get_or, refl, sym, ap, subst, ◌∙◌, arith, zero-add, slice_index, Option, Some, None, Bool, true, false, lit≤, lit<}
 use Rattle.std.specs.Prelude.{slice_get, Contains, IsSome, if◌then◌else◌, ◌==◌, ◌↔◌}
 use Rattle.std.proofs.lemmas.Bool.{eqb-true}
 use Rattle.std.proofs.lemmas.List.{get_or-replicate}
@@ -260,9 +260,9 @@ registers_mean zero v e = let is : Ref (own 0) ≡ v = cc in subst (λ (x : Valu
 registers_mean (suc zero) v e = let is : Number 5 ≡ v = cc in subst (λ (x : Value). Means (Contains places) 13 x) is refl
 registers_mean (suc (suc i)) v e =
     let is = all_item 62 i Nil v e in
-    let word : get_or (4160 ∷ 13 ∷ replicate 62 1) (0 + suc (suc i)) 0 ≡ 1 =
-    ap (λ (k : ℕ). get_or (4160 ∷ 13 ∷ replicate 62 1) k 0) (zero-add (suc (suc i))) ∙ get_or-replicate 62 i 1 0 is.1 in
-    subst (λ (x : Value). Means (Contains places) (get_or (4160 ∷ 13 ∷ replicate 62 1) (0 + suc (suc i)) 0) x) (sym is.0) word
+    let word : get_or (4160 ∷ 13 ∷ replicate (REGISTERS - 2) 1) (0 + suc (suc i)) 0 ≡ 1 =
+    ap (λ (k : ℕ). get_or (4160 ∷ 13 ∷ replicate (REGISTERS - 2) 1) k 0) (zero-add (suc (suc i))) ∙ get_or-replicate (REGISTERS - 2) i 1 0 is.1 in
+    subst (λ (x : Value). Means (Contains places) (get_or (4160 ∷ 13 ∷ replicate (REGISTERS - 2) 1) (0 + suc (suc i)) 0) x) (sym is.0) word
 
 roots : RepresentsRoots places young_world young_registers ([] ∷ []) (1 ∷ [])
 roots = record {

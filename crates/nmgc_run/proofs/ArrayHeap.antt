@@ -1,5 +1,5 @@
 -- The heap of the script that makes an array: g, and the array in its nursery or in its block.
-use Rattle.std.proofs.Common.{ℕ, zero, suc, ◌≡◌, ◌≢◌, ◌⊎◌, ◌↔◌, ◌+◌, ◌*◌, ◌<◌, ◌≤◌, List, [], ◌∷◌, ◌++◌, length, map, replicate, slice_index, arith, refl, sym, ap, subst, ◌∙◌, Some, None, inl, inr, lit≤, lit<}
+use Rattle.std.proofs.Common.{◌-◌, ℕ, zero, suc, ◌≡◌, ◌≢◌, ◌⊎◌, ◌↔◌, ◌+◌, ◌*◌, ◌<◌, ◌≤◌, List, [], ◌∷◌, ◌++◌, length, map, replicate, slice_index, arith, refl, sym, ap, subst, ◌∙◌, Some, None, inl, inr, lit≤, lit<}
 use Rattle.std.specs.Prelude.{IsSome, Contains, slice_get, ◌==◌}
 use Rattle.std.proofs.lemmas.List.Elements.{All-cons, All-nil}
 use Rattle.std.proofs.lemmas.Bool.{eqb-true}
@@ -233,11 +233,11 @@ module _ (at : ℕ) (words : List ℕ) (h : HasWords at words) (earlier : List W
 -- roots
 
 module _ (at : ℕ) where
-  registers_mean : EachMeans (Contains (places_at at)) (2 * at ∷ replicate 63 1) (state_of born.world 0).registers
-  registers_mean = ((at, refl, array_in at), means_nil (Contains (places_at at)) 63)
+  registers_mean : EachMeans (Contains (places_at at)) (2 * at ∷ replicate (REGISTERS - 1) 1) (state_of born.world 0).registers
+  registers_mean = ((at, refl, array_in at), means_nil (Contains (places_at at)) (REGISTERS - 1))
 
-  held_by : (m : ℕ) → m < 1 → AllMean (Contains (places_at at)) (2 * at ∷ replicate 63 1) (REGISTERS * m) (state_of born.world m).registers
-  held_by zero lt = all_mean (Contains (places_at at)) (2 * at ∷ replicate 63 1) (state_of born.world 0).registers registers_mean
+  held_by : (m : ℕ) → m < 1 → AllMean (Contains (places_at at)) (2 * at ∷ replicate (REGISTERS - 1) 1) (REGISTERS * m) (state_of born.world m).registers
+  held_by zero lt = all_mean (Contains (places_at at)) (2 * at ∷ replicate (REGISTERS - 1) 1) (state_of born.world 0).registers registers_mean
   held_by (suc m) lt = absurd (omega (arith, lt))
 
   queued : (m : ℕ) (own : List ℕ) → slice_get ([] ∷ []) m ≡ Some own → ListMeans (Contains (places_at at)) own (state_of born.world m).queue
@@ -248,7 +248,7 @@ module _ (at : ℕ) where
   next zero serial e = sym (some_is 1 serial e)
   next (suc m) serial e = absurd cc
 
-  pub roots : RepresentsRoots (places_at at) born.world (2 * at ∷ replicate 63 1) ([] ∷ []) (1 ∷ [])
+  pub roots : RepresentsRoots (places_at at) born.world (2 * at ∷ replicate (REGISTERS - 1) 1) ([] ∷ []) (1 ∷ [])
   roots = record { count = refl; mutators = (refl, refl); held = held_by; queued = queued; next = next }
 
 -- segments
@@ -329,7 +329,7 @@ old_fit form number block n node lies there =
     subst (λ k. size_of node ≤ block_size (cells (allocation_in form) k).class) is.0 size
 
 abbrev pub mutator_with : ℕ → MutatorEnd
-mutator_with word = record { registers = word ∷ replicate 63 1; queue = []; serial = 1 }
+mutator_with word = record { registers = word ∷ replicate (REGISTERS - 1) 1; queue = []; serial = 1 }
 
 pub old_holds : NewStands → (form : Form) (earlier : List World) → AreThese earlier →
     HeapStandsFor array_layout earlier (places_at 32) born.world (allocation_in form) old_words (segments_of (segment_in form)) (mutator_with 64 ∷ [])

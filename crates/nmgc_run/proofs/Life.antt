@@ -1,5 +1,5 @@
 -- A collector's life on the script that makes an array, point by point.
-use Rattle.std.proofs.Common.{ℕ, zero, suc, ◌≡◌, ◌≢◌, ◌⊎◌, ◌↔◌, ◌+◌, ◌*◌, ◌<◌, ◌≤◌, List, [], ◌∷◌, map, replicate, get_or, arith, refl, sym, ap, subst, ◌∙◌, Some, true, inl, inr, lit≤, lit<}
+use Rattle.std.proofs.Common.{◌-◌, ℕ, zero, suc, ◌≡◌, ◌≢◌, ◌⊎◌, ◌↔◌, ◌+◌, ◌*◌, ◌<◌, ◌≤◌, List, [], ◌∷◌, map, replicate, get_or, arith, refl, sym, ap, subst, ◌∙◌, Some, true, inl, inr, lit≤, lit<}
 use Rattle.std.specs.Prelude.{IsSome, Contains, slice_get}
 use Rattle.std.proofs.Math.ListN.{get_or-eq_default}
 use Rattle.std.proofs.lemmas.Bool.{cases_lt}
@@ -267,7 +267,7 @@ nothing_left at earlier side = record {
 
 born_heap : NewStands → HoldsAfterRound array_layout opened born (places_at 320) young_words (all_free array_layout) (record {
   registers = 640 ∷
-      replicate 63 1;
+      replicate (REGISTERS - 1) 1;
   queue = [];
   serial = 1;
 } ∷ []) []
@@ -316,7 +316,7 @@ these_none : AreThese []
 these_none e d = absurd (none_in e d)
 
 abbrev mutator : MutatorEnd
-mutator = record { registers = 64 ∷ replicate 63 1; queue = []; serial = 1 }
+mutator = record { registers = 64 ∷ replicate (REGISTERS - 1) 1; queue = []; serial = 1 }
 
 stop_heap : NewStands → (form : Form) (s : State) → s.world ≡ born.world → s.allocation ≡ allocation_in form →
     HeapStandsFor array_layout (snapshots s.progress) (places_at 32) born.world (allocation_in form) old_words (segments_of (segment_in form))

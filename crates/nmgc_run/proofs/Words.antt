@@ -1,5 +1,5 @@
 -- The words and segments that a script leaves that makes one object.
-use Rattle.std.proofs.Common.{ℕ, zero, suc, ◌≡◌, ◌+◌, ◌*◌, ◌<◌, ◌≤◌, ◌⊎◌, ◌↔◌, List, [], ◌∷◌, ◌++◌, length, map, replicate, get_or, slice_index, arith, refl, sym, ap, subst, ◌∙◌, inl, inr, Option, Some, None, lit≤, lit<}
+use Rattle.std.proofs.Common.{◌-◌, ℕ, zero, suc, ◌≡◌, ◌+◌, ◌*◌, ◌<◌, ◌≤◌, ◌⊎◌, ◌↔◌, List, [], ◌∷◌, ◌++◌, length, map, replicate, get_or, slice_index, arith, refl, sym, ap, subst, ◌∙◌, inl, inr, Option, Some, None, lit≤, lit<}
 use Rattle.std.specs.Prelude.{IsSome, Contains, slice_get, ◌==◌}
 use Rattle.std.proofs.lemmas.List.{get_or-replicate}
 use Rattle.nmgc_limits.specs.declared.mutators.TheConstants.{REGISTERS, SHARED_MAKER}
@@ -196,7 +196,7 @@ fit number block n node lies there =
 registers_mean : EachMeans (Contains places) object_mutator.registers (state_of worked.world 0).registers
 registers_mean = (
   (32, refl, contains_tail shared_place (object_place ∷ []) object_place (contains_head object_place [])),
-  (refl, (refl, means_nil (Contains places) 61)),
+  (refl, (refl, means_nil (Contains places) (REGISTERS - 3))),
 )
 
 held : (m : ℕ) → m < 1 → AllMean (Contains places) object_mutator.registers (REGISTERS * m) (state_of worked.world m).registers
