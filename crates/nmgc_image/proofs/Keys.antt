@@ -1,7 +1,7 @@
 -- Which names have node lines: a sorted list of their keys tells.
-use Rattle.std.proofs.Common.{◌≡◌, ◌≤◌, ◌<◌, ◌+◌, ◌*◌, ◌^◌, ℕ, zero, suc, List, [], ◌∷◌, length, map, get_or, refl, sym, ap, subst, ◌∙◌, arith, inl, inr, Bool, true, false, Option, Some, None, Result, Ok, Err, eqb}
+use Rattle.std.proofs.Common.{◌≡◌, ◌≤◌, ◌<◌, ℕ, zero, suc, List, [], ◌∷◌, length, map, get_or, refl, sym, ap, subst, ◌∙◌, arith, inl, inr, Bool, true, Option, Some, None, Result, Ok, Err, eqb}
 use Rattle.std.specs.Prelude.{slice_get, All, Contains, MatchResult}
-use Rattle.std.specs.List.{list_any, flat_map}
+use Rattle.std.specs.List.{list_any}
 use Rattle.std.specs.Result.{is_ok}
 use Rattle.std.proofs.lemmas.Bool.{cases_Bool, cases_lt, eq-eqb, eqb-true}
 use Rattle.std.proofs.lemmas.Option.{none-some, same_Some, slice_get_within, get_or_from_slice_get}
@@ -19,7 +19,7 @@ use Rattle.nmgc_image.specs.declared.image.Entry.{Entry}
 use Rattle.nmgc_image.specs.Names.{TellsNames}
 use Rattle.nmgc_image.specs.Spelling.{spaced, entry_words}
 use Rattle.nmgc_image.specs.Text.{words_of}
-use Rattle.nmgc_image.specs.Faults.{IsWritable, IsDeclared}
+use Rattle.nmgc_image.specs.Faults.{IsDeclared}
 use Rattle.nmgc_image.specs.Reading.{node_line_at, key_of, has_key, key_in, keys_in, keys_of, Tells}
 use Rattle.nmgc_image.proofs.NodeLaws.{IsSpellable, line_takes, line_again}
 use Rattle.nmgc_image.proofs.LineLaws.{spaced-words_of, words_of-line, entry_line}

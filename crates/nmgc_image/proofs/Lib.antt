@@ -1,5 +1,7 @@
+pub mod Answered
 pub mod Cutting
 pub mod Each
+pub mod Fronts
 pub mod LineLaws
 pub mod Holding
 pub mod Keys
@@ -7,8 +9,10 @@ pub mod Lasts
 pub mod Lines
 pub mod Listing
 pub mod Machine
+pub mod Mentions
 pub mod NodeLaws
 pub mod OneImage
+pub mod PlainLaws
 pub mod Prints
 pub mod Searching
 pub mod ShownImage

@@ -1,14 +1,14 @@
 -- What was taken are the lines of an image so far.
-use Rattle.std.proofs.Common.{◌≡◌, ◌≢◌, ◌≤◌, ◌<◌, ◌+◌, ◌-◌, ◌^◌, ◌⊎◌, ℕ, zero, suc, List, [], ◌∷◌, ◌++◌, map, length, replicate, refl, sym, ap, subst, ◌∙◌, arith, inl, inr, Bool, true, false, cond, not, decimal, codes, eqb, ltb, leb, Option, Some, None, append_assoc}
-use Rattle.std.specs.Prelude.{◌&&◌, ◌||◌, All, Contains, slice_get}
+use Rattle.std.proofs.Common.{◌≡◌, ◌≢◌, ◌≤◌, ◌<◌, ◌+◌, ◌-◌, ◌^◌, ◌⊎◌, ℕ, List, [], ◌∷◌, ◌++◌, map, length, replicate, refl, sym, ap, subst, ◌∙◌, arith, inl, inr, Bool, true, false, cond, not, codes, eqb, ltb, Option, Some, None, append_assoc}
+use Rattle.std.specs.Prelude.{◌&&◌, All, slice_get}
 use Rattle.std.specs.List.{AllByRecursion, list_all}
 use Rattle.std.specs.Option.{option_to_list}
 use Rattle.std.specs.Str.{bytes_eq}
 use Rattle.std.proofs.lemmas.Bool.{ltb-true, eqb-true, eq-eqb, ne_eqb, and_parts, or_cases, cases_Bool, cases_lt, false≢true, both_ways}
 use Rattle.std.proofs.lemmas.List.{append-nil, length-append, length_push, length-replicate, map_push, nil_from_length}
-use Rattle.std.proofs.lemmas.Option.{none-some, same_Some}
+use Rattle.std.proofs.lemmas.Option.{same_Some}
 use Rattle.std.proofs.lemmas.Slice.Eq.{bytes_eq-Decides}
-use Rattle.std.proofs.lemmas.List.Elements.{All-push, All-nil, All-head, All-append, All-replicate, All-weaker, All-from_recursion, recursion_from_All}
+use Rattle.std.proofs.lemmas.List.Elements.{All-push, All-nil, All-head, All-append, All-replicate, All-from_recursion, recursion_from_All}
 use Rattle.nmgc_limits.specs.declared.mutators.TheConstants.{REGISTERS, MAKERS, SHARED_MAKER, SHARED_SLOTS}
 use Rattle.nmgc_graph.specs.declared.value.Name.{Name}
 use Rattle.nmgc_graph.specs.declared.value.Value.{Value}
@@ -20,19 +20,18 @@ use Rattle.nmgc_graph.specs.Step.{shared_name}
 use Rattle.nmgc_graph.specs.Reach.{IsBefore, IsInOrder}
 use Rattle.nmgc_graph.specs.World.{held_by, IsShared}
 use Rattle.nmgc_graph.specs.laws.Orders.{same_name}
-use Rattle.nmgc_reach.specs.laws.ItemLaws.{slice_get-append}
-use Rattle.nmgc_journal.specs.Reading.{IsValue, ◌>>=◌, number_at, value_at}
+use Rattle.nmgc_journal.specs.Reading.{IsValue, number_at, value_at}
 use Rattle.nmgc_journal.specs.laws.Reading.{bind_some, guard_some, chosen, number_takes, value_reads}
 use Rattle.nmgc_image.specs.declared.image.Held.{Held}
 use Rattle.nmgc_image.specs.declared.image.ImageMutator.{ImageMutator}
 use Rattle.nmgc_image.specs.declared.image.Entry.{Entry}
 use Rattle.nmgc_image.specs.declared.image.Image.{Image}
 use Rattle.nmgc_image.specs.declared.reader.Reader.{Reader}
-use Rattle.nmgc_image.specs.Image.{AreInOrder, IsHeld, IsMutator, IsMade, IsOwned, IsEntry, names_of, values_of, IsOrderly}
+use Rattle.nmgc_image.specs.Image.{AreInOrder, IsHeld, IsMutator, IsOwned, IsEntry, names_of, values_of, IsOrderly}
 use Rattle.nmgc_image.specs.Spelling.{first_words, mutator_words, register_words, queue_words, entry_words, own_lines, mutator_lines, last_words, image_lines}
-use Rattle.nmgc_image.specs.Reading.{is_declared, begun, is_open, is_full, first_at, new_own, mutator_at, is_above, is_nil, with_register, with_entry, register_at, queue_at, is_before, is_after, is_shared, is_below, is_owned, can_follow, entry_at, next_at, end_at, line_at, start, image_of}
+use Rattle.nmgc_image.specs.Reading.{is_declared, begun, is_open, is_full, first_at, new_own, mutator_at, is_above, is_nil, with_register, with_entry, register_at, queue_at, is_before, is_after, is_shared, is_below, is_owned, can_follow, entry_at, next_at, end_at, line_at, start, image_of, run}
 use Rattle.nmgc_image.proofs.NodeLaws.{entry_takes}
-use Rattle.nmgc_image.proofs.Machine.{IsIn, run}
+use Rattle.nmgc_image.proofs.Machine.{IsIn}
 
 -- every mutator was begun
 pub record IsFull (r : Reader) : Type 0 where
@@ -51,10 +50,10 @@ pub record IsGood (d : Name → Bool) (r : Reader) : Type 0 where
   pub full : (r.nodes ≡ []) ⊎ IsFull r
   pub last : r.ended ≡ true → IsFull r × (d shared_name ≡ true)
 
-pub first_part : ℕ → List (List (List ℕ))
+unfoldable pub first_part : ℕ → List (List (List ℕ))
 first_part m = cond (eqb m 0) [] (first_words m ∷ [])
 
-pub last_part : Bool → List (List (List ℕ))
+unfoldable pub last_part : Bool → List (List (List ℕ))
 last_part b = cond b (last_words ∷ []) []
 
 abbrev pub lines_at : ℕ → List ImageMutator → List Entry → Bool → List (List (List ℕ))

@@ -1,14 +1,11 @@
 -- The lines of an image are taken one after the other, and what was taken are the lines of an image so far.
-use Rattle.std.proofs.Common.{◌≡◌, ◌≢◌, ◌≤◌, ◌<◌, ◌+◌, ◌-◌, ◌^◌, ◌⊎◌, ℕ, zero, suc, List, [], ◌∷◌, ◌++◌, map, length, refl, sym, ap, subst, ◌∙◌, arith, inl, inr, Bool, true, false, cond, not, decimal, codes, eqb, ltb, leb, Option, Some, None, append_assoc}
-use Rattle.std.specs.Prelude.{◌&&◌, ◌||◌, All, Contains, slice_get}
+use Rattle.std.proofs.Common.{◌≡◌, ◌≢◌, ◌≤◌, ◌<◌, ◌+◌, ◌-◌, ◌^◌, ℕ, List, [], ◌∷◌, ◌++◌, map, length, refl, sym, ap, subst, ◌∙◌, arith, inl, inr, Bool, true, false, not, eqb, ltb, Option, Some, None, append_assoc}
+use Rattle.std.specs.Prelude.{All}
 use Rattle.std.specs.List.{AllByRecursion, list_all}
 use Rattle.std.specs.Option.{option_to_list}
-use Rattle.std.specs.Str.{bytes_eq}
-use Rattle.std.proofs.lemmas.Bool.{lt-ltb, eq-eqb, ltb-true, eqb-true, and_parts, and_from, cases_Bool, ne_eqb}
-use Rattle.std.proofs.lemmas.List.{append-nil, length-append, length_push, length-map}
-use Rattle.std.proofs.lemmas.Option.{none-some, same_Some}
-use Rattle.std.proofs.lemmas.List.Elements.{All-push, All-head, All-tail, All-nil, All-pop, recursion_from_All, All-from_recursion}
-use Rattle.nmgc_limits.specs.declared.mutators.TheConstants.{REGISTERS, MAKERS, SHARED_MAKER, SHARED_SLOTS}
+use Rattle.std.proofs.lemmas.Bool.{lt-ltb, eq-eqb, eqb-true, and_parts, and_from, cases_Bool}
+use Rattle.std.proofs.lemmas.List.{append-nil, length_push}
+use Rattle.nmgc_limits.specs.declared.mutators.TheConstants.{REGISTERS, MAKERS, SHARED_SLOTS}
 use Rattle.nmgc_graph.specs.declared.value.Name.{Name}
 use Rattle.nmgc_graph.specs.declared.value.Value.{Value}
 use Rattle.nmgc_graph.specs.declared.value.Value.TheVariants.{Nil, Number, Ref}
@@ -19,23 +16,17 @@ use Rattle.nmgc_graph.specs.Step.{shared_name}
 use Rattle.nmgc_graph.specs.Reach.{IsBefore, IsInOrder}
 use Rattle.nmgc_graph.specs.World.{held_by, IsShared}
 use Rattle.nmgc_graph.specs.laws.Orders.{same_name}
-use Rattle.nmgc_journal.specs.Text.{name_text, value_text}
-use Rattle.nmgc_journal.specs.Reading.{IsValue, ◌>>=◌, number_at, name_at, value_at}
-use Rattle.nmgc_journal.specs.laws.Reading.{bind_some, guard_some, chosen, number_takes, number_again, value_reads}
+use Rattle.nmgc_journal.specs.Reading.{IsValue, ◌>>=◌}
+use Rattle.nmgc_journal.specs.laws.Reading.{number_again, value_reads}
 use Rattle.nmgc_image.specs.declared.image.Held.{Held}
 use Rattle.nmgc_image.specs.declared.image.ImageMutator.{ImageMutator}
 use Rattle.nmgc_image.specs.declared.image.Entry.{Entry}
 use Rattle.nmgc_image.specs.declared.image.Image.{Image}
 use Rattle.nmgc_image.specs.declared.reader.Reader.{Reader}
-use Rattle.nmgc_image.specs.Image.{AreInOrder, IsHeld, IsMutator, IsMade, IsOwned, IsEntry, names_of, values_of, IsOrderly}
-use Rattle.nmgc_image.specs.Spelling.{first_words, mutator_words, register_words, queue_words, node_words, entry_words, own_lines, mutator_lines, last_words, image_lines}
-use Rattle.nmgc_image.specs.Reading.{is_declared, begun, is_open, is_full, first_at, new_own, mutator_at, is_above, is_nil, with_register, with_entry, register_at, queue_at, is_before, is_after, is_shared, is_below, is_owned, can_follow, next_at, end_at, line_at, start, image_of}
-use Rattle.nmgc_image.proofs.NodeLaws.{IsSpellable, entry_again, entry_takes}
-
--- lines, one after the other
-abbrev pub run : (Name → Bool) → Reader → List (List (List ℕ)) → Option Reader
-run d r [] = Some r
-run d r (words ∷ lines) = line_at d r words >>= λ s. run d s lines
+use Rattle.nmgc_image.specs.Image.{AreInOrder, IsHeld, IsOwned, names_of, values_of}
+use Rattle.nmgc_image.specs.Spelling.{first_words, mutator_words, register_words, queue_words, entry_words, own_lines, mutator_lines, last_words}
+use Rattle.nmgc_image.specs.Reading.{is_declared, is_full, first_at, new_own, mutator_at, is_above, is_nil, register_at, queue_at, is_before, is_after, is_shared, is_owned, next_at, end_at, line_at, start, run, image_of}
+use Rattle.nmgc_image.proofs.NodeLaws.{IsSpellable, entry_again}
 
 bind_on : {A B C : Type 0} (o : Option A) (f : A → Option B) (g : B → Option C) → ((o >>= f) >>= g) ≡ (o >>= λ x. f x >>= g)
 bind_on (Some x) f g = refl

@@ -1,11 +1,12 @@
 -- The lines of an orderly image are taken, where what it mentions is declared.
-use Rattle.std.proofs.Common.{◌≡◌, ◌≤◌, ◌<◌, ◌+◌, ◌^◌, ℕ, List, [], ◌∷◌, ◌++◌, map, length, refl, sym, ap, subst, ◌∙◌, arith, inl, inr, Bool, true, false, Option, Some, None}
+use Rattle.std.proofs.Common.{◌≡◌, ◌≤◌, ◌<◌, ℕ, List, [], ◌∷◌, ◌++◌, map, length, refl, sym, ap, subst, ◌∙◌, arith, inl, inr, Bool, true, false, Some, None, append_assoc}
 use Rattle.std.specs.Prelude.{All, slice_get}
 use Rattle.std.specs.List.{AllByRecursion}
 use Rattle.std.specs.Option.{option_to_list}
 use Rattle.std.proofs.lemmas.Option.{slice_get_within}
-use Rattle.std.proofs.lemmas.List.Elements.{recursion_from_All, All-from_recursion}
-use Rattle.nmgc_limits.specs.declared.mutators.TheConstants.{MAKERS, SHARED_MAKER}
+use Rattle.std.proofs.lemmas.List.{append-nil, same_from_push}
+use Rattle.std.proofs.lemmas.List.Elements.{recursion_from_All}
+use Rattle.nmgc_limits.specs.declared.mutators.TheConstants.{MAKERS}
 use Rattle.nmgc_graph.specs.declared.value.Name.{Name}
 use Rattle.nmgc_graph.specs.declared.value.Value.{Value}
 use Rattle.nmgc_graph.specs.Step.{shared_name}
@@ -14,6 +15,7 @@ use Rattle.nmgc_graph.specs.laws.Nodes.{item_has}
 use Rattle.nmgc_graph.specs.laws.Worlds.{at_some}
 use Rattle.nmgc_object.specs.Words.{IsName}
 use Rattle.nmgc_journal.specs.Reading.{IsValue}
+use Rattle.nmgc_journal.specs.laws.Reading.{bind_some}
 use Rattle.nmgc_image.specs.declared.image.Held.{Held}
 use Rattle.nmgc_image.specs.declared.image.ImageMutator.{ImageMutator}
 use Rattle.nmgc_image.specs.declared.image.Entry.{Entry}
@@ -21,9 +23,9 @@ use Rattle.nmgc_image.specs.declared.image.Image.{Image}
 use Rattle.nmgc_image.specs.declared.reader.Reader.{Reader}
 use Rattle.nmgc_image.specs.Image.{IsHeld, IsMutator, IsOwned, IsEntry, values_of, IsOrderly}
 use Rattle.nmgc_image.specs.Spelling.{first_words, entry_words, mutator_lines, last_words, image_lines}
-use Rattle.nmgc_image.specs.Reading.{begun, start}
+use Rattle.nmgc_image.specs.Reading.{start, run}
 use Rattle.nmgc_image.proofs.NodeLaws.{IsSpellable}
-use Rattle.nmgc_image.proofs.Machine.{run, run_on, run_step, state, IsIn, first_runs, IsOwnIn, HasTaken, mutators_run, end_runs, IsEntryIn, nodes_run, IsTaken, AreIn}
+use Rattle.nmgc_image.proofs.Machine.{run_append, run_on, run_step, state, IsIn, first_runs, IsOwnIn, HasTaken, mutators_run, end_runs, IsEntryIn, nodes_run, IsTaken, AreIn}
 
 both : {A : Type 0} (P Q : A → Type 0) (xs : List A) → AllByRecursion P xs → AllByRecursion Q xs → AllByRecursion (λ x. P x × Q x) xs
 both P Q [] h k = tt
@@ -55,6 +57,12 @@ name_valid mutators entry few owns (inr p) =
 
 pub spellable : (mutators : List ImageMutator) (entry : Entry) → length mutators ≤ MAKERS → All IsMutator mutators → IsEntry mutators entry → IsSpellable entry
 spellable mutators entry few owns h = (name_valid mutators entry few owns h.owned, h.node, recursion_from_All IsValue (held_by entry.node) h.values)
+
+-- the last of a list that isn't empty
+split_last : {A : Type 0} (x : A) (xs : List A) → (front : List A) × (last : A) × (x ∷ xs ≡ front ++ last ∷ [])
+split_last x [] = ([], x, refl)
+split_last x (y ∷ xs) = let more : (front : List _) × (last : _) × (y ∷ xs ≡ front ++ last ∷ []) = split_last y xs in
+    (x ∷ more.0, more.1, ap (λ l. x ∷ l) more.2)
 
 module _ (d : Name → Bool) (image : Image) (orderly : IsOrderly image) (are_in : AreIn d image) where
   own_in : (own : ImageMutator) → IsMutator own → All (IsIn d) (values_of own) → IsOwnIn d (length image.mutators) orderly.few own
@@ -117,3 +125,18 @@ module _ (d : Name → Bool) (image : Image) (orderly : IsOrderly image) (are_in
         ended = refl;
         image_is = ap (λ (l : List ImageMutator). let i : Image = record { mutators = l; nodes = image.nodes } in i) taken.are;
       }
+
+  -- lines with which it begins
+  pub front_runs : (front rest : List (List (List ℕ))) → image_lines image ≡ front ++ rest → (rest ≡ [] → d shared_name ≡ true) → (s : Reader) ×
+      (run d start front ≡ Some s)
+  front_runs front [] whole shared =
+      let t = image_taken (shared refl) in
+      (t.reader, subst (λ (l : List (List (List ℕ))). run d start l ≡ Some t.reader) (whole ∙ append-nil front) t.runs)
+  front_runs front (line ∷ rest) whole shared =
+      let last = split_last line rest in
+      let middle : List (List (List ℕ)) = (first_words (length image.mutators) ∷ mutator_lines 0 image.mutators) ++ map entry_words image.nodes in
+      let same = same_from_push middle (front ++ last.0) last_words last.1 (whole ∙ ap (λ (l : List (List (List ℕ))). front ++ l) last.2 ∙
+      sym (append_assoc front last.0 (last.1 ∷ []))) in
+      let split = bind_some (run d start front) (λ s. run d s last.0) _ (sym (run_append d start front last.0) ∙
+      ap (λ (l : List (List (List ℕ))). run d start l) (sym same.0) ∙ front_taken) in
+      (split.0, split.1)

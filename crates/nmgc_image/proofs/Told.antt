@@ -1,9 +1,9 @@
 -- What is read is spelled so, what is spelled so is read, and else the first bad line is told.
-use Rattle.std.proofs.Common.{◌≡◌, ◌≢◌, ◌≤◌, ◌<◌, ◌+◌, ◌^◌, ℕ, zero, suc, List, [], ◌∷◌, ◌++◌, map, length, take, drop, get_or, refl, sym, ap, subst, ◌∙◌, arith, inl, inr, Bool, true, false, Option, Some, None, append_assoc}
+use Rattle.std.proofs.Common.{◌≡◌, ◌≤◌, ◌<◌, ◌+◌, ℕ, List, [], ◌∷◌, ◌++◌, map, length, take, drop, get_or, refl, sym, ap, subst, ◌∙◌, arith, inl, inr, Bool, true, Option, Some, None}
 use Rattle.std.specs.Prelude.{All, Contains, slice_get}
 use Rattle.std.specs.List.{AllByRecursion, flat_map}
 use Rattle.std.proofs.lemmas.Bool.{cases_lt}
-use Rattle.std.proofs.lemmas.List.{append-nil, map-append, take_all, take_more, take-append-drop, same_from_push}
+use Rattle.std.proofs.lemmas.List.{append-nil, map-append, take_all, take_more, take-append-drop}
 use Rattle.std.proofs.lemmas.Option.{none-some, same_Some, slice_get-get_or}
 use Rattle.std.proofs.lemmas.List.Elements.{All-from_recursion, recursion_from_All, Contains-append_left, Contains-append_right, Contains-append_cases, All-contains}
 use Rattle.nmgc_limits.specs.declared.mutators.TheConstants.{MAKERS}
@@ -12,10 +12,8 @@ use Rattle.nmgc_graph.specs.declared.value.Value.{Value}
 use Rattle.nmgc_graph.specs.declared.value.Value.TheVariants.{Nil, Number, Ref}
 use Rattle.nmgc_graph.specs.Step.{shared_name}
 use Rattle.nmgc_graph.specs.World.{held_by}
-use Rattle.nmgc_graph.specs.laws.Nodes.{item_has}
 use Rattle.nmgc_graph.specs.laws.Orders.{contains_head, contains_tail, contains_cases}
-use Rattle.nmgc_graph.specs.laws.Worlds.{at_some}
-use Rattle.nmgc_reach.specs.laws.ItemLaws.{contains_at, place_of, nothing_in, contains_flat, flat_contains}
+use Rattle.nmgc_reach.specs.laws.ItemLaws.{contains_at, nothing_in, contains_flat, flat_contains}
 use Rattle.nmgc_object.specs.Words.{IsName}
 use Rattle.nmgc_journal.specs.Reading.{IsValue, ◌>>=◌}
 use Rattle.nmgc_journal.specs.laws.Reading.{bind_some}
@@ -24,21 +22,21 @@ use Rattle.nmgc_image.specs.declared.image.ImageMutator.{ImageMutator}
 use Rattle.nmgc_image.specs.declared.image.Entry.{Entry}
 use Rattle.nmgc_image.specs.declared.image.Image.{Image}
 use Rattle.nmgc_image.specs.declared.reader.Reader.{Reader}
-use Rattle.nmgc_image.specs.Image.{IsHeld, IsMutator, IsEntry, names_of, values_of, values_in, IsOrderly, IsImage}
+use Rattle.nmgc_image.specs.Image.{IsHeld, IsMutator, names_of, values_of, values_in, IsOrderly}
 use Rattle.nmgc_image.specs.Spelling.{spaced, ended, first_words, mutator_words, register_words, queue_words, entry_words, own_lines, mutator_lines, last_words, image_lines, Spells}
 use Rattle.nmgc_image.specs.Text.{words_of, Cut, cut}
 use Rattle.nmgc_image.specs.Faults.{IsWritable, IsDeclared, Begins, IsFirstBad}
-use Rattle.nmgc_image.specs.Reading.{begun, node_line_at, line_at, start, image_of, Tells}
+use Rattle.nmgc_image.specs.Reading.{node_line_at, line_at, start, image_of, Tells, run}
 use Rattle.nmgc_image.proofs.NodeLaws.{IsSpellable, line_again}
-use Rattle.nmgc_image.proofs.LineLaws.{MakeLine, IsLine, spaced-lines, words_of-line, words_of-lines, made_lines, first_line, mutator_line, register_line, queue_line, entry_line, end_line}
+use Rattle.nmgc_image.proofs.LineLaws.{MakeLine, spaced-lines, words_of-line, words_of-lines, made_lines, first_line, mutator_line, register_line, queue_line, entry_line, end_line}
 use Rattle.nmgc_image.proofs.Cutting.{cut_ended, cut_is_text}
-use Rattle.nmgc_image.proofs.Machine.{run, run_append, state, IsIn, IsTaken, AreIn}
-use Rattle.nmgc_image.proofs.Taken.{spellable, front_taken, image_taken}
-use Rattle.nmgc_image.proofs.Lines.{IsGood, lines_at, lines_so_far, start_good, start_lines, run_goes, IsPart, good_part, ended_lines, ended_orderly}
+use Rattle.nmgc_image.proofs.Machine.{run_append, IsIn, IsTaken, AreIn}
+use Rattle.nmgc_image.proofs.Taken.{spellable, image_taken, front_runs}
+use Rattle.nmgc_image.proofs.Lines.{IsGood, lines_so_far, start_good, start_lines, run_goes, IsPart, good_part, ended_lines, ended_orderly}
 
 -- THE LINES OF AN IMAGE
 
-rec_append : {A : Type 0} (P : A → Type 0) (xs ys : List A) → AllByRecursion P xs → AllByRecursion P ys → AllByRecursion P (xs ++ ys)
+pub rec_append : {A : Type 0} (P : A → Type 0) (xs ys : List A) → AllByRecursion P xs → AllByRecursion P ys → AllByRecursion P (xs ++ ys)
 rec_append P [] ys h k = k
 rec_append P (x ∷ xs) ys h k = (h.0, rec_append P xs ys h.1 k)
 
@@ -77,7 +75,7 @@ module _ (image : Image) (o : IsOrderly image) where
 
 -- NODE LINES ARE THOSE OF OBJECTS ALONE
 
-abbrev IsOther : List (List ℕ) → Type 0
+abbrev pub IsOther : List (List ℕ) → Type 0
 IsOther words = node_line_at words ≡ None
 
 other_register : (held : Held) → IsOther (register_words held)
@@ -92,11 +90,11 @@ other_mutator : (m serial : ℕ) → IsOther (mutator_words m serial)
 unfolding node_line_at
 other_mutator m serial = refl
 
-other_first : (m : ℕ) → IsOther (first_words m)
+pub other_first : (m : ℕ) → IsOther (first_words m)
 unfolding node_line_at
 other_first m = refl
 
-other_last : IsOther last_words
+pub other_last : IsOther last_words
 unfolding node_line_at
 other_last = refl
 
@@ -104,7 +102,7 @@ each_map : {A B : Type 0} (Q : B → Type 0) (f : A → B) (xs : List A) → ((x
 each_map Q f [] h = tt
 each_map Q f (x ∷ xs) h = (h x, each_map Q f xs h)
 
-mutators_other : (m : ℕ) (owns : List ImageMutator) → AllByRecursion IsOther (mutator_lines m owns)
+pub mutators_other : (m : ℕ) (owns : List ImageMutator) → AllByRecursion IsOther (mutator_lines m owns)
 mutators_other m [] = tt
 mutators_other m (own ∷ owns) = rec_append IsOther (mutator_words m own.serial ∷
     own_lines own) (mutator_lines (m + 1) owns) (
@@ -232,15 +230,9 @@ own_values own h = All-from_recursion IsValue (values_of own) (rec_append IsValu
 image_values : (image : Image) → IsOrderly image → (v : Value) → Contains (values_in image) v → IsValue v
 image_values image o v c = in_values IsValue image (λ i x lt. own_values _ (o.mutators i x lt)) (λ i x lt. (o.nodes i x lt).values) v c
 
--- the last of a list that isn't empty
-split_last : {A : Type 0} (x : A) (xs : List A) → (front : List A) × (last : A) × (x ∷ xs ≡ front ++ last ∷ [])
-split_last x [] = ([], x, refl)
-split_last x (y ∷ xs) = let more : (front : List _) × (last : _) × (y ∷ xs ≡ front ++ last ∷ []) = split_last y xs in
-    (x ∷ more.0, more.1, ap (λ l. x ∷ l) more.2)
-
-no_rest : (rest : List (List (List ℕ))) → map spaced rest ≡ [] → rest ≡ []
-no_rest [] e = refl
-no_rest (x ∷ rest) e = absurd cc
+no_items : {A B : Type 0} (f : A → B) (xs : List A) → map f xs ≡ [] → xs ≡ []
+no_items f [] e = refl
+no_items f (x ∷ xs) e = absurd cc
 
 shared_valid : IsName shared_name
 shared_valid = (omega arith, omega arith, λ same. refl)
@@ -301,31 +293,14 @@ module _ (bytes : List ℕ) (d : Name → Bool) (tells : Tells d (cut bytes).lin
     inside : AreIn d b.image
     inside = are_in d b.image (λ name h. tells.complete name (b.mentioned name h))
 
-    goes : (rest : List (List ℕ)) → image_lines b.image ≡ map words_of lines ++ map words_of rest →
-        (rest ≡ [] → IsDeclared (cut bytes).lines shared_name) → (s : Reader) × (run d start (map words_of lines) ≡ Some s)
-    goes [] whole shared =
-        let t = image_taken d b.image b.orderly inside (tells.complete shared_name (shared refl)) in
-        (t.reader, subst (λ (l : List (List (List ℕ))). run d start l ≡ Some t.reader) (whole ∙ append-nil (map words_of lines)) t.runs)
-    goes (line ∷ rest) whole shared =
-        let front = map words_of lines in
-        let last = split_last line rest in
-        let middle = (first_words (length b.image.mutators) ∷ mutator_lines 0 b.image.mutators) ++ map entry_words b.image.nodes in
-        let same = same_from_push middle (front ++ map words_of last.0) last_words (words_of last.1) (whole ∙
-        ap (λ (l : List (List ℕ)). front ++ map words_of l) last.2 ∙
-        ap (λ (l : List (List (List ℕ))). front ++ l) (map-append words_of last.0 (last.1 ∷ [])) ∙
-        sym (append_assoc front (map words_of last.0) (words_of last.1 ∷ []))) in
-        let ran = front_taken d b.image b.orderly inside in
-        let split = bind_some (run d start front) (λ s. run d s (map words_of last.0)) _ (sym (run_append d start front (map words_of last.0)) ∙
-        ap (λ (l : List (List (List ℕ))). run d start l) (sym same.0) ∙ ran) in
-        (split.0, split.1)
-
     -- lines with which an image begins are taken
     begins_runs : (s : Reader) × (run d start (map words_of lines) ≡ Some s)
     begins_runs =
         let made = image_made b.image b.orderly in
         let whole : image_lines b.image ≡ map words_of lines ++ map words_of b.rest = sym (words_of-lines (image_lines b.image) made) ∙
         ap (λ (l : List (List ℕ)). map words_of l) b.lines_are ∙ map-append words_of lines b.rest in
-        goes b.rest whole b.shared
+        front_runs d b.image b.orderly inside (map words_of lines) (map words_of b.rest) whole (λ none.
+        tells.complete shared_name (b.shared (no_items words_of b.rest none)))
 
   some_line : (i : ℕ) → i < length (cut bytes).lines → (line : List ℕ) × (slice_get (cut bytes).lines i ≡ Some line) ×
       (take (i + 1) (cut bytes).lines ≡ take i (cut bytes).lines ++ line ∷ [])
@@ -340,7 +315,7 @@ module _ (bytes : List ℕ) (d : Name → Bool) (tells : Tells d (cut bytes).lin
         map-append spaced (map words_of lines) part.rest ∙ ap (λ (l : List (List ℕ)). l ++ map spaced part.rest) (spaced-lines lines);
     mentioned = λ name c.
         tells.sound name (image_values part.image part.orderly (Ref name) c) (in_values (IsIn d) part.image part.mutators_in part.nodes_in (Ref name) c);
-    shared = λ none. tells.sound shared_name shared_valid (part.shared (no_rest part.rest none));
+    shared = λ none. tells.sound shared_name shared_valid (part.shared (no_items spaced part.rest none));
   }
 
   module _ (i : ℕ) (r : Reader) (within : i ≤ length (cut bytes).lines) (runs : run d start (map words_of (take i (cut bytes).lines)) ≡

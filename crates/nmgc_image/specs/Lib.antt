@@ -1,8 +1,10 @@
 pub mod Faults
 pub mod Image
+pub mod Known
 pub mod Left
 pub mod Names
 pub mod Objects
+pub mod Plain
 pub mod Printing
 pub mod Reaching
 pub mod Reading

@@ -1,24 +1,27 @@
 //! Which names have node lines.
 //!
-//! A line may mention a name whose node line comes only later. So the names of all node lines are gathered first, as
-//! numbers in order, and each name that is mentioned is looked up by halving.
-ghost use Rattle.std.specs.Prelude.{◌≡◌, ◌↔◌, ◌++◌, [], All, IfOk, IsTrue, OnOk, map};
+//! A line may mention a name whose node line comes only later. So names are looked up once all lines were read: the names
+//! of the objects that were read, and of the node lines after them, are gathered as numbers in order.
+ghost use Rattle.std.specs.Prelude.{◌≡◌, ◌↔◌, ◌++◌, [], true, All, Contains, IfOk, IsTrue, OnOk, map};
 ghost use Rattle.nmgc_object.specs.Words.{IsName};
 ghost use Rattle.nmgc_image.specs.Names.{TellsNames};
 ghost use Rattle.std.specs.List.Sorted.{IsNonDecreasing};
-ghost use Rattle.nmgc_image.specs.Reading.{has_key, key_of, is_declared, keys_in, keys_of as all_keys, Tells};
+ghost use Rattle.nmgc_image.specs.Reading.{has_key, key_of, keys_beside, keys_in, keys_of as all_keys, HaveSame};
 ghost use Rattle.nmgc_image.specs.Text.{cut};
 
 use crate::LineFault;
+use crate::image::Entry;
 use crate::nodes::node_line;
 use crate::text::{cut_words, next_line};
-use nmgc_graph::{Name, NoMemory, Value};
+use nmgc_graph::{MAKERS, Name, NoMemory};
 use std::alloc::Global;
 
-/// Names, as numbers in order.
+/// Names, as numbers in order. Where a maker's serials follow one another, the place of a number is that number and the
+/// shift of the maker, as it wraps: so it is looked for there first. Nothing rests on the shifts but time.
 #[derive(Drop)]
 pub(crate) struct Declared {
     keys: Vec<u64>,
+    shifts: Vec<u64>,
     ghost sorted: { IsNonDecreasing keys.items },
 }
 
@@ -27,7 +30,24 @@ impl Declared {
     pub(crate) fn has(&self, name: Name) -> bool
         ensures { result ≡ has_key self.now.keys.items name }
     {
-        self.keys.binary_search(&key(name)).is_ok()
+        let key = key(name);
+        if self.is_at_shift(name.maker, key) {
+            return true;
+        }
+        self.keys.binary_search(&key).is_ok()
+    }
+
+    // Whether a number is one of them, and lies where the maker's shift says.
+    fn is_at_shift(&self, maker: u8, key: u64) -> bool
+        ensures { result ≡ true → Contains self.now.keys.items key }
+    {
+        let Some(shift) = self.shifts.get(maker as usize) else {
+            return false;
+        };
+        match self.keys.get((*shift).wrapping_add(key) as usize) {
+            Some(found) => *found == key,
+            None => false,
+        }
     }
 
     /// Whether there is none. Takes no memory.
@@ -35,16 +55,6 @@ impl Declared {
         ensures { IsTrue result ↔ (self.now.keys.items ≡ []) }
     {
         self.keys.is_empty()
-    }
-
-    /// Whether what a value refers to, if it refers to something, is one of them. Takes no memory.
-    pub(crate) fn has_value(&self, value: Value) -> bool
-        ensures { result ≡ is_declared (has_key self.now.keys.items) value }
-    {
-        match value {
-            Value::Ref(name) => self.has(name),
-            _ => true,
-        }
     }
 }
 
@@ -55,22 +65,59 @@ pub(crate) fn key(name: Name) -> u64
     u64::from(name.maker) * (1 << 32) + u64::from(name.serial)
 }
 
-// The names of the node lines of a text, as numbers.
-fn gather_keys(alloc: Global, bytes: &[u8]) -> Result<Vec<u64>, NoMemory>
-    ensures { IfOk result (λ keys. keys.items ≡ all_keys (cut bytes.now).lines) }
+// The numbers that belong to the makers' first numbers.
+fn shifts_of(alloc: Global, keys: &[u64]) -> Result<Vec<u64>, NoMemory> {
+    let mut shifts = Vec::new(alloc);
+    for maker in 0..MAKERS {
+        let first = match keys.binary_search(&(u64::from(maker) * (1 << 32))) {
+            Ok(at) => at,
+            Err(at) => at,
+        };
+        let shift = match keys.get(first) {
+            Some(key) => (first as u64).wrapping_sub(*key),
+            None => 0,
+        };
+        shifts.push(shift)?;
+    }
+    Ok(shifts)
+}
+
+// These numbers in order.
+fn in_order(alloc: Global, keys: Vec<u64>) -> Result<Declared, NoMemory>
+    ensures { IfOk result (λ declared. HaveSame declared.keys.items keys.items) }
 {
-    let mut keys = Vec::new(alloc);
-    let mut words = Vec::new(alloc);
-    let mut rest = bytes;
-    while let Some((line, after)) = next_line(rest) {
-        cut_words(&mut words, line)?;
-        push_key(alloc, &mut keys, &words)?;
-        rest = after;
+    let mut keys = keys;
+    keys.sort_unstable();
+    let shifts = shifts_of(alloc, &keys)?;
+    Ok(Declared { keys, shifts })
+}
+
+// The numbers of the names of objects.
+fn keys_of(alloc: Global, nodes: &[Entry]) -> Result<Vec<u64>, NoMemory>
+    ensures { IfOk result (λ keys. keys.items ≡ map (λ entry. key_of entry.name) nodes.now) }
+{
+    let mut keys = Vec::with_capacity(alloc, nodes.len())?;
+    for entry in nodes {
+        keys.push(key(entry.name))?;
     }
     Ok(keys)
 }
 
-// Adds the name of a node line.
+// Adds those of the node lines of a text.
+fn push_keys(alloc: Global, keys: &mut Vec<u64>, bytes: &[u8]) -> Result<(), NoMemory>
+    ensures { OnOk result (keys.new.items ≡ keys.old.items ++ all_keys (cut bytes.now).lines) }
+{
+    let mut words = Vec::new(alloc);
+    let mut rest = bytes;
+    while let Some((line, after)) = next_line(rest) {
+        cut_words(&mut words, line)?;
+        push_key(alloc, keys, &words)?;
+        rest = after;
+    }
+    Ok(())
+}
+
+// Adds that of a node line.
 fn push_key(alloc: Global, keys: &mut Vec<u64>, words: &[&[u8]]) -> Result<(), NoMemory>
     ensures { OnOk result (keys.new.items ≡ keys.old.items ++ keys_in (map (λ w. w.now) words.now)) }
 {
@@ -84,13 +131,17 @@ fn push_key(alloc: Global, keys: &mut Vec<u64>, words: &[&[u8]]) -> Result<(), N
     }
 }
 
-/// The names of the node lines of a text.
-pub(crate) fn declared_in(alloc: Global, bytes: &[u8]) -> Result<Declared, NoMemory>
-    ensures { IfOk result (λ declared. Tells (has_key declared.keys.items) (cut bytes.now).lines) }
+/// The names of objects, and those of the node lines of a text.
+pub(crate) fn declared_in(
+    alloc: Global,
+    nodes: &[Entry],
+    bytes: &[u8],
+) -> Result<Declared, NoMemory>
+    ensures { IfOk result (λ declared. HaveSame declared.keys.items (keys_beside nodes.now (cut bytes.now).lines)) }
 {
-    let mut keys = gather_keys(alloc, bytes)?;
-    keys.sort_unstable();
-    Ok(Declared { keys })
+    let mut keys = keys_of(alloc, nodes)?;
+    push_keys(alloc, &mut keys, bytes)?;
+    in_order(alloc, keys)
 }
 
 /// These names.
@@ -102,6 +153,5 @@ pub(crate) fn of_names(alloc: Global, names: &[Name]) -> Result<Declared, NoMemo
     for name in names {
         keys.push(key(*name))?;
     }
-    keys.sort_unstable();
-    Ok(Declared { keys })
+    in_order(alloc, keys)
 }

@@ -16,11 +16,14 @@
 
 mod declared;
 pub mod fault;
+mod front;
 pub mod image;
+mod known;
 pub mod laws;
 mod nodes;
 mod objects;
 mod places;
+mod plain;
 mod read;
 mod reader;
 mod search;

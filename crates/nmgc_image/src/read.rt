@@ -1,16 +1,20 @@
 //! Images read from their text.
-ghost use Rattle.std.specs.Prelude.{◌≡◌, ◌↔◌, ◌≤◌, ◌^◌, [], length, true, IfErr, IfOk, IsTrue, MatchResult};
+ghost use Rattle.std.specs.Prelude.{◌≡◌, ◌↔◌, ℕ, ◌≤◌, ◌^◌, Bool, List, [], length, true, IfErr, IfOk, IsTrue, MatchResult};
+ghost use Rattle.nmgc_graph.specs.declared.value.Name.{Name as NameOf};
 ghost use Rattle.nmgc_image.specs.Faults.{IsToldOf};
-ghost use Rattle.nmgc_image.specs.Reading.{has_key, image_of, Tells};
+ghost use Rattle.nmgc_image.specs.Known.{test_of};
+ghost use Rattle.nmgc_image.specs.Reading.{AreRead, IsAnswer, image_of, Tells};
 ghost use Rattle.nmgc_image.specs.Spelling.{Spells};
 ghost use Rattle.nmgc_image.specs.Text.{cut};
 ghost use Rattle.nmgc_image.specs.declared.image.Image.{Image as Spelled};
 
-use crate::declared::{Declared, declared_in};
+use crate::ImageFault;
+use crate::declared::declared_in;
+use crate::front::read_lines;
 use crate::image::Image;
+use crate::known::{Known, are_mentions_known};
 use crate::reader::{Reader, all_of};
-use crate::text::{cut_words, next_line};
-use crate::{ImageFault, LineFault};
+use crate::text::Lines;
 use std::alloc::Global;
 
 /// The most bytes that an image may have which the program reads.
@@ -21,8 +25,10 @@ const _: () = prove!(MAX_IMAGE_BYTES <= 1 << 31);
 /// Reads an image. `Bad` tells the first bad line, from 1; where the text ends too early, it is the one after the last.
 /// Asks that the text is short enough for its lines to be counted in 32 bits.
 ///
-/// Takes time in proportion to the text, but for a sort of the names of its node lines and a look-up by halving for each
-/// name that it mentions; each node line is read twice. Takes memory for the image, and 8 bytes for each node line.
+/// Takes time in proportion to the text, but for a look-up of each name that it mentions: in one step where the serials of
+/// the name's maker follow one another, and else by halving. A text that mentions a name without a node line is read
+/// twice, and the names of node lines behind a bad line are sorted. Takes memory for the image, and 8 bytes for each node
+/// line.
 pub fn read_image(alloc: Global, bytes: &[u8]) -> Result<Image, ImageFault>
     requires { length bytes.now ≤ 2 ^ 31 }
     // What is read is spelled so.
@@ -32,34 +38,43 @@ pub fn read_image(alloc: Global, bytes: &[u8]) -> Result<Image, ImageFault>
     // Of bytes that spell no image the first bad line is told.
     ensures told { IfErr result (λ fault. IsToldOf bytes.now fault) }
 {
-    let declared = declared_in(alloc, bytes)?;
-    read(alloc, &declared, bytes)
+    read(alloc, bytes)
+}
+
+// Reads an image: first while every name counts as declared, and once more where a name was mentioned that isn't.
+fn read(alloc: Global, bytes: &[u8]) -> Result<Image, ImageFault>
+    requires { length bytes.now ≤ 2 ^ 31 }
+    ensures { IsAnswer bytes.now result }
+{
+    let mut lines = Lines::new(bytes);
+    let every = Known::Every;
+    let reader = read_lines(alloc, &every, &mut lines)?;
+    let declared = declared_in(alloc, reader.nodes.items(), lines.rest)?;
+    let known = Known::Of(declared);
+    if are_mentions_known(&known, &reader) {
+        return answer(reader, &lines);
+    }
+    read_again(alloc, &known, bytes)
 }
 
 // Reads an image, where it is known which names have node lines.
-fn read(alloc: Global, declared: &Declared, bytes: &[u8]) -> Result<Image, ImageFault>
+fn read_again(alloc: Global, known: &Known, bytes: &[u8]) -> Result<Image, ImageFault>
     requires small { length bytes.now ≤ 2 ^ 31 }
-    requires tells { Tells (has_key declared.now.keys.items) (cut bytes.now).lines }
-    ensures found { IfOk result (λ image. Spells bytes.now image) }
-    ensures only { (image : Spelled) → Spells bytes.now image → MatchResult result (λ read. image ≡ read) (λ fault. fault ≡ ImageFault.NoMemory) }
-    ensures told { IfErr result (λ fault. IsToldOf bytes.now fault) }
+    requires tells { Tells (test_of known.now) (cut bytes.now).lines }
+    ensures { IsAnswer bytes.now result }
 {
-    let mut reader = Reader::new(alloc);
-    let mut words = Vec::new(alloc);
-    let mut rest = bytes;
-    let mut number: u32 = 1;
-    while let Some((line, after)) = next_line(rest) {
-        cut_words(&mut words, line)?;
-        match reader.with_line(alloc, declared, &words) {
-            Ok(more) => reader = more,
-            Err(LineFault::Bad) => return Err(ImageFault::Bad { line: number }),
-            Err(LineFault::NoMemory) => return Err(ImageFault::NoMemory),
-        }
-        rest = after;
-        number += 1;
-    }
-    if !is_whole(&reader, rest) {
-        return Err(ImageFault::Bad { line: number });
+    let mut lines = Lines::new(bytes);
+    let reader = read_lines(alloc, known, &mut lines)?;
+    answer(reader, &lines)
+}
+
+// What is answered of a text whose lines were read as far as they can be taken.
+fn answer(reader: Reader, lines: &Lines) -> Result<Image, ImageFault>
+    ensures { (bytes : List ℕ) (d : NameOf → Bool) → Tells d (cut bytes).lines → AreRead d bytes reader lines.now.number lines.now.rest.now →
+        IsAnswer bytes result }
+{
+    if !is_whole(&reader, lines.rest) {
+        return Err(ImageFault::Bad { line: lines.number });
     }
     image_of(reader)
 }

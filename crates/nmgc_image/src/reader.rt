@@ -1,20 +1,22 @@
 //! What was read of an image so far, and the next line.
 //!
 //! A line is one of six, by its first word, and may come only where those before it leave room for it.
-ghost use Rattle.std.specs.Prelude.{◌≡◌, ◌++◌, ◌==◌, ◌&&◌, map, length, not, slice_get, IfOk};
+ghost use Rattle.std.specs.Prelude.{◌≡◌, ◌++◌, ◌==◌, ◌&&◌, map, length, not, slice_get, IfOk, OnOk};
 ghost use Rattle.std.specs.List.{list_all};
 ghost use Rattle.std.specs.Option.{option_to_list, option_copied};
 ghost use Rattle.nmgc_graph.specs.World.{held_by};
-ghost use Rattle.nmgc_image.specs.Reading.{Gives, has_key, is_declared, begun, is_open, is_full, first_at, new_own, mutator_at, is_above, is_nil, with_register, with_entry, register_at, queue_at, is_before, is_after, is_shared, is_below, is_owned, can_follow, next_at, end_at, line_at, start};
+ghost use Rattle.nmgc_image.specs.Known.{test_of};
+ghost use Rattle.nmgc_image.specs.Reading.{Takes, begins, object_at, is_declared, begun, is_open, is_full, first_at, new_own, mutator_at, is_above, is_nil, with_register, with_entry, register_at, queue_at, is_before, is_after, is_shared, is_below, is_owned, can_follow, next_at, end_at, line_at, start};
 
 use crate::LineFault;
-use crate::declared::Declared;
 use crate::image::{Entry, Held, ImageMutator};
+use crate::known::{Known, is_known, is_node_known, is_value_known};
 use crate::nodes::{entry, number, value};
 use nmgc_graph::{
     List, MAKERS, Name, NoMemory, Node, REGISTERS, SHARED_MAKER, SHARED_SLOTS, Value,
 };
 use std::alloc::Global;
+use std::mem;
 
 /// The lines so far: how many mutators were announced, those that are done and the one that is being read, the
 /// objects, and whether the end came.
@@ -41,36 +43,37 @@ impl Reader {
         }
     }
 
-    /// Takes the next line, by its words. After an `Err` nothing is left.
+    /// Takes the next line, by its words. After `Bad` what was read
+    /// stays as it is.
     #[tactic(auto, unfolding(crate::specs::Reading::line_at))]
-    pub(crate) fn with_line(
-        self,
+    pub(crate) fn take_line(
+        &mut self,
         alloc: Global,
-        declared: &Declared,
+        known: &Known,
         words: &[&[u8]],
-    ) -> Result<Reader, LineFault>
-        ensures { Gives result (line_at (has_key declared.now.keys.items) self (map (λ w. w.now) words.now)) }
+    ) -> Result<(), LineFault>
+        ensures { Takes result self.old self.new (line_at (test_of known.now) self.old (map (λ w. w.now) words.now)) }
     {
         let [word, rest @ ..] = words else {
             return Err(LineFault::Bad);
         };
         if *word == b"image".as_slice() {
-            return self.with_first(rest);
+            return self.take_first(rest);
         }
         if *word == b"mutator".as_slice() {
-            return self.with_mutator(alloc, rest);
+            return self.take_mutator(alloc, rest);
         }
         if *word == b"register".as_slice() {
-            return self.with_register(declared, rest);
+            return self.take_register(known, rest);
         }
         if *word == b"queue".as_slice() {
-            return self.with_entry(declared, rest);
+            return self.take_entry(known, rest);
         }
         if *word == b"node".as_slice() {
-            return self.with_node(alloc, declared, rest);
+            return self.take_node(alloc, known, rest);
         }
         if *word == b"end".as_slice() {
-            return self.with_end(declared, rest);
+            return self.take_end(known, rest);
         }
         Err(LineFault::Bad)
     }
@@ -95,8 +98,8 @@ impl Reader {
     }
 
     #[tactic(auto, unfolding(crate::specs::Reading::first_at))]
-    fn with_first(self, words: &[&[u8]]) -> Result<Reader, LineFault>
-        ensures { Gives result (first_at self (map (λ w. w.now) words.now)) }
+    fn take_first(&mut self, words: &[&[u8]]) -> Result<(), LineFault>
+        ensures { Takes result self.old self.new (first_at self.old (map (λ w. w.now) words.now)) }
     {
         let [version, count] = words else {
             return Err(LineFault::Bad);
@@ -108,12 +111,13 @@ impl Reader {
         if expected == 0 {
             return Err(LineFault::Bad);
         }
-        Ok(Reader { expected, ..self })
+        self.expected = expected;
+        Ok(())
     }
 
     #[tactic(auto, unfolding(crate::specs::Reading::mutator_at))]
-    fn with_mutator(self, alloc: Global, words: &[&[u8]]) -> Result<Reader, LineFault>
-        ensures { Gives result (mutator_at self (map (λ w. w.now) words.now)) }
+    fn take_mutator(&mut self, alloc: Global, words: &[&[u8]]) -> Result<(), LineFault>
+        ensures { Takes result self.old self.new (mutator_at self.old (map (λ w. w.now) words.now)) }
     {
         let [number_word, word, serial_word] = words else {
             return Err(LineFault::Bad);
@@ -129,31 +133,28 @@ impl Reader {
         if mutator as usize != self.count() {
             return Err(LineFault::Bad);
         }
-        let Reader {
-            expected,
-            done,
-            current,
-            nodes,
-            ended,
-        } = self;
-        let done = all_of(done, current)?;
-        let current = Some(ImageMutator {
+        self.begin(ImageMutator {
             serial,
             registers: List::new(alloc),
             queue: List::new(alloc),
-        });
-        Ok(Reader {
-            expected,
-            done,
-            current,
-            nodes,
-            ended,
-        })
+        })?;
+        Ok(())
+    }
+
+    // Goes on with the next mutator.
+    fn begin(&mut self, own: ImageMutator) -> Result<(), NoMemory>
+        ensures { OnOk result (self.new ≡ begins self.old own) }
+    {
+        let Some(last) = mem::replace(&mut self.current, Some(own)) else {
+            return Ok(());
+        };
+        self.done.push(last)?;
+        Ok(())
     }
 
     #[tactic(auto, unfolding(crate::specs::Reading::register_at))]
-    fn with_register(self, declared: &Declared, words: &[&[u8]]) -> Result<Reader, LineFault>
-        ensures { Gives result (register_at (has_key declared.now.keys.items) self (map (λ w. w.now) words.now)) }
+    fn take_register(&mut self, known: &Known, words: &[&[u8]]) -> Result<(), LineFault>
+        ensures { Takes result self.old self.new (register_at (test_of known.now) self.old (map (λ w. w.now) words.now)) }
     {
         let [register, word] = words else {
             return Err(LineFault::Bad);
@@ -161,34 +162,24 @@ impl Reader {
         if !self.is_open() {
             return Err(LineFault::Bad);
         }
-        let Reader {
-            expected,
-            done,
-            current,
-            nodes,
-            ended,
-        } = self;
-        let Some(own) = current else {
+        let Some(own) = &self.current else {
             return Err(LineFault::Bad);
         };
         let register = number(register, u64::from(REGISTERS) - 1)? as u8;
         let value = value(word)?;
-        if !can_hold(&own, register, value) || !declared.has_value(value) {
+        if !can_hold(own, register, value) || !is_value_known(known, value) {
             return Err(LineFault::Bad);
         }
-        let current = Some(holding(own, Held { register, value })?);
-        Ok(Reader {
-            expected,
-            done,
-            current,
-            nodes,
-            ended,
-        })
+        let Some(own) = mem::replace(&mut self.current, None) else {
+            return Err(LineFault::Bad);
+        };
+        self.current = Some(holding(own, Held { register, value })?);
+        Ok(())
     }
 
     #[tactic(auto, unfolding(crate::specs::Reading::queue_at))]
-    fn with_entry(self, declared: &Declared, words: &[&[u8]]) -> Result<Reader, LineFault>
-        ensures { Gives result (queue_at (has_key declared.now.keys.items) self (map (λ w. w.now) words.now)) }
+    fn take_entry(&mut self, known: &Known, words: &[&[u8]]) -> Result<(), LineFault>
+        ensures { Takes result self.old self.new (queue_at (test_of known.now) self.old (map (λ w. w.now) words.now)) }
     {
         let [word] = words else {
             return Err(LineFault::Bad);
@@ -196,84 +187,61 @@ impl Reader {
         if !self.is_open() {
             return Err(LineFault::Bad);
         }
-        let Reader {
-            expected,
-            done,
-            current,
-            nodes,
-            ended,
-        } = self;
-        let Some(own) = current else {
+        let Some(_) = &self.current else {
             return Err(LineFault::Bad);
         };
         let value = value(word)?;
-        if !declared.has_value(value) {
+        if !is_value_known(known, value) {
             return Err(LineFault::Bad);
         }
-        let current = Some(queueing(own, value)?);
-        Ok(Reader {
-            expected,
-            done,
-            current,
-            nodes,
-            ended,
-        })
+        let Some(own) = mem::replace(&mut self.current, None) else {
+            return Err(LineFault::Bad);
+        };
+        self.current = Some(queueing(own, value)?);
+        Ok(())
     }
 
     #[tactic(auto, unfolding(crate::specs::Reading::next_at))]
-    fn with_node(
-        self,
-        alloc: Global,
-        declared: &Declared,
-        words: &[&[u8]],
-    ) -> Result<Reader, LineFault>
-        ensures { Gives result (next_at (has_key declared.now.keys.items) self (map (λ w. w.now) words.now)) }
+    fn take_node(&mut self, alloc: Global, known: &Known, words: &[&[u8]]) -> Result<(), LineFault>
+        ensures { Takes result self.old self.new (next_at (test_of known.now) self.old (map (λ w. w.now) words.now)) }
     {
         let entry = entry(alloc, words)?;
-        if !self.can_take(declared, &entry) {
+        self.take_object(known, entry)
+    }
+
+    /// Takes an object, if it may come next. After `Bad` what was read stays as it is.
+    pub(crate) fn take_object(&mut self, known: &Known, entry: Entry) -> Result<(), LineFault>
+        ensures { Takes result self.old self.new (object_at (test_of known.now) self.old entry) }
+    {
+        if !self.can_take(known, &entry) {
             return Err(LineFault::Bad);
         }
-        let Reader {
-            expected,
-            done,
-            current,
-            mut nodes,
-            ended,
-        } = self;
-        nodes.push(entry)?;
-        Ok(Reader {
-            expected,
-            done,
-            current,
-            nodes,
-            ended,
-        })
+        self.nodes.push(entry)?;
+        Ok(())
     }
 
     #[tactic(auto, unfolding(crate::specs::Reading::end_at))]
-    fn with_end(self, declared: &Declared, words: &[&[u8]]) -> Result<Reader, LineFault>
-        ensures { Gives result (end_at (has_key declared.now.keys.items) self (map (λ w. w.now) words.now)) }
+    fn take_end(&mut self, known: &Known, words: &[&[u8]]) -> Result<(), LineFault>
+        ensures { Takes result self.old self.new (end_at (test_of known.now) self.old (map (λ w. w.now) words.now)) }
     {
         let [] = words else {
             return Err(LineFault::Bad);
         };
-        if !self.is_full() || !declared.has(Name::SHARED) {
+        if !self.is_full() || !is_known(known, Name::SHARED) {
             return Err(LineFault::Bad);
         }
-        Ok(Reader {
-            ended: true,
-            ..self
-        })
+        self.ended = true;
+        Ok(())
     }
 
     // Whether an object may come next.
-    fn can_take(&self, declared: &Declared, entry: &Entry) -> bool
-        ensures { result ≡ can_follow (has_key declared.now.keys.items) self.now entry.now }
+    fn can_take(&self, known: &Known, entry: &Entry) -> bool
+        ensures { result ≡ can_follow (test_of known.now) self.now entry.now }
     {
         self.is_full()
             && is_after(self.nodes.items(), entry.name)
             && self.is_owned(entry)
-            && are_declared(declared, &entry.node)
+            && is_node_known(known, &entry.node)
     }
 
     // Whether an object is g, or was made by one of the mutators.
@@ -390,40 +358,4 @@ fn is_shared(node: &Node) -> bool
         Node::Arr { values } => values.items().len() == SHARED_SLOTS as usize,
         _ => false,
     }
-}
-
-// Whether each name that a node mentions has a node line.
-fn are_declared(declared: &Declared, node: &Node) -> bool
-    ensures { result ≡ list_all (is_declared (has_key declared.now.keys.items)) (held_by node.now) }
-{
-    match node {
-        Node::Con { values, .. } | Node::Arr { values } | Node::Stack { values, .. } => {
-            are_all_declared(declared, values.items())
-        }
-        Node::Var { value } => declared.has_value(*value),
-        Node::Thunk { free, result } => {
-            is_result_declared(declared, *result) && are_all_declared(declared, free.items())
-        }
-        Node::Weak { parts: None } => true,
-        Node::Weak { parts: Some(parts) } => {
-            declared.has_value(parts.key)
-                && declared.has_value(parts.value)
-                && declared.has_value(parts.finaliser)
-        }
-    }
-}
-
-fn is_result_declared(declared: &Declared, outcome: Option<Value>) -> bool
-    ensures { result ≡ list_all (is_declared (has_key declared.now.keys.items)) (option_to_list outcome) }
-{
-    match outcome {
-        Some(value) => declared.has_value(value),
-        None => true,
-    }
-}
-
-fn are_all_declared(declared: &Declared, values: &[Value]) -> bool
-    ensures { result ≡ list_all (is_declared (has_key declared.now.keys.items)) values.now }
-{
-    values.iter().all(|value| declared.has_value(*value))
 }

@@ -18,10 +18,10 @@ use nmgc_journal::{Report, push_name, push_value};
 use std::alloc::Global;
 
 /// The text of the image that shows the heap of a report: what the mutators have in hand, and all that anybody could
-/// still come to hold. Asks that the heap of the report is one that a stop of a run leaves. Takes time in proportion
-/// to the heap and the text, but for a sort of the objects by their names
-/// and a look-up by halving for each block in use where there are weak pointers; and memory for the image, for the
-/// text, for a byte a word of the heap and for 24 bytes an object.
+/// still come to hold. Asks that the heap of the report is one that a stop of a run leaves. Takes time in proportion to
+/// the heap and the text, but for a sort of the objects by their names and a look-up of a name for each block in use
+/// where there are weak pointers; and memory for the image, for the text, for a byte a word of the heap and for 24 bytes
+/// an object.
 pub fn write_image(alloc: Global, report: &Report) -> Result<Vec<u8>, NoMemory>
     requires { (w : WorldOf) × IsLeftAs report.now w }
     ensures { IfOk result (λ text. (w : WorldOf) → IsLeftAs report.now w → (image : ImageOf) × Shows w image × Spells text.items image) }

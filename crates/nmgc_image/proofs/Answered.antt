@@ -1,0 +1,64 @@
+-- What is answered of a text whose lines were read as far as they can be taken.
+use Rattle.std.proofs.Common.{◌≡◌, ◌≤◌, ℕ, List, [], ◌++◌, map, length, refl, sym, ap, subst, ◌∙◌, Bool, true, Some, None, Result, Ok, Err}
+use Rattle.std.specs.Prelude.{slice_get, IfOk, IfErr}
+use Rattle.std.proofs.lemmas.List.{drop_all}
+use Rattle.nmgc_graph.specs.declared.value.Name.{Name}
+use Rattle.nmgc_image.specs.declared.image.Image.{Image}
+use Rattle.nmgc_image.specs.declared.reader.Reader.{Reader}
+use Rattle.nmgc_image.specs.declared.fault.ImageFault.{ImageFault}
+use Rattle.nmgc_image.specs.declared.fault.ImageFault.TheVariants as fault
+use Rattle.nmgc_image.specs.Faults.{IsFirstBad, IsToldOf}
+use Rattle.nmgc_image.specs.Spelling.{ended, Spells}
+use Rattle.nmgc_image.specs.Text.{words_of, cut}
+use Rattle.nmgc_image.specs.Reading.{line_at, start, run, image_of, Tells, AreRead, IsAnswer}
+use Rattle.nmgc_image.proofs.Cutting.{cut_is_text}
+use Rattle.nmgc_image.proofs.Steps.{line_there, none_after, runs_all, taken_is}
+use Rattle.nmgc_image.proofs.Told.{only, found, told, not_spelled}
+
+pub lost_answer : (bytes : List ℕ) → IsAnswer bytes (Err fault.NoMemory)
+lost_answer bytes = record { found = tt; only = λ image s. refl; told = tt }
+
+module _ (bytes : List ℕ) (d : Name →
+    Bool) (tells : Tells d (cut bytes).lines) (r : Reader) (number : ℕ) (rest : List ℕ) (read : AreRead d bytes r number rest) where
+  bad_next : (line : List ℕ) → slice_get (cut bytes).lines read.taken.before ≡ Some line → line_at d r (words_of line) ≡ None
+  bad_next line at =
+      let there = line_there (cut bytes).lines read.taken.before line at in
+      read.stuck line there.0 (sym read.taken.lines_are ∙ there.1)
+
+  -- at the end of the lines what is left has none
+  rest_left : length (cut bytes).lines ≤ read.taken.before → rest ≡ (cut bytes).rest
+  rest_left le =
+      let none : (cut rest).lines ≡ [] = sym read.taken.lines_are ∙ drop_all read.taken.before (cut bytes).lines le in
+      sym (cut_is_text rest) ∙ ap (λ (l : List (List ℕ)). ended l ++ (cut rest).rest) none ∙ read.taken.rest_is
+
+  not_done : ((r.ended ≡ true) × (rest ≡ []) → ⊥) → length (cut bytes).lines ≤ read.taken.before → r.ended ≡ true → (cut bytes).rest ≡ [] → ⊥
+  not_done open_ le is_yes none = open_ (is_yes, rest_left le ∙ none)
+
+  pub bad_answer : ((r.ended ≡ true) × (rest ≡ []) → ⊥) → IsAnswer bytes (Err (fault.Bad number))
+  bad_answer open_ =
+      let t = read.taken in
+      record {
+        found = tt;
+        only = λ image s. absurd (not_spelled bytes d tells t.before r t.within t.runs bad_next (not_done open_) image s);
+        told = subst (IsFirstBad bytes) (sym t.number_is) (told bytes d tells t.before r t.within t.runs bad_next (not_done open_));
+      }
+
+  whole_runs : rest ≡ [] → run d start (map words_of (cut bytes).lines) ≡ Some r
+  whole_runs none = runs_all d r (cut bytes).lines read.taken.before (none_after (cut bytes).lines read.taken.before (read.taken.lines_are ∙
+      ap (λ (l : List ℕ). (cut l).lines) none)) read.taken.runs
+
+  whole_spells : r.ended ≡ true → rest ≡ [] → Spells bytes (image_of r)
+  whole_spells is_yes none = found bytes d tells r (whole_runs none) is_yes (sym read.taken.rest_is ∙ ap (λ (l : List ℕ). (cut l).rest) none)
+
+  pub whole_answer : r.ended ≡ true → rest ≡ [] → (result : Result Image ImageFault) → IfOk result (λ image. image ≡ image_of r) →
+      IfErr result (λ f. f ≡ fault.NoMemory) → IsAnswer bytes result
+  whole_answer is_yes none (Ok image) is lost = record {
+    found = subst (Spells bytes) (sym is) (whole_spells is_yes none);
+    only = λ other s. taken_is d r (map words_of (cut bytes).lines) other (whole_runs none) (only bytes d tells other s).0 ∙ sym is;
+    told = tt;
+  }
+  whole_answer is_yes none (Err f) is lost = record {
+    found = tt;
+    only = λ image s. lost;
+    told = subst (IsToldOf bytes) (sym lost) tt;
+  }

@@ -1,0 +1,11 @@
+-- Which names count as declared while a text is read.
+use Rattle.std.specs.Prelude.{Bool, true}
+use Rattle.nmgc_graph.specs.declared.value.Name.{Name}
+use Rattle.nmgc_image.specs.declared.known.Known.{Known}
+use Rattle.nmgc_image.specs.declared.known.Known.TheVariants as known
+use Rattle.nmgc_image.specs.Reading.{has_key}
+
+-- every name, or those that are told
+abbrev pub test_of : Known → Name → Bool
+test_of known.Every = λ name. true
+test_of (known.Of declared) = has_key declared.keys.items

@@ -1,0 +1,21 @@
+-- Node lines that are read without being cut into words.
+use Rattle.std.specs.Prelude.{◌≡◌, ℕ, List, ◌∷◌, ◌++◌, All}
+use Rattle.nmgc_graph.specs.declared.node.Node.{Node}
+use Rattle.nmgc_graph.specs.World.{held_by}
+use Rattle.nmgc_journal.specs.Reading.{IsValue}
+use Rattle.nmgc_image.specs.declared.image.Entry.{Entry}
+use Rattle.nmgc_image.specs.Image.{IsNode}
+use Rattle.nmgc_image.specs.Faults.{IsWritable}
+use Rattle.nmgc_image.specs.Printing.{after_spaces}
+use Rattle.nmgc_image.specs.Spelling.{spaced, node_words, entry_words}
+
+-- a text begins with the node line of an object, and this comes after it
+pub record IsPlain (bytes : List ℕ) (entry : Entry) (rest : List ℕ) : Type 0 where
+  pub text : bytes ≡ spaced (entry_words entry) ++ 10 ∷ rest
+  pub writable : IsWritable entry
+
+-- a text begins with the words of a node, each behind a space, and a line feed
+pub record IsPlainNode (bytes : List ℕ) (node : Node) (rest : List ℕ) : Type 0 where
+  pub text : bytes ≡ after_spaces (node_words node) ++ 10 ∷ rest
+  pub valid : IsNode node
+  pub values : All IsValue (held_by node)

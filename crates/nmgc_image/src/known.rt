@@ -1,0 +1,137 @@
+//! Which names count as declared while a text is read.
+//!
+//! A text is read before it is known which names have node lines, and then every name counts as declared. What was
+//! mentioned is looked up afterwards. Where a name has no node line, the text is read once more, and the first line
+//! that mentions such a name is bad.
+ghost use Rattle.std.specs.Prelude.{◌≡◌, true};
+ghost use Rattle.std.specs.List.{list_all};
+ghost use Rattle.std.specs.Option.{option_to_list};
+ghost use Rattle.nmgc_graph.specs.Step.{shared_name};
+ghost use Rattle.nmgc_graph.specs.World.{held_by};
+ghost use Rattle.nmgc_image.specs.Known.{test_of};
+ghost use Rattle.nmgc_image.specs.Reading.{is_declared, is_own_in, is_object_in, AreMentionsIn};
+
+use crate::declared::Declared;
+use crate::image::{Entry, Held, ImageMutator};
+use crate::reader::Reader;
+use nmgc_graph::{Name, Node, Value};
+
+/// Which names count as declared: every name, or these.
+#[derive(Drop)]
+pub(crate) enum Known {
+    Every,
+    Of(Declared),
+}
+
+/// Whether a name counts as declared. Takes no memory.
+pub(crate) fn is_known(known: &Known, name: Name) -> bool
+    ensures { result ≡ test_of known.now name }
+{
+    match known {
+        Known::Of(declared) => declared.has(name),
+        Known::Every => true,
+    }
+}
+
+/// Whether what a value refers to, if it refers to something, counts as declared. Takes no memory.
+pub(crate) fn is_value_known(known: &Known, value: Value) -> bool
+    ensures { result ≡ is_declared (test_of known.now) value }
+{
+    match value {
+        Value::Ref(name) => is_known(known, name),
+        _ => true,
+    }
+}
+
+/// Whether each name that a node mentions counts as declared. Takes no memory.
+pub(crate) fn is_node_known(known: &Known, node: &Node) -> bool
+    ensures { result ≡ list_all (is_declared (test_of known.now)) (held_by node.now) }
+{
+    match node {
+        Node::Con { values, .. } | Node::Arr { values } | Node::Stack { values, .. } => {
+            are_values_known(known, values.items())
+        }
+        Node::Var { value } => is_value_known(known, *value),
+        Node::Thunk { free, result } => {
+            is_result_known(known, *result) && are_values_known(known, free.items())
+        }
+        Node::Weak { parts: None } => true,
+        Node::Weak { parts: Some(parts) } => {
+            is_value_known(known, parts.key)
+                && is_value_known(known, parts.value)
+                && is_value_known(known, parts.finaliser)
+        }
+    }
+}
+
+fn is_result_known(known: &Known, outcome: Option<Value>) -> bool
+    ensures { result ≡ list_all (is_declared (test_of known.now)) (option_to_list outcome) }
+{
+    match outcome {
+        Some(value) => is_value_known(known, value),
+        None => true,
+    }
+}
+
+fn are_values_known(known: &Known, values: &[Value]) -> bool
+    ensures { result ≡ list_all (is_declared (test_of known.now)) values.now }
+{
+    values.iter().all(|value| is_value_known(known, *value))
+}
+
+fn are_registers_known(known: &Known, registers: &[Held]) -> bool
+    ensures { result ≡ list_all (λ held. is_declared (test_of known.now) held.value) registers.now }
+{
+    registers
+        .iter()
+        .all(|held| is_value_known(known, held.value))
+}
+
+fn is_own_known(known: &Known, own: &ImageMutator) -> bool
+    ensures { result ≡ is_own_in (test_of known.now) own.now }
+{
+    are_registers_known(known, own.registers.items()) && are_values_known(known, own.queue.items())
+}
+
+fn are_owns_known(known: &Known, owns: &[ImageMutator]) -> bool
+    ensures { result ≡ list_all (is_own_in (test_of known.now)) owns.now }
+{
+    owns.iter().all(|own| is_own_known(known, own))
+}
+
+fn is_current_known(known: &Known, current: &Option<ImageMutator>) -> bool
+    ensures { result ≡ list_all (is_own_in (test_of known.now)) (option_to_list current.now) }
+{
+    match current {
+        Some(own) => is_own_known(known, own),
+        None => true,
+    }
+}
+
+fn are_objects_known(known: &Known, nodes: &[Entry]) -> bool
+    ensures { result ≡ list_all (is_object_in (test_of known.now)) nodes.now }
+{
+    nodes.iter().all(|entry| is_node_known(known, &entry.node))
+}
+
+fn is_end_known(known: &Known, ended: bool) -> bool
+    ensures { result ≡ true → ended ≡ true → test_of known.now shared_name ≡ true }
+{
+    !ended || is_known(known, Name::SHARED)
+}
+
+/// Whether each name that was mentioned so far is declared. Takes no memory, and time in proportion to what was read.
+pub(crate) fn are_mentions_known(known: &Known, reader: &Reader) -> bool
+    ensures { result ≡ true → AreMentionsIn (test_of known.now) reader.now }
+{
+    if !are_owns_known(known, reader.done.items()) {
+        return false;
+    }
+    if !is_current_known(known, &reader.current) {
+        return false;
+    }
+    if !are_objects_known(known, reader.nodes.items()) {
+        return false;
+    }
+    is_end_known(known, reader.ended)
+}

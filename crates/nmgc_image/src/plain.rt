@@ -1,0 +1,262 @@
+//! Node lines that are read at a glance.
+//!
+//! Most objects are constructors, and so most lines of a long image are theirs. Such a line is read from its first byte to its
+//! last, and is never cut into words. Whatever isn't read so, be it a line of another kind or a bad one, is left to `nodes`,
+//! which reads any line by its words.
+//! Easy to get wrong: a number with a leading zero is the text of none.
+ghost use Rattle.std.specs.Prelude.{◌≡◌, ◌+◌, ◌^◌, ◌<◌, ◌++◌, ◌∷◌, codes, decimal, length, map, All, IfOk, IfSome, OnOk};
+ghost use Rattle.nmgc_journal.specs.Reading.{IsValue};
+ghost use Rattle.nmgc_journal.specs.Text.{name_text, value_text};
+ghost use Rattle.nmgc_object.specs.Words.{IsName};
+ghost use Rattle.nmgc_image.specs.Plain.{IsPlain, IsPlainNode};
+ghost use Rattle.nmgc_image.specs.Printing.{after_spaces};
+
+use crate::LineFault;
+use crate::image::Entry;
+use nmgc_graph::{List, Name, Node, SHARED_MAKER, Value};
+use nmgc_object::MAX_FIELDS;
+use nmgc_object::words::TAGS;
+use std::alloc::Global;
+
+/// A number from which on no more digits are read.
+const MANY: u64 = 100_000_000_000_000_000;
+
+/// A place in a text. `Bad` says that what comes isn't read at a glance; it may then have gone on.
+#[derive(Drop)]
+pub(crate) struct Cursor<'a> {
+    pub(crate) rest: &'a [u8],
+}
+
+impl<'a> Cursor<'a> {
+    /// The beginning of a text. Takes no memory.
+    pub(crate) fn new(bytes: &'a [u8]) -> Self
+        ensures { result.rest.now ≡ bytes.now }
+    {
+        Cursor { rest: bytes }
+    }
+
+    /// The object of a plain node line, whose line feed is passed too.
+    pub(crate) fn entry(&mut self, alloc: Global) -> Result<Entry, LineFault>
+        ensures { IfOk result (λ entry. IsPlain self.old.rest.now entry self.new.rest.now) }
+    {
+        self.pass_node()?;
+        let name = self.name()?;
+        let node = self.con(alloc)?;
+        Ok(Entry { name, node })
+    }
+
+    // The words of a constructor, and the end of the line.
+    fn con(&mut self, alloc: Global) -> Result<Node, LineFault>
+        ensures { IfOk result (λ node. IsPlainNode self.old.rest.now node self.new.rest.now) }
+    {
+        self.pass_con()?;
+        let tag = self.number()?;
+        if tag >= TAGS {
+            return Err(LineFault::Bad);
+        }
+        let values = self.values(alloc)?;
+        if values.items().len() > MAX_FIELDS as usize {
+            return Err(LineFault::Bad);
+        }
+        Ok(Node::Con {
+            tag: tag as u8,
+            values,
+        })
+    }
+
+    // The values up to the end of the line, which is passed too. Two lie in the list itself.
+    fn values(&mut self, alloc: Global) -> Result<List<Value>, LineFault>
+        ensures text { IfOk result (λ values. self.old.rest.now ≡ after_spaces (map value_text values) ++ 10 ∷ self.new.rest.now) }
+        ensures valid { IfOk result (λ values. All IsValue values) }
+    {
+        let mut cursor = Cursor::new(self.rest);
+        if let Ok(values) = cursor.pair(alloc) {
+            self.rest = cursor.rest;
+            return Ok(values);
+        }
+        self.any_values(alloc)
+    }
+
+    // Two values, and the end of the line.
+    fn pair(&mut self, alloc: Global) -> Result<List<Value>, LineFault>
+        ensures text { IfOk result (λ values. self.old.rest.now ≡ after_spaces (map value_text values) ++ 10 ∷ self.new.rest.now) }
+        ensures valid { IfOk result (λ values. All IsValue values) }
+    {
+        let first = self.spaced_value()?;
+        let second = self.spaced_value()?;
+        self.pass(b'\n')?;
+        Ok(List::pair(alloc, first, second))
+    }
+
+    // Any number of values, and the end of the line.
+    fn any_values(&mut self, alloc: Global) -> Result<List<Value>, LineFault>
+        ensures text { IfOk result (λ values. self.old.rest.now ≡ after_spaces (map value_text values) ++ 10 ∷ self.new.rest.now) }
+        ensures valid { IfOk result (λ values. All IsValue values) }
+    {
+        let mut values = List::new(alloc);
+        'more: while begins(self.rest, b' ') {
+            let value = self.spaced_value()?;
+            values.push(value)?;
+        }
+        self.pass(b'\n')?;
+        Ok(values)
+    }
+
+    // A value behind a space.
+    fn spaced_value(&mut self) -> Result<Value, LineFault>
+        ensures text { IfOk result (λ value. self.old.rest.now ≡ 32 ∷ (value_text value ++ self.new.rest.now)) }
+        ensures valid { IfOk result (λ value. IsValue value) }
+    {
+        self.pass(b' ')?;
+        self.value()
+    }
+
+    fn value(&mut self) -> Result<Value, LineFault>
+        ensures text { IfOk result (λ value. self.old.rest.now ≡ value_text value ++ self.new.rest.now) }
+        ensures valid { IfOk result (λ value. IsValue value) }
+    {
+        if begins(self.rest, b'n') {
+            self.pass_nil()?;
+            return Ok(Value::Nil);
+        }
+        let number = self.number()?;
+        if begins(self.rest, b'.') {
+            let name = self.name_of(number)?;
+            return Ok(Value::Ref(name));
+        }
+        Ok(Value::Number(number))
+    }
+
+    // A name of a mutator's object.
+    fn name(&mut self) -> Result<Name, LineFault>
+        ensures text { IfOk result (λ name. self.old.rest.now ≡ name_text name ++ self.new.rest.now) }
+        ensures valid { IfOk result (λ name. IsName name) }
+    {
+        let maker = self.number()?;
+        self.name_of(maker)
+    }
+
+    // A name, once its maker was read.
+    fn name_of(&mut self, maker: u64) -> Result<Name, LineFault>
+        ensures text { IfOk result (λ name. decimal maker ++ self.old.rest.now ≡ name_text name ++ self.new.rest.now) }
+        ensures valid { IfOk result (λ name. IsName name) }
+    {
+        if maker >= u64::from(SHARED_MAKER) {
+            return Err(LineFault::Bad);
+        }
+        self.pass(b'.')?;
+        let serial = self.number()?;
+        if serial > u64::from(u32::MAX) {
+            return Err(LineFault::Bad);
+        }
+        Ok(Name {
+            maker: maker as u8,
+            serial: serial as u32,
+        })
+    }
+
+    // A number. `Bad` comes also where it has a leading zero, or more digits than any number of an image.
+    fn number(&mut self) -> Result<u64, LineFault>
+        ensures text { IfOk result (λ number. self.old.rest.now ≡ decimal number ++ self.new.rest.now) }
+        ensures small { IfOk result (λ number. number < 10 ^ 18) }
+    {
+        let Some((first, after)) = digit(self.rest) else {
+            return Err(LineFault::Bad);
+        };
+        self.rest = after;
+        self.number_from(first)
+    }
+
+    // A number, once its first digit was read.
+    fn number_from(&mut self, first: u64) -> Result<u64, LineFault>
+        requires { first < 10 }
+        ensures text { IfOk result (λ number. decimal first ++ self.old.rest.now ≡ decimal number ++ self.new.rest.now) }
+        ensures small { IfOk result (λ number. number < 10 ^ 18) }
+    {
+        let mut number = first;
+        while let Some((next, after)) = digit(self.rest) {
+            if number == 0 {
+                return Err(LineFault::Bad);
+            }
+            if number >= MANY {
+                return Err(LineFault::Bad);
+            }
+            number = number * 10 + next;
+            self.rest = after;
+        }
+        Ok(number)
+    }
+
+    // Passes the first word of a node line, and a space.
+    fn pass_node(&mut self) -> Result<(), LineFault>
+        ensures { OnOk result (self.old.rest.now ≡ codes "node " ++ self.new.rest.now) }
+    {
+        let [b'n', b'o', b'd', b'e', b' ', after @ ..] = self.rest else {
+            return Err(LineFault::Bad);
+        };
+        self.rest = after;
+        Ok(())
+    }
+
+    // Passes the word of a constructor between spaces.
+    fn pass_con(&mut self) -> Result<(), LineFault>
+        ensures { OnOk result (self.old.rest.now ≡ codes " con " ++ self.new.rest.now) }
+    {
+        let [b' ', b'c', b'o', b'n', b' ', after @ ..] = self.rest else {
+            return Err(LineFault::Bad);
+        };
+        self.rest = after;
+        Ok(())
+    }
+
+    // Passes the word of nil.
+    fn pass_nil(&mut self) -> Result<(), LineFault>
+        ensures { OnOk result (self.old.rest.now ≡ codes "nil" ++ self.new.rest.now) }
+    {
+        let [b'n', b'i', b'l', after @ ..] = self.rest else {
+            return Err(LineFault::Bad);
+        };
+        self.rest = after;
+        Ok(())
+    }
+
+    // Passes a byte.
+    #[inline(always)]
+    fn pass(&mut self, byte: u8) -> Result<(), LineFault>
+        ensures { OnOk result (self.old.rest.now ≡ byte ∷ self.new.rest.now) }
+    {
+        let [first, after @ ..] = self.rest else {
+            return Err(LineFault::Bad);
+        };
+        if *first != byte {
+            return Err(LineFault::Bad);
+        }
+        self.rest = after;
+        Ok(())
+    }
+}
+
+// Whether this byte comes first.
+#[inline(always)]
+fn begins(bytes: &[u8], byte: u8) -> bool {
+    match bytes {
+        [first, ..] => *first == byte,
+        [] => false,
+    }
+}
+
+// The first byte, if it is a digit, and what comes after it.
+#[inline(always)]
+fn digit(bytes: &[u8]) -> Option<(u64, &[u8])>
+    ensures digit { IfSome result (λ parts. parts.0 < 10) }
+    ensures parts { IfSome result (λ parts. bytes.now ≡ (48 + parts.0) ∷ parts.1.now) }
+    ensures less { IfSome result (λ parts. length parts.1.now < length bytes.now) }
+{
+    let [first, after @ ..] = bytes else {
+        return None;
+    };
+    if !first.is_ascii_digit() {
+        return None;
+    }
+    Some((u64::from(*first - b'0'), after))
+}
