@@ -1,13 +1,12 @@
 -- What several markers list from a snapshot's registers and queues is what the one marker marked.
-use Rattle.std.proofs.Common.{◌≡◌, ◌≢◌, ◌↔◌, ℕ, List, [], refl, sym, ap, subst, ◌∙◌}
+use Rattle.std.proofs.Common.{◌≡◌, ◌≢◌, ◌↔◌, ℕ, List, [], sym, ap, subst}
 use Rattle.std.specs.Prelude.{Contains}
 use Rattle.nmgc_graph.specs.declared.value.Name.{Name}
 use Rattle.nmgc_graph.specs.World.{World}
 use Rattle.nmgc_graph.specs.Step.{shared_name}
 use Rattle.nmgc_graph.specs.Reach.{IsReached, IsRoot}
-use Rattle.nmgc_core.specs.declared.event.Entry.{Entry}
 use Rattle.nmgc_core.specs.Facts.{Facts}
-use Rattle.nmgc_core.specs.State.{State, names_of, opening}
+use Rattle.nmgc_core.specs.State.{State, names_of}
 use Rattle.nmgc_alloc.specs.Segments.{Segments}
 use Rattle.nmgc_alloc.specs.Blocks.{IsSnapshotAt, IsMarkedAt}
 use Rattle.nmgc_heap.specs.Places.{Place}

@@ -1,6 +1,6 @@
 -- Scans alone mark what the roots reach along strong fields, and nothing else.
-use Rattle.std.proofs.Common.{◌≡◌, ◌≤◌, ◌+◌, ◌<◌, ℕ, List, [], ◌∷◌, ◌++◌, zero, suc, length, refl, sym, ap, subst, ◌∙◌, arith, Option, Some, None, inl, inr, ◌⊎◌, true, false}
-use Rattle.std.specs.Prelude.{Contains, flat_map, replicate, slice_get}
+use Rattle.std.proofs.Common.{◌≡◌, ℕ, List, [], ◌∷◌, ◌++◌, zero, suc, length, refl, sym, ap, subst, ◌∙◌, arith, Option, Some, None, inl, inr, ◌⊎◌, true, false}
+use Rattle.std.specs.Prelude.{Contains, flat_map, replicate}
 use Rattle.std.proofs.lemmas.List.{get_or_past}
 use Rattle.std.proofs.lemmas.List.Elements.{Contains-append_left, Contains-append_right, Contains-append_cases, Contains-get_or, Contains-push_cases}
 use Rattle.std.proofs.lemmas.Bool.{cases_lt}
@@ -13,8 +13,8 @@ use Rattle.nmgc_graph.specs.declared.value.Value.TheVariants as value
 use Rattle.nmgc_graph.specs.World.{World, IsWorld, state_of, node_of, no_mutator}
 use Rattle.nmgc_graph.specs.Step.{shared_name}
 use Rattle.nmgc_graph.specs.Reach.{IsReached, IsRoot, strong_fields}
-use Rattle.nmgc_graph.specs.laws.Orders.{contains_head, contains_tail, contains_cases}
-use Rattle.nmgc_reach.specs.Holds.{HasStrongField, strong_at, has_result}
+use Rattle.nmgc_graph.specs.laws.Orders.{contains_head, contains_tail}
+use Rattle.nmgc_reach.specs.Holds.{has_result}
 use Rattle.nmgc_reach.specs.laws.ItemLaws.{nothing_in, one_is, contains_flat, flat_contains, place_of}
 use Rattle.nmgc_core.specs.declared.event.Entry.{Entry}
 use Rattle.nmgc_core.specs.State.{State, names_of, mark_name, mark_read, mark_values, root_values, unmarked, opening}

@@ -1,6 +1,6 @@
 -- What a stop of a run leaves is a stopped heap, whose roots are what the mutators hold.
-use Rattle.std.proofs.Common.{◌≡◌, ◌+◌, ◌*◌, ◌<◌, ◌≤◌, ℕ, List, [], ◌∷◌, ◌++◌, zero, suc, length, map, take, drop, get_or, refl, sym, ap, subst, ◌∙◌, arith, inl, inr, Some, length-take-le, length-drop, get_or-drop}
-use Rattle.std.specs.Prelude.{Contains, slice_get, slice_index}
+use Rattle.std.proofs.Common.{◌≡◌, ◌+◌, ◌*◌, ◌<◌, ℕ, List, [], ◌∷◌, ◌++◌, zero, suc, length, take, drop, get_or, refl, sym, ap, subst, ◌∙◌, arith, inl, inr, Some, length-take-le, length-drop, get_or-drop}
+use Rattle.std.specs.Prelude.{Contains, slice_get}
 use Rattle.std.specs.List.{flat_map}
 use Rattle.std.proofs.lemmas.List.{get_or-take, take-append-drop}
 use Rattle.nmgc_graph.specs.declared.mutator_state.MutatorState.{MutatorState}
@@ -8,7 +8,7 @@ use Rattle.nmgc_graph.specs.declared.value.Name.{Name}
 use Rattle.nmgc_graph.specs.declared.value.Value.{Value}
 use Rattle.nmgc_graph.specs.declared.value.Value.TheVariants as value
 use Rattle.nmgc_limits.specs.declared.mutators.TheConstants.{REGISTERS}
-use Rattle.nmgc_graph.specs.World.{World, IsWorld, state_of, no_mutator}
+use Rattle.nmgc_graph.specs.World.{IsWorld, no_mutator}
 use Rattle.nmgc_graph.specs.Reach.{IsReached}
 use Rattle.nmgc_graph.specs.laws.Orders.{contains_head}
 use Rattle.nmgc_object.specs.Size.{block_size}
@@ -25,7 +25,7 @@ use Rattle.nmgc_journal.specs.declared.report.MutatorEnd.{MutatorEnd}
 use Rattle.nmgc_run.specs.Heap.{HoldsAtStop, snapshots, registers_of, queues_of}
 use Rattle.nmgc_run.specs.State.{State}
 use Rattle.nmgc_run.specs.laws.Places.{block_used, blocks_at_stop}
-use Rattle.nmgc_pmark.specs.Claims.{Stopped, IsStopped, roots_of}
+use Rattle.nmgc_pmark.specs.Claims.{Stopped, roots_of}
 use Rattle.nmgc_pmark.specs.Stops.{root_words, IsStoppedAs, StopsAreStopped}
 use Rattle.nmgc_pmark.proofs.Scans.{start_root}
 

@@ -96,6 +96,7 @@ module _ (t : ClaimTable) where
     sound = h;
     number = refl;
     more = ([], sym (append-nil m.found.items));
+    waits = sym (append-nil m.waiting.items);
     kept = λ b i. i;
     given = λ at i. inl i;
     taken = has;
@@ -109,6 +110,7 @@ module _ (t : ClaimTable) where
     sound = g.sound;
     number = g.number ∙ f.number;
     more = (f.more.0 ++ g.more.0, g.more.1 ∙ ap (λ (xs : List Address). xs ++ g.more.0) f.more.1 ∙ append_assoc a.found.items f.more.0 g.more.0);
+    waits = g.waits ∙ ap (λ (xs : List Address). xs ++ g.more.0) f.waits ∙ append_assoc a.waiting.items f.more.0 g.more.0;
     kept = λ k i. g.kept k (f.kept k i);
     given = λ at i. elim (g.given at i) [
       | inl j ↦ elim (f.given at j) [ inl k ↦ inl k | inr k ↦ inr (k.0, left (2 * at) k.1) ]
@@ -124,6 +126,7 @@ module _ (t : ClaimTable) where
     sound = f.sound;
     number = f.number;
     more = f.more;
+    waits = f.waits;
     kept = f.kept;
     given = λ at i. elim (f.given at i) [ inl k ↦ inl k | inr k ↦ inr (k.0, to (2 * at) k.1) ];
     taken = λ at l r. f.taken at l (from (2 * at) r);
@@ -155,16 +158,35 @@ module _ (t : ClaimTable) where
         let room = h.room in
         omega (arith, all, long, same, room)
 
+    -- and in the list of those that wait too, since that isn't longer
+    pub has_waiting_room : (Contains (claimed_by (seen m.seat)) (block_index at) → ⊥) → 0 < m.waiting.spare
+    has_waiting_room fresh =
+        let all = few (bounds_of t).blocks (blocks_of m.found.items ++ block_index at ∷ [])
+        (distinct_push (blocks_of m.found.items) (block_index at) h.once (λ c. fresh (subst (λ (l : List ℕ). Contains l (block_index at)) (sym own) c)))
+        (λ b c. elim (Contains-push_cases (blocks_of m.found.items) (block_index at) b c) [
+          | inl d ↦ h.below b d
+          | inr e ↦ subst (λ (k : ℕ). k < (bounds_of t).blocks) e within
+        ])
+        in
+        let long = length-append (blocks_of m.found.items) (block_index at ∷ []) in
+        let same = length-map m.found.items (λ (a : Address). block_index a.0) in
+        let room = h.waiting_room in
+        let fewer = h.fewer in
+        omega (arith, all, long, same, room, fewer)
+
     -- the block is the marker's now
     pub tried_claimed : (Contains (claimed_by (seen m.seat)) (block_index at) → ⊥) → seen n.seat ≡ tried (seen m.seat) (block_index at) true →
-        n.found.items ≡ m.found.items ++ record { 0 = at } ∷ [] → n.found.spare + 1 ≡ m.found.spare → HasTried t m n (λ w. w ≡ 2 * at)
-    tried_claimed fresh view found spare =
+        n.found.items ≡ m.found.items ++ record { 0 = at } ∷ [] → n.found.spare + 1 ≡ m.found.spare →
+        n.waiting.items ≡ m.waiting.items ++ record { 0 = at } ∷ [] → n.waiting.spare + 1 ≡ m.waiting.spare → HasTried t m n (λ w. w ≡ 2 * at)
+    tried_claimed fresh view found spare waiting left =
         let new : Address = record { 0 = at } in
         let b : ℕ = block_index at in
         let blocks : blocks_of n.found.items ≡ blocks_of m.found.items ++ b ∷ [] = ap (λ (xs : List Address). blocks_of xs) found ∙
         blocks_snoc m.found.items new in
         let longer : length n.found.items ≡ length m.found.items + 1 = let e = ap (λ (xs : List Address). length xs) found in
         let f = length-append m.found.items (new ∷ []) in omega (arith, e, f) in
+        let also : length n.waiting.items ≡ length m.waiting.items + 1 = let e = ap (λ (xs : List Address). length xs) waiting in
+        let f = length-append m.waiting.items (new ∷ []) in omega (arith, e, f) in
         let here : Contains (blocks_of n.found.items) b = subst (λ (l : List ℕ). Contains l b) (sym blocks) (Contains-push (blocks_of m.found.items) b) in
         record {
           sound = record {
@@ -177,9 +199,12 @@ module _ (t : ClaimTable) where
               | inr e ↦ subst (λ (j : ℕ). j < (bounds_of t).blocks) e within
             ];
             room = let r = h.room in omega (arith, r, longer, spare);
+            fewer = let r = h.fewer in omega (arith, r, longer, also);
+            waiting_room = let r = h.waiting_room in omega (arith, r, also, left);
           };
           number = number;
           more = (new ∷ [], found);
+          waits = waiting;
           kept = λ k i. elim i [
             | inl d ↦ inl (subst (λ (l : List ℕ). Contains l k) (sym blocks) (Contains-append_left (blocks_of m.found.items) (b ∷ []) k d))
             | inr d ↦ inr (subst (λ (v : Seen). Contains v.others k) (sym view) d)
@@ -194,12 +219,15 @@ module _ (t : ClaimTable) where
         }
 
     -- somebody has it
-    pub tried_refused : seen n.seat ≡ tried (seen m.seat) (block_index at) false → n.found ≡ m.found → HasTried t m n (λ w. w ≡ 2 * at)
-    tried_refused view same =
+    pub tried_refused : seen n.seat ≡ tried (seen m.seat) (block_index at) false → n.found ≡ m.found → n.waiting ≡ m.waiting → HasTried t m n (λ w. w ≡ 2 * at)
+    tried_refused view same still =
         let b : ℕ = block_index at in
         let items : n.found.items ≡ m.found.items = ap (λ f. f.items) same in
         let spares : n.found.spare ≡ m.found.spare = ap (λ f. f.spare) same in
         let longs : length n.found.items ≡ length m.found.items = ap (λ (xs : List Address). length xs) items in
+        let wait : n.waiting.items ≡ m.waiting.items = ap (λ f. f.items) still in
+        let waits : length n.waiting.items ≡ length m.waiting.items = ap (λ (xs : List Address). length xs) wait in
+        let lefts : n.waiting.spare ≡ m.waiting.spare = ap (λ f. f.spare) still in
         record {
           sound = record {
             seat = seat;
@@ -207,9 +235,12 @@ module _ (t : ClaimTable) where
             once = subst (λ (xs : List Address). AreDistinct (blocks_of xs)) (sym items) h.once;
             below = λ k c. h.below k (subst (λ (xs : List Address). Contains (blocks_of xs) k) items c);
             room = let r = h.room in omega (arith, r, longs, spares);
+            fewer = let r = h.fewer in omega (arith, r, longs, waits);
+            waiting_room = let r = h.waiting_room in omega (arith, r, waits, lefts);
           };
           number = number;
           more = ([], items ∙ sym (append-nil m.found.items));
+          waits = wait ∙ sym (append-nil m.waiting.items);
           kept = λ k i. elim i [
             | inl d ↦ inl (subst (λ (xs : List Address). Contains (blocks_of xs) k) (sym items) d)
             | inr d ↦ inr (subst (λ (v : Seen). Contains v.others k) (sym view) (Contains-append_left (seen m.seat).others (b ∷ []) k d))

@@ -1,9 +1,10 @@
 -- The names of the objects at places, in order.
-use Rattle.std.specs.Prelude.{ℕ, ◌≡◌, ◌+◌, ◌<◌, List, length, slice_index, slice_get, Some, Contains, IsPermutation}
+use Rattle.std.specs.Prelude.{ℕ, ◌≡◌, ◌+◌, ◌<◌, List, length, slice_index, slice_get, Some, Ok, Result, Contains, IsPermutation}
 use Rattle.std.specs.List.{AllZip}
 use Rattle.std.specs.List.Sorted.{IsSortedByKey}
 use Rattle.std.specs.Ordering.{ordering_then, nat_cmp}
 use Rattle.nmgc_graph.specs.declared.value.Name.{Name}
+use Rattle.nmgc_lists.specs.declared.memory.NoMemory.{NoMemory}
 use Rattle.nmgc_lists.specs.Room.{Room}
 use Rattle.nmgc_object.specs.Words.{name_word, IsName}
 use Rattle.nmgc_object.specs.declared.words.Address.{Address}
@@ -41,3 +42,7 @@ pub record NameThem (words : List ℕ) (places : List Address) (names : List Nam
 
 abbrev pub NameAll : List ℕ → List (Room Address) → List (List Name) → Type 0
 NameAll words lists by = AllZip (λ (xs : Room Address) (names : List Name). NameThem words xs.items names) lists by
+
+-- each reading had memory for its names, and these are they
+abbrev pub AreAllRead : List (Result (List Name) NoMemory) → List (List Name) → Type 0
+AreAllRead read by = AllZip (λ (r : Result (List Name) NoMemory) (names : List Name). r ≡ Ok names) read by

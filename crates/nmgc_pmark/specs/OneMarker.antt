@@ -1,7 +1,7 @@
 -- Several markers against the one marker of a cycle: from the registers and queues of a snapshot they mark the same.
 use Rattle.std.specs.Prelude.{ℕ, ◌≡◌, ◌≢◌, ◌↔◌, List, slice_get, Some, Contains}
 use Rattle.nmgc_graph.specs.declared.value.Name.{Name}
-use Rattle.nmgc_graph.specs.World.{World, IsWorld}
+use Rattle.nmgc_graph.specs.World.{IsWorld}
 use Rattle.nmgc_graph.specs.Step.{shared_name}
 use Rattle.nmgc_core.specs.State.{opening}
 use Rattle.nmgc_alloc.specs.Segments.{Segments}

@@ -2,7 +2,7 @@
 //!
 //! The markers start at the root words, and at the slots of g after them, the i-th word going to marker i modulo their
 //! number. What they claim are places; once all are done the names of the objects there are read, and each marker's are
-//! put in order.
+//! put in order, side by side too.
 //!
 //! Easy to get wrong: how many objects a marker claims depends on the schedule, and which. That all together claim
 //! exactly what the roots reach, each object once, doesn't.
@@ -11,7 +11,7 @@ ghost use Rattle.nmgc_object.specs.Places.{IsLayout};
 ghost use Rattle.nmgc_object.specs.declared.layout.TheConstants.{FIRST_PLACE};
 ghost use Rattle.nmgc_pmark.specs.declared.crew.TheConstants.{MOST_MARKERS};
 ghost use Rattle.nmgc_pmark.specs.Claims.{Stopped, IsStopped, AreClaims, starts_of, most_blocks};
-ghost use Rattle.nmgc_pmark.specs.Names.{AreNamed, IsNamed, NameAll, NameThem};
+ghost use Rattle.nmgc_pmark.specs.Names.{AreNamed, IsNamed, NameAll, NameThem, AreAllRead};
 
 use crate::bounds::Bounds;
 use crate::crew::places_marked;
@@ -25,6 +25,7 @@ use nmgc_object::{
 };
 use nmgc_round::Gate;
 use std::alloc::Global;
+use std::thread;
 use std::thread::Threads;
 
 /// For each marker, the names of the objects that it claimed, in order.
@@ -38,7 +39,7 @@ pub struct Claims {
 /// and nobody writes them meanwhile. The lists together hold exactly the names that strong fields reach from the roots and
 /// the slots of g, each once, whatever the number of markers and whatever the schedule was. Each marker passes `gate` as
 /// its number before each object that it scans, and counts from 1. Takes memory for a word a block (twice that while the
-/// table is made), for 4 bytes a block and marker, and for the names.
+/// table is made), for 8 bytes a block and marker, and for the names.
 pub fn mark_all<R: Threads + Sync, W: StillWords, G: Gate>(
     alloc: Global,
     rt: &R,
@@ -59,7 +60,7 @@ pub fn mark_all<R: Threads + Sync, W: StillWords, G: Gate>(
         blocks: most_blocks(segments.layout()) as usize,
     };
     let lists = places_marked(alloc, rt, words, starts.as_slice(), bounds, gate)?;
-    named_all(alloc, words, lists)
+    named_all(alloc, rt, words, lists)
 }
 
 // No more blocks than these can be in use.
@@ -83,18 +84,35 @@ fn starts_of<W: StillWords>(alloc: Global, words: &W, roots: &[u64]) -> Result<V
     Ok(starts)
 }
 
-// The names of the objects of each list, in order.
-fn named_all<W: StillWords>(
+// The names of the objects of each list, in order, each list's in a thread of its own where one can be started: to put
+// names in order takes longer than to mark the objects.
+fn named_all<R: Threads + Sync, W: StillWords>(
     alloc: Global,
+    rt: &R,
     words: &W,
     lists: Vec<Room<Address>>,
 ) -> Result<Claims, NoMemory>
     requires { AreNamed (W.words words.now) lists.items }
     ensures { IfOk result (λ claims. NameAll (W.words words.now) lists.items claims.by) }
 {
+    let read = thread::map_vec(
+        rt,
+        lists,
+        &|list: Room<Address>| -> Result<List<Name>, NoMemory>
+            requires { IsNamed (W.words words.now) list.items }
+            ensures { IfOk result (λ names. NameThem (W.words words.entry.now) list.items names) }
+        { named(alloc, words, list.items()) },
+    )?;
+    gathered(alloc, read)
+}
+
+// The lists of names, if there was memory for each.
+fn gathered(alloc: Global, read: Vec<Result<List<Name>, NoMemory>>) -> Result<Claims, NoMemory>
+    ensures { IfOk result (λ claims. AreAllRead read.items claims.by) }
+{
     let mut by = List::new(alloc);
-    for list in lists {
-        by.push(named(alloc, words, list.items())?)?;
+    for names in read {
+        by.push(names?)?;
     }
     Ok(Claims { by })
 }
@@ -108,9 +126,9 @@ fn named<W: StillWords>(
     requires { IsNamed (W.words words.now) places.now }
     ensures { IfOk result (λ names. NameThem (W.words words.now) places.now names) }
 {
-    let mut names = Vec::new(alloc);
+    let mut names = Vec::with_capacity(alloc, places.len())?;
     for at in places {
-        names.push(name_of(words.word(at.0 as usize + NAME_OFFSET as usize)))?;
+        names.push_reserved(name_of(words.word(at.0 as usize + NAME_OFFSET as usize)));
     }
     sort(names.as_mut_slice(), alloc);
     List::from_vec(names)

@@ -72,10 +72,13 @@ fn recruit(
     let _ = table;
     let mut found = Room::new(alloc);
     found.reserve(bounds.blocks as u32)?;
+    let mut waiting = Room::new(alloc);
+    waiting.reserve(bounds.blocks as u32)?;
     Ok(Marker {
         number,
         seat,
         found,
+        waiting,
     })
 }
 
@@ -159,6 +162,7 @@ fn dismissed(
             number: _,
             seat,
             found,
+            waiting: _,
         } = marker;
         table.join(&mut last.seat, seat);
         lists.push(found)?;
@@ -167,6 +171,7 @@ fn dismissed(
         number: _,
         seat,
         found,
+        waiting: _,
     } = last;
     lists.push(found)?;
     table.close(seat);

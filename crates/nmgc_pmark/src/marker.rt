@@ -4,17 +4,19 @@
 //! their strong fields point to, until nothing is left. What it doesn't get somebody else has, who scans it; so no
 //! marker waits for another, and once all are done everything that can be reached was scanned by somebody.
 //!
-//! Its list is at once what it claimed and what it has still to scan, as that of the one marker is: the objects before
-//! the next one were scanned. There is room for every block from the start.
+//! What it claimed stands in one list, and what it has still to scan in another, of which it takes what came last. So it
+//! follows a list to its end before it turns to the next one, and what it reads next lies near what it read last: a
+//! promotion puts objects side by side that were made one after the other. There is room for every block in both lists
+//! from the start.
 //!
 //! Easy to get wrong: a marker may be left with most of the work. Nothing is handed over: what a marker claimed it
 //! scans, and others help it only by claiming first.
-ghost use Rattle.std.specs.Prelude.{ℕ, ◌≡◌, ◌+◌, ◌*◌, ◌<◌, ◌≤◌, [], length, slice_index};
+ghost use Rattle.std.specs.Prelude.{ℕ, ◌≡◌, ◌+◌, ◌*◌, ◌<◌, ◌≤◌, [], length, slice_index, IfSome, IfNone};
 ghost use Rattle.nmgc_object.specs.declared.layout.TheConstants.{FIRST_PLACE};
 ghost use Rattle.nmgc_blocks.specs.Strong.{HasStrong};
 ghost use Rattle.nmgc_pmark.specs.Seat.{bounds_of};
 ghost use Rattle.nmgc_pmark.specs.Found.{IsFound, block_index, HasHeader, IsStrongRange, IsAmong, LeadsWithin, CanMark};
-ghost use Rattle.nmgc_pmark.specs.Marker.{IsSound, HasTried, IsOwnStart, IsMarking, CanBegin, HasMarked};
+ghost use Rattle.nmgc_pmark.specs.Marker.{IsSound, HasTried, IsOwnStart, TakesLast, CanBegin, HasMarked};
 
 use crate::still::StillWords;
 use crate::table::{ClaimSeat, ClaimTable};
@@ -23,12 +25,14 @@ use nmgc_object::laws::words_differ;
 use nmgc_object::{Address, FIRST_PLACE, HEADER_WORDS, MIN_BLOCK_WORDS, header_of};
 use nmgc_round::Gate;
 
-/// A marker: its number, its seat at the claim table, and the objects that it claimed, in the order in which it did.
+/// A marker: its number, its seat at the claim table, the objects that it claimed, in the order in which it did, and those
+/// of them that it has still to scan.
 #[derive(Drop)]
 pub struct Marker {
     pub number: u8,
     pub seat: ClaimSeat,
     pub found: Room<Address>,
+    pub waiting: Room<Address>,
 }
 
 /// The number of the block that begins at a place.
@@ -72,6 +76,7 @@ impl Marker {
     {
         if table.claim(&mut self.seat, self.number, block_index(at)) {
             self.found.add(Address(at));
+            self.waiting.add(Address(at));
         }
     }
 
@@ -127,6 +132,14 @@ impl Marker {
         self.claim_range(table, words, from, to);
     }
 
+    // Takes the object that came last of those that wait to be scanned. `None` comes exactly where none waits.
+    fn take_waiting(&mut self) -> Option<Address>
+        ensures some { IfSome result (λ at. TakesLast self.old self.new at) }
+        ensures none { IfNone result ((self.old.waiting.items ≡ []) × (self.new ≡ self.old)) }
+    {
+        self.waiting.take_last()
+    }
+
     /// Claims what its starting words point to, every so many-th from its own number on, and scans what it claimed until
     /// nothing is left. Before each object it passes `gate` as its number, and counts its passes from 1. Takes no
     /// memory and waits for nobody but the gate.
@@ -144,12 +157,11 @@ impl Marker {
         ensures number { self.new.number ≡ self.old.number }
     {
         self.claim_own(table, starts, markers);
-        let mut next = 0;
-        while next < self.found.items().len() {
-            gate.pass(self.number, next as u64 + 1);
-            let at = self.found.items()[next];
+        let mut passes: u64 = 0;
+        while let Some(at) = self.take_waiting() {
+            passes = passes.saturating_add(1);
+            gate.pass(self.number, passes);
             self.scan(table, words, at);
-            next += 1;
         }
     }
 }

@@ -1,4 +1,5 @@
-use Rattle.std.proofs.Common.{rules, ◌≡◌, List, [], ◌∷◌, ◌++◌, length, map, ap, subst, sym, ◌∙◌, append_assoc, append-nil}
+use Rattle.std.proofs.Common.{rules, refl, ◌≡◌, List, [], ◌∷◌, ◌++◌, length, map, ap, subst, sym, ◌∙◌, append_assoc, append-nil}
+use Rattle.std.specs.Prelude.{slice_get}
 use Rattle.std.specs.Vec.Iter.{into_iter_items}
 use Rattle.nmgc_lists.specs.Room.{Room}
 use Rattle.nmgc_object.specs.declared.words.Address.{Address}
@@ -6,8 +7,35 @@ use Rattle.nmgc_pmark.specs.declared.marker.Marker.{Marker}
 use Rattle.nmgc_pmark.specs.View.{Seen}
 use Rattle.nmgc_pmark.specs.Seat.{seen, bounds_of}
 use Rattle.nmgc_pmark.specs.Crew.{found_of}
-use Rattle.nmgc_pmark.proofs.Crews.{Gathers, gathers_more, comes_at, sound_at, mapped_more, has_all, shared_among, none_left}
+use Rattle.nmgc_pmark.proofs.Crews.{Gathers, gathers_one, gathers_more, at_pushed, comes_at, sound_at, mapped_more, has_all, shared_among, none_left}
 use Rattle.nmgc_pmark.proofs.crew.dismissed.Goals as goal
+
+pub loop-marker-init : goal.loop-marker-init
+loop-marker-init c =
+    let before = into_iter_items c.into_iter-marker-iterator.result in
+    let last = c.in-Some.last in
+    let is : c.args.crew.items ≡ before ++ last ∷ [] = search rules in
+    let sound = sound_at c.args.table c.args.crew.items c.requires.sound (length before) last (ap (λ (l : List Marker). slice_get l (length before)) is ∙
+    at_pushed before last) in
+    record {
+      all = refl;
+      seat_at = sound.seat;
+      gathers = gathers_one last sound.alone;
+      lists_are = c.new-lists.ensures.items;
+      found_is = refl;
+    }
+
+pub join-requires : goal.join-requires
+join-requires c =
+    let ms = c.loop-marker.yielded in
+    let m = c.in-Some-marker.marker in
+    let rest = c.next.new.self.rest.items in
+    let all : ms ++ m ∷ rest ≡ into_iter_items c.into_iter-marker-iterator.result =
+    ap (λ (l : List Marker). ms ++ l) (sym c.in-Some-marker.ensures.steps.0) ∙ c.loop-marker.invariant.all in
+    let is : c.args.crew.items ≡ into_iter_items c.into_iter-marker-iterator.result ++ c.in-Some.last ∷ [] = search rules in
+    let sound = sound_at c.args.table c.args.crew.items c.requires.sound (length ms) m
+    (comes_at c.args.crew.items (into_iter_items c.into_iter-marker-iterator.result) c.in-Some.last is ms rest m all) in
+    record { seats = (c.loop-marker.invariant.seat_at, sound.seat) }
 
 pub loop-marker-preserved : goal.loop-marker-preserved
 loop-marker-preserved c =

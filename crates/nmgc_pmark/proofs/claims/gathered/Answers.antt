@@ -1,0 +1,20 @@
+use Rattle.std.proofs.Common.{◌≡◌, List, [], ◌∷◌, ◌++◌, Ok, Result, sym, ap, subst, ◌∙◌, append_assoc}
+use Rattle.std.proofs.lemmas.Slice.Zip.{all_zipped_more}
+use Rattle.nmgc_graph.specs.declared.value.Name.{Name}
+use Rattle.nmgc_lists.specs.declared.memory.NoMemory.{NoMemory}
+use Rattle.nmgc_pmark.specs.Names.{AreAllRead}
+use Rattle.nmgc_pmark.proofs.claims.gathered.Goals as goal
+
+pub loop-names-preserved : goal.loop-names-preserved
+loop-names-preserved c =
+    let xs = c.loop-names.yielded in
+    let it = c.in-Some.names in
+    let rest = c.next.new.self.rest.items in
+    let all : xs ++ it ∷ rest ≡ c.args.read.items = ap (λ (l : List (Result (List Name) NoMemory)). xs ++ l) (sym c.in-Some.ensures.steps.0) ∙
+    c.loop-names.invariant.all in
+    record {
+      all = append_assoc xs (it ∷ []) rest ∙ all;
+      each = subst (λ (l : List (List Name)). AreAllRead (xs ++ it ∷ []) l) (sym c.in_ok-push.ensures.ok)
+          (all_zipped_more (λ (r : Result (List Name) NoMemory) (names : List Name). r ≡ Ok names) xs c.loop-names.by it c.in_ok-names.field-0
+          c.loop-names.invariant.each c.in_ok-names.was);
+    }
