@@ -7,12 +7,13 @@ use Rattle.nmgc_graph.specs.declared.command.Reply.{Reply}
 use Rattle.nmgc_graph.specs.World.{World, node_of, IsWorld}
 use Rattle.nmgc_core.specs.declared.event.Event.TheVariants as event
 use Rattle.nmgc_core.specs.State.{State, names_of, mark_name, opening}
-use Rattle.nmgc_core.specs.Machine.{IsPossible, after_scan}
+use Rattle.nmgc_core.specs.Machine.{IsPossible, AreEmpty, after_scan}
+use Rattle.nmgc_graph.specs.Reach.{IsDead, Lists, closed}
 use Rattle.nmgc_core.specs.Closing.{IsClosing}
 use Rattle.nmgc_core.specs.Facts.{MayHold}
 use Rattle.nmgc_lax.specs.declared.debt.Debt.{Debt}
 use Rattle.nmgc_lax.specs.Lax.{after_owing, IsShuffled}
-use Rattle.nmgc_lax.specs.Cycle.{Cycle, watching, IsWatched, IsPushed, Marks}
+use Rattle.nmgc_lax.specs.Cycle.{Cycle, watching, IsWatched, IsPushed, IsTook, Marks}
 
 -- the names of debts
 abbrev pub names_in : List Debt → List Name
@@ -37,13 +38,21 @@ pub record IsSorted (s next : State) : Type 0 where
   pub owed : next.owed ≡ s.owed
   pub way : (name : Name) → IsSome (node_of s.snapshot name) → IsOnItsWay s name → IsOnItsWay next name
 
--- a cycle that began with this world, and where a marker beside it may be
+-- a cycle that began with this world, after commands and pushes, and what it is told that the marker took
+pub data Watches (w : World) : Cycle → Type 0 where
+  begun : Watches w (watching w)
+  given : (h next : Cycle) (line m : ℕ) (c : Command) (answer : Reply) → Watches w h → IsWatched h line m c answer next → Watches w next
+  pushed : (h next : Cycle) (name : Name) → Watches w h → IsPushed h name next → Watches w next
+  taken : (h next : Cycle) (name : Name) → Watches w h → IsTook h name next → Watches w next
+
+-- a cycle that began with this world, and where a marker beside it may be: what the cycle is told of the marker moves none
 pub data Beside (w : World) : Cycle → State → Type 0 where
   start : Beside w (watching w) (opening w)
   command : (h next : Cycle) (s : State) (line m : ℕ) (c : Command) (answer : Reply) → Beside w h s → IsWatched h line m c answer next →
       Beside w next (after_owing s m c (names_in next.debts))
   push : (h next : Cycle) (s : State) (m : ℕ) (name : Name) → Beside w h s → IsPushed h name next → m < length s.pushed →
       Beside w next (after_pushing s m name next.debts)
+  take : (h next : Cycle) (s : State) (name : Name) → Beside w h s → IsTook h name next → Beside w next s
   mark : (h : Cycle) (s : State) (name : Name) → Beside w h s → MayHold s name → Beside w h (mark_name s name)
   scan : (h : Cycle) (s : State) → Beside w h s → Beside w h (after_scan s s.queue)
   sort : (h : Cycle) (s next : State) → Beside w h s → IsSorted s next → Beside w h next
@@ -56,3 +65,24 @@ pub record IsBarrierExact (h : Cycle) (s : State) : Type 0 where
 -- the theorem of the watched barrier
 abbrev pub BarrierTheorem : Type 0
 BarrierTheorem = (w : World) → IsWorld w → (h : Cycle) (s : State) → Beside w h s → IsBarrierExact h s
+
+-- the marker has taken all that was pushed, and read all that it marked
+pub record HasFinished (s : State) : Type 0 where
+  pub queue : s.queue ≡ []
+  pub pushed : AreEmpty s.pushed
+
+-- marking can end, and each end has marked exactly what the commands and the pushes keep, and lets exactly those weak pointers die that are dead by them
+pub record EndsExactly (h : Cycle) (s : State) : Type 0 where
+  pub possible : IsPossible s event.Close
+  pub marks : (next : State) → IsClosing s next → (name : Name) → Contains next.marked name ↔ Marks h name
+  pub dies : (next : State) (closing : IsClosing s next) → Lists (IsDead h.snapshot (h.opened ++ h.remembered) h.finalised) closing.dead
+  pub world : (next : State) (closing : IsClosing s next) → next.world ≡ closed h.world closing.dead
+
+-- the joint theorem: from any list of commands and pushes that ends without debts, every marker beside it that has
+-- finished can end, and has marked exactly what the definition says
+abbrev pub JointTheorem : Type 0
+JointTheorem = (w : World) → IsWorld w → (h : Cycle) → Watches w h → h.debts ≡ [] → (s : State) → Beside w h s → HasFinished s → EndsExactly h s
+
+-- and beside any such list there is a marker
+abbrev pub SomeMarkerIsBeside : Type 0
+SomeMarkerIsBeside = (w : World) → IsWorld w → (h : Cycle) → Watches w h → (s : State) × Beside w h s

@@ -1,6 +1,11 @@
 //! The theorems of the lax rule. Each function does nothing: its contract is the law.
-ghost use Rattle.nmgc_lax.specs.Barrier.{BarrierTheorem};
-ghost use Rattle.nmgc_lax.specs.Lax.{LaxKeepsFacts, LaxTheorem};
+ghost use Rattle.nmgc_lax.specs.Barrier.{BarrierTheorem, JointTheorem, SomeMarkerIsBeside};
+ghost use Rattle.nmgc_lax.specs.Lax.{CoreIsLax, LaxKeepsFacts, LaxTheorem};
+
+/// The strict rule is an instance of the lax one: an event of the core machine that isn't the end is lax steps.
+pub fn a_core_event_is_lax()
+    ensures { CoreIsLax }
+{}
 
 /// Each lax step keeps the facts of the core machine's induction, from whatever state.
 pub fn a_lax_step_keeps_the_facts()
@@ -16,4 +21,15 @@ pub fn a_lax_marking_is_exact()
 /// an end waits for the marker alone; and an end marks exactly what the commands and the pushes keep.
 pub fn a_barrier_without_debts_is_exact()
     ensures { BarrierTheorem }
+{}
+
+/// From any list of commands and pushes that ends without debts: every marker beside it that has taken all that was
+/// pushed and emptied its queue can end, and has marked exactly what the definition says.
+pub fn a_finished_marker_is_exact()
+    ensures { JointTheorem }
+{}
+
+/// Beside any list of commands and pushes there is a marker, so that the theorems are of something.
+pub fn a_marker_is_beside()
+    ensures { SomeMarkerIsBeside }
 {}

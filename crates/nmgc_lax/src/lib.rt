@@ -6,8 +6,8 @@
 //! in `laws`: a marker with such a barrier is exact (`specs/Lax`), and so is every marker beside a watched one
 //! (`specs/Barrier`).
 //!
-//! Easy to get wrong: a mark doesn't pay a debt. When the real marker read what is not in a trace, and a barrier that
-//! counts on it loses objects with another schedule.
+//! Easy to get wrong: a mark doesn't pay a debt. A trace doesn't tell when the real marker read what, and a barrier that
+//! counts on it loses objects under another schedule.
 #![tactic(auto)]
 
 pub mod debt;

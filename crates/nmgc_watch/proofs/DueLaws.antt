@@ -60,7 +60,7 @@ of_target : (fields : List Field) (t : Name) → Contains (targets fields) t →
 of_target fields t c = in_mapped (λ (g : Field). g.target) fields t c
 
 -- a value that refers to the name
-among_ref : (values : List Value) (t : Name) → Contains (names_among values) t → Contains values (value.Ref t)
+pub among_ref : (values : List Value) (t : Name) → Contains (names_among values) t → Contains values (value.Ref t)
 among_ref values t c = by_parts (flat_contains name_in values t c)
   where
     by_value : (v : Value) → Contains values v → Contains (name_in v) t → Contains values (value.Ref t)
@@ -71,11 +71,11 @@ among_ref values t c = by_parts (flat_contains name_in values t c)
     by_parts : ((v : Value) × Contains values v × Contains (name_in v) t) → Contains values (value.Ref t)
     by_parts (v, h, k) = by_value v h k
 
-ref_is : (a b : Name) → value.Ref a ≡ value.Ref b → a ≡ b
+pub ref_is : (a b : Name) → value.Ref a ≡ value.Ref b → a ≡ b
 ref_is a b e = cc
 
 -- what the parts of a weak pointer keep
-kept_is : (weak : Name) (parts : Parts) (t : Name) → Contains (kept_of weak (Some parts)) t → IsKeptBy weak parts t
+pub kept_is : (weak : Name) (parts : Parts) (t : Name) → Contains (kept_of weak (Some parts)) t → IsKeptBy weak parts t
 kept_is weak parts t c = elim (contains_cases (value.Ref weak) (parts.value ∷ parts.finaliser ∷
     []) (value.Ref t) (among_ref (value.Ref weak ∷ parts.value ∷ parts.finaliser ∷ []) t c)) [
       | inl e ↦ inl (sym (ref_is weak t e))
@@ -85,7 +85,7 @@ kept_is weak parts t c = elim (contains_cases (value.Ref weak) (parts.value ∷ 
       ]
     ]
 
-is_kept : (weak : Name) (parts : Parts) (t : Name) → IsKeptBy weak parts t → Contains (kept_of weak (Some parts)) t
+pub is_kept : (weak : Name) (parts : Parts) (t : Name) → IsKeptBy weak parts t → Contains (kept_of weak (Some parts)) t
 is_kept weak parts t k = name_among (value.Ref weak ∷ parts.value ∷ parts.finaliser ∷ []) t (by_part k)
   where
     by_part : IsKeptBy weak parts t → Contains (value.Ref weak ∷ parts.value ∷ parts.finaliser ∷ []) (value.Ref t)
@@ -98,7 +98,7 @@ is_kept weak parts t k = name_among (value.Ref weak ∷ parts.value ∷ parts.fi
         []) parts.finaliser (contains_tail parts.value (parts.finaliser ∷ []) parts.finaliser (contains_head parts.finaliser [])))
 
 -- the parts that are read are those of an alive weak pointer
-alive_parts : (w : World) (weak : Name) (parts : Parts) → parts_of w weak ≡ Some parts → IsAlive w weak parts
+pub alive_parts : (w : World) (weak : Name) (parts : Parts) → parts_of w weak ≡ Some parts → IsAlive w weak parts
 alive_parts w weak parts h = by_node (node_of w weak) refl
   where
     in_node : (node : Node) → node_of w weak ≡ Some node → parts_in node ≡ Some parts → IsAlive w weak parts
@@ -114,11 +114,11 @@ alive_parts w weak parts h = by_node (node_of w weak) refl
         (let k : None ≡ Some parts = subst (λ (o : Option Node). Rattle.std.specs.Prelude.option_and_then parts_in o ≡ Some parts) e h in cc)
     by_node (Some node) e = in_node node e (subst (λ (o : Option Node). Rattle.std.specs.Prelude.option_and_then parts_in o ≡ Some parts) e h)
 
-parts_alive : (w : World) (weak : Name) (parts : Parts) → IsAlive w weak parts → parts_of w weak ≡ Some parts
+pub parts_alive : (w : World) (weak : Name) (parts : Parts) → IsAlive w weak parts → parts_of w weak ≡ Some parts
 parts_alive w weak parts a = subst (λ (o : Option Node). Rattle.std.specs.Prelude.option_and_then parts_in o ≡ Some parts) (sym a) refl
 
 -- a name that may be due
-owable_is : (snapshot : World) (t : Name) → is_owable snapshot t ≡ true → IsSome (node_of snapshot t) × (t ≢ shared_name)
+pub owable_is : (snapshot : World) (t : Name) → is_owable snapshot t ≡ true → IsSome (node_of snapshot t) × (t ≢ shared_name)
 owable_is snapshot t h = by_tests (is_some (node_of snapshot t)) (is_same_name t shared_name) refl refl h
   where
     by_tests : (a b : Bool) → is_some (node_of snapshot t) ≡ a → is_same_name t shared_name ≡ b → (a && not b) ≡ true →

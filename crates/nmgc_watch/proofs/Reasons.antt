@@ -6,8 +6,10 @@ use Rattle.nmgc_graph.specs.declared.command.Command.{Command}
 use Rattle.nmgc_graph.specs.declared.command.Reply.{Reply}
 use Rattle.nmgc_graph.specs.World.{World, IsWorld}
 use Rattle.nmgc_graph.specs.Step.{CanApply, step}
+use Rattle.nmgc_graph.specs.Reach.{Lists}
+use Rattle.nmgc_reach.specs.laws.ItemLaws.{nothing_in}
 use Rattle.nmgc_lax.specs.declared.debt.Debt.{Debt}
-use Rattle.nmgc_lax.specs.Cycle.{Cycle}
+use Rattle.nmgc_lax.specs.Cycle.{Cycle, Marks, IsAllTaken}
 use Rattle.nmgc_lax.specs.laws.Beside.{barrier_theorem}
 use Rattle.nmgc_watch.specs.declared.event.Event.{Event}
 use Rattle.nmgc_watch.specs.declared.event.Event.TheVariants as event
@@ -17,7 +19,8 @@ use Rattle.nmgc_watch.specs.declared.left.Left.{Left}
 use Rattle.nmgc_watch.specs.declared.watch.Watch.{Watch}
 use Rattle.nmgc_watch.specs.declared.watch.Watch.TheVariants as watch
 use Rattle.nmgc_watch.specs.Cycles.{IsWhyNot}
-use Rattle.nmgc_watch.specs.Watching.{WhyGive, CanGive, WhyMark, CanMark, WhyPush, CanPush, WhySettle, CanSettle, WhyTake, CanTake, WhyClose, CanClose, WhyCloseTold, CanCloseTold, WhyMarked, CanMarked, WhyFreed, CanFreed, WhyStop, CanStop, IsWhy, Can, ReasonsRefuse, ClosedIsExact}
+use Rattle.nmgc_watch.proofs.RowLaws.{no_rows}
+use Rattle.nmgc_watch.specs.Watching.{WhyGive, CanGive, WhyMark, CanMark, WhyPush, CanPush, WhySettle, CanSettle, WhyTake, CanTake, WhyClose, CanClose, WhyCloseTold, CanCloseTold, WhyMarked, CanMarked, WhyFreed, CanFreed, WhyKept, MayFree, IsAgainst, WhyStop, CanStop, IsWhy, Can, ReasonsRefuse, ClosedIsExact}
 
 no_command : (w : World) (m : ℕ) (c : Command) (answer : Reply) (y : Why) → IsWhyNot w m c answer y → CanApply w m c → (step w m c).1 ≡ answer → ⊥
 no_command w m c answer why.CannotApply h can says = h can
@@ -30,6 +33,8 @@ no_command w m c answer (why.NotDead n) h can says = h
 no_command w m c answer (why.NotTold n) h can says = h
 no_command w m c answer (why.NotMarked n) h can says = h
 no_command w m c answer (why.Needed n) h can says = h
+no_command w m c answer (why.NotOld n) h can says = h
+no_command w m c answer (why.Untaken n) h can says = h
 
 no_give : (line m : ℕ) (c : Command) (answer : Reply) (p : Watch) (y : Why) (next : Watch) → WhyGive m c answer p y → CanGive line m c answer p next → ⊥
 no_give line m c answer (watch.Between w) y next h g = no_command w m c answer y h g.1.0 g.1.1
@@ -55,24 +60,26 @@ no_settle m (watch.Marking k) y next h g = g.0 h.0 h.2 h.3
 no_settle m (watch.Ended left) y next h g = g
 no_settle m watch.Stopped y next h g = g
 
-no_first : (debts : List Debt) (d : Debt) → slice_get debts 0 ≡ Some d → debts ≡ [] → ⊥
-no_first debts d e none = let bad : None ≡ Some d = subst (λ (l : List Debt). slice_get l 0 ≡ Some d) none e in cc
+no_end : (k : Cycle) (y : Why) → IsAgainst k y → k.debts ≡ [] → IsAllTaken k → ⊥
+no_end k y (inl h) none all = nothing_in h.0 (subst (λ (l : List Debt). Contains l h.0) none h.2)
+no_end k y (inr h) none (inl e) = h.2.0 e
+no_end k y (inr h) none (inr t) = h.2.3 (t h.0 h.2.1 h.2.2)
 
 no_close : (p : Watch) (y : Why) (next : Watch) → WhyClose p y → CanClose p next → ⊥
 no_close (watch.Between w) y next h g = g
-no_close (watch.Marking k) y next h g = no_first k.debts h.0 h.2 g.1.ends.debts
+no_close (watch.Marking k) y next h g = no_end k y h g.1.ends.debts g.1.ends.taken
 no_close (watch.Ended left) y next h g = g
 no_close watch.Stopped y next h g = g
 
 no_take : (name : Name) (p : Watch) (y : Why) (next : Watch) → WhyTake name p y → CanTake name p next → ⊥
 no_take name (watch.Between w) y next h g = g
-no_take name (watch.Marking k) y next h g = h.1 g.0 g.1
+no_take name (watch.Marking k) y next h g = h.1 g.1.pushed
 no_take name (watch.Ended left) y next h g = g
 no_take name watch.Stopped y next h g = g
 
 no_close_told : (told : List Name) (p : Watch) (y : Why) (next : Watch) → WhyCloseTold told p y → CanCloseTold told p next → ⊥
 no_close_told told (watch.Between w) y next h g = g
-no_close_told told (watch.Marking k) y next (inl h) g = no_first k.debts h.0 h.2 g.1.ends.debts
+no_close_told told (watch.Marking k) y next (inl h) g = no_end k y h g.1.ends.debts g.1.ends.taken
 no_close_told told (watch.Marking k) y next (inr h) g = h.3 (g.1.ends.may h.0 h.2)
 no_close_told told (watch.Ended left) y next h g = g
 no_close_told told watch.Stopped y next h g = g
@@ -84,11 +91,15 @@ no_marked names (watch.Ended left) y next (inl h) g = h.2.1 ((g.0 h.0).1 h.2.0)
 no_marked names (watch.Ended left) y next (inr h) g = h.2.1 ((g.0 h.0).0 h.2.0)
 no_marked names watch.Stopped y next h g = g
 
+no_freed_name : (left : Left) (name : Name) (y : Why) → WhyKept left name y → MayFree left name → ⊥
+no_freed_name left name y (inl h) may = h.1 may.0
+no_freed_name left name y (inr (inl h)) may = h.1 may.1
+no_freed_name left name y (inr (inr h)) may = may.2 h.1
+
 no_freed : (names : List Name) (p : Watch) (y : Why) (next : Watch) → WhyFreed names p y → CanFreed names p next → ⊥
 no_freed names (watch.Between w) y next h g = g
 no_freed names (watch.Marking k) y next h g = g
-no_freed names (watch.Ended left) y next (inl h) g = h.3 (g.0 h.0 h.2).0
-no_freed names (watch.Ended left) y next (inr h) g = (g.0 h.0 h.2).1 h.3
+no_freed names (watch.Ended left) y next h g = no_freed_name left h.0 y h.2 (g.0 h.0 h.1)
 no_freed names watch.Stopped y next h g = g
 
 no_stop : (p : Watch) (y : Why) (next : Watch) → WhyStop p y → CanStop p next → ⊥
@@ -99,6 +110,7 @@ no_stop watch.Stopped y next h g = g
 
 pub reasons_refuse : ReasonsRefuse
 reasons_refuse line p (event.Given m c answer) y next h g = no_give line m c answer p y next h g
+reasons_refuse line p (event.Rows m commands) y next h g = no_rows line m commands p next y h g
 reasons_refuse line p event.Mark y next h g = no_mark p y next h g
 reasons_refuse line p (event.Push name) y next h g = no_push name p y next h g
 reasons_refuse line p (event.Settle m) y next h g = no_settle m p y next h g
@@ -112,4 +124,5 @@ reasons_refuse line p event.Stop y next h g = no_stop p y next h g
 pub closed_is_exact : ClosedIsExact
 closed_is_exact h left l w is s next b possible closing name =
     let e = (barrier_theorem w is h s b).marks next possible closing name in
-    (λ m. l.kept.complete name (e.0 m), λ c. e.1 (l.kept.sound name c))
+    let kept : Lists (Marks h) left.kept = elim l [ inl a ↦ a.kept | inr p ↦ p.1.kept ] in
+    (λ m. kept.complete name (e.0 m), λ c. e.1 (kept.sound name c))

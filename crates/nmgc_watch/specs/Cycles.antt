@@ -1,46 +1,33 @@
 -- What holds of every cycle, and what its calls promise.
-use Rattle.std.specs.Prelude.{◌≡◌, ◌≢◌, ◌↔◌, ◌<◌, ℕ, List, [], ◌∷◌, ◌++◌, length, filter, map, slice_get, Option, Some, None, Bool, true, false, not, IsSome, IfSome, is_some, Contains}
+use Rattle.std.specs.Prelude.{◌≡◌, ◌≢◌, ℕ, List, [], length, Option, Some, None, Bool, true, false, not, ◌&&◌, IsSome, Contains}
 use Rattle.nmgc_graph.specs.declared.value.Name.{Name}
 use Rattle.nmgc_graph.specs.declared.node.Parts.{Parts}
 use Rattle.nmgc_graph.specs.declared.command.Command.{Command}
 use Rattle.nmgc_graph.specs.declared.command.Reply.{Reply}
 use Rattle.nmgc_graph.specs.World.{World, node_of, IsWorld}
-use Rattle.nmgc_graph.specs.Step.{CanApply, step}
+use Rattle.nmgc_graph.specs.Change.{is_same_name}
+use Rattle.nmgc_graph.specs.Step.{CanApply, step, shared_name}
+use Rattle.nmgc_graph.specs.Marks.{mark_of}
 use Rattle.nmgc_graph.specs.Reach.{IsAlive}
-use Rattle.nmgc_graph.specs.Marks.{HasPlaces, mark_of, IsMarked}
 use Rattle.nmgc_lax.specs.declared.debt.Debt.{Debt}
-use Rattle.nmgc_lax.specs.Cycle.{Cycle, IsWatched, IsPushed}
+use Rattle.nmgc_lax.specs.Cycle.{Cycle, IsWatched, IsPushed, IsTook, IsAllTaken}
+use Rattle.nmgc_watch.specs.declared.accounts.Accounts.{Accounts}
+use Rattle.nmgc_watch.specs.declared.listed.Listed.{Listed}
 use Rattle.nmgc_watch.specs.declared.event.Why.{Why}
 use Rattle.nmgc_watch.specs.declared.event.Why.TheVariants as why
+use Rattle.nmgc_watch.specs.Accounts.{AreAccounts, IsLeastIn}
+use Rattle.nmgc_watch.specs.Listed.{IsListed}
+use Rattle.nmgc_watch.specs.Rows.{is_done}
 
--- a debt counts
-abbrev pub is_unpaid : List (List Bool) → Debt → Bool
-is_unpaid marks debt = not (mark_of marks debt.name)
-
--- the debts that count: those whose names aren't in the set
-abbrev pub unpaid : List (List Bool) → List Debt → List Debt
-unpaid marks debts = filter (is_unpaid marks) debts
-
--- the first debt counts
-abbrev pub IsPaidUp : List (List Bool) → List Debt → Type 0
-IsPaidUp marks debts = IfSome (slice_get debts 0) (λ debt. mark_of marks debt.name ≡ false)
-
--- the debt of a name, since a line in which a mutator gave a command
-abbrev pub debt_of : ℕ → ℕ → Name → Debt
-debt_of line m name = record { name = name; line = line; mutator = m }
-
--- whether the name is one of a world
-abbrev pub in_snapshot : World → Name → Bool
-in_snapshot w name = is_some (node_of w name)
-
--- the set has a place for each name of the snapshot, and has exactly those that were pushed; debts are of the
--- snapshot; a weak pointer of the snapshot that wasn't finalised is as it was there; and both worlds are closed
-pub record IsCycle (marks : List (List Bool)) (debts : List Debt) (w s : World) (remembered finalised : List Name) : Type 0 where
-  pub places : HasPlaces s marks
-  pub sound : (name : Name) → IsMarked marks name → Contains remembered name
-  pub complete : (name : Name) → Contains remembered name → IsSome (node_of s name) → IsMarked marks name
-  pub there : (debt : Debt) → Contains debts debt → IsSome (node_of s debt.name)
-  pub alive : (weak : Name) (parts : Parts) → IsAlive s weak parts → (Contains finalised weak → ⊥) → IsAlive w weak parts
+-- names that were pushed, opened and taken are listed; what is owed is due; a weak pointer of the snapshot that
+-- wasn't finalised is as it was there; and both worlds are closed
+pub record IsCycle (w s : World) (pushes : Listed) (owed : Accounts) (opens takes : Listed) (ends : List Name) : Type 0 where
+  pub remembered : IsListed s pushes
+  pub opened : IsListed s opens
+  pub taken : IsListed s takes
+  pub accounts : AreAccounts pushes.set s owed
+  pub count : length owed.debts ≡ length w.mutators
+  pub alive : (weak : Name) (parts : Parts) → IsAlive s weak parts → (Contains ends weak → ⊥) → IsAlive w weak parts
   pub snapshot : IsWorld s
   pub world : IsWorld w
 
@@ -60,11 +47,24 @@ IsWhyNot w m c answer (why.NotDead n) = ⊥
 IsWhyNot w m c answer (why.NotTold n) = ⊥
 IsWhyNot w m c answer (why.NotMarked n) = ⊥
 IsWhyNot w m c answer (why.Needed n) = ⊥
+IsWhyNot w m c answer (why.NotOld n) = ⊥
+IsWhyNot w m c answer (why.Untaken n) = ⊥
 
 -- a command with an answer, taken or refused
 abbrev pub IsCommand : ℕ → ℕ → Command → Reply → Cycle → Option Why → Cycle → Type 0
 IsCommand line m c answer h None next = IsWatched h line m c answer next
 IsCommand line m c answer h (Some w) next = (next ≡ h) × IsWhyNot h.world m c answer w
+
+-- why a world doesn't do a command
+abbrev pub IsNotDone : World → ℕ → Command → Why → Type 0
+IsNotDone w m c why.CannotApply = CanApply w m c → ⊥
+IsNotDone w m c (why.Answer r) = CanApply w m c × ((step w m c).1 ≡ r) × (is_done r ≡ false)
+IsNotDone w m c y = ⊥
+
+-- a command with whatever answer, done or refused
+abbrev pub IsActing : ℕ → ℕ → Command → Cycle → Option Why → Cycle → Type 0
+IsActing line m c h None next = IsTaken line m c h next × (is_done (step h.world m c).1 ≡ true)
+IsActing line m c h (Some w) next = (next ≡ h) × IsNotDone h.world m c w
 
 -- a push, taken or refused
 abbrev pub IsPush : Name → Cycle → Option Why → Cycle → Type 0
@@ -80,7 +80,29 @@ abbrev pub IsSettle : ℕ → Cycle → Option Why → Type 0
 IsSettle m h None = IsSettled h m
 IsSettle m h (Some w) = (debt : Debt) × (w ≡ why.Due debt) × Contains h.debts debt × (debt.mutator ≡ m)
 
--- the marker can have taken the name: it was pushed, and is one of the snapshot
-abbrev pub IsTake : Name → Cycle → Option Why → Type 0
-IsTake name h None = Contains h.remembered name × IsSome (node_of h.snapshot name)
-IsTake name h (Some w) = (w ≡ why.NotPushed name) × (Contains h.remembered name → IsSome (node_of h.snapshot name) → ⊥)
+-- a take, taken or refused
+abbrev pub IsTake : Name → Cycle → Option Why → Cycle → Type 0
+IsTake name h None next = IsTook h name next
+IsTake name h (Some w) next = (next ≡ h) × (w ≡ why.NotPushed name) × (Contains h.remembered name → ⊥)
+
+-- the debt of the least line, if there is one
+abbrev pub IsLeastDebt : Cycle → Option Debt → Type 0
+IsLeastDebt h debt = IsLeastIn h.debts debt
+
+-- it is told what the marker took, and not this name, which was pushed
+abbrev pub IsUntakenName : Cycle → Name → Type 0
+IsUntakenName h name = (h.taken ≢ []) × Contains h.remembered name × (name ≢ shared_name) × (Contains h.taken name → ⊥)
+
+-- whether the name has to be taken and wasn't: g hasn't
+abbrev pub is_untaken : Listed → Name → Bool
+is_untaken taken name = not (is_same_name name shared_name) && not (mark_of taken.set name)
+
+-- a search for such a name among these
+abbrev pub IsUntakenIn : Listed → List Name → Option Name → Type 0
+IsUntakenIn taken names None = (name : Name) → Contains names name → is_untaken taken name ≡ false
+IsUntakenIn taken names (Some name) = Contains names name × (is_untaken taken name ≡ true)
+
+-- a search for a name that was pushed and isn't told as taken
+abbrev pub IsUntakenIf : Cycle → Option Name → Type 0
+IsUntakenIf h None = IsAllTaken h
+IsUntakenIf h (Some name) = IsUntakenName h name

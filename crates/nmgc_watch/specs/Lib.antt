@@ -1,3 +1,6 @@
+pub mod Accounts
 pub mod Cycles
 pub mod Dues
+pub mod Listed
+pub mod Rows
 pub mod Watching

@@ -1,11 +1,13 @@
 //! How a cycle ends.
 //!
 //! Without debts the end is decided by the snapshot alone: what the commands opened and what was pushed is live beside
-//! the roots, and each weak pointer whose key isn't live dies. Easy to get wrong: names that were made since are among
-//! what was opened or pushed, and count for nothing.
-ghost use Rattle.std.specs.Prelude.{◌≡◌, ◌++◌, [], None, filter, IfOk, All};
+//! the roots, and each weak pointer whose key isn't live dies.
+//!
+//! Easy to get wrong: which weak pointers die is told by what the commands keep, where it is told; what floats is kept all
+//! the same.
+ghost use Rattle.std.specs.Prelude.{◌≡◌, ◌++◌, [], None, IfOk, All};
 ghost use Rattle.nmgc_graph.specs.Reach.{IsInOrder, IsAliveWeak, closed};
-ghost use Rattle.nmgc_watch.specs.Cycles.{in_snapshot};
+ghost use Rattle.nmgc_watch.specs.Watching.{AreSerials};
 
 use crate::cycle::Cycle;
 use crate::event::Why;
@@ -15,37 +17,49 @@ use std::alloc::Global;
 
 impl Cycle {
     ghost use Rattle.nmgc_graph.specs.Reach.{IsDead, Lists};
-    ghost use Rattle.nmgc_lax.specs.Cycle.{Marks, Needs};
-    ghost use Rattle.nmgc_watch.specs.Watching.{IsEnding, IsEndingTold, IsDeadIf, IsLeft, IsLeftTold};
+    ghost use Rattle.nmgc_lax.specs.Cycle.{Marks, Needs, IsAllTaken};
+    ghost use Rattle.nmgc_watch.specs.Watching.{IsEnding, IsEndingTold, IsAgainstIf, IsDeadIf, IsLeft, IsLeftTold};
 
-    /// What the cycle leaves, if it can end: the first debt stands against it. Nothing changes. Takes time for each
-    /// object, and for a pass over the weak pointers for each link of the longest chain in which one revives the key of
-    /// the next.
-    pub fn end(&mut self) -> Result<Result<Left, Why>, NoMemory>
-        ensures ending { IfOk result (IsEnding self.old) }
-        ensures same { self.new ≡ self.old }
+    /// What the cycle leaves, if it can end: the debt of the least line stands against it, or a name that wasn't taken.
+    /// Takes time for each object and debt, and for a pass over the weak pointers for each link of the longest chain in
+    /// which one revives the key of the next.
+    pub fn end(&self) -> Result<Result<Left, Why>, NoMemory>
+        ensures { IfOk result (IsEnding self.now) }
     {
-        match self.first_debt() {
-            Some(debt) => Ok(Err(Why::Due(debt))),
+        match self.against() {
+            Some(why) => Ok(Err(why)),
             None => Ok(Ok(self.left()?)),
         }
     }
 
     /// The same where it is told which weak pointers die: each has to be dead by what the commands keep. They die in the
-    /// order of their names.
-    pub fn end_told(&mut self, told: &[Name]) -> Result<Result<Left, Why>, NoMemory>
-        ensures ending { IfOk result (IsEndingTold self.old told.now) }
-        ensures same { self.new ≡ self.old }
+    /// order of their names. Where none is told, none dies.
+    pub fn end_told(&self, told: &[Name]) -> Result<Result<Left, Why>, NoMemory>
+        ensures { IfOk result (IsEndingTold self.now told.now) }
     {
-        match self.first_debt() {
-            Some(debt) => Ok(Err(Why::Due(debt))),
+        match self.against() {
+            Some(why) => Ok(Err(why)),
             None => self.left_told(told),
+        }
+    }
+
+    // Why it can't end, whatever dies.
+    fn against(&self) -> Option<Why>
+        ensures { IsAgainstIf self.now result }
+    {
+        if let Some(debt) = self.first_debt() {
+            return Some(Why::Due(debt));
+        }
+        match self.untaken() {
+            Some(name) => Some(Why::Untaken(name)),
+            None => None,
         }
     }
 
     // The same without debts.
     fn left_told(&self, told: &[Name]) -> Result<Result<Left, Why>, NoMemory>
-        requires { self.now.debts ≡ [] }
+        requires none { self.now.debts ≡ [] }
+        requires taken { IsAllTaken self.now }
         ensures { IfOk result (IsEndingTold self.now told.now) }
     {
         match self.not_dead(told)? {
@@ -58,17 +72,17 @@ impl Cycle {
     fn not_dead(&self, told: &[Name]) -> Result<Option<Name>, NoMemory>
         ensures { IfOk result (IsDeadIf self.now told.now) }
     {
-        let needed_by = there(&self.snapshot, self.opened.items())?;
         let dead = self
             .snapshot
-            .dead_weaks(needed_by.items(), self.finalised.items())?;
+            .dead_weaks(self.opened.names.items(), self.finalised.items())?;
         let other = missing(&self.snapshot, dead.items(), told)?;
         Ok(other)
     }
 
     // What it leaves without debts.
     fn left(&self) -> Result<Left, NoMemory>
-        requires { self.now.debts ≡ [] }
+        requires none { self.now.debts ≡ [] }
+        requires taken { IsAllTaken self.now }
         ensures { IfOk result (IsLeft self.now) }
     {
         let dead = self.dead()?;
@@ -80,6 +94,7 @@ impl Cycle {
     // What it leaves without debts where these die.
     fn left_by(&self, told: &[Name]) -> Result<Left, NoMemory>
         requires none { self.now.debts ≡ [] }
+        requires taken { IsAllTaken self.now }
         requires dead { IsDeadIf self.now told.now None }
         ensures { IfOk result (IsLeftTold self.now told.now) }
     {
@@ -96,13 +111,12 @@ impl Cycle {
     {
         let all = joined(
             self.world.alloc(),
-            self.opened.items(),
-            self.remembered.items(),
+            self.opened.names.items(),
+            self.remembered.names.items(),
         )?;
-        let kept_by = there(&self.snapshot, all.as_slice())?;
         let dead = self
             .snapshot
-            .dead_weaks(kept_by.items(), self.finalised.items())?;
+            .dead_weaks(all.as_slice(), self.finalised.items())?;
         Ok(dead)
     }
 
@@ -111,22 +125,24 @@ impl Cycle {
         ensures world { IfOk result (λ left. left.world ≡ world) }
         ensures kept { IfOk result (λ left. Lists (Marks self.now) left.kept) }
         ensures needed { IfOk result (λ left. Lists (Needs self.now) left.needed) }
+        ensures old { IfOk result (λ left. AreSerials self.now.snapshot left.old) }
     {
         let all = joined(
             self.world.alloc(),
-            self.opened.items(),
-            self.remembered.items(),
+            self.opened.names.items(),
+            self.remembered.names.items(),
         )?;
-        let kept_by = there(&self.snapshot, all.as_slice())?;
-        let needed_by = there(&self.snapshot, self.opened.items())?;
-        let kept = self.snapshot.kept(kept_by.items(), self.finalised.items())?;
+        let kept = self.snapshot.kept(all.as_slice(), self.finalised.items())?;
         let needed = self
             .snapshot
-            .kept(needed_by.items(), self.finalised.items())?;
+            .kept(self.opened.names.items(), self.finalised.items())?;
+        let old = serials(&self.snapshot)?;
         Ok(Left {
             world,
             kept,
             needed,
+            old,
+            dues: self.dues(),
         })
     }
 }
@@ -141,17 +157,15 @@ fn joined(alloc: Global, left: &[Name], right: &[Name]) -> Result<Vec<Name>, NoM
     Ok(names)
 }
 
-// Those of the names that the world has.
-fn there(world: &World, names: &[Name]) -> Result<List<Name>, NoMemory>
-    ensures { IfOk result (λ kept. kept ≡ filter (in_snapshot world.now) names.now) }
+// How many names each mutator has.
+fn serials(world: &World) -> Result<List<u32>, NoMemory>
+    ensures { IfOk result (AreSerials world.now) }
 {
-    let mut kept = List::new(world.alloc());
-    for name in names {
-        if world.node(*name).is_some() {
-            kept.push(*name)?;
-        }
+    let mut serials = List::new(world.alloc());
+    for mutator in 0..world.mutators() {
+        serials.push(world.serial(mutator))?;
     }
-    Ok(kept)
+    Ok(serials)
 }
 
 // The world closed with dead weak pointers.

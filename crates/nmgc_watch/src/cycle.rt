@@ -1,23 +1,24 @@
 //! One cycle, watched without a marker.
 //!
-//! The cycle has the world as it is, and the snapshot. What was pushed is a list, and those names of the snapshot that
-//! are in it are also a set, for asking in constant time. What came due waits in a queue, in the order of lines. A push
-//! puts the name into the list and, where the snapshot has it, into the set, so it takes constant time; a debt counts as
-//! long as its name isn't in the set, and debts that no longer count leave the queue from the front (`forget_paid`).
+//! The cycle has the world as it is, and the snapshot. Of the names of the snapshot it has those that were pushed, those
+//! that the commands opened, and those that the marker took, where that is told: each is a list of names, once each, with
+//! a set for asking in constant time (`listed`). What came due waits in a queue for each mutator (`accounts`). A push puts
+//! the name into the set, so it takes constant time; a debt counts as long as its name isn't in the set. So a cycle takes
+//! memory for each name and mutator, however long it goes on.
 //!
-//! Easy to get wrong: a name of no snapshot has no place in the set. It can't be due, and a push of it is only listed.
-ghost use Rattle.std.specs.Prelude.{◌≡◌, ◌↔◌, ◌++◌, ◌∷◌, [], ◌<◌, true, false, not, map, filter, slice_get, Some, None, IfOk, OnOk, OnErr, IsSome, IsTrue, Contains, All};
-ghost use Rattle.nmgc_graph.specs.declared.value.Name.{Name as NameAt};
-ghost use Rattle.nmgc_lax.specs.declared.debt.Debt.{Debt as DebtAt};
+//! Easy to get wrong: a name of no snapshot has no place in a set. It can't be due, and a push of it changes nothing.
+ghost use Rattle.std.specs.Prelude.{◌≡◌, ◌↔◌, ◌<◌, ◌++◌, length, IfOk, OnOk, IsSome, IsTrue};
 ghost use Rattle.nmgc_graph.specs.World.{node_of};
-ghost use Rattle.nmgc_graph.specs.Marks.{HasPlaces, mark_of};
-ghost use Rattle.nmgc_watch.specs.Cycles.{unpaid, debt_of, in_snapshot, IsPaidUp};
-ghost use Rattle.nmgc_watch.specs.Dues.{targets, is_owable};
+ghost use Rattle.nmgc_watch.specs.Dues.{targets};
+ghost use Rattle.nmgc_watch.specs.Cycles.{IsUntakenIn, is_untaken};
 
+use crate::accounts::Accounts;
 use crate::due::{Field, gone, is_owable, kept_then, standing};
 use crate::event::Why;
+use crate::listed::Listed;
 use crate::opened::{finalised_by, opened_by};
-use nmgc_graph::{Command, List, Marks, Name, NoMemory, Queue, Reply, World};
+use crate::rows::is_done;
+use nmgc_graph::{Command, Name, NoMemory, Queue, Reply, World};
 use nmgc_lax::Debt;
 use std::alloc::Global;
 use std::marker::Model;
@@ -27,46 +28,53 @@ use std::marker::Model;
 pub struct Cycle {
     pub(crate) world: World,
     pub(crate) snapshot: World,
-    marks: Marks,
-    pub(crate) remembered: List<Name>,
-    debts: Queue<Debt>,
-    pub(crate) opened: Queue<Name>,
+    pub(crate) remembered: Listed,
+    accounts: Accounts,
+    pub(crate) opened: Listed,
+    taken: Listed,
     pub(crate) finalised: Queue<Name>,
+    dues: u64,
 }
 
 impl Model for Cycle {
     ghost use Rattle.nmgc_lax.specs.Cycle.{Cycle as Seen};
-    ghost use Rattle.nmgc_watch.specs.Cycles.{unpaid, IsCycle};
+    ghost use Rattle.nmgc_watch.specs.Accounts.{unpaid, all_debts};
+    ghost use Rattle.nmgc_watch.specs.Cycles.{IsCycle};
 
     ghost Value = { Seen };
 
-    ghost view = { λ c. record { world = c.world; snapshot = c.snapshot; remembered = c.remembered; debts = unpaid c.marks c.debts; opened = c.opened; finalised = c.finalised } };
+    ghost view = { λ c. record { world = c.world; snapshot = c.snapshot; remembered = c.remembered.names; debts = unpaid c.remembered.set (all_debts c.accounts.debts); opened = c.opened.names; taken = c.taken.names; finalised = c.finalised } };
 
-    ghost invariant = { λ c. IsCycle c.marks c.debts c.world c.snapshot c.remembered c.finalised };
+    ghost invariant = { λ c. IsCycle c.world c.snapshot c.remembered c.accounts c.opened c.taken c.finalised };
 }
 
 impl Cycle {
     ghost use Rattle.nmgc_graph.specs.Step.{CanApply};
     ghost use Rattle.nmgc_lax.specs.Cycle.{watching, IsPushed};
-    ghost use Rattle.nmgc_watch.specs.Cycles.{IsTaken, IsCommand, IsPush, IsSettle, IsTake};
+    ghost use Rattle.nmgc_watch.specs.Cycles.{IsTaken, IsCommand, IsActing, IsPush, IsSettle, IsTake, IsLeastDebt, IsUntakenIf};
 
-    /// Marking begins: the world is the snapshot. Takes time and memory for each object of the world, for the cycle has
-    /// two copies of it.
+    /// Marking begins: the world is the snapshot. Takes time and memory for each object of the world and, for the names,
+    /// for each mutator.
     pub fn new(world: &World) -> Result<Self, NoMemory>
         ensures { IfOk result (λ cycle. cycle ≡ watching world.now) }
     {
         let alloc = world.alloc();
         let snapshot = world.copy()?;
-        let marks = world.no_names()?;
+        let remembered = Listed::new(world)?;
+        let accounts = Accounts::new(world)?;
+        let opened = Listed::new(world)?;
+        let taken = Listed::new(world)?;
         let world = world.copy()?;
+        let finalised = Queue::new(alloc);
         Ok(Cycle {
             world,
             snapshot,
-            marks,
-            remembered: List::new(alloc),
-            debts: Queue::new(alloc),
-            opened: Queue::new(alloc),
-            finalised: Queue::new(alloc),
+            remembered,
+            accounts,
+            opened,
+            taken,
+            finalised,
+            dues: 0,
         })
     }
 
@@ -77,9 +85,21 @@ impl Cycle {
         &self.world
     }
 
+    /// How often a command has made a name due so far, whether or not it was pushed before: at most `u64::MAX`. Takes no
+    /// memory, and constant time.
+    pub fn dues(&self) -> u64 {
+        self.dues
+    }
+
+    /// Right after a command of this line, whether it made something due that its mutator didn't owe before, so that the
+    /// line may have to be told. Takes no memory, and time for each mutator.
+    pub fn is_owed_since(&self, line: usize) -> bool {
+        self.accounts.has_of(line)
+    }
+
     /// A mutator gives a command at a line. What it makes due, and wasn't pushed, is due since that line. A refused
-    /// command changes nothing; after `NoMemory` nothing is known but that it is a cycle. Takes constant time for each
-    /// operand and each field that the command may take away.
+    /// command changes nothing; after `NoMemory` nothing is known but that it is a cycle. Takes amortised constant time for
+    /// each operand and each field that the command may take away.
     pub fn command(
         &mut self,
         line: usize,
@@ -100,6 +120,26 @@ impl Cycle {
         Ok(None)
     }
 
+    /// The same with whatever answer the heap has, if the command is done.
+    pub fn act(
+        &mut self,
+        line: usize,
+        mutator: u8,
+        command: &Command,
+    ) -> Result<Option<Why>, NoMemory>
+        ensures { IfOk result (λ why. IsActing line mutator command.now self.old why self.new) }
+    {
+        if !self.world.can_apply(mutator, command) {
+            return Ok(Some(Why::CannotApply));
+        }
+        let reply = self.world.reply(mutator, command);
+        if !is_done(reply) {
+            return Ok(Some(Why::Answer(reply)));
+        }
+        self.give(line, mutator, command)?;
+        Ok(None)
+    }
+
     // The world takes a command.
     fn give(&mut self, line: usize, mutator: u8, command: &Command) -> Result<(), NoMemory>
         requires { CanApply self.old.world mutator command.now }
@@ -109,7 +149,7 @@ impl Cycle {
         let opens = opened_by(&self.world, mutator, command)?;
         let ends = finalised_by(&self.world, mutator, command)?;
         let kept = kept_then(&self.snapshot, ends.as_slice())?;
-        self.opened.extend(opens.as_slice())?;
+        self.opened.extend(&self.snapshot, opens.as_slice())?;
         self.finalised.extend(ends.as_slice())?;
         self.world.apply(mutator, command)?;
         let lost = gone(&self.world, fields.items())?;
@@ -119,8 +159,15 @@ impl Cycle {
             opens.as_slice(),
             kept.as_slice(),
         )?;
-        let debts = debts_of(&self.snapshot, line, mutator, names.as_slice())?;
-        self.debts.extend(debts.items())?;
+        let came = count_due(&self.snapshot, names.as_slice());
+        self.dues = self.dues.saturating_add(came);
+        self.accounts.owe(
+            &self.snapshot,
+            &self.remembered.set,
+            line,
+            mutator,
+            names.as_slice(),
+        )?;
         Ok(())
     }
 
@@ -141,45 +188,90 @@ impl Cycle {
         requires { IsSome (node_of self.old.world name) }
         ensures { OnOk result (IsPushed self.old name self.new) }
     {
-        self.remembered.push(name)?;
-        if self.snapshot.node(name).is_some() {
-            self.marks.insert(name);
-        }
+        self.remembered.add(&self.snapshot, name)?;
         Ok(())
     }
 
     /// Why a mutator hasn't settled: something that its commands made due and nobody remembered. Nothing changes. Takes
-    /// time for each debt since the first one that counts.
+    /// amortised constant time, whatever the other mutators owe.
     pub fn settle(&mut self, mutator: u8) -> Option<Why>
         ensures settle { IsSettle mutator self.old result }
         ensures same { self.new ≡ self.old }
     {
-        forget_paid(&self.marks, &mut self.debts);
-        match owed_by(&self.marks, self.debts.items(), mutator) {
+        if !has_mutator(&self.world, mutator) {
+            return None;
+        }
+        match self.accounts.first(&self.remembered.set, mutator) {
             Some(debt) => Some(Why::Due(debt)),
             None => None,
         }
     }
 
-    /// Why the marker can't have taken the name. Takes no memory, and constant time.
-    pub fn take(&self, name: Name) -> Option<Why>
-        ensures { IsTake name self.now result }
+    /// The marker took a name: one that was pushed. Any other is refused, and changes nothing. Takes constant time.
+    pub fn take(&mut self, name: Name) -> Result<Option<Why>, NoMemory>
+        ensures { IfOk result (λ why. IsTake name self.old why self.new) }
     {
-        if self.marks.contains(name) {
-            None
-        } else {
-            Some(Why::NotPushed(name))
+        if !self.remembered.has(name) {
+            return Ok(Some(Why::NotPushed(name)));
         }
+        self.taken.add(&self.snapshot, name)?;
+        Ok(None)
     }
 
-    /// The first debt, if there is one. Nothing changes. Takes amortised constant time.
-    pub fn first_debt(&mut self) -> Option<Debt>
-        ensures first { result ≡ slice_get self.old.debts 0 }
-        ensures same { self.new ≡ self.old }
+    /// The debt of the least line, if there is one. Takes time for each debt.
+    pub fn first_debt(&self) -> Option<Debt>
+        ensures { IsLeastDebt self.now result }
     {
-        forget_paid(&self.marks, &mut self.debts);
-        self.debts.first()
+        self.accounts.least(&self.remembered.set)
     }
+
+    /// Where it is told what the marker took: a name that was pushed, and that it didn't take. g needs no push. Takes time
+    /// for each name that was pushed.
+    pub fn untaken(&self) -> Option<Name>
+        ensures { IsUntakenIf self.now result }
+    {
+        if self.taken.is_empty() {
+            return None;
+        }
+        untaken_of(&self.taken, self.remembered.names.items())
+    }
+}
+
+// How many of the names may be due.
+fn count_due(snapshot: &World, names: &[Name]) -> u64 {
+    let mut count = 0_u64;
+    for name in names {
+        if is_owable(snapshot, *name) {
+            count = count.saturating_add(1);
+        }
+    }
+    count
+}
+
+// The first of the names that has to be taken and wasn't.
+fn untaken_of(taken: &Listed, names: &[Name]) -> Option<Name>
+    ensures { IsUntakenIn taken.now names.now result }
+{
+    for name in names {
+        if is_untaken(taken, *name) {
+            return Some(*name);
+        }
+    }
+    None
+}
+
+// Whether the name has to be taken and wasn't: g hasn't.
+fn is_untaken(taken: &Listed, name: Name) -> bool
+    ensures { result ≡ is_untaken taken.now name }
+{
+    name != Name::SHARED && !taken.has(name)
+}
+
+// Whether there is such a mutator.
+fn has_mutator(world: &World, mutator: u8) -> bool
+    ensures { IsTrue result ↔ (mutator < length world.now.mutators) }
+{
+    mutator < world.mutators()
 }
 
 // The names that are perhaps due: the targets of lost fields, what was opened, and what was kept by what was finalised.
@@ -198,53 +290,4 @@ fn found(
     names.extend_from_slice(opens)?;
     names.extend_from_slice(kept)?;
     Ok(names)
-}
-
-// A debt for each of the names that may be due.
-fn debts_of(
-    snapshot: &World,
-    line: usize,
-    mutator: u8,
-    names: &[Name],
-) -> Result<List<Debt>, NoMemory>
-    ensures { IfOk result (λ debts. debts ≡ map (debt_of line mutator) (filter (is_owable snapshot.now) names.now)) }
-{
-    let mut debts = List::new(snapshot.alloc());
-    for name in names {
-        if is_owable(snapshot, *name) {
-            debts.push(Debt {
-                name: *name,
-                line,
-                mutator,
-            })?;
-        }
-    }
-    Ok(debts)
-}
-
-// Debts at the front that no longer count leave.
-fn forget_paid(marks: &Marks, debts: &mut Queue<Debt>)
-    ensures same { unpaid marks.now debts.new ≡ unpaid marks.now debts.old }
-    ensures fewer { (d : DebtAt) → Contains debts.new d → Contains debts.old d }
-    ensures first { IsPaidUp marks.now debts.new }
-{
-    while let Some(debt) = debts.first() {
-        if !marks.contains(debt.name) {
-            return;
-        }
-        debts.take_first();
-    }
-}
-
-// A debt that counts, and that this mutator's commands made.
-fn owed_by(marks: &Marks, debts: &[Debt], mutator: u8) -> Option<Debt>
-    ensures some { (d : DebtAt) → result ≡ Some d → Contains (unpaid marks.now debts.now) d × (d.mutator ≡ mutator) }
-    ensures none { result ≡ None → (d : DebtAt) → Contains (unpaid marks.now debts.now) d → d.mutator ≡ mutator → ⊥ }
-{
-    for debt in debts {
-        if debt.mutator == mutator && !marks.contains(debt.name) {
-            return Some(*debt);
-        }
-    }
-    None
 }

@@ -11,6 +11,12 @@ pub enum Event {
         command: Command,
         answer: Reply,
     },
+    /// A mutator gave these commands, one after the other, and each was done: it gave a value, or there was none to give.
+    /// So one line tells a copy of many fields, or a fill (`rows`).
+    Rows {
+        mutator: u8,
+        commands: List<Command>,
+    },
     /// Marking begins: the world is the snapshot.
     Mark,
     /// A barrier, or the collector itself, remembered the name.
@@ -21,13 +27,14 @@ pub enum Event {
     Settle {
         mutator: u8,
     },
-    /// The marker took the name out of what was pushed.
+    /// The marker took the name out of what was pushed. In a cycle in which this is told of a name it has to be told of each
+    /// pushed name of the snapshot, but g.
     Take {
         name: Name,
     },
     /// Marking ends, and what nothing keeps dies.
     Close,
-    /// Marking ends, and of the weak pointers just these die, in the order of their names.
+    /// Marking ends, and of the weak pointers just these die, in the order of their names; none where there are no names.
     CloseTold {
         dead: List<Name>,
     },
@@ -35,7 +42,7 @@ pub enum Event {
     Marked {
         names: List<Name>,
     },
-    /// After the last cycle the runtime freed these names.
+    /// After the last cycle the runtime freed these names of its snapshot.
     Freed {
         names: List<Name>,
     },
@@ -58,12 +65,16 @@ pub enum Why {
     Due(Debt),
     /// The name wasn't pushed, or it is none of the snapshot.
     NotPushed(Name),
+    /// It is told what the marker took, and not this name, which was pushed.
+    Untaken(Name),
     /// The weak pointer isn't dead by what the commands keep.
     NotDead(Name),
     /// The name has to be marked, and isn't told.
     NotTold(Name),
     /// The name is told, and nothing keeps it.
     NotMarked(Name),
+    /// The name is freed, and was made since the cycle began.
+    NotOld(Name),
     /// The name is freed, and the commands need it.
     Needed(Name),
 }

@@ -1,9 +1,14 @@
 //! The theorems of the watch. Each function does nothing: its contract is the law.
-ghost use Rattle.nmgc_watch.specs.Watching.{ReasonsRefuse, ClosedIsExact};
+ghost use Rattle.nmgc_watch.specs.Watching.{ReasonsRefuse, EveryEventIsJudged, ClosedIsExact};
 
 /// What is refused with a reason can't have happened: so an event that can happen is taken.
 pub fn a_reason_refuses()
     ensures { ReasonsRefuse }
+{}
+
+/// What can't happen has a reason. So with the law before this an event can happen, or has a reason, and never both.
+pub fn every_event_is_judged()
+    ensures { EveryEventIsJudged }
 {}
 
 /// A cycle that closes without debts marked exactly what it had to, whatever marker ran beside it.

@@ -2,22 +2,29 @@
 //!
 //! A runtime that tells what it marked, or what it freed, is compared with it. Both lists may be long, so the names are
 //! put into sets first.
-ghost use Rattle.std.specs.Prelude.{◌↔◌, IfOk, IsTrue, Contains};
+//!
+//! Easy to get wrong: what was made since the cycle began is in no snapshot, so nothing of the cycle says that it is
+//! garbage; a sweep that frees it is wrong, whether or not something refers to it.
+ghost use Rattle.std.specs.Prelude.{◌≡◌, ◌↔◌, slice_index_or, IfOk, IsTrue, Contains};
 ghost use Rattle.nmgc_graph.specs.declared.value.Name.{Name as NameAt};
 ghost use Rattle.nmgc_graph.specs.Marks.{IsMarked};
 ghost use Rattle.nmgc_graph.specs.Search.{IsSetOf};
-ghost use Rattle.nmgc_watch.specs.Watching.{IsMissingIf};
+ghost use Rattle.nmgc_watch.specs.Watching.{IsMissingIf, is_old};
 
 use crate::event::Why;
 use nmgc_graph::{List, Marks, Name, NoMemory, World};
 
 /// The world after a cycle, and which names of its snapshot the cycle kept, in order: all that the commands and the
-/// pushes keep, and those that the commands alone need. The others of the kept names float.
+/// pushes keep, and those that the commands alone need. The others of the kept names float. `old` has for each mutator how
+/// many names it had in the snapshot: a name with a later serial was made since. `dues` is how often a command made a name
+/// due in the cycle.
 #[derive(Drop)]
 pub struct Left {
     pub world: World,
     pub kept: List<Name>,
     pub needed: List<Name>,
+    pub old: List<u32>,
+    pub dues: u64,
 }
 
 impl Left {
@@ -37,21 +44,42 @@ impl Left {
         }
     }
 
-    /// Why the runtime can't have freed these: one that the heap doesn't have, or that the commands need. Takes time for
-    /// each name of the world.
+    /// Why the runtime can't have freed these: one that the heap doesn't have, that was made since the cycle began, or that
+    /// the commands need. Takes time for each name of the world.
     pub fn freed(&self, names: &[Name]) -> Result<Option<Why>, NoMemory>
         ensures { IfOk result (IsFreedIf names.now self.now) }
     {
         let set = self.world.set_of(self.needed.items())?;
+        let old = self.old.items();
         for name in names {
             if self.world.node(*name).is_none() {
                 return Ok(Some(Why::NoSuchName(*name)));
+            }
+            if !is_old(old, *name) {
+                return Ok(Some(Why::NotOld(*name)));
             }
             if set.contains(*name) {
                 return Ok(Some(Why::Needed(*name)));
             }
         }
         Ok(None)
+    }
+}
+
+// Whether a world with so many names of each mutator has the name, or it is g.
+fn is_old(serials: &[u32], name: Name) -> bool
+    ensures { result ≡ is_old serials.now name }
+{
+    name == Name::SHARED || name.serial < serial_in(serials, name.maker)
+}
+
+// How many names the maker has.
+fn serial_in(serials: &[u32], maker: u8) -> u32
+    ensures { result ≡ slice_index_or serials.now maker 0 }
+{
+    match serials.get(maker as usize) {
+        Some(count) => *count,
+        None => 0,
     }
 }
 

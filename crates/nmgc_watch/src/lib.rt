@@ -7,24 +7,29 @@
 //! a reason and the line since which it is true.
 //! - `event`: what can be told, and the reasons. `watch`: the machine over events, any number of cycles.
 //! - `cycle`: one cycle, and `closing`: how it ends; `left`: what it leaves, compared with what the runtime marked or freed.
-//! - `due`: what a command makes due. `opened`: what it opens and finalises.
+//! - `accounts`: what each mutator owes. `listed`: names, each once.
+//! - `due`: what a command makes due. `opened`: what it opens and finalises. `rows`: a copy of many fields, and a fill.
 //! - `laws`: a reason refuses; and a cycle that closes without debts marked exactly what it had to, whatever marker ran
 //!   beside it.
 //!
 //! `specs/Watching` has the relation, which `Watch::step` is proved against both ways. `nmgc_judge` stands on this crate.
 #![tactic(auto)]
 
+mod accounts;
 mod closing;
 pub mod cycle;
 pub mod due;
 pub mod event;
 pub mod laws;
 pub mod left;
+mod listed;
 mod opened;
+pub mod rows;
 pub mod watch;
 
 pub use cycle::Cycle;
 pub use due::Field;
 pub use event::{Event, Why};
 pub use left::Left;
-pub use watch::Watch;
+pub use rows::{Copying, Filling};
+pub use watch::{Running, Watch};

@@ -4,18 +4,80 @@
 //! are pushed; marking ends, and the heap goes on without what nothing kept. So there may be any number of cycles. Each
 //! event is taken where it can have happened (`specs/Watching`, `Can`), and else refused with a reason that is a fact.
 //!
-//! Easy to get wrong: a refused event leaves everything as it was, so that a test can go on.
-ghost use Rattle.std.specs.Prelude.{◌≡◌, ◌≤◌, ◌↔◌, IfOk, OnErr, Contains, None, Some};
+//! Easy to get wrong: a refused event leaves everything as it was, so that a test can go on; but of several commands in one
+//! line those before the refused one are done.
+ghost use Rattle.std.specs.Prelude.{◌≡◌, ◌≤◌, IfOk};
 ghost use Rattle.nmgc_graph.specs.World.{new_world};
-ghost use Rattle.nmgc_watch.specs.Watching.{IsStep, IsGivenIf};
+ghost use Rattle.nmgc_watch.specs.Watching.{IsStep, IsGivenIf, IsAct, IsDoneIf, AreActed, is_stopped};
 ghost use Rattle.nmgc_watch.specs.declared.event.Event.TheVariants as event;
 ghost use Rattle.nmgc_watch.specs.declared.watch.Watch.TheVariants as watch;
 
 use crate::cycle::Cycle;
 use crate::event::{Event, Why};
 use crate::left::Left;
+use crate::rows::is_done;
 use nmgc_graph::{Command, List, MAKERS, Name, NoMemory, Reply, World};
 use std::alloc::Global;
+use std::marker::Model;
+
+/// A cycle that goes on, in a place of its own in memory, so that a watch is small. Contracts see it as that cycle.
+#[derive(Drop)]
+pub struct Running {
+    cycle: Box<Cycle>,
+}
+
+impl Model for Running {
+    ghost use Rattle.nmgc_lax.specs.Cycle.{Cycle as Seen};
+
+    ghost Value = { Seen };
+
+    ghost view = { λ r. r.cycle.value };
+}
+
+impl Running {
+    ghost use Rattle.nmgc_lax.specs.Cycle.{watching};
+    ghost use Rattle.nmgc_watch.specs.Cycles.{IsSettle};
+    ghost use Rattle.nmgc_watch.specs.Watching.{IsEnding, IsEndingTold};
+
+    // Marking begins: the world is the snapshot. Takes what `Cycle::new` takes.
+    fn new(world: &World) -> Result<Self, NoMemory>
+        ensures { IfOk result (λ running. running ≡ watching world.now) }
+    {
+        let cycle = Cycle::new(world)?;
+        Ok(Running {
+            cycle: Box::new(world.alloc(), cycle)?,
+        })
+    }
+
+    /// The cycle. Takes no memory, and constant time.
+    pub fn cycle(&self) -> &Cycle
+        ensures { result.now ≡ self.now }
+    {
+        &self.cycle
+    }
+
+    // The same as `Cycle::settle`.
+    fn settle(&mut self, mutator: u8) -> Option<Why>
+        ensures settle { IsSettle mutator self.old result }
+        ensures same { self.new ≡ self.old }
+    {
+        self.cycle.settle(mutator)
+    }
+
+    // The same as `Cycle::end`.
+    fn end(&self) -> Result<Result<Left, Why>, NoMemory>
+        ensures { IfOk result (IsEnding self.now) }
+    {
+        self.cycle().end()
+    }
+
+    // The same as `Cycle::end_told`.
+    fn end_told(&self, told: &[Name]) -> Result<Result<Left, Why>, NoMemory>
+        ensures { IfOk result (IsEndingTold self.now told.now) }
+    {
+        self.cycle().end_told(told)
+    }
+}
 
 /// How far a runtime has come.
 #[derive(Drop)]
@@ -23,7 +85,7 @@ pub enum Watch {
     /// There was no cycle yet.
     Between(World),
     /// A cycle goes on.
-    Marking(Cycle),
+    Marking(Running),
     /// A cycle has ended, and the next one hasn't begun.
     Ended(Left),
     /// There was a cycle, and nothing more comes.
@@ -40,11 +102,12 @@ impl Watch {
         Ok(Watch::Between(World::new(alloc, mutators)?))
     }
 
-    /// Takes the event of a line, and answers `None`; or refuses it with a reason, and then nothing has changed. After
-    /// `NoMemory` nothing is known of the watch. Takes constant time for a push; for a settled mutator time for each debt
-    /// since the first one that counts, whoever owes it; for a command constant time for each operand and each field that
-    /// it may take away; and for the beginning and the end of a cycle time for each object. Memory grows with the heap and,
-    /// within a cycle, with its pushes and debts.
+    /// Takes the event of a line, and answers `None`; or refuses it with a reason, and then nothing has changed, but that of
+    /// several commands in one line (`Event::Rows`) those before the refused one are done. After `NoMemory` nothing is known
+    /// of the watch. Takes amortised constant time for a push, a take and a settled mutator, and for a command for each operand
+    /// and each field that it may take away; for the beginning and the end of a cycle, and for what was marked or freed, time
+    /// for each object. Memory grows with the heap alone: in a cycle it has two worlds, and a few bytes for each name and
+    /// mutator.
     pub fn step(&mut self, line: usize, event: &Event) -> Result<Option<Why>, NoMemory>
         ensures { IfOk result (λ why. IsStep line self.old event.now why self.new) }
     {
@@ -54,15 +117,37 @@ impl Watch {
                 command,
                 answer,
             } => self.give(line, *mutator, command, *answer),
+            Event::Rows { mutator, commands } => self.rows(line, *mutator, commands.items()),
             Event::Mark => self.mark(),
             Event::Push { name } => self.push(*name),
             Event::Settle { mutator } => Ok(self.settle(*mutator)),
-            Event::Take { name } => Ok(self.take(*name)),
+            Event::Take { name } => self.take(*name),
             Event::Close => self.close(),
             Event::CloseTold { dead } => self.close_told(dead.items()),
             Event::Marked { names } => self.marked(names.items()),
             Event::Freed { names } => self.freed(names.items()),
             Event::Stop => Ok(self.stop()),
+        }
+    }
+
+    /// How often a command has made a name due in the cycle that goes on, or else in the last one, whether or not it was
+    /// pushed before: 0 where there was none, and after the stop. A trace in which nothing came due tried no barrier. Takes
+    /// no memory, and constant time.
+    pub fn dues(&self) -> u64 {
+        match self {
+            Watch::Marking(running) => running.cycle().dues(),
+            Watch::Ended(left) => left.dues,
+            Watch::Between(_) | Watch::Stopped => 0,
+        }
+    }
+
+    /// Right after a command of this line, whether it made something due that its mutator didn't owe before, so that the
+    /// line may have to be told. At most one line for each name and mutator does so in a cycle. Takes no memory, and time
+    /// for each mutator.
+    pub fn is_owed_since(&self, line: usize) -> bool {
+        match self {
+            Watch::Marking(running) => running.cycle.is_owed_since(line),
+            Watch::Between(_) | Watch::Ended(_) | Watch::Stopped => false,
         }
     }
 
@@ -78,8 +163,63 @@ impl Watch {
     {
         match self {
             Watch::Between(world) => give(world, mutator, command, answer),
-            Watch::Marking(cycle) => cycle.command(line, mutator, command, answer),
+            Watch::Marking(running) => running.cycle.command(line, mutator, command, answer),
             Watch::Ended(left) => give(&mut left.world, mutator, command, answer),
+            Watch::Stopped => Ok(Some(Why::Misplaced)),
+        }
+    }
+
+    // A mutator gave several commands in one line.
+    fn rows(
+        &mut self,
+        line: usize,
+        mutator: u8,
+        commands: &[Command],
+    ) -> Result<Option<Why>, NoMemory>
+        ensures { IfOk result (λ why. IsStep line self.old (event.Rows mutator commands.now) why self.new) }
+    {
+        if self.is_stopped() {
+            return Ok(Some(Why::Misplaced));
+        }
+        self.act_all(line, mutator, commands)
+    }
+
+    // Whether there was the stop.
+    fn is_stopped(&self) -> bool
+        ensures { result ≡ is_stopped self.now }
+    {
+        match self {
+            Watch::Stopped => true,
+            Watch::Between(_) | Watch::Marking(_) | Watch::Ended(_) => false,
+        }
+    }
+
+    // Does the commands in turn, until one can't be done.
+    fn act_all(
+        &mut self,
+        line: usize,
+        mutator: u8,
+        commands: &[Command],
+    ) -> Result<Option<Why>, NoMemory>
+        ensures { IfOk result (λ why. AreActed line mutator commands.now self.old why self.new) }
+    {
+        for command in commands {
+            let why = self.act(line, mutator, command)?;
+            if why.is_some() {
+                return Ok(why);
+            }
+        }
+        Ok(None)
+    }
+
+    // Does one of them.
+    fn act(&mut self, line: usize, mutator: u8, command: &Command) -> Result<Option<Why>, NoMemory>
+        ensures { IfOk result (λ why. IsAct line mutator command.now self.old why self.new) }
+    {
+        match self {
+            Watch::Between(world) => act(world, mutator, command),
+            Watch::Marking(running) => running.cycle.act(line, mutator, command),
+            Watch::Ended(left) => act(&mut left.world, mutator, command),
             Watch::Stopped => Ok(Some(Why::Misplaced)),
         }
     }
@@ -88,12 +228,12 @@ impl Watch {
     fn mark(&mut self) -> Result<Option<Why>, NoMemory>
         ensures { IfOk result (λ why. IsStep 0 self.old event.Mark why self.new) }
     {
-        let cycle = match self {
-            Watch::Between(world) => Cycle::new(world)?,
-            Watch::Ended(left) => Cycle::new(&left.world)?,
+        let running = match self {
+            Watch::Between(world) => Running::new(world)?,
+            Watch::Ended(left) => Running::new(&left.world)?,
             Watch::Marking(_) | Watch::Stopped => return Ok(Some(Why::Misplaced)),
         };
-        *self = Watch::Marking(cycle);
+        *self = Watch::Marking(running);
         Ok(None)
     }
 
@@ -102,7 +242,7 @@ impl Watch {
         ensures { IfOk result (λ why. IsStep 0 self.old (event.Push name) why self.new) }
     {
         match self {
-            Watch::Marking(cycle) => cycle.push(name),
+            Watch::Marking(running) => running.cycle.push(name),
             Watch::Between(_) | Watch::Ended(_) | Watch::Stopped => Ok(Some(Why::Misplaced)),
         }
     }
@@ -112,18 +252,18 @@ impl Watch {
         ensures { IsStep 0 self.old (event.Settle mutator) result self.new }
     {
         match self {
-            Watch::Marking(cycle) => cycle.settle(mutator),
+            Watch::Marking(running) => running.settle(mutator),
             Watch::Between(_) | Watch::Ended(_) | Watch::Stopped => Some(Why::Misplaced),
         }
     }
 
     // The marker took a name.
-    fn take(&self, name: Name) -> Option<Why>
-        ensures { IsStep 0 self.now (event.Take name) result self.now }
+    fn take(&mut self, name: Name) -> Result<Option<Why>, NoMemory>
+        ensures { IfOk result (λ why. IsStep 0 self.old (event.Take name) why self.new) }
     {
         match self {
-            Watch::Marking(cycle) => cycle.take(name),
-            Watch::Between(_) | Watch::Ended(_) | Watch::Stopped => Some(Why::Misplaced),
+            Watch::Marking(running) => running.cycle.take(name),
+            Watch::Between(_) | Watch::Ended(_) | Watch::Stopped => Ok(Some(Why::Misplaced)),
         }
     }
 
@@ -132,7 +272,7 @@ impl Watch {
         ensures { IfOk result (λ why. IsStep 0 self.old event.Close why self.new) }
     {
         let ended = match self {
-            Watch::Marking(cycle) => cycle.end()?,
+            Watch::Marking(running) => running.end()?,
             Watch::Between(_) | Watch::Ended(_) | Watch::Stopped => {
                 return Ok(Some(Why::Misplaced));
             }
@@ -151,7 +291,7 @@ impl Watch {
         ensures { IfOk result (λ why. IsStep 0 self.old (event.CloseTold dead.now) why self.new) }
     {
         let ended = match self {
-            Watch::Marking(cycle) => cycle.end_told(dead)?,
+            Watch::Marking(running) => running.end_told(dead)?,
             Watch::Between(_) | Watch::Ended(_) | Watch::Stopped => {
                 return Ok(Some(Why::Misplaced));
             }
@@ -214,6 +354,21 @@ fn give(
     }
     let reply = world.reply(mutator, command);
     if reply != answer {
+        return Ok(Some(Why::Answer(reply)));
+    }
+    world.apply(mutator, command)?;
+    Ok(None)
+}
+
+// Has the world do a command, with whatever answer, where it does it.
+fn act(world: &mut World, mutator: u8, command: &Command) -> Result<Option<Why>, NoMemory>
+    ensures { IfOk result (λ why. IsDoneIf world.old mutator command.now why world.new) }
+{
+    if !world.can_apply(mutator, command) {
+        return Ok(Some(Why::CannotApply));
+    }
+    let reply = world.reply(mutator, command);
+    if !is_done(reply) {
         return Ok(Some(Why::Answer(reply)));
     }
     world.apply(mutator, command)?;

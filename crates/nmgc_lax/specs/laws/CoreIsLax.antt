@@ -1,6 +1,6 @@
 -- Each event of the core machine but the end is lax: what it owes is one choice among what is allowed, a push
 -- only hands over, and a take marks and then hands over.
-use Rattle.std.proofs.Common.{◌≡◌, ◌<◌, ℕ, List, [], ◌∷◌, ◌++◌, length, set, refl, sym, subst, ◌∙◌, arith, length-set, Bool, true, false, not, cond, inl, inr, ◌⊎◌}
+use Rattle.std.proofs.Common.{◌≡◌, ◌≢◌, ◌<◌, ℕ, List, [], ◌∷◌, ◌++◌, length, set, refl, sym, subst, ◌∙◌, arith, length-set, Bool, true, false, not, cond, inl, inr, ◌⊎◌}
 use Rattle.std.specs.Prelude.{IsSome, All, Contains, is_some, ◌&&◌}
 use Rattle.std.proofs.lemmas.List.Elements.{All-head, All-tail, All-cons, All-nil, All-append, Contains-append_left, Contains-append_right}
 use Rattle.std.proofs.lemmas.Bool.{cond_both, cases_eq, and_cases, not-false}
@@ -28,7 +28,7 @@ use Rattle.nmgc_core.specs.laws.Marking.{mark_cases}
 use Rattle.nmgc_graph.specs.History.{Row}
 use Rattle.nmgc_reach.specs.Owed.{owed_by}
 use Rattle.nmgc_lax.specs.Due.{IsDue}
-use Rattle.nmgc_lax.specs.Lax.{IsGiven, IsShuffled, IsLax}
+use Rattle.nmgc_lax.specs.Lax.{IsGiven, IsShuffled, IsLax, LaxSteps}
 use Rattle.nmgc_lax.specs.Lax as lax
 use Rattle.nmgc_lax.specs.laws.Given.{owes_may, due_owed}
 
@@ -164,3 +164,28 @@ take_is_lax s f m name rest first =
         IsShuffled (cond b (with_mark s name) s) (cond b (with_mark (dropped s m rest) name) (dropped s m rest))
     by_test true g done = drop_shuffles (with_mark s name) g m name rest first done
     by_test false g done = drop_shuffles s g m name rest first done
+
+-- one step
+once : (s next : State) → IsLax s next → LaxSteps s next
+once s next h = lax.then s next lax.nothing h
+
+to_next : (s next done : State) → next ≡ done → LaxSteps s done → LaxSteps s next
+to_next s next done e h = subst (LaxSteps s) (sym e) h
+
+push_steps : (s : State) → Facts s → (m : ℕ) (owed : List Name) → names_of s.owed m ≡ owed → owed ≢ [] → LaxSteps s (after_push s m owed)
+push_steps s f m [] e some = absurd (some refl)
+push_steps s f m (name ∷ rest) e some = once s (after_push s m (name ∷ rest)) (lax.shuffled (push_shuffles s f m name rest e))
+
+take_steps : (s : State) → Facts s → (m : ℕ) (pushed : List Name) → names_of s.pushed m ≡ pushed → pushed ≢ [] → LaxSteps s (after_take s m pushed)
+take_steps s f m [] e some = absurd (some refl)
+take_steps s f m (name ∷ rest) e some =
+    let t : TakesLaxly s (after_take s m (name ∷ rest)) = take_is_lax s f m name rest e in
+    lax.then t.between (after_take s m (name ∷ rest)) (once s t.between (lax.marked t.name t.may t.marks)) (lax.shuffled t.leaves)
+
+pub core_is_lax : lax.CoreIsLax
+core_is_lax s next (event.Command m c answer) f w p other =
+    to_next s next (after_command s m c) p.1 (once s (after_command s m c) (lax.given m c (core_gives s f w m c p.0.1)))
+core_is_lax s next (event.Push m) f w p other = to_next s next (after_push s m (names_of s.owed m)) p.1 (push_steps s f m (names_of s.owed m) refl p.0.1)
+core_is_lax s next event.Scan f w p other = to_next s next (after_scan s s.queue) p.1 (once s (after_scan s s.queue) (lax.scanned refl))
+core_is_lax s next (event.Take m) f w p other = to_next s next (after_take s m (names_of s.pushed m)) p.1 (take_steps s f m (names_of s.pushed m) refl p.0.1)
+core_is_lax s next event.Close f w p other = absurd (other refl)

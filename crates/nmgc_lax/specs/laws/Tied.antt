@@ -1,6 +1,6 @@
 -- A watch and a state that a marker is in: what is remembered is on its way to be marked, and what the state owes
 -- is what the watch calls due. Each event keeps that, so a watch that ends without debts has an exact end.
-use Rattle.std.proofs.Common.{◌≡◌, ◌<◌, ◌≤◌, ℕ, List, [], ◌∷◌, ◌++◌, zero, suc, length, replicate, get_or, set, refl, sym, ap, subst, ◌∙◌, arith, length-set, inl, inr, ◌⊎◌}
+use Rattle.std.proofs.Common.{◌≡◌, ◌<◌, ◌≤◌, ℕ, List, [], ◌∷◌, ◌++◌, zero, suc, length, replicate, get_or, set, refl, sym, ap, subst, ◌∙◌, arith, length-set, inl, inr, ◌⊎◌, false}
 use Rattle.std.specs.Prelude.{IsSome, Contains, All, ◌↔◌}
 use Rattle.std.proofs.lemmas.List.{length-replicate}
 use Rattle.std.proofs.lemmas.List.Elements.{All-nil, All-cons, Contains-append_left, Contains-append_right, Contains-append_cases, Contains-get_or}
@@ -50,10 +50,11 @@ all_names P names h k d lt = h (get_or names k d) (Contains-get_or names k d lt)
 pub record IsTied (h : Cycle) (s : State) : Type 0 where
   pub facts : Facts s
   pub closed : IsWorld s.world
+  pub is_open : s.is_closed ≡ false
   pub world : s.world ≡ h.world
   pub snapshot : s.snapshot ≡ h.snapshot
   pub finalised : s.finalised ≡ h.finalised
-  pub opened : (name : Name) → Contains s.opened name ↔ (Contains h.opened name ⊎ Contains h.remembered name)
+  pub opened : (name : Name) → IsSome (node_of s.snapshot name) → Contains s.opened name ↔ (Contains h.opened name ⊎ Contains h.remembered name)
   pub remembered : (name : Name) → Contains h.remembered name → IsSome (node_of s.snapshot name) → IsOnItsWay s name
   pub only : (m : ℕ) (name : Name) → Contains (names_of s.owed m) name → Owes h name
   pub held : (debt : Debt) → Contains h.debts debt → MayHold s debt.name
@@ -108,25 +109,25 @@ module _ (h next : Cycle) (s : State) (t : IsTied h s) (line m : ℕ) (c : Comma
   tied_command = record {
     facts = command_facts_on;
     closed = step_keeps_world s.world m c t.closed (subst (λ (v : World). Rattle.nmgc_graph.specs.Step.CanApply v m c) (sym t.world) w.can);
+    is_open = t.is_open;
     world = subst (λ (v : World). (step s.world m c).0 ≡ (step v m c).0) t.world refl ∙ sym (ap (λ (x : Cycle). x.world) w.rest);
     snapshot = t.snapshot ∙ sym (ap (λ (x : Cycle). x.snapshot) w.rest);
     finalised = subst (λ (v : World). s.finalised ++ finalised_by s.world m c ≡ h.finalised ++
         finalised_by v m c) t.world (ap (λ (l : List Name). l ++ finalised_by s.world m c) t.finalised) ∙ sym (ap (λ (x : Cycle). x.finalised) w.rest);
-    opened = λ name. (
+    opened = λ name there. (
       λ k. elim (Contains-append_cases s.opened (opened_by s.world m c) name k) [
-        | inl old ↦ elim ((t.opened name).0 old) [
-          | inl a ↦ inl (next_opened name (Contains-append_left h.opened (opened_by h.world m c) name a))
-          | inr b ↦ inr (next_remembered name b)
-        ]
-        | inr new ↦ inl (next_opened name (Contains-append_right h.opened (opened_by h.world m c) name (subst (λ (v : World).
-            Contains (opened_by v m c) name) t.world new)))
+        | inl old ↦ elim ((t.opened name there).0 old) [ inl a ↦ inl ((w.opened name).1 (inl a)) | inr b ↦ inr (next_remembered name b) ]
+        | inr new ↦ inl ((w.opened name).1 (inr (
+          subst (λ (v : World). Contains (opened_by v m c) name) t.world new,
+          subst (λ (v : World). IsSome (node_of v name)) t.snapshot there,
+        )))
       ],
       λ k. elim k [
-        | inl a ↦ elim (Contains-append_cases h.opened (opened_by h.world m c) name (was_opened name a)) [
-          | inl old ↦ Contains-append_left s.opened (opened_by s.world m c) name ((t.opened name).1 (inl old))
-          | inr new ↦ Contains-append_right s.opened (opened_by s.world m c) name (subst (λ (v : World). Contains (opened_by v m c) name) (sym t.world) new)
+        | inl a ↦ elim ((w.opened name).0 a) [
+          | inl old ↦ Contains-append_left s.opened (opened_by s.world m c) name ((t.opened name there).1 (inl old))
+          | inr new ↦ Contains-append_right s.opened (opened_by s.world m c) name (subst (λ (v : World). Contains (opened_by v m c) name) (sym t.world) new.0)
         ]
-        | inr b ↦ Contains-append_left s.opened (opened_by s.world m c) name ((t.opened name).1 (inr (was_remembered name b)))
+        | inr b ↦ Contains-append_left s.opened (opened_by s.world m c) name ((t.opened name there).1 (inr (was_remembered name b)))
       ],
     );
     remembered = λ name r there. t.remembered name (was_remembered name r) there;
@@ -141,12 +142,6 @@ module _ (h next : Cycle) (s : State) (t : IsTied h s) (line m : ℕ) (c : Comma
     held = debt_may;
   }
     where
-      next_opened : (name : Name) → Contains (h.opened ++ opened_by h.world m c) name → Contains next.opened name
-      next_opened name k = subst (λ (l : List Name). Contains l name) (sym (ap (λ (x : Cycle). x.opened) w.rest)) k
-
-      was_opened : (name : Name) → Contains next.opened name → Contains (h.opened ++ opened_by h.world m c) name
-      was_opened name k = subst (λ (l : List Name). Contains l name) (ap (λ (x : Cycle). x.opened) w.rest) k
-
       next_remembered : (name : Name) → Contains h.remembered name → Contains next.remembered name
       next_remembered name k = subst (λ (l : List Name). Contains l name) (sym (ap (λ (x : Cycle). x.remembered) w.rest)) k
 

@@ -2,13 +2,13 @@
 use Rattle.std.proofs.Common.{◌≡◌, ◌<◌, ◌≤◌, ℕ, List, [], ◌∷◌, ◌++◌, zero, suc, length, replicate, get_or, set, refl, sym, ap, subst, ◌∙◌, arith, length-set, inl, inr, ◌⊎◌, Option, Some, None}
 use Rattle.std.specs.Prelude.{IsSome, Contains, All, ◌↔◌}
 use Rattle.std.proofs.lemmas.List.{length-replicate}
-use Rattle.std.proofs.lemmas.List.Elements.{All-nil, Contains-append_left, Contains-append_right, Contains-append_cases}
+use Rattle.std.proofs.lemmas.List.Elements.{All-nil, All-cons, Contains-append_left, Contains-append_right, Contains-append_cases}
 use Rattle.std.proofs.lemmas.Bool.{cases_eq}
 use Rattle.nmgc_graph.specs.declared.value.Name.{Name}
 use Rattle.nmgc_graph.specs.declared.value.Value.{Value}
 use Rattle.nmgc_graph.specs.declared.value.Value.TheVariants as value
 use Rattle.nmgc_graph.specs.World.{World, node_of, IsWorld}
-use Rattle.nmgc_graph.specs.Reach.{IsLive, IsDead, IsKept}
+use Rattle.nmgc_graph.specs.Reach.{IsLive, IsDead, IsKept, Lists}
 use Rattle.nmgc_graph.specs.Reach as reach
 use Rattle.nmgc_graph.specs.laws.Orders.{contains_cases, contains_head, contains_tail}
 use Rattle.nmgc_graph.specs.laws.Rows.{name_cases}
@@ -17,7 +17,7 @@ use Rattle.nmgc_core.specs.declared.event.Entry.{Entry}
 use Rattle.nmgc_core.specs.declared.event.Event.TheVariants as event
 use Rattle.nmgc_core.specs.State.{State, names_of, mark_name, mark_read, mark_values, root_values, unmarked, opening}
 use Rattle.nmgc_core.specs.Scan.{read_at}
-use Rattle.nmgc_core.specs.Machine.{IsPossible, after_scan, advanced}
+use Rattle.nmgc_core.specs.Machine.{IsPossible, AreEmpty, after_scan, advanced}
 use Rattle.nmgc_core.specs.Closing.{IsClosing}
 use Rattle.nmgc_core.specs.Facts.{MayHold, IsSafe, Facts, owed, pushed, marked}
 use Rattle.nmgc_core.specs.laws.Listed.{names_same, names_other}
@@ -28,7 +28,7 @@ use Rattle.nmgc_core.specs.laws.Runs.{closing_is_exact}
 use Rattle.nmgc_core.specs.Run.{IsExactClosing}
 use Rattle.nmgc_lax.specs.Lax.{IsShuffled}
 use Rattle.nmgc_lax.specs.declared.debt.Debt.{Debt}
-use Rattle.nmgc_lax.specs.Cycle.{Cycle, Owes, IsPushed, Marks, watching}
+use Rattle.nmgc_lax.specs.Cycle.{Cycle, Owes, IsPushed, IsTook, Marks, watching}
 use Rattle.nmgc_core.specs.laws.Openings.{opening_facts}
 use Rattle.nmgc_lax.specs.laws.Floating.{floated, floated_facts}
 use Rattle.nmgc_lax.specs.laws.Laxer.{shuffled_facts}
@@ -107,9 +107,6 @@ module _ (h next : Cycle) (s : State) (t : IsTied h s) (name : Name) (w : IsPush
     safe = λ n known k. safe_on n k;
   }
 
-  is_remembered : next.remembered ≡ h.remembered ++ name ∷ []
-  is_remembered = ap (λ (x : Cycle). x.remembered) w.rest
-
   is_opened : next.opened ≡ h.opened
   is_opened = ap (λ (x : Cycle). x.opened) w.rest
 
@@ -117,29 +114,26 @@ module _ (h next : Cycle) (s : State) (t : IsTied h s) (name : Name) (w : IsPush
   tied_push = record {
     facts = shuffled_facts over (floated_facts s t.facts m place name) after_push shuffles;
     closed = t.closed;
+    is_open = t.is_open;
     world = t.world ∙ sym (ap (λ (x : Cycle). x.world) w.rest);
     snapshot = t.snapshot ∙ sym (ap (λ (x : Cycle). x.snapshot) w.rest);
     finalised = t.finalised ∙ sym (ap (λ (x : Cycle). x.finalised) w.rest);
-    opened = λ n. (
+    opened = λ n there'. (
       λ c. elim (Contains-append_cases s.opened (name ∷ []) n c) [
-        | inl old ↦ elim ((t.opened n).0 old) [
-          | inl a ↦ inl (rw is_opened a)
-          | inr b ↦
-              inr (rw is_remembered (Contains-append_left h.remembered (name ∷ []) n b))
-        ]
-        | inr k ↦ inr (rw is_remembered (Contains-append_right h.remembered (name ∷ []) n k))
+        | inl old ↦ elim ((t.opened n there').0 old) [ inl a ↦ inl (rw is_opened a) | inr b ↦ inr ((w.remembered n).1 (inl b)) ]
+        | inr k ↦ inr ((w.remembered n).1 (inr (sym (one_is name n k), subst (λ (v : World). IsSome (node_of v n)) t.snapshot there')))
       ],
       λ c. elim c [
-        | inl a ↦ Contains-append_left s.opened (name ∷ []) n ((t.opened n).1 (inl (rw is_opened at a)))
-        | inr b ↦ elim (Contains-append_cases h.remembered (name ∷ []) n (rw is_remembered at b)) [
-          | inl old ↦ Contains-append_left s.opened (name ∷ []) n ((t.opened n).1 (inr old))
-          | inr k ↦ Contains-append_right s.opened (name ∷ []) n k
+        | inl a ↦ Contains-append_left s.opened (name ∷ []) n ((t.opened n there').1 (inl (rw is_opened at a)))
+        | inr b ↦ elim ((w.remembered n).0 b) [
+          | inl old ↦ Contains-append_left s.opened (name ∷ []) n ((t.opened n there').1 (inr old))
+          | inr k ↦ Contains-append_right s.opened (name ∷ []) n (subst (λ (x : Name). Contains (name ∷ []) x) (sym k.0) (contains_one name))
         ]
       ],
     );
-    remembered = λ n r known. elim (Contains-append_cases h.remembered (name ∷ []) n (rw is_remembered at r)) [
+    remembered = λ n r known. elim ((w.remembered n).0 r) [
       | inl old ↦ elim (t.remembered n old known) [ inl c ↦ inl c | inr k ↦ inr (k.0, more_pushed k.0 n k.1) ]
-      | inr k ↦ inr (m, subst (λ (x : Name). Contains (names_of over.pushed m) x) (one_is name n k) own_pushed)
+      | inr k ↦ inr (m, subst (λ (x : Name). Contains (names_of over.pushed m) x) (sym k.0) own_pushed)
     ];
     only = λ k n c. elim (cases_eq k m) [
       | inl e ↦ debt_listed next.debts n (subst (λ (l : List Name). Contains l n) own_names (subst (λ (j : ℕ). Contains (names_of owing j) n) e c))
@@ -154,12 +148,13 @@ record MarksOn (s u : State) : Type 0 where
   snapshot : u.snapshot ≡ s.snapshot
   opened : u.opened ≡ s.opened
   finalised : u.finalised ≡ s.finalised
+  is_closed : u.is_closed ≡ s.is_closed
   owed : u.owed ≡ s.owed
   pushed : u.pushed ≡ s.pushed
   marked : (n : Name) → Contains s.marked n → Contains u.marked n
 
 marks_same : (s : State) → MarksOn s s
-marks_same s = record { world = refl; snapshot = refl; opened = refl; finalised = refl; owed = refl; pushed = refl; marked = λ n c. c }
+marks_same s = record { world = refl; snapshot = refl; opened = refl; finalised = refl; is_closed = refl; owed = refl; pushed = refl; marked = λ n c. c }
 
 marks_name : (s : State) (name : Name) → MarksOn s (mark_name s name)
 marks_name s name = mark_cases (MarksOn s) s name (λ e. record {
@@ -167,6 +162,7 @@ marks_name s name = mark_cases (MarksOn s) s name (λ e. record {
   snapshot = refl;
   opened = refl;
   finalised = refl;
+  is_closed = refl;
   owed = refl;
   pushed = refl;
   marked = λ n c. Contains-append_left s.marked (name ∷ []) n c;
@@ -185,6 +181,7 @@ marks_advanced s u (entry ∷ rest) k = record {
   snapshot = k.snapshot;
   opened = k.opened;
   finalised = k.finalised;
+  is_closed = k.is_closed;
   owed = k.owed;
   pushed = k.pushed;
   marked = k.marked;
@@ -203,10 +200,11 @@ tied_on : (h : Cycle) (s u : State) → IsTied h s → Facts u → MarksOn s u �
 tied_on h s u t f k = record {
   facts = f;
   closed = subst IsWorld (sym k.world) t.closed;
+  is_open = k.is_closed ∙ t.is_open;
   world = k.world ∙ t.world;
   snapshot = k.snapshot ∙ t.snapshot;
   finalised = k.finalised ∙ t.finalised;
-  opened = λ n. (λ c. (t.opened n).0 (rw k.opened at c), λ c. rw k.opened ((t.opened n).1 c));
+  opened = λ n there. (λ c. (t.opened n (rw k.snapshot at there)).0 (rw k.opened at c), λ c. rw k.opened ((t.opened n (rw k.snapshot at there)).1 c));
   remembered = λ n r there. elim (t.remembered n r (rw k.snapshot at there)) [ inl c ↦ inl (k.marked n c) | inr p ↦ inr (p.0, rw k.pushed p.1) ];
   only = λ m n c. t.only m n (rw k.owed at c);
   held = λ debt c. may_on s u debt.name k.snapshot k.opened (t.held debt c);
@@ -227,15 +225,16 @@ nothing_owed h s t none m = by_list (names_of s.owed m) refl
     by_list (x ∷ xs) e = let o : Owes h x = t.only m x (subst (λ (l : List Name). Contains l x) (sym e) (contains_head x xs)) in
         absurd (nothing_in o.0 (subst (λ (l : List Debt). Contains l o.0) none o.1))
 
--- lists of the same names
-live_same : (w : World) (a b : List Name) → ((n : Name) → Contains a n → Contains b n) → (n : Name) → IsLive w a n → IsLive w b n
+-- lists of the same names of a world
+live_same : (w : World) (a b : List Name) → ((n : Name) → IsSome (node_of w n) → Contains a n → Contains b n) → (n : Name) → IsLive w a n → IsLive w b n
 live_same w a b k n (reach.root n' r) = reach.root n' r
-live_same w a b k n (reach.further n' c there) = reach.further n' (k n' c) there
+live_same w a b k n (reach.further n' c there) = reach.further n' (k n' there c) there
 live_same w a b k n (reach.field m target l r) = reach.field m target (live_same w a b k m l) r
 live_same w a b k n (reach.plain_key weak target parts alive plain kept) = reach.plain_key weak target parts alive plain kept
 live_same w a b k n (reach.live_key weak target key parts alive is l kept) = reach.live_key weak target key parts alive is (live_same w a b k key l) kept
 
-abbrev dead_same : (w : World) (a b fin : List Name) → ((n : Name) → Contains b n → Contains a n) → (weak : Name) → IsDead w a fin weak → IsDead w b fin weak
+abbrev dead_same : (w : World) (a b fin : List Name) → ((n : Name) → IsSome (node_of w n) → Contains b n → Contains a n) → (weak : Name) →
+    IsDead w a fin weak → IsDead w b fin weak
 dead_same w a b fin k weak d = record {
   parts = d.parts;
   alive = d.alive;
@@ -245,29 +244,48 @@ dead_same w a b fin k weak d = record {
   lost = λ l. d.lost (live_same w b a k d.key l);
 }
 
-kept_same : (w : World) (a b fin : List Name) → ((n : Name) → Contains a n ↔ Contains b n) → (n : Name) → IsKept w a fin n → IsKept w b fin n
-kept_same w a b fin k n (IsKept.live n' l) = IsKept.live n' (live_same w a b (λ x. (k x).0) n' l)
-kept_same w a b fin k n (IsKept.finaliser weak target d is) = IsKept.finaliser weak target (dead_same w a b fin (λ x. (k x).1) weak d) is
+kept_same : (w : World) (a b fin : List Name) → ((n : Name) → IsSome (node_of w n) → Contains a n ↔ Contains b n) → (n : Name) → IsKept w a fin n →
+    IsKept w b fin n
+kept_same w a b fin k n (IsKept.live n' l) = IsKept.live n' (live_same w a b (λ x there. (k x there).0) n' l)
+kept_same w a b fin k n (IsKept.finaliser weak target d is) = IsKept.finaliser weak target (dead_same w a b fin (λ x there. (k x there).1) weak d) is
 kept_same w a b fin k n (IsKept.field m target h r) = IsKept.field m target (kept_same w a b fin k m h) r
+
+-- what counts as opened of the snapshot is what was opened and what was remembered
+opened_both : (h : Cycle) (s : State) → IsTied h s → (n : Name) → IsSome (node_of s.snapshot n) → Contains s.opened n ↔ Contains (h.opened ++ h.remembered) n
+opened_both h s t n there = (
+  λ k. elim ((t.opened n there).0 k) [ inl o ↦ Contains-append_left h.opened h.remembered n o | inr r ↦ Contains-append_right h.opened h.remembered n r ],
+  λ k. (t.opened n there).1 (Contains-append_cases h.opened h.remembered n k),
+)
 
 -- an end from a tied state marks exactly `Marks`
 pub tied_end : (h : Cycle) (s next : State) → IsTied h s → IsPossible s event.Close → IsClosing s next → (name : Name) → Contains next.marked name ↔
     Marks h name
 tied_end h s next t possible c name =
     let x : IsExactClosing s next c = closing_is_exact s next t.facts possible c in
-    let a : (n : Name) → Contains s.opened n ↔ Contains (h.opened ++ h.remembered) n = λ n. (
-      λ k. elim ((t.opened n).0 k) [ inl o ↦ Contains-append_left h.opened h.remembered n o | inr r ↦ Contains-append_right h.opened h.remembered n r ],
-      λ k. (t.opened n).1 (Contains-append_cases h.opened h.remembered n k),
-    ) in (
+    let a : (n : Name) → IsSome (node_of s.snapshot n) → Contains s.opened n ↔ Contains (h.opened ++ h.remembered) n = opened_both h s t in (
       λ k. subst (λ (v : World). IsKept v (h.opened ++ h.remembered) h.finalised name) t.snapshot (subst (λ (l : List Name).
           IsKept s.snapshot (h.opened ++ h.remembered) l name) t.finalised (kept_same s.snapshot s.opened (h.opened ++
           h.remembered) s.finalised a name ((x.kept name).0 k))),
-      λ k. (x.kept name).1 (kept_same s.snapshot (h.opened ++ h.remembered) s.opened s.finalised (λ n. (
-        (a n).1,
-        (a n).0,
-      )) name (subst (λ (l : List Name). IsKept s.snapshot (h.opened ++ h.remembered) l name) (sym t.finalised) (subst (λ (v : World).
-          IsKept v (h.opened ++ h.remembered) h.finalised name) (sym t.snapshot) k))),
+      λ k. (x.kept name).1 (kept_same s.snapshot (h.opened ++ h.remembered) s.opened s.finalised (λ n there. (
+        (a n there).1,
+        (a n there).0,
+      )) name (subst (λ (l : List Name). IsKept s.snapshot (h.opened ++
+          h.remembered) l name) (sym t.finalised) (subst (λ (v : World). IsKept v (h.opened ++ h.remembered) h.finalised name) (sym t.snapshot) k))),
     )
+
+-- and lets those weak pointers die that are dead by what was opened and what was remembered
+pub tied_dies : (h : Cycle) (s next : State) → IsTied h s → IsPossible s event.Close → (c : IsClosing s next) →
+    Lists (IsDead h.snapshot (h.opened ++ h.remembered) h.finalised) c.dead
+tied_dies h s next t possible c =
+    let x : IsExactClosing s next c = closing_is_exact s next t.facts possible c in
+    let a : (n : Name) → IsSome (node_of s.snapshot n) → Contains s.opened n ↔ Contains (h.opened ++ h.remembered) n = opened_both h s t in
+    let both : Lists (IsDead s.snapshot (h.opened ++ h.remembered) s.finalised) c.dead = record {
+      ordered = x.dead.ordered;
+      sound = λ n k. dead_same s.snapshot s.opened (h.opened ++ h.remembered) s.finalised (λ m there. (a m there).1) n (x.dead.sound n k);
+      complete = λ n d. x.dead.complete n (dead_same s.snapshot (h.opened ++ h.remembered) s.opened s.finalised (λ m there. (a m there).0) n d);
+    } in
+    subst (λ (v : World). Lists (IsDead v (h.opened ++ h.remembered) h.finalised) c.dead) t.snapshot (subst (λ (l : List Name).
+    Lists (IsDead s.snapshot (h.opened ++ h.remembered) l) c.dead) t.finalised both)
 
 -- what waits in another order, or leaves the pushed names once it is marked
 pub tied_order : (h : Cycle) (s next : State) → IsTied h s → IsShuffled s next → next.owed ≡ s.owed →
@@ -277,6 +295,7 @@ pub tied_order : (h : Cycle) (s next : State) → IsTied h s → IsShuffled s ne
 tied_order h s next t k same way = record {
   facts = shuffled_facts s t.facts next k;
   closed = t.closed;
+  is_open = t.is_open;
   world = t.world;
   snapshot = t.snapshot;
   finalised = t.finalised;
@@ -299,6 +318,7 @@ opening_marks s (value.Ref name ∷ values) =
       snapshot = b.snapshot ∙ a.snapshot;
       opened = b.opened ∙ a.opened;
       finalised = b.finalised ∙ a.finalised;
+      is_closed = b.is_closed ∙ a.is_closed;
       owed = b.owed ∙ a.owed;
       pushed = b.pushed ∙ a.pushed;
       marked = λ n c. b.marked n (a.marked n c);
@@ -310,11 +330,35 @@ tied_opening w h =
     record {
       facts = opening_facts w h;
       closed = subst IsWorld (sym k.world) h;
+      is_open = k.is_closed;
       world = k.world;
       snapshot = k.snapshot;
       finalised = k.finalised;
-      opened = λ n. (λ c. absurd (nothing_in n (rw k.opened at c)), λ c. elim c [ inl a ↦ absurd (nothing_in n a) | inr b ↦ absurd (nothing_in n b) ]);
+      opened = λ n there. (λ c. absurd (nothing_in n (rw k.opened at c)), λ c. elim c [ inl a ↦ absurd (nothing_in n a) | inr b ↦ absurd (nothing_in n b) ]);
       remembered = λ n r there. absurd (nothing_in n r);
       only = λ m n c. absurd (nothing_in n (subst (λ (l : List Name). Contains l n) (no_names (length w.mutators) m) (rw k.owed at c)));
       held = λ debt c. absurd (nothing_in debt c);
     }
+
+-- it is told what the marker took
+pub tied_took : (h next : Cycle) (s : State) → IsTied h s → (name : Name) → IsTook h name next → IsTied next s
+tied_took h next s t name w = subst (λ (x : Cycle). IsTied x s) (sym w.rest) (record {
+  facts = t.facts;
+  closed = t.closed;
+  is_open = t.is_open;
+  world = t.world;
+  snapshot = t.snapshot;
+  finalised = t.finalised;
+  opened = t.opened;
+  remembered = t.remembered;
+  only = t.only;
+  held = t.held;
+})
+
+-- without debts, where the marker has taken and read all, its end can come
+pub tied_possible : (h : Cycle) (s : State) → IsTied h s → h.debts ≡ [] → s.queue ≡ [] → AreEmpty s.pushed → IsPossible s event.Close
+tied_possible h s t none empty all = (t.is_open, empty, nothing_listed s.owed (nothing_owed h s t none), all)
+  where
+    nothing_listed : (lists : List (List Name)) → ((m : ℕ) → names_of lists m ≡ []) → AreEmpty lists
+    nothing_listed [] each = All-nil (λ (names : List Name). names ≡ [])
+    nothing_listed (l ∷ ls) each = All-cons (λ (names : List Name). names ≡ []) l ls (each zero) (nothing_listed ls (λ m. each (suc m)))

@@ -1,21 +1,21 @@
-use Rattle.std.proofs.Common.{◌∙◌, sym, subst, List}
+use Rattle.std.proofs.Common.{◌∙◌, refl, sym, subst, List}
 use Rattle.std.specs.Prelude.{All, IsSome}
 use Rattle.nmgc_graph.specs.declared.value.Name.{Name}
 use Rattle.nmgc_graph.specs.World.{node_of}
-use Rattle.nmgc_watch.proofs.ClosingLaws.{all_there, dead_lists}
+use Rattle.nmgc_watch.proofs.ClosingLaws.{both_there}
 use Rattle.nmgc_watch.proofs.cycle.Cycle.dead.Goals as goal
 
 pub dead_weaks-requires : goal.dead_weaks-requires
-dead_weaks-requires c = subst (λ (l : List Name). All (λ name. IsSome (node_of c.self.inside.snapshot name)) l) (sym (c.items-3.ensures ∙
-    c.in_ok-kept_by.ensures)) (all_there c.self.inside.snapshot c.as_slice.result.now)
+dead_weaks-requires c = subst (λ (l : List Name). All (λ name. IsSome (node_of c.self.inside.snapshot name)) l) (sym (c.as_slice.ensures.value ∙
+    (c.in_ok-all.ensures ∙
+    rw (c.items.ensures, c.items-2.ensures) refl))) (both_there c.self.inside.world c.self.inside.snapshot c.self.inside.remembered
+    c.self.inside.opened c.self.inside.taken c.self.inside.accounts c.self.inside.finalised c.self.invariant)
 
 pub returns : goal.returns
-returns c = rw (← c.self.view_is) (dead_lists c.self.inside.snapshot _ c.self.inside.finalised c.in_ok-dead.dead (rw (
-  c.items-3.ensures,
-  c.in_ok-kept_by.ensures,
+returns c = rw (← c.self.view_is) (rw (
   c.as_slice.ensures.value,
   c.in_ok-all.ensures,
   c.items.ensures,
   c.items-2.ensures,
-  c.items-4.ensures,
-) at c.in_ok-dead.ensures))
+  c.items-3.ensures,
+) at c.in_ok-dead.ensures)

@@ -1,6 +1,9 @@
-use Rattle.std.proofs.Common.{◌∙◌, sym}
-use Rattle.nmgc_watch.proofs.CycleLaws.{none_first}
+use Rattle.std.proofs.Common.{subst}
+use Rattle.nmgc_watch.specs.Watching.{IsAgainstIf}
 use Rattle.nmgc_watch.proofs.cycle.Cycle.end.Goals as goal
 
-pub left-requires : goal.left-requires
-left-requires c = rw c.first_debt.ensures.same (none_first _ (sym c.first_debt.ensures.first ∙ c.in-None.is))
+pub left-requires-clause-none : goal.left-requires-clause-none
+left-requires-clause-none c = (subst (IsAgainstIf c.args.self.now) c.in-None.is c.against.ensures).0
+
+pub left-requires-clause-taken : goal.left-requires-clause-taken
+left-requires-clause-taken c = (subst (IsAgainstIf c.args.self.now) c.in-None.is c.against.ensures).1

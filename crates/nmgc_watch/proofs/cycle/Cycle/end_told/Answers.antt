@@ -1,6 +1,9 @@
-use Rattle.std.proofs.Common.{◌∙◌, sym}
-use Rattle.nmgc_watch.proofs.CycleLaws.{none_first}
+use Rattle.std.proofs.Common.{subst}
+use Rattle.nmgc_watch.specs.Watching.{IsAgainstIf}
 use Rattle.nmgc_watch.proofs.cycle.Cycle.end_told.Goals as goal
 
-pub left_told-requires : goal.left_told-requires
-left_told-requires c = rw c.first_debt.ensures.same (none_first _ (sym c.first_debt.ensures.first ∙ c.in-None.is))
+pub left_told-requires-clause-none : goal.left_told-requires-clause-none
+left_told-requires-clause-none c = (subst (IsAgainstIf c.args.self.now) c.in-None.is c.against.ensures).0
+
+pub left_told-requires-clause-taken : goal.left_told-requires-clause-taken
+left_told-requires-clause-taken c = (subst (IsAgainstIf c.args.self.now) c.in-None.is c.against.ensures).1

@@ -9,9 +9,9 @@ pub closed-requires-clause-alive : goal.closed-requires-clause-alive
 closed-requires-clause-alive c =
     let may = rw (← c.self.view_is) at c.requires.dead in
     subst (λ (l : List Name). All (IsAliveWeak c.self.inside.world) l) (sym c.items.ensures)
-    (told_alive c.self.inside.marks c.self.inside.debts c.self.inside.world c.self.inside.snapshot c.self.inside.remembered c.self.inside.finalised
-    c.self.inside.opened c.args.told.now c.in_ok-dead.dead c.self.invariant may
-    (told_lists c.self.inside.snapshot c.self.inside.opened c.self.inside.finalised c.args.told.now c.in_ok-dead.dead c.in_ok-set.set
+    (told_alive c.self.inside.world c.self.inside.snapshot c.self.inside.remembered c.self.inside.opened c.self.inside.taken c.self.inside.accounts
+    c.self.inside.finalised c.self.invariant c.self.inside.opened.names c.args.told.now c.in_ok-dead.dead may
+    (told_lists c.self.inside.snapshot c.self.inside.opened.names c.self.inside.finalised c.args.told.now c.in_ok-dead.dead c.in_ok-set.set
     c.in_ok-set.ensures may c.in_ok-dead.ensures))
 
 pub returns : goal.returns
@@ -21,11 +21,13 @@ returns c =
       dead = c.in_ok-dead.dead;
       ends = record {
         debts = rw (← c.self.view_is) at c.requires.none;
+        taken = rw (← c.self.view_is) at c.requires.taken;
         may = may;
-        lists = told_lists c.self.inside.snapshot c.self.inside.opened c.self.inside.finalised c.args.told.now c.in_ok-dead.dead c.in_ok-set.set
-            c.in_ok-set.ensures may c.in_ok-dead.ensures;
+        lists = told_lists c.self.inside.snapshot c.self.inside.opened.names c.self.inside.finalised c.args.told.now c.in_ok-dead.dead
+            c.in_ok-set.set c.in_ok-set.ensures may c.in_ok-dead.ensures;
         next_is = c.in_ok-left.ensures.world ∙ (rw c.items.ensures at c.in_ok-world.ensures);
       };
       kept = rw (← c.self.view_is) at c.in_ok-left.ensures.kept;
       needed = rw (← c.self.view_is) at c.in_ok-left.ensures.needed;
+      old = rw (← c.self.view_is) at c.in_ok-left.ensures.old;
     })

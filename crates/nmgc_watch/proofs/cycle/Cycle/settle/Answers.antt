@@ -1,24 +1,44 @@
-use Rattle.std.proofs.Common.{◌∙◌, refl, sym, subst, List}
-use Rattle.std.specs.Prelude.{Contains}
-use Rattle.nmgc_lax.specs.declared.debt.Debt.{Debt}
-use Rattle.nmgc_watch.specs.Cycles.{unpaid}
+use Rattle.std.proofs.Common.{◌<◌, ◌∙◌, ℕ, refl, sym, subst}
+use Rattle.std.proofs.lemmas.Bool.{false≢true}
+use Rattle.nmgc_watch.proofs.AccountLaws.{some_own, none_own, none_beyond, forgotten_accounts, forgotten_count, forgotten_same}
+use Rattle.nmgc_watch.proofs.CycleLaws.{none_first, seen_same, with_accounts}
 use Rattle.nmgc_watch.proofs.cycle.Cycle.settle.Goals as goal
 use Rattle.nmgc_watch.proofs.cycle.Cycle.settle.Goals.{in-Some, in-None}
 
+pub returns-then-not-has_mutator-clause-settle : goal.returns-then-not-has_mutator-clause-settle
+returns-then-not-has_mutator-clause-settle c =
+    rw (← c.self.view_is)
+    (none_beyond c.self.inside.snapshot c.self.inside.remembered.set c.args.mutator c.self.inside.accounts c.self.invariant.accounts
+    (λ lt. false≢true (sym c.if-not-has_mutator.true ∙ c.has_mutator.ensures.1 (subst (λ (n : ℕ). c.args.mutator < n) c.self.invariant.count lt))))
+
+pub first-requires : goal.first-requires
+first-requires c = subst (λ (n : ℕ). c.args.mutator < n) (sym c.self.invariant.count) (c.has_mutator.ensures.0 c.if-not-has_mutator.false)
+
+pub invariant_of-self : goal.invariant_of-self
+invariant_of-self c =
+    let lt = subst (λ (n : ℕ). c.args.mutator < n) (sym c.self.invariant.count) (c.has_mutator.ensures.0 c.if-not-has_mutator.false) in
+    with_accounts c.self.inside.world c.self.inside.snapshot c.self.inside.remembered c.self.inside.accounts c.self.inside.opened
+    c.self.inside.taken c.self.inside.finalised c.self.invariant c.first.new.self
+    (forgotten_accounts c.self.inside.remembered.set c.args.mutator c.self.inside.accounts c.first.new.self lt c.first.ensures.forgotten
+    c.self.inside.snapshot c.self.invariant.accounts)
+    (forgotten_count c.self.inside.remembered.set c.args.mutator c.self.inside.accounts c.first.new.self lt c.first.ensures.forgotten)
+
 pub returns-clause-settle : goal.returns-clause-settle
-returns-clause-settle c = elim c.match-owed_by.branch [
+returns-clause-settle c = elim c.match-first.branch [
   | in-Some w ↦
-      let p = c.owed_by.ensures.some w.in-Some.debt w.in-Some.is in
-      rw (w.result-is, ← c.self.view_is) (
-        w.in-Some.debt,
-        refl,
-        subst (λ (l : List Debt). Contains l w.in-Some.debt) c.forget_paid.ensures.same (subst (λ (l : List Debt).
-            Contains (unpaid c.self.inside.marks l) w.in-Some.debt) c.items.ensures p.0),
-        p.1,
-      )
+      let p = some_own c.self.inside.snapshot c.self.inside.remembered.set c.args.mutator c.self.inside.accounts c.self.invariant.accounts
+      w.in-Some.debt (sym c.first.ensures.first ∙ w.in-Some.is) in
+      rw (w.result-is, ← c.self.view_is) (w.in-Some.debt, refl, p.0, p.1)
   | in-None w ↦
-      rw (w.result-is, ← c.self.view_is) (λ debt k own.
-      c.owed_by.ensures.none w.in-None.is debt
-      (subst (λ (l : List Debt). Contains (unpaid c.self.inside.marks l) debt) (sym c.items.ensures) (subst (λ (l : List Debt).
-      Contains l debt) (sym c.forget_paid.ensures.same) k)) own)
+      rw (w.result-is, ← c.self.view_is)
+      (none_own c.self.inside.snapshot c.self.inside.remembered.set c.args.mutator c.self.inside.accounts c.self.invariant.accounts
+      (none_first _ (sym c.first.ensures.first ∙ w.in-None.is)))
 ]
+
+pub returns-clause-same : goal.returns-clause-same
+returns-clause-same c =
+    let lt = subst (λ (n : ℕ). c.args.mutator < n) (sym c.self.invariant.count) (c.has_mutator.ensures.0 c.if-not-has_mutator.false) in
+    rw (← c.self.view_is)
+    (seen_same c.self.inside.world c.self.inside.snapshot c.self.inside.remembered c.self.inside.accounts c.first.new.self c.self.inside.opened
+    c.self.inside.taken c.self.inside.finalised
+    (forgotten_same c.self.inside.remembered.set c.args.mutator c.self.inside.accounts c.first.new.self lt c.first.ensures.forgotten))

@@ -1,14 +1,29 @@
 use Rattle.std.proofs.Common.{◌∙◌, refl, sym}
-use Rattle.std.proofs.lemmas.Bool.{false≢true}
-use Rattle.nmgc_watch.proofs.ClosingLaws.{marked_there}
+use Rattle.nmgc_watch.specs.Listed.{joined}
+use Rattle.nmgc_watch.proofs.ListedLaws.{joined_is}
+use Rattle.nmgc_watch.proofs.CycleLaws.{with_taken, took_then, not_pushed}
 use Rattle.nmgc_watch.proofs.cycle.Cycle.take.Goals as goal
 
-pub returns-then-contains : goal.returns-then-contains
-returns-then-contains c =
-    let m = sym c.contains.ensures ∙ c.if-contains.true in
-    rw (← c.self.view_is) (c.self.invariant.sound c.args.name m, marked_there c.self.inside.snapshot c.self.inside.marks c.args.name c.self.invariant.places m)
+pub returns-then-not-has : goal.returns-then-not-has
+returns-then-not-has c = rw (← c.self.view_is) (
+  refl,
+  refl,
+  not_pushed c.self.inside.world c.self.inside.snapshot c.self.inside.remembered c.self.inside.accounts c.self.inside.opened c.self.inside.taken
+      c.self.inside.finalised c.self.invariant c.args.name (sym c.has.ensures ∙ c.if-not-has.true),
+)
 
-pub returns-else-contains : goal.returns-else-contains
-returns-else-contains c =
-    let free = sym c.contains.ensures ∙ c.if-contains.false in
-    rw (← c.self.view_is) (refl, λ r there. false≢true (sym free ∙ c.self.invariant.complete c.args.name r there))
+pub add-requires : goal.add-requires
+add-requires c = c.self.invariant.taken.places
+
+pub invariant_of-self-2 : goal.invariant_of-self-2
+invariant_of-self-2 c =
+    rw c.in_ok-add.ensures.ok (with_taken c.self.inside.world c.self.inside.snapshot c.self.inside.remembered c.self.inside.accounts
+    c.self.inside.opened c.self.inside.taken c.self.inside.finalised c.self.invariant
+    (joined c.self.inside.snapshot c.self.inside.taken c.args.name) (joined_is c.self.inside.snapshot c.self.inside.taken c.self.invariant.taken c.args.name))
+
+pub returns : goal.returns
+returns c = rw (
+  ← c.self.view_is,
+  c.in_ok-add.ensures.ok,
+) (took_then c.self.inside.world c.self.inside.snapshot c.self.inside.remembered c.self.inside.accounts
+    c.self.inside.opened c.self.inside.taken c.self.inside.finalised c.self.invariant c.args.name (sym c.has.ensures ∙ c.if-not-has.false))

@@ -1,23 +1,39 @@
-use Rattle.std.proofs.Common.{◌≡◌, ◌∙◌, refl, sym, subst, List, ap, Bool, true, false, not, get_or, inr}
+use Rattle.std.proofs.Common.{◌≡◌, ◌∙◌, refl, sym, subst, List, ap, Bool, true, false, not, get_or, inl, inr}
 use Rattle.std.specs.Prelude.{Contains, IsSome}
 use Rattle.std.proofs.lemmas.Bool.{false≢true}
 use Rattle.std.proofs.lemmas.List.Elements.{Contains-get_or}
 use Rattle.nmgc_graph.specs.declared.value.Name.{Name}
 use Rattle.nmgc_graph.specs.World.{node_of}
 use Rattle.nmgc_graph.specs.Marks.{mark_of}
-use Rattle.nmgc_watch.proofs.CycleLaws.{not_none_there}
+use Rattle.nmgc_watch.specs.Watching.{MayFree, is_old}
+use Rattle.nmgc_watch.proofs.CycleLaws.{none_there, not_none_there}
 use Rattle.nmgc_watch.proofs.Filters.{each_more, each_all}
 use Rattle.nmgc_watch.proofs.left.Left.freed.Goals as goal
+
+pub returns-then-is_none : goal.returns-then-is_none
+returns-then-is_none c =
+    let n : Name = get_or c.args.names.now c.loop-name.name-index (record { maker = 0; serial = 0 }) in (
+      n,
+      Contains-get_or c.args.names.now c.loop-name.name-index (record { maker = 0; serial = 0 }) c.loop-name-test.true,
+      inl (refl, none_there c.node.result _ c.node.ensures (c.is_none.ensures ∙ ap not c.if-is_none.true)),
+    )
+
+pub returns-then-not-is_old : goal.returns-then-not-is_old
+returns-then-not-is_old c =
+    let n : Name = get_or c.args.names.now c.loop-name.name-index (record { maker = 0; serial = 0 }) in
+    let new : is_old c.args.self.now.old n ≡ false = rw c.items-old.ensures at (sym c.is_old.ensures ∙ c.if-not-is_old.true) in (
+      n,
+      Contains-get_or c.args.names.now c.loop-name.name-index (record { maker = 0; serial = 0 }) c.loop-name-test.true,
+      inr (inl (refl, λ old. false≢true (sym new ∙ old))),
+    )
 
 pub returns-then-contains : goal.returns-then-contains
 returns-then-contains c =
     let n : Name = get_or c.args.names.now c.loop-name.name-index (record { maker = 0; serial = 0 }) in
-    let marked = sym c.contains.ensures ∙ c.if-contains.true in
-    inr (
+    let marked = sym c.contains.ensures ∙ c.if-contains.true in (
       n,
-      refl,
       Contains-get_or c.args.names.now c.loop-name.name-index (record { maker = 0; serial = 0 }) c.loop-name-test.true,
-      subst (λ (l : List Name). Contains l n) c.items.ensures (c.in_ok-set.ensures.sound n marked),
+      inr (inr (refl, subst (λ (l : List Name). Contains l n) c.items.ensures (c.in_ok-set.ensures.sound n marked))),
     )
 
 pub loop-name-preserved : goal.loop-name-preserved
@@ -25,14 +41,10 @@ loop-name-preserved c =
     let n : Name = get_or c.args.names.now c.loop-name.name-index (record { maker = 0; serial = 0 }) in
     let there : IsSome (node_of c.args.self.now.world n) = not_none_there c.node.result _ c.node.ensures (ap not (c.is_none.ensures ∙
     ap not c.if-is_none.false)) in
+    let old : is_old c.args.self.now.old n ≡ true = rw c.items-old.ensures at (sym c.is_old.ensures ∙ c.if-not-is_old.false) in
     let free = sym c.contains.ensures ∙ c.if-contains.false in
-    each_more (λ (x : Name). IsSome (node_of c.args.self.now.world x) ×
-    (Contains c.args.self.now.needed x → ⊥)) c.args.names.now c.loop-name.name-index (record {
-      maker = 0;
-      serial = 0;
-    }) c.loop-name-test.true c.loop-name.invariant
-    (there, λ k. false≢true (sym free ∙ c.in_ok-set.ensures.complete n (subst (λ (l : List Name). Contains l n) (sym c.items.ensures) k) there))
+    each_more (MayFree c.args.self.now) c.args.names.now c.loop-name.name-index (record { maker = 0; serial = 0 }) c.loop-name-test.true c.loop-name.invariant
+    (there, old, λ k. false≢true (sym free ∙ c.in_ok-set.ensures.complete n (subst (λ (l : List Name). Contains l n) (sym c.items.ensures) k) there))
 
 pub returns : goal.returns
-returns c = each_all (λ (x : Name). IsSome (node_of c.args.self.now.world x) ×
-    (Contains c.args.self.now.needed x → ⊥)) c.args.names.now c.loop-name.name-index c.loop-name-test.false c.loop-name.invariant
+returns c = each_all (MayFree c.args.self.now) c.args.names.now c.loop-name.name-index c.loop-name-test.false c.loop-name.invariant

@@ -1,8 +1,8 @@
 use Rattle.std.proofs.Common.{◌≡◌, ℕ, length}
 use Rattle.std.specs.Prelude.{Contains}
 use Rattle.nmgc_lax.specs.declared.debt.Debt.{Debt}
-use Rattle.nmgc_watch.specs.Cycles.{unpaid}
-use Rattle.nmgc_watch.proofs.cycle.forget_paid.Given as goal
+use Rattle.nmgc_watch.specs.Accounts.{unpaid}
+use Rattle.nmgc_watch.proofs.accounts.forget_paid.Given as goal
 
 abbrev pub invariant-loop-debt : goal.invariant-loop-debt
 invariant-loop-debt l = record {

@@ -1,0 +1,207 @@
+-- What can be decided of the names of a world, and how the names with a fact are listed.
+use Rattle.std.proofs.Common.{◌≡◌, ◌≢◌, ◌<◌, ◌≤◌, ◌+◌, ℕ, List, [], ◌∷◌, ◌++◌, zero, suc, length, refl, sym, ap, subst, ◌∙◌, arith, Bool, true, false, not, cond, inl, inr, ◌⊎◌, Option, Some, None}
+use Rattle.std.specs.Prelude.{Contains, IsSome, is_some, filter, slice_get, ◌&&◌, ◌||◌}
+use Rattle.std.proofs.lemmas.Bool.{cases_Bool, cases_lt, false≢true, and_parts, or_cases}
+use Rattle.std.proofs.lemmas.Bool.Decides.{eqb_tells}
+use Rattle.std.proofs.lemmas.List.{get_or_past}
+use Rattle.nmgc_limits.specs.declared.mutators.TheConstants.{SHARED_MAKER}
+use Rattle.nmgc_graph.specs.declared.value.Name.{Name}
+use Rattle.nmgc_graph.specs.declared.mutator_state.MutatorState.{MutatorState}
+use Rattle.nmgc_graph.specs.Change.{is_same_name}
+use Rattle.nmgc_graph.specs.World.{World, node_of, state_of, serial_of, no_mutator}
+use Rattle.nmgc_graph.specs.Order.{ListsBefore}
+use Rattle.nmgc_graph.specs.Reach.{Lists}
+use Rattle.nmgc_graph.specs.laws.Orders.{contains_head, contains_tail, contains_cases, contains_filter, filter_contains, in_order_filter, lists_none, lists_more, lists_same, lists_maker, lists_all}
+use Rattle.nmgc_graph.specs.laws.Worlds.{get_is_some}
+use Rattle.nmgc_reach.specs.laws.ItemLaws.{nothing_in}
+use Rattle.nmgc_core.specs.State.{is_listed}
+use Rattle.nmgc_core.specs.laws.Listed.{tested_same, is_same_name-refl, contains_listed, not_listed, listed_from}
+
+-- some name of the list passes the test
+abbrev pub some_of : (Name → Bool) → List Name → Bool
+some_of test [] = false
+some_of test (x ∷ xs) = test x || some_of test xs
+
+module _ (test : Name → Bool) where
+  or_left : (a b : Bool) → a ≡ true → (a || b) ≡ true
+  or_left true b e = refl
+  or_left false b e = absurd cc
+
+  or_right : (a b : Bool) → b ≡ true → (a || b) ≡ true
+  or_right true b e = refl
+  or_right false b e = e
+
+  pub some_in : (xs : List Name) → some_of test xs ≡ true → (x : Name) × Contains xs x × (test x ≡ true)
+  some_in [] h = absurd (false≢true h)
+  some_in (x ∷ xs) h = elim (or_cases (test x) (some_of test xs) h) [
+    | inl e ↦ (x, contains_head x xs, e)
+    | inr r ↦ let p : (y : Name) × Contains xs y × (test y ≡ true) = some_in xs r in (p.0, contains_tail x xs p.0 p.1, p.2)
+  ]
+
+  pub in_some : (xs : List Name) (x : Name) → Contains xs x → test x ≡ true → some_of test xs ≡ true
+  in_some [] x c e = absurd (nothing_in x c)
+  in_some (y ∷ xs) x c e = elim (contains_cases y xs x c) [
+    | inl same ↦ or_left (test y) (some_of test xs) (subst (λ (n : Name). test n ≡ true) (sym same) e)
+    | inr d ↦ or_right (test y) (some_of test xs) (in_some xs x d e)
+  ]
+
+-- a test of names that tells a fact of them
+pub record Decided (P : Name → Type 0) : Type 0 where
+  pub test : Name → Bool
+  pub yes : (n : Name) → test n ≡ true → P n
+  pub no : (n : Name) → P n → test n ≡ true
+
+-- an item of the list passes the test, or none does
+pub search : {A : Type 0} (test : A → Bool) (xs : List A) → ((x : A) × Contains xs x × (test x ≡ true)) ⊎ ((x : A) → Contains xs x → test x ≡ false)
+search test [] = inr (λ x c. absurd (nothing_in x c))
+search test (y ∷ xs) = elim (cases_Bool (test y)) [
+  | inl t ↦ inl (y, contains_head y xs, t)
+  | inr f ↦ elim (search test xs) [
+    | inl p ↦ inl (p.0, contains_tail y xs p.0 p.1, p.2)
+    | inr none ↦ inr (λ x c. elim (contains_cases y xs x c) [
+      | inl same ↦ subst (λ (n : _). test n ≡ false) same f
+      | inr d ↦ none x d
+    ])
+  ]
+]
+
+-- all names of a world, in order
+module _ (w : World) where
+  abbrev There : Name → Type 0
+  There n = IsSome (node_of w n)
+
+  few : (maker : ℕ) (n : Name) → There n → n.maker ≡ maker → n.serial < serial_of w maker + 1
+  few maker n there e = elim (eqb_tells n.maker SHARED_MAKER) [
+    | inl p ↦ elim (eqb_tells n.serial 0) [
+      | inl z ↦ let zero_is : n.serial ≡ 0 = z.1 in omega arith
+      | inr z ↦ absurd (let bad = rw (p.0, z.0) at there in cc)
+    ]
+    | inr p ↦
+        let lt : n.serial < length (state_of w n.maker).nodes = get_is_some (state_of w n.maker).nodes n.serial (rw p.0 at there) in
+        let lt' : n.serial < serial_of w maker = subst (λ (k : ℕ). n.serial < serial_of w k) e lt in
+        omega arith
+  ]
+
+  maker_within : (n : Name) → There n → n.maker < SHARED_MAKER + length w.mutators + 1
+  maker_within n there = elim (eqb_tells n.maker SHARED_MAKER) [
+    | inl p ↦ let is : n.maker ≡ SHARED_MAKER = p.1 in omega arith
+    | inr p ↦ elim (cases_lt n.maker (length w.mutators)) [
+      | inl lt ↦ omega arith
+      | inr le ↦
+          let none : state_of w n.maker ≡ no_mutator = get_or_past w.mutators n.maker no_mutator le in
+          let lt : n.serial < length (state_of w n.maker).nodes = get_is_some (state_of w n.maker).nodes n.serial (rw p.0 at there) in
+          let bad : n.serial < 0 = subst (λ (s : MutatorState). n.serial < length s.nodes) none lt in
+          absurd (omega arith)
+    ]
+  ]
+
+  module _ (maker n : ℕ) (names : List Name) (l : ListsBefore There maker n names) where
+    abbrev place : Name
+    place = record { maker = maker; serial = n }
+
+    more_if : (b : Bool) → is_some (node_of w place) ≡ b → (names' : List Name) × ListsBefore There maker (n + 1) names'
+    more_if true e = (names ++ place ∷ [], lists_more There maker n names e l)
+    more_if false e = (
+      names,
+      lists_same There maker n names (λ there. let t : is_some (node_of w place) ≡ true = there in let bad : true ≡ false = sym t ∙ e in cc) l,
+    )
+
+    one_more : (names' : List Name) × ListsBefore There maker (n + 1) names'
+    one_more = more_if (is_some (node_of w place)) refl
+
+  up_to : (maker n : ℕ) (names : List Name) → ListsBefore There maker 0 names → (names' : List Name) × ListsBefore There maker n names'
+  up_to maker zero names l = (names, l)
+  up_to maker (suc n) names l =
+      let p : (names' : List Name) × ListsBefore There maker n names' = up_to maker n names l in
+      let q : (names' : List Name) × ListsBefore There maker (n + 1) names' = one_more maker n p.0 p.1 in
+      let on : n + 1 ≡ suc n = omega arith in
+      (q.0, subst (λ (k : ℕ). ListsBefore There maker k q.0) on q.1)
+
+  makers : (k : ℕ) → (names : List Name) × ListsBefore There k 0 names
+  makers zero = ([], lists_none There)
+  makers (suc k) =
+      let p : (names : List Name) × ListsBefore There k 0 names = makers k in
+      let q : (names : List Name) × ListsBefore There k (serial_of w k + 1) names = up_to k (serial_of w k + 1) p.0 p.1 in
+      let on : k + 1 ≡ suc k = omega arith in
+      (q.0, subst (λ (j : ℕ). ListsBefore There j 0 q.0) on (lists_maker There k (serial_of w k + 1) q.0 (few k) q.1))
+
+  pub all_names : (names : List Name) × Lists There names
+  all_names =
+      let p : (names : List Name) × ListsBefore There (SHARED_MAKER + length w.mutators + 1) 0 names = makers (SHARED_MAKER + length w.mutators + 1) in
+      (p.0, lists_all There (SHARED_MAKER + length w.mutators + 1) p.0 maker_within p.1)
+
+  -- the names with a fact that is decided, in order
+  pub listed : (P : Name → Type 0) → Decided P → ((n : Name) → P n → There n) → (names : List Name) × Lists P names
+  listed P d within = (
+    filter d.test all_names.0,
+    record {
+      ordered = in_order_filter d.test all_names.0 all_names.1.ordered;
+      sound = λ n c. d.yes n (filter_contains d.test all_names.0 n c).1;
+      complete = λ n p. contains_filter d.test all_names.0 n (all_names.1.complete n (within n p)) (d.no n p);
+    },
+  )
+
+-- names without one of them
+abbrev pub without : Name → List Name → List Name
+without n xs = filter (λ x. not (is_same_name x n)) xs
+
+fewer_step : (x n : Name) (xs : List Name) (b : Bool) → length (without n xs) ≤ length xs →
+    length (cond (not b) (x ∷ without n xs) (without n xs)) ≤ suc (length xs)
+fewer_step x n xs true le = omega arith
+fewer_step x n xs false le = omega arith
+
+fewer : (n : Name) (xs : List Name) → length (without n xs) ≤ length xs
+fewer n [] = omega arith
+fewer n (x ∷ xs) = fewer_step x n xs (is_same_name x n) (fewer n xs)
+
+gone_step : (x n : Name) (xs : List Name) (b : Bool) → b ≡ true → length (without n xs) ≤ length xs →
+    length (cond (not b) (x ∷ without n xs) (without n xs)) < suc (length xs)
+gone_step x n xs true e le = omega arith
+gone_step x n xs false e le = absurd (false≢true e)
+
+less_step : (x n : Name) (xs : List Name) (b : Bool) → length (without n xs) < length xs →
+    length (cond (not b) (x ∷ without n xs) (without n xs)) < suc (length xs)
+less_step x n xs true lt = omega arith
+less_step x n xs false lt = omega arith
+
+less : (n : Name) (xs : List Name) → Contains xs n → length (without n xs) < length xs
+less n [] c = absurd (nothing_in n c)
+less n (x ∷ xs) c = elim (contains_cases x xs n c) [
+  | inl same ↦ gone_step x n xs (is_same_name x n) (subst (λ (m : Name). is_same_name x m ≡ true) same (is_same_name-refl x)) (fewer n xs)
+  | inr d ↦ less_step x n xs (is_same_name x n) (less n xs d)
+]
+
+-- names that a rule adds from those that have a fact, until it adds none: the others are free
+pub record Settled (all : List Name) (rule : List Name → Name → Bool) (P : Name → Type 0) : Type 0 where
+  pub free : List Name
+  pub outside : (n : Name) → Contains all n → is_listed n free ≡ false → P n
+  pub inside : (n : Name) → Contains free n → rule free n ≡ false
+
+module _ (all : List Name) (rule : List Name → Name → Bool) (P : Name → Type 0)
+    (sound : (free : List Name) → ((n : Name) → Contains all n → is_listed n free ≡ false → P n) → (n : Name) → Contains all n → rule free n ≡ true → P n) where
+  -- one of the free names has the fact, and isn't free any more
+  freed : (free : List Name) → ((n : Name) → Contains free n → Contains all n) → ((n : Name) → Contains all n → is_listed n free ≡ false → P n) →
+      (m : Name) → Contains free m → rule free m ≡ true → (n : Name) → Contains all n → is_listed n (without m free) ≡ false → P n
+  freed free within out m c e n there h = elim (cases_Bool (is_listed n free)) [
+    | inl known ↦ elim (cases_Bool (is_same_name n m)) [
+      | inl same ↦ subst P (sym (tested_same n m same)) (sound free out m (within m c) e)
+      | inr other ↦ absurd (not_listed n (without m free) h (contains_filter (λ x.
+          not (is_same_name x m)) free n (contains_listed n free known) (ap not other)))
+    ]
+    | inr absent ↦ out n there absent
+  ]
+
+  settle : (k : ℕ) (free : List Name) → length free ≤ k → ((n : Name) → Contains free n → Contains all n) →
+      ((n : Name) → Contains all n → is_listed n free ≡ false → P n) → Settled all rule P
+  settle zero free le within out = elim (search (rule free) free) [
+    | inl f ↦ absurd (let lt : length (without f.0 free) < length free = less f.0 free f.1 in omega arith)
+    | inr none ↦ record { free = free; outside = out; inside = none }
+  ]
+  settle (suc k) free le within out = elim (search (rule free) free) [
+    | inl f ↦ settle k (without f.0 free) (let lt : length (without f.0 free) < length free = less f.0 free f.1 in omega arith)
+        (λ n c. within n (filter_contains (λ x. not (is_same_name x f.0)) free n c).0) (freed free within out f.0 f.1 f.2)
+    | inr none ↦ record { free = free; outside = out; inside = none }
+  ]
+
+  pub settled : Settled all rule P
+  settled = settle (length all) all (omega arith) (λ n c. c) (λ n c e. absurd (not_listed n all e c))

@@ -1,0 +1,7 @@
+use Rattle.std.proofs.Common.{◌++◌, List, take}
+use Rattle.nmgc_lax.specs.declared.debt.Debt.{Debt}
+use Rattle.nmgc_watch.specs.Accounts.{IsLeastIn, unpaid}
+use Rattle.nmgc_watch.proofs.accounts.least_of.Given as goal
+
+abbrev pub invariant-loop-debt : goal.invariant-loop-debt
+invariant-loop-debt l = (before : List Debt) → IsLeastIn before l.fn.so_far → IsLeastIn (before ++ unpaid l.marks (take l.debt-index l.debts)) l.least

@@ -1,0 +1,16 @@
+use Rattle.std.proofs.Common.{◌≡◌, ◌∙◌, sym, false}
+use Rattle.nmgc_graph.specs.declared.value.Name.{Name}
+use Rattle.nmgc_watch.specs.Cycles.{is_untaken}
+use Rattle.nmgc_watch.proofs.Filters.{each_more, each_all}
+use Rattle.nmgc_watch.proofs.cycle.untaken_of.Goals as goal
+
+pub loop-name-preserved : goal.loop-name-preserved
+loop-name-preserved c =
+    each_more (λ (n : Name). is_untaken c.args.taken.now n ≡ false) c.args.names.now c.loop-name.name-index (record {
+      maker = 0;
+      serial = 0;
+    }) c.loop-name-test.true c.loop-name.invariant
+    (sym c.is_untaken.ensures ∙ c.if-is_untaken.false)
+
+pub returns : goal.returns
+returns c = each_all (λ (n : Name). is_untaken c.args.taken.now n ≡ false) c.args.names.now c.loop-name.name-index c.loop-name-test.false c.loop-name.invariant

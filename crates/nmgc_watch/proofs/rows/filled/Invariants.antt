@@ -1,0 +1,6 @@
+use Rattle.std.proofs.Common.{◌≡◌}
+use Rattle.nmgc_watch.specs.Rows.{filled}
+use Rattle.nmgc_watch.proofs.rows.filled.Given as goal
+
+abbrev pub invariant-loop-turn : goal.invariant-loop-turn
+invariant-loop-turn l = l.commands ≡ filled l.filling l.turn

@@ -1,0 +1,92 @@
+-- What each mutator owes: a queue of debts, and the set of names that came due by it.
+use Rattle.std.specs.Prelude.{◌≡◌, ◌⊎◌, ◌<◌, ◌≤◌, ℕ, List, [], ◌∷◌, ◌++◌, length, filter, slice_get, slice_set, slice_index_or, Option, Some, None, Bool, false, not, ◌&&◌, IsSome, IfSome, Contains, if◌then◌else◌}
+use Rattle.std.specs.List.{flat_map}
+use Rattle.nmgc_graph.specs.declared.value.Name.{Name}
+use Rattle.nmgc_graph.specs.World.{World, node_of}
+use Rattle.nmgc_graph.specs.Marks.{HasPlaces, IsMarked, mark_of, with_mark}
+use Rattle.nmgc_lax.specs.declared.debt.Debt.{Debt}
+use Rattle.nmgc_watch.specs.declared.accounts.Accounts.{Accounts}
+use Rattle.nmgc_watch.specs.Dues.{is_owable}
+
+-- a debt counts
+abbrev pub is_unpaid : List (List Bool) → Debt → Bool
+is_unpaid marks debt = not (mark_of marks debt.name)
+
+-- the debts that count: those whose names aren't in the set of pushed names
+abbrev pub unpaid : List (List Bool) → List Debt → List Debt
+unpaid marks debts = filter (is_unpaid marks) debts
+
+-- the first debt counts
+abbrev pub IsPaidUp : List (List Bool) → List Debt → Type 0
+IsPaidUp marks debts = IfSome (slice_get debts 0) (λ debt. mark_of marks debt.name ≡ false)
+
+-- the debt of a name, since a line in which a mutator gave a command
+abbrev pub debt_of : ℕ → ℕ → Name → Debt
+debt_of line m name = record { name = name; line = line; mutator = m }
+
+-- the queue of one mutator
+abbrev pub queue_of : List (List Debt) → ℕ → List Debt
+queue_of queues m = slice_index_or queues m []
+
+-- the names that came due by one mutator
+abbrev pub set_of : List (List (List Bool)) → ℕ → List (List Bool)
+set_of sets m = slice_index_or sets m []
+
+-- all debts
+abbrev pub all_debts : List (List Debt) → List Debt
+all_debts queues = flat_map (λ queue. queue) queues
+
+-- each mutator has a queue and a set, with a place for each name of the snapshot; a queue has the mutator's own
+-- debts, of names of the snapshot; and a name that came due was pushed, or stands in the queue
+pub record AreAccounts (marks : List (List Bool)) (snapshot : World) (a : Accounts) : Type 0 where
+  pub sets : length a.names ≡ length a.debts
+  pub places : (m : ℕ) → m < length a.debts → HasPlaces snapshot (set_of a.names m)
+  pub own : (m : ℕ) (debt : Debt) → Contains (queue_of a.debts m) debt → debt.mutator ≡ m
+  pub there : (m : ℕ) (debt : Debt) → Contains (queue_of a.debts m) debt → IsSome (node_of snapshot debt.name)
+  pub owes : (m : ℕ) (name : Name) → IsMarked (set_of a.names m) name → IsMarked marks name ⊎
+      ((debt : Debt) × Contains (queue_of a.debts m) debt × (debt.name ≡ name))
+
+-- nobody owes anything
+pub record AreNew (snapshot : World) (a : Accounts) : Type 0 where
+  pub queues : (m : ℕ) → queue_of a.debts m ≡ []
+  pub count : length a.debts ≡ length snapshot.mutators
+  pub sets : length a.names ≡ length snapshot.mutators
+  pub places : (m : ℕ) → m < length snapshot.mutators → HasPlaces snapshot (set_of a.names m)
+  pub free : (m : ℕ) (name : Name) → mark_of (set_of a.names m) name ≡ false
+
+-- whether a debt is a new one: its name may be due, wasn't pushed, and didn't come due by its mutator before
+abbrev pub is_new : World → List (List Bool) → Accounts → Debt → Bool
+is_new snapshot marks a debt = is_owable snapshot debt.name && (not (mark_of marks debt.name) && not (mark_of (set_of a.names debt.mutator) debt.name))
+
+-- after a debt was added, if it is new: it goes behind those of its mutator
+abbrev pub owed_one : World → List (List Bool) → Accounts → Debt → Accounts
+owed_one snapshot marks a debt =
+    if is_new snapshot marks a debt
+    then (record {
+      debts = slice_set a.debts debt.mutator (queue_of a.debts debt.mutator ++ debt ∷ []);
+      names = slice_set a.names debt.mutator (with_mark (set_of a.names debt.mutator) debt.name);
+    })
+    else a
+
+-- what counts after names came due at a line of a mutator: what did, and each of the names that may be due and wasn't
+-- pushed is owed by the mutator, since this line or since an earlier one
+pub record IsOwing (snapshot : World) (marks : List (List Bool)) (line m : ℕ) (names : List Name) (before after : Accounts) : Type 0 where
+  pub old : (debt : Debt) → Contains (unpaid marks (all_debts before.debts)) debt → Contains (unpaid marks (all_debts after.debts)) debt
+  pub new : (debt : Debt) → Contains (unpaid marks (all_debts after.debts)) debt → Contains (unpaid marks (all_debts before.debts)) debt ⊎
+      ((debt.line ≡ line) × (debt.mutator ≡ m) × Contains (filter (is_owable snapshot) names) debt.name)
+  pub due : (name : Name) → Contains (filter (is_owable snapshot) names) name → IsMarked marks name ⊎
+      ((debt : Debt) × Contains (unpaid marks (all_debts after.debts)) debt × (debt.name ≡ name) × (debt.mutator ≡ m))
+
+-- debts that no longer count left the front of a mutator's queue
+pub record IsForgotten (marks : List (List Bool)) (m : ℕ) (before after : Accounts) : Type 0 where
+  pub queue : List Debt
+  pub debts : after.debts ≡ slice_set before.debts m queue
+  pub names : after.names ≡ before.names
+  pub same : unpaid marks queue ≡ unpaid marks (queue_of before.debts m)
+  pub fewer : (debt : Debt) → Contains queue debt → Contains (queue_of before.debts m) debt
+  pub first : IsPaidUp marks queue
+
+-- the debt of the least line, if there is any
+abbrev pub IsLeastIn : List Debt → Option Debt → Type 0
+IsLeastIn debts None = debts ≡ []
+IsLeastIn debts (Some debt) = Contains debts debt × ((other : Debt) → Contains debts other → debt.line ≤ other.line)
