@@ -99,7 +99,7 @@ class Core(Watch):
         debt = self.owed[mutator].pop(0)
         if debt.name in self.snapshot.lines and debt.name != "g":
             self.kept_back[mutator].append(debt)
-            self.pushed.add(debt.name)
+            self.pushed[debt.name] = debt.line
 
     def mutator(self, word):
         """The mutator of a push or a take, in a cycle."""

@@ -8,14 +8,16 @@ from typing import NamedTuple, Optional
 from .paths import search
 from .paths import live as live_by
 from .text import is_number, order
-from .world import World, command_of, is_answer, is_told_name
+from .world import REGISTER, World, command_of, is_answer, is_told_name
 
 HEAD = "trace 2"
 MUTATORS = 32
+# The answers of commands that weren't done.
+REFUSALS = ("nopointer", "nofield", "wrongkind", "notowner", "fixed", "dead", "none", "stackfull", "stackempty", "already", "no", "yes", "updated")
 
 
 class Debt(NamedTuple):
-    """A name that is due since a line: by which command, and from which object it went, and from which of its fields."""
+    """A name that is due since a line: by which command, from which object it went, from which of its fields, and the line's text."""
 
     name: str
     line: int
@@ -23,6 +25,7 @@ class Debt(NamedTuple):
     command: str
     source: str
     field: Optional[int]
+    text: str = ""
 
 
 class Refusal(NamedTuple):
@@ -52,14 +55,16 @@ class Watch:
 
     def __init__(self):
         self.phase, self.world, self.snapshot, self.mark_line = "nothing", None, None, 0
-        self.debts, self.pushed, self.opened, self.finalised = [], set(), [], set()
+        self.debts, self.pushed, self.told_taken, self.opened, self.finalised = [], {}, set(), [], set()
         self.kept, self.needed, self.refusal = set(), set(), None
+        self.text, self.cycles, self.commands, self.pushes, self.dues = "", 0, 0, 0, 0
 
     def event(self, number, text):
         """Does a line; raises `Refused` where it can't happen."""
         word, _, rest = text.partition(" ")
-        if text == "" or text.startswith("#") or text == HEAD:
+        if text == "" or text.startswith("#") or (number == 1 and text == HEAD):
             return
+        self.text = text
         event = getattr(self, f"_{word}", None) if word.isalpha() else None
         if event is None:
             self.command(number, word, rest)
@@ -73,9 +78,17 @@ class Watch:
 
     def command(self, number, word, rest):
         """`M COMMAND = ANSWER`."""
+        rows = rows_of(rest) if is_number(word, 256) else None
+        if rows is not None:
+            self.in_phase("between", "marking", "ended")
+            for words in rows:
+                self.give(number, int(word), words, None)
+            self.commands += 1
+            return
         mutator, words = self.words_of(word, rest)
         self.in_phase("between", "marking", "ended")
         self.give(number, mutator, words, rest.partition(" = ")[2])
+        self.commands += 1
 
     def words_of(self, word, rest):
         """The mutator and the words of a command that has an answer."""
@@ -86,12 +99,12 @@ class Watch:
         return int(word), words
 
     def give(self, number, mutator, words, answer):
-        """A mutator gives a command."""
+        """A mutator gives a command, with this answer, or with any that is no refusal."""
         if not self.world.can_apply(mutator):
             raise Refused("words", "can't happen: there is no such mutator or register")
         effect = self.world.effect(mutator, words)
-        if effect.reply != answer:
-            raise Refused("answer", "can't happen: the heap has another answer", self.world.object_of(mutator, words), None, effect.reply)
+        if effect.reply in REFUSALS if answer is None else effect.reply != answer:
+            raise Refused("answer", f"can't happen: the heap answers {effect.reply}", self.world.object_of(mutator, words), None, effect.reply)
         if self.phase == "marking":
             self.due(number, mutator, words, effect)
         self.world.apply(mutator, effect)
@@ -113,7 +126,8 @@ class Watch:
                 kept = [(name, name, None), (then[2], name, 1), (then[3], name, 2)]
         for target, source, field in lost + opens + kept:
             if target != "g" and target in self.snapshot.lines:
-                self.debts.append(Debt(target, number, mutator, command, source, field))
+                self.dues += 1
+                self.debts.append(Debt(target, number, mutator, command, source, field, self.text))
 
     def lost(self, name, effect):
         """The fields of the snapshot that stand in the object, and don't once it has other words."""
@@ -130,7 +144,8 @@ class Watch:
         """Refuses a line where something is due."""
         debt = self.unpaid(mutator)
         if debt:
-            raise Refused("due", f"can't happen: {debt.name} is due since line {debt.line}, and nobody remembered it", debt.name, debt)
+            told = f"can't happen: {debt.name} is due since line {debt.line} ({debt.text}), and nobody remembered it"
+            raise Refused("due", told, debt.name, debt)
 
     def _mutators(self, number, rest, more):
         if not is_number(rest, 256):
@@ -144,7 +159,7 @@ class Watch:
             raise unknown()
         self.in_phase("between", "ended")
         self.phase, self.mark_line, self.snapshot = "marking", number, self.world.copy()
-        self.debts, self.pushed, self.opened, self.finalised = [], set(), [], set()
+        self.debts, self.pushed, self.told_taken, self.opened, self.finalised = [], {}, set(), [], set()
 
     def _push(self, number, rest, more):
         who, _, name = rest.partition(" ")
@@ -153,7 +168,8 @@ class Watch:
         self.in_phase("marking")
         if name not in self.world.lines:
             raise Refused("name", f"can't happen: the heap has no {name}", name)
-        self.pushed.add(name)
+        self.pushed[name] = number
+        self.pushes += 1
 
     def _settle(self, number, rest, more):
         if not is_number(rest, 256):
@@ -167,11 +183,15 @@ class Watch:
         self.in_phase("marking")
         if rest not in self.pushed or rest not in self.snapshot.lines:
             raise Refused("take", f"can't happen: {rest} wasn't pushed, or was made since the cycle began", rest)
+        self.told_taken.add(rest)
 
     def _close(self, number, rest, more):
         told = _names(rest) if more else None
         self.in_phase("marking")
         self.pay()
+        flying = [name for name in self.pushed if name in self.snapshot.lines and name != "g" and name not in self.told_taken]
+        if self.told_taken and flying:
+            raise Refused("untaken", f"can't happen: nobody took {flying[0]}", flying[0])
         live, dead = self.outcome(self.opened + sorted(self.pushed))
         needed, sure = self.outcome(self.opened)
         if told is not None:
@@ -183,6 +203,7 @@ class Watch:
         for name in sorted(dead, key=order):
             self.world.kill(name)
         self.phase = "ended"
+        self.cycles += 1
 
     def outcome(self, extra):
         """What the snapshot keeps with these names beside its roots, and which of its weak pointers die."""
@@ -209,6 +230,8 @@ class Watch:
         for name in names:
             if name not in self.world.lines:
                 raise Refused("name", f"can't happen: the heap has no {name}", name)
+            if name not in self.snapshot.lines:
+                raise Refused("new", f"can't happen: {name} was made since the cycle began", name)
             if name in self.needed:
                 raise Refused("needed", f"can't happen: {name} is needed", name)
 
@@ -224,7 +247,14 @@ class Watch:
             return "a cycle goes on"
         if self.phase == "ended":
             return "each line can happen, but there is no stop"
-        return "each line can happen" if self.phase == "stopped" else "nothing is marked"
+        return f"each line can happen: {self.counts()}" if self.phase == "stopped" else "nothing is marked"
+
+    def counts(self):
+        """How much the trace tells, and how often something came due."""
+        due = "once" if self.dues == 1 else f"{self.dues} times"
+        tried = f"something came due {due}" if self.dues else "nothing came due, so no barrier was tried"
+        push = "push" if self.pushes == 1 else "pushes"
+        return f"{_count(self.cycles, 'cycle')}, {_count(self.commands, 'command')}, {self.pushes} {push}; {tried}"
 
 
 def unknown():
@@ -232,7 +262,45 @@ def unknown():
     return Refused("words", "is none of a trace")
 
 
+def rows_of(rest):
+    """The commands of a copy or a fill that was done, if the line tells one."""
+    command, equals, answer = rest.partition(" = ")
+    words = command.split(" ")
+    if not equals or answer != "ok":
+        return None
+    if words[0] == "copy" and len(words) == 8 and words[6] == "via":
+        _, to, place, source, first, count, _, register = words
+        if not (_are_operands(to, source) and REGISTER.fullmatch(register) and _are_indices(place, first, count)):
+            return None
+        turns = range(int(count))
+        rows = []
+        for at in reversed(turns) if int(place) > int(first) else turns:
+            rows.append(["get", register, source, str(int(first) + at)])
+            rows.append(["set", to, str(int(place) + at), register])
+        return rows
+    if words[0] == "fill" and len(words) == 5:
+        _, to, first, count, value = words
+        if not (_are_operands(to, value) and _are_indices(first, count)):
+            return None
+        return [["set", to, str(int(first) + at), value] for at in range(int(count))]
+    return None
+
+
+def _are_operands(*words):
+    return all(word == "g" or REGISTER.fullmatch(word) for word in words)
+
+
+def _are_indices(*words):
+    return all(is_number(word, 65536) for word in words)
+
+
+def _count(number, what):
+    return f"{number} {what}" if number == 1 else f"{number} {what}s"
+
+
 def _names(rest):
+    if rest == "-":
+        return []
     names = rest.split(" ")
     if not all(is_told_name(name) for name in names):
         raise unknown()

@@ -264,6 +264,8 @@ def told(watch, now):
         "dead": f"The weak pointer {name} lives as long as its key can be reached.",
         "told": f"What the snapshot leads to, what was read out of a weak pointer and what was pushed has to be marked: {name} among it.",
         "marked": f"Neither the snapshot nor a push leads to {name}.",
+        "untaken": f"{name} was pushed, and it is told what the marker took: so {name} is still on its way, and marking can't end.",
+        "new": f"The snapshot has no {name}: it was made later, so the cycle can't have found it to be garbage.",
         "needed": f"The snapshot or a weak pointer that was read leads to {name}, so it can't be freed.",
     }[refusal.sort]
 

@@ -1,6 +1,9 @@
 mod Drains
 mod Happens
 mod Kepts
+mod Markers
+mod Readings
 mod Takes
 mod Tellings
 mod Traces
+mod Wholes

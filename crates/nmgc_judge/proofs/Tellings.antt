@@ -11,7 +11,7 @@ use Rattle.nmgc_judge.specs.declared.report.Report.TheVariants as report
 use Rattle.nmgc_judge.specs.Reports.{Happens, IsRefusal, Comes, EndsAtLine, EndsWell, IsReport, report_of}
 
 -- one more line at the end
-comes_push : (n : ℕ) (p q r : Begun) (ts : List Told) (t : Told) (k : ℕ) → k ≡ n + length ts → Comes n p ts q → Happens k q t r → Comes n p (ts ++ t ∷ []) r
+pub comes_push : (n : ℕ) (p q r : Begun) (ts : List Told) (t : Told) (k : ℕ) → k ≡ n + length ts → Comes n p ts q → Happens k q t r → Comes n p (ts ++ t ∷ []) r
 comes_push n p q r [] t k e c can = let P : Begun → Type 0 = λ b. Happens n b t r in let is : k ≡ n = omega arith in
     (r, subst P c (subst (λ (j : ℕ). Happens j q t r) is can), refl)
 comes_push n p q r (x ∷ ts) t k e c can = (c.0, c.1, comes_push (n + 1) c.0 q r ts t k (omega arith) c.2 can)

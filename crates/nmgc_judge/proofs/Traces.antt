@@ -11,7 +11,7 @@ use Rattle.nmgc_judge.specs.Trace.{Can, Comes, IsNext}
 use Rattle.nmgc_judge.specs.Verdicts.{EndsAtLine, IsTold, IsVerdict, refusal_of}
 
 -- one more line at the end
-comes_push : (p q r : Progress) (ls : List Line) (l : Line) → Comes p ls q → Can q l r → Comes p (ls ++ l ∷ []) r
+pub comes_push : (p q r : Progress) (ls : List Line) (l : Line) → Comes p ls q → Can q l r → Comes p (ls ++ l ∷ []) r
 comes_push p q r [] l c can = let P : Progress → Type 0 = λ t. Can t l r in (r, subst P c can, refl)
 comes_push p q r (x ∷ ls) l c can = (c.0, c.1, comes_push c.0 q r ls l c.2 can)
 
@@ -53,6 +53,23 @@ ends_at_line lines i l q told lt is c cannot e =
     } in
     let P : Verdict → Type 0 = IsVerdict lines in
     subst P (sym e) (refusal_verdict lines l (i + 1) ends)
+
+-- a trace whose last line can't happen
+pub ends_here : (lines : List Line) (l : Line) (q : Progress) (told : Verdict) → Comes progress.Nothing lines q → IsNext q l None →
+    told ≡ refusal_of l (length lines + 1) → IsVerdict (lines ++ l ∷ []) told
+ends_here lines l q told c cannot e =
+    let ends : EndsAtLine (lines ++ l ∷ []) (refusal_of l (length lines + 1)) = record {
+      earlier = lines;
+      line = l;
+      later = [];
+      lines_are = refl;
+      before = q;
+      comes = c;
+      cannot = cannot;
+      told_is = refl;
+    } in
+    let P : Verdict → Type 0 = IsVerdict (lines ++ l ∷ []) in
+    subst P (sym e) (refusal_verdict (lines ++ l ∷ []) l (length lines + 1) ends)
 
 not_bad : (p : Progress) (n : ℕ) → IsTold p (verdict.Bad n) → ⊥
 not_bad progress.Nothing n t = cc

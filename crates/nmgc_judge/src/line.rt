@@ -1,15 +1,16 @@
 //! What a line of a trace says.
 //!
 //! A command is spelled as in a script, so `nmgc_script` reads it: as the one command of a script that has
-//! nothing else.
+//! nothing else. Names and values are spelled as in a report, so `nmgc_journal` reads them.
 use nmgc_core::Event;
-use nmgc_graph::{Command, List, Name, NoMemory, Reply, SHARED_MAKER, Value};
+use nmgc_graph::{Command, List, Name, NoMemory, Reply};
 use nmgc_io::read_number;
+use nmgc_journal::{read_name, read_value};
 use nmgc_script::{ScriptFault, parse};
 use std::alloc::Global;
 
 // A script's lines before its first command.
-const HEAD: &str = "nmgc 2\nheap 128 4096 4096 4096 1048576 8\nthread 0\n";
+const SCRIPT_HEAD: &str = "nmgc 2\nheap 128 4096 4096 4096 1048576 8\nthread 0\n";
 
 // No command of a trace takes more bytes, with the head before it.
 const LONGEST: usize = 65536;
@@ -33,16 +34,7 @@ pub enum Line {
     Unknown,
 }
 
-/// The lines of a trace, in order, each line of the text one of them.
-pub fn lines_of(alloc: Global, text: &str) -> Result<List<Line>, NoMemory> {
-    let mut lines = List::new(alloc);
-    for line in text.lines() {
-        lines.push(line_of(alloc, line)?)?;
-    }
-    Ok(lines)
-}
-
-/// What a line says.
+/// What a line says whose text, without its end, this is.
 pub fn line_of(alloc: Global, text: &str) -> Result<Line, NoMemory> {
     if text.is_empty() || text.starts_with('#') {
         return Ok(Line::Blank);
@@ -92,7 +84,7 @@ fn take_of(rest: &str) -> Option<Line> {
     let (mutator, name) = rest.split_once(' ')?;
     Some(Line::Take {
         mutator: byte_of(mutator)?,
-        name: name_of(name)?,
+        name: read_name(name.as_bytes())?,
     })
 }
 
@@ -113,7 +105,7 @@ pub fn given_of(
 
 // The command that a line of a script spells.
 fn command_of(alloc: Global, line: &str) -> Result<Option<Command>, NoMemory> {
-    let text = format!(in alloc; "{HEAD}{line}\n")?;
+    let text = format!(in alloc; "{SCRIPT_HEAD}{line}\n")?;
     if text.len() > LONGEST {
         return Ok(None);
     }
@@ -144,34 +136,7 @@ fn reply_of(word: &str) -> Option<Reply> {
         "none" => Reply::Nothing,
         "stackfull" => Reply::StackFull,
         "stackempty" => Reply::StackEmpty,
-        _ => Reply::Given(value_of(word)?),
-    })
-}
-
-// A value: `nil`, a number or a name.
-fn value_of(word: &str) -> Option<Value> {
-    if word == "nil" {
-        return Some(Value::Nil);
-    }
-    match read_number(word.as_bytes(), u64::MAX) {
-        Some(number) => Some(Value::Number(number)),
-        None => Some(Value::Ref(name_of(word)?)),
-    }
-}
-
-/// A name: the maker and the number of the object, or `g`, which is spelled in no other way.
-pub fn name_of(word: &str) -> Option<Name> {
-    if word == "g" {
-        return Some(Name::SHARED);
-    }
-    let (maker, serial) = word.split_once('.')?;
-    let maker = byte_of(maker)?;
-    if maker == SHARED_MAKER {
-        return None;
-    }
-    Some(Name {
-        maker,
-        serial: read_number(serial.as_bytes(), u64::from(u32::MAX))? as u32,
+        _ => Reply::Given(read_value(word.as_bytes())?),
     })
 }
 

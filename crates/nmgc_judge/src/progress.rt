@@ -19,6 +19,46 @@ use crate::line::Line;
 use nmgc_core::{Core, Event};
 use nmgc_graph::{MAKERS, Name, NoMemory, World};
 use std::alloc::Global;
+use std::marker::Model;
+
+/// A world that commands build. Contracts see it as that world.
+#[derive(Drop)]
+pub struct Built {
+    world: Box<World>,
+}
+
+impl Model for Built {
+    ghost use Rattle.nmgc_graph.specs.World.{World};
+
+    ghost Value = { World };
+
+    ghost view = { λ b. b.world.value };
+}
+
+impl Built {
+    // A world in a place of its own in memory.
+    fn new(alloc: Global, world: World) -> Result<Self, NoMemory>
+        ensures { IfOk result (λ built. built ≡ world) }
+    {
+        let world = Box::new(alloc, world)?;
+        Ok(Built { world })
+    }
+
+    // The world. Takes no memory, and constant time.
+    fn into_world(self) -> World
+        ensures { result ≡ self }
+    {
+        let Built { world } = self;
+        Box::into_inner(world)
+    }
+
+    // The same as `is_answered`.
+    fn answers(&mut self, event: &Event) -> Result<bool, NoMemory>
+        ensures { IfOk result (λ done. IsAnsweredIf self.old event.now done self.new) }
+    {
+        is_answered(&mut self.world, event)
+    }
+}
 
 /// How far a trace has come.
 #[derive(Drop)]
@@ -26,7 +66,7 @@ pub enum Progress {
     /// There are no mutators yet.
     Nothing,
     /// Commands build the world with which marking will begin.
-    Building(World),
+    Building(Built),
     /// Marking has begun in this machine, and may have ended.
     Marking(Core),
 }
@@ -58,8 +98,8 @@ impl Progress {
     {
         match self {
             Progress::Nothing => started(alloc, count),
-            Progress::Building(world) => {
-                drop(world);
+            Progress::Building(built) => {
+                drop(built);
                 Ok(None)
             }
             Progress::Marking(core) => {
@@ -75,7 +115,9 @@ impl Progress {
     {
         match self {
             Progress::Nothing => Ok(None),
-            Progress::Building(world) => Ok(Some(Progress::Marking(Core::new(world)?))),
+            Progress::Building(built) => {
+                Ok(Some(Progress::Marking(Core::new(built.into_world())?)))
+            }
             Progress::Marking(core) => {
                 drop(core);
                 Ok(None)
@@ -89,9 +131,9 @@ impl Progress {
     {
         match self {
             Progress::Nothing => Ok(None),
-            Progress::Building(mut world) => {
-                let happened = is_answered(&mut world, event);
-                Progress::Building(world).if_happened(happened)
+            Progress::Building(mut built) => {
+                let happened = built.answers(event);
+                Progress::Building(built).if_happened(happened)
             }
             Progress::Marking(mut core) => {
                 let happened = core.step(event);
@@ -106,8 +148,8 @@ impl Progress {
     {
         match self {
             Progress::Nothing => Ok(None),
-            Progress::Building(world) => {
-                drop(world);
+            Progress::Building(built) => {
+                drop(built);
                 Ok(None)
             }
             Progress::Marking(mut core) => {
@@ -123,8 +165,8 @@ impl Progress {
     {
         match self {
             Progress::Nothing => Ok(None),
-            Progress::Building(world) => {
-                drop(world);
+            Progress::Building(built) => {
+                drop(built);
                 Ok(None)
             }
             Progress::Marking(mut core) => match drain(&mut core) {
@@ -162,7 +204,8 @@ fn started(alloc: Global, count: u8) -> Result<Option<Progress>, NoMemory>
     if count == 0 || count > MAKERS {
         return Ok(None);
     }
-    Ok(Some(Progress::Building(World::new(alloc, count)?)))
+    let built = Built::new(alloc, World::new(alloc, count)?)?;
+    Ok(Some(Progress::Building(built)))
 }
 
 // Has the world do a command, and says whether it could and gave this answer.

@@ -1,14 +1,13 @@
 //! What a trace of format 2 comes to: the first line that can't happen, with the reason, or whether it is whole.
 ghost use Rattle.std.specs.Prelude.{List, ◌≡◌, IfOk};
 ghost use Rattle.nmgc_judge.specs.Reports.{IsHappening, IsReport, report_of, is_whole};
-ghost use Rattle.nmgc_judge.specs.declared.told.Told.{Told as ToldAt};
+ghost use Rattle.nmgc_judge.specs.Whole.{TellsWhole};
 ghost use Rattle.nmgc_judge.specs.declared.told.Told.TheVariants as told_is;
 
-use crate::told::{Told, told_lines};
-use nmgc_graph::{MAKERS, Name, NoMemory, SHARED_MAKER};
+use crate::told::Told;
+use nmgc_graph::{MAKERS, NoMemory};
 use nmgc_watch::{Watch, Why};
 use std::alloc::Global;
-use std::fmt;
 
 /// How far a trace has come.
 #[derive(Drop)]
@@ -57,90 +56,13 @@ impl Report {
     }
 }
 
-impl fmt::Display for Report {
-    fn fmt<W: fmt::Write>(&self, f: &mut fmt::Formatter<W>) -> fmt::Result {
-        match self {
-            Report::Refused(line, refusal) => {
-                write!(f, "line {line} ")?;
-                write_refusal(f, *refusal)
-            }
-            Report::Unmarked => write!(f, "nothing is marked"),
-            Report::Open => write!(f, "a cycle goes on"),
-            Report::Cut => write!(f, "each line can happen, but there is no stop"),
-            Report::Whole => write!(f, "each line can happen"),
-        }
-    }
-}
-
-// Writes why a line can't happen.
-fn write_refusal<W: fmt::Write>(f: &mut fmt::Formatter<W>, refusal: Refusal) -> fmt::Result {
-    match refusal {
-        Refusal::Unknown => write!(f, "is none of a trace"),
-        Refusal::Misplaced | Refusal::Event(Why::Misplaced) => write!(f, "can't stand there"),
-        Refusal::Event(Why::CannotApply) => {
-            write!(f, "can't happen: there is no such mutator or register")
-        }
-        Refusal::Event(Why::Answer(_)) => write!(f, "can't happen: the heap has another answer"),
-        Refusal::Event(Why::NoSuchName(name)) => {
-            write!(f, "can't happen: the heap has no ")?;
-            write_name(f, name)
-        }
-        Refusal::Event(Why::Due(debt)) => {
-            write!(f, "can't happen: ")?;
-            write_name(f, debt.name)?;
-            let line = debt.line;
-            write!(f, " is due since line {line}, and nobody remembered it")
-        }
-        Refusal::Event(Why::NotPushed(name)) => {
-            write!(f, "can't happen: ")?;
-            write_name(f, name)?;
-            write!(f, " wasn't pushed, or was made since the cycle began")
-        }
-        Refusal::Event(Why::NotDead(name)) => {
-            write!(f, "can't happen: ")?;
-            write_name(f, name)?;
-            write!(f, " isn't dead")
-        }
-        Refusal::Event(Why::NotTold(name)) => {
-            write!(f, "can't happen: ")?;
-            write_name(f, name)?;
-            write!(f, " has to be marked")
-        }
-        Refusal::Event(Why::NotMarked(name)) => {
-            write!(f, "can't happen: nothing keeps ")?;
-            write_name(f, name)
-        }
-        Refusal::Event(Why::Needed(name)) => {
-            write!(f, "can't happen: ")?;
-            write_name(f, name)?;
-            write!(f, " is needed")
-        }
-    }
-}
-
-// Writes a name.
-fn write_name<W: fmt::Write>(f: &mut fmt::Formatter<W>, name: Name) -> fmt::Result {
-    if name.maker == SHARED_MAKER {
-        return write!(f, "g");
-    }
-    write!(f, "{}.{}", name.maker, name.serial)
-}
-
-/// The report on the lines of a text: that of `judge_told` on what they say.
-pub fn report_on(alloc: Global, text: &str) -> Result<Report, NoMemory>
-    ensures { IfOk result (λ report. (lines : List ToldAt) × IsReport lines report) }
-{
-    let lines = told_lines(alloc, text)?;
-    let report = judge_told(alloc, lines.items());
-    drop(lines);
-    report
-}
-
 /// The report on a trace. `Refused` comes exactly where a line can't happen after those before it, each of which could;
 /// then it is the first such line, with a reason that is a fact there. `Whole` comes exactly where each line can happen
-/// and the last event is a stop, so that a cycle has ended, and each cycle ended without debts.
+/// and the last event is a stop; then a cycle has ended, and in each that has, every marker beside the barrier that ends
+/// marked exactly what is told as kept.
 pub fn judge_told(alloc: Global, lines: &[Told]) -> Result<Report, NoMemory>
-    ensures { IfOk result (IsReport lines.now) }
+    ensures report { IfOk result (IsReport lines.now) }
+    ensures whole { IfOk result (TellsWhole lines.now) }
 {
     let mut begun = Begun::Nothing;
     for (index, told) in lines.iter().enumerate() {
@@ -155,8 +77,8 @@ pub fn judge_told(alloc: Global, lines: &[Told]) -> Result<Report, NoMemory>
     Ok(report)
 }
 
-// Does a line, where it can happen.
-fn happen(
+/// Does a line, where it can happen.
+pub(crate) fn happen(
     begun: &mut Begun,
     alloc: Global,
     line: usize,
@@ -193,8 +115,8 @@ fn start(begun: &mut Begun, alloc: Global, count: u8) -> Result<Option<Refusal>,
     Ok(None)
 }
 
-// What a trace comes to whose lines can all happen.
-fn report_of(begun: &Begun) -> Report
+/// What a trace comes to whose lines can all happen.
+pub(crate) fn report_of(begun: &Begun) -> Report
     ensures { result ≡ report_of begun.now }
 {
     match begun {

@@ -2,9 +2,12 @@
 //!
 //! Commands, answers and names are spelled as in format 1 (`line`). A push has its name, and there is no marker: no
 //! line scans or drains, and a take only says what the runtime's own marker took.
-use crate::line::{byte_of, given_of, name_of};
-use nmgc_graph::{List, Name, NoMemory};
-use nmgc_watch::Event;
+use crate::line::{byte_of, given_of};
+use nmgc_graph::{Command, List, Name, NoMemory, Operand};
+use nmgc_io::read_number;
+use nmgc_journal::read_name;
+use nmgc_watch::rows::{copied, filled};
+use nmgc_watch::{Copying, Event, Filling};
 use std::alloc::Global;
 
 /// The first line of a trace of format 2.
@@ -23,18 +26,9 @@ pub enum Told {
     Unknown,
 }
 
-/// The lines of a trace, in order, each line of the text one of them. The head counts as a line that says nothing.
-pub fn told_lines(alloc: Global, text: &str) -> Result<List<Told>, NoMemory> {
-    let mut lines = List::new(alloc);
-    for line in text.lines() {
-        lines.push(told_of(alloc, line)?)?;
-    }
-    Ok(lines)
-}
-
-/// What a line says.
+/// What a line says whose text, without its end, this is.
 pub fn told_of(alloc: Global, text: &str) -> Result<Told, NoMemory> {
-    if text.is_empty() || text.starts_with('#') || text == HEAD {
+    if text.is_empty() || text.starts_with('#') {
         return Ok(Told::Blank);
     }
     match text {
@@ -63,7 +57,7 @@ fn longer_line(alloc: Global, word: &str, rest: &str) -> Result<Told, NoMemory> 
             Some(name) => Told::Event(Event::Push { name }),
             None => Told::Unknown,
         }),
-        "take" => Ok(match name_of(rest) {
+        "take" => Ok(match read_name(rest.as_bytes()) {
             Some(name) => Told::Event(Event::Take { name }),
             None => Told::Unknown,
         }),
@@ -80,19 +74,107 @@ fn longer_line(alloc: Global, word: &str, rest: &str) -> Result<Told, NoMemory> 
             None => Told::Unknown,
         }),
         _ => match (byte_of(word), rest.split_once(" = ")) {
-            (Some(mutator), Some((command, answer))) => {
-                match given_of(alloc, command, answer)? {
-                    Some((command, answer)) => Ok(Told::Event(Event::Given {
-                        mutator,
-                        command,
-                        answer,
-                    })),
-                    None => Ok(Told::Unknown),
-                }
-            }
+            (Some(mutator), Some((command, answer))) => given(alloc, mutator, command, answer),
             _ => Ok(Told::Unknown),
         },
     }
+}
+
+// What a mutator gave, and its answer.
+fn given(alloc: Global, mutator: u8, command: &str, answer: &str) -> Result<Told, NoMemory> {
+    if let Some(commands) = rows_of(alloc, command, answer)? {
+        return Ok(Told::Event(Event::Rows { mutator, commands }));
+    }
+    match given_of(alloc, command, answer)? {
+        Some((command, answer)) => Ok(Told::Event(Event::Given {
+            mutator,
+            command,
+            answer,
+        })),
+        None => Ok(Told::Unknown),
+    }
+}
+
+// The commands of a copy or a fill, which was done.
+fn rows_of(alloc: Global, command: &str, answer: &str) -> Result<Option<List<Command>>, NoMemory> {
+    if answer != "ok" {
+        return Ok(None);
+    }
+    let Some((verb, rest)) = command.split_once(' ') else {
+        return Ok(None);
+    };
+    match verb {
+        "copy" => copy_of(alloc, rest),
+        "fill" => fill_of(alloc, rest),
+        _ => Ok(None),
+    }
+}
+
+// The commands of a copy.
+fn copy_of(alloc: Global, rest: &str) -> Result<Option<List<Command>>, NoMemory> {
+    match copying_of(rest) {
+        Some(copying) => Ok(Some(copied(alloc, copying)?)),
+        None => Ok(None),
+    }
+}
+
+// The commands of a fill.
+fn fill_of(alloc: Global, rest: &str) -> Result<Option<List<Command>>, NoMemory> {
+    match filling_of(rest) {
+        Some(filling) => Ok(Some(filled(alloc, filling)?)),
+        None => Ok(None),
+    }
+}
+
+// `B J A I N via R`. It goes downwards where the fields move up, so that none is overwritten before it was read.
+fn copying_of(rest: &str) -> Option<Copying> {
+    let (to, rest) = rest.split_once(' ')?;
+    let (place, rest) = rest.split_once(' ')?;
+    let (from, rest) = rest.split_once(' ')?;
+    let (first, rest) = rest.split_once(' ')?;
+    let (count, via) = rest.split_once(" via ")?;
+    let place = index_of(place)?;
+    let first = index_of(first)?;
+    Some(Copying {
+        from: operand_of(from)?,
+        first,
+        to: operand_of(to)?,
+        place,
+        count: index_of(count)?,
+        via: register_of(via)?,
+        down: place > first,
+    })
+}
+
+// `B J N V`.
+fn filling_of(rest: &str) -> Option<Filling> {
+    let (object, rest) = rest.split_once(' ')?;
+    let (first, rest) = rest.split_once(' ')?;
+    let (count, value) = rest.split_once(' ')?;
+    Some(Filling {
+        object: operand_of(object)?,
+        first: index_of(first)?,
+        count: index_of(count)?,
+        value: operand_of(value)?,
+    })
+}
+
+// A register, or `g`.
+fn operand_of(word: &str) -> Option<Operand> {
+    if word == "g" {
+        return Some(Operand::Shared);
+    }
+    Some(Operand::Register(register_of(word)?))
+}
+
+// A register. Whether there is such a one is for the heap to say.
+fn register_of(word: &str) -> Option<u8> {
+    byte_of(word.strip_prefix('r')?)
+}
+
+// A number below 65,536: no object has more fields than a command can say.
+fn index_of(word: &str) -> Option<u32> {
+    Some(read_number(word.as_bytes(), u64::from(u16::MAX))? as u32)
 }
 
 // `M NAME`, or `- NAME` where the collector itself remembered it. Who pushes doesn't matter.
@@ -101,14 +183,17 @@ fn pushed_name(rest: &str) -> Option<Name> {
     if who != "-" {
         byte_of(who)?;
     }
-    name_of(name)
+    read_name(name.as_bytes())
 }
 
-// Names, parted by single spaces.
+// Names, parted by single spaces; a hyphen where there is none.
 fn names_of(alloc: Global, rest: &str) -> Result<Option<List<Name>>, NoMemory> {
     let mut names = List::new(alloc);
+    if rest == "-" {
+        return Ok(Some(names));
+    }
     for word in rest.split(' ') {
-        match name_of(word) {
+        match read_name(word.as_bytes()) {
             Some(name) => names.push(name)?,
             None => return Ok(None),
         }

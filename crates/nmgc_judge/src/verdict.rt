@@ -1,12 +1,12 @@
 //! What a trace comes to: the first line that can't happen, or what is marked in the end.
 ghost use Rattle.std.specs.Prelude.{List, ◌≡◌, IfOk};
-ghost use Rattle.nmgc_judge.specs.declared.line.Line.{Line as LineAt};
 ghost use Rattle.nmgc_judge.specs.Kept.{TellsKept};
 ghost use Rattle.nmgc_judge.specs.Verdicts.{IsVerdict, IsTold, refusal_of};
 
-use crate::line::{Line, lines_of};
+use crate::line::Line;
 use crate::progress::Progress;
-use nmgc_graph::{List, Name, NoMemory, SHARED_MAKER};
+use crate::sentence::write_name;
+use nmgc_graph::{List, Name, NoMemory};
 use std::alloc::Global;
 use std::fmt;
 
@@ -60,23 +60,10 @@ impl fmt::Display for Verdict {
 // Writes each of the names.
 fn write_names<W: fmt::Write>(f: &mut fmt::Formatter<W>, names: &[Name]) -> fmt::Result {
     for name in names {
-        if name.maker == SHARED_MAKER {
-            write!(f, " g")?;
-        } else {
-            write!(f, " {}.{}", name.maker, name.serial)?;
-        }
+        write!(f, " ")?;
+        write_name(f, *name)?;
     }
     Ok(())
-}
-
-/// The verdict on the lines of a text: that of `judge` on what they say.
-pub fn verdict_of(alloc: Global, text: &str) -> Result<Verdict, NoMemory>
-    ensures { IfOk result (λ verdict. (lines : List LineAt) × IsVerdict lines verdict × TellsKept lines verdict) }
-{
-    let lines = lines_of(alloc, text)?;
-    let verdict = judge(alloc, lines.items());
-    drop(lines);
-    verdict
 }
 
 /// The verdict on a trace. `Bad` and `Refused` come exactly where a line can't happen after those before
@@ -99,8 +86,8 @@ pub fn judge(alloc: Global, lines: &[Line]) -> Result<Verdict, NoMemory>
     Ok(told)
 }
 
-// What is told of a line that can't happen.
-fn refusal(line: &Line, number: usize) -> Verdict
+/// What is told of a line that can't happen.
+pub(crate) fn refusal(line: &Line, number: usize) -> Verdict
     ensures { result ≡ refusal_of line.now number }
 {
     match line {
@@ -114,8 +101,8 @@ fn refusal(line: &Line, number: usize) -> Verdict
     }
 }
 
-// What is told of a trace in the end. It lets go of the progress by a call (see `progress`).
-fn told_in_the_end(progress: Progress) -> Result<Verdict, NoMemory>
+/// What is told of a trace in the end. It lets go of the progress by a call (see `progress`).
+pub(crate) fn told_in_the_end(progress: Progress) -> Result<Verdict, NoMemory>
     ensures { IfOk result (IsTold progress) }
 {
     let told = told_of(&progress);

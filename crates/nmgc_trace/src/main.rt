@@ -6,62 +6,67 @@
 //! (`nmgc_core`), marker and all. `docs/GUIDE.md` has the forms, and says how to write one for a runtime of one's own.
 //! What a text says and comes to is told by `nmgc_judge`.
 //!
+//! The word `--live` is standard input too, for a runtime that writes its trace into a pipe while it runs: each empty
+//! line of a trace of format 2 is answered by the line `ok` once all lines before it have happened, and the line that
+//! can't happen is told at once.
+//!
 //! The exit status is 0 where each line of each trace can happen and each trace has the end of a cycle (of format 2: a
 //! `stop` after it), 2 where one can't or hasn't, no trace is named or there was no memory, and 1 where a file can't be
 //! read.
 #![tactic(auto)]
 
-use nmgc_judge::{HEAD, report_on, verdict_of};
+use nmgc_judge::{TraceFault, outcome_of};
 use std::process::ExitCode;
 use std::{env, fs, io};
+
+// Standard input, answered while it comes.
+const LIVE: &str = "--live";
 
 fn main(rt: HostRuntime) -> io::Result<ExitCode> {
     let mut is_named = false;
     let mut is_passed = true;
-    for name in env::args(&rt)?.skip(1) {
-        let text = if name.as_str() == "-" {
-            io::read_to_string(rt.alloc(), rt.stdin())?
+    for word in env::args(&rt)?.skip(1) {
+        let name = word.as_str();
+        let passed = if name == "-" || name == LIVE {
+            let input = io::BufReader::new(rt.alloc(), rt.reader())?;
+            is_whole(&rt, name, input)?
         } else {
-            fs::read_to_string(&rt, name.as_str())?
+            let file = io::BufReader::new(rt.alloc(), fs::open(&rt, name)?)?;
+            is_whole(&rt, name, file)?
         };
         is_named = true;
-        let passed = if text.as_str().lines().next() == Some(HEAD) {
-            tell_report(&rt, name.as_str(), text.as_str())?
-        } else {
-            tell_verdict(&rt, name.as_str(), text.as_str())?
-        };
         is_passed = is_passed && passed;
     }
     if !is_named {
-        println!(rt; "usage: nmgc_trace FILE..")?;
+        println!(rt; "usage: nmgc_trace FILE.. | nmgc_trace {LIVE}")?;
     }
     Ok(ExitCode::from(if is_named && is_passed { 0 } else { 2 }))
 }
 
-// Tells what a trace of format 1 comes to, and whether it passed.
-fn tell_verdict(rt: &HostRuntime, name: &str, text: &str) -> io::Result<bool> {
-    match verdict_of(rt.alloc(), text) {
-        Ok(verdict) => {
-            println!(rt; "{name}: {verdict}")?;
-            Ok(verdict.is_passed())
-        }
-        Err(_) => {
-            println!(rt; "{name}: no memory")?;
-            Ok(false)
-        }
+// Tells what a trace comes to, and whether it passed.
+fn is_whole<R: io::BufRead + Drop>(
+    rt: &HostRuntime,
+    name: &str,
+    mut reader: R,
+) -> io::Result<bool> {
+    let outcome = outcome_of(rt.alloc(), &mut reader, rt, name == LIVE);
+    drop(reader);
+    if name != LIVE {
+        print!(rt; "{name}: ")?;
     }
-}
-
-// Tells what a trace of format 2 comes to, and whether it is whole.
-fn tell_report(rt: &HostRuntime, name: &str, text: &str) -> io::Result<bool> {
-    match report_on(rt.alloc(), text) {
-        Ok(report) => {
-            println!(rt; "{name}: {report}")?;
-            Ok(report.is_whole())
+    match outcome {
+        Ok(outcome) => {
+            println!(rt; "{outcome}")?;
+            Ok(outcome.is_passed())
         }
-        Err(_) => {
-            println!(rt; "{name}: no memory")?;
+        Err(TraceFault::NoMemory) => {
+            println!(rt; "no memory")?;
             Ok(false)
         }
+        Err(TraceFault::TooLong) => {
+            println!(rt; "there are too many lines")?;
+            Ok(false)
+        }
+        Err(TraceFault::Io(error)) => Err(error),
     }
 }

@@ -36,7 +36,7 @@ FAULTS = [
     (["heap", "9.9"], IMAGE, 2, "picture.py: the image has no object 9.9"),
     (["heap", "\x1b[31m<b>"], IMAGE, 2, "picture.py: the name of an object is maker.serial, or g"),
     (["trace"], "trace 2\nmutator 1\n", 5, "picture.py: line 2 is none of a trace"),
-    (["trace"], content("examples", "traces", "two_cycles.trace"), 1, "picture.py: each line can happen: there is no refused line to draw"),
+    (["trace"], content("examples", "traces", "two_cycles.trace"), 1, "picture.py: each line can happen: 2 cycles, 15 commands, 2 pushes; something came due 2 times: there is no refused line to draw"),
     (["run", "--rounds", "7-9"], REPORT, 2, "picture.py: the run has 5 rounds"),
 ]
 

@@ -15,7 +15,8 @@ TOLD = [
     (HEAD, "nothing is marked"),
     (HEAD + "mark\n", "a cycle goes on"),
     (HEAD + "mark\nclose\n", "each line can happen, but there is no stop"),
-    (HEAD + "mark\nclose\nstop\n", "each line can happen"),
+    (HEAD + "mark\nclose\nstop\n", "each line can happen: 1 cycle, 0 commands, 0 pushes; nothing came due, so no barrier was tried"),
+    (HEAD + "trace 2\n", "line 3 is none of a trace"),
     (HEAD + "stop\n", "line 3 can't stand there"),
     (HEAD + "mutators 1\n", "line 3 can't stand there"),
     ("trace 2\nmutators 33\n", "line 2 can't stand there"),
@@ -23,34 +24,42 @@ TOLD = [
     (HEAD + "0 num r64 5 = ok\n", "line 3 is none of a trace"),
     (HEAD + "0 num r1 4611686018427387904 = ok\n", "line 3 is none of a trace"),
     (HEAD + "1 nil r0 = ok\n", "line 3 can't happen: there is no such mutator or register"),
-    (HEAD + "0 nil r0 = nil\n", "line 3 can't happen: the heap has another answer"),
+    (HEAD + "0 nil r0 = nil\n", "line 3 can't happen: the heap answers ok"),
     (HEAD + "0 con r0 256 = 0.0\n", "line 3 is none of a trace"),
     (HEAD + "0 thread 1 = ok\n", "line 3 is none of a trace"),
     (HEAD + "mark\npush 0 0.5\n", "line 4 can't happen: the heap has no 0.5"),
     (HEAD + "mark\ntake g\n", "line 4 can't happen: g wasn't pushed, or was made since the cycle began"),
-    (HEAD + "mark\npush - g\ntake g\nclose\nstop", "each line can happen"),
+    (
+        HEAD + "mark\npush - g\ntake g\nclose\nstop",
+        "each line can happen: 1 cycle, 0 commands, 1 push; nothing came due, so no barrier was tried",
+    ),
+    (CELL + "mark\npush - 0.0\npush - 0.1\ntake 0.1\nclose\n", "line 11 can't happen: nobody took 0.0"),
+    (CELL + "mark\n0 con r2 0 r1 = 0.2\nclose -\nfreed 0.2\n", "line 10 can't happen: 0.2 was made since the cycle began"),
+    (CELL + "mark\n0 fill r0 0 2 r1 = ok\n", "line 8 can't happen: the heap answers nofield"),
+    (CELL + "mark\n0 copy g 0 r0 0 1 via r9 = ok\n0 fill r0 0 1 g = ok\nsettle 0\n",
+     "line 10 can't happen: 0.0 is due since line 9 (0 fill r0 0 1 g = ok), and nobody remembered it"),
     (CELL + "mark\nclose\nmarked 0.1 g\n", "line 9 can't happen: 0.0 has to be marked"),
     (CELL + "mark\nclose\nfreed 0.0\n", "line 9 can't happen: 0.0 is needed"),
     (CELL + "0 set r0 0 r1 = ok\nmark\nclose\nmarked 0.0 0.1 g\n", "line 10 can't happen: nothing keeps 0.0"),
     (
         CELL + "mark\n0 cas r0 0 r1 r1 = no\n0 set r0 0 r1 = ok\npush 0 0.0\nsettle 0\nclose\nmarked 0.0 0.1 g\nstop\n",
-        "each line can happen",
+        "each line can happen: 1 cycle, 6 commands, 1 push; something came due once",
     ),
     (
         HEAD + "0 thunk r0 g g = 0.0\n0 var r1 r0 = 0.1\n0 thunk r2 r1 = 0.2\nmark\n0 update r2 r2 = updated\nclose\n",
-        "line 8 can't happen: 0.1 is due since line 7, and nobody remembered it",
+        "line 8 can't happen: 0.1 is due since line 7 (0 update r2 r2 = updated), and nobody remembered it",
     ),
     (
         HEAD + "0 con r1 0 = 0.0\n0 stack r0 1 = 0.1\n0 push r0 r1 = ok\nmark\n0 pop r2 r0 = 0.0\nclose\n",
-        "line 8 can't happen: 0.0 is due since line 7, and nobody remembered it",
+        "line 8 can't happen: 0.0 is due since line 7 (0 pop r2 r0 = 0.0), and nobody remembered it",
     ),
     (
         HEAD + "0 con r1 0 = 0.0\n0 weak r0 r1 r1 r1 = 0.1\nmark\n0 finalise r2 r0 = 0.0\nclose\n",
-        "line 7 can't happen: 0.0 is due since line 6, and nobody remembered it",
+        "line 7 can't happen: 0.0 is due since line 6 (0 finalise r2 r0 = 0.0), and nobody remembered it",
     ),
     (
         HEAD + "0 con r1 0 = 0.0\n0 weak r0 r1 r1 r1 = 0.1\n0 nil r1 = ok\nmark\nclose 0.1\n0 nextfin r2 = 0.0\n0 deref r3 r0 = dead\nstop\n",
-        "each line can happen",
+        "each line can happen: 1 cycle, 5 commands, 0 pushes; nothing came due, so no barrier was tried",
     ),
     (HEAD + "0 con r1 0 = 0.0\n0 weak r0 r1 r1 r1 = 0.1\nmark\nclose 0.1\n", "line 6 can't happen: 0.1 isn't dead"),
 ]
@@ -110,7 +119,7 @@ class Worlds(unittest.TestCase):
 
     def test_the_picture_of_a_worked_trace(self):
         svg = drawn(watched(stream(content("examples", "traces", "insertion_barrier.trace"))), "A barrier")
-        for words in ("line 10 can't happen: 0.0 is due since line 9, and nobody remembered it", "the snapshot, line 7",
+        for words in ("line 10 can't happen: 0.0 is due since line 9 (0 set r0 0 r1 = ok), and nobody remembered it", "the snapshot, line 7",
                       "the heap at line 10", "mark", "0 set r0 0 r1",
                       "close", "from here on 0.0 is due: it goes from field 0 of 0.1", "field 0", "field 0: 5", "register 2"):
             self.assertIn(words, texts(svg))
@@ -131,12 +140,12 @@ class Worlds(unittest.TestCase):
                 self.assertNotIn("<script", svg)
                 self.assertEqual([words for words in too_wide(svg) if "script" not in words], [])
                 self.assertTrue(ids_are_right(svg))
-        self.assertEqual(sorts, {"due", "answer", "name", "take", "told", "needed", "marked", "dead", "other", "push", "scan", "queue"})
+        self.assertEqual(sorts, {"due", "answer", "name", "take", "untaken", "told", "needed", "new", "marked", "dead", "other", "push", "scan", "queue"})
 
     def test_a_long_path_is_shortened(self):
         lines = ["0 con r0 0 = 0.0"] + [f"0 con r0 0 r0 = 0.{at}" for at in range(1, 100)] + ["0 var r0 r0 = 0.100", "mark", "0 set r0 0 g = ok", "close"]
         svg = drawn(watched(stream(HEAD + "\n".join(lines) + "\n")), "")
-        self.assertIn("line 106 can't happen: 0.99 is due since line 105, and nobody remembered it", texts(svg))
+        self.assertIn("line 106 can't happen: 0.99 is due since line 105 (0 set r0 0 g = ok), and nobody remembered it", texts(svg))
         lines = ["0 var r1 g = 0.0", "0 var r0 r1 = 0.1", "0 nil r1 = ok"] + [f"0 con r0 0 r0 = 0.{at}" for at in range(2, 100)]
         lines += ["mark", "0 nil r0 = ok", "close", "marked g"]
         svg = drawn(watched(stream(HEAD + "\n".join(lines) + "\n")), "")

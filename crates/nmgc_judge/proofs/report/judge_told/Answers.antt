@@ -1,17 +1,31 @@
-use Rattle.std.proofs.Common.{◌+◌, subst, Option}
+use Rattle.std.proofs.Common.{◌+◌, arith, subst, Option}
+use Rattle.nmgc_judge.specs.declared.report.Begun.TheVariants as begun
 use Rattle.nmgc_judge.specs.declared.report.Refusal.{Refusal}
-use Rattle.nmgc_judge.specs.Reports.{IsHappening}
-use Rattle.nmgc_judge.proofs.Tellings.{comes_next, ends_at_line}
+use Rattle.nmgc_judge.specs.Reports.{Comes, IsHappening}
+use Rattle.nmgc_judge.proofs.Tellings.{all_done, comes_next, ends_at_line, ends_well}
+use Rattle.nmgc_judge.proofs.Wholes.{tells_whole}
 use Rattle.nmgc_judge.proofs.report.judge_told.Goals as goal
 
 pub returns-in-Some : goal.returns-in-Some
 returns-in-Some c =
     let H : Option Refusal → Type 0 = λ o. IsHappening (c.loop-index.index + 1) c.loop-index.begun c.index-lines-index.result o c.happen.new.begun in
-    ends_at_line c.args.lines.now c.loop-index.index c.index-lines-index.result c.loop-index.begun c.in-Some.refusal c.loop-index-test.true
-    c.index-lines-index.is c.loop-index.invariant (subst H c.in-Some.is c.in_ok-refused.ensures)
+    record {
+      report = ends_at_line c.args.lines.now c.loop-index.index c.index-lines-index.result c.loop-index.begun c.in-Some.refusal
+          c.loop-index-test.true c.index-lines-index.is c.loop-index.invariant (subst H c.in-Some.is c.in_ok-refused.ensures);
+      whole = tt;
+    }
 
 pub loop-index-preserved : goal.loop-index-preserved
 loop-index-preserved c =
     let H : Option Refusal → Type 0 = λ o. IsHappening (c.loop-index.index + 1) c.loop-index.begun c.index-lines-index.result o c.happen.new.begun in
     comes_next c.args.lines.now c.loop-index.index c.index-lines-index.result c.loop-index.begun c.happen.new.begun c.loop-index-test.true
     c.index-lines-index.is c.loop-index.invariant (subst H c.in_default.is c.in_ok-refused.ensures)
+
+pub returns : goal.returns
+returns c =
+    let done : Comes 1 begun.Nothing c.args.lines.now c.loop-index.begun =
+    all_done c.args.lines.now c.loop-index.index c.loop-index.begun (omega arith) c.loop-index.invariant in
+    record {
+      report = ends_well c.args.lines.now c.loop-index.begun c.report_of-report.result done c.report_of-report.ensures;
+      whole = tells_whole c.args.lines.now c.loop-index.begun c.report_of-report.result done c.report_of-report.ensures;
+    }

@@ -3,8 +3,8 @@ use Rattle.nmgc_judge.proofs.progress.Progress.event.Goals as goal
 
 pub returns-in-Building : goal.returns-in-Building
 returns-in-Building c =
-    answered c.args.self c.in-Building.world c.is_answered-happened.new.world c.args.event.now c.is_answered-happened.result c.if_happened.result
-    c.in-Building.is c.is_answered-happened.ensures c.if_happened.ensures
+    answered c.args.self c.in-Building.built c.answers-happened.new.self c.args.event.now c.answers-happened.result c.if_happened.result
+    c.in-Building.is c.answers-happened.ensures c.if_happened.ensures
 
 pub returns-in-Marking : goal.returns-in-Marking
 returns-in-Marking c =

@@ -1,0 +1,5 @@
+use Rattle.nmgc_judge.proofs.Readings.{SoFar}
+use Rattle.nmgc_judge.proofs.reading.watched.Given as goal
+
+abbrev pub invariant-loop-number : goal.invariant-loop-number
+invariant-loop-number g l = SoFar l.number l.telling.begun

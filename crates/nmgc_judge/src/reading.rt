@@ -1,0 +1,160 @@
+//! A trace, read line by line.
+//!
+//! The first line tells the format. A line is judged as soon as it was read, and then forgotten: so memory is that of
+//! the heap of which the trace tells, and whoever writes a trace into a pipe is answered at the line that is wrong.
+ghost use Rattle.std.specs.Prelude.{List, ◌≡◌, IfOk};
+ghost use Rattle.nmgc_judge.specs.Outcomes.{IsOutcome};
+ghost use Rattle.nmgc_judge.specs.declared.line.Line.{Line as LineAt};
+ghost use Rattle.nmgc_judge.specs.declared.told.Told.{Told as ToldAt};
+ghost use Rattle.nmgc_judge.specs.Kept.{TellsKept};
+ghost use Rattle.nmgc_judge.specs.Verdicts.{IsVerdict};
+ghost use Rattle.nmgc_judge.specs.Reports.{IsReport};
+ghost use Rattle.nmgc_judge.specs.Whole.{TellsWhole};
+
+use crate::line::line_of;
+use crate::progress::Progress;
+use crate::telling::{Answer, Telling};
+use crate::told::HEAD;
+use crate::verdict::{Verdict, refusal, told_in_the_end};
+use nmgc_graph::NoMemory;
+use std::alloc::Global;
+use std::io::{BufRead, Print};
+use std::{fmt, io};
+
+/// What a trace comes to.
+#[derive(Drop)]
+pub enum Outcome {
+    /// One of format 1.
+    Marked(Verdict),
+    /// One of format 2.
+    Watched(Answer),
+}
+
+impl Outcome {
+    /// Whether each line can happen, and the trace comes to its end. Takes no memory, and constant time.
+    pub fn is_passed(&self) -> bool {
+        match self {
+            Outcome::Marked(verdict) => verdict.is_passed(),
+            Outcome::Watched(answer) => answer.report.is_whole(),
+        }
+    }
+}
+
+impl fmt::Display for Outcome {
+    fn fmt<W: fmt::Write>(&self, f: &mut fmt::Formatter<W>) -> fmt::Result {
+        match self {
+            Outcome::Marked(verdict) => write!(f, "{verdict}"),
+            Outcome::Watched(answer) => write!(f, "{answer}"),
+        }
+    }
+}
+
+/// Why nothing can be told of a trace.
+#[derive(Debug, Drop)]
+pub enum TraceFault {
+    /// There was no memory.
+    NoMemory,
+    /// It couldn't be read, or `ok` couldn't be written.
+    Io(io::Error),
+    /// It has 2^64 - 1 lines or more.
+    TooLong,
+}
+
+impl From<NoMemory> for TraceFault {
+    fn from(_error: NoMemory) -> Self {
+        TraceFault::NoMemory
+    }
+}
+
+impl From<io::Error> for TraceFault {
+    fn from(error: io::Error) -> Self {
+        TraceFault::Io(error)
+    }
+}
+
+/// Reads a trace up to the first line that can't happen, or to its end, and tells what it comes to. Where it is asked
+/// for answers, each empty line of a trace of format 2 is answered by `ok`, once all lines before it have happened. Takes
+/// memory for the heap that the trace tells of, for its longest line, and for the commands of its longest copy or fill.
+pub fn outcome_of<R: BufRead, P: Print>(
+    alloc: Global,
+    reader: &mut R,
+    answers: &P,
+    is_asked: bool,
+) -> Result<Outcome, TraceFault>
+    ensures { IfOk result IsOutcome }
+{
+    let mut text = String::new(alloc);
+    next_line(reader, &mut text)?;
+    if without_end(text.as_str()) == HEAD {
+        let answer = watched(alloc, reader, text, answers, is_asked)?;
+        return Ok(Outcome::Watched(answer));
+    }
+    let verdict = marked(alloc, reader, text)?;
+    Ok(Outcome::Marked(verdict))
+}
+
+// A trace of format 1, whose first line has been read.
+fn marked<R: BufRead>(
+    alloc: Global,
+    reader: &mut R,
+    mut text: String,
+) -> Result<Verdict, TraceFault>
+    ensures { IfOk result (λ verdict. (lines : List LineAt) × IsVerdict lines verdict × TellsKept lines verdict) }
+{
+    let mut progress = Progress::Nothing;
+    for number in 1..usize::MAX {
+        let line = line_of(alloc, without_end(text.as_str()))?;
+        let next = progress.after(alloc, &line)?;
+        match next {
+            Some(reached) => progress = reached,
+            None => return Ok(refusal(&line, number)),
+        }
+        if !next_line(reader, &mut text)? {
+            let told = told_in_the_end(progress)?;
+            return Ok(told);
+        }
+    }
+    drop(progress);
+    Err(TraceFault::TooLong)
+}
+
+// A trace of format 2, whose first line has been read.
+fn watched<R: BufRead, P: Print>(
+    alloc: Global,
+    reader: &mut R,
+    mut text: String,
+    answers: &P,
+    is_asked: bool,
+) -> Result<Answer, TraceFault>
+    ensures { IfOk result (λ answer. (lines : List ToldAt) × IsReport lines answer.report × TellsWhole lines answer.report) }
+{
+    let mut telling = Telling::new(alloc);
+    for number in 2..usize::MAX {
+        if !next_line(reader, &mut text)? {
+            return Ok(telling.tell_end());
+        }
+        let line = without_end(text.as_str());
+        let refused = telling.line(alloc, number, line)?;
+        if let Some(refusal) = refused {
+            let answer = telling.tell_refusal(alloc, number, refusal)?;
+            return Ok(answer);
+        }
+        if is_asked && line.is_empty() {
+            answers.println("ok")?;
+        }
+    }
+    drop(telling);
+    Err(TraceFault::TooLong)
+}
+
+// Reads the next line in place of the last one, and says whether there is one.
+fn next_line<R: BufRead>(reader: &mut R, text: &mut String) -> io::Result<bool> {
+    text.clear();
+    Ok(reader.read_line(text)? > 0)
+}
+
+// A line without its end.
+fn without_end(text: &str) -> &str {
+    let text = text.strip_suffix('\n').unwrap_or(text);
+    text.strip_suffix('\r').unwrap_or(text)
+}
