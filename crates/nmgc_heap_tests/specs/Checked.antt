@@ -1,7 +1,7 @@
 -- What a walk through the words of a heap can test of what promotion asks: only tests cite it.
 --
 -- The sizes tell for each word of the nurseries how many words the object has that begins there, or 0.
-use Rattle.std.specs.Prelude.{ℕ, ◌≡◌, ◌≢◌, ◌+◌, ◌-◌, ◌*◌, ◌<◌, ◌≤◌, List, length, slice_index, Contains}
+use Rattle.std.specs.Prelude.{ℕ, ◌≡◌, ◌≢◌, ◌+◌, ◌-◌, ◌*◌, ◌<◌, ◌≤◌, List, [], length, slice_index, Contains}
 use Rattle.nmgc_graph.specs.declared.value.Name.{Name}
 use Rattle.nmgc_object.specs.Words.{header_word, name_word, IsHeader, IsName}
 use Rattle.nmgc_object.specs.Places.{nursery_place}
@@ -10,11 +10,21 @@ use Rattle.nmgc_object.specs.declared.layout.Nursery.{Nursery}
 use Rattle.nmgc_object.specs.declared.words.Header.{Header}
 use Rattle.nmgc_object.specs.declared.size.TheConstants.{HEADER_WORDS}
 use Rattle.nmgc_blocks.specs.Nurseries.{nursery_at}
+use Rattle.nmgc_blocks.specs.Samples.{young_registers}
 use Rattle.nmgc_minor.specs.Inputs.{Inputs}
+use Rattle.nmgc_mutator.specs.declared.mutator.Mutator.{Mutator}
+use Rattle.nmgc_object.specs.declared.words.Address.{Address}
 
 -- where the word points to the nurseries, an object begins there
 abbrev pub PointsWell : ℕ → List ℕ → ℕ → Type 0
 PointsWell base sizes word = (at : ℕ) → word ≡ 2 * at → base ≤ at → slice_index sizes (at - base) ≢ 0
+
+-- what a mutator holds points well, and what it recorded are fields below the nurseries and weak pointers
+pub record PointsWellAll (base : ℕ) (sizes : List ℕ) (words : ℕ) (m : Mutator) : Type 0 where
+  pub registers : (word : ℕ) → Contains m.registers word → PointsWell base sizes word
+  pub queue : (word : ℕ) → Contains m.queue.words word → PointsWell base sizes word
+  pub recorded : (at : Address) → Contains m.recorded.items at → at.0 < base
+  pub weaks : (at : Address) → Contains m.young_weaks.items at → PointsWell base sizes (2 * at.0) × (at.0 + 5 ≤ words)
 
 -- an object begins at the place: its header with its size, its name, and its words in the used part of its maker's nursery
 pub record IsMade (layout : Layout) (base : ℕ) (words sizes : List ℕ) (nurseries : List Nursery) (k : ℕ) : Type 0 where
@@ -54,3 +64,11 @@ pub record IsChecked (layout : Layout) (base : ℕ) (words sizes : List ℕ) (nu
   pub queues : (queue : List ℕ) (word : ℕ) → Contains inputs.queues queue → Contains queue word → PointsWell base sizes word
   pub recorded : (at : ℕ) → Contains inputs.recorded at → at < base
   pub weaks : (at : ℕ) → Contains inputs.weaks at → PointsWell base sizes (2 * at) × (at + 5 ≤ length words)
+
+-- the mutator whose round made one object: it holds it, and its nursery has it
+pub record IsYoungMutator (m : Mutator) : Type 0 where
+  pub registers : m.registers ≡ young_registers
+  pub queue : m.queue.words ≡ []
+  pub nursery : m.nursery ≡ record { base = 2080; top = 2083; end = 2144 }
+  pub recorded : m.recorded.items ≡ []
+  pub weaks : m.young_weaks.items ≡ []

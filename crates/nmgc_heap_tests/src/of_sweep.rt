@@ -406,3 +406,53 @@ fn two_halves(rt: HostRuntime) -> Result<(), Fail> {
         },
     )
 }
+
+// So many objects of four words fill 257 segments of 1,024 blocks.
+const MANY: u32 = 257 * 1024;
+
+// Each third object is marked.
+fn check_many<R: Abort + Threads + Sync>(rt: &R, alloc: Global) -> Result<(), Fail> {
+    let layout = Layout {
+        segments: 257,
+        words: 4096,
+        nursery: 4096,
+        mutators: 1,
+    };
+    assert!(rt; layout.words.is_power_of_two());
+    let mut names = Names::new(alloc, layout)?;
+    let mut segments = Segments::new(alloc, layout)?;
+    let mut places = Vec::new(alloc);
+    let mut marked = Vec::new(alloc);
+    for serial in 0..MANY {
+        let name = Name { maker: 0, serial };
+        places.push(place(rt, &mut names, &mut segments, name))?;
+        if serial % 3 == 0 {
+            marked.push(serial as usize)?;
+        }
+    }
+    begin(rt, &mut segments, false);
+    mark(rt, &mut segments, places.as_slice(), marked.as_slice(), 2);
+    let mut sweeper = Sweeper::start(alloc, &segments, 2)?;
+    let done = sweeper.work(rt, &mut segments, &names, MANY, &OpenGate);
+    assert!(rt; done.swept == 257);
+    assert!(rt; done.finished);
+    let (had, freed) = (sweeper.had(), sweeper.freed());
+    assert!(rt; had.len() == MANY as usize);
+    assert!(rt; freed.len().saturating_add(marked.len()) == MANY as usize);
+    for index in 0..MANY {
+        if let Some(name) = had.get(index as usize) {
+            assert!(rt; name.serial == index);
+        }
+        if let Some(name) = freed.get(index as usize) {
+            assert!(rt; name.serial == index / 2 * 3 + index % 2 + 1);
+        }
+    }
+    Ok(())
+}
+
+// So many segments that their names are listed in two halves, of which the lower has one more: the lists are in order of
+// blocks, and so here of serials.
+#[test]
+fn names_of_many_segments(rt: HostRuntime) -> Result<(), Fail> {
+    check_many(&rt, rt.alloc())
+}

@@ -1,10 +1,13 @@
 //! The list of weak pointers as it is filled, and finalisers that join queues: what is expected follows from the order of
 //! names, by maker and then by serial, and from the field words, of which 1 is nil and 0 the value of a dead weak pointer.
-ghost use Rattle.std.specs.Prelude.{ℕ, ◌≡◌, ◌≤◌, [], length, slice_get, IfOk};
+ghost use Rattle.std.specs.Prelude.{ℕ, ◌≡◌, ◌<◌, ◌≤◌, [], length, map, slice_get, Some, IfOk};
+ghost use Rattle.nmgc_mutator.specs.declared.mutator.Mutator.{Mutator as MutatorSeen};
 ghost use Rattle.nmgc_object.specs.FinQueue.{FinQueue as Shown};
 
 use nmgc_graph::{List, Name, NoMemory};
-use nmgc_object::{Address, FinQueue};
+use nmgc_mutator::Mutator;
+use nmgc_object::{Address, Layout};
+use nmgc_updrem::link;
 use nmgc_weak::{Death, OldWeak, Weaks, laws, queue_finalisers};
 use std::alloc::Global;
 use std::test::Fail;
@@ -81,35 +84,45 @@ const DEATHS: [Death; 3] = [
     },
 ];
 
-// A queue with room for so many words.
-fn queue(alloc: Global, room: u32) -> Result<FinQueue, NoMemory>
-    ensures words { IfOk result (λ queue. queue.words ≡ []) }
-    ensures room { IfOk result (λ queue. room ≤ queue.spare) }
+// The layout of a heap of two mutators.
+const TWO: Layout = Layout {
+    segments: 32,
+    words: 64,
+    nursery: 64,
+    mutators: 2,
+};
+
+// One of them, whose queue has room for so many words.
+fn mutator(alloc: Global, number: u8, room: u32) -> Result<Mutator, NoMemory>
+    requires { number < 2 }
+    ensures { IfOk result (λ mutator. room ≤ mutator.queue.spare) }
 {
-    let mut queue = FinQueue::new(alloc);
-    queue.reserve(room)?;
-    Ok(queue)
+    let (sender, _receiver) = link(alloc)?;
+    let mut mutator = Mutator::new(alloc, number, TWO, sender)?;
+    mutator.queue.reserve(room)?;
+    Ok(mutator)
 }
 
-// Two such queues.
-fn queues(alloc: Global, room: u32) -> Result<List<FinQueue>, NoMemory>
-    ensures { IfOk result (λ queues. (length queues ≡ 2) × ((maker : ℕ) (queue : Shown) → slice_get queues maker ≡ Some queue → room ≤ queue.spare)) }
+// Both.
+fn mutators(alloc: Global, room: u32) -> Result<List<Mutator>, NoMemory>
+    ensures { IfOk result (λ mutators. (length (map (λ (m : MutatorSeen). m.queue) mutators) ≡ 2) ×
+        ((maker : ℕ) (queue : Shown) → slice_get (map (λ (m : MutatorSeen). m.queue) mutators) maker ≡ Some queue → room ≤ queue.spare)) }
 {
-    let first = queue(alloc, room)?;
-    let second = queue(alloc, room)?;
-    let mut queues = List::new(alloc);
-    queues.push(first)?;
-    queues.push(second)?;
-    Ok(queues)
+    let first = mutator(alloc, 0, room)?;
+    let second = mutator(alloc, 1, room)?;
+    let mut mutators = List::new(alloc);
+    mutators.push(first)?;
+    mutators.push(second)?;
+    Ok(mutators)
 }
 
 #[test]
 fn finalisers_join(rt: HostRuntime) -> Result<(), Fail> {
-    let mut queues = queues(rt.alloc(), 3)?;
-    queue_finalisers(DEATHS.as_slice(), queues.items_mut());
+    let mut mutators = mutators(rt.alloc(), 3)?;
+    queue_finalisers(DEATHS.as_slice(), mutators.items_mut());
     let words: [&[u64]; 2] = [[13].as_slice(), [21].as_slice()];
-    for (queue, expected) in queues.items().iter().zip(words.iter()) {
-        assert!(rt; queue.words() == *expected);
+    for (mutator, expected) in mutators.items().iter().zip(words.iter()) {
+        assert!(rt; mutator.queue.words() == *expected);
     }
     Ok(())
 }

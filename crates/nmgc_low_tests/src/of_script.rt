@@ -307,6 +307,10 @@ fn reprinted(rt: &impl Abort, alloc: Global, text: &str) -> Result<Vec<u8>, Fail
     Ok(print(alloc, &script)?)
 }
 
+// A script with one object.
+const ONE_OBJECT: &str =
+    "nmgc 1\nheap 32 64 64 100 1000 0\nthread 0\nnum r1 5\ncon r0 7 r1\nget r2 r0 0\nshow r2\nget r2 r0 1\nget r2 r1 0\nshow r0\n";
+
 #[test]
 fn prints_what_it_reads_back(rt: HostRuntime) -> Result<(), Fail> {
     let all = joined(rt.alloc(), HEAD, COMMANDS)?;
@@ -314,6 +318,8 @@ fn prints_what_it_reads_back(rt: HostRuntime) -> Result<(), Fail> {
     assert!(rt; same.as_slice() == all.as_bytes());
     let plain = reprinted(&rt, rt.alloc(), SPACED)?;
     assert!(rt; plain.as_slice() == PLAIN.as_bytes());
+    let one = reprinted(&rt, rt.alloc(), ONE_OBJECT)?;
+    assert!(rt; one.as_slice() == ONE_OBJECT.as_bytes());
     Ok(())
 }
 

@@ -238,7 +238,7 @@ pub(crate) fn told<R: Threads + Sync, G: Gate>(
 }
 
 // Whether the script's report has this text.
-fn tells<R: Threads + Sync, G: Gate>(
+pub(crate) fn tells<R: Threads + Sync, G: Gate>(
     alloc: Global,
     rt: &R,
     script: &str,
@@ -356,7 +356,7 @@ fn two_mutators_read_by_one_order(rt: HostRuntime) -> Result<(), Fail> {
 
 // A gate at which each of two waits, with some turn of its own, until the other has reached some turn.
 #[derive(Drop)]
-struct Meet {
+pub(crate) struct Meet {
     // The two: mutators, the collector or its second sweeping half.
     who: [u8; 2],
     // Of each: the turn that waits, and the turn of the other that it waits for.
@@ -368,7 +368,7 @@ struct Meet {
 }
 
 impl Meet {
-    fn new(who: [u8; 2], waits: [(u64, u64); 2]) -> Meet {
+    pub(crate) fn new(who: [u8; 2], waits: [(u64, u64); 2]) -> Meet {
         Meet {
             who,
             waits,
@@ -379,7 +379,7 @@ impl Meet {
     }
 
     // Whether each has come to its turn that waits, and neither gave up.
-    fn has_met(&self) -> bool {
+    pub(crate) fn has_met(&self) -> bool {
         self.come[0].load(Ordering::SeqCst) == 1
             && self.come[1].load(Ordering::SeqCst) == 1
             && self.given_up.load(Ordering::SeqCst) == 0

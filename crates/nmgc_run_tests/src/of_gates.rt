@@ -6,7 +6,7 @@
 ghost use Rattle.std.specs.Prelude.{◌≤◌, length, IfOk, IfSome};
 ghost use Rattle.nmgc_cycle.specs.Limits.{IsInLimits};
 
-use crate::of_cycle::{CYCLES, EXCHANGE, RUNS, script_of, told};
+use crate::of_cycle::{CYCLES, EXCHANGE, Meet, RUNS, script_of, told};
 use itoa::Buffer;
 use nmgc_cycle::{Collector, StopEnd};
 use nmgc_graph::{MAKERS, NoMemory};
@@ -219,17 +219,35 @@ fn after_two_rounds<R: Threads + Sync, G: Gate>(
     Ok(Some(collector))
 }
 
-// A variable is overwritten two hundred times while a cycle marks, whose collector scans three objects a round.
-const OFTEN: &str =
-    "nmgc 1\nheap 32 64 64 1000 3 0\nthread 0\nnum r1 5\ncon r4 0 r1\ncon r5 0 r1\nvar r0 r4\ncon r3 0 r3 r1\ncon r3 0 r3 r1\ncon r3 0 r3 r1\ncon r3 0 r3 r1\ncon r3 0 r3 r1\ncon r3 0 r3 r1\ncon r3 0 r3 r1\ncon r3 0 r3 r1\ncon r3 0 r3 r1\ncon r3 0 r3 r1\ncon r3 0 r3 r1\ncon r3 0 r3 r1\ncon r3 0 r3 r1\ncollect\nset r0 0 r5\nset r0 0 r4\nset r0 0 r5\nset r0 0 r4\nset r0 0 r5\nset r0 0 r4\nset r0 0 r5\nset r0 0 r4\nset r0 0 r5\nset r0 0 r4\nset r0 0 r5\nset r0 0 r4\nset r0 0 r5\nset r0 0 r4\nset r0 0 r5\nset r0 0 r4\nset r0 0 r5\nset r0 0 r4\nset r0 0 r5\nset r0 0 r4\nset r0 0 r5\nset r0 0 r4\nset r0 0 r5\nset r0 0 r4\nset r0 0 r5\nset r0 0 r4\nset r0 0 r5\nset r0 0 r4\nset r0 0 r5\nset r0 0 r4\nset r0 0 r5\nset r0 0 r4\nset r0 0 r5\nset r0 0 r4\nset r0 0 r5\nset r0 0 r4\nset r0 0 r5\nset r0 0 r4\nset r0 0 r5\nset r0 0 r4\nset r0 0 r5\nset r0 0 r4\nset r0 0 r5\nset r0 0 r4\nset r0 0 r5\nset r0 0 r4\nset r0 0 r5\nset r0 0 r4\nset r0 0 r5\nset r0 0 r4\nset r0 0 r5\nset r0 0 r4\nset r0 0 r5\nset r0 0 r4\nset r0 0 r5\nset r0 0 r4\nset r0 0 r5\nset r0 0 r4\nset r0 0 r5\nset r0 0 r4\nset r0 0 r5\nset r0 0 r4\nset r0 0 r5\nset r0 0 r4\nset r0 0 r5\nset r0 0 r4\nset r0 0 r5\nset r0 0 r4\nset r0 0 r5\nset r0 0 r4\nset r0 0 r5\nset r0 0 r4\nset r0 0 r5\nset r0 0 r4\nset r0 0 r5\nset r0 0 r4\nset r0 0 r5\nset r0 0 r4\nset r0 0 r5\nset r0 0 r4\nset r0 0 r5\nset r0 0 r4\nset r0 0 r5\nset r0 0 r4\nset r0 0 r5\nset r0 0 r4\nset r0 0 r5\nset r0 0 r4\nset r0 0 r5\nset r0 0 r4\nset r0 0 r5\nset r0 0 r4\nset r0 0 r5\nset r0 0 r4\nset r0 0 r5\nset r0 0 r4\nset r0 0 r5\nset r0 0 r4\nset r0 0 r5\nset r0 0 r4\nset r0 0 r5\nset r0 0 r4\nset r0 0 r5\nset r0 0 r4\nset r0 0 r5\nset r0 0 r4\nset r0 0 r5\nset r0 0 r4\nset r0 0 r5\nset r0 0 r4\nset r0 0 r5\nset r0 0 r4\nset r0 0 r5\nset r0 0 r4\nset r0 0 r5\nset r0 0 r4\nset r0 0 r5\nset r0 0 r4\nset r0 0 r5\nset r0 0 r4\nset r0 0 r5\nset r0 0 r4\nset r0 0 r5\nset r0 0 r4\nset r0 0 r5\nset r0 0 r4\nset r0 0 r5\nset r0 0 r4\nset r0 0 r5\nset r0 0 r4\nset r0 0 r5\nset r0 0 r4\nset r0 0 r5\nset r0 0 r4\nset r0 0 r5\nset r0 0 r4\nset r0 0 r5\nset r0 0 r4\nset r0 0 r5\nset r0 0 r4\nset r0 0 r5\nset r0 0 r4\nset r0 0 r5\nset r0 0 r4\nset r0 0 r5\nset r0 0 r4\nset r0 0 r5\nset r0 0 r4\nset r0 0 r5\nset r0 0 r4\nset r0 0 r5\nset r0 0 r4\nset r0 0 r5\nset r0 0 r4\nset r0 0 r5\nset r0 0 r4\nset r0 0 r5\nset r0 0 r4\nset r0 0 r5\nset r0 0 r4\nset r0 0 r5\nset r0 0 r4\nset r0 0 r5\nset r0 0 r4\nset r0 0 r5\nset r0 0 r4\nset r0 0 r5\nset r0 0 r4\nset r0 0 r5\nset r0 0 r4\nset r0 0 r5\nset r0 0 r4\nset r0 0 r5\nset r0 0 r4\nset r0 0 r5\nset r0 0 r4\nset r0 0 r5\nset r0 0 r4\nset r0 0 r5\nset r0 0 r4\nset r0 0 r5\nset r0 0 r4\nset r0 0 r5\nset r0 0 r4\nset r0 0 r5\nset r0 0 r4\nset r0 0 r5\nset r0 0 r4\nset r0 0 r5\nset r0 0 r4\nset r0 0 r5\nset r0 0 r4\nset r0 0 r5\nset r0 0 r4\nset r0 0 r5\nset r0 0 r4\nset r0 0 r5\nset r0 0 r4\nset r0 0 r5\nset r0 0 r4\ncollect\n";
+// A variable is overwritten so often while a cycle marks, whose collector scans three objects a round. The first overwrite
+// is the mutator's nineteenth command.
+fn overwriting(alloc: Global, times: u32) -> Result<String, Fail> {
+    let head =
+        "nmgc 1\nheap 32 64 64 65536 3 0\nthread 0\nnum r1 5\ncon r4 0 r1\ncon r5 0 r1\nvar r0 r4\n";
+    let mut text = String::from_str(alloc, head)?;
+    for _ in 0..13u8 {
+        text.push_str("con r3 0 r3 r1\n")?;
+    }
+    text.push_str("collect\n")?;
+    for number in 0..times {
+        text.push_str(if number % 2 == 0 {
+            "set r0 0 r5\n"
+        } else {
+            "set r0 0 r4\n"
+        })?;
+    }
+    text.push_str("collect\n")?;
+    Ok(text)
+}
 
 // How many entries the collector took out of the ring in the second round, and how many the mutator keeps.
 fn taken_and_kept<R: Threads + Sync, G: Gate>(
     alloc: Global,
     rt: &R,
+    text: &str,
     gate: &G,
 ) -> Result<(usize, usize), Fail> {
-    let script = script_of(alloc, OFTEN)?;
+    let script = script_of(alloc, text)?;
     let Some(collector) = after_two_rounds(alloc, rt, &script, gate)? else {
         return Err("the run has ended".into());
     };
@@ -246,9 +264,24 @@ fn taken_and_kept<R: Threads + Sync, G: Gate>(
 // and eight entries are kept. Before each of its three scans it takes a block out, so nothing is left there.
 #[test]
 fn full_blocks_reach_the_collector_before_the_stop(rt: HostRuntime) -> Result<(), Fail> {
+    let script = overwriting(rt.alloc(), 200)?;
     let meeting = Meeting::new(rt.alloc(), 0, 0, &[(0, 219), (MAKERS, 1)])?;
-    let (taken, kept) = taken_and_kept(rt.alloc(), &rt, &meeting)?;
+    let (taken, kept) = taken_and_kept(rt.alloc(), &rt, script.as_str(), &meeting)?;
     assert!(rt; meeting.has_met());
     assert!(rt; taken == 192 && kept == 8);
+    Ok(())
+}
+
+// The collector's first scan waits until the mutator has overwritten the variable 4,160 times: the ring is full by then,
+// with 64 blocks of 64, and one full block is kept. The mutator's next overwrite waits until the collector has taken a
+// block out, as its second scan shows, and then finds that slot: one entry is kept. So 65 blocks went through 64 slots in
+// one round, of which the collector's three scans took three.
+#[test]
+fn a_slot_that_the_marker_freed_is_found_in_the_same_round(rt: HostRuntime) -> Result<(), Fail> {
+    let script = overwriting(rt.alloc(), 4161)?;
+    let meet = Meet::new([0, MAKERS], [(4179, 2), (1, 4179)]);
+    let (taken, kept) = taken_and_kept(rt.alloc(), &rt, script.as_str(), &meet)?;
+    assert!(rt; meet.has_met());
+    assert!(rt; taken == 192 && kept == 1);
     Ok(())
 }

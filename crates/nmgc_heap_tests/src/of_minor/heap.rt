@@ -1,15 +1,17 @@
 //! Heaps of plain words, whose objects a test makes one by one, and their promotions.
-ghost use Rattle.std.specs.Prelude.{◌≡◌};
+ghost use Rattle.std.specs.Prelude.{◌≡◌, IfOk};
 ghost use Rattle.nmgc_object.specs.Places.{IsLayout};
+ghost use Rattle.nmgc_turn.specs.Worked.{nurseries_of};
 
 use super::walk::{
-    check_lengths, check_nurseries, check_objects, check_queues, check_recorded, check_room,
-    check_weaks, check_words,
+    check_lengths, check_mutators, check_nurseries, check_objects, check_room, check_words,
 };
 use nmgc_alloc::Segments;
 use nmgc_graph::{List, NoMemory, REGISTERS, Room, SHARED_MAKER, SHARED_SLOTS};
-use nmgc_minor::{Move, Roots, Young, run_passes};
-use nmgc_object::{Address, FinQueue, Layout, Nursery};
+use nmgc_minor::{Move, Young, run_passes};
+use nmgc_mutator::Mutator;
+use nmgc_object::{Address, Layout, Nursery};
+use nmgc_updrem::link;
 use std::alloc::Global;
 use std::marker::Model;
 use std::process::Abort;
@@ -68,17 +70,55 @@ impl Lists {
 // there, or 0; and the next serial, which all mutators share.
 #[derive(Drop)]
 pub struct Heap {
+    alloc: Global,
     pub words: List<u64>,
     pub sizes: Vec<u32>,
     pub segments: Segments,
-    pub nurseries: List<Nursery>,
-    pub roots: Roots,
+    pub mutators: List<Mutator>,
     pub lists: Lists,
     pub serial: u32,
 }
 
-// Walks the heap, and promotes what is found in it.
-pub fn promote(rt: &impl Abort, heap: &mut Heap, recorded: &[Address], weaks: &[Address]) {
+// The nurseries of mutators.
+fn nurseries(alloc: Global, mutators: &[Mutator]) -> Result<Vec<Nursery>, NoMemory>
+    ensures { IfOk result (λ nurseries. nurseries.items ≡ nurseries_of mutators.now) }
+{
+    let mut nurseries = Vec::with_capacity(alloc, mutators.len())?;
+    for mutator in mutators {
+        nurseries.push(mutator.nursery)?;
+    }
+    Ok(nurseries)
+}
+
+// Has the first mutator record these fields and weak pointers.
+fn note(
+    rt: &impl Abort,
+    mutators: &mut [Mutator],
+    recorded: &[Address],
+    weaks: &[Address],
+) -> Result<(), NoMemory> {
+    assert!(rt; !mutators.is_empty());
+    let mutator = &mut mutators[0];
+    for at in recorded {
+        mutator.recorded.reserve(1)?;
+        mutator.recorded.add(*at);
+    }
+    for at in weaks {
+        mutator.young_weaks.reserve(1)?;
+        mutator.young_weaks.add(*at);
+    }
+    Ok(())
+}
+
+// Walks the heap, and promotes what is found in it, where the first mutator recorded these fields and weak pointers.
+pub fn promote(
+    rt: &impl Abort,
+    heap: &mut Heap,
+    recorded: &[Address],
+    weaks: &[Address],
+) -> Result<(), NoMemory> {
+    note(rt, heap.mutators.items_mut(), recorded, weaks)?;
+    let nurseries = nurseries(heap.alloc, heap.mutators.items())?;
     let layout = heap.segments.layout();
     let base = layout.nursery_base(0);
     check_room(rt, &heap.segments);
@@ -88,24 +128,19 @@ pub fn promote(rt: &impl Abort, heap: &mut Heap, recorded: &[Address], weaks: &[
     assert!(rt; heap.lists.young.base == base);
     assert!(rt; heap.lists.young.table.len() == sizes.len());
     check_words(rt, sizes, base, words);
-    check_words(rt, sizes, base, heap.roots.registers.items());
-    check_queues(rt, sizes, base, heap.roots.queues.items());
-    check_recorded(rt, base, recorded);
-    check_weaks(rt, sizes, base, words.len(), weaks);
-    check_nurseries(rt, layout, heap.nurseries.items());
-    check_objects(rt, layout, base, words, sizes, heap.nurseries.items());
+    check_mutators(rt, sizes, base, words.len(), heap.mutators.items());
+    check_nurseries(rt, layout, nurseries.as_slice());
+    check_objects(rt, layout, base, words, sizes, nurseries.as_slice());
     run_passes(
         &mut heap.lists.young,
         &mut heap.lists.moves,
         &mut heap.words,
         &mut heap.segments,
-        heap.nurseries.items_mut(),
-        &mut heap.roots,
-        recorded,
-        weaks,
+        heap.mutators.items_mut(),
     );
     heap.sizes.fill(0);
     wipe(rt, &mut heap.words, base);
+    Ok(())
 }
 
 // Wipes the words of nurseries that are empty again: the walk reads those beyond the used part too.
@@ -152,29 +187,18 @@ pub fn make_heap(rt: &impl Abort, alloc: Global, layout: Layout) -> Result<Heap,
     for i in 0..u32::from(SHARED_SLOTS) {
         store(rt, &mut words, 3 + i, NIL);
     }
-    let mut nurseries = List::new(alloc);
-    let mut registers = List::new(alloc);
-    let mut queues = List::new(alloc);
+    let mut mutators = List::new(alloc);
     for maker in 0..layout.mutators {
-        let base = layout.nursery_base(maker);
-        let end = base + layout.nursery;
-        nurseries.push(Nursery {
-            base,
-            top: base,
-            end,
-        })?;
-        for _ in 0..REGISTERS {
-            registers.push(NIL)?;
-        }
-        queues.push(FinQueue::new(alloc))?;
+        let (sender, _receiver) = link(alloc)?;
+        mutators.push(Mutator::new(alloc, maker, layout, sender)?)?;
     }
     let count = u32::from(layout.mutators) * layout.nursery;
     Ok(Heap {
+        alloc,
         words,
         sizes: vec![in alloc; 0u32; count as usize]?,
         segments: Segments::new(alloc, layout)?,
-        nurseries,
-        roots: Roots { registers, queues },
+        mutators,
         lists: Lists::reserve(alloc, layout)?,
         serial: 0,
     })
@@ -196,15 +220,13 @@ pub fn word(rt: &impl Abort, heap: &Heap, at: u32) -> u64 {
 
 // Creates an object at the top of a mutator's nursery, with the next serial, and answers its place.
 pub fn create(rt: &impl Abort, heap: &mut Heap, maker: u8, kind: u64, fields: &[u64]) -> u32 {
-    let first = heap.nurseries.items();
-    assert!(rt; !first.is_empty());
-    let base = first[0].base;
-    let nurseries = heap.nurseries.items_mut();
-    assert!(rt; usize::from(maker) < nurseries.len() && kind < 8 && fields.len() < 4095);
-    let at = nurseries[usize::from(maker)].top;
+    let mutators = heap.mutators.items_mut();
+    assert!(rt; usize::from(maker) < mutators.len() && kind < 8 && fields.len() < 4095);
+    let base = mutators[0].nursery.base;
+    let at = mutators[usize::from(maker)].nursery.top;
     assert!(rt; base <= at && at < 10_000_000);
     let size = 2 + fields.len() as u32;
-    nurseries[usize::from(maker)].top = at + size;
+    mutators[usize::from(maker)].nursery.top = at + size;
     let serial = heap.serial;
     assert!(rt; serial < 1_000_000);
     heap.serial = serial + 1;
@@ -229,16 +251,22 @@ pub fn to(at: u32) -> u64 {
     2 * u64::from(at)
 }
 
-// Has a register hold a word.
+// Has a register hold a word. The registers are counted through all mutators.
 pub fn hold(rt: &impl Abort, heap: &mut Heap, register: usize, word: u64) {
-    let registers = heap.roots.registers.items_mut();
-    assert!(rt; register < registers.len());
-    registers[register] = word;
+    let count = REGISTERS as usize;
+    let mutators = heap.mutators.items_mut();
+    assert!(rt; register / count < mutators.len());
+    let registers = mutators[register / count].registers.items_mut();
+    assert!(rt; register % count < registers.len());
+    registers[register % count] = word;
 }
 
 // What a register holds.
 pub fn held(rt: &impl Abort, heap: &Heap, register: usize) -> u64 {
-    let registers = heap.roots.registers.items();
-    assert!(rt; register < registers.len());
-    registers[register]
+    let count = REGISTERS as usize;
+    let mutators = heap.mutators.items();
+    assert!(rt; register / count < mutators.len());
+    let registers = mutators[register / count].registers.items();
+    assert!(rt; register % count < registers.len());
+    registers[register % count]
 }

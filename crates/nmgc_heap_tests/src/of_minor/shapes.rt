@@ -7,6 +7,7 @@ use super::heap::{
     ARR, CON, Heap, NIL, STACK, THUNK, VAR, WEAK, create, held, hold, layout, make_heap, promote,
     store, to, word,
 };
+use nmgc_graph::REGISTERS;
 use nmgc_object::Address;
 use std::alloc::Global;
 use std::process::Abort;
@@ -16,6 +17,9 @@ use std::test::Fail;
 const YOUNG: u64 = 16416;
 
 const SECOND_YOUNG: u64 = 16672;
+
+// The number of the second mutator's first register, as all are counted.
+const SECOND_REGISTER: usize = REGISTERS as usize;
 
 // The word of the number 5.
 const FIVE: u64 = 13;
@@ -187,15 +191,15 @@ const TWO_MUTATORS: [Round; 2] = [
             (0, CON, &[2 * SECOND_YOUNG]),
             (1, CON, &[2 * YOUNG]),
         ],
-        holds: &[(64, 2 * (SECOND_YOUNG + 2))],
+        holds: &[(SECOND_REGISTER, 2 * (SECOND_YOUNG + 2))],
         moves: &[(0, 1, 16416, 32), (1, 0, 16672, 288), (1, 2, 16674, 292)],
         words: &[(34, 576), (294, 64)],
-        registers: &[(64, 584)],
+        registers: &[(SECOND_REGISTER, 584)],
         ..QUIET
     },
     Round {
         words: &[(34, 576), (294, 64)],
-        registers: &[(64, 584)],
+        registers: &[(SECOND_REGISTER, 584)],
         ..QUIET
     },
 ];
@@ -209,11 +213,11 @@ fn bear_all(rt: &impl Abort, heap: &mut Heap, births: &[Birth]) {
 
 // Adds words to the first queue.
 fn join_all(rt: &impl Abort, heap: &mut Heap, joins: &[u64]) -> Result<(), Fail> {
-    let queues = heap.roots.queues.items_mut();
-    assert!(rt; !queues.is_empty());
+    let mutators = heap.mutators.items_mut();
+    assert!(rt; !mutators.is_empty());
     for word in joins {
-        queues[0].reserve(1)?;
-        queues[0].add(*word);
+        mutators[0].queue.reserve(1)?;
+        mutators[0].queue.add(*word);
     }
     Ok(())
 }
@@ -250,9 +254,9 @@ fn compare(rt: &impl Abort, heap: &Heap, round: &Round) {
     for (register, wanted) in round.registers {
         assert!(rt; held(rt, heap, *register) == *wanted);
     }
-    let queues = heap.roots.queues.items();
-    assert!(rt; !queues.is_empty());
-    assert!(rt; queues[0].words() == round.queue);
+    let mutators = heap.mutators.items();
+    assert!(rt; !mutators.is_empty());
+    assert!(rt; mutators[0].queue.words() == round.queue);
 }
 
 // Runs rounds of so many mutators from an empty heap.
@@ -260,7 +264,7 @@ fn run_rounds(rt: &impl Abort, alloc: Global, mutators: u8, rounds: &[Round]) ->
     let mut heap = make_heap(rt, alloc, layout(256, 256, mutators))?;
     for round in rounds {
         play(rt, &mut heap, round)?;
-        promote(rt, &mut heap, round.recorded, round.weaks);
+        promote(rt, &mut heap, round.recorded, round.weaks)?;
         compare_moves(rt, &heap, round.moves);
         compare(rt, &heap, round);
     }
@@ -276,19 +280,20 @@ fn heaps_of_every_shape(rt: HostRuntime) -> Result<(), Fail> {
 }
 
 // Makes an array of so many words for each of the sizes, holds it, promotes, and compares the new places.
-fn move_sizes(rt: &impl Abort, heap: &mut Heap, sizes: &[(usize, u32)]) {
+fn move_sizes(rt: &impl Abort, heap: &mut Heap, sizes: &[(usize, u32)]) -> Result<(), Fail> {
     let nils = [NIL; 4094];
     for (index, (size, _)) in sizes.iter().enumerate() {
         assert!(rt; 2 <= *size && *size <= 4096);
         let at = create(rt, heap, 0, ARR, &nils[..*size - 2]);
         hold(rt, heap, index, to(at));
     }
-    promote(rt, heap, &[], &[]);
+    promote(rt, heap, &[], &[])?;
     let moves = heap.lists.moves();
     assert!(rt; moves.len() == sizes.len());
-    for (moved, (size, place)) in moves.iter().zip(sizes) {
+    for (moved, (_, place)) in moves.iter().zip(sizes) {
         assert!(rt; moved.to.0 == *place);
     }
+    Ok(())
 }
 
 // Arrays that fill a block, of some dense classes and of each class above, and then the smallest of these classes.
@@ -311,7 +316,7 @@ fn every_size(rt: HostRuntime) -> Result<(), Fail> {
         (2048, 40992),
         (4096, 45088),
     ];
-    move_sizes(&rt, &mut heap, &largest);
+    move_sizes(&rt, &mut heap, &largest)?;
     let smallest = [
         (2, 36),
         (5, 4133),
@@ -326,6 +331,6 @@ fn every_size(rt: HostRuntime) -> Result<(), Fail> {
         (1025, 43040),
         (2049, 49184),
     ];
-    move_sizes(&rt, &mut heap, &smallest);
+    move_sizes(&rt, &mut heap, &smallest)?;
     Ok(())
 }

@@ -1,17 +1,21 @@
 //! A promotion at a stop, as the run does it: what the words stand for is told by a law, and not by a walk.
-ghost use Rattle.std.specs.Prelude.{◌≡◌, [], ◌∷◌, IfOk};
+ghost use Rattle.std.specs.Prelude.{◌≡◌, ◌≤◌, [], ◌∷◌, IfOk};
+ghost use Rattle.nmgc_object.specs.Places.{IsLayout};
+ghost use Rattle.nmgc_mutator.specs.declared.mutator.Mutator.{Mutator as MutatorSeen};
 ghost use Rattle.nmgc_alloc.specs.Segments.{all_free};
 ghost use Rattle.nmgc_heap.specs.Samples.{small_layout};
-ghost use Rattle.nmgc_blocks.specs.Samples.{HoldsYoung, young_registers};
+ghost use Rattle.nmgc_blocks.specs.Samples.{HoldsYoung};
 ghost use Rattle.nmgc_minor.specs.Promotion.{IsFor};
-ghost use Rattle.nmgc_minor.specs.Start.{words_of};
+ghost use Rattle.nmgc_heap_tests.specs.Checked.{IsYoungMutator};
 
 use super::heap::NIL;
 use nmgc_alloc::Segments;
 use nmgc_blocks::laws::one_young_object;
-use nmgc_graph::{List, Name, REGISTERS};
-use nmgc_minor::{Move, Promotion, Roots};
+use nmgc_graph::{List, Name, Place, Placed, REGISTERS};
+use nmgc_minor::{Move, Promotion};
+use nmgc_mutator::Mutator;
 use nmgc_object::{Address, FinQueue, Layout, Nursery};
+use nmgc_updrem::link;
 use std::alloc::Global;
 use std::process::Abort;
 use std::test::Fail;
@@ -37,39 +41,41 @@ fn promote_young(
     promotion: &mut Promotion,
     words: &mut List<u64>,
     segments: &mut Segments,
-    roots: &mut Roots,
+    mutators: &mut [Mutator],
 )
     requires lists { IsFor small_layout promotion.old }
     requires words { HoldsYoung words.old }
     requires free { segments.old ≡ all_free small_layout }
-    requires registers { roots.old.registers ≡ young_registers }
-    requires queues { words_of roots.old.queues ≡ [] ∷ [] }
+    requires one { (m : MutatorSeen) × (mutators.old ≡ m ∷ []) × IsYoungMutator m }
 {
-    let mut nurseries = [Nursery {
+    let _ = segments.layout();
+    one_young_object();
+    promotion.promote(words, segments, mutators);
+    assert!(rt; mutators.len() == 1);
+    assert!(rt; mutators[0].nursery.top == 2080);
+}
+
+// The one mutator: it holds the object in register 0, its number in register 1, and nil.
+fn young_mutator(alloc: Global, small: Layout) -> Result<Mutator, Fail>
+    requires layout { IsLayout small }
+    requires some { 1 ≤ small.mutators }
+    ensures { IfOk result IsYoungMutator }
+{
+    let (sender, _receiver) = link(alloc)?;
+    let mut mutator = Mutator::new(alloc, 0, small, sender)?;
+    let mut registers = Vec::from_elem(alloc, NIL, REGISTERS as usize)?;
+    registers[0] = 4160;
+    registers[1] = 13;
+    mutator.registers = Placed::of(registers, Place::new(alloc)?);
+    mutator.queue = FinQueue::new(alloc);
+    mutator.nursery = Nursery {
         base: 2080,
         top: 2083,
         end: 2144,
-    }];
-    let _ = segments.layout();
-    one_young_object();
-    promotion.promote(words, segments, &mut nurseries, roots, &[], &[]);
-    assert!(rt; nurseries[0].top == 2080);
-}
-
-// What one mutator holds: the object in register 0, its number in register 1, and nil.
-fn young_roots(alloc: Global) -> Result<Roots, Fail>
-    ensures { IfOk result (λ roots. (roots.registers ≡ young_registers) × (words_of roots.queues ≡ [] ∷ [])) }
-{
-    let mut registers = [NIL; REGISTERS as usize];
-    registers[0] = 4160;
-    registers[1] = 13;
-    let registers = Vec::from_array(alloc, registers)?;
-    let mut queues = List::new(alloc);
-    queues.push(FinQueue::new(alloc))?;
-    Ok(Roots {
-        registers: List::from_vec(registers)?,
-        queues,
-    })
+    };
+    mutator.recorded.clear();
+    mutator.young_weaks.clear();
+    Ok(mutator)
 }
 
 // One object moved, to the first block.
@@ -114,10 +120,16 @@ fn one_object(rt: HostRuntime) -> Result<(), Fail> {
     let mut words = List::from_vec(words)?;
     let mut segments = Segments::new(rt.alloc(), small)?;
     let mut promotion = Promotion::reserve(rt.alloc(), small)?;
-    let mut roots = young_roots(rt.alloc())?;
-    promote_young(&rt, &mut promotion, &mut words, &mut segments, &mut roots);
+    let mut mutators = [young_mutator(rt.alloc(), small)?];
+    promote_young(
+        &rt,
+        &mut promotion,
+        &mut words,
+        &mut segments,
+        &mut mutators,
+    );
     compare_move(&rt, promotion.moves());
     compare_front(&rt, words.items(), 32, &[2105, 0, 13]);
-    compare_front(&rt, roots.registers.items(), 0, &[64, 13]);
+    compare_front(&rt, mutators[0].registers.items(), 0, &[64, 13]);
     Ok(())
 }

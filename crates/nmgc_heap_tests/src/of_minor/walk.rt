@@ -5,18 +5,18 @@
 //!
 //! Easy to get wrong: the walk takes each even word for a pointer, headers and names too. So a heap needs
 //! enough segments below its nurseries that no header of a large stack, and no high serial, points there.
-ghost use Rattle.std.specs.Prelude.{ℕ, ◌≡◌, ◌≢◌, ◌+◌, ◌*◌, ◌^◌, ◌<◌, ◌≤◌, IsTrue, All, List, length, slice_index, Contains};
+ghost use Rattle.std.specs.Prelude.{ℕ, ◌≡◌, ◌≢◌, ◌+◌, ◌*◌, ◌<◌, ◌≤◌, IsTrue, length, slice_index, Contains};
 ghost use Rattle.nmgc_object.specs.Words.{header_word, name_word, IsHeader as IsGoodHeader, IsName};
 ghost use Rattle.nmgc_object.specs.Places.{IsLayout, reserve_count};
 ghost use Rattle.nmgc_alloc.specs.Reserve.{free_count};
-ghost use Rattle.nmgc_heap_tests.specs.Checked.{PointsWell, IsMade, AreMade, AreParts};
-ghost use Rattle.nmgc_minor.specs.Start.{words_of, places_of};
+ghost use Rattle.nmgc_object.specs.declared.words.Address.{Address as Place};
+ghost use Rattle.nmgc_mutator.specs.declared.mutator.Mutator.{Mutator as MutatorSeen};
+ghost use Rattle.nmgc_heap_tests.specs.Checked.{PointsWell, PointsWellAll, IsMade, AreMade, AreParts};
 
 use nmgc_alloc::Segments;
 use nmgc_graph::Name;
-use nmgc_object::{
-    Address, FinQueue, HEADER_WORDS, Header, Layout, Nursery, decode_header, decode_name,
-};
+use nmgc_mutator::Mutator;
+use nmgc_object::{Address, HEADER_WORDS, Header, Layout, Nursery, decode_header, decode_name};
 use std::process::Abort;
 
 // Whether an object begins where the word points, if it points to the nurseries.
@@ -39,17 +39,8 @@ pub fn check_words(rt: &impl Abort, sizes: &[u32], base: u32, words: &[u64])
     }
 }
 
-fn check_queue(rt: &impl Abort, sizes: &[u32], base: u32, queue: &FinQueue)
-    ensures short { length queue.now.words < 2 ^ 32 }
-    ensures points { (k : ℕ) → k < length queue.now.words → PointsWell base sizes.now (slice_index queue.now.words k) }
-{
-    let words = queue.words();
-    assert!(rt; words.len() < 4294967296);
-    check_words(rt, sizes, base, words);
-}
-
-pub fn check_recorded(rt: &impl Abort, base: u32, recorded: &[Address])
-    ensures { (at : ℕ) → Contains (places_of recorded.now) at → at < base }
+fn check_recorded(rt: &impl Abort, base: u32, recorded: &[Address])
+    ensures { (at : Place) → Contains recorded.now at → at.0 < base }
 {
     for at in recorded {
         assert!(rt; at.0 < base);
@@ -76,8 +67,8 @@ fn read_name(rt: &impl Abort, word: u64) -> Name
     }
 }
 
-pub fn check_weaks(rt: &impl Abort, sizes: &[u32], base: u32, words: usize, weaks: &[Address])
-    ensures { (at : ℕ) → Contains (places_of weaks.now) at → PointsWell base sizes.now (2 * at) × (at + 5 ≤ words) }
+fn check_weaks(rt: &impl Abort, sizes: &[u32], base: u32, words: usize, weaks: &[Address])
+    ensures { (at : Place) → Contains weaks.now at → PointsWell base sizes.now (2 * at.0) × (at.0 + 5 ≤ words) }
 {
     for at in weaks {
         assert!(rt; points_well(sizes, base, 2 * u64::from(at.0)));
@@ -85,12 +76,20 @@ pub fn check_weaks(rt: &impl Abort, sizes: &[u32], base: u32, words: usize, weak
     }
 }
 
-pub fn check_queues(rt: &impl Abort, sizes: &[u32], base: u32, queues: &[FinQueue])
-    ensures short { All (λ queue. length queue.words < 2 ^ 32) queues.now }
-    ensures points { (queue : List ℕ) (word : ℕ) → Contains (words_of queues.now) queue → Contains queue word → PointsWell base sizes.now word }
+fn check_mutator(rt: &impl Abort, sizes: &[u32], base: u32, words: usize, mutator: &Mutator)
+    ensures { PointsWellAll base sizes.now words mutator.now }
 {
-    for queue in queues {
-        check_queue(rt, sizes, base, queue);
+    check_words(rt, sizes, base, mutator.registers.items());
+    check_words(rt, sizes, base, mutator.queue.words());
+    check_recorded(rt, base, mutator.recorded.items());
+    check_weaks(rt, sizes, base, words, mutator.young_weaks.items());
+}
+
+pub fn check_mutators(rt: &impl Abort, sizes: &[u32], base: u32, words: usize, mutators: &[Mutator])
+    ensures { (m : MutatorSeen) → Contains mutators.now m → PointsWellAll base sizes.now words m }
+{
+    for mutator in mutators {
+        check_mutator(rt, sizes, base, words, mutator);
     }
 }
 

@@ -189,20 +189,21 @@ fn compare(rt: &impl Abort, heap: &Heap, round: &Round) {
 }
 
 // Has a mutator do a round's commands, promotes, and compares.
-fn run_round(rt: &impl Abort, heap: &mut Heap, round: &Round) {
+fn run_round(rt: &impl Abort, heap: &mut Heap, round: &Round) -> Result<(), Fail> {
     for command in round.commands {
         give(rt, heap, *command);
     }
-    promote(rt, heap, &[], &[]);
+    promote(rt, heap, &[], &[])?;
     compare_moves(rt, heap, round);
     compare(rt, heap, round);
+    Ok(())
 }
 
 // Runs rounds from an empty heap with a nursery of so many words.
 fn run_rounds(rt: &impl Abort, alloc: Global, nursery: u32, rounds: &[Round]) -> Result<(), Fail> {
     let mut heap = make_heap(rt, alloc, layout(64, nursery, 1))?;
     for round in rounds {
-        run_round(rt, &mut heap, round);
+        run_round(rt, &mut heap, round)?;
     }
     Ok(())
 }

@@ -10,7 +10,7 @@ ghost use Rattle.nmgc_round.specs.Ready.{HasPart, scanned_by};
 ghost use Rattle.nmgc_heap_tests.specs.Sample.{snapshot_opening, IsSnapshotHeap, IsSnapshotMutator, IsBegun};
 
 use super::laws::a_marking_round_opens;
-use nmgc_graph::{Command, List, NoMemory, Operand, Place, REGISTERS, Reply};
+use nmgc_graph::{Command, List, NoMemory, Operand, Place, Placed, REGISTERS, Reply};
 use nmgc_mutator::{Mutator, Step, laws};
 use nmgc_object::{Address, Layout};
 use nmgc_round::chosen::Wanted;
@@ -82,7 +82,7 @@ pub(super) fn mutator_with(
     registers[0] = 72;
     registers[1] = 13;
     registers[3] = 184;
-    mutator.registers = List::from_vec(registers)?;
+    mutator.registers = Placed::of(registers, Place::new(alloc)?);
     mutator.serial = 16;
     Ok(mutator)
 }

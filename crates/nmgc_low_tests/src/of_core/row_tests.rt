@@ -1,4 +1,4 @@
-//! Small cycles with weak pointers, as a table: what one mutator did before marking began, what it does while
+//! Small cycles, most of them with weak pointers, as a table: what one mutator did before marking began, what it does while
 //! marking runs, and what is marked, queued and answered in the end.
 
 use super::tests::{begin, drain, feed, give, marks, marks_kept, name};
@@ -16,6 +16,10 @@ enum Do {
     Con(u8, u8),
     // The register, and those of the two fields.
     Cell(u8, u8, u8),
+    // The register of an array of two, and that of the value in both.
+    Arr(u8, u8),
+    // The register of the object, the field, and the register of the value.
+    Set(u8, u32, u8),
     // The register, and those of key, value and finaliser.
     Weak(u8, u8, u8, u8),
     // The register, and that of the object.
@@ -65,6 +69,16 @@ fn command(alloc: Global, what: Do) -> Result<Command, Fail> {
         Do::Num(dest, number) => Command::Num { dest, number },
         Do::Con(dest, field) => con(alloc, dest, &[field])?,
         Do::Cell(dest, first, second) => con(alloc, dest, &[first, second])?,
+        Do::Arr(dest, value) => Command::Arr {
+            dest,
+            count: 2,
+            value: Operand::Register(value),
+        },
+        Do::Set(object, index, value) => Command::Set {
+            object: Operand::Register(object),
+            index,
+            value: Operand::Register(value),
+        },
         Do::Weak(dest, key, value, finaliser) => Command::Weak {
             dest,
             key: Operand::Register(key),
@@ -172,6 +186,35 @@ fn is_right(alloc: Global, row: Row) -> Result<bool, Fail> {
     let world = world_after(alloc, row.before, row.cells)?;
     let mut core = begin(world)?;
     ends_so(alloc, &mut core, row)
+}
+
+// A reference is read out of an array, written into another one, and erased where it was, while marking runs.
+#[test]
+fn a_reference_that_is_moved_and_erased_is_marked(rt: HostRuntime) -> Result<(), Fail> {
+    let row = Row {
+        before: &[
+            Do::Num(1, 5),
+            Do::Con(4, 1),
+            Do::Arr(0, 4),
+            Do::Arr(2, 1),
+            Do::Nil(4),
+        ],
+        cells: 13,
+        during: &[
+            (Do::Get(4, 0), Reply::Given(object(0))),
+            (Do::Set(2, 1, 4), Reply::Fine),
+            (Do::Set(0, 0, 1), Reply::Fine),
+            (Do::Set(0, 1, 1), Reply::Fine),
+            (Do::Nil(4), Reply::Fine),
+            (Do::Nil(0), Reply::Fine),
+        ],
+        marked: &[0, 1, 2, 3, 4, 5, 6, 7, 8, 9, 10, 11, 12, 13, 14, 15],
+        queued: &[],
+        after: &[],
+    };
+    let right = is_right(rt.alloc(), row)?;
+    assert!(rt; right);
+    Ok(())
 }
 
 // A weak pointer whose value is read while marking runs: the value is kept, and the weak pointer dies with its

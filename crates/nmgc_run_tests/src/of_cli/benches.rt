@@ -10,19 +10,7 @@ use std::thread::Threads;
 // Benches, with their summaries.
 const BENCHES: [(&str, &str); 3] = [
     ("1", ONE_BATCH),
-    (
-        "2",
-        "bench 2
-commands 8208
-rounds 4
-cycles 1
-made 8192
-promoted 8192
-freed 4096
-kept 4096
-end done
-",
-    ),
+    ("2", TWO_BATCHES),
     (
         "10",
         "bench 10
@@ -46,6 +34,17 @@ made 4096
 promoted 4096
 freed 0
 kept 0
+end done
+";
+
+pub const TWO_BATCHES: &str = "bench 2
+commands 8208
+rounds 4
+cycles 1
+made 8192
+promoted 8192
+freed 4096
+kept 4096
 end done
 ";
 

@@ -1,7 +1,14 @@
-//! Scripts that are cut, and sources and sinks that fail.
-use super::running::{EMPTY_REPORT, ONE_OBJECT, ONE_OBJECT_REPORT, run_failing, script_of};
+//! Scripts that are cut, and sources and sinks that fail, for each word of the program.
+use super::benches::TWO_BATCHES;
+use super::running::{
+    EMPTY_REPORT, HEAD, ONE_OBJECT, ONE_OBJECT_IMAGE, ONE_OBJECT_REPORT, ONE_OBJECT_UPGRADED,
+    run_failing, run_words, script_of,
+};
 use nmgc_cli::Status;
+use std::alloc::Global;
+use std::process::Abort;
 use std::test::Fail;
+use std::thread::Threads;
 
 // What is told of the first bytes of the script with one object, so many of them.
 fn told_of(cut: usize) -> (Status, &'static str) {
@@ -38,29 +45,88 @@ fn a_script_is_cut(rt: HostRuntime) -> Result<(), Fail> {
     Ok(())
 }
 
-#[test]
-fn each_read_fails(rt: HostRuntime) -> Result<(), Fail> {
-    let script = script_of(rt.alloc(), ONE_OBJECT)?;
-    let reads = script.len().div_ceil(5) as u64 + 1;
-    for read in 1..reads + 1 {
-        let run = run_failing(&rt, rt.alloc(), &script, read, 0)?;
-        assert!(rt; run.ended.status == Status::ReadFault);
-        assert!(rt; run.sink.bytes() == b"read fault\n".as_slice());
+// The script with one object.
+const WHOLE: &str =
+    "nmgc 1\nheap 32 64 64 100 1000 0\nthread 0\nnum r1 5\ncon r0 7 r1\nget r2 r0 0\nshow r2\nget r2 r0 1\nget r2 r1 0\nshow r0\n";
+
+// Words that read, what they are given, what is written then, and whether the report is handed on.
+const READERS: [(&[&str], &str, &str, bool); 6] = [
+    (&["run"], WHOLE, ONE_OBJECT_REPORT, true),
+    (&["run"], HEAD, EMPTY_REPORT, true),
+    (&["upgrade"], WHOLE, ONE_OBJECT_UPGRADED, false),
+    (&["image"], WHOLE, ONE_OBJECT_IMAGE, true),
+    (
+        &["retain", "0.0"],
+        ONE_OBJECT_IMAGE,
+        "root register 0 0\nobject 0.0\nend\n",
+        false,
+    ),
+    (
+        &["marks", "2"],
+        WHOLE,
+        "marks 2\nreached 1\n0.0\nend done\n",
+        true,
+    ),
+];
+
+// The same for a bench, which reads nothing.
+const BENCH: [(&[&str], &str, &str, bool); 1] = [(&["bench", "2"], "", TWO_BATCHES, true)];
+
+// Looks whether each single read that fails is told: one for each piece, and one that finds the end.
+fn check_reads<R: Threads + Sync + Abort>(
+    rt: &R,
+    alloc: Global,
+    rows: &[(&[&str], &str, &str, bool)],
+) -> Result<(), Fail> {
+    for (words, bytes, _, _) in rows {
+        let reads = bytes.len().div_ceil(5) as u64 + 1;
+        for read in 1..reads + 1 {
+            let run = run_words(rt, alloc, words, bytes.as_bytes(), read, 0)?;
+            assert!(rt; run.ended.status == Status::ReadFault);
+            assert!(rt; run.sink.bytes() == b"read fault\n".as_slice());
+            assert!(rt; run.ended.report.is_none());
+        }
+    }
+    Ok(())
+}
+
+// Looks whether each single write that fails is told, with what was written before, and whether all is written where none
+// of these reads and writes fails.
+fn check_writes<R: Threads + Sync + Abort>(
+    rt: &R,
+    alloc: Global,
+    rows: &[(&[&str], &str, &str, bool)],
+) -> Result<(), Fail> {
+    for (words, bytes, text, is_handed_on) in rows {
+        let text = text.as_bytes();
+        let (reads, writes) = (
+            bytes.len().div_ceil(5) as u64 + 1,
+            text.len().div_ceil(5) as u64,
+        );
+        for write in 1..writes + 1 {
+            let run = run_words(rt, alloc, words, bytes.as_bytes(), 0, write)?;
+            let written = (5 * (write as usize - 1)).min(text.len());
+            assert!(rt; run.ended.status == Status::WriteFault);
+            assert!(rt; run.sink.bytes() == &text[..written]);
+            assert!(rt; run.ended.report.is_some() == *is_handed_on);
+        }
+        let run = run_words(rt, alloc, words, bytes.as_bytes(), reads + 1, writes + 1)?;
+        assert!(rt; run.ended.status == Status::Done);
+        assert!(rt; run.sink.bytes() == text);
+        assert!(rt; run.ended.report.is_some() == *is_handed_on);
     }
     Ok(())
 }
 
 #[test]
+fn each_read_fails(rt: HostRuntime) -> Result<(), Fail> {
+    check_reads(&rt, rt.alloc(), &READERS)
+}
+
+#[test]
 fn each_write_fails(rt: HostRuntime) -> Result<(), Fail> {
-    let script = script_of(rt.alloc(), ONE_OBJECT)?;
-    let report = ONE_OBJECT_REPORT.as_bytes();
-    for write in 1..report.len().div_ceil(5) as u64 + 1 {
-        let run = run_failing(&rt, rt.alloc(), &script, 0, write)?;
-        let written = (5 * (write as usize - 1)).min(report.len());
-        assert!(rt; run.ended.status == Status::WriteFault);
-        assert!(rt; run.sink.bytes() == &report[..written]);
-    }
-    Ok(())
+    check_writes(&rt, rt.alloc(), &READERS)?;
+    check_writes(&rt, rt.alloc(), &BENCH)
 }
 
 // The report is there also where its text wasn't written whole.

@@ -1,32 +1,18 @@
 //! Images of what a run left, and paths in them.
-use super::running::{HEAD, ONE_OBJECT, Run, all_words, listed, script_of};
-use nmgc_cli::{Status, nmgc};
-use nmgc_io::{MemorySink, MemorySource};
+use super::running::{ONE_OBJECT, ONE_OBJECT_IMAGE, run_words, script_of};
+use nmgc_cli::Status;
 use std::alloc::Global;
 use std::process::Abort;
 use std::test::Fail;
 use std::thread::Threads;
 
-// The node line of the shared array with nothing in it, and the last line.
-const LAST_LINES: &str =
-    "node g arr nil nil nil nil nil nil nil nil nil nil nil nil nil nil nil nil\nend\n";
-
 // A finaliser that holds its key: the weak pointer dies, and nothing refers to it.
 const FINALISER: &str =
     "num r1 5\ncon r4 0 r1\ncon r5 0 r4\nweak r6 r4 r10 r5\nnil r4\nnil r5\nnil r6\ncollect\nyield\nnextfin r7\nget r8 r7 0\nnextfin r9\n";
 
-// Programs under the head, and the image of what each leaves but for its last lines.
+// Programs under the head, and the image of what each leaves.
 const IMAGES: [(&str, &str); 2] = [
-    (
-        ONE_OBJECT,
-        "image 1 1
-mutator 0 serial 1
-register 0 0.0
-register 1 5
-register 2 5
-node 0.0 con 7 5
-",
-    ),
+    (ONE_OBJECT, ONE_OBJECT_IMAGE),
     (
         FINALISER,
         "image 1 1
@@ -36,6 +22,8 @@ register 7 0.1
 register 8 0.0
 node 0.0 con 0 5
 node 0.1 con 0 0.0
+node g arr nil nil nil nil nil nil nil nil nil nil nil nil nil nil nil nil
+end
 ",
     ),
 ];
@@ -70,7 +58,7 @@ end
 ];
 
 // Images that are none, with the first bad line.
-const BAD: [(&str, &str); 4] = [
+const BAD: [(&str, &str); 8] = [
     ("", "bad image line 1\n"),
     (
         "image 1 1\nmutator 0 serial 1\nregister 0 0.0\nregister 1 5\nregister 2 5\nnode g arr nil nil nil nil nil nil nil nil nil nil nil nil nil nil nil nil\nend\n",
@@ -78,24 +66,25 @@ const BAD: [(&str, &str); 4] = [
     ),
     ("image 1 1\nmutator 0 serial 0\nend\n", "bad image line 3\n"),
     ("image 1 1\nmutator 0 serial 0", "bad image line 2\n"),
+    // A node line behind the bad line counts, and what is none doesn't.
+    (
+        "image 1 1\nmutator 0 serial 2\nregister 0 0.1\nnode 0.0 con\nnode 0.1 con 0\n",
+        "bad image line 4\n",
+    ),
+    (
+        "image 1 1\nmutator 0 serial 2\nregister 0 0.1\nnode 0.0 con\nnode 0.1 con\n",
+        "bad image line 3\n",
+    ),
+    // Numbers that none of an image is.
+    (
+        "image 1 1\nmutator 0 serial 1\nnode 0.00 con 0 5\n",
+        "bad image line 3\n",
+    ),
+    (
+        "image 1 1\nmutator 0 serial 1\nnode 0.0 con 0 4611686018427387904\n",
+        "bad image line 3\n",
+    ),
 ];
-
-// Does what the words ask for, over these bytes, where the read and the write of these numbers fail.
-fn run_words<R: Threads + Sync>(
-    rt: &R,
-    alloc: Global,
-    words: &[&str],
-    bytes: &[u8],
-    read: u64,
-    write: u64,
-) -> Result<Run, Fail> {
-    let bytes = Vec::from_slice(alloc, bytes)?;
-    let mut source = MemorySource::new(bytes, 50, listed(alloc, read)?);
-    let mut sink = MemorySink::new(alloc, 50, listed(alloc, write)?, 2000)?;
-    let words = all_words(alloc, words)?;
-    let ended = nmgc(alloc, rt, &words, &mut source, &mut sink);
-    Ok(Run { ended, sink })
-}
 
 // Looks whether each program leaves this image.
 fn check_images<R: Threads + Sync + Abort>(
@@ -103,14 +92,12 @@ fn check_images<R: Threads + Sync + Abort>(
     alloc: Global,
     rows: &[(&str, &str)],
 ) -> Result<(), Fail> {
-    for (program, front) in rows {
+    for (program, text) in rows {
         let script = script_of(alloc, program)?;
         let run = run_words(rt, alloc, &["image"], &script, 0, 0)?;
-        let mut text = Vec::from_slice(alloc, front.as_bytes())?;
-        text.extend_from_slice(LAST_LINES.as_bytes())?;
         assert!(rt; run.ended.status == Status::Done);
         assert!(rt; run.ended.report.is_some());
-        assert!(rt; run.sink.bytes() == text.as_slice());
+        assert!(rt; run.sink.bytes() == text.as_bytes());
     }
     Ok(())
 }
@@ -162,15 +149,10 @@ fn other_bytes_are_no_image(rt: HostRuntime) -> Result<(), Fail> {
 }
 
 #[test]
-fn faults_are_told(rt: HostRuntime) -> Result<(), Fail> {
-    let read = run_words(&rt, rt.alloc(), &["retain", "g"], HEAD.as_bytes(), 1, 0)?;
-    assert!(rt; read.ended.status == Status::ReadFault);
-    let script = script_of(rt.alloc(), ONE_OBJECT)?;
-    let write = run_words(&rt, rt.alloc(), &["image"], &script, 0, 2)?;
-    assert!(rt; write.ended.status == Status::WriteFault);
-    assert!(rt; write.ended.report.is_some());
+fn a_bad_script_leaves_no_image(rt: HostRuntime) -> Result<(), Fail> {
     let bad = run_words(&rt, rt.alloc(), &["image"], b"nmgc 1\n", 0, 0)?;
     assert!(rt; bad.ended.status == Status::BadScript);
+    assert!(rt; bad.sink.bytes() == b"bad line 2 heap\n".as_slice());
     assert!(rt; bad.ended.report.is_none());
     Ok(())
 }

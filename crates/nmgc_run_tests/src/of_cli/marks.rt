@@ -6,12 +6,11 @@ ghost use Rattle.std.specs.Prelude.{◌≤◌, length, IfOk};
 ghost use Rattle.nmgc_cli.specs.Runs.{IsOfScript};
 ghost use Rattle.nmgc_limits.specs.Limits.{most_script_bytes};
 
-use super::running::{HEAD, Run, USAGE, all_words, listed};
+use super::running::{HEAD, USAGE, run_words};
+use nmgc_cli::Status;
 use nmgc_cli::answer::Refusal;
 use nmgc_cli::marks::claims_of;
 use nmgc_cli::run::run_bytes;
-use nmgc_cli::{Status, nmgc};
-use nmgc_io::{MemorySink, MemorySource};
 use nmgc_journal::Report;
 use nmgc_limits::MAX_SCRIPT_BYTES;
 use nmgc_round::Gate;
@@ -69,20 +68,6 @@ fn chains(alloc: Global) -> Result<Vec<u8>, AllocError> {
     Ok(script)
 }
 
-// Marks by so many markers what a script leaves, which is read in pieces of 5 bytes.
-fn run_marks<R: Threads + Sync>(
-    rt: &R,
-    alloc: Global,
-    markers: &str,
-    script: &[u8],
-) -> Result<Run, Fail> {
-    let mut source = MemorySource::new(Vec::from_slice(alloc, script)?, 5, Vec::new(alloc));
-    let mut sink = MemorySink::new(alloc, 5, Vec::new(alloc), 1000)?;
-    let words = all_words(alloc, &["marks", markers])?;
-    let ended = nmgc(alloc, rt, &words, &mut source, &mut sink);
-    Ok(Run { ended, sink })
-}
-
 // Looks whether so many markers mark this of what the script leaves.
 fn check_marks<R: Threads + Sync + Abort>(
     rt: &R,
@@ -96,7 +81,7 @@ fn check_marks<R: Threads + Sync + Abort>(
         ("4", "marks 4\n"),
         ("8", "marks 8\n"),
     ] {
-        let run = run_marks(rt, alloc, markers, script)?;
+        let run = run_words(rt, alloc, &["marks", markers], script, 0, 0)?;
         let mut text = Vec::from_slice(alloc, first.as_bytes())?;
         text.extend_from_slice(reached.as_bytes())?;
         assert!(rt; run.ended.status == Status::Done);
@@ -116,24 +101,11 @@ fn what_is_reached_is_told(rt: HostRuntime) -> Result<(), Fail> {
 #[test]
 fn other_numbers_of_markers_are_wrong_words(rt: HostRuntime) -> Result<(), Fail> {
     for markers in ["0", "9", "04", "", "four"] {
-        let run = run_marks(&rt, rt.alloc(), markers, HEAD.as_bytes())?;
+        let run = run_words(&rt, rt.alloc(), &["marks", markers], HEAD.as_bytes(), 0, 0)?;
         assert!(rt; run.ended.status == Status::Usage);
         assert!(rt; run.sink.bytes() == USAGE.as_bytes());
         assert!(rt; run.ended.report.is_none());
     }
-    Ok(())
-}
-
-#[test]
-fn a_failing_source_is_told(rt: HostRuntime) -> Result<(), Fail> {
-    let alloc = rt.alloc();
-    let script = chains(alloc)?;
-    let mut source = MemorySource::new(script, 5, listed(alloc, 2)?);
-    let mut sink = MemorySink::new(alloc, 5, Vec::new(alloc), 1000)?;
-    let words = all_words(alloc, &["marks", "2"])?;
-    let ended = nmgc(alloc, &rt, &words, &mut source, &mut sink);
-    assert!(rt; ended.status == Status::ReadFault);
-    assert!(rt; ended.report.is_none());
     Ok(())
 }
 

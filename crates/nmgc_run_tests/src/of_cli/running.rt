@@ -39,6 +39,17 @@ get r2 r1 0
 show r0
 ";
 
+// The image of what it leaves.
+pub const ONE_OBJECT_IMAGE: &str = "image 1 1
+mutator 0 serial 1
+register 0 0.0
+register 1 5
+register 2 5
+node 0.0 con 7 5
+node g arr nil nil nil nil nil nil nil nil nil nil nil nil nil nil nil nil
+end
+";
+
 pub const USAGE: &str =
     "usage: nmgc run | nmgc bench N | nmgc upgrade | nmgc image | nmgc retain NAME | nmgc marks N\n";
 
@@ -84,7 +95,25 @@ pub fn all_words(alloc: Global, words: &[&str]) -> Result<Vec<String>, AllocErro
     Ok(all)
 }
 
-// Runs a script in pieces of 5 bytes, where the read and the write of these numbers fail. No call has number 0.
+// Does what the words ask for over these bytes, in pieces of 5 bytes, where the read and the write of these numbers fail. No
+// call has number 0.
+pub fn run_words<R: Threads + Sync>(
+    rt: &R,
+    alloc: Global,
+    words: &[&str],
+    bytes: &[u8],
+    read: u64,
+    write: u64,
+) -> Result<Run, Fail> {
+    let bytes = Vec::from_slice(alloc, bytes)?;
+    let mut source = MemorySource::new(bytes, 5, listed(alloc, read)?);
+    let mut sink = MemorySink::new(alloc, 5, listed(alloc, write)?, 2000)?;
+    let words = all_words(alloc, words)?;
+    let ended = nmgc(alloc, rt, &words, &mut source, &mut sink);
+    Ok(Run { ended, sink })
+}
+
+// Runs a script so.
 pub fn run_failing<R: Threads + Sync>(
     rt: &R,
     alloc: Global,
@@ -92,11 +121,7 @@ pub fn run_failing<R: Threads + Sync>(
     read: u64,
     write: u64,
 ) -> Result<Run, Fail> {
-    let bytes = Vec::from_slice(alloc, script)?;
-    let mut source = MemorySource::new(bytes, 5, listed(alloc, read)?);
-    let mut sink = MemorySink::new(alloc, 5, listed(alloc, write)?, 1000)?;
-    let ended = nmgc(alloc, rt, &one_word(alloc, "run")?, &mut source, &mut sink);
-    Ok(Run { ended, sink })
+    run_words(rt, alloc, &["run"], script, read, write)
 }
 
 // The bytes of a script with this program under the head.

@@ -1,6 +1,7 @@
 //! The scripts whose reports are told by the collector, through the top call.
 use super::running::one_word;
 use crate::of_cycle::{CYCLES, OBJECTS, RUNS, WEAKS};
+use crate::of_full::FULL;
 use nmgc_cli::{Status, nmgc};
 use nmgc_io::{MemorySink, MemorySource};
 use std::alloc::Global;
@@ -37,5 +38,6 @@ fn reports_are_written(rt: HostRuntime) -> Result<(), Fail> {
     check_reports(&rt, rt.alloc(), &RUNS)?;
     check_reports(&rt, rt.alloc(), &CYCLES)?;
     check_reports(&rt, rt.alloc(), &OBJECTS)?;
-    check_reports(&rt, rt.alloc(), &WEAKS)
+    check_reports(&rt, rt.alloc(), &WEAKS)?;
+    check_reports(&rt, rt.alloc(), &FULL)
 }

@@ -1,0 +1,40 @@
+use Rattle.std.proofs.Common.{ℕ, ◌≡◌, ◌∙◌, List, [], ◌∷◌, subst, sym, ap, append-nil}
+use Rattle.nmgc_blocks.specs.Samples.{young_stop, young_nurseries, young_registers}
+use Rattle.nmgc_blocks.specs.Stopped.{IsStopped}
+use Rattle.nmgc_alloc.specs.Segments.{Segments}
+use Rattle.nmgc_minor.specs.Start.{places_of}
+use Rattle.nmgc_minor.specs.Promotes.{IsStoppedBy}
+use Rattle.nmgc_mutator.specs.declared.mutator.Mutator.{Mutator}
+use Rattle.nmgc_object.specs.declared.layout.Nursery.{Nursery}
+use Rattle.nmgc_object.specs.declared.words.Address.{Address}
+use Rattle.nmgc_heap_tests.proofs.of_minor.stop.promote_young.Goals as goal
+
+-- the lists over one mutator
+one : (s : Segments) (words : List ℕ) (m : Mutator) (nurseries : List Nursery) (registers : List ℕ) → m.nursery ∷ [] ≡ nurseries →
+    m.registers ≡ registers → m.queue.words ≡ [] → m.recorded.items ≡ [] → m.young_weaks.items ≡ [] →
+    IsStopped young_stop s words nurseries registers ([] ∷ []) [] [] →
+    IsStoppedBy (λ (x : Mutator). x.nursery) (λ (x : Mutator). x.registers) (λ (x : Mutator). x.queue) (λ (x : Mutator). x.recorded.items)
+    (λ (x : Mutator). x.young_weaks.items) young_stop s words (m ∷ [])
+one s words m nurseries registers n r q d y h =
+    subst (λ (z : List Nursery × List ℕ × List ℕ × List Address × List Address).
+    IsStopped young_stop s words z.0 z.1 (z.2 ∷ []) (places_of z.3) (places_of z.4)) (λ i. (
+      sym n i,
+      sym (append-nil m.registers ∙ r) i,
+      sym q i,
+      sym (append-nil m.recorded.items ∙ d) i,
+      sym (append-nil m.young_weaks.items ∙ y) i,
+    )) h
+
+pub promote-requires-clause-stopped : goal.promote-requires-clause-stopped
+promote-requires-clause-stopped g c =
+    let s = c.args.segments.now in
+    let words = c.args.words.now in
+    let m : Mutator = c.requires.one.0 in
+    let y = c.requires.one.2 in (
+      young_stop,
+      subst (λ (ms : List Mutator).
+          IsStoppedBy (λ (x : Mutator). x.nursery) (λ (x : Mutator). x.registers) (λ (x : Mutator). x.queue) (λ (x : Mutator). x.recorded.items)
+          (λ (x : Mutator). x.young_weaks.items) young_stop s words ms) (sym c.requires.one.1)
+          (one s words m young_nurseries young_registers (ap (λ (n : Nursery). n ∷ []) y.nursery) y.registers y.queue y.recorded y.weaks
+          (c.one_young_object.ensures s words c.layout.ensures.sound c.requires.free c.requires.words)),
+    )
