@@ -193,12 +193,11 @@ class Watch:
         if self.told_taken and flying:
             raise Refused("untaken", f"can't happen: nobody took {flying[0]}", flying[0])
         live, dead = self.outcome(self.opened + sorted(self.pushed))
-        needed, sure = self.outcome(self.opened)
-        if told is not None:
-            wrong = next((name for name in told if name not in sure), None)
-            if wrong:
-                raise Refused("dead", f"can't happen: {wrong} isn't dead", wrong)
-            dead = set(told)
+        dead = dead if told is None else set(told)
+        needed, sure = self.outcome(self.opened + self.keys_left(dead))
+        wrong = next((name for name in told or [] if name not in sure), None)
+        if wrong:
+            raise Refused("dead", f"can't happen: {wrong} isn't dead", wrong)
         self.kept, self.needed = live, needed
         for name in sorted(dead, key=order):
             self.world.kill(name)
@@ -212,6 +211,11 @@ class Watch:
         dead = [name for name in dying if name not in self.finalised]
         kept = live_by(heap, live, [heap.node(name).values[2] for name in dead if heap.node(name).values[2] in heap.lines], False)[0]
         return kept, set(dead)
+
+    def keys_left(self, dead):
+        """The keys of the snapshot's weak pointers that live on where these die."""
+        parts = {name: words.split(" ") for name, words in self.snapshot.lines.items() if words.startswith("weak ")}
+        return [it[1] for name, it in parts.items() if len(it) == 4 and name not in dead and name not in self.finalised]
 
     def _marked(self, number, rest, more):
         names = _names(rest)

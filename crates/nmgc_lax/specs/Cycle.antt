@@ -3,12 +3,14 @@
 -- and a push of it counts for nothing.
 use Rattle.std.specs.Prelude.{◌≡◌, ◌≢◌, ◌↔◌, ◌⊎◌, ℕ, List, [], ◌∷◌, ◌++◌, IsSome, Contains}
 use Rattle.nmgc_graph.specs.declared.value.Name.{Name}
+use Rattle.nmgc_graph.specs.declared.value.Value.TheVariants as value
+use Rattle.nmgc_graph.specs.declared.node.Parts.{Parts}
 use Rattle.nmgc_graph.specs.declared.command.Command.{Command}
 use Rattle.nmgc_graph.specs.declared.command.Reply.{Reply}
 use Rattle.nmgc_graph.specs.World.{World, node_of}
 use Rattle.nmgc_graph.specs.Step.{CanApply, step, shared_name}
 use Rattle.nmgc_graph.specs.History.{opened_by, finalised_by}
-use Rattle.nmgc_graph.specs.Reach.{IsLive, IsDead, IsKept, Lists, closed}
+use Rattle.nmgc_graph.specs.Reach.{IsAlive, IsLive, IsDead, IsKept, Lists, closed}
 use Rattle.nmgc_lax.specs.declared.debt.Debt.{Debt}
 use Rattle.nmgc_lax.specs.Due.{IsDue}
 
@@ -64,9 +66,26 @@ pub record IsTook (h : Cycle) (name : Name) (next : Cycle) : Type 0 where
 abbrev pub IsAllTaken : Cycle → Type 0
 IsAllTaken h = (h.taken ≡ []) ⊎ ((name : Name) → Contains h.remembered name → name ≢ shared_name → Contains h.taken name)
 
--- what the commands alone keep: no collector may free it
-abbrev pub Needs : Cycle → Name → Type 0
-Needs h name = IsKept h.snapshot h.opened h.finalised name
+-- where these weak pointers die: the key of another one that was alive at the snapshot and wasn't finalised since, so that it lives on
+pub record IsKeyLeft (h : Cycle) (dead : List Name) (key : Name) : Type 0 where
+  pub weak : Name
+  pub parts : Parts
+  pub alive : IsAlive h.snapshot weak parts
+  pub not_finalised : Contains h.finalised weak → ⊥
+  pub lives : Contains dead weak → ⊥
+  pub key_is : parts.key ≡ value.Ref key
+
+-- the keys of all that live on
+abbrev pub AreKeysLeft : Cycle → List Name → List Name → Type 0
+AreKeysLeft h dead keys = (key : Name) → Contains keys key ↔ IsKeyLeft h dead key
+
+-- what no collector may free that lets just these weak pointers die: what the commands keep, and the keys of those that live on
+abbrev pub Needs : Cycle → List Name → Name → Type 0
+Needs h dead name = (keys : List Name) × AreKeysLeft h dead keys × IsKept h.snapshot (h.opened ++ keys) h.finalised name
+
+-- a weak pointer is dead where just these die: neither the commands nor those that live on keep its key
+abbrev pub IsDeadTold : Cycle → List Name → Name → Type 0
+IsDeadTold h dead weak = (keys : List Name) × AreKeysLeft h dead keys × IsDead h.snapshot (h.opened ++ keys) h.finalised weak
 
 -- what a collector keeps that marks all that was remembered: the same, and what floats
 abbrev pub Marks : Cycle → Name → Type 0
@@ -79,10 +98,10 @@ pub record IsEnd (h : Cycle) (dead : List Name) (next : World) : Type 0 where
   pub lists : Lists (IsDead h.snapshot (h.opened ++ h.remembered) h.finalised) dead
   pub next_is : next ≡ closed h.world dead
 
--- the same where it is told which die, in whatever order: each may, and they die in the order of names
+-- the same where it is told which die, in whatever order: each is dead where just these die, and they die in the order of names
 pub record IsEndTold (h : Cycle) (told dead : List Name) (next : World) : Type 0 where
   pub debts : h.debts ≡ []
   pub taken : IsAllTaken h
-  pub may : (weak : Name) → Contains told weak → IsDead h.snapshot h.opened h.finalised weak
+  pub may : (weak : Name) → Contains told weak → IsDeadTold h told weak
   pub lists : Lists (Contains told) dead
   pub next_is : next ≡ closed h.world dead

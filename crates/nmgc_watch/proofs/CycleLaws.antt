@@ -38,11 +38,11 @@ use Rattle.nmgc_watch.proofs.AccountLaws.{StandsIn, stands, new_accounts_are, ne
 use Rattle.nmgc_watch.proofs.DueLaws.{found_due, due_found}
 use Rattle.nmgc_watch.proofs.ListedLaws.{none_listed, listed_there, joined_is, joined_names, joined_keeps, joined_marks, joined_marked}
 
-not_both : (b : Bool) → b ≡ true → not b ≡ true → ⊥
+pub not_both : (b : Bool) → b ≡ true → not b ≡ true → ⊥
 not_both true e f = cc
 not_both false e f = cc
 
-not_so : (b : Bool) → (b ≡ true → ⊥) → not b ≡ true
+pub not_so : (b : Bool) → (b ≡ true → ⊥) → not b ≡ true
 not_so true never = absurd (never refl)
 not_so false never = refl
 

@@ -1,7 +1,7 @@
 -- An event can happen, or has a reason.
 use Rattle.std.proofs.Common.{◌≡◌, ◌≢◌, ◌<◌, ◌≤◌, ℕ, List, [], ◌∷◌, ◌++◌, length, map, refl, sym, ap, subst, ◌∙◌, arith, Bool, true, false, not, cond, inl, inr, ◌⊎◌, Option, Some, None, eqb}
 use Rattle.std.specs.Prelude.{Contains, IsSome, is_some, filter, ◌&&◌, ◌↔◌}
-use Rattle.std.proofs.lemmas.Bool.{cases_Bool, cases_lt, cases_eq, false≢true, and_cases, and_parts, not-false, eqb-true, eq-eqb}
+use Rattle.std.proofs.lemmas.Bool.{cases_Bool, cases_lt, cases_eq, false≢true, and_cases, and_parts, and_from, not-false, eqb-true, eq-eqb}
 use Rattle.std.proofs.lemmas.List.Elements.{Contains-append_left, Contains-append_right, Contains-append_cases}
 use Rattle.nmgc_graph.specs.declared.value.Name.{Name}
 use Rattle.nmgc_graph.specs.declared.mutator_state.MutatorState.{MutatorState}
@@ -10,7 +10,8 @@ use Rattle.nmgc_graph.specs.declared.command.Reply.{Reply}
 use Rattle.nmgc_graph.specs.Change.{is_same_name}
 use Rattle.nmgc_graph.specs.World.{World, node_of, IsWorld}
 use Rattle.nmgc_graph.specs.Step.{CanApply, step, shared_name}
-use Rattle.nmgc_graph.specs.Reach.{IsDead, Lists, closed}
+use Rattle.nmgc_graph.specs.declared.node.Parts.{Parts}
+use Rattle.nmgc_graph.specs.Reach.{IsAlive, IsDead, IsKept, Lists, closed}
 use Rattle.nmgc_graph.specs.laws.Orders.{contains_head, contains_tail, contains_cases}
 use Rattle.nmgc_graph.specs.laws.Rows.{name_cases}
 use Rattle.nmgc_reach.specs.laws.ItemLaws.{nothing_in, one_is, contains_one}
@@ -18,7 +19,7 @@ use Rattle.nmgc_reach.specs.laws.WorldSteps.{step_keeps_world}
 use Rattle.nmgc_core.specs.State.{is_listed}
 use Rattle.nmgc_core.specs.laws.Listed.{tested_same, is_same_name-refl, contains_listed, not_listed, listed_from}
 use Rattle.nmgc_lax.specs.declared.debt.Debt.{Debt}
-use Rattle.nmgc_lax.specs.Cycle.{Cycle, watching, IsWatched, IsPushed, IsTook, IsAllTaken}
+use Rattle.nmgc_lax.specs.Cycle.{Cycle, watching, IsWatched, IsPushed, IsTook, IsAllTaken, IsDeadTold}
 use Rattle.nmgc_watch.specs.declared.event.Event.{Event}
 use Rattle.nmgc_watch.specs.declared.event.Event.TheVariants as event
 use Rattle.nmgc_watch.specs.declared.event.Why.{Why}
@@ -26,11 +27,13 @@ use Rattle.nmgc_watch.specs.declared.event.Why.TheVariants as why
 use Rattle.nmgc_watch.specs.declared.left.Left.{Left}
 use Rattle.nmgc_watch.specs.declared.watch.Watch.{Watch}
 use Rattle.nmgc_watch.specs.declared.watch.Watch.TheVariants as watch
-use Rattle.nmgc_watch.specs.Cycles.{IsUntakenName, IsTaken}
+use Rattle.nmgc_watch.specs.Cycles.{IsUntakenName, IsTaken, keys_then, IsOpenedWith}
 use Rattle.nmgc_watch.specs.Rows.{is_done}
 use Rattle.nmgc_watch.specs.Watching.{CanAct, WhyNoAct, AreDone, StopsAt, IsAgainst, IsLeft, IsLeftTold, is_old, IsOld, MayFree, WhyKept, Can, IsWhy, AreClosed, EveryEventIsJudged}
 use Rattle.nmgc_watch.proofs.Filters.{kept_in, in_kept}
-use Rattle.nmgc_watch.proofs.Deciding.{Decided, search, listed}
+use Rattle.nmgc_watch.proofs.ClosingLaws.{keys_are, dead_told, needs_listed}
+use Rattle.nmgc_watch.proofs.CycleLaws.{not_both, not_so}
+use Rattle.nmgc_watch.proofs.Deciding.{Decided, search, all_names, listed}
 use Rattle.nmgc_watch.proofs.Living.{dead_decided, dead_listed, kept_listed, alive_there}
 use Rattle.nmgc_watch.proofs.Watched.{Cases, can_cases, reply_cases, after, watched}
 
@@ -305,43 +308,71 @@ against h = elim (least h.debts) [
   | inr p ↦ inr (why.Due p.0, inl (p.0, refl, p.1, p.2))
 ]
 
+-- what the commands opened, with the keys of the weak pointers that live on where these die
+module _ (h : Cycle) (dead : List Name) where
+  abbrev lives : Name → Bool
+  lives n = not (is_listed n dead) && not (is_listed n h.finalised)
+
+  lives_yes : (weak : Name) (parts : Parts) → IsAlive h.snapshot weak parts → lives weak ≡ true → (Contains h.finalised weak → ⊥) × (Contains dead weak → ⊥)
+  lives_yes weak parts alive t =
+      let p : (not (is_listed weak dead) ≡ true) × (not (is_listed weak h.finalised) ≡ true) =
+      and_parts (not (is_listed weak dead)) (not (is_listed weak h.finalised)) t in (
+        λ c. not_both (is_listed weak h.finalised) (listed_from weak h.finalised c) p.1,
+        λ c. not_both (is_listed weak dead) (listed_from weak dead c) p.0,
+      )
+
+  lives_no : (weak : Name) → (Contains h.finalised weak → ⊥) → (Contains dead weak → ⊥) → lives weak ≡ true
+  lives_no weak fresh on = and_from (not (is_listed weak dead)) (not (is_listed weak h.finalised)) (not_so (is_listed weak dead) (λ t.
+      on (contains_listed weak dead t))) (not_so (is_listed weak h.finalised) (λ t. fresh (contains_listed weak h.finalised t)))
+
+  with_keys : (names : List Name) × IsOpenedWith h dead names
+  with_keys =
+      let all : List Name = (all_names h.snapshot).0 in (
+        h.opened ++ keys_then h.snapshot (filter lives all),
+        (
+          keys_then h.snapshot (filter lives all),
+          keys_are h dead all lives (λ weak parts alive. (all_names h.snapshot).1.complete weak (alive_there h.snapshot weak parts alive)) lives_yes lives_no,
+          refl,
+        ),
+      )
+
 -- an end
 module _ (h : Cycle) (is : IsWorld h.snapshot) where
   abbrev kept : List Name
   kept = (kept_listed h.snapshot is (h.opened ++ h.remembered) h.finalised).0
 
-  abbrev needed : List Name
-  needed = (kept_listed h.snapshot is h.opened h.finalised).0
+  needed : (dead : List Name) → (names : List Name) × Lists (IsKept h.snapshot (with_keys h dead).0 h.finalised) names
+  needed dead = kept_listed h.snapshot is (with_keys h dead).0 h.finalised
 
-  abbrev left_of : World → Left
-  left_of w = record { world = w; kept = kept; needed = needed; old = map (λ (own : MutatorState). length own.nodes) h.snapshot.mutators; dues = 0 }
+  abbrev left_of : World → List Name → Left
+  left_of w dead = record { world = w; kept = kept; needed = (needed dead).0; old = map (λ (own : MutatorState). length own.nodes) h.snapshot.mutators; dues = 0 }
 
   ends : h.debts ≡ [] → IsAllTaken h → (left : Left) × IsLeft h left
   ends none taken =
       let dead : (names : List Name) × Lists (IsDead h.snapshot (h.opened ++ h.remembered) h.finalised) names =
       dead_listed h.snapshot is (h.opened ++ h.remembered) h.finalised in (
-        left_of (closed h.world dead.0),
+        left_of (closed h.world dead.0) dead.0,
         record {
           dead = dead.0;
           ends = record { debts = none; taken = taken; lists = dead.1; next_is = refl };
           kept = (kept_listed h.snapshot is (h.opened ++ h.remembered) h.finalised).1;
-          needed = (kept_listed h.snapshot is h.opened h.finalised).1;
+          needed = needs_listed h dead.0 (with_keys h dead.0).0 (with_keys h dead.0).1 (needed dead.0).0 (needed dead.0).1;
           old = refl;
         },
       )
 
   ends_told : h.debts ≡ [] → IsAllTaken h → (told : List Name) →
-      ((weak : Name) → Contains told weak → IsDead h.snapshot h.opened h.finalised weak) → (left : Left) × IsLeftTold h told left
+      ((weak : Name) → Contains told weak → IsDeadTold h told weak) → (left : Left) × IsLeftTold h told left
   ends_told none taken told may =
       let among : Decided (Contains told) = record { test = λ n. is_listed n told; yes = λ n t. contains_listed n told t; no = λ n c. listed_from n told c } in
       let dead : (names : List Name) × Lists (Contains told) names =
-      listed h.snapshot (Contains told) among (λ n c. alive_there h.snapshot n (may n c).parts (may n c).alive) in (
-        left_of (closed h.world dead.0),
+      listed h.snapshot (Contains told) among (λ n c. alive_there h.snapshot n (may n c).2.parts (may n c).2.alive) in (
+        left_of (closed h.world dead.0) told,
         record {
           dead = dead.0;
           ends = record { debts = none; taken = taken; may = may; lists = dead.1; next_is = refl };
           kept = (kept_listed h.snapshot is (h.opened ++ h.remembered) h.finalised).1;
-          needed = (kept_listed h.snapshot is h.opened h.finalised).1;
+          needed = needs_listed h told (with_keys h told).0 (with_keys h told).1 (needed told).0 (needed told).1;
           old = refl;
         },
       )
@@ -359,10 +390,20 @@ close_told : (line : ℕ) (told : List Name) (p : Watch) → AreClosed p → Jud
 close_told line told (watch.Between w) is = inr (why.Misplaced, refl)
 close_told line told (watch.Marking h) is = elim (against h) [
   | inl p ↦
-      let d : Decided (IsDead h.snapshot h.opened h.finalised) = dead_decided h.snapshot is.1 h.opened h.finalised in
+      let names : (names : List Name) × IsOpenedWith h told names = with_keys h told in
+      let d : Decided (IsDead h.snapshot names.0 h.finalised) = dead_decided h.snapshot is.1 names.0 h.finalised in
       elim (search (λ n. not (d.test n)) told) [
-        | inl f ↦ inr (why.NotDead f.0, inr (f.0, refl, f.1, λ dead. let bad : not true ≡ true = subst (λ (b : Bool). not b ≡ true) (d.no f.0 dead) f.2 in cc))
-        | inr none ↦ let e : (left : Left) × IsLeftTold h told left = ends_told h is.1 p.0 p.1 told (λ n c. d.yes n (not-false (d.test n) (none n c))) in
+        | inl f ↦ inr (
+          why.NotDead f.0,
+          inr (
+            f.0,
+            refl,
+            f.1,
+            λ dead. let bad : not true ≡ true = subst (λ (b : Bool). not b ≡ true) (d.no f.0 ((dead_told h told names.0 names.1 f.0).1 dead)) f.2 in cc,
+          ),
+        )
+        | inr none ↦ let e : (left : Left) × IsLeftTold h told left = ends_told h is.1 p.0 p.1 told (λ n c.
+            (dead_told h told names.0 names.1 n).0 (d.yes n (not-false (d.test n) (none n c)))) in
             inl (watch.Ended e.0, (e.0, e.1, refl))
       ]
   | inr r ↦ inr (r.0, inl r.1)

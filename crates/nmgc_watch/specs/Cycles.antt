@@ -1,5 +1,5 @@
 -- What holds of every cycle, and what its calls promise.
-use Rattle.std.specs.Prelude.{◌≡◌, ◌≢◌, ℕ, List, [], length, Option, Some, None, Bool, true, false, not, ◌&&◌, IsSome, Contains}
+use Rattle.std.specs.Prelude.{◌≡◌, ◌≢◌, ℕ, List, [], ◌∷◌, ◌++◌, length, flat_map, Option, Some, None, Bool, true, false, not, ◌&&◌, IsSome, Contains}
 use Rattle.nmgc_graph.specs.declared.value.Name.{Name}
 use Rattle.nmgc_graph.specs.declared.node.Parts.{Parts}
 use Rattle.nmgc_graph.specs.declared.command.Command.{Command}
@@ -9,8 +9,10 @@ use Rattle.nmgc_graph.specs.Change.{is_same_name}
 use Rattle.nmgc_graph.specs.Step.{CanApply, step, shared_name}
 use Rattle.nmgc_graph.specs.Marks.{mark_of}
 use Rattle.nmgc_graph.specs.Reach.{IsAlive}
+use Rattle.nmgc_graph.specs.Search.{parts_of}
+use Rattle.nmgc_reach.specs.Owed.{names_among}
 use Rattle.nmgc_lax.specs.declared.debt.Debt.{Debt}
-use Rattle.nmgc_lax.specs.Cycle.{Cycle, IsWatched, IsPushed, IsTook, IsAllTaken}
+use Rattle.nmgc_lax.specs.Cycle.{Cycle, IsWatched, IsPushed, IsTook, IsAllTaken, AreKeysLeft}
 use Rattle.nmgc_watch.specs.declared.accounts.Accounts.{Accounts}
 use Rattle.nmgc_watch.specs.declared.listed.Listed.{Listed}
 use Rattle.nmgc_watch.specs.declared.event.Why.{Why}
@@ -106,3 +108,20 @@ IsUntakenIn taken names (Some name) = Contains names name × (is_untaken taken n
 abbrev pub IsUntakenIf : Cycle → Option Name → Type 0
 IsUntakenIf h None = IsAllTaken h
 IsUntakenIf h (Some name) = IsUntakenName h name
+
+-- whether a name is in neither set
+abbrev pub is_outside : List (List Bool) → List (List Bool) → Name → Bool
+is_outside dying ended weak = not (mark_of dying weak) && not (mark_of ended weak)
+
+-- what the key of a weak pointer with these parts refers to, if it refers to anything
+abbrev pub key_names : Option Parts → List Name
+key_names None = []
+key_names (Some parts) = names_among (parts.key ∷ [])
+
+-- what the keys of weak pointers refer to that are alive in a world
+abbrev pub keys_then : World → List Name → List Name
+keys_then w weaks = flat_map (λ weak. key_names (parts_of w weak)) weaks
+
+-- what the commands opened, with the keys of the weak pointers that live on where these die
+abbrev pub IsOpenedWith : Cycle → List Name → List Name → Type 0
+IsOpenedWith h dead names = (keys : List Name) × AreKeysLeft h dead keys × (names ≡ h.opened ++ keys)

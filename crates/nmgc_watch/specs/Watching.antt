@@ -7,13 +7,13 @@ use Rattle.nmgc_graph.specs.declared.mutator_state.MutatorState.{MutatorState}
 use Rattle.nmgc_graph.specs.World.{World, node_of, IsWorld}
 use Rattle.nmgc_graph.specs.Change.{is_same_name}
 use Rattle.nmgc_graph.specs.Step.{CanApply, step, shared_name}
-use Rattle.nmgc_graph.specs.Reach.{Lists, IsDead}
+use Rattle.nmgc_graph.specs.Reach.{Lists}
 use Rattle.nmgc_core.specs.declared.event.Event.TheVariants as core
 use Rattle.nmgc_core.specs.State.{State}
 use Rattle.nmgc_core.specs.Machine.{IsPossible}
 use Rattle.nmgc_core.specs.Closing.{IsClosing}
 use Rattle.nmgc_lax.specs.declared.debt.Debt.{Debt}
-use Rattle.nmgc_lax.specs.Cycle.{Cycle, watching, IsWatched, IsPushed, IsTook, IsAllTaken, IsEnd, IsEndTold, Needs, Marks}
+use Rattle.nmgc_lax.specs.Cycle.{Cycle, watching, IsWatched, IsPushed, IsTook, IsAllTaken, IsEnd, IsEndTold, IsDeadTold, Needs, Marks}
 use Rattle.nmgc_lax.specs.Barrier.{Beside}
 use Rattle.nmgc_watch.specs.declared.event.Event.{Event}
 use Rattle.nmgc_watch.specs.declared.event.Event.TheVariants as event
@@ -172,13 +172,13 @@ WhyTake name watch.Stopped y = y ≡ why.Misplaced
 abbrev pub AreSerials : World → List ℕ → Type 0
 AreSerials w serials = serials ≡ map (λ (own : MutatorState). length own.nodes) w.mutators
 
--- what a cycle without debts leaves: the world without what nothing keeps, the names that the commands and the pushes
--- keep, those that the commands alone need, and how many names there were when it began
+-- what a cycle without debts leaves: the world with its dead weak pointers dead, the names that the commands and the pushes
+-- keep, those that the commands and the weak pointers that live on need, and how many names there were when it began
 pub record IsLeft (h : Cycle) (left : Left) : Type 0 where
   pub dead : List Name
   pub ends : IsEnd h dead left.world
   pub kept : Lists (Marks h) left.kept
-  pub needed : Lists (Needs h) left.needed
+  pub needed : Lists (Needs h dead) left.needed
   pub old : AreSerials h.snapshot left.old
 
 -- the same where it is told which weak pointers die
@@ -186,7 +186,7 @@ pub record IsLeftTold (h : Cycle) (told : List Name) (left : Left) : Type 0 wher
   pub dead : List Name
   pub ends : IsEndTold h told dead left.world
   pub kept : Lists (Marks h) left.kept
-  pub needed : Lists (Needs h) left.needed
+  pub needed : Lists (Needs h told) left.needed
   pub old : AreSerials h.snapshot left.old
 
 -- the first debt: the one of the least line
@@ -232,14 +232,14 @@ CanCloseTold told (watch.Marking h) next = (left : Left) × IsLeftTold h told le
 CanCloseTold told (watch.Ended left) next = ⊥
 CanCloseTold told watch.Stopped next = ⊥
 
--- one of these isn't dead
+-- one of these isn't dead where just these die
 abbrev pub IsNotDead : Cycle → List Name → Why → Type 0
-IsNotDead h told y = (weak : Name) × (y ≡ why.NotDead weak) × Contains told weak × (IsDead h.snapshot h.opened h.finalised weak → ⊥)
+IsNotDead h told y = (weak : Name) × (y ≡ why.NotDead weak) × Contains told weak × (IsDeadTold h told weak → ⊥)
 
 -- the same as tests tell them
 abbrev pub IsDeadIf : Cycle → List Name → Option Name → Type 0
-IsDeadIf h told None = (weak : Name) → Contains told weak → IsDead h.snapshot h.opened h.finalised weak
-IsDeadIf h told (Some weak) = Contains told weak × (IsDead h.snapshot h.opened h.finalised weak → ⊥)
+IsDeadIf h told None = (weak : Name) → Contains told weak → IsDeadTold h told weak
+IsDeadIf h told (Some weak) = Contains told weak × (IsDeadTold h told weak → ⊥)
 
 -- a cycle is asked to end so that just these die: this is left, something stands against it, or one of them isn't dead
 abbrev pub IsEndingTold : Cycle → List Name → Result Left Why → Type 0
@@ -285,11 +285,11 @@ is_old serials name = is_same_name name shared_name || ltb name.serial (slice_in
 abbrev pub IsOld : Left → Name → Type 0
 IsOld left name = is_old left.old name ≡ true
 
--- such a name may be freed: the heap has it, it is one of the snapshot, and the commands don't need it
+-- such a name may be freed: the heap has it, it is one of the snapshot, and neither the commands nor a weak pointer that lives on needs it
 abbrev pub MayFree : Left → Name → Type 0
 MayFree left name = IsSome (node_of left.world name) × IsOld left name × (Contains left.needed name → ⊥)
 
--- after a cycle: the runtime freed names of its snapshot that the commands don't need; what was made since is no garbage that the cycle found
+-- after a cycle: the runtime freed names of its snapshot that aren't needed; what was made since is no garbage that the cycle found
 abbrev pub CanFreed : List Name → Watch → Watch → Type 0
 CanFreed names (watch.Between w) next = ⊥
 CanFreed names (watch.Marking h) next = ⊥

@@ -4,20 +4,24 @@
 //! the roots, and each weak pointer whose key isn't live dies.
 //!
 //! Easy to get wrong: which weak pointers die is told by what the commands keep, where it is told; what floats is kept all
-//! the same.
-ghost use Rattle.std.specs.Prelude.{◌≡◌, ◌++◌, [], None, IfOk, All};
+//! the same. And a weak pointer may live on though the commands don't keep its key: since the key floats, or since it isn't
+//! told as dying. Whoever holds it can still read its value, so its key counts for what may be freed, and for what else dies.
+ghost use Rattle.std.specs.Prelude.{◌≡◌, ◌++◌, [], None, IfOk, All, filter};
 ghost use Rattle.nmgc_graph.specs.Reach.{IsInOrder, IsAliveWeak, closed};
+ghost use Rattle.nmgc_watch.specs.Cycles.{is_outside, keys_then};
 ghost use Rattle.nmgc_watch.specs.Watching.{AreSerials};
 
 use crate::cycle::Cycle;
+use crate::due::names_among;
 use crate::event::Why;
 use crate::left::{Left, missing};
-use nmgc_graph::{List, Name, NoMemory, World};
+use nmgc_graph::{List, Marks, Name, NoMemory, World};
 use std::alloc::Global;
 
 impl Cycle {
     ghost use Rattle.nmgc_graph.specs.Reach.{IsDead, Lists};
-    ghost use Rattle.nmgc_lax.specs.Cycle.{Marks, Needs, IsAllTaken};
+    ghost use Rattle.nmgc_lax.specs.Cycle.{Marks as HasToMark, Needs, IsAllTaken};
+    ghost use Rattle.nmgc_watch.specs.Cycles.{IsOpenedWith};
     ghost use Rattle.nmgc_watch.specs.Watching.{IsEnding, IsEndingTold, IsAgainstIf, IsDeadIf, IsLeft, IsLeftTold};
 
     /// What the cycle leaves, if it can end: the debt of the least line stands against it, or a name that wasn't taken.
@@ -32,8 +36,8 @@ impl Cycle {
         }
     }
 
-    /// The same where it is told which weak pointers die: each has to be dead by what the commands keep. They die in the
-    /// order of their names. Where none is told, none dies.
+    /// The same where it is told which weak pointers die: each has to be dead by what the commands keep, and by the keys of
+    /// those that live on. They die in the order of their names. Where none is told, none dies.
     pub fn end_told(&self, told: &[Name]) -> Result<Result<Left, Why>, NoMemory>
         ensures { IfOk result (IsEndingTold self.now told.now) }
     {
@@ -68,13 +72,14 @@ impl Cycle {
         }
     }
 
-    // The first of the weak pointers that isn't dead by what the commands keep.
+    // The first of the weak pointers that isn't dead where just these die.
     fn not_dead(&self, told: &[Name]) -> Result<Option<Name>, NoMemory>
         ensures { IfOk result (IsDeadIf self.now told.now) }
     {
+        let names = self.opened_with(told)?;
         let dead = self
             .snapshot
-            .dead_weaks(self.opened.names.items(), self.finalised.items())?;
+            .dead_weaks(names.as_slice(), self.finalised.items())?;
         let other = missing(&self.snapshot, dead.items(), told)?;
         Ok(other)
     }
@@ -87,7 +92,7 @@ impl Cycle {
     {
         let dead = self.dead()?;
         let world = closed(&self.world, dead.items())?;
-        let left = self.leaving(world)?;
+        let left = self.leaving(world, dead.items())?;
         Ok(left)
     }
 
@@ -101,7 +106,7 @@ impl Cycle {
         let set = self.snapshot.set_of(told)?;
         let dead = set.names(self.snapshot.alloc())?;
         let world = closed(&self.world, dead.items())?;
-        let left = self.leaving(world)?;
+        let left = self.leaving(world, told)?;
         Ok(left)
     }
 
@@ -120,11 +125,11 @@ impl Cycle {
         Ok(dead)
     }
 
-    // What is left with this world.
-    fn leaving(&self, world: World) -> Result<Left, NoMemory>
+    // What is left with this world where these die.
+    fn leaving(&self, world: World, dead: &[Name]) -> Result<Left, NoMemory>
         ensures world { IfOk result (λ left. left.world ≡ world) }
-        ensures kept { IfOk result (λ left. Lists (Marks self.now) left.kept) }
-        ensures needed { IfOk result (λ left. Lists (Needs self.now) left.needed) }
+        ensures kept { IfOk result (λ left. Lists (HasToMark self.now) left.kept) }
+        ensures needed { IfOk result (λ left. Lists (Needs self.now dead.now) left.needed) }
         ensures old { IfOk result (λ left. AreSerials self.now.snapshot left.old) }
     {
         let all = joined(
@@ -133,9 +138,7 @@ impl Cycle {
             self.remembered.names.items(),
         )?;
         let kept = self.snapshot.kept(all.as_slice(), self.finalised.items())?;
-        let needed = self
-            .snapshot
-            .kept(self.opened.names.items(), self.finalised.items())?;
+        let needed = self.needed(dead)?;
         let old = serials(&self.snapshot)?;
         Ok(Left {
             world,
@@ -145,6 +148,73 @@ impl Cycle {
             dues: self.dues(),
         })
     }
+
+    // What no collector may free that lets just these die.
+    fn needed(&self, dead: &[Name]) -> Result<List<Name>, NoMemory>
+        ensures { IfOk result (Lists (Needs self.now dead.now)) }
+    {
+        let names = self.opened_with(dead)?;
+        let needed = self
+            .snapshot
+            .kept(names.as_slice(), self.finalised.items())?;
+        Ok(needed)
+    }
+
+    // What the commands opened, with the keys of the weak pointers that live on where these die.
+    fn opened_with(&self, dead: &[Name]) -> Result<Vec<Name>, NoMemory>
+        ensures { IfOk result (λ names. IsOpenedWith self.now dead.now names.items) }
+    {
+        let weaks = self.snapshot.alive_weaks()?;
+        let dying = self.snapshot.set_of(dead)?;
+        let ended = self.snapshot.set_of(self.finalised.items())?;
+        let living = outside(self.world.alloc(), weaks.items(), &dying, &ended)?;
+        let keys = keys_then(&self.snapshot, living.items())?;
+        let names = joined(
+            self.world.alloc(),
+            self.opened.names.items(),
+            keys.as_slice(),
+        )?;
+        Ok(names)
+    }
+}
+
+// Those of the names that are in neither set.
+fn outside(
+    alloc: Global,
+    weaks: &[Name],
+    dying: &Marks,
+    ended: &Marks,
+) -> Result<List<Name>, NoMemory>
+    ensures { IfOk result (λ living. living ≡ filter (is_outside dying.now ended.now) weaks.now) }
+{
+    let mut living = List::new(alloc);
+    for weak in weaks {
+        if is_outside(dying, ended, *weak) {
+            living.push(*weak)?;
+        }
+    }
+    Ok(living)
+}
+
+// Whether a name is in neither set.
+fn is_outside(dying: &Marks, ended: &Marks, weak: Name) -> bool
+    ensures { result ≡ is_outside dying.now ended.now weak }
+{
+    !dying.contains(weak) && !ended.contains(weak)
+}
+
+// What the keys of the weak pointers refer to that are alive in a world.
+fn keys_then(world: &World, weaks: &[Name]) -> Result<Vec<Name>, NoMemory>
+    ensures { IfOk result (λ keys. keys.items ≡ keys_then world.now weaks.now) }
+{
+    let mut keys = Vec::new(world.alloc());
+    for weak in weaks {
+        if let Some(parts) = world.parts(*weak) {
+            let key = names_among(world.alloc(), &[parts.key])?;
+            keys.extend_from_slice(key.as_slice())?;
+        }
+    }
+    Ok(keys)
 }
 
 // The names of both.

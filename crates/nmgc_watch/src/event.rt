@@ -67,7 +67,8 @@ pub enum Why {
     NotPushed(Name),
     /// It is told what the marker took, and not this name, which was pushed.
     Untaken(Name),
-    /// The weak pointer isn't dead by what the commands keep.
+    /// The weak pointer isn't dead: the commands keep its key, or a weak pointer that lives on does; or it is none that was
+    /// alive at the snapshot and wasn't finalised since.
     NotDead(Name),
     /// The name has to be marked, and isn't told.
     NotTold(Name),
@@ -75,6 +76,6 @@ pub enum Why {
     NotMarked(Name),
     /// The name is freed, and was made since the cycle began.
     NotOld(Name),
-    /// The name is freed, and the commands need it.
+    /// The name is freed, and the commands need it, or a weak pointer that lives on.
     Needed(Name),
 }

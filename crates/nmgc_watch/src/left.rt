@@ -15,9 +15,9 @@ use crate::event::Why;
 use nmgc_graph::{List, Marks, Name, NoMemory, World};
 
 /// The world after a cycle, and which names of its snapshot the cycle kept, in order: all that the commands and the
-/// pushes keep, and those that the commands alone need. The others of the kept names float. `old` has for each mutator how
-/// many names it had in the snapshot: a name with a later serial was made since. `dues` is how often a command made a name
-/// due in the cycle.
+/// pushes keep; and those that no collector may free that lets the same weak pointers die, since the commands keep them or
+/// a weak pointer that lives on. `old` has for each mutator how many names it had in the snapshot: a name with a later serial
+/// was made since. `dues` is how often a command made a name due in the cycle; what a `finalise` opens counts twice.
 #[derive(Drop)]
 pub struct Left {
     pub world: World,
@@ -45,7 +45,7 @@ impl Left {
     }
 
     /// Why the runtime can't have freed these: one that the heap doesn't have, that was made since the cycle began, or that
-    /// the commands need. Takes time for each name of the world.
+    /// the commands or a weak pointer that lives on need. Takes time for each name of the world.
     pub fn freed(&self, names: &[Name]) -> Result<Option<Why>, NoMemory>
         ensures { IfOk result (IsFreedIf names.now self.now) }
     {

@@ -10,6 +10,10 @@ from .support import HOSTILE, content, elements, ids_are_right, path, stream, te
 HEAD = "trace 2\nmutators 1\n"
 CELL = HEAD + "0 num r1 5 = ok\n0 con r2 0 r1 = 0.0\n0 var r0 r2 = 0.1\n0 nil r2 = ok\n"
 FIRST = CELL[len("trace 2\n") :]
+# A weak pointer that is held, 0.2; neither its key 0.0 nor its value 0.1 is.
+WEAK = HEAD + "0 con r2 0 = 0.0\n0 con r3 0 = 0.1\n0 weak r0 r2 r3 r1 = 0.2\n0 nil r2 = ok\n0 nil r3 = ok\n"
+# Two that are held: the value of the second, 0.3, is the key of the first, 0.2.
+CHAIN = HEAD + "0 con r2 0 = 0.0\n0 con r3 0 = 0.1\n0 weak r0 r2 r9 r9 = 0.2\n0 weak r1 r3 r2 r9 = 0.3\n0 nil r2 = ok\n0 nil r3 = ok\n"
 # A trace, and what is told of it.
 TOLD = [
     (HEAD, "nothing is marked"),
@@ -62,6 +66,16 @@ TOLD = [
         "each line can happen: 1 cycle, 5 commands, 0 pushes; nothing came due, so no barrier was tried",
     ),
     (HEAD + "0 con r1 0 = 0.0\n0 weak r0 r1 r1 r1 = 0.1\nmark\nclose 0.1\n", "line 6 can't happen: 0.1 isn't dead"),
+    (WEAK + "mark\nclose -\nfreed 0.1\n", "line 10 can't happen: 0.1 is needed"),
+    (WEAK + "mark\nclose -\nfreed 0.0\n", "line 10 can't happen: 0.0 is needed"),
+    (
+        WEAK + "mark\npush - 0.1\nclose\nfreed 0.0 0.1\nstop\n",
+        "each line can happen: 1 cycle, 5 commands, 1 push; nothing came due, so no barrier was tried",
+    ),
+    (CHAIN + "mark\nclose 0.2\n", "line 10 can't happen: 0.2 isn't dead"),
+    (CHAIN + "mark\nclose 0.3\nstop\n", "each line can happen: 1 cycle, 6 commands, 0 pushes; nothing came due, so no barrier was tried"),
+    (CHAIN + "mark\nclose 0.2 0.3\nfreed 0.0 0.1\nstop\n",
+     "each line can happen: 1 cycle, 6 commands, 0 pushes; nothing came due, so no barrier was tried"),
 ]
 TOLD += [
     ("", "nothing is marked"),

@@ -226,14 +226,14 @@ nothing_owed h s t none m = by_list (names_of s.owed m) refl
         absurd (nothing_in o.0 (subst (λ (l : List Debt). Contains l o.0) none o.1))
 
 -- lists of the same names of a world
-live_same : (w : World) (a b : List Name) → ((n : Name) → IsSome (node_of w n) → Contains a n → Contains b n) → (n : Name) → IsLive w a n → IsLive w b n
+pub live_same : (w : World) (a b : List Name) → ((n : Name) → IsSome (node_of w n) → Contains a n → Contains b n) → (n : Name) → IsLive w a n → IsLive w b n
 live_same w a b k n (reach.root n' r) = reach.root n' r
 live_same w a b k n (reach.further n' c there) = reach.further n' (k n' there c) there
 live_same w a b k n (reach.field m target l r) = reach.field m target (live_same w a b k m l) r
 live_same w a b k n (reach.plain_key weak target parts alive plain kept) = reach.plain_key weak target parts alive plain kept
 live_same w a b k n (reach.live_key weak target key parts alive is l kept) = reach.live_key weak target key parts alive is (live_same w a b k key l) kept
 
-abbrev dead_same : (w : World) (a b fin : List Name) → ((n : Name) → IsSome (node_of w n) → Contains b n → Contains a n) → (weak : Name) →
+abbrev pub dead_same : (w : World) (a b fin : List Name) → ((n : Name) → IsSome (node_of w n) → Contains b n → Contains a n) → (weak : Name) →
     IsDead w a fin weak → IsDead w b fin weak
 dead_same w a b fin k weak d = record {
   parts = d.parts;
@@ -244,7 +244,7 @@ dead_same w a b fin k weak d = record {
   lost = λ l. d.lost (live_same w b a k d.key l);
 }
 
-kept_same : (w : World) (a b fin : List Name) → ((n : Name) → IsSome (node_of w n) → Contains a n ↔ Contains b n) → (n : Name) → IsKept w a fin n →
+pub kept_same : (w : World) (a b fin : List Name) → ((n : Name) → IsSome (node_of w n) → Contains a n ↔ Contains b n) → (n : Name) → IsKept w a fin n →
     IsKept w b fin n
 kept_same w a b fin k n (IsKept.live n' l) = IsKept.live n' (live_same w a b (λ x there. (k x there).0) n' l)
 kept_same w a b fin k n (IsKept.finaliser weak target d is) = IsKept.finaliser weak target (dead_same w a b fin (λ x there. (k x there).1) weak d) is

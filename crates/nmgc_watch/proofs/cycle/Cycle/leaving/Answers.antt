@@ -2,7 +2,7 @@ use Rattle.std.proofs.Common.{◌∙◌, refl, sym, subst, List}
 use Rattle.std.specs.Prelude.{All, IsSome}
 use Rattle.nmgc_graph.specs.declared.value.Name.{Name}
 use Rattle.nmgc_graph.specs.World.{node_of}
-use Rattle.nmgc_watch.proofs.ClosingLaws.{opened_there, both_there}
+use Rattle.nmgc_watch.proofs.ClosingLaws.{both_there}
 use Rattle.nmgc_watch.proofs.cycle.Cycle.leaving.Goals as goal
 
 pub kept-requires : goal.kept-requires
@@ -10,12 +10,6 @@ kept-requires c = subst (λ (l : List Name). All (λ name. IsSome (node_of c.sel
     (c.in_ok-all.ensures ∙
     rw (c.items.ensures, c.items-2.ensures) refl))) (both_there c.self.inside.world c.self.inside.snapshot c.self.inside.remembered
     c.self.inside.opened c.self.inside.taken c.self.inside.accounts c.self.inside.finalised c.self.invariant)
-
-pub kept-requires-2 : goal.kept-requires-2
-kept-requires-2 c = subst (λ (l : List Name).
-    All (λ name. IsSome (node_of c.self.inside.snapshot name)) l) (sym c.items-4.ensures)
-    (opened_there c.self.inside.world c.self.inside.snapshot c.self.inside.remembered c.self.inside.opened c.self.inside.taken
-    c.self.inside.accounts c.self.inside.finalised c.self.invariant)
 
 pub returns-clause-kept : goal.returns-clause-kept
 returns-clause-kept c = rw (← c.self.view_is) (rw (
@@ -27,7 +21,7 @@ returns-clause-kept c = rw (← c.self.view_is) (rw (
 ) at c.in_ok-kept.ensures)
 
 pub returns-clause-needed : goal.returns-clause-needed
-returns-clause-needed c = rw (← c.self.view_is) (rw (c.items-4.ensures, c.items-5.ensures) at c.in_ok-needed.ensures)
+returns-clause-needed c = c.in_ok-needed.ensures
 
 pub returns-clause-old : goal.returns-clause-old
 returns-clause-old c = rw (← c.self.view_is) c.in_ok-old.ensures

@@ -22,6 +22,6 @@ returns c =
         next_is = c.in_ok-left.ensures.world ∙ (rw c.items.ensures at c.in_ok-world.ensures);
       };
       kept = rw (← c.self.view_is) at c.in_ok-left.ensures.kept;
-      needed = rw (← c.self.view_is) at c.in_ok-left.ensures.needed;
+      needed = rw (← c.self.view_is) at (rw c.items-2.ensures at c.in_ok-left.ensures.needed);
       old = rw (← c.self.view_is) at c.in_ok-left.ensures.old;
     })

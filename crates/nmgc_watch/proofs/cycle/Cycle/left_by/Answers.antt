@@ -3,6 +3,7 @@ use Rattle.std.specs.Prelude.{All}
 use Rattle.nmgc_graph.specs.declared.value.Name.{Name}
 use Rattle.nmgc_graph.specs.Reach.{IsAliveWeak}
 use Rattle.nmgc_watch.proofs.ClosingLaws.{told_alive, told_lists}
+use Rattle.nmgc_watch.proofs.CycleLaws.{seen}
 use Rattle.nmgc_watch.proofs.cycle.Cycle.left_by.Goals as goal
 
 pub closed-requires-clause-alive : goal.closed-requires-clause-alive
@@ -10,9 +11,9 @@ closed-requires-clause-alive c =
     let may = rw (← c.self.view_is) at c.requires.dead in
     subst (λ (l : List Name). All (IsAliveWeak c.self.inside.world) l) (sym c.items.ensures)
     (told_alive c.self.inside.world c.self.inside.snapshot c.self.inside.remembered c.self.inside.opened c.self.inside.taken c.self.inside.accounts
-    c.self.inside.finalised c.self.invariant c.self.inside.opened.names c.args.told.now c.in_ok-dead.dead may
-    (told_lists c.self.inside.snapshot c.self.inside.opened.names c.self.inside.finalised c.args.told.now c.in_ok-dead.dead c.in_ok-set.set
-    c.in_ok-set.ensures may c.in_ok-dead.ensures))
+    c.self.inside.finalised c.self.invariant c.args.told.now c.in_ok-dead.dead may
+    (told_lists (seen c.self.inside.world c.self.inside.snapshot c.self.inside.remembered c.self.inside.accounts c.self.inside.opened c.self.inside.taken
+    c.self.inside.finalised) c.args.told.now c.in_ok-dead.dead c.in_ok-set.set c.in_ok-set.ensures may c.in_ok-dead.ensures))
 
 pub returns : goal.returns
 returns c =
@@ -23,8 +24,8 @@ returns c =
         debts = rw (← c.self.view_is) at c.requires.none;
         taken = rw (← c.self.view_is) at c.requires.taken;
         may = may;
-        lists = told_lists c.self.inside.snapshot c.self.inside.opened.names c.self.inside.finalised c.args.told.now c.in_ok-dead.dead
-            c.in_ok-set.set c.in_ok-set.ensures may c.in_ok-dead.ensures;
+        lists = told_lists (seen c.self.inside.world c.self.inside.snapshot c.self.inside.remembered c.self.inside.accounts c.self.inside.opened
+            c.self.inside.taken c.self.inside.finalised) c.args.told.now c.in_ok-dead.dead c.in_ok-set.set c.in_ok-set.ensures may c.in_ok-dead.ensures;
         next_is = c.in_ok-left.ensures.world ∙ (rw c.items.ensures at c.in_ok-world.ensures);
       };
       kept = rw (← c.self.view_is) at c.in_ok-left.ensures.kept;

@@ -1,0 +1,20 @@
+use Rattle.std.proofs.Common.{sym, subst, List}
+use Rattle.std.specs.Prelude.{All, IsSome}
+use Rattle.nmgc_graph.specs.declared.value.Name.{Name}
+use Rattle.nmgc_graph.specs.World.{node_of}
+use Rattle.nmgc_watch.proofs.ClosingLaws.{opened_there, opened_with_there, needs_listed}
+use Rattle.nmgc_watch.proofs.CycleLaws.{seen}
+use Rattle.nmgc_watch.proofs.cycle.Cycle.needed.Goals as goal
+
+pub kept-requires : goal.kept-requires
+kept-requires c = subst (λ (l : List Name). All (λ name. IsSome (node_of c.self.inside.snapshot name)) l) (sym c.as_slice.ensures.value)
+    (opened_with_there (seen c.self.inside.world c.self.inside.snapshot c.self.inside.remembered c.self.inside.accounts
+    c.self.inside.opened c.self.inside.taken c.self.inside.finalised) c.self.invariant.snapshot
+    (opened_there c.self.inside.world c.self.inside.snapshot c.self.inside.remembered c.self.inside.opened c.self.inside.taken
+    c.self.inside.accounts c.self.inside.finalised c.self.invariant)
+    c.args.dead.now _ (rw (← c.self.view_is) at c.in_ok-names.ensures))
+
+pub returns : goal.returns
+returns c = rw (← c.self.view_is) (needs_listed (seen c.self.inside.world c.self.inside.snapshot c.self.inside.remembered c.self.inside.accounts
+    c.self.inside.opened c.self.inside.taken c.self.inside.finalised) c.args.dead.now _ (rw (← c.self.view_is) at c.in_ok-names.ensures)
+    c.in_ok-needed.needed (rw (c.as_slice.ensures.value, c.items.ensures) at c.in_ok-needed.ensures))
