@@ -85,8 +85,8 @@ impl Cycle {
         &self.world
     }
 
-    /// How often a command has made a name due so far, whether or not it was pushed before: at most `u64::MAX`. Takes no
-    /// memory, and constant time.
+    /// How often a command has made a name due so far, whether or not it was pushed before; what a `finalise` opens counts
+    /// twice, as opened and as kept. At most `u64::MAX`. Takes no memory, and constant time.
     pub fn dues(&self) -> u64 {
         self.dues
     }

@@ -11,8 +11,9 @@ pub enum Event {
         command: Command,
         answer: Reply,
     },
-    /// A mutator gave these commands, one after the other, and each was done: it gave a value, or there was none to give.
-    /// So one line tells a copy of many fields, or a fill (`rows`).
+    /// A mutator gave these commands, one after the other, and each was done: it gave a value, or there was none to give. So
+    /// one line tells a copy of many fields, or a fill (`rows`). A command with an answer of another kind isn't done here, also
+    /// where it wrote: an exchange answers yes, and an update that it updated.
     Rows {
         mutator: u8,
         commands: List<Command>,
@@ -32,7 +33,7 @@ pub enum Event {
     Take {
         name: Name,
     },
-    /// Marking ends, and what nothing keeps dies.
+    /// Marking ends, and the weak pointers die whose keys neither the commands nor the pushes keep.
     Close,
     /// Marking ends, and of the weak pointers just these die, in the order of their names; none where there are no names.
     CloseTold {

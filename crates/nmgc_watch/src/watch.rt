@@ -1,7 +1,7 @@
 //! A runtime's barrier, watched from one event to the next.
 //!
 //! A runtime builds a heap by commands; marking begins, and from then on each command may make names due, until they
-//! are pushed; marking ends, and the heap goes on without what nothing kept. So there may be any number of cycles. Each
+//! are pushed; marking ends, and the heap goes on, with its dead weak pointers dead. So there may be any number of cycles. Each
 //! event is taken where it can have happened (`specs/Watching`, `Can`), and else refused with a reason that is a fact.
 //!
 //! Easy to get wrong: a refused event leaves everything as it was, so that a test can go on; but of several commands in one
@@ -106,8 +106,8 @@ impl Watch {
     /// several commands in one line (`Event::Rows`) those before the refused one are done. After `NoMemory` nothing is known
     /// of the watch. Takes amortised constant time for a push, a take and a settled mutator, and for a command for each operand
     /// and each field that it may take away; for the beginning and the end of a cycle, and for what was marked or freed, time
-    /// for each object. Memory grows with the heap alone: in a cycle it has two worlds, and a few bytes for each name and
-    /// mutator.
+    /// for each object. Memory grows with the heap alone: in a cycle it has two worlds, three for a moment as one begins or
+    /// ends, and a few bytes for each name and mutator.
     pub fn step(&mut self, line: usize, event: &Event) -> Result<Option<Why>, NoMemory>
         ensures { IfOk result (λ why. IsStep line self.old event.now why self.new) }
     {
@@ -131,8 +131,8 @@ impl Watch {
     }
 
     /// How often a command has made a name due in the cycle that goes on, or else in the last one, whether or not it was
-    /// pushed before: 0 where there was none, and after the stop. A trace in which nothing came due tried no barrier. Takes
-    /// no memory, and constant time.
+    /// pushed before; what a `finalise` opens counts twice. 0 where there was no cycle, and after the stop. A trace in which
+    /// nothing came due tried no barrier. Takes no memory, and constant time.
     pub fn dues(&self) -> u64 {
         match self {
             Watch::Marking(running) => running.cycle().dues(),
