@@ -86,3 +86,7 @@ JointTheorem = (w : World) → IsWorld w → (h : Cycle) → Watches w h → h.d
 -- and beside any such list there is a marker
 abbrev pub SomeMarkerIsBeside : Type 0
 SomeMarkerIsBeside = (w : World) → IsWorld w → (h : Cycle) → Watches w h → (s : State) × Beside w h s
+
+-- there is also one that has finished, so that the joint theorem is of something
+abbrev pub SomeMarkerFinishes : Type 0
+SomeMarkerFinishes = (w : World) → IsWorld w → (h : Cycle) → Watches w h → (s : State) × Beside w h s × HasFinished s

@@ -1,5 +1,6 @@
 pub mod Beside
 pub mod CoreIsLax
+pub mod Finishing
 pub mod Floating
 pub mod Given
 pub mod LaxRuns

@@ -1,5 +1,5 @@
 //! The theorems of the lax rule. Each function does nothing: its contract is the law.
-ghost use Rattle.nmgc_lax.specs.Barrier.{BarrierTheorem, JointTheorem, SomeMarkerIsBeside};
+ghost use Rattle.nmgc_lax.specs.Barrier.{BarrierTheorem, JointTheorem, SomeMarkerFinishes, SomeMarkerIsBeside};
 ghost use Rattle.nmgc_lax.specs.Lax.{CoreIsLax, LaxKeepsFacts, LaxTheorem};
 
 /// The strict rule is an instance of the lax one: an event of the core machine that isn't the end is lax steps.
@@ -29,7 +29,13 @@ pub fn a_finished_marker_is_exact()
     ensures { JointTheorem }
 {}
 
-/// Beside any list of commands and pushes there is a marker, so that the theorems are of something.
+/// Beside any list of commands and pushes there is a marker.
 pub fn a_marker_is_beside()
     ensures { SomeMarkerIsBeside }
+{}
+
+/// There is also one that has taken all that was pushed and emptied its queue: where nothing is due it can end, so the
+/// theorem of finished markers is of something.
+pub fn a_marker_finishes()
+    ensures { SomeMarkerFinishes }
 {}

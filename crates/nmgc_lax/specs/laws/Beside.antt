@@ -10,7 +10,7 @@ use Rattle.nmgc_lax.specs.Barrier as barrier
 use Rattle.nmgc_lax.specs.laws.Tied.{IsTied, tied_command}
 use Rattle.nmgc_lax.specs.laws.TiedPush.{tied_push, tied_mark, tied_scan, tied_order, tied_opening, tied_end, tied_dies, tied_took, tied_possible, nothing_owed}
 
-beside_tied : (w : World) → IsWorld w → (h : Cycle) (s : State) → Beside w h s → IsTied h s
+pub beside_tied : (w : World) → IsWorld w → (h : Cycle) (s : State) → Beside w h s → IsTied h s
 beside_tied w is h s barrier.start = tied_opening w is
 beside_tied w is h s (barrier.command before next t line m c answer b k) = tied_command before next t (beside_tied w is before t b) line m c answer k
 beside_tied w is h s (barrier.push before next t m name b k place) = tied_push before next t (beside_tied w is before t b) name k m place

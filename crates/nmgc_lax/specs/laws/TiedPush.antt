@@ -35,7 +35,7 @@ use Rattle.nmgc_lax.specs.laws.Laxer.{shuffled_facts}
 use Rattle.nmgc_lax.specs.laws.Tied.{listed_debt, debt_listed, all_names, IsTied}
 use Rattle.nmgc_lax.specs.Barrier.{names_in, IsOnItsWay}
 
-no_names : (n m : ℕ) → names_of (replicate n []) m ≡ []
+pub no_names : (n m : ℕ) → names_of (replicate n []) m ≡ []
 no_names zero m = refl
 no_names (suc n) zero = refl
 no_names (suc n) (suc m) = no_names n m
@@ -143,20 +143,20 @@ module _ (h next : Cycle) (s : State) (t : IsTied h s) (name : Name) (w : IsPush
   }
 
 -- the marker's own steps: they mark more, and leave what is owed and pushed
-record MarksOn (s u : State) : Type 0 where
-  world : u.world ≡ s.world
-  snapshot : u.snapshot ≡ s.snapshot
-  opened : u.opened ≡ s.opened
-  finalised : u.finalised ≡ s.finalised
-  is_closed : u.is_closed ≡ s.is_closed
-  owed : u.owed ≡ s.owed
-  pushed : u.pushed ≡ s.pushed
-  marked : (n : Name) → Contains s.marked n → Contains u.marked n
+pub record MarksOn (s u : State) : Type 0 where
+  pub world : u.world ≡ s.world
+  pub snapshot : u.snapshot ≡ s.snapshot
+  pub opened : u.opened ≡ s.opened
+  pub finalised : u.finalised ≡ s.finalised
+  pub is_closed : u.is_closed ≡ s.is_closed
+  pub owed : u.owed ≡ s.owed
+  pub pushed : u.pushed ≡ s.pushed
+  pub marked : (n : Name) → Contains s.marked n → Contains u.marked n
 
 marks_same : (s : State) → MarksOn s s
 marks_same s = record { world = refl; snapshot = refl; opened = refl; finalised = refl; is_closed = refl; owed = refl; pushed = refl; marked = λ n c. c }
 
-marks_name : (s : State) (name : Name) → MarksOn s (mark_name s name)
+pub marks_name : (s : State) (name : Name) → MarksOn s (mark_name s name)
 marks_name s name = mark_cases (MarksOn s) s name (λ e. record {
   world = refl;
   snapshot = refl;
@@ -187,7 +187,7 @@ marks_advanced s u (entry ∷ rest) k = record {
   marked = k.marked;
 }
 
-marks_scan : (s : State) (queue : List Entry) → MarksOn s (after_scan s queue)
+pub marks_scan : (s : State) (queue : List Entry) → MarksOn s (after_scan s queue)
 marks_scan s [] = marks_same s
 marks_scan s (entry ∷ rest) =
     marks_advanced s (mark_read s (read_at (node_of s.world entry.name) entry.position))
@@ -306,7 +306,7 @@ tied_order h s next t k same way = record {
 }
 
 -- marking begins
-opening_marks : (s : State) (values : List Value) → MarksOn s (mark_values s values)
+pub opening_marks : (s : State) (values : List Value) → MarksOn s (mark_values s values)
 opening_marks s [] = marks_same s
 opening_marks s (value.Nil ∷ values) = opening_marks s values
 opening_marks s (value.Number n ∷ values) = opening_marks s values
