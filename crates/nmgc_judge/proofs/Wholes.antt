@@ -5,7 +5,8 @@ use Rattle.nmgc_graph.specs.declared.command.Command.{Command}
 use Rattle.nmgc_graph.specs.World.{World}
 use Rattle.nmgc_graph.specs.Reach.{Lists}
 use Rattle.nmgc_lax.specs.Cycle.{Cycle, Marks}
-use Rattle.nmgc_lax.specs.laws.Beside.{barrier_theorem, joint_theorem, some_marker}
+use Rattle.nmgc_lax.specs.laws.Beside.{barrier_theorem, joint_theorem}
+use Rattle.nmgc_lax.specs.laws.Finishing.{some_finisher}
 use Rattle.nmgc_watch.specs.declared.event.Event.{Event}
 use Rattle.nmgc_watch.specs.declared.event.Event.TheVariants as event
 use Rattle.nmgc_watch.specs.declared.left.Left.{Left}
@@ -97,7 +98,7 @@ exact lines h left c =
       begins = t.begins;
       is_world = t.is;
       watches = t.watches;
-      marker = some_marker t.begins t.is h t.watches;
+      marker = some_finisher t.begins t.is h t.watches;
       ends = λ s b done. joint_theorem t.begins t.is h t.watches paid s b done;
       marks = λ s next b possible closing name. (
         λ m. kept.complete name (((barrier_theorem t.begins t.is h s b).marks next possible closing name).0 m),

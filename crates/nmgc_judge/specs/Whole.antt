@@ -28,14 +28,14 @@ pub record Closes (lines : List Told) (h : Cycle) (left : Left) : Type 0 where
   pub comes : Comes 1 begun.Nothing earlier (begun.Watching (watch.Marking h))
   pub ends : Can (length earlier + 1) (watch.Marking h) close (watch.Ended left)
 
--- the cycle began with a world, and came so far by commands and pushes. There is a marker beside it; each that has
--- taken all that was pushed, and has read all that it marked, can end, and ends exactly, whatever it took and read
--- when; and one that ends has marked exactly what is told as kept
+-- the cycle began with a world, and came so far by commands and pushes. There is a marker beside it that has taken all
+-- that was pushed, and has read all that it marked; each such marker can end, and ends exactly, whatever it took and
+-- read when; and one that ends has marked exactly what is told as kept
 pub record IsExact (h : Cycle) (left : Left) : Type 0 where
   pub begins : World
   pub is_world : IsWorld begins
   pub watches : Watches begins h
-  pub marker : (s : State) × Beside begins h s
+  pub marker : (s : State) × Beside begins h s × HasFinished s
   pub ends : (s : State) → Beside begins h s → HasFinished s → EndsExactly h s
   pub marks : (s next : State) → Beside begins h s → IsPossible s core.Close → IsClosing s next → (name : Name) →
       Contains next.marked name ↔ Contains left.kept name
