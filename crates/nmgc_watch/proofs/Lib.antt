@@ -8,6 +8,7 @@ pub mod Filters
 pub mod Judging
 pub mod ListedLaws
 pub mod Living
+pub mod Needing
 pub mod Reasons
 pub mod RowLaws
 pub mod Standing

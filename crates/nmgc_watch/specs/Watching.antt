@@ -7,7 +7,7 @@ use Rattle.nmgc_graph.specs.declared.mutator_state.MutatorState.{MutatorState}
 use Rattle.nmgc_graph.specs.World.{World, node_of, IsWorld}
 use Rattle.nmgc_graph.specs.Change.{is_same_name}
 use Rattle.nmgc_graph.specs.Step.{CanApply, step, shared_name}
-use Rattle.nmgc_graph.specs.Reach.{Lists}
+use Rattle.nmgc_graph.specs.Reach.{Lists, IsKept}
 use Rattle.nmgc_core.specs.declared.event.Event.TheVariants as core
 use Rattle.nmgc_core.specs.State.{State}
 use Rattle.nmgc_core.specs.Machine.{IsPossible}
@@ -390,3 +390,11 @@ AreClosed watch.Stopped = Unit {0}
 -- an event can happen, or has a reason
 abbrev pub EveryEventIsJudged : Type 0
 EveryEventIsJudged = (line : ℕ) (p : Watch) (e : Event) → AreClosed p → ((next : Watch) × Can line p e next) ⊎ ((y : Why) × IsWhy p e y)
+
+-- what the commands alone keep each marker has to mark
+abbrev pub KeptIsMarked : Type 0
+KeptIsMarked = (h : Cycle) → IsWorld h.snapshot → (name : Name) → IsKept h.snapshot h.opened h.finalised name → Marks h name
+
+-- of a close that isn't told what dies: what may not be freed is among what each marker has to mark
+abbrev pub NeededIsKept : Type 0
+NeededIsKept = (h : Cycle) (left : Left) → IsWorld h.snapshot → IsLeft h left → (name : Name) → Contains left.needed name → Contains left.kept name
