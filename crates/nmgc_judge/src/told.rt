@@ -3,7 +3,7 @@
 //! Commands, answers and names are spelled as in format 1 (`line`). A push has its name, and there is no marker: no
 //! line scans or drains, and a take only says what the runtime's own marker took.
 use crate::line::{byte_of, given_of};
-use nmgc_graph::{Command, List, Name, NoMemory, Operand};
+use nmgc_graph::{Command, List, Name, NoMemory, Operand, REGISTERS};
 use nmgc_io::read_number;
 use nmgc_journal::read_name;
 use nmgc_watch::rows::{copied, filled};
@@ -167,9 +167,14 @@ fn operand_of(word: &str) -> Option<Operand> {
     Some(Operand::Register(register_of(word)?))
 }
 
-// A register. Whether there is such a one is for the heap to say.
+// A register that a mutator has: a word for any other one is none of a trace, as in a command.
 fn register_of(word: &str) -> Option<u8> {
-    byte_of(word.strip_prefix('r')?)
+    let register = byte_of(word.strip_prefix('r')?)?;
+    if register < REGISTERS {
+        Some(register)
+    } else {
+        None
+    }
 }
 
 // A number below 65,536: no object has more fields than a command can say.
