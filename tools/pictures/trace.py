@@ -98,6 +98,11 @@ class Watch:
             raise unknown()
         return int(word), words
 
+    def has_mutator(self, mutator):
+        """Refuses a line of a mutator that isn't there."""
+        if mutator >= len(self.world.serials):
+            raise Refused("words", "can't happen: there is no such mutator or register")
+
     def give(self, number, mutator, words, answer):
         """A mutator gives a command, with this answer, or with any that is no refusal."""
         if not self.world.can_apply(mutator):
@@ -175,6 +180,7 @@ class Watch:
         if not is_number(rest, 256):
             raise unknown()
         self.in_phase("marking")
+        self.has_mutator(int(rest))
         self.pay(int(rest))
 
     def _take(self, number, rest, more):

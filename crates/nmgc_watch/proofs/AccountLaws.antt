@@ -453,10 +453,3 @@ least_queue marks queues i blank o lt h = subst (λ (l : List Debt).
     flat_one : (xs : List (List Debt)) (q : List Debt) → all_debts (xs ++ q ∷ []) ≡ all_debts xs ++ q
     flat_one [] q = append-nil q
     flat_one (x ∷ xs) q = ap (λ (l : List Debt). x ++ l) (flat_one xs q) ∙ sym (append_assoc x (all_debts xs) q)
-
--- a mutator that there isn't owes nothing
-pub none_beyond : (snapshot : World) (marks : List (List Bool)) (m : ℕ) (a : Accounts) → AreAccounts marks snapshot a → (m < length a.debts → ⊥) →
-    (d : Debt) → Contains (unpaid marks (all_debts a.debts)) d → d.mutator ≢ m
-none_beyond snapshot marks m a k never d c own =
-    let s : StandsIn marks a.debts d = stands marks a.debts d c in
-    never (subst (λ (i : ℕ). i < length a.debts) (sym (k.own s.m d s.there) ∙ own) s.within)

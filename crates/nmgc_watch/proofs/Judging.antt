@@ -207,9 +207,12 @@ push line name watch.Stopped = inr (why.Misplaced, refl)
 -- a mutator that has settled
 settle : (line m : ℕ) (p : Watch) → Judged line p (event.Settle m)
 settle line m (watch.Between w) = inr (why.Misplaced, refl)
-settle line m (watch.Marking h) = elim (search (λ (d : Debt). eqb d.mutator m) h.debts) [
-  | inl f ↦ inr (why.Due f.0, (f.0, refl, f.1, eqb-true f.0.mutator m f.2))
-  | inr none ↦ inl (watch.Marking h, (λ d c own. false≢true (sym (none d c) ∙ eq-eqb d.mutator m own), refl))
+settle line m (watch.Marking h) = elim (cases_lt m (length h.world.mutators)) [
+  | inl lt ↦ elim (search (λ (d : Debt). eqb d.mutator m) h.debts) [
+    | inl f ↦ inr (why.Due f.0, inl (f.0, refl, f.1, eqb-true f.0.mutator m f.2))
+    | inr none ↦ inl (watch.Marking h, ((lt, λ d c own. false≢true (sym (none d c) ∙ eq-eqb d.mutator m own)), refl))
+  ]
+  | inr le ↦ inr (why.CannotApply, inr (refl, λ lt. let l : m < length h.world.mutators = lt in omega arith))
 ]
 settle line m (watch.Ended left) = inr (why.Misplaced, refl)
 settle line m watch.Stopped = inr (why.Misplaced, refl)

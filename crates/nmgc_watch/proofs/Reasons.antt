@@ -56,7 +56,8 @@ no_push name watch.Stopped y next h g = g
 
 no_settle : (m : ℕ) (p : Watch) (y : Why) (next : Watch) → WhySettle m p y → CanSettle m p next → ⊥
 no_settle m (watch.Between w) y next h g = g
-no_settle m (watch.Marking k) y next h g = g.0 h.0 h.2 h.3
+no_settle m (watch.Marking k) y next (inl h) g = g.0.1 h.0 h.2 h.3
+no_settle m (watch.Marking k) y next (inr h) g = h.1 g.0.0
 no_settle m (watch.Ended left) y next h g = g
 no_settle m watch.Stopped y next h g = g
 

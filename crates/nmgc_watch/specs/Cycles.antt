@@ -20,6 +20,7 @@ use Rattle.nmgc_watch.specs.declared.event.Why.TheVariants as why
 use Rattle.nmgc_watch.specs.Accounts.{AreAccounts, IsLeastIn}
 use Rattle.nmgc_watch.specs.Listed.{IsListed}
 use Rattle.nmgc_watch.specs.Rows.{is_done}
+use Rattle.std.specs.Prelude.{◌<◌, ◌⊎◌}
 
 -- names that were pushed, opened and taken are listed; what is owed is due; a weak pointer of the snapshot that
 -- wasn't finalised is as it was there; and both worlds are closed
@@ -73,14 +74,19 @@ abbrev pub IsPush : Name → Cycle → Option Why → Cycle → Type 0
 IsPush name h None next = IsPushed h name next
 IsPush name h (Some w) next = (next ≡ h) × (w ≡ why.NoSuchName name) × (IsSome (node_of h.world name) → ⊥)
 
--- a mutator's commands so far owe nothing
+-- there is such a mutator, and its commands so far owe nothing
 abbrev pub IsSettled : Cycle → ℕ → Type 0
-IsSettled h m = (debt : Debt) → Contains h.debts debt → debt.mutator ≢ m
+IsSettled h m = (m < length h.world.mutators) × ((debt : Debt) → Contains h.debts debt → debt.mutator ≢ m)
 
--- it has settled, or it hasn't, since this debt of it counts
+-- why it hasn't settled: this debt of it counts, or there is no such mutator
+abbrev pub IsUnsettled : Cycle → ℕ → Why → Type 0
+IsUnsettled h m y = ((debt : Debt) × (y ≡ why.Due debt) × Contains h.debts debt × (debt.mutator ≡ m)) ⊎
+    ((y ≡ why.CannotApply) × (m < length h.world.mutators → ⊥))
+
+-- it has settled, or it hasn't
 abbrev pub IsSettle : ℕ → Cycle → Option Why → Type 0
 IsSettle m h None = IsSettled h m
-IsSettle m h (Some w) = (debt : Debt) × (w ≡ why.Due debt) × Contains h.debts debt × (debt.mutator ≡ m)
+IsSettle m h (Some y) = IsUnsettled h m y
 
 -- a take, taken or refused
 abbrev pub IsTake : Name → Cycle → Option Why → Cycle → Type 0

@@ -22,7 +22,7 @@ use Rattle.nmgc_watch.specs.declared.event.Why.TheVariants as why
 use Rattle.nmgc_watch.specs.declared.left.Left.{Left}
 use Rattle.nmgc_watch.specs.declared.watch.Watch.{Watch}
 use Rattle.nmgc_watch.specs.declared.watch.Watch.TheVariants as watch
-use Rattle.nmgc_watch.specs.Cycles.{IsWhyNot, IsNotDone, IsTaken, IsSettled, IsUntakenName}
+use Rattle.nmgc_watch.specs.Cycles.{IsWhyNot, IsNotDone, IsTaken, IsSettled, IsUnsettled, IsUntakenName}
 use Rattle.nmgc_watch.specs.Rows.{is_done}
 
 -- outside of a cycle the heap takes a command with this answer
@@ -147,10 +147,10 @@ CanSettle m (watch.Marking h) next = IsSettled h m × (next ≡ watch.Marking h)
 CanSettle m (watch.Ended left) next = ⊥
 CanSettle m watch.Stopped next = ⊥
 
--- why a mutator can't have settled: there is no cycle, or something is due by its commands
+-- why a mutator can't have settled: there is no cycle, something is due by its commands, or there is no such mutator
 abbrev pub WhySettle : ℕ → Watch → Why → Type 0
 WhySettle m (watch.Between w) y = y ≡ why.Misplaced
-WhySettle m (watch.Marking h) y = (debt : Debt) × (y ≡ why.Due debt) × Contains h.debts debt × (debt.mutator ≡ m)
+WhySettle m (watch.Marking h) y = IsUnsettled h m y
 WhySettle m (watch.Ended left) y = y ≡ why.Misplaced
 WhySettle m watch.Stopped y = y ≡ why.Misplaced
 

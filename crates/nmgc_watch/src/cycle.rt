@@ -192,14 +192,14 @@ impl Cycle {
         Ok(())
     }
 
-    /// Why a mutator hasn't settled: something that its commands made due and nobody remembered. Nothing changes. Takes
-    /// amortised constant time, whatever the other mutators owe.
+    /// Why a mutator hasn't settled: something that its commands made due and nobody remembered, or that there is no such
+    /// mutator. Nothing changes. Takes amortised constant time, whatever the other mutators owe.
     pub fn settle(&mut self, mutator: u8) -> Option<Why>
         ensures settle { IsSettle mutator self.old result }
         ensures same { self.new ≡ self.old }
     {
         if !has_mutator(&self.world, mutator) {
-            return None;
+            return Some(Why::CannotApply);
         }
         match self.accounts.first(&self.remembered.set, mutator) {
             Some(debt) => Some(Why::Due(debt)),

@@ -35,6 +35,7 @@ TOLD = [
     (HEAD + "0 con r0 256 = 0.0\n", "line 3 is none of a trace"),
     (HEAD + "0 thread 1 = ok\n", "line 3 is none of a trace"),
     (HEAD + "mark\npush 0 0.5\n", "line 4 can't happen: the heap has no 0.5"),
+    (HEAD + "mark\nsettle 1\n", "line 4 can't happen: there is no such mutator or register"),
     (HEAD + "mark\ntake g\n", "line 4 can't happen: g wasn't pushed, or was made since the cycle began"),
     (
         HEAD + "mark\npush - g\ntake g\nclose\nstop",

@@ -1,15 +1,13 @@
-use Rattle.std.proofs.Common.{◌<◌, ◌∙◌, ℕ, refl, sym, subst}
+use Rattle.std.proofs.Common.{◌<◌, ◌∙◌, ℕ, refl, sym, subst, inl, inr}
 use Rattle.std.proofs.lemmas.Bool.{false≢true}
-use Rattle.nmgc_watch.proofs.AccountLaws.{some_own, none_own, none_beyond, forgotten_accounts, forgotten_count, forgotten_same}
+use Rattle.nmgc_watch.proofs.AccountLaws.{some_own, none_own, forgotten_accounts, forgotten_count, forgotten_same}
 use Rattle.nmgc_watch.proofs.CycleLaws.{none_first, seen_same, with_accounts}
 use Rattle.nmgc_watch.proofs.cycle.Cycle.settle.Goals as goal
 use Rattle.nmgc_watch.proofs.cycle.Cycle.settle.Goals.{in-Some, in-None}
 
 pub returns-then-not-has_mutator-clause-settle : goal.returns-then-not-has_mutator-clause-settle
 returns-then-not-has_mutator-clause-settle c =
-    rw (← c.self.view_is)
-    (none_beyond c.self.inside.snapshot c.self.inside.remembered.set c.args.mutator c.self.inside.accounts c.self.invariant.accounts
-    (λ lt. false≢true (sym c.if-not-has_mutator.true ∙ c.has_mutator.ensures.1 (subst (λ (n : ℕ). c.args.mutator < n) c.self.invariant.count lt))))
+    rw (← c.self.view_is) (inr (refl, λ lt. false≢true (sym c.if-not-has_mutator.true ∙ c.has_mutator.ensures.1 lt)))
 
 pub first-requires : goal.first-requires
 first-requires c = subst (λ (n : ℕ). c.args.mutator < n) (sym c.self.invariant.count) (c.has_mutator.ensures.0 c.if-not-has_mutator.false)
@@ -28,11 +26,13 @@ returns-clause-settle c = elim c.match-first.branch [
   | in-Some w ↦
       let p = some_own c.self.inside.snapshot c.self.inside.remembered.set c.args.mutator c.self.inside.accounts c.self.invariant.accounts
       w.in-Some.debt (sym c.first.ensures.first ∙ w.in-Some.is) in
-      rw (w.result-is, ← c.self.view_is) (w.in-Some.debt, refl, p.0, p.1)
+      rw (w.result-is, ← c.self.view_is) (inl (w.in-Some.debt, refl, p.0, p.1))
   | in-None w ↦
-      rw (w.result-is, ← c.self.view_is)
-      (none_own c.self.inside.snapshot c.self.inside.remembered.set c.args.mutator c.self.inside.accounts c.self.invariant.accounts
-      (none_first _ (sym c.first.ensures.first ∙ w.in-None.is)))
+      rw (w.result-is, ← c.self.view_is) (
+        c.has_mutator.ensures.0 c.if-not-has_mutator.false,
+        none_own c.self.inside.snapshot c.self.inside.remembered.set c.args.mutator c.self.inside.accounts c.self.invariant.accounts
+            (none_first _ (sym c.first.ensures.first ∙ w.in-None.is)),
+      )
 ]
 
 pub returns-clause-same : goal.returns-clause-same
