@@ -81,6 +81,7 @@ class Watch:
         rows = rows_of(rest) if is_number(word, 256) else None
         if rows is not None:
             self.in_phase("between", "marking", "ended")
+            self.has_mutator(int(word))
             for words in rows:
                 self.give(number, int(word), words, None)
             self.commands += 1

@@ -61,7 +61,7 @@ after_rows n m (c ∷ cs) q after h t = after_rows n m cs h.0 after h.2 (after_a
 after_event : (n : ℕ) (q : Watch) (e : Event) (after : Watch) → Can n q e after → Stands q → Stands after
 after_event n (watch.Between w) (event.Given m c answer) after can t =
     subst Stands (sym can.2) (subst IsWorld (sym can.1.2) (step_keeps_world w m c t can.1.0))
-after_event n (watch.Between w) (event.Rows m commands) after can t = after_rows n m commands (watch.Between w) after can t
+after_event n (watch.Between w) (event.Rows m commands) after can t = after_rows n m commands (watch.Between w) after can.1 t
 after_event n (watch.Between w) event.Mark after can t = subst Stands (sym can) (begin w t)
 after_event n (watch.Between w) (event.Push name) after can t = absurd can
 after_event n (watch.Between w) (event.Settle m) after can t = absurd can
@@ -72,7 +72,7 @@ after_event n (watch.Between w) (event.Marked names) after can t = absurd can
 after_event n (watch.Between w) (event.Freed names) after can t = absurd can
 after_event n (watch.Between w) event.Stop after can t = absurd can
 after_event n (watch.Marking h) (event.Given m c answer) after can t = subst Stands (sym can.2) (given h can.0 n m c answer t can.1)
-after_event n (watch.Marking h) (event.Rows m commands) after can t = after_rows n m commands (watch.Marking h) after can t
+after_event n (watch.Marking h) (event.Rows m commands) after can t = after_rows n m commands (watch.Marking h) after can.1 t
 after_event n (watch.Marking h) event.Mark after can t = absurd can
 after_event n (watch.Marking h) (event.Push name) after can t = subst Stands (sym can.2) (record {
   begins = t.begins;
@@ -96,7 +96,7 @@ after_event n (watch.Marking h) (event.Freed names) after can t = absurd can
 after_event n (watch.Marking h) event.Stop after can t = absurd can
 after_event n (watch.Ended left) (event.Given m c answer) after can t =
     subst Stands (sym can.2) (subst IsWorld (sym can.1.2) (step_keeps_world left.world m c t can.1.0))
-after_event n (watch.Ended left) (event.Rows m commands) after can t = after_rows n m commands (watch.Ended left) after can t
+after_event n (watch.Ended left) (event.Rows m commands) after can t = after_rows n m commands (watch.Ended left) after can.1 t
 after_event n (watch.Ended left) event.Mark after can t = subst Stands (sym can) (begin left.world t)
 after_event n (watch.Ended left) (event.Push name) after can t = absurd can
 after_event n (watch.Ended left) (event.Settle m) after can t = absurd can

@@ -64,7 +64,7 @@ rows_marking n m cs h after done = rows_stay n m cs (watch.Marking h) after done
 -- only a close ends a cycle, and what it leaves lists what the pushes and the commands keep
 kept_by : (n : ℕ) (h : Cycle) (e : Event) (left : Left) → Can n (watch.Marking h) e (watch.Ended left) → Lists (Marks h) left.kept
 kept_by n h (event.Given m c answer) left can = absurd (not_marking left can.0 can.2)
-kept_by n h (event.Rows m commands) left can = absurd (rows_marking n m commands h (watch.Ended left) can)
+kept_by n h (event.Rows m commands) left can = absurd (rows_marking n m commands h (watch.Ended left) can.1)
 kept_by n h event.Mark left can = absurd can
 kept_by n h (event.Push name) left can = absurd (not_marking left can.0 can.2)
 kept_by n h (event.Settle m) left can = absurd (not_marking left h can.1)
@@ -78,7 +78,7 @@ kept_by n h event.Stop left can = absurd can
 -- and nothing is due then
 paid_by : (n : ℕ) (h : Cycle) (e : Event) (left : Left) → Can n (watch.Marking h) e (watch.Ended left) → h.debts ≡ []
 paid_by n h (event.Given m c answer) left can = absurd (not_marking left can.0 can.2)
-paid_by n h (event.Rows m commands) left can = absurd (rows_marking n m commands h (watch.Ended left) can)
+paid_by n h (event.Rows m commands) left can = absurd (rows_marking n m commands h (watch.Ended left) can.1)
 paid_by n h event.Mark left can = absurd can
 paid_by n h (event.Push name) left can = absurd (not_marking left can.0 can.2)
 paid_by n h (event.Settle m) left can = absurd (not_marking left h can.1)
@@ -134,7 +134,7 @@ rows_between n m (c ∷ cs) w after h over =
 -- before the first cycle no event ends one
 not_over : (n : ℕ) (w : World) (e : Event) (after : Watch) → Can n (watch.Between w) e after → IsOver (begun.Watching after) → ⊥
 not_over n w (event.Given m c answer) after can over = subst (λ (q : Watch). IsOver (begun.Watching q)) can.2 over
-not_over n w (event.Rows m commands) after can over = rows_between n m commands w after can over
+not_over n w (event.Rows m commands) after can over = rows_between n m commands w after can.1 over
 not_over n w event.Mark after can over = subst (λ (q : Watch). IsOver (begun.Watching q)) can over
 not_over n w (event.Push name) after can over = can
 not_over n w (event.Settle m) after can over = can
@@ -148,7 +148,7 @@ not_over n w event.Stop after can over = can
 -- a cycle never comes to the stop by one event
 not_stopped : (n : ℕ) (h : Cycle) (e : Event) → Can n (watch.Marking h) e watch.Stopped → ⊥
 not_stopped n h (event.Given m c answer) can = stopped_marking can.0 can.2
-not_stopped n h (event.Rows m commands) can = rows_marking n m commands h watch.Stopped can
+not_stopped n h (event.Rows m commands) can = rows_marking n m commands h watch.Stopped can.1
 not_stopped n h event.Mark can = can
 not_stopped n h (event.Push name) can = stopped_marking can.0 can.2
 not_stopped n h (event.Settle m) can = stopped_marking h can.1

@@ -29,7 +29,7 @@ use Rattle.nmgc_watch.specs.declared.watch.Watch.{Watch}
 use Rattle.nmgc_watch.specs.declared.watch.Watch.TheVariants as watch
 use Rattle.nmgc_watch.specs.Cycles.{IsUntakenName, IsTaken, keys_then, IsOpenedWith}
 use Rattle.nmgc_watch.specs.Rows.{is_done}
-use Rattle.nmgc_watch.specs.Watching.{CanAct, WhyNoAct, AreDone, StopsAt, IsAgainst, IsLeft, IsLeftTold, is_old, IsOld, MayFree, WhyKept, Can, IsWhy, AreClosed, EveryEventIsJudged}
+use Rattle.nmgc_watch.specs.Watching.{CanAct, WhyNoAct, AreDone, StopsAt, mutators_of, IsAbsent, IsAgainst, IsLeft, IsLeftTold, is_old, IsOld, MayFree, WhyKept, Can, IsWhy, AreClosed, EveryEventIsJudged}
 use Rattle.nmgc_watch.proofs.Filters.{kept_in, in_kept}
 use Rattle.nmgc_watch.proofs.ClosingLaws.{keys_are, dead_told, needs_listed}
 use Rattle.nmgc_watch.proofs.CycleLaws.{not_both, not_so}
@@ -129,10 +129,17 @@ all_acts line m (c ∷ cs) p is = elim (acts line m c p is) [
   | inr r ↦ inr (r.0, p, record { before = []; command = c; later = cs; commands_are = refl; done = refl; reason = r.1 })
 ]
 
+some_rows : (line m : ℕ) (commands : List Command) (p : Watch) → AreClosed p → ((next : Watch) × ((m < mutators_of p) × AreDone line m commands p next)) ⊎
+    ((y : Why) × ((line' : ℕ) × (last : Watch) × (StopsAt line' m commands p y last ⊎ IsAbsent m p y last)))
+some_rows line m commands p is = elim (cases_lt m (mutators_of p)) [
+  | inl lt ↦ elim (all_acts line m commands p is) [ inl d ↦ inl (d.0, (lt, d.1)) | inr s ↦ inr (s.0, (line, s.1, inl s.2)) ]
+  | inr le ↦ inr (why.CannotApply, (line, p, inr (refl, (λ lt. let l : m < mutators_of p = lt in omega arith), refl)))
+]
+
 rows : (line m : ℕ) (commands : List Command) (p : Watch) → AreClosed p → Judged line p (event.Rows m commands)
-rows line m commands (watch.Between w) is = elim (all_acts line m commands (watch.Between w) is) [ inl d ↦ inl d | inr s ↦ inr (s.0, (line, s.1, s.2)) ]
-rows line m commands (watch.Marking h) is = elim (all_acts line m commands (watch.Marking h) is) [ inl d ↦ inl d | inr s ↦ inr (s.0, (line, s.1, s.2)) ]
-rows line m commands (watch.Ended left) is = elim (all_acts line m commands (watch.Ended left) is) [ inl d ↦ inl d | inr s ↦ inr (s.0, (line, s.1, s.2)) ]
+rows line m commands (watch.Between w) is = some_rows line m commands (watch.Between w) is
+rows line m commands (watch.Marking h) is = some_rows line m commands (watch.Marking h) is
+rows line m commands (watch.Ended left) is = some_rows line m commands (watch.Ended left) is
 rows line m commands watch.Stopped is = inr (why.Misplaced, (line, watch.Stopped, (refl, refl)))
 
 -- marking begins

@@ -1,5 +1,5 @@
 -- Commands of one line: what the first of them did, and what stops them.
-use Rattle.std.proofs.Common.{◌≡◌, ◌<◌, ◌+◌, ◌^◌, ℕ, List, [], ◌∷◌, ◌++◌, zero, suc, length, take, drop, get_or, refl, sym, ap, subst, ◌∙◌, arith, append_assoc, Option, Some, None, Bool, true, false, inl, inr}
+use Rattle.std.proofs.Common.{◌≡◌, ◌<◌, ◌+◌, ◌^◌, ℕ, List, [], ◌∷◌, ◌++◌, zero, suc, length, take, drop, get_or, refl, sym, ap, subst, ◌∙◌, arith, append_assoc, Option, Some, None, Bool, true, false, inl, inr, ◌⊎◌}
 use Rattle.std.specs.Prelude.{is_some}
 use Rattle.nmgc_graph.specs.declared.command.Command.{Command}
 use Rattle.nmgc_graph.specs.declared.command.Reply.{Reply}
@@ -16,7 +16,7 @@ use Rattle.nmgc_watch.specs.declared.watch.Watch.{Watch}
 use Rattle.nmgc_watch.specs.declared.watch.Watch.TheVariants as watch
 use Rattle.nmgc_watch.specs.Cycles.{IsNotDone}
 use Rattle.nmgc_watch.specs.Rows.{is_done, load_of, store_of, write_of, copied, filled}
-use Rattle.nmgc_watch.specs.Watching.{CanAct, WhyNoAct, IsAct, AreDone, StopsAt, AreActed, is_stopped, CanRows, IsWhy, IsStep}
+use Rattle.nmgc_watch.specs.Watching.{CanAct, WhyNoAct, IsAct, AreDone, StopsAt, AreActed, is_stopped, mutators_of, CanRows, IsAbsent, IsWhy, IsStep}
 
 -- the commands of one more turn
 pub copied_more : (copying : Copying) (turn : ℕ) (a b c : List Command) (x y : Command) → a ≡ copied copying turn → b ≡ a ++ x ∷ [] →
@@ -66,16 +66,24 @@ acted_stop line m commands i blank p between next (Some y) lt d e a = record {
   reason = subst (λ (q : Watch). WhyNoAct m (get_or commands i blank) q y) (sym a.0) a.1;
 }
 
--- before the stop
-pub rows_step : (line m : ℕ) (commands : List Command) (p next : Watch) (o : Option Why) → is_stopped p ≡ false → AreActed line m commands p o next →
-    IsStep line p (event.Rows m commands) o next
-rows_step line m commands (watch.Between w) next None going h = h
-rows_step line m commands (watch.Marking c) next None going h = h
-rows_step line m commands (watch.Ended left) next None going h = h
-rows_step line m commands (watch.Between w) next (Some y) going h = (h, (line, next, h))
-rows_step line m commands (watch.Marking c) next (Some y) going h = (h, (line, next, h))
-rows_step line m commands (watch.Ended left) next (Some y) going h = (h, (line, next, h))
-rows_step line m commands watch.Stopped next o going h = absurd (let bad : true ≡ false = going in cc)
+-- before the stop, by a mutator that there is
+pub rows_step : (line m : ℕ) (commands : List Command) (p next : Watch) (o : Option Why) → is_stopped p ≡ false → m < mutators_of p →
+    AreActed line m commands p o next → IsStep line p (event.Rows m commands) o next
+rows_step line m commands (watch.Between w) next None going lt h = (lt, h)
+rows_step line m commands (watch.Marking c) next None going lt h = (lt, h)
+rows_step line m commands (watch.Ended left) next None going lt h = (lt, h)
+rows_step line m commands (watch.Between w) next (Some y) going lt h = (inl h, (line, next, inl h))
+rows_step line m commands (watch.Marking c) next (Some y) going lt h = (inl h, (line, next, inl h))
+rows_step line m commands (watch.Ended left) next (Some y) going lt h = (inl h, (line, next, inl h))
+rows_step line m commands watch.Stopped next o going lt h = absurd (let bad : true ≡ false = going in cc)
+
+-- by one that there isn't
+pub rows_absent : (line m : ℕ) (commands : List Command) (p : Watch) → is_stopped p ≡ false → (m < mutators_of p → ⊥) →
+    IsStep line p (event.Rows m commands) (Some why.CannotApply) p
+rows_absent line m commands (watch.Between w) going never = (inr (refl, never, refl), (line, watch.Between w, inr (refl, never, refl)))
+rows_absent line m commands (watch.Marking c) going never = (inr (refl, never, refl), (line, watch.Marking c, inr (refl, never, refl)))
+rows_absent line m commands (watch.Ended left) going never = (inr (refl, never, refl), (line, watch.Ended left, inr (refl, never, refl)))
+rows_absent line m commands watch.Stopped going never = absurd (let bad : true ≡ false = going in cc)
 
 -- and after it
 pub rows_stopped : (line m : ℕ) (commands : List Command) (p : Watch) → is_stopped p ≡ true → IsStep line p (event.Rows m commands) (Some why.Misplaced) p
@@ -166,8 +174,13 @@ no_stops line line' m commands p next last y d s =
     no_stop line line' m s.before s.command s.later p p next last y refl (subst (λ (l : List Command).
     AreDone line m l p next) s.commands_are d) s.done s.reason
 
+stops_or : (line line' m : ℕ) (commands : List Command) (p next last : Watch) (y : Why) → m < mutators_of p → AreDone line m commands p next →
+    StopsAt line' m commands p y last ⊎ IsAbsent m p y last → ⊥
+stops_or line line' m commands p next last y lt d (inl s) = no_stops line line' m commands p next last y d s
+stops_or line line' m commands p next last y lt d (inr a) = a.1 lt
+
 pub no_rows : (line m : ℕ) (commands : List Command) (p next : Watch) (y : Why) → IsWhy p (event.Rows m commands) y → CanRows line m commands p next → ⊥
-no_rows line m commands (watch.Between w) next y h d = no_stops line h.0 m commands (watch.Between w) next h.1 y d h.2
-no_rows line m commands (watch.Marking k) next y h d = no_stops line h.0 m commands (watch.Marking k) next h.1 y d h.2
-no_rows line m commands (watch.Ended left) next y h d = no_stops line h.0 m commands (watch.Ended left) next h.1 y d h.2
+no_rows line m commands (watch.Between w) next y h d = stops_or line h.0 m commands (watch.Between w) next h.1 y d.0 d.1 h.2
+no_rows line m commands (watch.Marking k) next y h d = stops_or line h.0 m commands (watch.Marking k) next h.1 y d.0 d.1 h.2
+no_rows line m commands (watch.Ended left) next y h d = stops_or line h.0 m commands (watch.Ended left) next h.1 y d.0 d.1 h.2
 no_rows line m commands watch.Stopped next y h d = absurd d

@@ -24,6 +24,7 @@ use Rattle.nmgc_watch.specs.declared.watch.Watch.{Watch}
 use Rattle.nmgc_watch.specs.declared.watch.Watch.TheVariants as watch
 use Rattle.nmgc_watch.specs.Cycles.{IsWhyNot, IsNotDone, IsTaken, IsSettled, IsUnsettled, IsUntakenName}
 use Rattle.nmgc_watch.specs.Rows.{is_done}
+use Rattle.std.specs.Prelude.{◌<◌}
 
 -- outside of a cycle the heap takes a command with this answer
 abbrev pub IsGiven : World → ℕ → Command → Reply → World → Type 0
@@ -102,15 +103,26 @@ is_stopped (watch.Marking h) = false
 is_stopped (watch.Ended left) = false
 is_stopped watch.Stopped = true
 
--- several commands in one line, before the stop: each can be done after those before it
+-- how many mutators there are
+abbrev pub mutators_of : Watch → ℕ
+mutators_of (watch.Between w) = length w.mutators
+mutators_of (watch.Marking h) = length h.world.mutators
+mutators_of (watch.Ended left) = length left.world.mutators
+mutators_of watch.Stopped = 0
+
+-- several commands in one line, before the stop: there is such a mutator, and each can be done after those before it
 abbrev pub CanRows : ℕ → ℕ → List Command → Watch → Watch → Type 0
 CanRows line m commands watch.Stopped next = ⊥
-CanRows line m commands p next = AreDone line m commands p next
+CanRows line m commands p next = (m < mutators_of p) × AreDone line m commands p next
 
--- why they can't: one of them couldn't be done, or there was the stop. What those before it did stays
+-- nothing changed, since there is no such mutator
+abbrev pub IsAbsent : ℕ → Watch → Why → Watch → Type 0
+IsAbsent m p y last = (y ≡ why.CannotApply) × (m < mutators_of p → ⊥) × (last ≡ p)
+
+-- why they can't: one of them couldn't be done, what those before it did stays; or there is no such mutator; or there was the stop
 abbrev pub WhyRows : ℕ → ℕ → List Command → Watch → Why → Watch → Type 0
 WhyRows line m commands watch.Stopped y last = (y ≡ why.Misplaced) × (last ≡ watch.Stopped)
-WhyRows line m commands p y last = StopsAt line m commands p y last
+WhyRows line m commands p y last = StopsAt line m commands p y last ⊎ IsAbsent m p y last
 
 -- marking begins, outside of a cycle: the world is the snapshot
 abbrev pub CanMark : Watch → Watch → Type 0

@@ -56,7 +56,8 @@ pub enum Event {
 pub enum Why {
     /// No event of this kind can stand here: in a cycle, between cycles, or after the stop.
     Misplaced,
-    /// There is no such mutator or register, or the mutator has no serial left.
+    /// There is no such mutator or register, or the mutator has no serial left; also of a settle, or of several commands that
+    /// are none.
     CannotApply,
     /// The heap answers this.
     Answer(Reply),

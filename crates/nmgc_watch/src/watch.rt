@@ -6,9 +6,9 @@
 //!
 //! Easy to get wrong: a refused event leaves everything as it was, so that a test can go on; but of several commands in one
 //! line those before the refused one are done.
-ghost use Rattle.std.specs.Prelude.{◌≡◌, ◌≤◌, IfOk};
+ghost use Rattle.std.specs.Prelude.{◌≡◌, ◌↔◌, ◌<◌, ◌≤◌, length, IfOk, IsTrue};
 ghost use Rattle.nmgc_graph.specs.World.{new_world};
-ghost use Rattle.nmgc_watch.specs.Watching.{IsStep, IsGivenIf, IsAct, IsDoneIf, AreActed, is_stopped};
+ghost use Rattle.nmgc_watch.specs.Watching.{IsStep, IsGivenIf, IsAct, IsDoneIf, AreActed, is_stopped, mutators_of};
 ghost use Rattle.nmgc_watch.specs.declared.event.Event.TheVariants as event;
 ghost use Rattle.nmgc_watch.specs.declared.watch.Watch.TheVariants as watch;
 
@@ -54,6 +54,13 @@ impl Running {
         ensures { result.now ≡ self.now }
     {
         &self.cycle
+    }
+
+    // How many mutators there are.
+    fn mutators(&self) -> u8
+        ensures { result ≡ length self.now.world.mutators }
+    {
+        self.cycle.world().mutators()
     }
 
     // The same as `Cycle::settle`.
@@ -181,7 +188,29 @@ impl Watch {
         if self.is_stopped() {
             return Ok(Some(Why::Misplaced));
         }
+        if !self.has_mutator(mutator) {
+            return Ok(Some(Why::CannotApply));
+        }
         self.act_all(line, mutator, commands)
+    }
+
+    // Whether there is such a mutator.
+    fn has_mutator(&self, mutator: u8) -> bool
+        ensures { IsTrue result ↔ (mutator < mutators_of self.now) }
+    {
+        mutator < self.mutators()
+    }
+
+    // How many mutators there are.
+    fn mutators(&self) -> u8
+        ensures { result ≡ mutators_of self.now }
+    {
+        match self {
+            Watch::Between(world) => world.mutators(),
+            Watch::Marking(running) => running.mutators(),
+            Watch::Ended(left) => left.world.mutators(),
+            Watch::Stopped => 0,
+        }
     }
 
     // Whether there was the stop.

@@ -27,6 +27,8 @@ TOLD = [
     ("trace 2\nmark\n", "line 2 can't stand there"),
     (HEAD + "0 num r64 5 = ok\n", "line 3 is none of a trace"),
     (HEAD + "0 num r1 4611686018427387904 = ok\n", "line 3 is none of a trace"),
+    (HEAD + "1 copy r0 0 r0 0 0 via r1 = ok\n", "line 3 can't happen: there is no such mutator or register"),
+    (HEAD + "1 fill r0 0 0 r1 = ok\n", "line 3 can't happen: there is no such mutator or register"),
     (HEAD + "0 copy r64 0 r0 0 1 via r1 = ok\n", "line 3 is none of a trace"),
     (HEAD + "0 copy r0 0 r0 0 1 via r64 = ok\n", "line 3 is none of a trace"),
     (HEAD + "0 fill r0 0 0 r64 = ok\n", "line 3 is none of a trace"),
