@@ -1,5 +1,6 @@
 pub mod Begins
 pub mod Going
+pub mod Judged
 pub mod Listed
 pub mod Lists
 pub mod Parts

@@ -1,11 +1,13 @@
 -- What each call of a sweeper does to its cycle.
-use Rattle.std.specs.Prelude.{ℕ, zero, suc, ◌≡◌, ◌+◌, ◌<◌, List, [], ◌∷◌, length}
+use Rattle.std.specs.Prelude.{ℕ, zero, suc, ◌≡◌, ◌↔◌, ◌+◌, ◌<◌, List, [], ◌∷◌, ◌++◌, length, Contains, Some}
 use Rattle.nmgc_graph.specs.declared.value.Name.{Name}
-use Rattle.nmgc_segment.specs.Segment.{InUse, block_count}
+use Rattle.nmgc_segment.specs.Segment.{Segment, InUse, block_count}
+use Rattle.nmgc_alloc.specs.Halves.{SweepsMany}
 use Rattle.nmgc_alloc.specs.Search.{nth}
 use Rattle.nmgc_alloc.specs.Segments.{Segments}
 use Rattle.nmgc_alloc.specs.AllocState.{AllocState, StandsFor, SweepsSome}
 use Rattle.nmgc_run.specs.Census.{IsKeptIn}
+use Rattle.nmgc_run.specs.Listing.{AreDistinct}
 use Rattle.nmgc_run.specs.Marks.{IsSweeping, AreSettled}
 use Rattle.nmgc_run.specs.Seen.{CycleSeen}
 use Rattle.nmgc_run.specs.State.{Cycle}
@@ -54,3 +56,34 @@ pub record HasSwept (old new : Segments) (names : List Name) (before after : Swe
   pub swept : after.seen.swept ≡ before.seen.swept
   pub sweeps : (c : Cycle) (closed : ℕ) (words : List ℕ) (a : AllocState) (cycle : CycleSeen) → AreNamed old.layout names a →
       IsAtWork c closed words a old cycle before → (b : AllocState) × SweepsSome (IsKeptIn c) count a b × IsAtWork c closed words b new cycle after
+
+-- the name that the array has for a block that passes, of one of these segments
+abbrev pub IsNameIn : (Segment → ℕ → Type 0) → Segments → List Name → List ℕ → Name → Type 0
+IsNameIn Passes segments names numbers name = (number : ℕ) × Contains numbers number × (block : ℕ) ×
+    (block < block_count (nth segments.segments number)) × Passes (nth segments.segments number) block ×
+    (named_at segments.layout names number (nth segments.segments number).class block ≡ Some name)
+
+-- a list grew by exactly these names
+pub record GrowsBy (IsOne : Name → Type 0) (old new : List Name) : Type 0 where
+  pub added : List Name
+  pub is : new ≡ old ++ added
+  pub exactly : (name : Name) → Contains added name ↔ IsOne name
+
+-- no two blocks in use of these segments have one name
+abbrev pub AreNamedOnce : Segments → List Name → List ℕ → Type 0
+AreNamedOnce segments names numbers = (i j a b : ℕ) (name : Name) → Contains numbers i → Contains numbers j →
+    InUse (nth segments.segments i) a → InUse (nth segments.segments j) b →
+    named_at segments.layout names i (nth segments.segments i).class a ≡ Some name →
+    named_at segments.layout names j (nth segments.segments j).class b ≡ Some name → (i ≡ j) × (a ≡ b)
+
+-- whatever the marks are, the first so many segments of those that were left were swept by the epoch: what was in use
+-- in them was listed as had, and as freed exactly what wasn't marked with the epoch, each once where no two blocks have
+-- one name; they are as so many sweeps leave them
+pub record HasJudged (old new : Segments) (names : List Name) (before after : Sweeper) (count : ℕ) : Type 0 where
+  pub numbers : List ℕ
+  pub many : length numbers ≡ count
+  pub left : before.left ≡ numbers ++ after.left
+  pub had : GrowsBy (IsNameIn InUse old names numbers) before.seen.had after.seen.had
+  pub freed : GrowsBy (IsNameIn (λ segment. IsLost segment before.seen.epoch) old names numbers) before.seen.freed after.seen.freed
+  pub once : AreNamedOnce old names numbers → AreDistinct had.added × AreDistinct freed.added
+  pub swept : SweepsMany before.seen.epoch count old new

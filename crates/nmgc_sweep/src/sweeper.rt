@@ -21,7 +21,7 @@ ghost use Rattle.nmgc_run.specs.Listing.{ListsNumbers};
 ghost use Rattle.nmgc_round.specs.Gate.{passed};
 ghost use Rattle.nmgc_sweep.specs.Names.{HaveEntries};
 ghost use Rattle.nmgc_sweep.specs.Sweeper.{AreLeft, CanList};
-ghost use Rattle.nmgc_sweep.specs.Work.{HasBegun, HaveListed, HasSwept};
+ghost use Rattle.nmgc_sweep.specs.Work.{HasBegun, HaveListed, HasSwept, HasJudged};
 
 use crate::listing::{Lists, are_many, list_all};
 use crate::names::Names;
@@ -120,8 +120,8 @@ fn counted(turns: u64, passes: u32) -> u64
 
 impl Sweeper {
     /// Notes, as a cycle begins, the segments to be swept, and makes room for their names and for those that will be
-    /// freed: the only memory that a sweeper takes. `Segments::prepare` was just called. `turns` and `upper_turns` are 0
-    /// then. Takes time for the number of segments.
+    /// freed, and where they are many for half of these once more: the only memory that a sweeper takes.
+    /// `Segments::prepare` was just called. `turns` and `upper_turns` are 0 then. Takes time for the number of segments.
     pub fn start(alloc: Global, segments: &Segments, epoch: u8) -> Result<Sweeper, NoMemory>
         requires epoch { IsEpoch epoch }
         ensures begun { IfOk result (λ sweeper. HasBegun segments.now epoch sweeper) }
@@ -238,6 +238,7 @@ impl Sweeper {
         requires entries { HaveEntries segments.old.layout names.now }
         requires before { (half i : ℕ) → IsInHalf (min quota (length self.old.left)) half i → F.pre before.now half i }
         ensures swept { HasSwept segments.old segments.new names.now self.old self.new result }
+        ensures judged { HasJudged segments.old segments.new names.now self.old self.new result }
         ensures many { result ≡ min quota (length self.old.left) }
         ensures turns { (self.new.turns ≡ self.old.turns) × (self.new.upper_turns ≡ self.old.upper_turns) }
     {
@@ -250,7 +251,8 @@ impl Sweeper {
     /// halves, each in a thread of its own; one segment alone starts no thread. The gate is passed before each, as
     /// `MAKERS` in the lower half, which has one segment more where they are odd, and as `MAKERS + 1` in the upper one;
     /// the clauses `turns` and `upper_turns` tell the counts. Where `names` has the names in blocks, what was in these
-    /// segments is listed before, and what is freed of it; of many segments in two halves, too.
+    /// segments is listed before, and what is freed of it; of many segments in two halves, too. Whatever the marks are,
+    /// freed are exactly the names of the blocks in use that aren't marked with the epoch.
     ///
     /// `swept` is the lesser of `quota` and the number of those that waited. `finished` is false exactly where one
     /// is left. The segments that wait are exactly those that this sweeper noted and hasn't swept. Takes no
@@ -266,6 +268,7 @@ impl Sweeper {
         requires left { AreLeft segments.old self.old }
         requires entries { HaveEntries segments.old.layout names.now }
         ensures swept { HasSwept segments.old segments.new names.now self.old self.new result.swept }
+        ensures judged { HasJudged segments.old segments.new names.now self.old self.new result.swept }
         ensures turns { self.new.turns ≡ passed self.old.turns (result.swept - result.swept / 2) }
         ensures upper_turns { self.new.upper_turns ≡ passed self.old.upper_turns (result.swept / 2) }
         ensures many { result.swept ≡ min quota (length self.old.left) }
@@ -298,6 +301,7 @@ impl Sweeper {
         requires left { AreLeft segments.old self.old }
         requires entries { HaveEntries segments.old.layout names.now }
         ensures swept { HasSwept segments.old segments.new names.now self.old self.new (length self.old.left) }
+        ensures judged { HasJudged segments.old segments.new names.now self.old self.new (length self.old.left) }
         ensures turns { (self.new.turns ≡ self.old.turns) × (self.new.upper_turns ≡ self.old.upper_turns) }
         ensures finished { self.new.left ≡ [] }
     {

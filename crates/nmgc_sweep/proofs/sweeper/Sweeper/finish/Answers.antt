@@ -1,5 +1,5 @@
 use Rattle.std.proofs.Common.{ℕ, ◌≡◌, length, subst, arith}
-use Rattle.nmgc_sweep.specs.Work.{HasSwept}
+use Rattle.nmgc_sweep.specs.Work.{HasSwept, HasJudged}
 use Rattle.nmgc_sweep.proofs.Begins.{counted}
 use Rattle.nmgc_sweep.proofs.Steps.{is_none}
 use Rattle.nmgc_sweep.proofs.sweeper.Sweeper.finish.Goals as goal
@@ -13,6 +13,16 @@ returns-clause-swept g c =
     let same : c.sweep_some.result ≡ length left = omega (arith, all, waiting, many) in
     subst (λ (k : ℕ). HasSwept c.args.segments.now c.sweep_some.new.segments c.args.names.now c.args.self.now c.sweep_some.new.self k) same
     c.sweep_some.ensures.swept
+
+pub returns-clause-judged : goal.returns-clause-judged
+returns-clause-judged g c =
+    let left = c.args.self.now.left in
+    let all = counted c.args.segments.now left c.args.segments.now.segments c.requires.left.numbers in
+    let waiting = c.sweep_count-waiting.ensures in
+    let many = c.sweep_some.ensures.many in
+    let same : c.sweep_some.result ≡ length left = omega (arith, all, waiting, many) in
+    subst (λ (k : ℕ). HasJudged c.args.segments.now c.sweep_some.new.segments c.args.names.now c.args.self.now c.sweep_some.new.self k) same
+    c.sweep_some.ensures.judged
 
 pub returns-clause-finished : goal.returns-clause-finished
 returns-clause-finished g c =

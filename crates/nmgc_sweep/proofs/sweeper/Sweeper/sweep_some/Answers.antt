@@ -3,8 +3,9 @@ use Rattle.std.specs.Prelude.{min}
 use Rattle.nmgc_segment.specs.Marks.{IsEpoch}
 use Rattle.nmgc_alloc.specs.Halves.{IsInHalf, SweepsMany}
 use Rattle.nmgc_sweep.specs.Sweeper.{Sweeper}
-use Rattle.nmgc_sweep.specs.Work.{HasSwept}
+use Rattle.nmgc_sweep.specs.Work.{HasSwept, HasJudged}
 use Rattle.nmgc_sweep.proofs.Begins.{counted}
+use Rattle.nmgc_sweep.proofs.Judged.{judged}
 use Rattle.nmgc_sweep.proofs.Steps.{all_swept, can_list, listed_keeps}
 use Rattle.nmgc_sweep.proofs.sweeper.Sweeper.sweep_some.Goals as goal
 
@@ -59,3 +60,21 @@ pub returns-clause-turns : goal.returns-clause-turns
 returns-clause-turns g c =
     let kept = listed_keeps c.args.segments.now c.args.names.now c.min-count.result c.args.self.now c.list_first.new.self c.list_first.ensures in
     (kept.1, kept.2)
+
+pub returns-clause-judged : goal.returns-clause-judged
+returns-clause-judged g c =
+    let old = c.args.segments.now in
+    let new = c.sweep_many.new.self in
+    let x : Sweeper = c.args.self.now in
+    let y : Sweeper = c.list_first.new.self in
+    let count = c.min-count.result in
+    let all = counted old x.left old.segments c.requires.left.numbers in
+    let waiting = c.sweep_count.ensures in
+    let least = c.min-count.ensures in
+    let many = c.sweep_many.ensures.count in
+    let same : c.sweep_many.result ≡ count = omega (arith, all, waiting, least, many) in
+    let epoch : c.self.inside.epoch ≡ x.seen.epoch = ap (λ (s : Sweeper). s.seen.epoch) c.self.view_is ∙
+    (listed_keeps old c.args.names.now count x y c.list_first.ensures).0 in
+    let swept : SweepsMany x.seen.epoch count old new = subst (λ (k : ℕ).
+    SweepsMany k count old new) epoch (subst (λ (k : ℕ). SweepsMany c.self.inside.epoch k old new) same c.sweep_many.ensures.swept) in
+    subst (λ (k : ℕ). HasJudged old new c.args.names.now x y k) (sym same) (judged old new c.args.names.now count x y c.requires.left c.list_first.ensures swept)

@@ -1,7 +1,8 @@
 use Rattle.std.proofs.Common.{ℕ, ◌≡◌, ◌-◌, ◌/◌, ◌∙◌, ap, sym, subst}
 use Rattle.nmgc_round.specs.Gate.{passed}
 use Rattle.nmgc_sweep.specs.Sweeper.{Sweeper}
-use Rattle.nmgc_sweep.specs.Work.{HasSwept}
+use Rattle.nmgc_sweep.specs.Work.{HasSwept, HasJudged}
+use Rattle.nmgc_sweep.proofs.Judged.{judged_counted}
 use Rattle.nmgc_sweep.proofs.Steps.{swept_counted}
 use Rattle.nmgc_sweep.proofs.sweeper.Sweeper.work.Goals as goal
 
@@ -16,6 +17,19 @@ returns-clause-swept g c =
       upper_turns = upper;
     }) c.sweep_some-swept.result) (sym c.self-2.view_is)
     (swept_counted old new c.args.names.now c.args.self.now c.sweep_some-swept.new.self turns upper c.sweep_some-swept.result c.sweep_some-swept.ensures.swept)
+
+pub returns-clause-judged : goal.returns-clause-judged
+returns-clause-judged g c =
+    let old = c.args.segments.now in
+    let new = c.sweep_some-swept.new.segments in
+    let turns = c.counted-self-inside.result in
+    let upper = c.counted-self-inside-2.result in
+    subst (λ (s : Sweeper). HasJudged old new c.args.names.now c.args.self.now (record s {
+      turns = turns;
+      upper_turns = upper;
+    }) c.sweep_some-swept.result) (sym c.self-2.view_is)
+    (judged_counted old new c.args.names.now c.args.self.now c.sweep_some-swept.new.self turns upper
+    c.sweep_some-swept.result c.sweep_some-swept.ensures.judged)
 
 pub returns-clause-turns : goal.returns-clause-turns
 returns-clause-turns g c =
