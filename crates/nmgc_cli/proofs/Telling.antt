@@ -191,7 +191,9 @@ taken_within bytes (Some left) n h = omega (arith, ap length h.1, length-append 
 -- what is told of a run that ended so
 of_end : (end : End) (script : Script) (report : Report) → report.end ≡ end → IsRunOf script report → IsRunThrough script (status_of end) (Some report)
 of_end end.Done script report e run = inr (inl refl)
-of_end (end.HeapFull free reserve) script report e run = inr (inr (refl, (run, subst IsHeapFull (sym e) tt)))
+of_end (end.HeapFull free reserve) script report e run =
+    let full : IsHeapFull report.end = subst IsHeapFull (sym e) tt in
+    inr (inr (refl, (run, full, λ r. (r.full.0 full, r.crowded full))))
 
 of_run : (bytes : List ℕ) (script : Script) (new : Option (List ℕ)) (rose : Type 0) (report : Report) → Spells bytes script →
     AnswersScript IsRan (Some bytes) new rose (Ok report) → IsRunThrough script (status_of report.end) (Some report)

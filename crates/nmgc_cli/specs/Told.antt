@@ -28,7 +28,7 @@ use Rattle.nmgc_cli.specs.Marks.{IsMarksOf, IsMarksText}
 use Rattle.nmgc_journal.specs.Text.{report_text}
 use Rattle.nmgc_journal.specs.Summary.{summary_text}
 use Rattle.nmgc_script.specs.Bench.{bench_script}
-use Rattle.nmgc_run.specs.Crowded.{IsRunOf, IsHeapFull}
+use Rattle.nmgc_run.specs.Crowded.{IsRunOf, IsHeapFull, IsFullRun}
 use Rattle.nmgc_cli.specs.Runs.{IsRan}
 use Rattle.nmgc_cli.specs.Status.{status_of}
 use Rattle.nmgc_cli.specs.Task.{Asks, IsWrong, IsReading, IsRunning}
@@ -225,10 +225,10 @@ IsPath words left left' taken taken' status report = (name : Name) → Asks word
     × (status ≡ Done → (bytes : List ℕ) × IsReadWithin MAX_IMAGE_BYTES left left' bytes × (image : shown.Image) × spelling.Spells bytes image ×
     (answer : Retained) × IsCertified image name answer × Appends taken taken' (retained_text answer))
 
--- the report tells a run that ended as heap full, by the cause that `IsRunOf` tells
+-- the report tells a run that ended as heap full, and so did each that it tells by the cause of that end: also the one that `IsReport` has
 abbrev pub IsFullOf : Script → Option Report → Type 0
 IsFullOf script None = ⊥
-IsFullOf script (Some report) = IsRunOf script report × IsHeapFull report.end
+IsFullOf script (Some report) = IsRunOf script report × IsHeapFull report.end × ((run : IsRunOf script report) → IsFullRun script report run)
 
 -- a script is run to its end, or until even a full cycle leaves too few segments free; or there was no memory
 abbrev pub IsRunThrough : Script → Status → Option Report → Type 0

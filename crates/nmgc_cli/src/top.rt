@@ -59,7 +59,8 @@ pub fn nmgc<R: Threads + Sync, S: Source, K: Sink>(
         result.report }
     // For wrong words and for a bench nothing is read.
     ensures unread { ReadsNothing (map string_bytes words.now) → source.new ≡ source.old }
-    // A script within the limit is run to its end where there is no fault, unless the heap or memory ran out.
+    // A script within the limit is run to its end where there is no fault, unless memory ran out or the run that `report`
+    // tells left the heap full by its cause.
     ensures complete { IsComplete (map string_bytes words.now) (S.left source.old) (Rose (S.faults source.old) (S.faults source.new))
         (Rose (K.faults sink.old) (K.faults sink.new)) result.status result.report }
     // A script within the limit is upgraded where there is no fault, unless memory ran out.
@@ -68,7 +69,7 @@ pub fn nmgc<R: Threads + Sync, S: Source, K: Sink>(
     // A path is found in an image within the limit where there is no fault, unless memory ran out.
     ensures retain { IsRetainComplete (map string_bytes words.now) (S.left source.old) (Rose (S.faults source.old) (S.faults source.new))
         (Rose (K.faults sink.old) (K.faults sink.new)) result.status }
-    // A bench is run to its end as a script is; it has no source that could fail.
+    // A bench is run to its end as a script is, and its run is that of `report` too; it has no source that could fail.
     ensures bench { IsBenchComplete (map string_bytes words.now) (Rose (K.faults sink.old) (K.faults sink.new)) result.status result.report }
 {
     let Told {

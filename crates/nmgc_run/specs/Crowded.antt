@@ -80,6 +80,12 @@ pub record IsRunOf (script : Script) (report : Report) : Type 0 where
   pub kept : IsHeapFull report.end → script.config.segments < kept_count report.cycles + reserve_of (plan_of script)
   pub crowded : IsHeapFull report.end → IsCrowded (plan_of script) (last_stop (plan_of script) lawful.run lawful.is_run)
 
--- every lawful report of a script within the limits is one of its run
+-- a run of a report left the heap full by its cause: its last stop did a full cycle, left fewer segments free than the reserve, and is crowded
+abbrev pub IsFullRun : (script : Script) (report : Report) → IsRunOf script report → Type 0
+IsFullRun script report run = LeavesHeapFull (plan_of script) (last_stop (plan_of script) run.lawful.run run.lawful.is_run) ×
+    IsCrowded (plan_of script) (last_stop (plan_of script) run.lawful.run run.lawful.is_run)
+
+-- every lawful report of a script within the limits is one of its run, and that run is the one for which it is lawful
 abbrev pub LawfulAreOfRuns : Type 0
-LawfulAreOfRuns = (script : Script) (report : Report) → FitsScript script → HasFewCommands script → IsLawful script report → IsRunOf script report
+LawfulAreOfRuns = (script : Script) (report : Report) → FitsScript script → HasFewCommands script → (lawful : IsLawful script report) →
+    (run : IsRunOf script report) × (run.lawful ≡ lawful)

@@ -155,8 +155,8 @@ pub fn limits_stay()
     ensures rounds { RoundsAreWithin }
 {}
 
-/// Every lawful report of a script within the limits is one of its run: it ends as heap full exactly where
-/// its last stop leaves the heap full, and then that stop is crowded.
+/// Every lawful report of a script within the limits is one of its run, and that run is the one for which it is lawful:
+/// it ends as heap full exactly where the run's last stop leaves the heap full, and then that stop is crowded.
 pub fn lawful_are_of_runs()
     ensures { LawfulAreOfRuns }
 {}

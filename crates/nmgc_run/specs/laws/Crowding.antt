@@ -15,7 +15,7 @@ use Rattle.nmgc_limits.specs.Limits.{most_script_bytes}
 use Rattle.nmgc_script.specs.Limits.{FitsScript, HasFewCommands}
 use Rattle.nmgc_script.specs.declared.script.Script.{Script}
 use Rattle.nmgc_run.specs.Census.{IsKeptIn}
-use Rattle.nmgc_run.specs.Crowded.{StopInRun, opening_stop, next_stop, last_after, last_stop, IsKeptOf, IsCrowded, LeavesHeapFull, IsHeapFull, LawfulAreOfRuns}
+use Rattle.nmgc_run.specs.Crowded.{StopInRun, opening_stop, next_stop, last_after, last_stop, IsKeptOf, IsCrowded, LeavesHeapFull, IsHeapFull, IsRunOf, LawfulAreOfRuns}
 use Rattle.nmgc_run.specs.Lawful.{IsLawfulFor}
 use Rattle.nmgc_run.specs.Listing.{Counts}
 use Rattle.nmgc_run.specs.Run.{Run, Turn, IsRun, AreTurns, state_after, last_state}
@@ -169,7 +169,7 @@ few_in_each script few m = elim (cases_lt m (length script.threads)) [
 pub runnable_of : (script : Script) → FitsScript script → HasFewCommands script → IsRunnable (plan_of script)
 runnable_of script fits few = (scripts_have_good_plans script fits).runnable (λ m. let short = few_in_each script few m in omega (arith, short))
 
--- a lawful report of a script within the limits is one of its run
+-- a lawful report of a script within the limits is one of its run, the one for which it is lawful
 pub lawful_are_of_runs : LawfulAreOfRuns
 lawful_are_of_runs script report fits few lawful =
     let plan : Plan = plan_of script in
@@ -179,7 +179,7 @@ lawful_are_of_runs script report fits few lawful =
     let claim : Claim plan (last_stop plan run lawful.is_run) = run_claim plan run lawful.is_run runnable in
     let short : IsHeapFull report.end → is_short plan (last_stop plan run lawful.is_run).stop.state ≡ true = λ full.
     ap (λ (s : State). is_short plan s) last ∙ end_short plan (last_state run) report.end lawful.end_is full in
-    record {
+    let of_run : IsRunOf script report = record {
       lawful = lawful;
       full = (
         λ full. (claim (short full)).0,
@@ -188,4 +188,5 @@ lawful_are_of_runs script report fits few lawful =
       );
       kept = λ full. kept_many plan report report.end lawful runnable lawful.end_is full;
       crowded = λ full. (claim (short full)).1;
-    }
+    } in
+    (of_run, refl)

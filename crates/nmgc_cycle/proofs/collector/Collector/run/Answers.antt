@@ -28,10 +28,10 @@ pub returns-in-Done : goal.returns-in-Done
 returns-in-Done g c =
     let lawful = c.into_report.ensures.told c.args.script.now
     (subst (HasAnswered c.args.script.now c.stop.new.self) c.in-Done.is c.in_ok-stop.ensures.answered) in
-    lawful_are_of_runs c.args.script.now c.into_report.result c.requires.fits c.requires.few lawful
+    (lawful_are_of_runs c.args.script.now c.into_report.result c.requires.fits c.requires.few lawful).0
 
 pub returns-in-HeapFull : goal.returns-in-HeapFull
 returns-in-HeapFull g c =
     let lawful = c.into_report-in-HeapFull.ensures.told c.args.script.now
     (subst (HasAnswered c.args.script.now c.stop.new.self) c.in-HeapFull.is c.in_ok-stop.ensures.answered) in
-    lawful_are_of_runs c.args.script.now c.into_report-in-HeapFull.result c.requires.fits c.requires.few lawful
+    (lawful_are_of_runs c.args.script.now c.into_report-in-HeapFull.result c.requires.fits c.requires.few lawful).0
