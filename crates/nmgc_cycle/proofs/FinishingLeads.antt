@@ -31,7 +31,7 @@ use Rattle.nmgc_reach.specs.laws.Deaths.{closed_world, closed_names, closed_muta
 use Rattle.nmgc_reach.specs.laws.ItemLaws.{nothing_in}
 use Rattle.nmgc_round.specs.View.{Opening}
 use Rattle.nmgc_run.specs.Census.{IsKeptObject}
-use Rattle.nmgc_run.specs.Closing.{Closes, ClosesNow}
+use Rattle.nmgc_run.specs.Closing.{Closes, ClosesNow, IsForcedSoon, IsSoon}
 use Rattle.nmgc_run.specs.Collector.{AreNurseries, EachMutator, IsAtRest, IsMarking, IsPacedAtStop}
 use Rattle.nmgc_run.specs.Heap.{HoldsAtStop}
 use Rattle.nmgc_run.specs.Listing.{Counts}
@@ -63,6 +63,7 @@ use Rattle.nmgc_cycle.specs.Keeps.{IsWellFormed}
 use Rattle.nmgc_cycle.specs.Roots.{queues_in}
 use Rattle.nmgc_cycle.specs.Shown.{died, phase_in, seen, seen_mutator, words_in}
 use Rattle.nmgc_cycle.specs.Steps.{StandsAt, IsPacedWithin, FinishingLeads}
+use Rattle.nmgc_cycle.proofs.Pacing.{forced_soon}
 use Rattle.nmgc_cycle.proofs.Queued.{AreWith, are_with, new_queues, old_queues, one_with, same_nurseries, same_registers, same_serials, same_whole}
 use Rattle.nmgc_cycle.proofs.StepReady.{StandsInPace, marks, rests_there}
 use Rattle.nmgc_cycle.specs.Lined.{IsLined}
@@ -431,27 +432,44 @@ finishing_leads laws script old new s k m w limits h is at none_left progress cl
     let more = marks_more P laws script old new s k m w h is at progress closing.rest closing.has_words cl in
     (there.0, there.1, paced.closes none_left cl.marker.marked more counted, there.2)
 
--- a closing whatever the bounds needs no pace
+-- a closing whatever is left to scan isn't too late, by the pace
 module _ (laws : ClosingLaws) (script : Script) (old new : Collector) (s : State) (h : StandsAt script old s)
     (closing : HasClosed ClosesNowBy s.number old new) where
   abbrev Leads : Type 0
-  Leads = (t : State) × ClosesNow s.progress s t × StandsAt script new t
+  Leads = (t : State) × ClosesNow s.progress s t × StandsAt script new t × IsForcedSoon script.config.quota s.progress s.number
 
-  stays : (q : Progress) → s.progress ≡ q → ClosesNow q s s → new ≡ old → Leads
-  stays q is closes same = (s, subst (λ (x : Progress). ClosesNow x s s) (sym is) closes, subst (λ (x : Collector). StandsAt script x s) (sym same) h)
+  stays : (q : Progress) → s.progress ≡ q → ClosesNow q s s → IsForcedSoon script.config.quota q s.number → new ≡ old → Leads
+  stays q is closes soon same = (
+    s,
+    subst (λ (x : Progress). ClosesNow x s s) (sym is) closes,
+    subst (λ (x : Collector). StandsAt script x s) (sym same) h,
+    subst (λ (x : Progress). IsForcedSoon script.config.quota x s.number) (sym is) soon,
+  )
 
   by_case : (p : Doing) (q : Progress) → old.progress ≡ p → s.progress ≡ q → phase_in p ≡ phase_of q → ClosesNowBy s.number p old new → Leads
-  by_case doing.Idle idle at is e step = stays idle is refl step
+  by_case doing.Idle idle at is e step = stays idle is refl tt step
   by_case doing.Idle (marking k) at is e step = absurd (let bad : phase.Idle ≡ phase.Marking = e in cc)
   by_case doing.Idle (sweeping k since) at is e step = absurd (let bad : phase.Idle ≡ phase.Sweeping = e in cc)
   by_case (doing.Marking m) idle at is e step = absurd (let bad : phase.Marking ≡ phase.Idle = e in cc)
   by_case (doing.Marking m) (marking k) at is e step =
-      let t = closes_there (IsPacedAtStop script.config.quota) laws script old new s k m step.0 h is at step.1 closing.rest closing.has_words step.2 in
-      (t.0, subst (λ (q : Progress). ClosesNow q s t.0) (sym is) t.1, t.2)
+      let P : Cycle → State → Seen → Type 0 = IsPacedAtStop script.config.quota in
+      let t = closes_there P laws script old new s k m step.0 h is at step.1 closing.rest closing.has_words step.2 in
+      let paced : IsPacedAtStop script.config.quota k (record s { progress = marking k }) (seen (record old { progress = doing.Marking m })) =
+      paced_there P laws script old new s k m step.0 h is at step.1 closing.rest closing.has_words step.2 in
+      let counted = counts_kept P laws script old new s k m step.0 h is at step.1 closing.rest closing.has_words step.2 in
+      let more = marks_more P laws script old new s k m step.0 h is at step.1 closing.rest closing.has_words step.2 in
+      let soon : IsSoon script.config.quota k s.number =
+      forced_soon script.config.quota k (record s { progress = marking k }) (seen (record old { progress = doing.Marking m })) step.2.marker.marked
+      paced more counted in (
+        t.0,
+        subst (λ (q : Progress). ClosesNow q s t.0) (sym is) t.1,
+        t.2,
+        subst (λ (q : Progress). IsForcedSoon script.config.quota q s.number) (sym is) soon,
+      )
   by_case (doing.Marking m) (sweeping k since) at is e step = absurd (let bad : phase.Marking ≡ phase.Sweeping = e in cc)
   by_case (doing.Sweeping w) idle at is e step = absurd (let bad : phase.Sweeping ≡ phase.Idle = e in cc)
   by_case (doing.Sweeping w) (marking k) at is e step = absurd (let bad : phase.Sweeping ≡ phase.Marking = e in cc)
-  by_case (doing.Sweeping w) (sweeping k since) at is e step = stays (sweeping k since) is refl step
+  by_case (doing.Sweeping w) (sweeping k since) at is e step = stays (sweeping k since) is refl tt step
 
 pub finishing_now_leads : ClosingLaws → FinishingNowLeads
 finishing_now_leads laws script old new s limits h closing =

@@ -138,6 +138,7 @@ finish_leads closing sweeping_rest ending script old new s limits h f =
       last.3 ∙ ap (λ (rows : List CycleRow). rows ++ last.1) before,
       last.4,
       finished_idle s.number old new f,
+      first.3,
     )
 
 -- The whole full cycle
@@ -192,6 +193,7 @@ full_leads finish filing starting script old new s limits h d =
         collect = false;
         full = false;
       }) refl (refl {a = record again.0 { collect = false; full = false }}) refl refl again.4),
+      first.6,
     )
 
 -- Where one is due
@@ -216,7 +218,7 @@ module _ (script : Script) (c : Collector) (s : State) (left : Bool) (h : Stands
 pub proceeding_leads : FullLeads → BeginningLeads → ProceedingLeads
 proceeding_leads whole beginning script old new s left limits h left_is (inl x) =
     let there = whole script old new s limits h x.1 in
-    (there.0, there.1, inl (full_due script old s left h left_is x.0, there.2), there.3, there.4)
+    (there.0, there.1, inl (full_due script old s left h left_is x.0, there.2, there.5), there.3, there.4)
 proceeding_leads whole beginning script old new s left limits h left_is (inr x) =
     let there = beginning script old new s limits h x.1 in (
       there.0,

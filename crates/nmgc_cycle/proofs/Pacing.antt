@@ -1,13 +1,16 @@
 -- The pace of marking within a stop.
-use Rattle.std.proofs.Common.{ℕ, ◌≡◌, ◌+◌, ◌≤◌, List, sym, ap, ◌∙◌, arith}
+use Rattle.std.proofs.Common.{ℕ, suc, ◌≡◌, ◌≢◌, ◌+◌, ◌-◌, ◌*◌, ◌<◌, ◌≤◌, List, [], ◌∷◌, length, refl, sym, ap, ◌∙◌, arith, inl, inr}
+use Rattle.std.proofs.lemmas.Bool.{cases_lt}
 use Rattle.nmgc_alloc.specs.AllocState.{AllocState}
 use Rattle.nmgc_beside.specs.Closes.{ClosingIsSoon, ClosingIsPaced}
 use Rattle.nmgc_beside.specs.Keeps.{PaceAtStop, Scans}
 use Rattle.nmgc_core.specs.State.{State as Core}
 use Rattle.nmgc_reach.specs.Reachable.{IsSound}
 use Rattle.nmgc_heap.specs.Places.{Place}
-use Rattle.nmgc_run.specs.Census.{interval_of}
-use Rattle.nmgc_run.specs.Collector.{IsPacedAfterRound}
+use Rattle.nmgc_run.specs.Census.{IsKeptObject, interval_of}
+use Rattle.nmgc_run.specs.Closing.{IsSoon}
+use Rattle.nmgc_run.specs.Collector.{IsPacedAfterRound, IsPacedAtStop}
+use Rattle.nmgc_run.specs.Listing.{Counts}
 use Rattle.nmgc_run.specs.Marker.{IsCoreOf, IsTied}
 use Rattle.nmgc_run.specs.Seen.{Seen, WorkSeen}
 use Rattle.nmgc_run.specs.State.{State, Cycle}
@@ -25,3 +28,26 @@ paced_within soon paced at_stop quota c t old new allocation places core sound i
     paced quota c t old allocation places core sound is_core tied after pace (sym (ap (λ (w : WorkSeen). w.empty) same) ∙ none),
   );
 }
+
+-- one round more
+one_more : (n from quota : ℕ) → from < n → (n - from - 1) * quota + quota ≡ (n - from) * quota
+one_more n from quota lt =
+    let k : ℕ = n - from - 1 in
+    let next : n - from ≡ suc k = omega (arith, lt) in
+    sym (ap (λ (j : ℕ). j * quota) next ∙ (omega arith))
+
+some_wait : (queue : List ℕ) → queue ≢ [] → 1 ≤ length queue
+some_wait [] some = absurd (some refl)
+some_wait (at ∷ queue) some = omega arith
+
+-- a closing by force isn't too late: each round since the snapshot scanned its quota, and something waits still
+pub forced_soon : (quota : ℕ) (c : Cycle) (s : State) (seen : Seen) (kept : ℕ) → IsPacedAtStop quota c s seen → seen.marker.marked ≤ kept →
+    Counts (IsKeptObject c) kept → IsSoon quota c s.number
+forced_soon quota c s seen kept paced more counts = elim (cases_lt c.from s.number) [
+  | inr first ↦ inl (omega (arith, first))
+  | inl later ↦
+      let scanned = paced.scanned in
+      let rounds = one_more s.number c.from quota later in
+      let waits = some_wait seen.marker.queue (paced.not_done later) in
+      inr (kept, counts, omega (arith, scanned, rounds, waits, more))
+]

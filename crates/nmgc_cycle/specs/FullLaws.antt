@@ -22,21 +22,22 @@ use Rattle.nmgc_cycle.specs.Steps.{StandsAt}
 abbrev pub StandsAtStop : ℕ → Collector → Type 0
 StandsAtStop stop c = (script : Script) × (s : State) × IsInLimits script × (s.number ≡ stop) × StandsAt script c s
 
--- a closing that a full cycle forces has no bounds
+-- a closing that a full cycle forces closes the cycle, whatever is left to scan, and not too late
 abbrev pub FinishingNowLeads : Type 0
 FinishingNowLeads = (script : Script) (old new : Collector) (s : State) → IsInLimits script → StandsAt script old s →
-    HasClosed ClosesNow s.number old new → (t : State) × run_closing.ClosesNow s.progress s t × StandsAt script new t
+    HasClosed ClosesNow s.number old new → (t : State) × run_closing.ClosesNow s.progress s t × StandsAt script new t ×
+    run_closing.IsForcedSoon script.config.quota s.progress s.number
 
 -- what waits is swept
 abbrev pub SweepingRestLeads : Type 0
 SweepingRestLeads = (script : Script) (old new : Collector) (s : State) → IsInLimits script → StandsAt script old s → HasSweptRest old new →
     (b : AllocState) × run_sweep.SweepsRest s.progress s.allocation b × StandsAt script new (record s { allocation = b })
 
--- so a cycle in progress is finished, and then none is in progress
+-- so a cycle in progress is finished, not too late, and then none is in progress
 abbrev pub FinishLeads : Type 0
 FinishLeads = (script : Script) (old new : Collector) (s : State) → IsInLimits script → StandsAt script old s → HasFinished s.number old new →
     (t : State) × (rows : List CycleRow) × run.Finishes s t rows × (told_cycles new ≡ told_cycles old ++ rows) × StandsAt script new t ×
-    (new.progress ≡ doing.Idle)
+    (new.progress ≡ doing.Idle) × run_closing.IsForcedSoon script.config.quota s.progress s.number
 
 -- segments that are filed stand for the state with them filed
 abbrev pub FilingLeads : Type 0
@@ -46,7 +47,8 @@ FilingLeads = (script : Script) (c : Collector) (s : State) → IsInLimits scrip
 -- the whole full cycle
 abbrev pub FullLeads : Type 0
 FullLeads = (script : Script) (old new : Collector) (s : State) → IsInLimits script → StandsAt script old s → HasDoneFull s.number old new →
-    (t : State) × (rows : List CycleRow) × run.DoesFullCycle s t rows × (told_cycles new ≡ told_cycles old ++ rows) × StandsAt script new t
+    (t : State) × (rows : List CycleRow) × run.DoesFullCycle s t rows × (told_cycles new ≡ told_cycles old ++ rows) × StandsAt script new t ×
+    run_closing.IsForcedSoon script.config.quota s.progress s.number
 
 -- the stop goes on as the run does
 abbrev pub ProceedingLeads : Type 0

@@ -412,6 +412,7 @@ cycle_is_told = record {
                 told = refl;
                 rest = refl;
               },
+              tt,
             );
             told = refl;
             shown = refl;

@@ -2,7 +2,8 @@
 --
 -- The marker decides when it has nothing left to scan, so a run has a choice here, within two bounds:
 -- a closing comes as soon as that many scans could have marked all that is kept, and not before that
--- many could have marked what the snapshot's roots reach.
+-- many could have marked what the snapshot's roots reach. A closing that a full cycle forces keeps the first bound
+-- alone: it may come before the marker has nothing left.
 use Rattle.std.specs.Prelude.{ℕ, ◌≡◌, ◌≢◌, ◌⊎◌, ◌+◌, ◌-◌, ◌*◌, ◌<◌, ◌≤◌, List, [], ◌∷◌, ◌++◌}
 use Rattle.nmgc_graph.specs.declared.value.Name.{Name}
 use Rattle.nmgc_graph.specs.World.{World}
@@ -48,7 +49,12 @@ abbrev pub ClosesOrWaits : ℕ → Progress → State → State → Type 0
 ClosesOrWaits quota (marking c) s t = (t ≡ s) ⊎ (Closes c s t × MayClose quota c s.number)
 ClosesOrWaits quota _ s t = t ≡ s
 
--- a cycle that is marking is closed, whatever the bounds: so a full cycle closes the one in progress
+-- a cycle that is marking is closed, whatever is left to scan: so a full cycle closes the one in progress
 abbrev pub ClosesNow : Progress → State → State → Type 0
 ClosesNow (marking c) s t = Closes c s t
 ClosesNow _ s t = t ≡ s
+
+-- a cycle that is marking at this stop isn't closed too late there: so it is where a full cycle closes it
+abbrev pub IsForcedSoon : ℕ → Progress → ℕ → Type 0
+IsForcedSoon quota (marking c) number = IsSoon quota c number
+IsForcedSoon quota _ number = Unit {0}

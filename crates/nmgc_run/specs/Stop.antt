@@ -11,7 +11,7 @@ use Rattle.nmgc_journal.specs.declared.report.End.TheVariants.{Done, HeapFull}
 use Rattle.nmgc_run.specs.Slice.{has_left}
 use Rattle.nmgc_run.specs.State.{Plan, State, Cycle, Progress, idle, sweeping, phase_of, is_idle, free_count, waiting_count, layout_of, reserve_of, cycle_started}
 use Rattle.nmgc_run.specs.Promotion.{Promotes}
-use Rattle.nmgc_run.specs.Closing.{ClosesOrWaits, ClosesNow}
+use Rattle.nmgc_run.specs.Closing.{ClosesOrWaits, ClosesNow, IsForcedSoon}
 use Rattle.nmgc_run.specs.Sweep.{SweepsRest}
 use Rattle.nmgc_run.specs.Census.{IsCensus}
 
@@ -71,9 +71,10 @@ IsCycleDue config s = (is_idle s.progress ≡ true) × ((s.collect ≡ true) ⊎
 abbrev pub BeginsOrWaits : Config → State → State → Type 0
 BeginsOrWaits config s t = (IsCycleDue config s × (t ≡ record (cycle_started s) { collect = false })) ⊎ ((IsCycleDue config s → ⊥) × (t ≡ s))
 
--- a full cycle where one is due, else a cycle where one is due
+-- a full cycle where one is due, which closes no cycle too late, else a cycle where one is due
 abbrev pub Proceeds : Plan → State → State → List CycleRow → Type 0
-Proceeds plan s t cycles = (IsFullDue plan s × DoesFullCycle s t cycles) ⊎ ((IsFullDue plan s → ⊥) × BeginsOrWaits plan.config s t × (cycles ≡ []))
+Proceeds plan s t cycles = (IsFullDue plan s × DoesFullCycle s t cycles × IsForcedSoon plan.config.quota s.progress s.number) ⊎
+    ((IsFullDue plan s → ⊥) × BeginsOrWaits plan.config s t × (cycles ≡ []))
 
 -- the row of a stop that promoted so many objects
 abbrev pub stop_row : State → ℕ → StopRow
