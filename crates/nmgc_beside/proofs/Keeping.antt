@@ -27,12 +27,12 @@ use Rattle.nmgc_run.specs.Marker.{AreAt, AreRemembered, IsCoreOf, IsTied, HasRoo
 use Rattle.nmgc_run.specs.Marks.{HasListedNothing, HasNoted, epoch_of}
 use Rattle.nmgc_run.specs.Seen.{Seen, CycleSeen, MarkerSeen, MutatorSeen, SweeperSeen}
 use Rattle.nmgc_run.specs.State.{Cycle, State, next_cycle, cycle_started}
+use Rattle.nmgc_run.specs.laws.Closings.{one_more}
 use Rattle.nmgc_beside.specs.Owed.{GoesOn}
 use Rattle.nmgc_beside.specs.Rest.{IsMachineAtRest, with_rows}
 use Rattle.nmgc_beside.specs.Stays.{places_after}
 use Rattle.nmgc_beside.specs.Keeps.{NoneRemember, HasLeft, ShowEntries, PromotionKeepsMarking, PaceAfterRound, PaceAtStop, PaceBegins}
 use Rattle.nmgc_beside.proofs.Beginning.{IsBegun, begun, none_at_first}
-use Rattle.nmgc_beside.proofs.Pacing.{one_more}
 use Rattle.nmgc_beside.proofs.Pushing.{all_empty, each_empty}
 use Rattle.nmgc_beside.proofs.Snapshots.{IsReachedBy, reached_core}
 use Rattle.nmgc_beside.proofs.Staying.{remembered_stays, tie_is_kept}

@@ -1,7 +1,6 @@
 -- The bounds of a closing, by the pace of marking.
-use Rattle.std.proofs.Common.{◌/◌, ◌≡◌, ◌+◌, ◌-◌, ◌*◌, ◌≤◌, ℕ, suc, List, [], ◌∷◌, length, map, refl, sym, ap, subst, ◌∙◌, arith, inl, inr}
+use Rattle.std.proofs.Common.{◌≡◌, ◌+◌, ℕ, List, [], ◌∷◌, length, map, refl, sym, ap, subst, ◌∙◌, arith, inl, inr}
 use Rattle.std.specs.Prelude.{Contains}
-use Rattle.std.proofs.Math.Nat.{le-div_iff_mul-le}
 use Rattle.std.proofs.lemmas.Bool.{cases_lt}
 use Rattle.nmgc_graph.specs.declared.value.Name.{Name}
 use Rattle.nmgc_graph.specs.Step.{shared_name}
@@ -13,7 +12,8 @@ use Rattle.nmgc_run.specs.Census.{IsKeptObject}
 use Rattle.nmgc_run.specs.Closing.{IsStrongObject}
 use Rattle.nmgc_run.specs.Listing.{Counts}
 use Rattle.nmgc_run.specs.Marker.{AreAt}
-use Rattle.nmgc_run.specs.laws.Distinct.{others_counted, one_count}
+use Rattle.nmgc_run.specs.laws.Closings.{one_more, within_rounds}
+use Rattle.nmgc_run.specs.laws.Distinct.{others_counted}
 use Rattle.nmgc_run.specs.laws.MarkedOnce.{IsOnce, once_runs, once_opening}
 use Rattle.nmgc_beside.specs.Closes.{ClosingIsSoon, ClosingComes, ClosingIsPaced}
 use Rattle.nmgc_beside.proofs.Strong.{IsExactlyStrong, Strong, exactly_strong}
@@ -25,24 +25,12 @@ closing_is_soon quota c t seen kept h more counts = elim (cases_lt (c.from + 1) 
 ]
 
 pub closing_comes : ClosingComes
-closing_comes quota c closed kept some (inl first) counts = omega arith
-closing_comes quota c closed kept some (inr (count, own, less)) counts =
-    let same : count ≡ kept = one_count (IsKeptObject c) count kept own counts in
-    let rounds : (closed - c.from - 1) * quota ≤ kept - 1 = omega arith in
-    let most : closed - c.from - 1 ≤ (kept - 1) / quota = (le-div_iff_mul-le {k = quota} {x = closed - c.from - 1} {y = kept - 1} (omega arith)).1 rounds in
-    omega arith
+closing_comes = within_rounds
 
 -- where nothing waits at any place, nothing waits
 none_waits : (places : List Place) (entries : List Entry) → AreAt places [] (map (λ (entry : Entry). entry.name) entries) → entries ≡ []
 none_waits places [] h = refl
 none_waits places (entry ∷ entries) h = absurd h
-
--- one round more
-pub one_more : (n from quota : ℕ) → from + 1 ≤ n → (n - from - 1) * quota + quota ≡ (n - from) * quota
-one_more n from quota le =
-    let k : ℕ = n - from - 1 in
-    let next : n - from ≡ suc k = omega arith in
-    sym (ap (λ j. j * quota) next ∙ (omega arith))
 
 pub closing_is_paced : ClosingIsPaced
 closing_is_paced quota c t seen allocation places core sound m tied after paced empty = record {

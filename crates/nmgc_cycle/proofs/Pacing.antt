@@ -1,5 +1,5 @@
 -- The pace of marking within a stop.
-use Rattle.std.proofs.Common.{ℕ, suc, ◌≡◌, ◌≢◌, ◌+◌, ◌-◌, ◌*◌, ◌<◌, ◌≤◌, List, [], ◌∷◌, length, refl, sym, ap, ◌∙◌, arith, inl, inr}
+use Rattle.std.proofs.Common.{ℕ, ◌≡◌, ◌≢◌, ◌+◌, ◌<◌, ◌≤◌, List, [], ◌∷◌, length, refl, sym, ap, ◌∙◌, arith, inl, inr}
 use Rattle.std.proofs.lemmas.Bool.{cases_lt}
 use Rattle.nmgc_alloc.specs.AllocState.{AllocState}
 use Rattle.nmgc_beside.specs.Closes.{ClosingIsSoon, ClosingIsPaced}
@@ -14,6 +14,7 @@ use Rattle.nmgc_run.specs.Listing.{Counts}
 use Rattle.nmgc_run.specs.Marker.{IsCoreOf, IsTied}
 use Rattle.nmgc_run.specs.Seen.{Seen, WorkSeen}
 use Rattle.nmgc_run.specs.State.{State, Cycle}
+use Rattle.nmgc_run.specs.laws.Closings.{one_more}
 use Rattle.nmgc_cycle.specs.Steps.{IsPacedWithin}
 
 -- what the round left is in pace, and what was added since only waits behind it
@@ -29,13 +30,7 @@ paced_within soon paced at_stop quota c t old new allocation places core sound i
   );
 }
 
--- one round more
-one_more : (n from quota : ℕ) → from < n → (n - from - 1) * quota + quota ≡ (n - from) * quota
-one_more n from quota lt =
-    let k : ℕ = n - from - 1 in
-    let next : n - from ≡ suc k = omega (arith, lt) in
-    sym (ap (λ (j : ℕ). j * quota) next ∙ (omega arith))
-
+-- a queue that isn't empty has something that waits
 some_wait : (queue : List ℕ) → queue ≢ [] → 1 ≤ length queue
 some_wait [] some = absurd (some refl)
 some_wait (at ∷ queue) some = omega arith
@@ -47,7 +42,7 @@ forced_soon quota c s seen kept paced more counts = elim (cases_lt c.from s.numb
   | inr first ↦ inl (omega (arith, first))
   | inl later ↦
       let scanned = paced.scanned in
-      let rounds = one_more s.number c.from quota later in
+      let rounds = one_more s.number c.from quota (omega (arith, later)) in
       let waits = some_wait seen.marker.queue (paced.not_done later) in
       inr (kept, counts, omega (arith, scanned, rounds, waits, more))
 ]

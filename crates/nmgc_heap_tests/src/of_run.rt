@@ -18,6 +18,7 @@ fn laws_ask_nothing(rt: HostRuntime) {
     laws::counts_are_real();
     laws::version_is_nothing();
     laws::each_cycle_has_its_row();
+    laws::closings_are_soon();
     laws::places_are_blocks();
     laws::round_is_remembered();
     laws::round_is_forgotten();

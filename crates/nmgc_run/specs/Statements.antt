@@ -1,5 +1,5 @@
 -- Laws of runs, as statements. Each is proved where a function of `laws` has it.
-use Rattle.std.specs.Prelude.{ℕ, ◌≡◌, ◌↔◌, ◌+◌, ◌*◌, ◌^◌, List, [], ◌∷◌, ◌++◌, length, drop, slice_index_or, count_by, Some}
+use Rattle.std.specs.Prelude.{ℕ, ◌≡◌, ◌≤◌, ◌↔◌, ◌+◌, ◌-◌, ◌*◌, ◌/◌, ◌^◌, List, [], ◌∷◌, ◌++◌, length, drop, slice_index_or, count_by, All, Some}
 use Rattle.nmgc_object.specs.Places.{IsLayout, class_count}
 use Rattle.nmgc_object.specs.declared.layout.Layout.{Layout}
 use Rattle.nmgc_object.specs.declared.size.TheConstants.{DENSE_CLASS, DENSE_WORDS}
@@ -7,7 +7,7 @@ use Rattle.nmgc_segment.specs.declared.state.State.TheVariants as stands
 use Rattle.nmgc_segment.specs.Segment.{Segment}
 use Rattle.nmgc_alloc.specs.Search.{is}
 use Rattle.nmgc_journal.specs.declared.report.RoundRows.{RoundRows}
-use Rattle.nmgc_script.specs.Limits.{upgraded}
+use Rattle.nmgc_script.specs.Limits.{FitsScript, upgraded}
 use Rattle.nmgc_script.specs.declared.script.Script.{Script}
 use Rattle.nmgc_journal.specs.declared.report.Report.{Report}
 use Rattle.nmgc_journal.specs.declared.report.StopRow.{StopRow}
@@ -57,6 +57,15 @@ UpgradeIsNothing = (script : Script) (report : Report) → IsLawful script repor
 abbrev pub EachCycleHasItsRow : Type 0
 EachCycleHasItsRow = (plan : Plan) (run : Run) (rounds : List RoundRows) (stops : List StopRow) (cycles : List CycleRow) (end : End) →
     IsRun plan run → Tells run rounds stops cycles → answer_of plan (last_state run) ≡ Some end → length cycles ≡ (last_state run).begun
+
+-- a row tells of a cycle that was closed within as many rounds as scan one object less than it kept, and one more
+abbrev pub IsClosedSoon : ℕ → CycleRow → Type 0
+IsClosedSoon quota row = row.closed ≤ row.from + ((row.kept - 1) / quota + 1)
+
+-- so does each of a lawful report of a script within the limits, also where a full cycle closed the cycle
+abbrev pub ClosingsAreSoon : Type 0
+ClosingsAreSoon = (script : Script) (report : Report) → FitsScript script → IsLawful script report →
+    All (IsClosedSoon script.config.quota) report.cycles
 
 -- a run with one turn more at its end is a run
 abbrev pub RunGoesOn : Type 0

@@ -1,3 +1,4 @@
+pub mod Closings
 pub mod Course
 pub mod Crowding
 pub mod Crowds

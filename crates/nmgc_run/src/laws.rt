@@ -11,7 +11,7 @@ ghost use Rattle.nmgc_run.specs.Places.{BlocksAtStop, BlocksAfterRound, BlocksAr
 ghost use Rattle.nmgc_run.specs.Life.{LifeIsSeen};
 ghost use Rattle.nmgc_run.specs.Limits.{ScriptsHaveGoodPlans, StatesAreWithin, RoundsAreWithin};
 ghost use Rattle.nmgc_run.specs.Leaving.{RoundIsRemembered, RoundIsForgotten, RowsKeepHeaders};
-ghost use Rattle.nmgc_run.specs.Statements.{ClassesAreCounted, LeftIsTold, FreeIsReal, VersionIsNothing, UpgradeIsNothing, EachCycleHasItsRow, RunGoesOn, TellsOneMore, LastIsOfTurn};
+ghost use Rattle.nmgc_run.specs.Statements.{ClassesAreCounted, LeftIsTold, FreeIsReal, VersionIsNothing, UpgradeIsNothing, EachCycleHasItsRow, ClosingsAreSoon, RunGoesOn, TellsOneMore, LastIsOfTurn};
 
 use nmgc_alloc::laws::{self, counts};
 use nmgc_object::laws::words_differ;
@@ -105,6 +105,12 @@ pub fn version_is_nothing()
 /// Once a run has ended, its report has a row for each cycle that was begun.
 pub fn each_cycle_has_its_row()
     ensures { EachCycleHasItsRow }
+{}
+
+/// Each cycle of a lawful report was closed within as many rounds as scan one object less than it kept, and one more: also
+/// one that a full cycle closed.
+pub fn closings_are_soon()
+    ensures { ClosingsAreSoon }
 {}
 
 /// The places in segments are exactly those of the blocks in use, each with an object that fits its
