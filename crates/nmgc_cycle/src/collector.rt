@@ -277,7 +277,7 @@ impl Collector {
         ensures told { (script : ScriptSeen) → HasEnded script self end → IsLawful script result }
     {
         let Collector {
-            alloc,
+            alloc: _,
             words,
             segments,
             promotion: _,
@@ -301,7 +301,7 @@ impl Collector {
         } = self;
         let words = words.unwrap().close();
         let ends = all_ends(mutators, ends);
-        put_rows_in_order(cycles.items_mut(), alloc);
+        put_rows_in_order(cycles.items_mut());
         Report {
             rounds,
             stops,

@@ -9,7 +9,6 @@ use nmgc_journal::CycleRow;
 use nmgc_minor::Move;
 use nmgc_sweep::Names;
 use nmgc_sweep::order::put_in_order;
-use std::alloc::Global;
 
 /// Notes the names of what moved, at the new places. Takes time for what moved.
 pub(crate) fn note_moves(names: &mut Names, moves: &[Move])
@@ -22,18 +21,18 @@ pub(crate) fn note_moves(names: &mut Names, moves: &[Move])
 }
 
 // The row with its names in order.
-fn put_row_in_order(row: &mut CycleRow, alloc: Global)
+fn put_row_in_order(row: &mut CycleRow)
     ensures { row.new ≡ told_row row.old }
 {
-    put_in_order(row.had.items_mut(), alloc);
-    put_in_order(row.freed.items_mut(), alloc);
+    put_in_order(row.had.items_mut());
+    put_in_order(row.freed.items_mut());
 }
 
-/// The rows with their names in order. Takes no memory but a buffer, without which it is only slower.
-pub(crate) fn put_rows_in_order(rows: &mut [CycleRow], alloc: Global)
+/// The rows with their names in order. Takes no memory.
+pub(crate) fn put_rows_in_order(rows: &mut [CycleRow])
     ensures { rows.new ≡ map told_row rows.old }
 {
     for row in rows {
-        put_row_in_order(row, alloc);
+        put_row_in_order(row);
     }
 }

@@ -252,8 +252,8 @@ fn check<R: Abort + Threads + Sync>(rt: &R, alloc: Global, row: Row) -> Result<(
     assert!(rt; sweeper.had().len() == row.had.len());
     assert!(rt; sweeper.freed().len() == row.freed.len());
     let mut census = sweeper.into_census();
-    put_in_order(census.had.as_mut_slice(), alloc);
-    put_in_order(census.freed.as_mut_slice(), alloc);
+    put_in_order(census.had.as_mut_slice());
+    put_in_order(census.freed.as_mut_slice());
     assert!(rt; census.swept.as_slice() == row.swept);
     assert!(rt; census.had.as_slice() == row.had);
     assert!(rt; census.freed.as_slice() == row.freed);

@@ -9,28 +9,21 @@ ghost use Rattle.nmgc_sweep.specs.Sweeper.{AreSorted};
 
 use crate::blocks::move_blocks;
 use nmgc_graph::Name;
-use std::alloc::Global;
 
-// Puts names in order. They come in a few runs that are in order already, which the stable sort keeps and merges
-// in linear time. It takes a buffer for as many names, and gives it back; where there is no memory for it, the
-// sort in place does the same, only slower.
-fn sort(names: &mut [Name], alloc: Global)
+// Puts names in order. Where whole blocks were all that was out of place, the sort finds them in order, and looks at each
+// name once.
+fn sort(names: &mut [Name])
     ensures permutation { IsPermutation names.old names.new }
     ensures sorted { AreSorted names.new }
 {
     move_blocks(names);
-    if names
-        .sort_by_key(alloc, |name| (name.maker, name.serial))
-        .is_err()
-    {
-        names.sort_unstable_by_key(|name| (name.maker, name.serial));
-    }
+    names.sort_unstable_by_key(|name| (name.maker, name.serial));
 }
 
-/// Puts names in order: the same names, by maker and then by serial. Takes no memory but a buffer, without which it is
-/// only slower.
-pub fn put_in_order(names: &mut [Name], alloc: Global)
+/// Puts names in order: the same names, by maker and then by serial. Takes no memory, and time that goes with the names
+/// where they are a few blocks, each in order; else it sorts them in place.
+pub fn put_in_order(names: &mut [Name])
     ensures { names.new ≡ in_order names.old }
 {
-    sort(names, alloc);
+    sort(names);
 }
