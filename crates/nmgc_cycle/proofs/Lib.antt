@@ -79,6 +79,7 @@ pub mod SweptBeside
 pub mod Taking
 pub mod Telling
 pub mod Told
+pub mod Tried
 pub mod Unused
 pub mod Views
 pub mod WhatIsLeft

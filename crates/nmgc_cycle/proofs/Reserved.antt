@@ -49,7 +49,7 @@ same_seen m n r =
     ∙ ap (λ (l : List Address). noting m m.recorded.items m.young_weaks.items l) r.updrem.items
 
 -- an item of the new list, with what it was
-was_at : (old new : List Mutator) (k : ℕ) (n : Mutator) → AreReserved old new → slice_get new k ≡ Some n → (m : Mutator) ×
+pub was_at : (old new : List Mutator) (k : ℕ) (n : Mutator) → AreReserved old new → slice_get new k ≡ Some n → (m : Mutator) ×
     (slice_get old k ≡ Some m) × Reserves m n
 was_at old new k n r e =
     let within = slice_get_within new k n e in

@@ -1,5 +1,5 @@
 -- What the slices of a round leave of positions and replies, and whether one asked for a cycle.
-use Rattle.std.proofs.Common.{ℕ, zero, suc, ◌≡◌, ◌+◌, ◌-◌, ◌<◌, ◌^◌, Bool, List, [], ◌∷◌, ◌++◌, length, map, take, drop, slice_index, refl, sym, ap, ◌∙◌, arith, Option, Some}
+use Rattle.std.proofs.Common.{ℕ, zero, suc, ◌≡◌, ◌+◌, ◌-◌, ◌<◌, ◌^◌, Bool, List, [], ◌∷◌, ◌++◌, length, map, take, drop, slice_index, refl, sym, ap, subst, ◌∙◌, arith, Option, Some}
 use Rattle.std.specs.Prelude.{slice_get, option_map}
 use Rattle.std.specs.List.{list_any}
 use Rattle.std.specs.declared.vec.Vec.{Vec}
@@ -10,6 +10,8 @@ use Rattle.nmgc_round.specs.declared.table.Round.{Round}
 use Rattle.nmgc_alloc.specs.Segments.{Segments}
 use Rattle.nmgc_round.specs.View.{Opening}
 use Rattle.nmgc_mutator.specs.declared.mutator.Mutator.{Mutator}
+use Rattle.nmgc_mutator.specs.Slice.{Ended, tried}
+use Rattle.nmgc_round.specs.Gate.{passed}
 use Rattle.nmgc_turn.specs.Worked.{Done}
 use Rattle.nmgc_script.specs.declared.script.Script.{Script}
 use Rattle.nmgc_heap.specs.laws.Kinds.{map_item}
@@ -108,6 +110,12 @@ module _ (script : Script) (c : Collector) (run : Run) (limits : IsInLimits scri
         commands = h.slice.commands;
         replies = ap (λ (u : Mutator). u.replies.items) x.2 ∙ h.slice.did.replies ∙ ap (λ (u : Mutator). u.replies.items ++ map (λ (p : Done). p.1) d) old;
         position = omega (arith, is, many, now);
+        end = h.slice.end;
+        ended =
+            subst (λ (u : Mutator). Ended (left_at script c.positions.items k) script.config.slice (length d) u h.slice.end) (sym x.2) (subst (λ (n : ℕ).
+            Ended (left_at script c.positions.items k) script.config.slice n x.0.mutator h.slice.end) (sym many) h.slice.ended);
+        turns = ap (λ (u : Mutator). u.turns) x.2 ∙ h.slice.turns ∙ ap (λ (u : Mutator). passed u.turns (tried x.0.done h.slice.end)) old ∙
+            ap (λ (n : ℕ). passed m.turns (tried n h.slice.end)) (sym many);
         queue_room =
             let room = h.slice.did.room.queue in
             let before = ap (λ (u : Mutator). u.queue.spare) old in

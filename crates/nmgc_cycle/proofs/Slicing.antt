@@ -16,7 +16,8 @@ use Rattle.nmgc_mutator.specs.declared.mutator.SliceEnd.{SliceEnd}
 use Rattle.nmgc_mutator.specs.declared.mutator.SliceEnd.TheVariants as ending
 use Rattle.nmgc_mutator.specs.Ready.{words_by, rows_of}
 use Rattle.nmgc_mutator.specs.Does.{HasDone}
-use Rattle.nmgc_mutator.specs.Slice.{Ended}
+use Rattle.nmgc_round.specs.Gate.{passed}
+use Rattle.nmgc_mutator.specs.Slice.{Ended, tried}
 use Rattle.nmgc_turn.specs.Worked.{Done}
 use Rattle.nmgc_script.specs.declared.script.Config.{Config}
 use Rattle.nmgc_run.specs.Slice.{slice_of, is_collect, is_full}
@@ -55,6 +56,9 @@ pub record IsSlice (config : Config) (round : Round) (o : Opening) (k : ℕ) (le
   pub count : length done ≡ new.done
   pub within : new.done ≤ length left
   pub did : HasDone round (alone o k) new.seat m new.mutator done
+  pub end : SliceEnd
+  pub ended : Ended left config.slice new.done new.mutator end
+  pub turns : new.mutator.turns ≡ passed m.turns (tried new.done end)
   pub asks : new.asks ≡ list_any is_collect (commands_of done)
   pub asks_full : new.asks_full ≡ list_any is_full (commands_of done)
 
@@ -89,6 +93,9 @@ slice_done config round o k left m seat new is nursery h =
         count = sym (length-map done (λ (d : Done). d.0)) ∙ ap length first ∙ length-take-le new.done left within;
         within = within;
         did = did;
+        end = h.end;
+        ended = h.ended;
+        turns = h.turns;
         asks = asks_by_end left config.slice new.done new.mutator h.end new.asks h.ended h.asks ∙
             sym (ap (λ (cs : List Command). list_any is_collect cs) first);
         asks_full = full_by_end left config.slice new.done new.mutator h.end new.asks_full h.ended h.asks_full ∙

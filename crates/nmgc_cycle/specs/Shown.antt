@@ -7,6 +7,7 @@ use Rattle.nmgc_journal.specs.declared.report.Report.{Report}
 use Rattle.nmgc_journal.specs.declared.report.End.{End}
 use Rattle.nmgc_run.specs.Seen.{Seen, MarkerSeen, WorkSeen, CycleSeen, ends_of}
 pub use Rattle.nmgc_beside.specs.Heaps.{seen_mutator}
+use Rattle.nmgc_mutator.specs.declared.mutator.Mutator.{Mutator}
 use Rattle.nmgc_sweep.specs.Order.{in_order}
 use Rattle.nmgc_sweep.specs.Sweeper.{Sweeper}
 use Rattle.nmgc_graph.specs.declared.value.Name.{Name}
@@ -77,6 +78,13 @@ upper_turns_by (progress.Sweeping w) turns = w.sweeper.upper_turns
 -- how often its second sweeping half did so far
 abbrev pub upper_turns_of : Collector → ℕ
 upper_turns_of c = upper_turns_by c.progress c.upper_turns
+
+-- how often each mutator passed the gate so far
+abbrev pub turns_in : List Mutator → List ℕ
+turns_in mutators = map (λ (m : Mutator). m.turns) mutators
+
+abbrev pub mutator_turns_of : Collector → List ℕ
+mutator_turns_of c = turns_in c.mutators.items
 
 -- a row as a report tells it: the collector keeps the names of a row as they were listed, and a report has them in order
 abbrev pub told_row : CycleRow → CycleRow

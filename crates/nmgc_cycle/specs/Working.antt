@@ -14,6 +14,7 @@ use Rattle.nmgc_round.specs.View.{Opening, Scan, whole}
 use Rattle.nmgc_round.specs.Seat.{RoundSeat, seen}
 use Rattle.nmgc_round.specs.Seating.{collecting}
 use Rattle.nmgc_round.specs.Finishing.{Leaves}
+use Rattle.nmgc_round.specs.Gate.{passed}
 use Rattle.nmgc_mutator.specs.declared.mutator.Mutator.{Mutator}
 use Rattle.nmgc_mutator.specs.declared.mutator.SliceEnd.{SliceEnd}
 use Rattle.nmgc_mutator.specs.declared.mutator.SliceEnd.TheVariants as ending
@@ -21,7 +22,7 @@ use Rattle.nmgc_mutator.specs.Does.{SameLine}
 use Rattle.nmgc_mutator.specs.Ready.{IsReady, Reserves}
 use Rattle.nmgc_updrem.specs.Rings.{HavePolled, Receiver}
 use Rattle.nmgc_updrem.specs.declared.block.TheConstants.{BLOCK_ENTRIES}
-use Rattle.nmgc_mutator.specs.Slice.{HasRoom, HasRun, Ended}
+use Rattle.nmgc_mutator.specs.Slice.{HasRoom, HasRun, Ended, tried}
 use Rattle.nmgc_turn.specs.Rest.{opening_at}
 use Rattle.nmgc_turn.specs.Worked.{Done}
 use Rattle.nmgc_script.specs.declared.script.Script.{Script}
@@ -47,11 +48,12 @@ pub record CanWork (round : Round) (slice : ℕ) (program : List Command) (worke
   pub program_is : All (Fits worker.mutator.layout.words) program
   pub room : HasRoom worker.mutator (min slice (length program))
 
--- it did its slice of them
+-- it did its slice of them, and passed the gate before each that it tried
 pub record HasWorkedOn (round : Round) (slice : ℕ) (program : List Command) (old new : Worker) : Type 0 where
   pub run : HasRun round (seen old.seat) new.seat old.mutator new.mutator (take new.done program)
   pub end : SliceEnd
   pub ended : Ended program slice new.done new.mutator end
+  pub turns : new.mutator.turns ≡ passed old.mutator.turns (tried new.done end)
   pub asks : IsTrue new.asks ↔ (end ≡ ending.Collect)
   pub asks_full : IsTrue new.asks_full ↔ (end ≡ ending.Full)
   pub most : new.done ≤ slice
@@ -137,11 +139,15 @@ OpensIn _ s c places o = o ≡ opening_at c.segments.layout s.world places c.mut
 abbrev pub OpensAt : Script → Collector → Opening → Type 0
 OpensAt script c o = (run : Run) × (h : IsAfterStop script c run) × OpensIn (last_state run).progress (last_state run) c h.at_stop.heap.places o
 
--- what mutator k did in a round: its slice of what was left, with these replies; its finaliser queue has no less room, and its sender is that of the same ring
+-- what mutator k did in a round: its slice of what was left, with these replies, and a pass of the gate for each command tried; its finaliser queue
+-- has no less room, and its sender is that of the same ring
 pub record DidSlice (script : Script) (old new : Collector) (k : ℕ) (m n : Mutator) (done : List Done) : Type 0 where
   pub commands : map (λ (d : Done). d.0) done ≡ slice_of script.config (left_at script old.positions.items k)
   pub replies : n.replies.items ≡ m.replies.items ++ map (λ (d : Done). d.1) done
   pub position : slice_index new.positions.items k ≡ slice_index old.positions.items k + length done
+  pub end : SliceEnd
+  pub ended : Ended (left_at script old.positions.items k) script.config.slice (length done) n end
+  pub turns : n.turns ≡ passed m.turns (tried (length done) end)
   pub queue_room : m.queue.spare ≤ n.queue.spare
   pub sends : SameLine m n
 
@@ -188,6 +194,20 @@ pub record DidSlices (script : Script) (o : Opening) (old new : Collector) : Typ
   pub positions_are : length new.positions.items ≡ length old.positions.items
   pub each : (k : ℕ) (m n : Mutator) (d : List Done) → slice_get old.mutators.items k ≡ Some m → slice_get new.mutators.items k ≡ Some n →
       slice_get done k ≡ Some d → DidSlice script old new k m n d
+
+-- mutator k did so many commands of what was left at these positions, up to the end of its slice, and passed the gate
+-- once for each command that it tried
+pub record HasTried (script : Script) (before after : List ℕ) (k : ℕ) (m n : Mutator) : Type 0 where
+  pub done : ℕ
+  pub position : slice_index after k ≡ slice_index before k + done
+  pub end : SliceEnd
+  pub ended : Ended (left_at script before k) script.config.slice done n end
+  pub turns : n.turns ≡ passed m.turns (tried done end)
+
+-- so did each mutator, from one collector to the next
+abbrev pub HaveTried : Script → Collector → Collector → Type 0
+HaveTried script old new = (k : ℕ) (m n : Mutator) → slice_get old.mutators.items k ≡ Some m → slice_get new.mutators.items k ≡ Some n →
+    HasTried script old.positions.items new.positions.items k m n
 
 -- the same mutator without its replies
 abbrev pub cleared : Mutator → Mutator

@@ -177,7 +177,7 @@ fn new_words(alloc: Global, layout: Layout) -> Result<Words, NoMemory>
 
 impl Collector {
     /// The collector of a script's run, before its first stop: no command was answered, the registers and g are
-    /// full of nil, every segment is free, the collector passed no gate, and each mutator's ring is empty.
+    /// full of nil, every segment is free, nobody passed the gate, and each mutator's ring is empty.
     ///
     /// Asks that the script is within the limits. Takes memory for the words, and for as many again until they lie in
     /// their table, for the segments with their marks and the names of what lies in them, for what the promotion of full
@@ -185,6 +185,7 @@ impl Collector {
     pub fn new(alloc: Global, script: &Script) -> Result<Collector, NoMemory>
         requires { IsInLimits script.now }
         ensures fresh { IfOk result (λ collector. IsFresh script.now collector) }
+        ensures mutator_turns { IfOk result (λ collector. (k : ℕ) (m : MutatorShown) → slice_get collector.mutators.items k ≡ Some m → m.turns ≡ 0) }
         ensures turns { IfOk result (λ collector. turns_of collector ≡ 0) }
         ensures upper_turns { IfOk result (λ collector. upper_turns_of collector ≡ 0) }
     {

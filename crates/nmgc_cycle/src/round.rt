@@ -30,7 +30,7 @@ ghost use Rattle.nmgc_cycle.specs.Lined.{IsLined, HasMetSender, HaveLines, HaveM
 ghost use Rattle.nmgc_cycle.specs.Keeps.{HasStopped, DidRound};
 ghost use Rattle.nmgc_cycle.specs.Cycles.{CanHelp, HasHelped, worked_on, upper_worked_on};
 ghost use Rattle.nmgc_cycle.specs.Shown.{is_marking_in, turns_of, upper_turns_of};
-ghost use Rattle.nmgc_cycle.specs.Working.{left_at, HaveRoom, HasLists, HaveSliceRoom, HasInboxRoom, AreReserved, CanAllWork, HaveAllWorked, OpensAt, DidSlices, asks_of, asks_full_of, cleared, replies_of};
+ghost use Rattle.nmgc_cycle.specs.Working.{left_at, HaveRoom, HasLists, HaveSliceRoom, HasInboxRoom, AreReserved, CanAllWork, HaveAllWorked, OpensAt, DidSlices, HaveTried, asks_of, asks_full_of, cleared, replies_of};
 
 use crate::Collector;
 use crate::worker::{Worker, seated, some_ask_full, some_asks, unseated, work_beside};
@@ -105,12 +105,12 @@ fn opening_of(script: &Script, collector: &Collector) -> Chosen<Opened>
 }
 
 impl Collector {
-    /// One round: each mutator with commands left does a slice, in a thread of its own, and passes `gate` before each
-    /// command that it tries. Beside them the collector scans as many objects as the quota says while a cycle marks, or
-    /// sweeps as many segments of a closed one, or fewer where no more are left, in two halves; it passes `gate` before
-    /// each, and counts this through the whole run: the clauses `turns` and `upper_turns` tell the counts. Where a slice
-    /// asks for a cycle, one is due at the next stop that finds none in progress, and where it asks for a full cycle, that
-    /// is due at the next stop. The replies of the round are told after those of the rounds before.
+    /// One round: each mutator with commands left does a slice, in a thread of its own, and passes `gate` before each command
+    /// that it tries. Beside them the collector scans as many objects as the quota says while a cycle marks, or sweeps as
+    /// many segments of a closed one, or fewer where no more are left, in two halves; it passes `gate` before each. Mutators
+    /// and collector count their passes through the whole run: the clauses `mutator_turns`, `turns` and `upper_turns` tell
+    /// the counts. Where a slice asks for a cycle, one is due at the next stop that finds none in progress, and where it asks
+    /// for a full cycle, that is due at the next stop. The replies of the round are told after those of the rounds before.
     ///
     /// While a cycle marks, mutators send full blocks of what they remember through their rings, and the collector takes
     /// them out beside them; afterwards each mutator remembers what was taken, then what its ring has, then what it keeps.
@@ -128,6 +128,7 @@ impl Collector {
         ensures worked { OnOk result (DidRound script.now self.old self.new) }
         ensures told { OnOk result ((rows : RoundRows) × (self.new.rounds ≡ self.old.rounds ++ rows ∷ [])) }
         ensures stops { OnOk result (self.new.stops ≡ self.old.stops) }
+        ensures mutator_turns { OnOk result (HaveTried script.now self.old self.new) }
         ensures turns { OnOk result (turns_of self.new ≡ passed (turns_of self.old) (worked_on self.old.progress self.new.progress)) }
         ensures upper_turns { OnOk result (upper_turns_of self.new ≡ passed (upper_turns_of self.old) (upper_worked_on self.old.progress self.new.progress)) }
         ensures remembered { OnOk result (RememberInOrder self.new.inbox self.new.mutators.items) }
@@ -158,6 +159,7 @@ impl Collector {
         ensures worked { OnOk result (DidRound script.now self.old self.new) }
         ensures told { OnOk result ((rows : RoundRows) × (self.new.rounds ≡ self.old.rounds ++ rows ∷ [])) }
         ensures stops { OnOk result (self.new.stops ≡ self.old.stops) }
+        ensures mutator_turns { OnOk result (HaveTried script.now self.old self.new) }
         ensures turns { OnOk result (turns_of self.new ≡ passed (turns_of self.old) (worked_on self.old.progress self.new.progress)) }
         ensures upper_turns { OnOk result (upper_turns_of self.new ≡ passed (upper_turns_of self.old) (upper_worked_on self.old.progress self.new.progress)) }
     {

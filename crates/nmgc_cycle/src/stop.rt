@@ -17,7 +17,7 @@ ghost use Rattle.std.specs.Prelude.{ℕ, ◌≡◌, ◌↔◌, ◌^◌, ◌<◌,
 ghost use Rattle.nmgc_blocks.specs.Stopped.{Stopped};
 ghost use Rattle.nmgc_minor.specs.Promotion.{IsFor};
 ghost use Rattle.nmgc_cycle.specs.Limits.{IsInLimits};
-ghost use Rattle.nmgc_cycle.specs.Shown.{turns_of, upper_turns_of};
+ghost use Rattle.nmgc_cycle.specs.Shown.{turns_of, upper_turns_of, mutator_turns_of};
 ghost use Rattle.nmgc_cycle.specs.declared.stop.StopEnd.TheVariants as answer;
 ghost use Rattle.nmgc_sweep.specs.Names.{HaveEntries};
 ghost use Rattle.nmgc_cycle.specs.Keeps.{CanStop, HasAnswered, StopsAfter};
@@ -53,8 +53,8 @@ impl Collector {
     ///
     /// Asks that no stop was done yet, or a round since the last one. Afterwards words, segments, mutators and list of weak
     /// pointers stand for the state of the same run after this stop: the world is as it was but for weak pointers that
-    /// died, where a cycle was closed. A full cycle sweeps in two halves, each in a thread of its own. The collector
-    /// passes no gate here, and hands on how often it did.
+    /// died, where a cycle was closed. A full cycle sweeps in two halves, each in a thread of its own. Nobody passes the
+    /// gate here: the mutators' counts are as they were, and the collector hands on its own.
     ///
     /// Takes memory for weak pointers that join the list, for the row of a cycle that ends, and where one begins for its
     /// marker's queue, its sweeper's lists and room in the finaliser queues. Takes time for what is promoted, the roots, the
@@ -71,6 +71,7 @@ impl Collector {
         ensures full { IfOk result (λ end. (free reserve : ℕ) → (end ≡ answer.HeapFull free reserve) ↔ IsHeapFullAt script.now self.new free reserve) }
         ensures rounds { OnOk result (self.new.rounds ≡ self.old.rounds) }
         ensures stops { OnOk result ((row : StopRow) × (self.new.stops ≡ self.old.stops ++ row ∷ [])) }
+        ensures mutator_turns { OnOk result (mutator_turns_of self.new ≡ mutator_turns_of self.old) }
         ensures turns { OnOk result (turns_of self.new ≡ turns_of self.old) }
         ensures upper_turns { OnOk result (upper_turns_of self.new ≡ upper_turns_of self.old) }
     {

@@ -25,3 +25,6 @@ returns-clause-fresh c = is_fresh c.layout_of-layout.result c.args.script.now _ 
   no_ends = c.in_ok-ends.ensures.items;
   room = let room = c.in_ok-ends.ensures.exact in omega arith;
 })
+
+pub returns-clause-mutator_turns : goal.returns-clause-mutator_turns
+returns-clause-mutator_turns c = λ k m e. (c.in_ok-mutators.ensures.new k m e).turns

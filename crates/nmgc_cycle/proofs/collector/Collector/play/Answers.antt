@@ -15,6 +15,7 @@ use Rattle.nmgc_cycle.proofs.Counted.{round_counts, round_counts_upper}
 use Rattle.nmgc_cycle.proofs.GoneOn.{HasLaws}
 use Rattle.nmgc_cycle.proofs.InboxOn.{inbox_before, inbox_stopped}
 use Rattle.nmgc_cycle.proofs.RoundWorked.{on_ok, worked_after}
+use Rattle.nmgc_cycle.proofs.Tried.{played_tried}
 use Rattle.nmgc_cycle.proofs.collector.Collector.play.Goals as goal
 
 pub opening_of-opening-requires : goal.opening_of-opening-requires
@@ -91,6 +92,17 @@ returns-clause-worked g c =
       mutators = with_items did.mutators new;
       rounds = l;
     })) (sym pushed) (before (record did { mutators = with_items did.mutators new; rounds = did.rounds ++ rows ∷ [] }) worked))
+
+pub returns-clause-mutator_turns : goal.returns-clause-mutator_turns
+returns-clause-mutator_turns g c =
+    let did : Collector = c.do_slices.new.self in
+    let new : List Mutator = c.taken.new.mutators in
+    let was = c.as_mut_slice.ensures.value in
+    let left : new ≡ map cleared did.mutators.items = c.in_ok-rows.ensures.rest ∙ ap (λ (ms : List Mutator). map cleared ms) was in
+    let many : length new ≡ length did.mutators.items = ap (λ (ms : List Mutator). length ms) left ∙ length-map did.mutators.items cleared in
+    on_ok c.push.result c.push.ensures.ok (λ pushed. played_tried c.args.script.now c.opening_of-opening.result.value c.args.self.now c.make_room.new.self
+    c.make_inbox_room.new.self did (with_items did.mutators new) did.rounds c.in_ok-make_room.ensures.rest c.in_ok-make_room.ensures.mutators
+    c.in_ok-make_inbox_room.ensures.rest c.do_slices.ensures (vec_back did.mutators new many ∙ left))
 
 pub returns-clause-turns : goal.returns-clause-turns
 returns-clause-turns g c =

@@ -6,6 +6,7 @@ use Rattle.nmgc_cycle.specs.declared.collector.Collector.{Collector}
 use Rattle.nmgc_cycle.proofs.Plans.{is_runnable}
 use Rattle.nmgc_cycle.proofs.InboxOn.{lines_of, round_met}
 use Rattle.nmgc_cycle.proofs.Meeting.{all_in_order}
+use Rattle.nmgc_cycle.proofs.Tried.{met_tried}
 use Rattle.nmgc_cycle.proofs.collector.Collector.round.Goals as goal
 
 pub meet_all-requires : goal.meet_all-requires
@@ -20,6 +21,11 @@ returns-clause-told g c = let t = c.in_ok-play.ensures.told in (t.0, ap (λ (x :
 
 pub returns-clause-stops : goal.returns-clause-stops
 returns-clause-stops g c = ap (λ (x : Collector). x.stops) c.meet_all.ensures.rest ∙ c.in_ok-play.ensures.stops
+
+pub returns-clause-mutator_turns : goal.returns-clause-mutator_turns
+returns-clause-mutator_turns g c =
+    met_tried c.args.script.now c.args.self.now c.play.new.self c.meet_all.new.self _ c.meet_all.ensures.rest c.meet_all.ensures.met
+    c.in_ok-play.ensures.mutator_turns
 
 pub returns-clause-turns : goal.returns-clause-turns
 returns-clause-turns g c = subst (λ (x : Collector). turns_of x ≡

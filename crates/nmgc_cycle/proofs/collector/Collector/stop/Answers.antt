@@ -17,6 +17,7 @@ use Rattle.nmgc_cycle.proofs.NewStops.{stopped_in}
 use Rattle.nmgc_cycle.proofs.Plans.{is_runnable}
 use Rattle.nmgc_cycle.proofs.StopEnds.{IsStepped, IsRead, Why, row, some_left_then, rounds_are, stops_are, has_answered, stops_after, done_where, full_where}
 use Rattle.nmgc_cycle.proofs.StopSteps as steps
+use Rattle.nmgc_cycle.proofs.Tried.{stop_turns}
 use Rattle.nmgc_cycle.proofs.collector.Collector.stop.Given.{Over}
 use Rattle.nmgc_cycle.proofs.collector.Collector.stop.Goals as goal
 use Rattle.nmgc_cycle.proofs.collector.Collector.stop.Goals.{then-left+then-free-reserve, else-left+then-not-left+then-eq, else-left-via-then-left+else-free-reserve, else-left-via-else-left, else-left+else-not-left, else-not-left-via-then-not-left+else-eq, else-not-left-via-else-not-left}
@@ -183,6 +184,10 @@ returns-clause-stops g c = (
   stops_are c.a_stop_leads.ensures c.args.script.now c.args.self.now c.proceed.new.self c.requires.limits (stepped g c) (read g c)
       c.in_ok-promoted.promoted c.in_ok-promoted.ensures.many c.push.new.self c.ended-self.result c.in_ok-push.ensures.ok c.requires.can,
 )
+
+pub returns-clause-mutator_turns : goal.returns-clause-mutator_turns
+unfolding stepped
+returns-clause-mutator_turns g c = stop_turns c.args.script.now c.args.self.now c.proceed.new.self (stepped g c)
 
 pub returns-clause-turns : goal.returns-clause-turns
 unfolding stepped
