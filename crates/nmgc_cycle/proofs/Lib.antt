@@ -34,6 +34,7 @@ pub mod ListedLeft
 pub mod Mapped
 pub mod MarkedBeside
 pub mod Measures
+pub mod MarksOn
 pub mod Meeting
 pub mod MutatorLists
 pub mod NewStops

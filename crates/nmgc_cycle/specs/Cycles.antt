@@ -205,6 +205,11 @@ Ends stop (progress.Sweeping w) old new = (HasNone sought.Sweeping old.segments 
     })) ⊎ ((HasNone sought.Sweeping old.segments → ⊥) × (new ≡ old))
 Ends stop _ old new = new ≡ old
 
+-- where the same cycle marks on, only its marker changed: what its last work answered is kept as it was
+abbrev pub MarksOn : Collector → Collector → Type 0
+MarksOn old new = (m n : Marking) → old.progress ≡ progress.Marking m → new.progress ≡ progress.Marking n → new.begun ≡ old.begun →
+    n ≡ record m { marker = n.marker }
+
 -- a cycle is due: none is in progress, and one was asked for, or enough segments were filled since the last one began
 abbrev pub IsDue : ℕ → Collector → Type 0
 IsDue trigger c = (c.progress ≡ progress.Idle) × ((c.collect ≡ true) ⊎ ((1 ≤ trigger) × (trigger ≤ c.segments.fresh)))

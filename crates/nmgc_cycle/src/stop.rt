@@ -16,6 +16,7 @@
 ghost use Rattle.std.specs.Prelude.{ℕ, ◌≡◌, ◌↔◌, ◌^◌, ◌<◌, [], ◌∷◌, ◌++◌, IfOk, OnOk, IsSome, IsTrue, length};
 ghost use Rattle.nmgc_blocks.specs.Stopped.{Stopped};
 ghost use Rattle.nmgc_minor.specs.Promotion.{IsFor};
+ghost use Rattle.nmgc_cycle.specs.Cycles.{MarksOn};
 ghost use Rattle.nmgc_cycle.specs.Limits.{IsInLimits};
 ghost use Rattle.nmgc_cycle.specs.Shown.{turns_of, upper_turns_of, mutator_turns_of};
 ghost use Rattle.nmgc_cycle.specs.declared.stop.StopEnd.TheVariants as answer;
@@ -49,7 +50,8 @@ impl Collector {
     /// A stop: what the round made is promoted, and the nurseries are empty afterwards; what the mutators remember
     /// goes to the marker; a cycle is closed, ends or begins where the rules of a run say so, and a full cycle is done where
     /// one was asked for, or commands are left and fewer segments are free than the reserve; and the stop's row is told.
-    /// No command is answered.
+    /// No command is answered. Where a cycle marks on, what its marker's last work answered is kept: so it does only where
+    /// that work left something.
     ///
     /// Asks that no stop was done yet, or a round since the last one. Afterwards words, segments, mutators and list of weak
     /// pointers stand for the state of the same run after this stop: the world is as it was but for weak pointers that
@@ -69,6 +71,7 @@ impl Collector {
         ensures after { OnOk result (StopsAfter script.now self.old self.new) }
         ensures done { IfOk result (λ end. (end ≡ answer.Done) ↔ IsDone script.now self.new) }
         ensures full { IfOk result (λ end. (free reserve : ℕ) → (end ≡ answer.HeapFull free reserve) ↔ IsHeapFullAt script.now self.new free reserve) }
+        ensures marks_on { OnOk result (MarksOn self.old self.new) }
         ensures rounds { OnOk result (self.new.rounds ≡ self.old.rounds) }
         ensures stops { OnOk result ((row : StopRow) × (self.new.stops ≡ self.old.stops ++ row ∷ [])) }
         ensures mutator_turns { OnOk result (mutator_turns_of self.new ≡ mutator_turns_of self.old) }

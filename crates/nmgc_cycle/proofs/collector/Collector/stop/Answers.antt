@@ -13,6 +13,7 @@ use Rattle.nmgc_cycle.proofs.Begins.{begins}
 use Rattle.nmgc_cycle.proofs.Counted.{stop_counts, stop_counts_upper}
 use Rattle.nmgc_cycle.proofs.Few.{stop_fits}
 use Rattle.nmgc_cycle.proofs.InboxOn.{lines_of}
+use Rattle.nmgc_cycle.proofs.MarksOn.{marks_on}
 use Rattle.nmgc_cycle.proofs.NewStops.{stopped_in}
 use Rattle.nmgc_cycle.proofs.Plans.{is_runnable}
 use Rattle.nmgc_cycle.proofs.StopEnds.{IsStepped, IsRead, Why, row, some_left_then, rounds_are, stops_are, has_answered, stops_after, done_where, full_where}
@@ -169,6 +170,10 @@ returns-clause-full g c = λ free reserve.
       λ e. let f = h.0 e in record { left = f.left; free_is = f.free_is; reserve_is = f.reserve_is; less = f.less },
       λ f. h.1 (record { left = f.left; free_is = f.free_is; reserve_is = f.reserve_is; less = f.less }),
     )
+
+pub returns-clause-marks_on : goal.returns-clause-marks_on
+unfolding stepped
+returns-clause-marks_on g c = marks_on c.args.script.now c.args.self.now c.proceed.new.self (stepped g c)
 
 pub returns-clause-rounds : goal.returns-clause-rounds
 unfolding stepped read
