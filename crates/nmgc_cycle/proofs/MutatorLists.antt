@@ -1,5 +1,6 @@
 -- Lists over all mutators at a stop.
 use Rattle.std.proofs.Common.{◌≡◌, ℕ, List, [], ◌∷◌, ◌++◌, length, refl, sym, ap, subst, ◌∙◌, Vec, Option, Some}
+use Rattle.std.specs.List.{flat_map}
 use Rattle.std.specs.Vec.{with_items}
 use Rattle.std.proofs.lemmas.List.{map-append, with_items_is}
 use Rattle.nmgc_object.specs.declared.words.Address.{Address}
@@ -11,8 +12,16 @@ use Rattle.nmgc_mutator.specs.declared.mutator.Mutator.{Mutator}
 use Rattle.nmgc_mutator.specs.Records.{numbers}
 use Rattle.nmgc_turn.specs.Worked.{registers_of, queues_of, nurseries_of, recorded_of}
 use Rattle.nmgc_cycle.specs.Stopping.{young_weaks_of}
-use Rattle.nmgc_cycle.specs.Roots.{queues_in, addresses_of, young_in}
+use Rattle.nmgc_cycle.specs.Roots.{queues_in}
 use Rattle.nmgc_cycle.specs.Shown.{words_in}
+
+-- the places of all fields that they recorded
+abbrev pub addresses_of : List Mutator → List Address
+addresses_of mutators = flat_map (λ (m : Mutator). m.recorded.items) mutators
+
+-- the places of all weak pointers that they made
+abbrev pub young_in : List Mutator → List Address
+young_in mutators = flat_map (λ (m : Mutator). m.young_weaks.items) mutators
 
 -- the places of what was recorded
 pub places_of_addresses : (mutators : List Mutator) → places_of (addresses_of mutators) ≡ recorded_of mutators

@@ -8,8 +8,8 @@ use Rattle.nmgc_object.specs.declared.layout.Nursery.{Nursery}
 use Rattle.nmgc_mutator.specs.declared.mutator.Mutator.{Mutator}
 use Rattle.nmgc_run.specs.Heap.{registers_of, queues_of, serials_of, HasAllRegisters}
 use Rattle.nmgc_run.specs.Seen.{MutatorSeen, end_of}
-use Rattle.nmgc_cycle.specs.Listed.{HaveQueues}
-use Rattle.nmgc_cycle.specs.Roots.{no_queue, queues_in}
+use Rattle.nmgc_cycle.specs.Listed.{HaveQueues, no_queue}
+use Rattle.nmgc_cycle.specs.Roots.{queues_in}
 use Rattle.nmgc_cycle.specs.Shown.{seen_mutator}
 
 -- mutator by mutator

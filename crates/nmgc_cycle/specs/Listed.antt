@@ -1,5 +1,5 @@
 -- The list of weak pointers and the finaliser queues at a stop: who leaves the list and who joins it, and what a closing needs of the queues.
-use Rattle.std.specs.Prelude.{ℕ, ◌≡◌, ◌≢◌, ◌⊎◌, ◌↔◌, ◌<◌, ◌≤◌, ◌^◌, ◌==◌, ◌&&◌, not, Bool, List, map, filter, length, count_by, slice_get, slice_index, slice_index_or, Contains, Some, IsSome}
+use Rattle.std.specs.Prelude.{ℕ, ◌≡◌, ◌≢◌, ◌⊎◌, ◌↔◌, ◌<◌, ◌≤◌, ◌^◌, ◌==◌, ◌&&◌, not, Bool, List, [], map, filter, length, count_by, slice_get, slice_index, slice_index_or, Contains, Some, IsSome}
 use Rattle.nmgc_graph.specs.Reach.{IsInOrder}
 use Rattle.nmgc_object.specs.FinQueue.{FinQueue}
 use Rattle.nmgc_object.specs.Words.{header_word}
@@ -11,7 +11,7 @@ use Rattle.nmgc_weak.specs.declared.weaks.OldWeak.{OldWeak}
 use Rattle.nmgc_weak.specs.Queues.{AllJoin}
 use Rattle.nmgc_weak.specs.Weaks.{alive_of, names_of, value_place}
 use Rattle.nmgc_cycle.specs.declared.collector.Collector.{Collector}
-use Rattle.nmgc_cycle.specs.Roots.{no_queue, queues_in}
+use Rattle.nmgc_cycle.specs.Roots.{queues_in}
 use Rattle.nmgc_cycle.specs.Shown.{words_in}
 
 -- whether by its words a weak pointer stands at the place that is alive
@@ -71,6 +71,10 @@ pub record HaveQueueRoom (list : List OldWeak) (old new : List Mutator) : Type 0
   pub count : length new ≡ length old
   pub each : (k : ℕ) (d : Mutator) → k < length old →
       HasQueueRoom (count_made_by (slice_index_or old k d).number list) (slice_index_or old k d) (slice_index_or new k d)
+
+-- a queue without words and without room
+abbrev pub no_queue : FinQueue
+no_queue = record { words = []; spare = 0 }
 
 -- the same mutators, with these queues
 pub record HaveQueues (queues : List FinQueue) (old new : List Mutator) : Type 0 where

@@ -1,9 +1,7 @@
 -- What mutators hold at a stop, and what a promotion leaves them.
-use Rattle.std.specs.Prelude.{ℕ, ◌≡◌, List, [], length, map}
-use Rattle.std.specs.List.{flat_map}
+use Rattle.std.specs.Prelude.{ℕ, ◌≡◌, List, length, map}
 use Rattle.nmgc_limits.specs.declared.mutators.TheConstants.{REGISTERS}
 use Rattle.nmgc_object.specs.FinQueue.{FinQueue}
-use Rattle.nmgc_object.specs.declared.words.Address.{Address}
 use Rattle.nmgc_heap.specs.Emptied.{emptied}
 use Rattle.nmgc_mutator.specs.AtStop.{cleared}
 use Rattle.nmgc_mutator.specs.declared.mutator.Mutator.{Mutator}
@@ -11,18 +9,6 @@ use Rattle.nmgc_mutator.specs.declared.mutator.Mutator.{Mutator}
 -- the queues of all mutators
 abbrev pub queues_in : List Mutator → List FinQueue
 queues_in mutators = map (λ (m : Mutator). m.queue) mutators
-
--- the places of all fields that they recorded
-abbrev pub addresses_of : List Mutator → List Address
-addresses_of mutators = flat_map (λ (m : Mutator). m.recorded.items) mutators
-
--- the places of all weak pointers that they made
-abbrev pub young_in : List Mutator → List Address
-young_in mutators = flat_map (λ (m : Mutator). m.young_weaks.items) mutators
-
--- a queue without words and without room
-abbrev pub no_queue : FinQueue
-no_queue = record { words = []; spare = 0 }
 
 -- it has as many registers as there are
 abbrev pub HasRegisters : Mutator → Type 0
