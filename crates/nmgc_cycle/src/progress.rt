@@ -1,10 +1,10 @@
 //! What the collector does beside the mutators: nothing, or it marks, or it sweeps.
 //!
-//! In a round it works on a thread of its own, and what it writes then are marks and segments that wait to be
-//! swept; the mutators look at neither. It passes the gate before each object that it scans and before each segment
-//! that it sweeps, and counts these turns through the whole run: marker and sweeper hand the count on. Segments are swept
-//! in two halves, and the upper one is on one more thread, which passes the gate under its own number and by its own
-//! count.
+//! In a round it works on a thread of its own, where it has something to do and somebody has commands left, and what it
+//! writes then are marks and segments that wait to be swept; the mutators look at neither. It passes the gate before each
+//! object that it scans and before each segment that it sweeps, and counts these turns through the whole run: marker and
+//! sweeper hand the count on. Segments are swept in two halves, and the upper one is on one more thread, which passes the
+//! gate under its own number and by its own count.
 //!
 //! The sweeper starts as its cycle begins, since it notes which segments are to be swept then; it works once the cycle
 //! was closed. What lies in these segments it reads from the array of names, which nobody writes in a round.
@@ -72,6 +72,16 @@ impl Progress {
         match self {
             Progress::Marking(_) => true,
             Progress::Idle | Progress::Sweeping(_) => false,
+        }
+    }
+
+    /// Whether there is something to do beside the mutators: an object to be scanned, or one of the waiting segments to be
+    /// swept. No clause speaks of the answer, for `work` is soon done where there is nothing. Takes no memory.
+    pub fn has_work(&self, waiting: u32) -> bool {
+        match self {
+            Progress::Idle => false,
+            Progress::Marking(marking) => !marking.marker.is_empty(),
+            Progress::Sweeping(_) => waiting > 0,
         }
     }
 

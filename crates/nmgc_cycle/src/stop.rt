@@ -27,6 +27,7 @@ ghost use Rattle.nmgc_cycle.specs.Stopping.{StandsStopped, CanList, HasListed, H
 use crate::Collector;
 use crate::leading::a_stop_leads;
 use crate::names::note_moves;
+use crate::worker::is_some_left;
 use nmgc_beside::laws::the_list_is_joined;
 use nmgc_graph::NoMemory;
 use nmgc_journal::{End, Phase, StopRow};
@@ -113,10 +114,7 @@ impl Collector {
         requires { length self.now.positions.items ≡ length script.now.threads }
         ensures { IsTrue result ↔ SomeIsLeft script.now.threads self.now.positions.items }
     {
-        script.threads.items().iter().zip(self.positions.iter()).any(|(
-            program,
-            position,
-        )| (*position as usize) < program.items().len())
+        is_some_left(script, self.positions.as_slice())
     }
 
     // Promotes what the round made, and answers how many objects moved. Weak pointers that were finalised in the round leave

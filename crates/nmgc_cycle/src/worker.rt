@@ -3,14 +3,18 @@
 //! A worker is a mutator with its seat. It reads its program from where it stands, and no other's, and notes how many
 //! commands it did; so the workers share the round alone, and what each did is told by its own contract.
 //!
+//! No thread is started for nothing: none for the collector where it has nothing to do, and none for anybody where no
+//! program has commands left.
+//!
 //! Easy to get wrong: where no thread can be started the caller does the work, one worker after the other. So nothing
 //! here may rest on two that run side by side.
-ghost use Rattle.std.specs.Prelude.{◌≡◌, ◌<◌, ◌≤◌, [], length, map, slice_index, vec_len, vec_capacity};
+ghost use Rattle.std.specs.Prelude.{◌≡◌, ◌↔◌, ◌<◌, ◌≤◌, [], IsTrue, length, map, slice_index, vec_len, vec_capacity};
 ghost use Rattle.nmgc_run.specs.Slice.{program_of};
 ghost use Rattle.std.specs.Thread.{IsSync};
 ghost use Rattle.std.specs.List.{list_any};
 ghost use Rattle.nmgc_updrem.specs.Rings.{HavePolled};
 ghost use Rattle.nmgc_cycle.specs.Cycles.{CanHelp, HasHelped};
+ghost use Rattle.nmgc_cycle.specs.Stopping.{SomeIsLeft};
 ghost use Rattle.nmgc_cycle.specs.Working.{asks_of, asks_full_of, left_at, CanWork, HasWorkedOn, CanAllWork, HaveAllWorked, workers_of, mutator_of, seat_of, done_by};
 
 use crate::progress::Progress;
@@ -51,7 +55,44 @@ impl Worker {
     }
 }
 
-/// Each does its slice of what is left of its program, in a thread of its own.
+/// Whether some program has commands left. Asks that there is a position for each.
+pub fn is_some_left(script: &Script, positions: &[u32]) -> bool
+    requires { length positions.now ≡ length script.now.threads }
+    ensures { IsTrue result ↔ SomeIsLeft script.now.threads positions.now }
+{
+    script.threads.items().iter().zip(positions.iter()).any(|(
+        program,
+        position,
+    )| (*position as usize) < program.items().len())
+}
+
+// In how many threads the slices are done: one each, or the caller's alone where there is nothing to do.
+fn threads_for(script: &Script, positions: &[u32]) -> usize
+    requires { length positions.now ≡ length script.now.threads }
+    ensures { 0 < result }
+{
+    if is_some_left(script, positions) {
+        MAKERS as usize
+    } else {
+        1
+    }
+}
+
+// Whether the collector's part of a round is worth a thread of its own: it has something to do, and somebody does a slice
+// beside it. No clause speaks of the answer.
+fn is_worth_a_thread(
+    progress: &Progress,
+    segments: &Segments,
+    script: &Script,
+    positions: &[u32],
+) -> bool
+    requires { length positions.now ≡ length script.now.threads }
+{
+    progress.has_work(segments.sweep_count()) && is_some_left(script, positions)
+}
+
+/// Each does its slice of what is left of its program, in a thread of its own. Where no program has commands left, no
+/// thread is started.
 pub fn work_all<R: Threads + Sync, G: Gate>(
     rt: &R,
     round: &Round,
@@ -63,10 +104,11 @@ pub fn work_all<R: Threads + Sync, G: Gate>(
     requires { CanAllWork round.now script.now positions.now workers.old }
     ensures { HaveAllWorked round.now script.now positions.now workers.old workers.new }
 {
+    let threads = threads_for(script, positions);
     thread::for_each_mut(
         rt,
         workers,
-        MAKERS as usize,
+        threads,
         &|number, worker: &mut Worker|
             requires { (number < length script.now.threads) × (number < length positions.now) ×
                 (slice_index positions.now number ≤ length (program_of script.now.threads number)) ×
@@ -81,8 +123,8 @@ pub fn work_all<R: Threads + Sync, G: Gate>(
     );
 }
 
-/// The same, and the collector does its part beside them, in a thread of its own too. One that is idle has none,
-/// and starts no thread.
+/// The same, and the collector does its part beside them, in a thread of its own too. Where it has nothing to do, or
+/// nobody has commands left, no thread is started for it: it does its part, and then they do theirs.
 pub fn work_beside<R: Threads + Sync, G: Gate>(
     rt: &R,
     round: &Round,
@@ -103,7 +145,9 @@ pub fn work_beside<R: Threads + Sync, G: Gate>(
     ensures mutators { HaveAllWorked round.now script.now positions.now workers.old workers.new }
     ensures polled { HavePolled inbox.old inbox.new }
 {
-    if let Progress::Idle = progress {
+    if !is_worth_a_thread(progress, segments, script, positions) {
+        let quota = script.config.quota;
+        progress.work(rt, round, seat, segments, names, inbox, quota, gate);
         work_all(rt, round, workers, script, positions, gate);
         return;
     }
