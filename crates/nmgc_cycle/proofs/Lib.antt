@@ -45,6 +45,7 @@ pub mod Opened
 pub mod Over
 pub mod OwnRows
 pub mod Pacing
+pub mod Parts
 pub mod Phases
 pub mod Plans
 pub mod Played

@@ -71,6 +71,19 @@ pub record HaveAllWorked (round : Round) (script : Script) (positions : List ℕ
   pub each : (k : ℕ) (d : Worker) → k < length old →
       HasWorkedOn round script.config.slice (left_at script positions k) (slice_index_or old k d) (slice_index_or new k d)
 
+-- the same of a part of the workers: those of the mutators from one number on
+pub record CanWorkFrom (round : Round) (script : Script) (positions : List ℕ) (from : ℕ) (workers : List Worker) : Type 0 where
+  pub threads_are : from + length workers ≤ length script.threads
+  pub positions_are : from + length workers ≤ length positions
+  pub within : (k : ℕ) → k < length workers → slice_index positions (from + k) ≤ length (program_of script.threads (from + k))
+  pub each : (k : ℕ) (d : Worker) → k < length workers →
+      CanWork round script.config.slice (left_at script positions (from + k)) (slice_index_or workers k d)
+
+pub record HaveWorkedFrom (round : Round) (script : Script) (positions : List ℕ) (from : ℕ) (old new : List Worker) : Type 0 where
+  pub count : length new ≡ length old
+  pub each : (k : ℕ) (d : Worker) → k < length old →
+      HasWorkedOn round script.config.slice (left_at script positions (from + k)) (slice_index_or old k d) (slice_index_or new k d)
+
 -- whether a worker's slice asks for a cycle, or for a full one
 abbrev pub asks_of : Worker → Bool
 asks_of worker = worker.asks

@@ -227,9 +227,9 @@ impl Collector {
 
     /// A whole run of a script: a stop, and then rounds, each with a stop after it, until a stop answers an end.
     ///
-    /// In a round each mutator works in a thread of its own, and passes `gate` before each command that it tries, and
-    /// so does the collector before each object that it scans and each segment that it sweeps; where a thread can't be
-    /// started, its work is done by this one. The report is lawful, to its end: `Done`, where every command was answered, or
+    /// In a round each mutator with commands left works in a thread of its own, and passes `gate` before each command that it
+    /// tries, and so does the collector before each object that it scans and each segment that it sweeps; where a thread can't
+    /// be started, its work is done by this one. The report is lawful, to its end: `Done`, where every command was answered, or
     /// `HeapFull`, exactly where a full cycle at the last stop left fewer segments free than the reserve, and commands are
     /// left. Then the last cycle, and the world with which that full cycle began, kept more objects than there are segments
     /// above the reserve. Asks what `new` asks. After `NoMemory` nothing of the run is left.

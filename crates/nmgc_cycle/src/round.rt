@@ -1,5 +1,5 @@
-//! A round: each mutator does a slice of what is left of its program, in a thread of its own, and beside them the
-//! collector marks or sweeps, where a cycle is in progress, in one too.
+//! A round: each mutator does a slice of what is left of its program, in a thread of its own where anything is, and beside
+//! them the collector marks or sweeps, where a cycle is in progress, in one too.
 //!
 //! What can fail comes first: room for the replies and for what the mutators note, and the lists that the round
 //! fills. Then the words go into the round and come back from it, and nothing in between can fail. Only then are the

@@ -3,23 +3,24 @@
 //! A worker is a mutator with its seat. It reads its program from where it stands, and no other's, and notes how many
 //! commands it did; so the workers share the round alone, and what each did is told by its own contract.
 //!
-//! No thread is started for nothing: none for the collector where it has nothing to do, and none for anybody where no
-//! program has commands left.
+//! No thread is started for nothing: none for a mutator whose program has ended, and none for the collector where it has
+//! nothing to do, or where no program has commands left. So the workers are split where half of those with commands left
+//! are on either side, and a part in which at most one has any does its slices one after the other.
 //!
 //! Easy to get wrong: where no thread can be started the caller does the work, one worker after the other. So nothing
 //! here may rest on two that run side by side.
-ghost use Rattle.std.specs.Prelude.{◌≡◌, ◌↔◌, ◌<◌, ◌≤◌, [], IsTrue, length, map, slice_index, vec_len, vec_capacity};
+ghost use Rattle.std.specs.Prelude.{◌≡◌, ◌↔◌, ◌+◌, ◌^◌, ◌<◌, ◌≤◌, [], IsTrue, length, map, slice_index, vec_len, vec_capacity};
 ghost use Rattle.nmgc_run.specs.Slice.{program_of};
 ghost use Rattle.std.specs.Thread.{IsSync};
 ghost use Rattle.std.specs.List.{list_any};
 ghost use Rattle.nmgc_updrem.specs.Rings.{HavePolled};
 ghost use Rattle.nmgc_cycle.specs.Cycles.{CanHelp, HasHelped};
 ghost use Rattle.nmgc_cycle.specs.Stopping.{SomeIsLeft};
-ghost use Rattle.nmgc_cycle.specs.Working.{asks_of, asks_full_of, left_at, CanWork, HasWorkedOn, CanAllWork, HaveAllWorked, workers_of, mutator_of, seat_of, done_by};
+ghost use Rattle.nmgc_cycle.specs.Working.{asks_of, asks_full_of, left_at, CanWork, HasWorkedOn, CanAllWork, HaveAllWorked, CanWorkFrom, HaveWorkedFrom, workers_of, mutator_of, seat_of, done_by};
 
 use crate::progress::Progress;
 use nmgc_alloc::Segments;
-use nmgc_graph::{Command, List, MAKERS};
+use nmgc_graph::{Command, List};
 use nmgc_mutator::{Mutator, SliceEnd};
 use nmgc_round::{CollectorSeat, Gate, MutatorSeat, Round};
 use nmgc_script::Script;
@@ -66,18 +67,6 @@ pub fn is_some_left(script: &Script, positions: &[u32]) -> bool
     )| (*position as usize) < program.items().len())
 }
 
-// In how many threads the slices are done: one each, or the caller's alone where there is nothing to do.
-fn threads_for(script: &Script, positions: &[u32]) -> usize
-    requires { length positions.now ≡ length script.now.threads }
-    ensures { 0 < result }
-{
-    if is_some_left(script, positions) {
-        MAKERS as usize
-    } else {
-        1
-    }
-}
-
 // Whether the collector's part of a round is worth a thread of its own: it has something to do, and somebody does a slice
 // beside it. No clause speaks of the answer.
 fn is_worth_a_thread(
@@ -91,7 +80,141 @@ fn is_worth_a_thread(
     progress.has_work(segments.sweep_count()) && is_some_left(script, positions)
 }
 
-/// Each does its slice of what is left of its program, in a thread of its own. Where no program has commands left, no
+// Whether a program has commands left. No clause speaks of the answer.
+fn has_commands(script: &Script, positions: &[u32], number: usize) -> bool
+    requires { (number < length script.now.threads) × (number < length positions.now) }
+{
+    let program = script.threads.items()[number].items();
+    (positions[number] as usize) < program.len()
+}
+
+// How many of the programs from one number up to another have commands left. No clause speaks of the answer.
+fn count_left(script: &Script, positions: &[u32], from: usize, end: usize) -> usize
+    requires { (end ≤ length script.now.threads) × (end ≤ length positions.now) }
+{
+    let mut count: usize = 0;
+    for number in from..end {
+        if has_commands(script, positions, number) {
+            count = count.saturating_add(1);
+        }
+    }
+    count
+}
+
+// With which of the workers from one number up to another the second part begins: each part has half of those with
+// commands left. `from` itself where at most one has any, and there are no parts.
+fn cut(script: &Script, positions: &[u32], from: usize, end: usize) -> usize
+    requires { (end ≤ length script.now.threads) × (end ≤ length positions.now) }
+    ensures { from < result → result < end }
+{
+    let half = count_left(script, positions, from, end) / 2;
+    if half == 0 {
+        return from;
+    }
+    let mut before: usize = 0;
+    for number in from..end {
+        if has_commands(script, positions, number) {
+            if before == half {
+                return number;
+            }
+            before = before.saturating_add(1);
+        }
+    }
+    from
+}
+
+// The workers from one number on do their slices, one after the other.
+fn work_in_turn<R: Threads + Sync, G: Gate>(
+    rt: &R,
+    round: &Round,
+    script: &Script,
+    positions: &[u32],
+    gate: &G,
+    from: usize,
+    workers: &mut [Worker],
+)
+    requires ready { CanWorkFrom round.now script.now positions.now from workers.old }
+    requires small { from + length workers.old < 2 ^ 64 }
+    ensures { HaveWorkedFrom round.now script.now positions.now from workers.old workers.new }
+{
+    thread::for_each_mut(
+        rt,
+        workers,
+        1,
+        &|index, worker: &mut Worker|
+            requires { (from + index < 2 ^ 64) × (from + index < length script.now.threads) × (from + index < length positions.now) ×
+                (slice_index positions.now (from + index) ≤ length (program_of script.now.threads (from + index))) ×
+                CanWork round.now script.now.config.slice (left_at script.now positions.now (from + index)) worker.now }
+            ensures { HasWorkedOn round.entry.now script.entry.now.config.slice (left_at script.entry.now positions.entry.now (from + index))
+                worker.entry.now worker.exit.now }
+        {
+            let number = from + index;
+            let program = script.threads.items()[number].items();
+            let left = &program[positions[number] as usize..];
+            worker.work(round, left, script.config.slice, gate);
+        },
+    );
+}
+
+// The workers from one number up to another do their slices, those with commands left in a thread of their own each.
+#[cycle(parts)]
+fn work_part<R: Threads + Sync, G: Gate>(
+    rt: &R,
+    round: &Round,
+    script: &Script,
+    positions: &[u32],
+    gate: &G,
+    from: usize,
+    end: usize,
+    workers: &mut [Worker],
+)
+    requires ready { CanWorkFrom round.now script.now positions.now from workers.old }
+    requires all { from + length workers.old ≡ end }
+    ensures { HaveWorkedFrom round.now script.now positions.now from workers.old workers.new }
+{
+    let middle = cut(script, positions, from, end);
+    if middle <= from {
+        work_in_turn(rt, round, script, positions, gate, from, workers);
+        return;
+    }
+    let (front, back) = workers.split_at_mut(middle - from);
+    both_parts(
+        rt, round, script, positions, gate, from, middle, end, front, back,
+    );
+}
+
+// Two parts in two threads; the caller has the first.
+#[cycle(parts)]
+fn both_parts<R: Threads + Sync, G: Gate>(
+    rt: &R,
+    round: &Round,
+    script: &Script,
+    positions: &[u32],
+    gate: &G,
+    from: usize,
+    middle: usize,
+    end: usize,
+    front: &mut [Worker],
+    back: &mut [Worker],
+)
+    requires cut { (from < middle) × (middle < end) }
+    requires front { CanWorkFrom round.now script.now positions.now from front.old × (from + length front.old ≡ middle) }
+    requires back { CanWorkFrom round.now script.now positions.now middle back.old × (middle + length back.old ≡ end) }
+    ensures front { HaveWorkedFrom round.now script.now positions.now from front.old front.new }
+    ensures back { HaveWorkedFrom round.now script.now positions.now middle back.old back.new }
+{
+    let mut first = ||
+        requires { IsSync R.row × CanWorkFrom round.now script.now positions.now from front.now × (from + length front.now ≡ middle) }
+        ensures { HaveWorkedFrom round.entry.now script.entry.now positions.entry.now from front.entry.now front.exit.now }
+    { work_part(rt, round, script, positions, gate, from, middle, front) };
+    let mut second = ||
+        requires { IsSync R.row × CanWorkFrom round.now script.now positions.now middle back.now × (middle + length back.now ≡ end) }
+        ensures { HaveWorkedFrom round.entry.now script.entry.now positions.entry.now middle back.entry.now back.exit.now }
+    { work_part(rt, round, script, positions, gate, middle, end, back) };
+    thread::join_mut(rt, &mut second, &mut first);
+}
+
+/// Each does its slice of what is left of its program, those with commands left in a thread of their own each. No other
 /// thread is started.
 pub fn work_all<R: Threads + Sync, G: Gate>(
     rt: &R,
@@ -104,23 +227,8 @@ pub fn work_all<R: Threads + Sync, G: Gate>(
     requires { CanAllWork round.now script.now positions.now workers.old }
     ensures { HaveAllWorked round.now script.now positions.now workers.old workers.new }
 {
-    let threads = threads_for(script, positions);
-    thread::for_each_mut(
-        rt,
-        workers,
-        threads,
-        &|number, worker: &mut Worker|
-            requires { (number < length script.now.threads) × (number < length positions.now) ×
-                (slice_index positions.now number ≤ length (program_of script.now.threads number)) ×
-                CanWork round.now script.now.config.slice (left_at script.now positions.now number) worker.now }
-            ensures { HasWorkedOn round.entry.now script.entry.now.config.slice (left_at script.entry.now positions.entry.now number)
-                worker.entry.now worker.exit.now }
-        {
-            let program = script.threads.items()[number].items();
-            let left = &program[positions[number] as usize..];
-            worker.work(round, left, script.config.slice, gate);
-        },
-    );
+    let count = workers.len();
+    work_part(rt, round, script, positions, gate, 0, count, workers);
 }
 
 /// The same, and the collector does its part beside them, in a thread of its own too. Where it has nothing to do, or

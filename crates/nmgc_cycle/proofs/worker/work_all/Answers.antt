@@ -1,0 +1,8 @@
+use Rattle.nmgc_cycle.proofs.Parts.{from_first, all_first}
+use Rattle.nmgc_cycle.proofs.worker.work_all.Goals as goal
+
+pub work_part-requires-clause-ready : goal.work_part-requires-clause-ready
+work_part-requires-clause-ready g c κs within = from_first c.args.round.now c.args.script.now c.args.positions.now c.args.workers.now c.requires
+
+pub returns : goal.returns
+returns g c = all_first c.args.round.now c.args.script.now c.args.positions.now c.args.workers.now _ c.work_part.ensures
