@@ -11,3 +11,5 @@ mod of_full;
 mod of_gates;
 #[cfg(test)]
 mod of_retain;
+#[cfg(test)]
+mod worked;

@@ -6,7 +6,8 @@
 ghost use Rattle.std.specs.Prelude.{◌≤◌, length, IfOk, IfSome};
 ghost use Rattle.nmgc_cycle.specs.Limits.{IsInLimits};
 
-use crate::of_cycle::{CYCLES, EXCHANGE, Meet, RUNS, script_of, told};
+use crate::of_cycle::{Meet, script_of, told};
+use crate::worked::{EXCHANGE, THREE_SEGMENTS, WAITING};
 use itoa::Buffer;
 use nmgc_cycle::{Collector, StopEnd};
 use nmgc_graph::{MAKERS, NoMemory};
@@ -191,9 +192,9 @@ fn check_passes<R: Threads + Sync + Abort>(
 #[test]
 fn each_unit_of_work_has_its_pass(rt: HostRuntime) -> Result<(), Fail> {
     check_passes(rt.alloc(), &rt, EXCHANGE, &[(0, 5), (1, 6)])?;
-    check_passes(rt.alloc(), &rt, RUNS[3].0, &[(0, 18)])?;
+    check_passes(rt.alloc(), &rt, WAITING, &[(0, 18)])?;
     let passes = [(0, 52), (MAKERS, 33), (MAKERS + 1, 1)];
-    check_passes(rt.alloc(), &rt, CYCLES[1].0, &passes)
+    check_passes(rt.alloc(), &rt, THREE_SEGMENTS, &passes)
 }
 
 // A collector after two rounds of a script, each after a stop. `None` where one of these ended the run.
