@@ -1,7 +1,7 @@
 //! Small cycles, most of them with weak pointers, as a table: what one mutator did before marking began, what it does while
-//! marking runs, and what is marked, queued and answered in the end.
+//! marking runs, and what is marked, queued and answered in the end. One of them also as whole lists of events.
 
-use super::tests::{begin, drain, feed, give, marks, marks_kept, name};
+use super::tests::{begin, drain, feed, give, marks, marks_kept, name, run};
 use nmgc_core::{Core, Event};
 use nmgc_graph::{Command, List, Name, Operand, Reply, Value, World};
 use std::alloc::Global;
@@ -188,17 +188,20 @@ fn is_right(alloc: Global, row: Row) -> Result<bool, Fail> {
     ends_so(alloc, &mut core, row)
 }
 
+// Two arrays, of which the first has the only references to an object.
+const TWO_ARRAYS: [Do; 5] = [
+    Do::Num(1, 5),
+    Do::Con(4, 1),
+    Do::Arr(0, 4),
+    Do::Arr(2, 1),
+    Do::Nil(4),
+];
+
 // A reference is read out of an array, written into another one, and erased where it was, while marking runs.
 #[test]
 fn a_reference_that_is_moved_and_erased_is_marked(rt: HostRuntime) -> Result<(), Fail> {
     let row = Row {
-        before: &[
-            Do::Num(1, 5),
-            Do::Con(4, 1),
-            Do::Arr(0, 4),
-            Do::Arr(2, 1),
-            Do::Nil(4),
-        ],
+        before: &TWO_ARRAYS,
         cells: 13,
         during: &[
             (Do::Get(4, 0), Reply::Given(object(0))),
@@ -214,6 +217,111 @@ fn a_reference_that_is_moved_and_erased_is_marked(rt: HostRuntime) -> Result<(),
     };
     let right = is_right(rt.alloc(), row)?;
     assert!(rt; right);
+    Ok(())
+}
+
+// One event of the one mutator or the collector.
+#[derive(Clone, Copy)]
+enum Step {
+    // A command, and its answer.
+    Give(Do, Reply),
+    Push,
+    Scan,
+    Take,
+    Close,
+}
+
+// The event itself.
+fn event(alloc: Global, step: Step) -> Result<Event, Fail> {
+    Ok(match step {
+        Step::Give(what, answer) => Event::Command {
+            mutator: 0,
+            command: command(alloc, what)?,
+            answer,
+        },
+        Step::Push => Event::Push { mutator: 0 },
+        Step::Scan => Event::Scan,
+        Step::Take => Event::Take { mutator: 0 },
+        Step::Close => Event::Close,
+    })
+}
+
+// Appends an event so often.
+fn push_event(alloc: Global, events: &mut Vec<Event>, step: Step, times: u32) -> Result<(), Fail> {
+    for _ in 0..times {
+        let event = event(alloc, step)?;
+        events.push(event)?;
+    }
+    Ok(())
+}
+
+// The list of these events, each so often in a line.
+fn listed(alloc: Global, steps: &[(Step, u32)]) -> Result<Vec<Event>, Fail> {
+    let mut events = Vec::new(alloc);
+    for (step, times) in steps {
+        push_event(alloc, &mut events, *step, *times)?;
+    }
+    Ok(events)
+}
+
+// The run of such a list from a world.
+fn run_listed(alloc: Global, world: World, steps: &[(Step, u32)]) -> Result<Core, Fail> {
+    let events = listed(alloc, steps)?;
+    run(world, events.as_slice())
+}
+
+// The same reference, which is moved and erased while the collector looks at the first array. It is owed twice: it is
+// pushed and taken so often, and then so many positions are scanned.
+fn moved_and_erased(pushes: u32, scans: u32) -> [(Step, u32); 13] {
+    [
+        (Step::Scan, 1),
+        (Step::Give(Do::Get(4, 0), Reply::Given(object(0))), 1),
+        (Step::Give(Do::Set(2, 1, 4), Reply::Fine), 1),
+        (Step::Give(Do::Set(0, 0, 1), Reply::Fine), 1),
+        (Step::Scan, 1),
+        (Step::Give(Do::Set(0, 1, 1), Reply::Fine), 1),
+        (Step::Scan, 1),
+        (Step::Give(Do::Nil(4), Reply::Fine), 1),
+        (Step::Give(Do::Nil(0), Reply::Fine), 1),
+        (Step::Push, pushes),
+        (Step::Take, pushes),
+        (Step::Scan, scans),
+        (Step::Close, 1),
+    ]
+}
+
+// The end of that list.
+fn end_of_moved(alloc: Global, pushes: u32, scans: u32) -> Result<Core, Fail> {
+    let world = world_after(alloc, &TWO_ARRAYS, 13)?;
+    run_listed(alloc, world, moved_and_erased(pushes, scans).as_slice())
+}
+
+// Whether all sixteen objects are marked at that end, and marking has ended or hasn't, as is said.
+fn ends_all_marked(alloc: Global, pushes: u32, scans: u32, closed: bool) -> Result<bool, Fail> {
+    let core = end_of_moved(alloc, pushes, scans)?;
+    let marked = marks_serials(
+        &core,
+        &[0, 1, 2, 3, 4, 5, 6, 7, 8, 9, 10, 11, 12, 13, 14, 15],
+    )?;
+    let exact = marks_kept(&core)?;
+    Ok(marked && exact && core.is_closed() == closed)
+}
+
+// Three positions of the first array, three of the second, two of the object and three of each of 13 cells are scanned,
+// three of them before the pushes. What can't happen is left out: a scan too many, and a closing while a position is left or
+// something is owed.
+#[test]
+fn a_list_of_events_is_run(rt: HostRuntime) -> Result<(), Fail> {
+    for (pushes, scans, closed) in [
+        (2u32, 44u32, true),
+        (2, 60, true),
+        (2, 43, false),
+        (1, 60, false),
+        (0, 60, false),
+    ] {
+        let right = ends_all_marked(rt.alloc(), pushes, scans, closed)?;
+        assert!(rt; right);
+    }
     Ok(())
 }
 

@@ -383,7 +383,7 @@ fn begin_copy(start: &World) -> Result<Core, Fail> {
 }
 
 // The run of the events from this world.
-fn run(start: World, events: &[Event]) -> Result<Core, Fail> {
+pub(crate) fn run(start: World, events: &[Event]) -> Result<Core, Fail> {
     Ok(Core::run(start, events)?)
 }
 
