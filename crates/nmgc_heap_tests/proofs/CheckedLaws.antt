@@ -11,6 +11,7 @@ use Rattle.nmgc_object.specs.Places.{nursery_place}
 use Rattle.nmgc_object.specs.declared.layout.Layout.{Layout}
 use Rattle.nmgc_object.specs.declared.layout.Nursery.{Nursery}
 use Rattle.nmgc_object.specs.declared.words.Header.{Header}
+use Rattle.nmgc_object.specs.declared.layout.TheConstants.{SHARED_PLACE, FIRST_PLACE}
 use Rattle.nmgc_object.specs.declared.size.TheConstants.{HEADER_WORDS}
 use Rattle.nmgc_alloc.specs.Segments.{Segments, IsSegments}
 use Rattle.nmgc_alloc.specs.Reserve.{KeepsReserve}
@@ -44,11 +45,11 @@ module _ (layout : Layout) (base : ℕ) (words sizes : List ℕ) (nurseries : Li
   made : (k : ℕ) → slice_index sizes k ≢ 0 → IsMade layout base words sizes nurseries k
   made k ne = h.objects.each k (inside k ne) ne
 
-  start_points : (word : ℕ) → 32 ≤ base → IsStart inputs words word → PointsWell base sizes word
+  start_points : (word : ℕ) → FIRST_PLACE ≤ base → IsStart inputs words word → PointsWell base sizes word
   start_points word low (IsStart.register c) = h.registers word c
   start_points word low (IsStart.queued queue c d) = h.queues queue word c d
   start_points word low (IsStart.shared i lt e) = let n = h.long in
-      subst (λ (x : ℕ). PointsWell base sizes x) e (h.words_point (3 + i) (omega (arith, lt, low, n)))
+      subst (λ (x : ℕ). PointsWell base sizes x) e (h.words_point (SHARED_PLACE + HEADER_WORDS + i) (omega (arith, lt, low, n)))
   start_points word low (IsStart.recorded at c e) = let n = h.long in let l = h.recorded at c in
       subst (λ (x : ℕ). PointsWell base sizes x) e (h.words_point at (omega (arith, l, n)))
   start_points word low (IsStart.weak at c alive e) = subst (λ (x : ℕ). PointsWell base sizes x) e (h.weaks at c).0
@@ -106,7 +107,7 @@ module _ (layout : Layout) (base : ℕ) (words sizes : List ℕ) (nurseries : Li
       subst (λ (x : ℕ). PointsWell base sizes x) s.is (h.words_point (base + k + HEADER_WORDS + s.index) (omega (arith, few, count, before, in')))
 
   -- what is found is an object
-  found_made : (at : ℕ) → 32 ≤ base → IsFound base words (IsStart inputs words) at → (base ≤ at) × (slice_index sizes (at - base) ≢ 0)
+  found_made : (at : ℕ) → FIRST_PLACE ≤ base → IsFound base words (IsStart inputs words) at → (base ≤ at) × (slice_index sizes (at - base) ≢ 0)
   found_made at low (IsFound.start _ l s) = (l, start_points (2 * at) low s at refl l)
   found_made at low (IsFound.field from _ f l s) =
       let m = found_made from low f in
@@ -233,7 +234,7 @@ module _ (layout : Layout) (base : ℕ) (words sizes : List ℕ) (nurseries : Li
       let b = h.begins in
       let e : y.base ≡ base = begins ∙ ap (λ (l : Layout). nursery_place l 0) same_layout ∙ sym h.begins in
       let count : length y.table.items ≡ layout.mutators * layout.nursery = size ∙ ap (λ (l : Layout). l.mutators * l.nursery) same_layout in
-      let low : 32 ≤ base = omega (arith, b) in
+      let low : FIRST_PLACE ≤ base = omega (arith, b) in
       let long = h.long in
       record {
         sound = sound;

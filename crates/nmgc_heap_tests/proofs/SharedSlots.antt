@@ -4,6 +4,7 @@ use Rattle.std.specs.Prelude.{Contains, slice_get, slice_index_or}
 use Rattle.std.proofs.lemmas.List.{length-replicate, get_or-replicate}
 use mathlib.Core.Option.{some, some-injective, some-ne-none}
 use lib.ListN.{get_elem?}
+use Rattle.nmgc_limits.specs.declared.mutators.TheConstants.{SHARED_SLOTS}
 use Rattle.nmgc_graph.specs.declared.node.Kind.TheVariants as kind
 use Rattle.nmgc_graph.specs.declared.command.Command.{Command}
 use Rattle.nmgc_graph.specs.declared.command.Command.TheVariants.{Var, Get, Set, Yield}
@@ -95,9 +96,9 @@ module _ (layout : Layout) (m base : ℕ) where
       let q : Part = knowing (doing p Yield (told_by (hand_now (first_opening layout) p) p.fixed Yield) []) 1 0 z in
       has_part q refl w (f ∙ ap (λ (u : Seen). taken u 1 0 Yield z) e)
 
--- the array with 16 fields
+-- the array with as many fields as g has slots
 abbrev array : Header
-array = record { kind = kind.Arr; tag = 0; fields = 16 }
+array = record { kind = kind.Arr; tag = 0; fields = SHARED_SLOTS }
 
 module _ (layout : Layout) (is : IsLayout layout) (m : ℕ) (mine : m < layout.mutators) (base : ℕ) (here : base ≡ nursery_place layout m) where
   abbrev o : Opening
@@ -159,8 +160,8 @@ module _ (layout : Layout) (is : IsLayout layout) (m : ℕ) (mine : m < layout.m
           }) (contains_head (record { at = base + 2; word = 1 }) (after_name layout m base h n).unborn)
       field (suc i) w e = absurd cc
 
-  module _ (h n : ℕ) (is_array : h ≡ 32771) (most : layout.mutators ≤ 16) where
-    few : m < 16
+  module _ (h n : ℕ) (is_array : h ≡ 32771) (most : layout.mutators ≤ SHARED_SLOTS) where
+    few : m < SHARED_SLOTS
     few = omega arith
 
     -- the header of g is named after the birth

@@ -1,12 +1,13 @@
-//! Rounds from the heap of which nothing was made, with one to sixteen mutators in threads of their own.
+//! Rounds from the heap of which nothing was made, with as many mutators as g has slots or fewer, in threads of their own.
 ghost use Rattle.std.specs.Prelude.{◌≡◌, ◌<◌, ◌≤◌, ℕ, [], All, IfOk, length, map, vec_capacity, slice_index_or};
+ghost use Rattle.nmgc_limits.specs.declared.mutators.TheConstants.{SHARED_SLOTS};
 ghost use Rattle.nmgc_object.specs.Places.{IsLayout, word_total};
 ghost use Rattle.nmgc_round.specs.Seat.{RoundSeat, IsAt, seen, word_count, opening_of};
 ghost use Rattle.nmgc_round.specs.Seating.{alone, alones};
 ghost use Rattle.nmgc_round.specs.Empty.{IsEmptyHeap, first_opening};
 ghost use Rattle.nmgc_round.specs.Ready.{HasPart};
 
-use nmgc_graph::{Command, Name, NoMemory, Operand, Place};
+use nmgc_graph::{Command, Name, NoMemory, Operand, Place, SHARED_SLOTS};
 use nmgc_object::{Address, Layout, encode_name};
 use nmgc_round::chosen::Wanted;
 use nmgc_round::{Chosen, Gate, MutatorSeat, OpenGate, Opened, Round, Started, Words};
@@ -46,7 +47,7 @@ fn work(round: &Round, seat: &mut MutatorSeat, layout: Layout, number: u8) -> (u
     requires seat { IsAt round.now seat.old × (seen seat.old ≡ alone (first_opening layout) number) }
     requires round { word_count round.now ≡ word_total layout }
     requires layout { IsLayout layout × (number < layout.mutators) }
-    requires few { layout.mutators ≤ 16 }
+    requires few { layout.mutators ≤ SHARED_SLOTS }
     ensures { IsAt round.now seat.new × HasPart (seen seat.new) number }
 {
     OpenGate.pass(number, 1);
@@ -86,7 +87,7 @@ fn work(round: &Round, seat: &mut MutatorSeat, layout: Layout, number: u8) -> (u
 // Each in a thread of its own.
 fn work_all<R: Threads + Sync>(rt: &R, round: &Round, seats: &mut [MutatorSeat], layout: Layout)
     requires round { word_count round.now ≡ word_total layout }
-    requires layout { IsLayout layout × (layout.mutators ≤ 16) }
+    requires layout { IsLayout layout × (layout.mutators ≤ SHARED_SLOTS) }
     requires seats { (length seats.old ≡ layout.mutators) × ((k : ℕ) (d : RoundSeat) → k < length seats.old →
         IsAt round.now (slice_index_or seats.old k d) × (seen (slice_index_or seats.old k d) ≡ alone (first_opening layout) k)) }
     ensures count { length seats.new ≡ length seats.old }
@@ -96,10 +97,10 @@ fn work_all<R: Threads + Sync>(rt: &R, round: &Round, seats: &mut [MutatorSeat],
     thread::for_each_mut(
         rt,
         seats,
-        16,
+        usize::from(SHARED_SLOTS),
         &|number, seat: &mut MutatorSeat|
             requires { IsAt round.now seat.now × (seen seat.now ≡ alone (first_opening layout) number) ×
-                (word_count round.now ≡ word_total layout) × IsLayout layout × (number < layout.mutators) × (layout.mutators ≤ 16) }
+                (word_count round.now ≡ word_total layout) × IsLayout layout × (number < layout.mutators) × (layout.mutators ≤ SHARED_SLOTS) }
             ensures { IsAt round.entry.now seat.exit.now × HasPart (seen seat.exit.now) number }
         {
             work(round, seat, layout, number as u8);
@@ -116,7 +117,7 @@ fn worked<R: Threads + Sync>(
     place: Place<MutatorSeat>,
 ) -> (Words, bool)
     requires layout { IsLayout layout }
-    requires few { layout.mutators ≤ 16 }
+    requires few { layout.mutators ≤ SHARED_SLOTS }
     requires heap { IsEmptyHeap layout words }
     requires room { (room.items ≡ []) × (layout.mutators ≤ vec_capacity room) }
     ensures { length result.0 ≡ word_total layout }
@@ -146,7 +147,7 @@ fn is_done(words: &[u64], layout: &Layout, mutator: u8) -> bool
 }
 
 fn small(mutators: u8) -> Layout
-    requires { (0 < mutators) × (mutators ≤ 16) }
+    requires { (0 < mutators) × (mutators ≤ SHARED_SLOTS) }
     ensures layout { IsLayout result }
     ensures count { result.mutators ≡ mutators }
 {
@@ -173,7 +174,7 @@ fn words_of(alloc: Global, words: Words) -> Result<Vec<u64>, NoMemory> {
 
 #[test]
 fn what_each_mutator_did_stands_in_the_words(rt: HostRuntime) -> Result<(), Fail> {
-    for mutators in 1..17u8 {
+    for mutators in 1..SHARED_SLOTS + 1 {
         let layout = small(mutators);
         let words = empty_heap(rt.alloc(), &layout)?;
         let room = Vec::with_capacity(rt.alloc(), usize::from(mutators))?;
