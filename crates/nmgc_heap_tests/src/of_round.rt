@@ -10,7 +10,7 @@ ghost use Rattle.nmgc_round.specs.Ready.{HasPart};
 use nmgc_graph::{Command, Name, NoMemory, Operand, Place, SHARED_SLOTS};
 use nmgc_object::{Address, Layout, encode_name};
 use nmgc_round::chosen::Wanted;
-use nmgc_round::{Chosen, Gate, MutatorSeat, OpenGate, Opened, Round, Started, Words};
+use nmgc_round::{Chosen, Gate, MutatorSeat, OpenGate, Opened, Round, Started, Words, laws};
 use std::alloc::Global;
 use std::test::Fail;
 use std::thread;
@@ -122,7 +122,7 @@ fn worked<R: Threads + Sync>(
     requires room { (room.items ≡ []) × (layout.mutators ≤ vec_capacity room) }
     ensures { length result.0 ≡ word_total layout }
 {
-    nmgc_round::laws::empty_heap_opens();
+    laws::empty_heap_opens();
     let opening = first_of(&layout);
     let Started {
         round,
@@ -191,4 +191,37 @@ fn what_each_mutator_did_stands_in_the_words(rt: HostRuntime) -> Result<(), Fail
         }
     }
     Ok(())
+}
+
+// Each law asks nothing.
+#[test]
+fn laws_ask_nothing(rt: HostRuntime) {
+    let _ = &rt;
+    laws::fixed_load();
+    laws::fixed_load_of_command();
+    laws::field_load();
+    laws::field_swap();
+    laws::field_exchange();
+    laws::result_load();
+    laws::result_exchange();
+    laws::weak_load();
+    laws::weak_swap();
+    laws::slot_load();
+    laws::slot_swap();
+    laws::slot_refusal();
+    laws::unborn_store();
+    laws::birth();
+    laws::scan();
+    laws::empty_heap_opens();
+    laws::old_stacks_are_listed();
+    laws::words_open();
+    laws::mutator_split();
+    laws::collector_split();
+    laws::join();
+    laws::round_end();
+    laws::words_represent();
+    laws::replies_are_named();
+    laws::events_are_a_history();
+    laws::histories_have_the_rows();
+    laws::events_are_of_the_machine();
 }
