@@ -4,11 +4,13 @@
 ghost use Rattle.std.specs.Prelude.{IfOk, ◌≡◌, length};
 ghost use Rattle.nmgc_fin.specs.Handles.{AreNumbered};
 
-use nmgc_fin::{Handled, Job, JobsFault, jobs, nmgc_fin, run_jobs};
+use nmgc_fin::order::handled_text;
+use nmgc_fin::{FinStatus, Handled, Job, JobsFault, jobs, nmgc_fin, run_jobs};
 use nmgc_graph::{Name, SHARED_MAKER};
 use nmgc_io::{MemorySink, MemorySource};
 use nmgc_round::{Gate, OpenGate};
-use std::alloc::Global;
+use std::alloc::{AllocError, Global};
+use std::process::Abort;
 use std::sync::Wait;
 use std::sync::atomic::{AtomicU64, Ordering};
 use std::test::Fail;
@@ -89,6 +91,83 @@ fn rows_have_these_texts(rt: HostRuntime) -> Result<(), Fail> {
         assert!(rt; status == number);
         assert!(rt; found.as_slice() == text.as_bytes());
     }
+    Ok(())
+}
+
+// A report with two dead weak pointers, and what is told of it.
+const TWO: &str = "report 1\n0 dead\ndead 0.4\ndead g\nend done\n";
+
+const TWO_JOBS: &str = "jobs 2\njob 0 0.4\njob 1 g\nend\n";
+
+// The number of one call.
+fn listed(alloc: Global, call: u64) -> Result<Vec<u64>, AllocError> {
+    let mut calls = Vec::new(alloc);
+    calls.push(call)?;
+    Ok(calls)
+}
+
+// What three workers leave of that report, in pieces of 5 bytes, where the read and the write of these numbers fail: the status,
+// and what the sink has. No call has number 0.
+fn failing<R: Threads + Wait + Sync>(
+    alloc: Global,
+    rt: &R,
+    read: u64,
+    write: u64,
+) -> Result<(FinStatus, Vec<u8>), Fail> {
+    let mut words = Vec::new(alloc);
+    words.push(String::from_str(alloc, "3")?)?;
+    let bytes = Vec::from_slice(alloc, TWO.as_bytes())?;
+    let mut source = MemorySource::new(bytes, 5, listed(alloc, read)?);
+    let mut sink = MemorySink::new(alloc, 5, listed(alloc, write)?, 1000)?;
+    let status = nmgc_fin(alloc, rt, words.as_slice(), &mut source, &mut sink);
+    let text = Vec::from_slice(alloc, sink.bytes())?;
+    Ok((status, text))
+}
+
+// Looks whether each single read that fails is told: one for each of nine pieces, and one that finds the end.
+fn check_reads<R: Threads + Wait + Sync + Abort>(rt: &R, alloc: Global) -> Result<(), Fail> {
+    for read in 1..11 {
+        let (status, text) = failing(alloc, rt, read, 0)?;
+        assert!(rt; status == FinStatus::ReadFault);
+        assert!(rt; text.as_slice() == b"read fault\n".as_slice());
+    }
+    Ok(())
+}
+
+// Looks whether each single write that fails is told, with what was written before.
+fn check_writes<R: Threads + Wait + Sync + Abort>(rt: &R, alloc: Global) -> Result<(), Fail> {
+    let all = TWO_JOBS.as_bytes();
+    for write in 1..7 {
+        let (status, text) = failing(alloc, rt, 0, write)?;
+        let written = (5 * (write as usize - 1)).min(all.len());
+        assert!(rt; status == FinStatus::WriteFault);
+        assert!(rt; text.as_slice() == &all[..written]);
+    }
+    Ok(())
+}
+
+#[test]
+fn each_read_and_each_write_fails(rt: HostRuntime) -> Result<(), Fail> {
+    assert!(rt; TWO.len().div_ceil(5) == 9 && TWO_JOBS.len().div_ceil(5) == 6);
+    check_reads(&rt, rt.alloc())?;
+    check_writes(&rt, rt.alloc())?;
+    let (status, text) = failing(rt.alloc(), &rt, 11, 7)?;
+    assert!(rt; status == FinStatus::Done);
+    assert!(rt; text.as_slice() == TWO_JOBS.as_bytes());
+    Ok(())
+}
+
+#[test]
+fn names_have_their_lines(rt: HostRuntime) -> Result<(), Fail> {
+    let names = [
+        Name {
+            maker: 0,
+            serial: 4,
+        },
+        Name::SHARED,
+    ];
+    assert!(rt; handled_text(rt.alloc(), &names)?.as_slice() == TWO_JOBS.as_bytes());
+    assert!(rt; handled_text(rt.alloc(), &[])?.as_slice() == b"jobs 0\nend\n".as_slice());
     Ok(())
 }
 

@@ -1,9 +1,12 @@
 //! Two markers that wait for each other at a gate of the test, each with an object of its own.
 //!
 //! The gate gives up after many turns of its spin, and notes it, so markers on one thread fail the test and don't hang.
+ghost use Rattle.std.specs.Prelude.{◌<◌, length};
+
+use nmgc_graph::List;
 use nmgc_object::laws::words_differ;
-use nmgc_pmark::Bounds;
 use nmgc_pmark::crew::places_marked;
+use nmgc_pmark::{Bounds, StillWords};
 use nmgc_round::Gate;
 use std::sync::atomic::{AtomicU64, Ordering};
 use std::test::Fail;
@@ -67,5 +70,21 @@ fn markers_run_beside_each_other(rt: HostRuntime) -> Result<(), Fail> {
     for list in lists.as_slice() {
         assert!(rt; list.items().len() == 1);
     }
+    Ok(())
+}
+
+// The word at a place that is there.
+fn word<W: StillWords>(words: &W, at: usize) -> u64
+    requires { at < length (W.words words.now) }
+{
+    words.word(at)
+}
+
+#[test]
+fn still_words_are_read(rt: HostRuntime) -> Result<(), Fail> {
+    let vector = Vec::from_slice(rt.alloc(), &[7u64, 8u64])?;
+    assert!(rt; word(&vector, 1) == 8);
+    let list = List::from_vec(vector)?;
+    assert!(rt; word(&list, 0) == 7);
     Ok(())
 }

@@ -1,8 +1,8 @@
 //! Entries come out in the order of their pushes, and blocks go through a ring.
-ghost use Rattle.std.specs.Prelude.{◌≡◌, ◌+◌, ◌<◌, ◌≤◌};
+ghost use Rattle.std.specs.Prelude.{◌≡◌, ◌+◌, ◌<◌, ◌≤◌, length, IfOk};
 ghost use Rattle.nmgc_updrem.specs.Rings.{IsPair};
 
-use nmgc_graph::NoMemory;
+use nmgc_graph::{NoMemory, Place, Placed};
 use nmgc_object::Address;
 use nmgc_updrem::*;
 use std::alloc::Global;
@@ -135,5 +135,69 @@ fn nothing_is_lost_beside_a_mutator(rt: HostRuntime) -> Result<(), Fail> {
     for _turn in 0..20u32 {
         assert!(rt; beside(&rt, rt.alloc())? == 20_000);
     }
+    Ok(())
+}
+
+// An inbox for two mutators.
+fn inbox_of(alloc: Global, first: UpdReceiver, second: UpdReceiver) -> Result<Inbox, NoMemory>
+    ensures { IfOk result (λ inbox. length inbox ≡ 2) }
+{
+    let mut receivers = Vec::new(alloc);
+    receivers.push(first)?;
+    receivers.push(second)?;
+    let place = Place::new(alloc)?;
+    Ok(Inbox::new(Placed::of(receivers, place)))
+}
+
+// A mutator's ring is polled.
+#[tactic(auto, using(crate::proofs::Lines::same_count))]
+fn poll_one(inbox: &mut Inbox, mutator: u8) -> Polled
+    requires { mutator < length inbox.old }
+    ensures { length inbox.new ≡ length inbox.old }
+{
+    inbox.poll(mutator)
+}
+
+// Room is made for more entries of a mutator.
+#[tactic(auto, using(crate::proofs::Lines::same_count))]
+fn reserve_one(inbox: &mut Inbox, mutator: u8, entries: u32) -> Result<(), NoMemory>
+    requires { mutator < length inbox.old }
+    ensures { length inbox.new ≡ length inbox.old }
+{
+    inbox.reserve(mutator, entries)
+}
+
+// A mutator's list is emptied.
+#[tactic(auto, using(crate::proofs::Lines::same_count))]
+fn clear_one(inbox: &mut Inbox, mutator: u8)
+    requires { mutator < length inbox.old }
+    ensures { length inbox.new ≡ length inbox.old }
+{
+    inbox.clear(mutator);
+}
+
+#[test]
+fn an_inbox_has_a_list_for_each_mutator(rt: HostRuntime) -> Result<(), Fail> {
+    let (mut sender, receiver) = link(rt.alloc())?;
+    let (_other, quiet) = link(rt.alloc())?;
+    let mut kept = UpdRem::new(rt.alloc());
+    kept.reserve(192)?;
+    push_all(&mut kept, &mut sender, 0, 192);
+    assert!(rt; kept.entries() == [].as_slice());
+    let mut inbox = inbox_of(rt.alloc(), receiver, quiet)?;
+    assert!(rt; poll_one(&mut inbox, 0) == Polled::NoRoom);
+    reserve_one(&mut inbox, 0, 64)?;
+    assert!(rt; poll_one(&mut inbox, 0) == Polled::Took);
+    assert!(rt; poll_one(&mut inbox, 0) == Polled::NoRoom);
+    assert!(rt; counted(inbox.entries(0), 0) == 64);
+    reserve_one(&mut inbox, 0, 64)?;
+    reserve_one(&mut inbox, 1, 64)?;
+    inbox.poll_each(2);
+    assert!(rt; counted(inbox.entries(0), 0) == 128);
+    assert!(rt; inbox.entries(1) == [].as_slice());
+    assert!(rt; poll_one(&mut inbox, 1) == Polled::Nothing);
+    clear_one(&mut inbox, 0);
+    assert!(rt; poll_one(&mut inbox, 0) == Polled::Took);
+    assert!(rt; counted(inbox.entries(0), 128) == 192);
     Ok(())
 }

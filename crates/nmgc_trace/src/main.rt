@@ -70,3 +70,6 @@ fn is_whole<R: io::BufRead + Drop>(
         Err(TraceFault::Io(error)) => Err(error),
     }
 }
+
+#[cfg(test)]
+mod tests;
