@@ -4,7 +4,7 @@
 //! `trace 2` is of format 2: its barrier is watched (`nmgc_watch`), cycle by cycle, and the first line that can't happen
 //! is told with the reason. Any other is of format 1: its lines are done, one by one, by the core machine
 //! (`nmgc_core`), marker and all. `docs/GUIDE.md` has the forms, and says how to write one for a runtime of one's own.
-//! What a text says and comes to is told by `nmgc_judge`.
+//! What a text says and comes to is told by `nmgc_judge`, whose tests stand here too, since nothing else stands on it.
 //!
 //! The word `--live` is standard input too, for a runtime that writes its trace into a pipe while it runs: each empty
 //! line of a trace of format 2 is answered by the line `ok` once all lines before it have happened, and the line that
