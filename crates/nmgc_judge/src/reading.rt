@@ -2,8 +2,9 @@
 //!
 //! The first line tells the format. A line is judged as soon as it was read, and then forgotten: so memory is that of
 //! the heap of which the trace tells, and whoever writes a trace into a pipe is answered at the line that is wrong.
-ghost use Rattle.std.specs.Prelude.{List, ◌≡◌, IfOk};
-ghost use Rattle.nmgc_judge.specs.Outcomes.{IsOutcome};
+ghost use Rattle.std.specs.Prelude.{List, ◌≡◌, IfErr, IfOk};
+ghost use Rattle.nmgc_judge.specs.Outcomes.{IsFault, IsOutcome, is_passed_of};
+ghost use Rattle.nmgc_judge.specs.declared.reading.TraceFault.TheVariants.{NoMemory as no_memory};
 ghost use Rattle.nmgc_judge.specs.declared.line.Line.{Line as LineAt};
 ghost use Rattle.nmgc_judge.specs.declared.told.Told.{Told as ToldAt};
 ghost use Rattle.nmgc_judge.specs.Kept.{TellsKept};
@@ -32,7 +33,9 @@ pub enum Outcome {
 
 impl Outcome {
     /// Whether each line can happen, and the trace comes to its end. Takes no memory, and constant time.
-    pub fn is_passed(&self) -> bool {
+    pub fn is_passed(&self) -> bool
+        ensures { result ≡ is_passed_of self.now }
+    {
         match self {
             Outcome::Marked(verdict) => verdict.is_passed(),
             Outcome::Watched(answer) => answer.report.is_whole(),
@@ -54,21 +57,29 @@ impl fmt::Display for Outcome {
 pub enum TraceFault {
     /// There was no memory.
     NoMemory,
-    /// It couldn't be read, or `ok` couldn't be written.
+    /// It couldn't be read, or `ok` couldn't be written, and not for want of memory.
     Io(io::Error),
     /// It has 2^64 - 1 lines or more.
     TooLong,
 }
 
 impl From<NoMemory> for TraceFault {
+    ghost from_gives = { λ _ fault. fault ≡ no_memory };
+
     fn from(_error: NoMemory) -> Self {
         TraceFault::NoMemory
     }
 }
 
+// A line for which there is no room is want of memory, though a reader tells it as an error of its own.
 impl From<io::Error> for TraceFault {
+    ghost from_gives = { λ _ fault. IsFault fault };
+
     fn from(error: io::Error) -> Self {
-        TraceFault::Io(error)
+        match error.kind() {
+            io::ErrorKind::OutOfMemory => TraceFault::NoMemory,
+            _ => TraceFault::Io(error),
+        }
     }
 }
 
@@ -81,7 +92,8 @@ pub fn outcome_of<R: BufRead, P: Print>(
     answers: &P,
     is_asked: bool,
 ) -> Result<Outcome, TraceFault>
-    ensures { IfOk result IsOutcome }
+    ensures outcome { IfOk result IsOutcome }
+    ensures fault { IfErr result IsFault }
 {
     let mut text = String::new(alloc);
     next_line(reader, &mut text)?;
@@ -99,7 +111,8 @@ fn marked<R: BufRead>(
     reader: &mut R,
     mut text: String,
 ) -> Result<Verdict, TraceFault>
-    ensures { IfOk result (λ verdict. (lines : List LineAt) × IsVerdict lines verdict × TellsKept lines verdict) }
+    ensures lines { IfOk result (λ verdict. (lines : List LineAt) × IsVerdict lines verdict × TellsKept lines verdict) }
+    ensures fault { IfErr result IsFault }
 {
     let mut progress = Progress::Nothing;
     for number in 1..usize::MAX {
@@ -126,7 +139,8 @@ fn watched<R: BufRead, P: Print>(
     answers: &P,
     is_asked: bool,
 ) -> Result<Answer, TraceFault>
-    ensures { IfOk result (λ answer. (lines : List ToldAt) × IsReport lines answer.report × TellsWhole lines answer.report) }
+    ensures lines { IfOk result (λ answer. (lines : List ToldAt) × IsReport lines answer.report × TellsWhole lines answer.report) }
+    ensures fault { IfErr result IsFault }
 {
     let mut telling = Telling::new(alloc);
     for number in 2..usize::MAX {

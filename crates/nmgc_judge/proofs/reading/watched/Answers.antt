@@ -9,11 +9,11 @@ use Rattle.nmgc_judge.proofs.reading.watched.Goals as goal
 pub loop-number-init : goal.loop-number-init
 loop-number-init g c = subst (SoFar 2) (sym c.new-telling.ensures) after_the_head
 
-pub returns-then-not-branch : goal.returns-then-not-branch
-returns-then-not-branch g c = told_ended c.loop-number.number c.loop-number.telling.begun c.tell_end.result.report c.loop-number.invariant c.tell_end.ensures
+pub returns-then-not-branch-clause-lines : goal.returns-then-not-branch-clause-lines
+returns-then-not-branch-clause-lines g c = told_ended c.loop-number.number c.loop-number.telling.begun c.tell_end.result.report c.loop-number.invariant c.tell_end.ensures
 
-pub returns-in-Some : goal.returns-in-Some
-returns-in-Some g c =
+pub returns-in-Some-clause-lines : goal.returns-in-Some-clause-lines
+returns-in-Some-clause-lines g c =
     let t : Told = c.in_ok-refused.ensures.0 in
     let H : Option Refusal → Type 0 = λ o. IsHappening c.loop-number.number c.loop-number.telling.begun t o c.line.new.self.begun in
     told_refused c.loop-number.number c.loop-number.telling.begun t c.in-Some.refusal c.in_ok-answer.answer.report c.loop-number.invariant
