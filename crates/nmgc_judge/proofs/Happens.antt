@@ -1,5 +1,5 @@
 -- What comes of a line that was tried, by what the world or the machine told.
-use Rattle.std.proofs.Common.{◌≡◌, ℕ, refl, sym, subst, Bool, true, false, Option, Some, None, Result, Ok, Err}
+use Rattle.std.proofs.Common.{◌≡◌, ℕ, refl, sym, subst, Bool, true, false, Option, Result, Ok, Err}
 use Rattle.std.specs.Prelude.{IfOk}
 use Rattle.nmgc_lists.specs.declared.memory.NoMemory.{NoMemory}
 use Rattle.nmgc_graph.specs.declared.value.Name.{Name}

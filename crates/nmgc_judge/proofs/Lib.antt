@@ -1,9 +1,17 @@
+mod Answering
+mod Commands
 mod Drains
+mod Each
 mod Happens
 mod Kepts
+mod LineSayings
+mod LineWords
 mod Markers
 mod Readings
+mod Sayings
 mod Takes
 mod Tellings
+mod Texts
 mod Traces
 mod Wholes
+mod WordReads

@@ -1,8 +1,8 @@
 -- Each cycle of a trace began with a closed world, and came so far by commands and pushes.
-use Rattle.std.proofs.Common.{◌≡◌, ◌+◌, ℕ, refl, sym, subst, List, [], ◌∷◌}
+use Rattle.std.proofs.Common.{◌+◌, ℕ, sym, subst, List, [], ◌∷◌}
 use Rattle.nmgc_graph.specs.declared.command.Command.{Command}
 use Rattle.nmgc_graph.specs.declared.command.Reply.{Reply}
-use Rattle.nmgc_graph.specs.World.{World, IsWorld, new_world}
+use Rattle.nmgc_graph.specs.World.{World, IsWorld}
 use Rattle.nmgc_graph.specs.Step.{step}
 use Rattle.nmgc_graph.specs.laws.NewWorlds.{new_is_world}
 use Rattle.nmgc_reach.specs.laws.Deaths.{closed_world}

@@ -7,8 +7,7 @@ use Rattle.nmgc_judge.specs.declared.report.Begun.{Begun}
 use Rattle.nmgc_judge.specs.declared.report.Begun.TheVariants as begun
 use Rattle.nmgc_judge.specs.declared.report.Refusal.{Refusal}
 use Rattle.nmgc_judge.specs.declared.report.Report.{Report}
-use Rattle.nmgc_judge.specs.declared.report.Report.TheVariants as report
-use Rattle.nmgc_judge.specs.Reports.{Happens, IsRefusal, Comes, EndsAtLine, EndsWell, IsReport, report_of}
+use Rattle.nmgc_judge.specs.Reports.{Happens, IsRefusal, Comes, EndsAtLine, IsReport, report_of}
 
 -- one more line at the end
 pub comes_push : (n : ℕ) (p q r : Begun) (ts : List Told) (t : Told) (k : ℕ) → k ≡ n + length ts → Comes n p ts q → Happens k q t r → Comes n p (ts ++ t ∷ []) r

@@ -1,5 +1,5 @@
 -- A whole trace has a cycle that ends in it, and each of them is exact.
-use Rattle.std.proofs.Common.{◌≡◌, ◌⊎◌, ◌∙◌, ◌+◌, ◌++◌, ℕ, refl, sym, ap, subst, arith, inl, inr, List, [], ◌∷◌, length, append_assoc}
+use Rattle.std.proofs.Common.{◌≡◌, ◌⊎◌, ◌+◌, ◌++◌, ℕ, refl, sym, ap, subst, arith, inl, inr, List, [], ◌∷◌, length, append_assoc}
 use Rattle.std.proofs.lemmas.List.{length-append}
 use Rattle.nmgc_graph.specs.declared.command.Command.{Command}
 use Rattle.nmgc_graph.specs.World.{World}
@@ -18,7 +18,6 @@ use Rattle.nmgc_judge.specs.declared.told.Told.TheVariants as told
 use Rattle.nmgc_judge.specs.declared.report.Begun.{Begun}
 use Rattle.nmgc_judge.specs.declared.report.Begun.TheVariants as begun
 use Rattle.nmgc_judge.specs.declared.report.Report.{Report}
-use Rattle.nmgc_judge.specs.declared.report.Report.TheVariants as report
 use Rattle.nmgc_judge.specs.Reports.{Comes, Happens, report_of}
 use Rattle.nmgc_judge.specs.Whole.{Closes, IsExact, TellsWhole}
 use Rattle.nmgc_judge.proofs.Markers.{Stood, stood_at}

@@ -8,10 +8,12 @@
 //! - `reading`: a trace of either format, read line by line.
 //!
 //! The judge of each format is proved over lists of lines: a refused line is the first that can't happen, and the lines
-//! before it can. That these are the lines of the text, and what a text says, line by line, is the code's own (`docs/GUIDE.md` has the forms).
+//! before it can. `words` and `given` read a line's words, and each line is told as what it is spelled as (`specs/Said.antt`;
+//! `docs/GUIDE.md` has the forms). Where a reader tells its bytes, the lines that are judged are those of its text.
 #![tactic(auto)]
 
 mod counts;
+mod given;
 mod line;
 mod progress;
 mod reading;
@@ -20,6 +22,7 @@ mod sentence;
 mod telling;
 mod told;
 mod verdict;
+mod words;
 
 pub use counts::Counts;
 pub use line::{Line, line_of};

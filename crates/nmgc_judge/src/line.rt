@@ -1,19 +1,14 @@
-//! What a line of a trace says.
-//!
-//! A command is spelled as in a script, so `nmgc_script` reads it: as the one command of a script that has
-//! nothing else. Names and values are spelled as in a report, so `nmgc_journal` reads them.
+//! What a line of a trace of format 1 says.
+ghost use Rattle.std.specs.Prelude.{◌≡◌, map, IfOk};
+ghost use Rattle.nmgc_judge.specs.Reading.{count_line_at, mark_line_at, push_line_at, scan_line_at, take_line_at, close_line_at, drain_line_at, marker_line_at, plain_line_at, parts_at, IsLineBy, IsLineGiven};
+ghost use Rattle.nmgc_judge.specs.Said.{SaysLine};
+
+use crate::given::{command, parts};
+use crate::words::{byte, cut_words, is_passed};
 use nmgc_core::Event;
-use nmgc_graph::{Command, List, Name, NoMemory, Reply};
-use nmgc_io::read_number;
-use nmgc_journal::{read_name, read_value};
-use nmgc_script::{ScriptFault, parse};
+use nmgc_graph::{Name, NoMemory};
+use nmgc_journal::read_name;
 use std::alloc::Global;
-
-// A script's lines before its first command.
-const SCRIPT_HEAD: &str = "nmgc 2\nheap 128 4096 4096 4096 1048576 8\nthread 0\n";
-
-// No command of a trace takes more bytes, with the head before it.
-const LONGEST: usize = 65536;
 
 /// What a line says.
 #[derive(Drop)]
@@ -34,113 +29,156 @@ pub enum Line {
     Unknown,
 }
 
-/// What a line says whose text, without its end, this is.
-pub fn line_of(alloc: Global, text: &str) -> Result<Line, NoMemory> {
-    if text.is_empty() || text.starts_with('#') {
+/// What a line says whose text, without its end, this is. `Unknown` comes exactly where it is spelled as nothing else is.
+pub fn line_of(alloc: Global, text: &str) -> Result<Line, NoMemory>
+    ensures { IfOk result (SaysLine text.now) }
+{
+    let line = text.as_bytes();
+    if is_passed(line) {
         return Ok(Line::Blank);
     }
-    match text {
-        "mark" => Ok(Line::Mark),
-        "scan" => Ok(Line::Event(Event::Scan)),
-        "close" => Ok(Line::Event(Event::Close)),
-        "drain" => Ok(Line::Drain),
-        _ => match text.split_once(' ') {
-            Some((word, rest)) => longer_line(alloc, word, rest),
-            None => Ok(Line::Unknown),
-        },
+    let mut words = Vec::with_capacity(alloc, 8)?;
+    cut_words(&mut words, line)?;
+    let said = line_by(alloc, words.as_slice())?;
+    Ok(said)
+}
+
+// What these words say.
+fn line_by(alloc: Global, words: &[&[u8]]) -> Result<Line, NoMemory>
+    ensures { IfOk result (IsLineBy (plain_line_at (map (λ w. w.now) words.now)) (map (λ w. w.now) words.now)) }
+{
+    match plain(words) {
+        Some(line) => Ok(line),
+        None => given(alloc, words),
     }
 }
 
-// A line of a word and more.
-fn longer_line(alloc: Global, word: &str, rest: &str) -> Result<Line, NoMemory> {
-    match word {
-        "mutators" => Ok(match byte_of(rest) {
-            Some(count) => Line::Mutators(count),
-            None => Line::Unknown,
-        }),
-        "push" => Ok(match byte_of(rest) {
-            Some(mutator) => Line::Event(Event::Push { mutator }),
-            None => Line::Unknown,
-        }),
-        "take" => Ok(take_of(rest).unwrap_or(Line::Unknown)),
-        _ => match (byte_of(word), rest.split_once(" = ")) {
-            (Some(mutator), Some((command, answer))) => {
-                match given_of(alloc, command, answer)? {
-                    Some((command, answer)) => Ok(Line::Event(Event::Command {
-                        mutator,
-                        command,
-                        answer,
-                    })),
-                    None => Ok(Line::Unknown),
-                }
-            }
-            _ => Ok(Line::Unknown),
-        },
-    }
-}
-
-// `take M NAME`.
-fn take_of(rest: &str) -> Option<Line> {
-    let (mutator, name) = rest.split_once(' ')?;
-    Some(Line::Take {
-        mutator: byte_of(mutator)?,
-        name: read_name(name.as_bytes())?,
-    })
-}
-
-/// The command and the answer of `COMMAND = ANSWER`, if they are some.
-pub fn given_of(
-    alloc: Global,
-    command: &str,
-    answer: &str,
-) -> Result<Option<(Command, Reply)>, NoMemory> {
-    let Some(answer) = reply_of(answer) else {
-        return Ok(None);
+// A line that begins with a word of its own.
+#[tactic(auto, unfolding(crate::specs::Reading::plain_line_at))]
+fn plain(words: &[&[u8]]) -> Option<Line>
+    ensures { result ≡ plain_line_at (map (λ w. w.now) words.now) }
+{
+    let [word, rest @ ..] = words else {
+        return None;
     };
-    match command_of(alloc, command)? {
-        Some(command) => Ok(Some((command, answer))),
-        None => Ok(None),
+    if *word == b"mutators".as_slice() {
+        return mutators(rest);
     }
+    if *word == b"mark".as_slice() {
+        return mark(rest);
+    }
+    if *word == b"push".as_slice() {
+        return push(rest);
+    }
+    marker(word, rest)
 }
 
-// The command that a line of a script spells.
-fn command_of(alloc: Global, line: &str) -> Result<Option<Command>, NoMemory> {
-    let text = format!(in alloc; "{SCRIPT_HEAD}{line}\n")?;
-    if text.len() > LONGEST {
-        return Ok(None);
+// What the marker did.
+#[tactic(auto, unfolding(crate::specs::Reading::marker_line_at))]
+fn marker(word: &[u8], rest: &[&[u8]]) -> Option<Line>
+    ensures { result ≡ marker_line_at word.now (map (λ w. w.now) rest.now) }
+{
+    if word == b"scan".as_slice() {
+        return scan(rest);
     }
-    match parse(alloc, text.as_bytes()) {
-        Ok(mut script) => match script.threads.pop() {
-            Some(mut commands) => Ok(commands.pop()),
-            None => Ok(None),
-        },
-        Err(ScriptFault::NoMemory) => Err(NoMemory),
-        Err(_) => Ok(None),
+    if word == b"take".as_slice() {
+        return take(rest);
     }
+    if word == b"close".as_slice() {
+        return close(rest);
+    }
+    if word == b"drain".as_slice() {
+        return drain(rest);
+    }
+    None
 }
 
-// The answer of these words, as a report has them.
-fn reply_of(word: &str) -> Option<Reply> {
-    Some(match word {
-        "ok" => Reply::Fine,
-        "yes" => Reply::Yes,
-        "no" => Reply::No,
-        "updated" => Reply::Updated,
-        "already" => Reply::Already,
-        "nopointer" => Reply::NoPointer,
-        "nofield" => Reply::NoField,
-        "wrongkind" => Reply::WrongKind,
-        "notowner" => Reply::NotOwner,
-        "fixed" => Reply::Fixed,
-        "dead" => Reply::Dead,
-        "none" => Reply::Nothing,
-        "stackfull" => Reply::StackFull,
-        "stackempty" => Reply::StackEmpty,
-        _ => Reply::Given(read_value(word.as_bytes())?),
-    })
+#[tactic(auto, unfolding(crate::specs::Reading::count_line_at))]
+fn mutators(words: &[&[u8]]) -> Option<Line>
+    ensures { result ≡ count_line_at (map (λ w. w.now) words.now) }
+{
+    let [count] = words else {
+        return None;
+    };
+    Some(Line::Mutators(byte(count)?))
 }
 
-/// A number below 256, without leading zeros.
-pub fn byte_of(word: &str) -> Option<u8> {
-    Some(read_number(word.as_bytes(), u64::from(u8::MAX))? as u8)
+#[tactic(auto, unfolding(crate::specs::Reading::mark_line_at))]
+fn mark(words: &[&[u8]]) -> Option<Line>
+    ensures { result ≡ mark_line_at (map (λ w. w.now) words.now) }
+{
+    let [] = words else {
+        return None;
+    };
+    Some(Line::Mark)
+}
+
+#[tactic(auto, unfolding(crate::specs::Reading::push_line_at))]
+fn push(words: &[&[u8]]) -> Option<Line>
+    ensures { result ≡ push_line_at (map (λ w. w.now) words.now) }
+{
+    let [mutator] = words else {
+        return None;
+    };
+    let mutator = byte(mutator)?;
+    Some(Line::Event(Event::Push { mutator }))
+}
+
+#[tactic(auto, unfolding(crate::specs::Reading::scan_line_at))]
+fn scan(words: &[&[u8]]) -> Option<Line>
+    ensures { result ≡ scan_line_at (map (λ w. w.now) words.now) }
+{
+    let [] = words else {
+        return None;
+    };
+    Some(Line::Event(Event::Scan))
+}
+
+#[tactic(auto, unfolding(crate::specs::Reading::take_line_at))]
+fn take(words: &[&[u8]]) -> Option<Line>
+    ensures { result ≡ take_line_at (map (λ w. w.now) words.now) }
+{
+    let [mutator, name] = words else {
+        return None;
+    };
+    let mutator = byte(mutator)?;
+    let name = read_name(name)?;
+    Some(Line::Take { mutator, name })
+}
+
+#[tactic(auto, unfolding(crate::specs::Reading::close_line_at))]
+fn close(words: &[&[u8]]) -> Option<Line>
+    ensures { result ≡ close_line_at (map (λ w. w.now) words.now) }
+{
+    let [] = words else {
+        return None;
+    };
+    Some(Line::Event(Event::Close))
+}
+
+#[tactic(auto, unfolding(crate::specs::Reading::drain_line_at))]
+fn drain(words: &[&[u8]]) -> Option<Line>
+    ensures { result ≡ drain_line_at (map (λ w. w.now) words.now) }
+{
+    let [] = words else {
+        return None;
+    };
+    Some(Line::Drain)
+}
+
+// What a mutator gave, and its answer; else it is none of a trace.
+fn given(alloc: Global, words: &[&[u8]]) -> Result<Line, NoMemory>
+    ensures { IfOk result (IsLineGiven (parts_at (map (λ w. w.now) words.now))) }
+{
+    let Some((mutator, words, answer)) = parts(words) else {
+        return Ok(Line::Unknown);
+    };
+    match command(alloc, words)? {
+        Some(command) => Ok(Line::Event(Event::Command {
+            mutator,
+            command,
+            answer,
+        })),
+        None => Ok(Line::Unknown),
+    }
 }

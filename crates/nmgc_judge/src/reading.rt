@@ -2,20 +2,16 @@
 //!
 //! The first line tells the format. A line is judged as soon as it was read, and then forgotten: so memory is that of
 //! the heap of which the trace tells, and whoever writes a trace into a pipe is answered at the line that is wrong.
-ghost use Rattle.std.specs.Prelude.{List, ◌≡◌, IfErr, IfOk};
-ghost use Rattle.nmgc_judge.specs.Outcomes.{IsFault, IsOutcome, is_passed_of};
+ghost use Rattle.std.specs.Prelude.{◌≡◌, ◌&&◌, codes, string_bytes, IfErr, IfOk};
+ghost use Rattle.std.specs.Io.BufRead.{strip_last};
+ghost use Rattle.std.specs.Str.{bytes_eq};
 ghost use Rattle.nmgc_judge.specs.declared.reading.TraceFault.TheVariants.{NoMemory as no_memory};
-ghost use Rattle.nmgc_judge.specs.declared.line.Line.{Line as LineAt};
-ghost use Rattle.nmgc_judge.specs.declared.told.Told.{Told as ToldAt};
-ghost use Rattle.nmgc_judge.specs.Kept.{TellsKept};
-ghost use Rattle.nmgc_judge.specs.Verdicts.{IsVerdict};
-ghost use Rattle.nmgc_judge.specs.Reports.{IsReport};
-ghost use Rattle.nmgc_judge.specs.Whole.{TellsWhole};
+ghost use Rattle.nmgc_judge.specs.Outcomes.{IsFault, IsOutcome, IsMarked, IsWatched, is_passed_of};
+ghost use Rattle.nmgc_judge.specs.Said.{IsNextLine};
 
 use crate::line::line_of;
 use crate::progress::Progress;
 use crate::telling::{Answer, Telling};
-use crate::told::HEAD;
 use crate::verdict::{Verdict, refusal, told_in_the_end};
 use nmgc_graph::NoMemory;
 use std::alloc::Global;
@@ -92,40 +88,43 @@ pub fn outcome_of<R: BufRead, P: Print>(
     answers: &P,
     is_asked: bool,
 ) -> Result<Outcome, TraceFault>
-    ensures outcome { IfOk result IsOutcome }
+    ensures outcome { IfOk result (IsOutcome (R.remaining reader.old)) }
     ensures fault { IfErr result IsFault }
 {
     let mut text = String::new(alloc);
-    next_line(reader, &mut text)?;
-    if without_end(text.as_str()) == HEAD {
+    let is_there = next_line(reader, &mut text)?;
+    if is_watched(is_there, text.as_str()) {
         let answer = watched(alloc, reader, text, answers, is_asked)?;
         return Ok(Outcome::Watched(answer));
     }
-    let verdict = marked(alloc, reader, text)?;
+    let verdict = marked(alloc, reader, text, is_there)?;
     Ok(Outcome::Marked(verdict))
 }
 
-// A trace of format 1, whose first line has been read.
+// A trace of format 1, whose first line has been read, if it is there.
 fn marked<R: BufRead>(
     alloc: Global,
     reader: &mut R,
     mut text: String,
+    is_there: bool,
 ) -> Result<Verdict, TraceFault>
-    ensures lines { IfOk result (λ verdict. (lines : List LineAt) × IsVerdict lines verdict × TellsKept lines verdict) }
+    ensures lines { IfOk result (IsMarked (R.remaining reader.old) is_there (string_bytes text)) }
     ensures fault { IfErr result IsFault }
 {
     let mut progress = Progress::Nothing;
+    let mut goes_on = is_there;
     for number in 1..usize::MAX {
+        if !goes_on {
+            let told = told_in_the_end(progress)?;
+            return Ok(told);
+        }
         let line = line_of(alloc, without_end(text.as_str()))?;
         let next = progress.after(alloc, &line)?;
         match next {
             Some(reached) => progress = reached,
             None => return Ok(refusal(&line, number)),
         }
-        if !next_line(reader, &mut text)? {
-            let told = told_in_the_end(progress)?;
-            return Ok(told);
-        }
+        goes_on = next_line(reader, &mut text)?;
     }
     drop(progress);
     Err(TraceFault::TooLong)
@@ -139,7 +138,7 @@ fn watched<R: BufRead, P: Print>(
     answers: &P,
     is_asked: bool,
 ) -> Result<Answer, TraceFault>
-    ensures lines { IfOk result (λ answer. (lines : List ToldAt) × IsReport lines answer.report × TellsWhole lines answer.report) }
+    ensures lines { IfOk result (IsWatched (R.remaining reader.old)) }
     ensures fault { IfErr result IsFault }
 {
     let mut telling = Telling::new(alloc);
@@ -162,13 +161,32 @@ fn watched<R: BufRead, P: Print>(
 }
 
 // Reads the next line in place of the last one, and says whether there is one.
-fn next_line<R: BufRead>(reader: &mut R, text: &mut String) -> io::Result<bool> {
+fn next_line<R: BufRead>(reader: &mut R, text: &mut String) -> io::Result<bool>
+    ensures { IfOk result (IsNextLine (R.remaining reader.old) (R.remaining reader.new) (string_bytes text.new)) }
+{
     text.clear();
-    Ok(reader.read_line(text)? > 0)
+    reader.read_line(text)?;
+    Ok(!text.as_str().is_empty())
 }
 
-// A line without its end.
-fn without_end(text: &str) -> &str {
+// Whether the first line, if it is there, begins a trace of format 2.
+fn is_watched(is_there: bool, text: &str) -> bool
+    ensures { result ≡ (is_there && bytes_eq (strip_last 13 (strip_last 10 text.now)) (codes "trace 2")) }
+{
+    is_there && is_head(without_end(text))
+}
+
+// Whether a line is the first of a trace of format 2.
+fn is_head(text: &str) -> bool
+    ensures { result ≡ bytes_eq text.now (codes "trace 2") }
+{
+    text.as_bytes() == b"trace 2".as_slice()
+}
+
+// A line without its end: a line feed, and a carriage return before it.
+fn without_end(text: &str) -> &str
+    ensures { result.now ≡ strip_last 13 (strip_last 10 text.now) }
+{
     let text = text.strip_suffix('\n').unwrap_or(text);
     text.strip_suffix('\r').unwrap_or(text)
 }

@@ -5,6 +5,7 @@
 //! beside its number: at most one line for each name and mutator.
 ghost use Rattle.std.specs.Prelude.{◌≡◌, None, IfOk, OnOk};
 ghost use Rattle.nmgc_judge.specs.Reports.{IsHappening, report_of};
+ghost use Rattle.nmgc_judge.specs.Said.{Says};
 ghost use Rattle.nmgc_judge.specs.declared.report.Begun.TheVariants as begun;
 ghost use Rattle.nmgc_judge.specs.declared.report.Report.TheVariants as report;
 ghost use Rattle.nmgc_judge.specs.declared.told.Told.{Told as ToldAt};
@@ -65,7 +66,7 @@ impl Telling {
         number: usize,
         text: &str,
     ) -> Result<Option<Refusal>, NoMemory>
-        ensures { IfOk result (λ refused. (told : ToldAt) × IsHappening number self.old.begun told refused self.new.begun) }
+        ensures { IfOk result (λ refused. (told : ToldAt) × Says text.now told × IsHappening number self.old.begun told refused self.new.begun) }
     {
         let told = told_of(alloc, text)?;
         let refused = happen(&mut self.begun, alloc, number, &told)?;

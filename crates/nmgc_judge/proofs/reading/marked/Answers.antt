@@ -1,27 +1,37 @@
-use Rattle.std.proofs.Common.{◌+◌, subst, Option}
+use Rattle.std.proofs.Common.{◌≡◌, ◌∙◌, ap, subst, ℕ, List, Option, string_bytes}
+use Rattle.std.specs.Io.BufRead.{strip_last}
 use Rattle.nmgc_judge.specs.declared.progress.Progress.{Progress}
+use Rattle.nmgc_judge.specs.Said.{SaysLine}
 use Rattle.nmgc_judge.specs.Trace.{IsNext}
 use Rattle.nmgc_judge.proofs.Readings.{nothing_read, reached_more, judged_refused, judged_ended}
 use Rattle.nmgc_judge.proofs.reading.marked.Goals as goal
 
 pub loop-number-init : goal.loop-number-init
-loop-number-init g c = nothing_read
+loop-number-init g c = nothing_read (g.R.Read.remaining c.args.reader.now) c.args.is_there (string_bytes c.args.text)
+
+pub returns-then-not-goes_on-clause-lines : goal.returns-then-not-goes_on-clause-lines
+returns-then-not-goes_on-clause-lines g c =
+    judged_ended (g.R.Read.remaining c.args.reader.now) c.args.is_there (string_bytes c.args.text) c.loop-number.number c.loop-number.progress
+    (g.R.Read.remaining c.loop-number.reader) c.loop-number.goes_on (string_bytes c.loop-number.text) c.loop-number.invariant c.in_ok-told.told
+    c.if-not-goes_on.true c.in_ok-told.ensures
 
 pub returns-in-None-clause-lines : goal.returns-in-None-clause-lines
 returns-in-None-clause-lines g c =
     let N : Option Progress → Type 0 = IsNext c.loop-number.progress c.in_ok-line.line in
-    judged_refused c.loop-number.number c.loop-number.progress c.in_ok-line.line c.refusal.result c.loop-number.invariant
+    let text : c.without_end.result.now ≡ strip_last 13 (strip_last 10 (string_bytes c.loop-number.text)) =
+    c.without_end.ensures ∙ ap (λ (l : List ℕ). strip_last 13 (strip_last 10 l)) c.as_str.ensures.value in
+    judged_refused (g.R.Read.remaining c.args.reader.now) c.args.is_there (string_bytes c.args.text) c.loop-number.number c.loop-number.progress
+    (g.R.Read.remaining c.loop-number.reader) c.loop-number.goes_on (string_bytes c.loop-number.text) c.loop-number.invariant c.in_ok-line.line
+    c.refusal.result c.if-not-goes_on.false (subst (λ (l : List ℕ). SaysLine l c.in_ok-line.line) text c.in_ok-line.ensures)
     (subst N c.in-None.is c.in_ok-next.ensures) c.refusal.ensures
-
-pub returns-then-not-branch-clause-lines : goal.returns-then-not-branch-clause-lines
-returns-then-not-branch-clause-lines g c =
-    let N : Option Progress → Type 0 = IsNext c.loop-number.progress c.in_ok-line.line in
-    judged_ended (c.loop-number.number + 1) c.in-Some.reached c.in_ok-told.told
-    (reached_more c.loop-number.number c.loop-number.progress c.in-Some.reached c.in_ok-line.line c.loop-number.invariant
-    (subst N c.in-Some.is c.in_ok-next.ensures)) c.in_ok-told.ensures
 
 pub loop-number-preserved : goal.loop-number-preserved
 loop-number-preserved g c =
     let N : Option Progress → Type 0 = IsNext c.loop-number.progress c.in_ok-line.line in
-    reached_more c.loop-number.number c.loop-number.progress c.in-Some.reached c.in_ok-line.line c.loop-number.invariant
-    (subst N c.in-Some.is c.in_ok-next.ensures)
+    let text : c.without_end.result.now ≡ strip_last 13 (strip_last 10 (string_bytes c.loop-number.text)) =
+    c.without_end.ensures ∙ ap (λ (l : List ℕ). strip_last 13 (strip_last 10 l)) c.as_str.ensures.value in
+    reached_more (g.R.Read.remaining c.args.reader.now) c.args.is_there (string_bytes c.args.text) c.loop-number.number c.loop-number.progress
+    (g.R.Read.remaining c.loop-number.reader) c.loop-number.goes_on (string_bytes c.loop-number.text) c.loop-number.invariant
+    (g.R.Read.remaining c.next_line.new.reader) c.in-Some.reached c.in_ok-goes_on.goes_on (string_bytes c.next_line.new.text) c.in_ok-line.line
+    c.if-not-goes_on.false (subst (λ (l : List ℕ). SaysLine l c.in_ok-line.line) text c.in_ok-line.ensures)
+    (subst N c.in-Some.is c.in_ok-next.ensures) c.in_ok-goes_on.ensures

@@ -1,27 +1,48 @@
-use Rattle.std.proofs.Common.{◌+◌, sym, subst, Option, Some, None}
+use Rattle.std.proofs.Common.{◌≡◌, ◌∙◌, sym, ap, subst, ℕ, List, Option, Bool, string_bytes}
+use Rattle.std.specs.Io.BufRead.{strip_last}
 use Rattle.nmgc_judge.specs.declared.told.Told.{Told}
 use Rattle.nmgc_judge.specs.declared.report.Begun.{Begun}
 use Rattle.nmgc_judge.specs.declared.report.Refusal.{Refusal}
 use Rattle.nmgc_judge.specs.Reports.{IsHappening}
+use Rattle.nmgc_judge.specs.Said.{Says, IsNextLine}
 use Rattle.nmgc_judge.proofs.Readings.{SoFar, after_the_head, one_more, told_refused, told_ended}
 use Rattle.nmgc_judge.proofs.reading.watched.Goals as goal
 
 pub loop-number-init : goal.loop-number-init
-loop-number-init g c = subst (SoFar 2) (sym c.new-telling.ensures) after_the_head
+loop-number-init g c =
+    let known = g.R.Read.remaining c.args.reader.now in
+    subst (λ (b : Begun). SoFar known 2 b known) (sym c.new-telling.ensures) (after_the_head known)
 
 pub returns-then-not-branch-clause-lines : goal.returns-then-not-branch-clause-lines
-returns-then-not-branch-clause-lines g c = told_ended c.loop-number.number c.loop-number.telling.begun c.tell_end.result.report c.loop-number.invariant c.tell_end.ensures
+returns-then-not-branch-clause-lines g c =
+    let N : Bool → Type 0 =
+    IsNextLine (g.R.Read.remaining c.loop-number.reader) (g.R.Read.remaining c.next_line.new.reader) (string_bytes c.next_line.new.text) in
+    told_ended (g.R.Read.remaining c.args.reader.now) (g.R.Read.remaining c.loop-number.reader) (g.R.Read.remaining c.next_line.new.reader)
+    c.loop-number.number c.loop-number.telling.begun (string_bytes c.next_line.new.text) c.tell_end.result c.loop-number.invariant
+    (subst N c.if-not-branch.true c.in_ok-next_line.ensures) c.tell_end.ensures
 
 pub returns-in-Some-clause-lines : goal.returns-in-Some-clause-lines
 returns-in-Some-clause-lines g c =
+    let N : Bool → Type 0 =
+    IsNextLine (g.R.Read.remaining c.loop-number.reader) (g.R.Read.remaining c.next_line.new.reader) (string_bytes c.next_line.new.text) in
     let t : Told = c.in_ok-refused.ensures.0 in
     let H : Option Refusal → Type 0 = λ o. IsHappening c.loop-number.number c.loop-number.telling.begun t o c.line.new.self.begun in
-    told_refused c.loop-number.number c.loop-number.telling.begun t c.in-Some.refusal c.in_ok-answer.answer.report c.loop-number.invariant
-    (subst H c.in-Some.is c.in_ok-refused.ensures.1) c.in_ok-answer.ensures
+    let text : c.without_end-line.result.now ≡ strip_last 13 (strip_last 10 (string_bytes c.next_line.new.text)) =
+    c.without_end-line.ensures ∙ ap (λ (l : List ℕ). strip_last 13 (strip_last 10 l)) c.as_str.ensures.value in
+    told_refused (g.R.Read.remaining c.args.reader.now) (g.R.Read.remaining c.loop-number.reader) (g.R.Read.remaining c.next_line.new.reader)
+    c.loop-number.number c.loop-number.telling.begun (string_bytes c.next_line.new.text) t c.in-Some.refusal c.in_ok-answer.answer
+    c.loop-number.invariant (subst N c.if-not-branch.false c.in_ok-next_line.ensures) (subst (λ (l : List ℕ). Says l t) text c.in_ok-refused.ensures.1)
+    (subst H c.in-Some.is c.in_ok-refused.ensures.2) c.in_ok-answer.ensures
 
 pub loop-number-preserved : goal.loop-number-preserved
 loop-number-preserved g c =
+    let N : Bool → Type 0 =
+    IsNextLine (g.R.Read.remaining c.loop-number.reader) (g.R.Read.remaining c.next_line.new.reader) (string_bytes c.next_line.new.text) in
     let t : Told = c.in_ok-refused.ensures.0 in
     let H : Option Refusal → Type 0 = λ o. IsHappening c.loop-number.number c.loop-number.telling.begun t o c.line.new.self.begun in
-    one_more c.loop-number.number c.loop-number.telling.begun c.line.new.self.begun t c.loop-number.invariant
-    (subst H c.in_default.is c.in_ok-refused.ensures.1)
+    let text : c.without_end-line.result.now ≡ strip_last 13 (strip_last 10 (string_bytes c.next_line.new.text)) =
+    c.without_end-line.ensures ∙ ap (λ (l : List ℕ). strip_last 13 (strip_last 10 l)) c.as_str.ensures.value in
+    one_more (g.R.Read.remaining c.args.reader.now) (g.R.Read.remaining c.loop-number.reader) (g.R.Read.remaining c.next_line.new.reader)
+    c.loop-number.number c.loop-number.telling.begun c.line.new.self.begun (string_bytes c.next_line.new.text) t c.loop-number.invariant
+    (subst N c.if-not-branch.false c.in_ok-next_line.ensures) (subst (λ (l : List ℕ). Says l t) text c.in_ok-refused.ensures.1)
+    (subst H c.in_default.is c.in_ok-refused.ensures.2)

@@ -7,10 +7,10 @@ use Rattle.nmgc_judge.proofs.telling.Telling.line.Goals as goal
 pub returns-in-Some : goal.returns-in-Some
 returns-in-Some c =
     let H : Option Refusal → Type 0 = λ o. IsHappening c.args.number c.args.self.now.begun c.in_ok-told.told o c.happen.new.begun in
-    (c.in_ok-told.told, subst H c.in-Some.is c.in_ok-refused.ensures)
+    (c.in_ok-told.told, c.in_ok-told.ensures, subst H c.in-Some.is c.in_ok-refused.ensures)
 
 pub returns : goal.returns
 returns c =
     let H : Option Refusal → Type 0 = λ o. IsHappening c.args.number c.args.self.now.begun c.in_ok-told.told o c.happen.new.begun in
     let N : Begun → Type 0 = λ b. IsHappening c.args.number c.args.self.now.begun c.in_ok-told.told None b in
-    (c.in_ok-told.told, subst N (sym c.note.ensures) (subst H c.in_default.is c.in_ok-refused.ensures))
+    (c.in_ok-told.told, c.in_ok-told.ensures, subst N (sym c.note.ensures) (subst H c.in_default.is c.in_ok-refused.ensures))

@@ -1,0 +1,59 @@
+-- The words of a command and its answer, as they are taken off from the end.
+use Rattle.std.proofs.Common.{◌≡◌, ℕ, List, [], ◌∷◌, ◌++◌, map, refl, sym, ap, ◌∙◌, Bool, true, false, not, codes, Option, Some, None, Bor, append_assoc}
+use Rattle.std.specs.Str.{bytes_eq}
+use Rattle.std.proofs.lemmas.Bool.{false≢true}
+use Rattle.std.proofs.lemmas.List.{map_push, same_from_push}
+use Rattle.std.proofs.lemmas.Slice.Eq.{bytes_eq-Decides}
+use Rattle.nmgc_script.specs.Spelling.{spaced}
+use Rattle.nmgc_judge.specs.Reading.{after_spaces, answered_at}
+use Rattle.nmgc_judge.proofs.LineWords.{spaced_after}
+use Rattle.nmgc_judge.proofs.WordReads.{is_word, answered_takes, answered_again}
+
+abbrev pub texts_of_words : List (Bor (List ℕ)) → List (List ℕ)
+texts_of_words words = map (λ w. w.now) words
+
+module _ (words front command : List (Bor (List ℕ))) (answer sign : Bor (List ℕ)) (e : words ≡ front ++ answer ∷ []) (f : front ≡ command ++ sign ∷ []) where
+  parted : texts_of_words words ≡ (texts_of_words command ++ sign.now ∷ []) ++ answer.now ∷ []
+  parted =
+      ap texts_of_words e ∙ map_push (λ w. w.now) front answer ∙ ap (λ (l : List (List ℕ)). l ++ answer.now ∷ [])
+      (ap texts_of_words f ∙ map_push (λ w. w.now) command sign)
+
+  pub found_answer : bytes_eq sign.now (codes "=") ≡ true → answered_at (texts_of_words words) ≡ Some (texts_of_words command, answer.now)
+  found_answer is =
+      ap answered_at (parted ∙ append_assoc (texts_of_words command) (sign.now ∷ []) (answer.now ∷ []) ∙
+      ap (λ (s : List ℕ). texts_of_words command ++ s ∷ answer.now ∷ []) (is_word sign.now (codes "=") is)) ∙
+      answered_again (texts_of_words command) answer.now
+
+  other_sign : bytes_eq sign.now (codes "=") ≡ false → (o : Option (List (List ℕ) × List ℕ)) → answered_at (texts_of_words words) ≡ o → o ≡ None
+  other_sign differs None is = refl
+  other_sign differs (Some p) is = absurd (
+      let whole : (texts_of_words command ++ sign.now ∷ []) ++ answer.now ∷ [] ≡ (p.0 ++ codes "=" ∷ []) ++ p.1 ∷ [] =
+      sym parted ∙ answered_takes (texts_of_words words) p is ∙ sym (append_assoc p.0 (codes "=" ∷ []) (p.1 ∷ [])) in
+      let ends : (texts_of_words command ++ sign.now ∷ [] ≡ p.0 ++ codes "=" ∷ []) × (answer.now ≡ p.1) =
+      same_from_push (texts_of_words command ++ sign.now ∷ []) (p.0 ++ codes "=" ∷ []) answer.now p.1 whole in
+      let signs : (texts_of_words command ≡ p.0) × (sign.now ≡ codes "=") = same_from_push (texts_of_words command) p.0 sign.now (codes "=") ends.0 in
+      false≢true (sym differs ∙ (bytes_eq-Decides sign.now (codes "=")).1 signs.1))
+
+  pub no_sign : bytes_eq sign.now (codes "=") ≡ false → answered_at (texts_of_words words) ≡ None
+  no_sign differs = other_sign differs (answered_at (texts_of_words words)) refl
+
+pub no_words : (words : List (Bor (List ℕ))) → words ≡ [] → answered_at (texts_of_words words) ≡ None
+no_words words e = ap (λ (ws : List (Bor (List ℕ))). answered_at (texts_of_words ws)) e
+
+pub one_word : (words front : List (Bor (List ℕ))) (answer : Bor (List ℕ)) → words ≡ front ++ answer ∷ [] → front ≡ [] → answered_at (texts_of_words words) ≡ None
+one_word words front answer e none =
+    ap (λ (ws : List (Bor (List ℕ))). answered_at (texts_of_words ws)) (e ∙ ap (λ (ws : List (Bor (List ℕ))). ws ++ answer ∷ []) none)
+
+-- what a test tells
+pub is_not : (b : Bool) → not b ≡ true → b ≡ false
+is_not true e = absurd (false≢true e)
+is_not false e = refl
+
+pub is_so : (b : Bool) → not b ≡ false → b ≡ true
+is_so true e = refl
+is_so false e = absurd (false≢true (sym e))
+
+-- the words with spaces between
+pub joined_is : (words rest : List (Bor (List ℕ))) (first : Bor (List ℕ)) → words ≡ first ∷ rest →
+    first.now ++ after_spaces (texts_of_words rest) ≡ spaced (texts_of_words words)
+joined_is words rest first e = sym (spaced_after first.now (texts_of_words rest)) ∙ ap (λ (ws : List (Bor (List ℕ))). spaced (texts_of_words ws)) (sym e)

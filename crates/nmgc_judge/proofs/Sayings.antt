@@ -1,0 +1,324 @@
+-- A line of format 2 is read as what it says: exactly that, and as nothing else.
+use Rattle.std.proofs.Common.{◌≡◌, ◌<◌, ℕ, List, [], ◌∷◌, refl, sym, ap, subst, ◌∙◌, inl, inr, true, false, codes, decimal, Option, Some, None}
+use Rattle.std.specs.Prelude.{All}
+use Rattle.std.specs.List.{AllByRecursion}
+use Rattle.std.specs.Str.{bytes_eq}
+use Rattle.std.proofs.lemmas.Bool.{false≢true}
+use Rattle.std.proofs.lemmas.Option.{same_Some, none-some}
+use Rattle.nmgc_graph.specs.declared.value.Name.{Name}
+use Rattle.nmgc_graph.specs.declared.command.Command.{Command}
+use Rattle.nmgc_graph.specs.declared.command.Reply.{Reply}
+use Rattle.nmgc_graph.specs.declared.command.Reply.TheVariants as reply
+use Rattle.nmgc_graph.specs.Command.{Fits}
+use Rattle.nmgc_object.specs.Words.{IsName}
+use Rattle.nmgc_script.specs.Text.{words_of, is_passed}
+use Rattle.nmgc_script.specs.Spelling.{spaced, command_words}
+use Rattle.nmgc_journal.specs.Text.{name_text, reply_text}
+use Rattle.nmgc_journal.specs.Reading.{◌>>=◌, name_at}
+use Rattle.nmgc_journal.specs.laws.Reading.{bind_some, guard_some, chosen, name_reads}
+use Rattle.nmgc_watch.specs.declared.event.Event.{Event}
+use Rattle.nmgc_watch.specs.declared.event.Event.TheVariants as event
+use Rattle.nmgc_judge.specs.declared.told.Told.{Told}
+use Rattle.nmgc_judge.specs.declared.told.Told.TheVariants as told
+use Rattle.nmgc_judge.specs.Reading.{byte_at, names_at, pusher_at, mutators_at, mark_at, push_at, settle_at, take_at, close_at, marked_at, freed_at, stop_at, ending_at, plain_at, parts_at, rows_if, IsCommandOf, IsToldRows, IsToldGiven, IsToldBy}
+use Rattle.nmgc_judge.specs.Said.{IsMutators, IsReply, given_words, IsGiven, copy_words, fill_words, IsPusher, names_words, AreNames, SaysEvent, Says}
+use Rattle.nmgc_judge.proofs.LineWords.{IsWord, words_are, front_words, words_again, words_of-line, made_kept, command_line}
+use Rattle.nmgc_judge.proofs.WordReads.{Given, AreRows, is_word, byte_takes, byte_again, names_read, names_reread, pusher_takes, pusher_again, parts_takes, parts_again, rows_if_takes, rows_if_again}
+
+-- THE WORDS OF A COMMAND
+
+-- words without spaces that spell what a command's words spell are these words
+same_words : (words : List (List ℕ)) → AllByRecursion IsWord words → (c : Command) → Fits 4096 c → spaced words ≡ spaced (command_words c) → words ≡ command_words c
+same_words [] h c fits e =
+    absurd (false≢true (sym (made_kept (command_words c) (command_line 4096 c fits)).kept ∙ ap is_passed (sym e)))
+same_words (w ∷ ws) h c fits e = sym (words_again w ws h.0 h.1) ∙ ap words_of e ∙ words_of-line (command_words c) (command_line 4096 c fits)
+
+pub command_said : (text : List ℕ) (m : ℕ) (words : List (List ℕ)) (answer : List ℕ) (c : Command) → words_of text ≡ given_words m words answer →
+    IsCommandOf words c → words ≡ command_words c
+command_said text m words answer c e is =
+    let all : AllByRecursion IsWord (given_words m words answer) = subst (AllByRecursion IsWord) e (words_are text) in
+    same_words words (front_words words (codes "=" ∷ answer ∷ []) all.1) c is.0 is.1
+
+-- LINES WITH A WORD OF THEIR OWN
+
+-- what words say, if they say something
+abbrev SaysBy : List (List ℕ) → Told → Type 0
+SaysBy words told.Blank = ⊥
+SaysBy words (told.Mutators count) = IsMutators words count
+SaysBy words (told.Event e) = SaysEvent words e
+SaysBy words told.Unknown = ⊥
+
+mutators_takes : (words : List (List ℕ)) (t : Told) → mutators_at words ≡ Some t → SaysBy (codes "mutators" ∷ words) t
+unfolding mutators_at
+mutators_takes [] t e = absurd cc
+mutators_takes (w ∷ v ∷ ws) t e = absurd cc
+mutators_takes (w ∷ []) t e =
+    let b = bind_some (byte_at w) (λ n. Some (told.Mutators n)) t e in
+    let n = byte_takes w b.0 b.1 in
+    subst (SaysBy (codes "mutators" ∷ w ∷ [])) (same_Some (told.Mutators b.0) t b.2) (n.1, ap (λ (x : List ℕ). codes "mutators" ∷ x ∷ []) n.0)
+
+mark_takes : (words : List (List ℕ)) (t : Told) → mark_at words ≡ Some t → SaysBy (codes "mark" ∷ words) t
+unfolding mark_at
+mark_takes [] t e = subst (SaysBy (codes "mark" ∷ [])) (same_Some (told.Event event.Mark) t e) refl
+mark_takes (w ∷ ws) t e = absurd cc
+
+push_takes : (words : List (List ℕ)) (t : Told) → push_at words ≡ Some t → SaysBy (codes "push" ∷ words) t
+unfolding push_at
+push_takes [] t e = absurd cc
+push_takes (w ∷ []) t e = absurd cc
+push_takes (w ∷ v ∷ u ∷ ws) t e = absurd cc
+push_takes (w ∷ v ∷ []) t e =
+    let p = bind_some (pusher_at w) (λ p. name_at v >>= λ n. Some (told.Event (event.Push n))) t e in
+    let b = bind_some (name_at v) (λ n. Some (told.Event (event.Push n))) t p.2 in
+    let n = name_reads.takes v b.0 b.1 in
+    subst (SaysBy (codes "push" ∷ w ∷ v ∷ [])) (same_Some (told.Event (event.Push b.0)) t b.2) (
+      w,
+      pusher_takes w p.0 p.1,
+      n.1,
+      ap (λ (x : List ℕ). codes "push" ∷ w ∷ x ∷ []) n.0,
+    )
+
+settle_takes : (words : List (List ℕ)) (t : Told) → settle_at words ≡ Some t → SaysBy (codes "settle" ∷ words) t
+unfolding settle_at
+settle_takes [] t e = absurd cc
+settle_takes (w ∷ v ∷ ws) t e = absurd cc
+settle_takes (w ∷ []) t e =
+    let b = bind_some (byte_at w) (λ m. Some (told.Event (event.Settle m))) t e in
+    let n = byte_takes w b.0 b.1 in
+    subst (SaysBy (codes "settle" ∷ w ∷ [])) (same_Some (told.Event (event.Settle b.0)) t b.2) (n.1, ap (λ (x : List ℕ). codes "settle" ∷ x ∷ []) n.0)
+
+take_takes : (words : List (List ℕ)) (t : Told) → take_at words ≡ Some t → SaysBy (codes "take" ∷ words) t
+unfolding take_at
+take_takes [] t e = absurd cc
+take_takes (w ∷ v ∷ ws) t e = absurd cc
+take_takes (w ∷ []) t e =
+    let b = bind_some (name_at w) (λ n. Some (told.Event (event.Take n))) t e in
+    let n = name_reads.takes w b.0 b.1 in
+    subst (SaysBy (codes "take" ∷ w ∷ [])) (same_Some (told.Event (event.Take b.0)) t b.2) (n.1, ap (λ (x : List ℕ). codes "take" ∷ x ∷ []) n.0)
+
+named : (word : List ℕ) (words : List (List ℕ)) (names : List Name) → names_at words ≡ Some names → AreNames (word ∷ words) word names
+named word words names e = let n = names_read words names e in (n.0, ap (λ (ws : List (List ℕ)). word ∷ ws) n.1)
+
+close_takes : (words : List (List ℕ)) (t : Told) → close_at words ≡ Some t → SaysBy (codes "close" ∷ words) t
+unfolding close_at
+close_takes [] t e = subst (SaysBy (codes "close" ∷ [])) (same_Some (told.Event event.Close) t e) refl
+close_takes (w ∷ ws) t e =
+    let b = bind_some (names_at (w ∷ ws)) (λ names. Some (told.Event (event.CloseTold names))) t e in
+    subst (SaysBy (codes "close" ∷ w ∷ ws)) (same_Some (told.Event (event.CloseTold b.0)) t b.2) (named (codes "close") (w ∷ ws) b.0 b.1)
+
+marked_takes : (words : List (List ℕ)) (t : Told) → marked_at words ≡ Some t → SaysBy (codes "marked" ∷ words) t
+unfolding marked_at
+marked_takes words t e =
+    let b = bind_some (names_at words) (λ names. Some (told.Event (event.Marked names))) t e in
+    subst (SaysBy (codes "marked" ∷ words)) (same_Some (told.Event (event.Marked b.0)) t b.2) (named (codes "marked") words b.0 b.1)
+
+freed_takes : (words : List (List ℕ)) (t : Told) → freed_at words ≡ Some t → SaysBy (codes "freed" ∷ words) t
+unfolding freed_at
+freed_takes words t e =
+    let b = bind_some (names_at words) (λ names. Some (told.Event (event.Freed names))) t e in
+    subst (SaysBy (codes "freed" ∷ words)) (same_Some (told.Event (event.Freed b.0)) t b.2) (named (codes "freed") words b.0 b.1)
+
+stop_takes : (words : List (List ℕ)) (t : Told) → stop_at words ≡ Some t → SaysBy (codes "stop" ∷ words) t
+unfolding stop_at
+stop_takes [] t e = subst (SaysBy (codes "stop" ∷ [])) (same_Some (told.Event event.Stop) t e) refl
+stop_takes (w ∷ ws) t e = absurd cc
+
+-- the word is this one
+at_word : (word text : List ℕ) (words : List (List ℕ)) (t : Told) → bytes_eq word text ≡ true → SaysBy (text ∷ words) t → SaysBy (word ∷ words) t
+at_word word text words t e h = subst (λ (w : List ℕ). SaysBy (w ∷ words) t) (sym (is_word word text e)) h
+
+ending_takes : (word : List ℕ) (words : List (List ℕ)) (t : Told) → ending_at word words ≡ Some t → SaysBy (word ∷ words) t
+unfolding ending_at
+ending_takes word words t e = elim (chosen (bytes_eq word (codes "close")) (close_at words) _ (Some t) e) [
+  | inl p ↦ at_word word (codes "close") words t p.0 (close_takes words t p.1)
+  | inr p ↦ elim (chosen (bytes_eq word (codes "marked")) (marked_at words) _ (Some t) p.1) [
+    | inl q ↦ at_word word (codes "marked") words t q.0 (marked_takes words t q.1)
+    | inr q ↦ elim (chosen (bytes_eq word (codes "freed")) (freed_at words) _ (Some t) q.1) [
+      | inl r ↦ at_word word (codes "freed") words t r.0 (freed_takes words t r.1)
+      | inr r ↦
+          let g = guard_some (bytes_eq word (codes "stop")) (stop_at words) t r.1 in
+          at_word word (codes "stop") words t g.0 (stop_takes words t g.1)
+    ]
+  ]
+]
+
+plain_takes : (words : List (List ℕ)) (t : Told) → plain_at words ≡ Some t → SaysBy words t
+unfolding plain_at
+plain_takes [] t e = absurd cc
+plain_takes (word ∷ words) t e = elim (chosen (bytes_eq word (codes "mutators")) (mutators_at words) _ (Some t) e) [
+  | inl p ↦ at_word word (codes "mutators") words t p.0 (mutators_takes words t p.1)
+  | inr p ↦ elim (chosen (bytes_eq word (codes "mark")) (mark_at words) _ (Some t) p.1) [
+    | inl q ↦ at_word word (codes "mark") words t q.0 (mark_takes words t q.1)
+    | inr q ↦ elim (chosen (bytes_eq word (codes "push")) (push_at words) _ (Some t) q.1) [
+      | inl r ↦ at_word word (codes "push") words t r.0 (push_takes words t r.1)
+      | inr r ↦ elim (chosen (bytes_eq word (codes "settle")) (settle_at words) _ (Some t) r.1) [
+        | inl s ↦ at_word word (codes "settle") words t s.0 (settle_takes words t s.1)
+        | inr s ↦ elim (chosen (bytes_eq word (codes "take")) (take_at words) _ (Some t) s.1) [
+          | inl u ↦ at_word word (codes "take") words t u.0 (take_takes words t u.1)
+          | inr u ↦ ending_takes word words t u.1
+        ]
+      ]
+    ]
+  ]
+]
+
+-- each such line is read again
+mutators_again : (words : List (List ℕ)) (n : ℕ) → IsMutators words n → plain_at words ≡ Some (told.Mutators n)
+unfolding plain_at mutators_at
+mutators_again words n h =
+    subst (λ (ws : List (List ℕ)). plain_at ws ≡ Some (told.Mutators n)) (sym h.1) (rw (byte_again n h.0) refl)
+
+at_words : (words other : List (List ℕ)) (t : Told) → words ≡ other → plain_at other ≡ Some t → plain_at words ≡ Some t
+at_words words other t e h = subst (λ (ws : List (List ℕ)). plain_at ws ≡ Some t) (sym e) h
+
+mark_again : plain_at (codes "mark" ∷ []) ≡ Some (told.Event event.Mark)
+unfolding plain_at mark_at
+mark_again = refl
+
+push_again : (who : List ℕ) (name : Name) → IsPusher who → IsName name → plain_at (codes "push" ∷ who ∷ name_text name ∷ []) ≡ Some (told.Event (event.Push name))
+unfolding plain_at push_at
+push_again who name p h = let w = pusher_again who p in rw (w.1, name_reads.again name h) refl
+
+settle_again : (m : ℕ) → m < 256 → plain_at (codes "settle" ∷ decimal m ∷ []) ≡ Some (told.Event (event.Settle m))
+unfolding plain_at settle_at
+settle_again m lt = rw (byte_again m lt) refl
+
+take_again : (name : Name) → IsName name → plain_at (codes "take" ∷ name_text name ∷ []) ≡ Some (told.Event (event.Take name))
+unfolding plain_at take_at
+take_again name h = rw (name_reads.again name h) refl
+
+close_again : plain_at (codes "close" ∷ []) ≡ Some (told.Event event.Close)
+unfolding plain_at ending_at close_at
+close_again = refl
+
+close_told_again : (names : List Name) → All IsName names → plain_at (codes "close" ∷ names_words names) ≡ Some (told.Event (event.CloseTold names))
+unfolding plain_at ending_at close_at
+close_told_again [] h = rw (names_reread [] h) refl
+close_told_again (n ∷ ns) h = rw (names_reread (n ∷ ns) h) refl
+
+marked_again : (names : List Name) → All IsName names → plain_at (codes "marked" ∷ names_words names) ≡ Some (told.Event (event.Marked names))
+unfolding plain_at ending_at marked_at
+marked_again names h = rw (names_reread names h) refl
+
+freed_again : (names : List Name) → All IsName names → plain_at (codes "freed" ∷ names_words names) ≡ Some (told.Event (event.Freed names))
+unfolding plain_at ending_at freed_at
+freed_again names h = rw (names_reread names h) refl
+
+stop_again : plain_at (codes "stop" ∷ []) ≡ Some (told.Event event.Stop)
+unfolding plain_at ending_at stop_at
+stop_again = refl
+
+-- WHAT A LINE SAYS
+
+says_by : (text : List ℕ) (t : Told) → SaysBy (words_of text) t → Says text t
+says_by text told.Blank h = absurd h
+says_by text (told.Mutators n) h = h
+says_by text (told.Event e) h = h
+says_by text told.Unknown h = absurd h
+
+-- words that are read as nothing with a word of its own say nothing but what a mutator gave
+module _ (words : List (List ℕ)) (none : plain_at words ≡ None) (given : (m : ℕ) (c : Command) (answer : Reply) → IsGiven words m c answer → ⊥)
+    (rows : (m : ℕ) (ws : List (List ℕ)) (commands : List Command) → m < 256 → words ≡ given_words m ws (codes "ok") → AreRows ws commands → ⊥) where
+  never : (t : Told) → plain_at words ≡ Some t → ⊥
+  never t e = none-some t (sym none ∙ e)
+
+  no_mutators : (n : ℕ) → IsMutators words n → ⊥
+  no_mutators n h = never (told.Mutators n) (mutators_again words n h)
+
+  no_event : (e : Event) → SaysEvent words e → ⊥
+  no_event (event.Given m c answer) h = given m c answer h
+  no_event (event.Rows m commands) (inl h) = rows m (copy_words h.copying) commands h.mutator h.words_are
+      (inl (h.copying, h.valid, refl, h.commands_are))
+  no_event (event.Rows m commands) (inr h) = rows m (fill_words h.filling) commands h.mutator h.words_are
+      (inr (h.filling, h.valid, refl, h.commands_are))
+  no_event event.Mark h = never (told.Event event.Mark) (at_words words (codes "mark" ∷ []) (told.Event event.Mark) h mark_again)
+  no_event (event.Push name) h = never (told.Event (event.Push name)) (at_words words (codes "push" ∷ h.0 ∷ name_text name ∷
+      []) (told.Event (event.Push name)) h.3 (push_again h.0 name h.1 h.2))
+  no_event (event.Settle m) h = never (told.Event (event.Settle m)) (at_words words (codes "settle" ∷ decimal m ∷
+      []) (told.Event (event.Settle m)) h.1 (settle_again m h.0))
+  no_event (event.Take name) h = never (told.Event (event.Take name)) (at_words words (codes "take" ∷ name_text name ∷
+      []) (told.Event (event.Take name)) h.1 (take_again name h.0))
+  no_event event.Close h = never (told.Event event.Close) (at_words words (codes "close" ∷ []) (told.Event event.Close) h close_again)
+  no_event (event.CloseTold names) h = never (told.Event (event.CloseTold names)) (at_words words (codes "close" ∷
+      names_words names) (told.Event (event.CloseTold names)) h.1 (close_told_again names h.0))
+  no_event (event.Marked names) h = never (told.Event (event.Marked names)) (at_words words (codes "marked" ∷
+      names_words names) (told.Event (event.Marked names)) h.1 (marked_again names h.0))
+  no_event (event.Freed names) h = never (told.Event (event.Freed names)) (at_words words (codes "freed" ∷
+      names_words names) (told.Event (event.Freed names)) h.1 (freed_again names h.0))
+  no_event event.Stop h = never (told.Event event.Stop) (at_words words (codes "stop" ∷ []) (told.Event event.Stop) h stop_again)
+
+module _ (text : List ℕ) (kept : is_passed text ≡ false) (none : plain_at (words_of text) ≡ None) where
+  abbrev words : List (List ℕ)
+  words = words_of text
+
+  -- what is none of a trace
+  nothing : ((m : ℕ) (c : Command) (answer : Reply) → IsGiven words m c answer → ⊥) →
+      ((m : ℕ) (ws : List (List ℕ)) (commands : List Command) → m < 256 → words ≡ given_words m ws (codes "ok") → AreRows ws commands → ⊥) →
+      Says text told.Unknown
+  nothing given rows = record { kept = kept; mutators = no_mutators words none given rows; event = no_event words none given rows }
+
+  no_parts : parts_at words ≡ None → Says text told.Unknown
+  no_parts e = nothing
+      (λ m c answer h. none-some (m, command_words c, answer) (sym e ∙ ap parts_at h.words_are ∙ parts_again m (command_words c) answer h.mutator h.reply))
+      (λ m ws commands lt is h. none-some (m, ws, reply.Fine) (sym e ∙ ap parts_at is ∙ parts_again m ws reply.Fine lt tt))
+
+  module _ (p : Given) (e : parts_at words ≡ Some p) where
+    read : (p.0 < 256) × IsReply p.2 × (words ≡ given_words p.0 p.1 (reply_text p.2))
+    read = parts_takes words p e
+
+    -- the same parts
+    parts_are : (m : ℕ) (ws : List (List ℕ)) (answer : Reply) → m < 256 → IsReply answer → words ≡ given_words m ws (reply_text answer) → (m, ws, answer) ≡ p
+    parts_are m ws answer lt valid is = same_Some (m, ws, answer) p (sym (parts_again m ws answer lt valid) ∙ sym (ap parts_at is) ∙ e)
+
+    a_copy : (commands : List Command) → (p.2 ≡ reply.Fine) × AreRows p.1 commands → SaysEvent words (event.Rows p.0 commands)
+    a_copy commands (fine, inl h) = inl (record {
+      mutator = read.0;
+      copying = h.0;
+      valid = h.1;
+      words_are = read.2 ∙ ap (λ (ws : List (List ℕ)). given_words p.0 ws (reply_text p.2)) h.2 ∙
+          ap (λ (r : Reply). given_words p.0 (copy_words h.0) (reply_text r)) fine;
+      commands_are = h.3;
+    })
+    a_copy commands (fine, inr h) = inr (record {
+      mutator = read.0;
+      filling = h.0;
+      valid = h.1;
+      words_are = read.2 ∙ ap (λ (ws : List (List ℕ)). given_words p.0 ws (reply_text p.2)) h.2 ∙
+          ap (λ (r : Reply). given_words p.0 (fill_words h.0) (reply_text r)) fine;
+      commands_are = h.3;
+    })
+
+    a_command : (c : Command) → IsCommandOf p.1 c → IsGiven words p.0 c p.2
+    a_command c is = record {
+      mutator = read.0;
+      fits = is.0;
+      reply = read.1;
+      words_are = read.2 ∙ ap (λ (ws : List (List ℕ)). given_words p.0 ws (reply_text p.2)) (command_said text p.0 p.1 (reply_text p.2) c read.2 is);
+    }
+
+    no_command : rows_if p.2 p.1 ≡ None → ((c : Command) → IsCommandOf p.1 c → ⊥) → Says text told.Unknown
+    no_command no_rows never_one = nothing
+        (λ m c answer h.
+        let same : (m, command_words c, answer) ≡ p = parts_are m (command_words c) answer h.mutator h.reply h.words_are in
+        never_one c (h.fits, ap (λ (q : Given). spaced q.1) (sym same)))
+        (λ m ws commands lt is h.
+        let same : (m, ws, reply.Fine) ≡ p = parts_are m ws reply.Fine lt tt is in
+        none-some commands (sym no_rows ∙ ap (λ (q : Given). rows_if q.2 q.1) (sym same) ∙ rows_if_again ws commands h))
+
+    given_says : (t : Told) (o : Option (List Command)) → rows_if p.2 p.1 ≡ o → IsToldRows p.0 p.1 p.2 o t → Says text t
+    given_says t (Some commands) is h = subst (Says text) (sym h) (a_copy commands (rows_if_takes p.2 p.1 commands is))
+    given_says t None is (inl h) = subst (Says text) (sym h.1) (a_command h.0 h.2)
+    given_says t None is (inr h) = subst (Says text) (sym h.0) (no_command is h.1)
+
+  parts_say : (t : Told) (o : Option Given) → parts_at words ≡ o → IsToldGiven o t → Says text t
+  parts_say t None e h = subst (Says text) (sym h) (no_parts e)
+  parts_say t (Some p) e h = given_says p e t (rows_if p.2 p.1) refl h
+
+says : (text : List ℕ) (t : Told) (o : Option Told) → is_passed text ≡ false → plain_at (words_of text) ≡ o → IsToldBy o (words_of text) t → Says text t
+says text t (Some u) kept e h = subst (Says text) (sym h) (says_by text u (plain_takes (words_of text) u e))
+says text t None kept e h = parts_say text kept e t (parts_at (words_of text)) refl h
+
+pub told_says : (text : List ℕ) (words : List (List ℕ)) (t : Told) → is_passed text ≡ false → words ≡ words_of text → IsToldBy (plain_at words) words t →
+    Says text t
+told_says text words t kept is h =
+    says text t (plain_at (words_of text)) kept refl (subst (λ (ws : List (List ℕ)). IsToldBy (plain_at ws) ws t) is h)

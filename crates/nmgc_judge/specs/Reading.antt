@@ -1,0 +1,390 @@
+-- How lines are read, word by word. These are the words of the private contracts: what a line says is said by `Said` alone.
+use Rattle.std.specs.Prelude.{◌≡◌, ◌⊎◌, ℕ, ◌-◌, List, [], ◌∷◌, ◌++◌, codes, Option, Some, None, Result, Ok, Err, IfOk, IsErr, ◌==◌, nat_lt, if◌then◌else◌}
+use Rattle.std.specs.Str.{bytes_eq}
+use Rattle.nmgc_limits.specs.declared.mutators.TheConstants.{REGISTERS}
+use Rattle.nmgc_graph.specs.declared.value.Name.{Name}
+use Rattle.nmgc_graph.specs.declared.command.Operand.{Operand}
+use Rattle.nmgc_graph.specs.declared.command.Operand.TheVariants as operand
+use Rattle.nmgc_graph.specs.declared.command.Command.{Command}
+use Rattle.nmgc_graph.specs.declared.command.Reply.{Reply}
+use Rattle.nmgc_graph.specs.declared.command.Reply.TheVariants as reply
+use Rattle.nmgc_graph.specs.Command.{Fits}
+use Rattle.nmgc_core.specs.declared.event.Event.TheVariants as core
+use Rattle.nmgc_watch.specs.declared.event.Event.TheVariants as event
+use Rattle.nmgc_watch.specs.declared.rows.Copying.{Copying}
+use Rattle.nmgc_watch.specs.declared.rows.Filling.{Filling}
+use Rattle.nmgc_watch.specs.Rows.{copied, filled}
+use Rattle.nmgc_lists.specs.declared.memory.NoMemory.{NoMemory}
+use Rattle.nmgc_script.specs.declared.fault.ScriptFault.{ScriptFault}
+use Rattle.nmgc_script.specs.declared.fault.ScriptFault.TheVariants as script_fault
+use Rattle.nmgc_script.specs.declared.script.Script.{Script}
+use Rattle.nmgc_script.specs.Spelling.{spaced, command_words}
+use Rattle.nmgc_journal.specs.Reading.{◌>>=◌, number_at, name_at, value_at}
+use Rattle.nmgc_judge.specs.declared.line.Line.{Line}
+use Rattle.nmgc_judge.specs.declared.line.Line.TheVariants as line
+use Rattle.nmgc_judge.specs.declared.told.Told.{Told}
+use Rattle.nmgc_judge.specs.declared.told.Told.TheVariants as told
+
+-- WORDS
+
+-- a number below 256
+abbrev pub byte_at : List ℕ → Option ℕ
+byte_at word = number_at 255 word
+
+-- an index or a count
+abbrev pub short_at : List ℕ → Option ℕ
+short_at word = number_at 65535 word
+
+-- an 'r' and the number of a register
+unfoldable pub register_at : List ℕ → Option ℕ
+register_at [] = None
+register_at (b ∷ digits) = if b == 114 then number_at (REGISTERS - 1) digits else None
+
+-- a 'g' or a register
+unfoldable pub operand_at : List ℕ → Option Operand
+operand_at word = if bytes_eq word (codes "g") then Some operand.Shared else (register_at word >>= λ r. Some (operand.Register r))
+
+-- each item in order, up to the first that can't be read
+unfoldable pub each_at : {A B : Type 0} → (A → Option B) → List A → Option (List B)
+each_at f [] = Some []
+each_at f (x ∷ xs) = do
+  first ← f x
+  others ← each_at f xs
+  Some (first ∷ others)
+
+-- no word, and so no name
+unfoldable pub no_names_at : List (List ℕ) → Option (List Name)
+no_names_at [] = Some []
+no_names_at words = None
+
+-- names, or a hyphen where there is none
+unfoldable pub names_at : List (List ℕ) → Option (List Name)
+names_at [] = None
+names_at (word ∷ words) = if bytes_eq word (codes "-") then no_names_at words else each_at name_at (word ∷ words)
+
+-- who pushes: a hyphen, or a mutator
+unfoldable pub pusher_at : List ℕ → Option (Option ℕ)
+pusher_at who = if bytes_eq who (codes "-") then Some None else (byte_at who >>= λ m. Some (Some m))
+
+-- ANSWERS
+
+-- the word of a command that was done, or of a test
+unfoldable pub done_at : List ℕ → Option Reply
+done_at word =
+    if bytes_eq word (codes "ok") then Some reply.Fine
+    else if bytes_eq word (codes "yes") then Some reply.Yes
+    else if bytes_eq word (codes "no") then Some reply.No
+    else if bytes_eq word (codes "updated") then Some reply.Updated
+    else if bytes_eq word (codes "already") then Some reply.Already
+    else None
+
+-- the word of a command that can't be done there
+unfoldable pub refused_at : List ℕ → Option Reply
+refused_at word =
+    if bytes_eq word (codes "nopointer") then Some reply.NoPointer
+    else if bytes_eq word (codes "nofield") then Some reply.NoField
+    else if bytes_eq word (codes "wrongkind") then Some reply.WrongKind
+    else if bytes_eq word (codes "notowner") then Some reply.NotOwner
+    else if bytes_eq word (codes "fixed") then Some reply.Fixed
+    else None
+
+-- the word of a weak pointer, a queue or a stack that gives nothing
+unfoldable pub nothing_at : List ℕ → Option Reply
+nothing_at word =
+    if bytes_eq word (codes "dead") then Some reply.Dead
+    else if bytes_eq word (codes "none") then Some reply.Nothing
+    else if bytes_eq word (codes "stackfull") then Some reply.StackFull
+    else if bytes_eq word (codes "stackempty") then Some reply.StackEmpty
+    else None
+
+-- the first, or else the second
+abbrev pub or_else : {A : Type 0} → Option A → Option A → Option A
+or_else (Some x) other = Some x
+or_else None other = other
+
+-- a word of its own, or the value that is given
+unfoldable pub reply_at : List ℕ → Option Reply
+reply_at word = or_else (done_at word) (or_else (refused_at word) (or_else (nothing_at word) (value_at word >>= λ v. Some (reply.Given v))))
+
+-- COMMANDS WITH THEIR ANSWERS
+
+-- a word before those of a command
+abbrev pub onto_command : List ℕ → Option (List (List ℕ) × List ℕ) → Option (List (List ℕ) × List ℕ)
+onto_command word None = None
+onto_command word (Some p) = Some (word ∷ p.0, p.1)
+
+-- the words of a command, and that of its answer behind the sign
+abbrev pub answered_at : List (List ℕ) → Option (List (List ℕ) × List ℕ)
+answered_at [] = None
+answered_at (word ∷ []) = None
+answered_at (word ∷ answer ∷ []) = if bytes_eq word (codes "=") then Some ([], answer) else None
+answered_at (word ∷ second ∷ third ∷ words) = onto_command word (answered_at (second ∷ third ∷ words))
+
+-- who gave a command, in which words, and its answer
+unfoldable pub parts_at : List (List ℕ) → Option (ℕ × List (List ℕ) × Reply)
+parts_at [] = None
+parts_at (mutator ∷ words) = do
+  m ← byte_at mutator
+  p ← answered_at words
+  answer ← reply_at p.1
+  Some (m, p.0, answer)
+
+-- words, each behind a space
+abbrev pub after_spaces : List (List ℕ) → List ℕ
+after_spaces [] = []
+after_spaces (word ∷ words) = 32 ∷ (word ++ after_spaces words)
+
+-- the lines of a script before its first command
+abbrev pub script_head : List ℕ
+script_head = codes "nmgc 2\nheap 128 4096 4096 4096 1048576 8\nthread 0\n"
+
+-- the last command of the last program
+abbrev pub IsLastIf : List (List Command) → Option Command → Type 0
+IsLastIf programs (Some c) = (before : List (List Command)) × (front : List Command) × (programs ≡ before ++ (front ++ c ∷ []) ∷ [])
+IsLastIf programs None = (before : List (List Command)) (front : List Command) (c : Command) → programs ≡ before ++ (front ++ c ∷ []) ∷ [] → ⊥
+
+-- the last command of what was read as a script
+abbrev pub IsLastOf : Result Script ScriptFault → Result (Option Command) NoMemory → Type 0
+IsLastOf (Ok s) result = IfOk result (IsLastIf s.threads)
+IsLastOf (Err script_fault.NoMemory) result = IsErr result
+IsLastOf (Err (script_fault.Bad number cause)) result = result ≡ Ok None
+
+-- the line spells a command
+abbrev pub IsSpelled : List ℕ → Command → Type 0
+IsSpelled line c = Fits 4096 c × (line ≡ spaced (command_words c))
+
+-- whether it does, as reading tells it
+abbrev pub IsSpelledIf : List ℕ → Option Command → Type 0
+IsSpelledIf line (Some c) = IsSpelled line c
+IsSpelledIf line None = (c : Command) → IsSpelled line c → ⊥
+
+-- the words spell a command
+abbrev pub IsCommandOf : List (List ℕ) → Command → Type 0
+IsCommandOf words c = IsSpelled (spaced words) c
+
+-- whether they do, as reading tells it
+abbrev pub IsCommandIf : List (List ℕ) → Option Command → Type 0
+IsCommandIf words read = IsSpelledIf (spaced words) read
+
+-- COPIES AND FILLS
+
+-- an object, and one of its fields
+unfoldable pub place_at : List ℕ → List ℕ → Option (Operand × ℕ)
+place_at object index = do
+  o ← operand_at object
+  i ← short_at index
+  Some (o, i)
+
+-- how many fields, and by which register
+unfoldable pub span_at : List ℕ → List ℕ → Option (ℕ × ℕ)
+span_at count via = do
+  n ← short_at count
+  r ← register_at via
+  Some (n, r)
+
+-- a copy from one place to another, downwards where the fields move up
+abbrev pub copying_of : Operand × ℕ → Operand × ℕ → ℕ × ℕ → Copying
+copying_of to from span = record {
+  from = from.0;
+  first = from.1;
+  to = to.0;
+  place = to.1;
+  count = span.0;
+  via = span.1;
+  down = nat_lt from.1 to.1;
+}
+
+-- the words of a copy
+unfoldable pub copy_at : List ℕ → List ℕ → List ℕ → List ℕ → List ℕ → List ℕ → Option Copying
+copy_at to place from first count via = do
+  t ← place_at to place
+  f ← place_at from first
+  n ← span_at count via
+  Some (copying_of t f n)
+
+-- what stands behind `copy`
+unfoldable pub copying_at : List (List ℕ) → Option Copying
+copying_at (to ∷ place ∷ from ∷ first ∷ count ∷ word ∷ via ∷ []) = if bytes_eq word (codes "via") then copy_at to place from first count via else None
+copying_at words = None
+
+-- the words of a fill
+unfoldable pub fill_at : List ℕ → List ℕ → List ℕ → List ℕ → Option Filling
+fill_at object first count value = do
+  p ← place_at object first
+  n ← short_at count
+  v ← operand_at value
+  Some (record { object = p.0; first = p.1; count = n; value = v })
+
+-- what stands behind `fill`
+unfoldable pub filling_at : List (List ℕ) → Option Filling
+filling_at (object ∷ first ∷ count ∷ value ∷ []) = fill_at object first count value
+filling_at words = None
+
+-- the commands of a copy, and of a fill
+abbrev pub copied_of : Copying → List Command
+copied_of k = copied k k.count
+
+abbrev pub filled_of : Filling → List Command
+filled_of k = filled k k.count
+
+-- the commands of a copy or a fill
+unfoldable pub rows_at : List (List ℕ) → Option (List Command)
+rows_at [] = None
+rows_at (verb ∷ words) =
+    if bytes_eq verb (codes "copy") then (copying_at words >>= λ k. Some (copied_of k))
+    else if bytes_eq verb (codes "fill") then (filling_at words >>= λ k. Some (filled_of k))
+    else None
+
+-- the same where it was done
+abbrev pub rows_if : Reply → List (List ℕ) → Option (List Command)
+rows_if reply.Fine words = rows_at words
+rows_if answer words = None
+
+-- FORMAT 2, BUT WHAT A MUTATOR GAVE
+
+unfoldable pub mutators_at : List (List ℕ) → Option Told
+mutators_at (count ∷ []) = byte_at count >>= λ n. Some (told.Mutators n)
+mutators_at words = None
+
+unfoldable pub mark_at : List (List ℕ) → Option Told
+mark_at [] = Some (told.Event event.Mark)
+mark_at words = None
+
+unfoldable pub push_at : List (List ℕ) → Option Told
+push_at (who ∷ name ∷ []) = do
+  p ← pusher_at who
+  n ← name_at name
+  Some (told.Event (event.Push n))
+push_at words = None
+
+unfoldable pub settle_at : List (List ℕ) → Option Told
+settle_at (mutator ∷ []) = byte_at mutator >>= λ m. Some (told.Event (event.Settle m))
+settle_at words = None
+
+unfoldable pub take_at : List (List ℕ) → Option Told
+take_at (name ∷ []) = name_at name >>= λ n. Some (told.Event (event.Take n))
+take_at words = None
+
+unfoldable pub close_at : List (List ℕ) → Option Told
+close_at [] = Some (told.Event event.Close)
+close_at (word ∷ words) = names_at (word ∷ words) >>= λ names. Some (told.Event (event.CloseTold names))
+
+unfoldable pub marked_at : List (List ℕ) → Option Told
+marked_at words = names_at words >>= λ names. Some (told.Event (event.Marked names))
+
+unfoldable pub freed_at : List (List ℕ) → Option Told
+freed_at words = names_at words >>= λ names. Some (told.Event (event.Freed names))
+
+unfoldable pub stop_at : List (List ℕ) → Option Told
+stop_at [] = Some (told.Event event.Stop)
+stop_at words = None
+
+-- how a cycle ended, and the trace
+unfoldable pub ending_at : List ℕ → List (List ℕ) → Option Told
+ending_at word words =
+    if bytes_eq word (codes "close") then close_at words
+    else if bytes_eq word (codes "marked") then marked_at words
+    else if bytes_eq word (codes "freed") then freed_at words
+    else if bytes_eq word (codes "stop") then stop_at words
+    else None
+
+-- a line that begins with a word of its own
+unfoldable pub plain_at : List (List ℕ) → Option Told
+plain_at [] = None
+plain_at (word ∷ words) =
+    if bytes_eq word (codes "mutators") then mutators_at words
+    else if bytes_eq word (codes "mark") then mark_at words
+    else if bytes_eq word (codes "push") then push_at words
+    else if bytes_eq word (codes "settle") then settle_at words
+    else if bytes_eq word (codes "take") then take_at words
+    else ending_at word words
+
+-- WHAT A LINE OF FORMAT 2 SAYS
+
+-- a command that this mutator gave, or none
+abbrev pub IsToldCommand : ℕ → List (List ℕ) → Reply → Told → Type 0
+IsToldCommand m words answer t = ((c : Command) × (t ≡ told.Event (event.Given m c answer)) × IsCommandOf words c) ⊎
+    ((t ≡ told.Unknown) × ((c : Command) → IsCommandOf words c → ⊥))
+
+-- commands that it gave in one line, or else one
+abbrev pub IsToldRows : ℕ → List (List ℕ) → Reply → Option (List Command) → Told → Type 0
+IsToldRows m words answer (Some commands) t = t ≡ told.Event (event.Rows m commands)
+IsToldRows m words answer None t = IsToldCommand m words answer t
+
+-- what a mutator gave, if it is that
+abbrev pub IsToldGiven : Option (ℕ × List (List ℕ) × Reply) → Told → Type 0
+IsToldGiven (Some p) t = IsToldRows p.0 p.1 p.2 (rows_if p.2 p.1) t
+IsToldGiven None t = t ≡ told.Unknown
+
+-- a line with a word of its own, or what a mutator gave
+abbrev pub IsToldBy : Option Told → List (List ℕ) → Told → Type 0
+IsToldBy (Some plain) words t = t ≡ plain
+IsToldBy None words t = IsToldGiven (parts_at words) t
+
+-- FORMAT 1, BUT WHAT A MUTATOR GAVE
+
+unfoldable pub count_line_at : List (List ℕ) → Option Line
+count_line_at (count ∷ []) = byte_at count >>= λ n. Some (line.Mutators n)
+count_line_at words = None
+
+unfoldable pub mark_line_at : List (List ℕ) → Option Line
+mark_line_at [] = Some line.Mark
+mark_line_at words = None
+
+unfoldable pub push_line_at : List (List ℕ) → Option Line
+push_line_at (mutator ∷ []) = byte_at mutator >>= λ m. Some (line.Event (core.Push m))
+push_line_at words = None
+
+unfoldable pub scan_line_at : List (List ℕ) → Option Line
+scan_line_at [] = Some (line.Event core.Scan)
+scan_line_at words = None
+
+unfoldable pub take_line_at : List (List ℕ) → Option Line
+take_line_at (mutator ∷ name ∷ []) = do
+  m ← byte_at mutator
+  n ← name_at name
+  Some (line.Take m n)
+take_line_at words = None
+
+unfoldable pub close_line_at : List (List ℕ) → Option Line
+close_line_at [] = Some (line.Event core.Close)
+close_line_at words = None
+
+unfoldable pub drain_line_at : List (List ℕ) → Option Line
+drain_line_at [] = Some line.Drain
+drain_line_at words = None
+
+-- what the marker did
+unfoldable pub marker_line_at : List ℕ → List (List ℕ) → Option Line
+marker_line_at word words =
+    if bytes_eq word (codes "scan") then scan_line_at words
+    else if bytes_eq word (codes "take") then take_line_at words
+    else if bytes_eq word (codes "close") then close_line_at words
+    else if bytes_eq word (codes "drain") then drain_line_at words
+    else None
+
+-- a line that begins with a word of its own
+unfoldable pub plain_line_at : List (List ℕ) → Option Line
+plain_line_at [] = None
+plain_line_at (word ∷ words) =
+    if bytes_eq word (codes "mutators") then count_line_at words
+    else if bytes_eq word (codes "mark") then mark_line_at words
+    else if bytes_eq word (codes "push") then push_line_at words
+    else marker_line_at word words
+
+-- WHAT A LINE OF FORMAT 1 SAYS
+
+-- a command that this mutator gave, or none
+abbrev pub IsLineCommand : ℕ → List (List ℕ) → Reply → Line → Type 0
+IsLineCommand m words answer l = ((c : Command) × (l ≡ line.Event (core.Command m c answer)) × IsCommandOf words c) ⊎
+    ((l ≡ line.Unknown) × ((c : Command) → IsCommandOf words c → ⊥))
+
+-- what a mutator gave, if it is that
+abbrev pub IsLineGiven : Option (ℕ × List (List ℕ) × Reply) → Line → Type 0
+IsLineGiven (Some p) l = IsLineCommand p.0 p.1 p.2 l
+IsLineGiven None l = l ≡ line.Unknown
+
+-- a line with a word of its own, or what a mutator gave
+abbrev pub IsLineBy : Option Line → List (List ℕ) → Line → Type 0
+IsLineBy (Some plain) words l = l ≡ plain
+IsLineBy None words l = IsLineGiven (parts_at words) l

@@ -1,0 +1,144 @@
+//! The words of a line, and what one word is.
+//!
+//! A line is cut at single spaces, so two spaces in a row make an empty word, which is neither a number nor a name. Numbers
+//! and names are spelled as in a report, registers and operands as in a script.
+ghost use Rattle.std.specs.Prelude.{◌≡◌, ◌≢◌, ◌<◌, ◌≤◌, ◌++◌, ◌∷◌, [], map, length, All, IfSome, IfNone, IfOk, OnOk};
+ghost use Rattle.nmgc_script.specs.Text.{words_of, is_passed};
+ghost use Rattle.nmgc_journal.specs.Reading.{number_at, name_at};
+ghost use Rattle.nmgc_judge.specs.Reading.{byte_at, short_at, register_at, operand_at, each_at, no_names_at, names_at, pusher_at};
+
+use nmgc_graph::{List, Name, NoMemory, Operand, REGISTERS};
+use nmgc_io::read_number;
+use nmgc_journal::read_name;
+use std::alloc::Global;
+
+/// Whether a line is empty or a remark. Takes no memory.
+pub(crate) fn is_passed(line: &[u8]) -> bool
+    ensures { result ≡ is_passed line.now }
+{
+    match line {
+        [] => true,
+        [first, ..] => *first == b'#',
+    }
+}
+
+/// Cuts a line into its words, which take the place of those that are there.
+pub(crate) fn cut_words<'a>(words: &mut Vec<&'a [u8]>, line: &'a [u8]) -> Result<(), NoMemory>
+    ensures { OnOk result (map (λ w. w.now) words.new.items ≡ words_of line.now) }
+{
+    words.clear();
+    let mut rest = line;
+    while let Some((word, after)) = cut(rest, b' ') {
+        words.push(word)?;
+        rest = after;
+    }
+    words.push(rest)?;
+    Ok(())
+}
+
+// What comes before the first such byte, and what comes after it.
+fn cut(bytes: &[u8], byte: u8) -> Option<(&[u8], &[u8])>
+    ensures parts { IfSome result (λ parts. bytes.now ≡ parts.0.now ++ byte ∷ parts.1.now) }
+    ensures first { IfSome result (λ parts. All (λ b. b ≢ byte) parts.0.now) }
+    ensures less { IfSome result (λ parts. length parts.1.now < length bytes.now) }
+    ensures none { IfNone result (All (λ b. b ≢ byte) bytes.now) }
+{
+    let Some(at) = bytes.iter().position(|b| *b == byte) else {
+        return None;
+    };
+    Some((&bytes[..at], &bytes[at + 1..]))
+}
+
+// A number of at most `limit`.
+fn number(word: &[u8], limit: u64) -> Option<u64>
+    ensures gives { result ≡ number_at limit word.now }
+    ensures within { IfSome result (λ n. n ≤ limit) }
+{
+    read_number(word, limit)
+}
+
+/// A number below 256. Takes no memory.
+pub(crate) fn byte(word: &[u8]) -> Option<u8>
+    ensures { result ≡ byte_at word.now }
+{
+    Some(number(word, u64::from(u8::MAX))? as u8)
+}
+
+/// An index or a count: a number below 65,536. Takes no memory.
+pub(crate) fn short(word: &[u8]) -> Option<u32>
+    ensures { result ≡ short_at word.now }
+{
+    Some(number(word, u64::from(u16::MAX))? as u32)
+}
+
+/// A register that a mutator has. Takes no memory.
+#[tactic(auto, unfolding(crate::specs::Reading::register_at))]
+pub(crate) fn register(word: &[u8]) -> Option<u8>
+    ensures { result ≡ register_at word.now }
+{
+    match word {
+        [b'r', digits @ ..] => Some(number(digits, u64::from(REGISTERS) - 1)? as u8),
+        _ => None,
+    }
+}
+
+/// A register, or `g`. Takes no memory.
+#[tactic(auto, unfolding(crate::specs::Reading::operand_at))]
+pub(crate) fn operand(word: &[u8]) -> Option<Operand>
+    ensures { result ≡ operand_at word.now }
+{
+    if word == b"g".as_slice() {
+        return Some(Operand::Shared);
+    }
+    Some(Operand::Register(register(word)?))
+}
+
+/// Who pushes: a mutator, or a hyphen where the collector itself remembered the name. Takes no memory.
+#[tactic(auto, unfolding(crate::specs::Reading::pusher_at))]
+pub(crate) fn pusher(who: &[u8]) -> Option<Option<u8>>
+    ensures { result ≡ pusher_at who.now }
+{
+    if who == b"-".as_slice() {
+        return Some(None);
+    }
+    Some(Some(byte(who)?))
+}
+
+/// Names; a hyphen where there is none.
+#[tactic(auto, unfolding(crate::specs::Reading::names_at))]
+pub(crate) fn names(alloc: Global, words: &[&[u8]]) -> Result<Option<List<Name>>, NoMemory>
+    ensures { IfOk result (λ names. names ≡ names_at (map (λ w. w.now) words.now)) }
+{
+    let [word, rest @ ..] = words else {
+        return Ok(None);
+    };
+    if *word == b"-".as_slice() {
+        return Ok(no_names(alloc, rest));
+    }
+    each_name(alloc, words)
+}
+
+// No names, where no word is left.
+#[tactic(auto, unfolding(crate::specs::Reading::no_names_at))]
+fn no_names(alloc: Global, words: &[&[u8]]) -> Option<List<Name>>
+    ensures { result ≡ no_names_at (map (λ w. w.now) words.now) }
+{
+    match words {
+        [] => Some(List::new(alloc)),
+        _ => None,
+    }
+}
+
+// As many names as there are words.
+fn each_name(alloc: Global, words: &[&[u8]]) -> Result<Option<List<Name>>, NoMemory>
+    ensures { IfOk result (λ names. names ≡ each_at name_at (map (λ w. w.now) words.now)) }
+{
+    let mut names = List::new(alloc);
+    for word in words {
+        let Some(name) = read_name(word) else {
+            return Ok(None);
+        };
+        names.push(name)?;
+    }
+    Ok(Some(names))
+}
