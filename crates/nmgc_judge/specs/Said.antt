@@ -25,7 +25,7 @@ use Rattle.nmgc_judge.specs.declared.told.Told.TheVariants as told
 
 -- THE LINES OF A TEXT
 
--- the lines, each without its end: a line feed, which the last may lack, and a carriage return before that
+-- the lines, each without its end: a line feed, which the last may not have, and a carriage return before that
 abbrev pub texts_of : List ℕ → List (List ℕ)
 texts_of bytes = map (λ line. strip_last 13 line) (lines_of bytes)
 
