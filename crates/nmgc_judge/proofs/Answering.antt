@@ -40,7 +40,8 @@ module _ (words front command : List (Bor (List ℕ))) (answer sign : Bor (List 
 pub no_words : (words : List (Bor (List ℕ))) → words ≡ [] → answered_at (texts_of_words words) ≡ None
 no_words words e = ap (λ (ws : List (Bor (List ℕ))). answered_at (texts_of_words ws)) e
 
-pub one_word : (words front : List (Bor (List ℕ))) (answer : Bor (List ℕ)) → words ≡ front ++ answer ∷ [] → front ≡ [] → answered_at (texts_of_words words) ≡ None
+pub one_word : (words front : List (Bor (List ℕ))) (answer : Bor (List ℕ)) → words ≡ front ++ answer ∷ [] → front ≡ [] →
+    answered_at (texts_of_words words) ≡ None
 one_word words front answer e none =
     ap (λ (ws : List (Bor (List ℕ))). answered_at (texts_of_words ws)) (e ∙ ap (λ (ws : List (Bor (List ℕ))). ws ++ answer ∷ []) none)
 

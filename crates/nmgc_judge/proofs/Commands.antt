@@ -185,7 +185,8 @@ module _ (line : List ℕ) (c : Command) (is : IsSpelled line c) where
 
 -- what `parse` says of the script
 abbrev pub IsRead : List ℕ → Result Script ScriptFault → Type 0
-IsRead bytes read = IfOk read (λ s. Spells bytes s) × ((s : Script) → Spells bytes s → MatchResult read (λ found. s ≡ found) (λ fault. fault ≡ script_fault.NoMemory))
+IsRead bytes read = IfOk read (λ s. Spells bytes s) × ((s : Script) → Spells bytes s →
+    MatchResult read (λ found. s ≡ found) (λ fault. fault ≡ script_fault.NoMemory))
 
 spelled_if : (line : List ℕ) → IsLine line → (s : Script) → Spells (script_with line) s →
     ((other : Script) → Spells (script_with line) other → other ≡ s) → (o : Option Command) → IsLastIf s.threads o → IsSpelledIf line o
@@ -196,7 +197,8 @@ spelled_if line none s spells only None last = λ c is.
 pub command_is : (line bytes : List ℕ) (read : Result Script ScriptFault) (result : Result (Option Command) NoMemory) → IsLine line →
     bytes ≡ script_with line → IsRead bytes read → IsLastOf read result → IfOk result (IsSpelledIf line)
 command_is line bytes (Ok s) (Ok o) none is r last =
-    spelled_if line none s (subst (λ (b : List ℕ). Spells b s) is r.0) (λ other spells. r.1 other (subst (λ (b : List ℕ). Spells b other) (sym is) spells)) o last
+    spelled_if line none s (subst (λ (b : List ℕ). Spells b s) is r.0) (λ other spells.
+    r.1 other (subst (λ (b : List ℕ). Spells b other) (sym is) spells)) o last
 command_is line bytes (Ok s) (Err e) none is r last = tt
 command_is line bytes (Err script_fault.NoMemory) (Ok o) none is r last = absurd cc
 command_is line bytes (Err script_fault.NoMemory) (Err e) none is r last = tt

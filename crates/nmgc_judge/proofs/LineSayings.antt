@@ -218,7 +218,8 @@ module _ (text : List ℕ) (kept : is_passed text ≡ false) (none : plain_line_
   parts_say l None e h = subst (SaysLine text) (sym h) (no_parts e)
   parts_say l (Some p) e h = given_says p e l h
 
-says : (text : List ℕ) (l : Line) (o : Option Line) → is_passed text ≡ false → plain_line_at (words_of text) ≡ o → IsLineBy o (words_of text) l → SaysLine text l
+says : (text : List ℕ) (l : Line) (o : Option Line) → is_passed text ≡ false → plain_line_at (words_of text) ≡ o → IsLineBy o (words_of text) l →
+    SaysLine text l
 says text l (Some u) kept e h = subst (SaysLine text) (sym h) (says_by text u (plain_takes (words_of text) u e))
 says text l None kept e h = parts_say text kept e l (parts_at (words_of text)) refl h
 

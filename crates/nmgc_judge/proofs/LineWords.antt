@@ -195,7 +195,13 @@ command_line size (Nil dest) h = (small (codes "nil") refl refl, (register_small
 command_line size (Mov dest value) h = (small (codes "mov") refl refl, (register_small dest h.registers.0, (operand_small value h.registers.1, tt)))
 command_line size (Con dest tag fields) h = (
   small (codes "con") refl refl,
-  (register_small dest h.registers.0, (decimal_small tag (omega (arith, h.numbers)), operands_small fields (recursion_from_All IsOperand fields h.registers.1))),
+  (
+    register_small dest h.registers.0,
+    (
+      decimal_small tag (omega (arith, h.numbers)),
+      operands_small fields (recursion_from_All IsOperand fields h.registers.1),
+    ),
+  ),
 )
 command_line size (Var dest value) h = (small (codes "var") refl refl, (register_small dest h.registers.0, (operand_small value h.registers.1, tt)))
 command_line size (Arr dest count value) h = (
@@ -250,10 +256,12 @@ pub command_count : (size : ℕ) (c : Command) → Fits size c → size ≤ 4096
 command_count size (Num dest number) h le = omega arith
 command_count size (Nil dest) h le = omega arith
 command_count size (Mov dest value) h le = omega arith
-command_count size (Con dest tag fields) h le = let n : length (map operand_word fields) ≡ length fields = length-map fields operand_word in let few = h.size in omega arith
+command_count size (Con dest tag fields) h le = let n : length (map operand_word fields) ≡ length fields = length-map fields operand_word in
+    let few = h.size in omega arith
 command_count size (Var dest value) h le = omega arith
 command_count size (Arr dest count value) h le = omega arith
-command_count size (Thunk dest free) h le = let n : length (map operand_word free) ≡ length free = length-map free operand_word in let few = h.size in omega arith
+command_count size (Thunk dest free) h le = let n : length (map operand_word free) ≡ length free = length-map free operand_word in
+    let few = h.size in omega arith
 command_count size (Weak dest key value finaliser) h le = omega arith
 command_count size (Stack dest count) h le = omega arith
 command_count size (Get dest object index) h le = omega arith

@@ -122,7 +122,8 @@ ended_of (Some all) now next lines text r read is =
     let l : (rest : List ℕ) × (next ≡ Some rest) × (texts_of read.0 ≡ []) = subst (λ (o : Option (List ℕ)). IsNextLine o next text false) read.1 is in
     record { left = texts_of read.0; said = read.2; all = λ fine. l.2 }
 
-pub told_ended : (known now next : Option (List ℕ)) (n : ℕ) (p : Begun) (text : List ℕ) (answer : Answer) → SoFar known n p now → IsNextLine now next text false →
+pub told_ended : (known now next : Option (List ℕ)) (n : ℕ) (p : Begun) (text : List ℕ) (answer : Answer) → SoFar known n p now →
+    IsNextLine now next text false →
     answer.report ≡ report_of p → IsWatched known answer
 told_ended known now next n p text answer s is told_is = (
   s.lines,
@@ -153,7 +154,8 @@ pub nothing_read : (known : Option (List ℕ)) (is_there : Bool) (first : List �
 nothing_read known is_there first = record { lines = []; count = refl; comes = refl; judged = nothing_judged known is_there first }
 
 -- the line is judged
-judge_on : (known : Option (List ℕ)) (is_there : Bool) (first : List ℕ) (lines : List Line) (now : Option (List ℕ)) (goes_on : Bool) (text : List ℕ) (l : Line) →
+judge_on : (known : Option (List ℕ)) (is_there : Bool) (first : List ℕ) (lines : List Line) (now : Option (List ℕ)) (goes_on : Bool) (text : List ℕ)
+    (l : Line) →
     goes_on ≡ true → Judged known is_there first lines now goes_on text → SaysLine (strip_last 13 (strip_last 10 text)) l →
     IfSome known (λ all. (rest : List ℕ) × (now ≡ Some rest) × AreSaid SaysLine (ahead is_there first all) (lines ++ l ∷ []) (texts_of rest))
 judge_on None is_there first lines now goes_on text l here j s = tt
@@ -170,7 +172,8 @@ read_next : (known : Option (List ℕ)) (is_there : Bool) (first : List ℕ) (li
     IsNextLine now next text after → Judged known is_there first lines next after text
 read_next None is_there first lines now next after text j is = tt
 read_next (Some all) is_there first lines now next after text j is =
-    let l : (rest : List ℕ) × (next ≡ Some rest) × (texts_of j.0 ≡ ahead after text rest) = subst (λ (o : Option (List ℕ)). IsNextLine o next text after) j.1 is in
+    let l : (rest : List ℕ) × (next ≡ Some rest) × (texts_of j.0 ≡ ahead after text rest) =
+    subst (λ (o : Option (List ℕ)). IsNextLine o next text after) j.1 is in
     (l.0, l.1, subst (AreSaid SaysLine (ahead is_there first all) lines) l.2 j.2)
 
 module _ (known : Option (List ℕ)) (is_there : Bool) (first : List ℕ) (n : ℕ) (p : Progress) (now : Option (List ℕ)) (goes_on : Bool) (text : List ℕ)
@@ -270,7 +273,8 @@ no_head true line rest texts head e =
     false≢true (sym head ∙ (bytes_eq-Decides (strip_last 13 (strip_last 10 line)) (codes "trace 2")).1 same)
 
 marked_of : (old now : Option (List ℕ)) (is_there : Bool) (line : List ℕ) (lines : List Line) (v : Verdict) → IsNextLine old now line is_there →
-    (is_there && bytes_eq (strip_last 13 (strip_last 10 line)) (codes "trace 2")) ≡ false → IfSome now (λ rest. AreMarkedLines (ahead is_there line rest) lines v) →
+    (is_there && bytes_eq (strip_last 13 (strip_last 10 line)) (codes "trace 2")) ≡ false →
+    IfSome now (λ rest. AreMarkedLines (ahead is_there line rest) lines v) →
     IfSome old (λ bytes. IsMarkedOf bytes lines v)
 marked_of None now is_there line lines v is head t = tt
 marked_of (Some bytes) now is_there line lines v is head t =

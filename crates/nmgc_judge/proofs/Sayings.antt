@@ -28,7 +28,8 @@ use Rattle.nmgc_judge.proofs.WordReads.{Given, AreRows, is_word, byte_takes, byt
 -- THE WORDS OF A COMMAND
 
 -- words without spaces that spell what a command's words spell are these words
-same_words : (words : List (List ℕ)) → AllByRecursion IsWord words → (c : Command) → Fits 4096 c → spaced words ≡ spaced (command_words c) → words ≡ command_words c
+same_words : (words : List (List ℕ)) → AllByRecursion IsWord words → (c : Command) → Fits 4096 c → spaced words ≡ spaced (command_words c) →
+    words ≡ command_words c
 same_words [] h c fits e =
     absurd (false≢true (sym (made_kept (command_words c) (command_line 4096 c fits)).kept ∙ ap is_passed (sym e)))
 same_words (w ∷ ws) h c fits e = sym (words_again w ws h.0 h.1) ∙ ap words_of e ∙ words_of-line (command_words c) (command_line 4096 c fits)
@@ -175,7 +176,8 @@ mark_again : plain_at (codes "mark" ∷ []) ≡ Some (told.Event event.Mark)
 unfolding plain_at mark_at
 mark_again = refl
 
-push_again : (who : List ℕ) (name : Name) → IsPusher who → IsName name → plain_at (codes "push" ∷ who ∷ name_text name ∷ []) ≡ Some (told.Event (event.Push name))
+push_again : (who : List ℕ) (name : Name) → IsPusher who → IsName name →
+    plain_at (codes "push" ∷ who ∷ name_text name ∷ []) ≡ Some (told.Event (event.Push name))
 unfolding plain_at push_at
 push_again who name p h = let w = pusher_again who p in rw (w.1, name_reads.again name h) refl
 

@@ -273,7 +273,13 @@ reply_takes word r e = elim (or_some (done_at word) _ r e) [
 no_word : (b : ℕ) (rest : List ℕ) → b ≤ 57 → (done_at (b ∷ rest) ≡ None) × (refused_at (b ∷ rest) ≡ None) × (nothing_at (b ∷ rest) ≡ None)
 unfolding done_at refused_at nothing_at
 no_word b rest le = (
-  rw (ne_eqb b 111 (λ e. omega arith), ne_eqb b 121 (λ e. omega arith), ne_eqb b 110 (λ e. omega arith), ne_eqb b 117 (λ e. omega arith), ne_eqb b 97 (λ e. omega arith)) refl,
+  rw (
+    ne_eqb b 111 (λ e. omega arith),
+    ne_eqb b 121 (λ e. omega arith),
+    ne_eqb b 110 (λ e. omega arith),
+    ne_eqb b 117 (λ e. omega arith),
+    ne_eqb b 97 (λ e. omega arith),
+  ) refl,
   rw (ne_eqb b 110 (λ e. omega arith), ne_eqb b 119 (λ e. omega arith), ne_eqb b 102 (λ e. omega arith)) refl,
   rw (ne_eqb b 100 (λ e. omega arith), ne_eqb b 110 (λ e. omega arith), ne_eqb b 115 (λ e. omega arith)) refl,
 )

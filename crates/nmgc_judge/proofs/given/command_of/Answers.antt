@@ -7,7 +7,8 @@ pub returns-then-has_feed : goal.returns-then-has_feed
 returns-then-has_feed c = feed_within c.args.line.now (c.has_feed.ensures.0 c.if-has_feed.true)
 
 pub returns-then-len-gt-LONGEST : goal.returns-then-len-gt-LONGEST
-returns-then-len-gt-LONGEST c = too_long c.args.line.now c.in_ok-text.text.items c.in_ok-text.ensures (let all = c.in_ok-text.text.ok in omega (arith, c.len.ensures, c.if-len-gt-LONGEST.true))
+returns-then-len-gt-LONGEST c = too_long c.args.line.now c.in_ok-text.text.items c.in_ok-text.ensures (let all = c.in_ok-text.text.ok in
+    omega (arith, c.len.ensures, c.if-len-gt-LONGEST.true))
 
 pub returns : goal.returns
 returns c =

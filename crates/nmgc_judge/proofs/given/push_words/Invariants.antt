@@ -4,4 +4,5 @@ use Rattle.nmgc_judge.proofs.given.push_words.Given as goal
 
 -- the words so far were appended
 abbrev pub invariant-loop-word : goal.invariant-loop-word
-invariant-loop-word l = l.line.items ++ after_spaces (map (λ w. w.now) (drop l.word-index l.words)) ≡ l.initial.line.items ++ after_spaces (map (λ w. w.now) l.words)
+invariant-loop-word l = l.line.items ++ after_spaces (map (λ w. w.now) (drop l.word-index l.words)) ≡ l.initial.line.items ++
+    after_spaces (map (λ w. w.now) l.words)
