@@ -1,5 +1,5 @@
 -- A fixed load keeps the rule, also where a command takes its place there.
-use Rattle.std.proofs.Common.{◌≡◌, inl, inr, ℕ, zero, suc, ◌+◌, ◌<◌, List, [], ◌∷◌, set, set-set, refl, sym, ap, subst, ◌∙◌, arith, slice_index}
+use Rattle.std.proofs.Common.{◌≡◌, inl, inr, ℕ, zero, suc, ◌+◌, ◌*◌, ◌<◌, List, [], ◌∷◌, set, set-set, refl, sym, ap, subst, ◌∙◌, arith, slice_index}
 use mathlib.Core.Option.{some, some-ne-none}
 use lib.ListN.{get_elem?}
 use Rattle.nmgc_graph.specs.declared.value.Value.{Value}
@@ -38,7 +38,7 @@ may_read kind.Thunk w = absurd w
 may_read kind.Weak w = absurd w
 may_read kind.Stack w = absurd w
 
-there_again : {A : Type 0} (l : List A) (i : ℕ) (a b : A) → get_elem? l i ≡ some a → get_elem? (set l i b) i ≡ some b
+pub there_again : {A : Type 0} (l : List A) (i : ℕ) (a b : A) → get_elem? l i ≡ some a → get_elem? (set l i b) i ≡ some b
 there_again [] i a b e = absurd (some-ne-none a (sym e))
 there_again (x ∷ xs) zero a b e = refl
 there_again (x ∷ xs) (suc i) a b e = there_again xs i a b e
@@ -49,7 +49,7 @@ module _ (o : Opening) (words : List ℕ) (views : List Seen) (h : Keeps o words
   rests = ((h.agrees id v here).parts 0 p (ap (λ l. get_elem? l 0) is.alone)).2
 
   -- header and name of an object
-  first_fixed : (x : Object) → IsObject o h.born x → (offset : ℕ) → offset < HEADER_WORDS → IsFixed o h.born x.at offset
+  pub first_fixed : (x : Object) → IsObject o h.born x → (offset : ℕ) → offset < HEADER_WORDS → IsFixed o h.born x.at offset
   first_fixed x hx offset lt = record { object = x; here = hx; is_at = refl; within = omega arith; fixed = λ i e may. omega arith }
 
   -- a field of an object whose header is named
@@ -77,7 +77,12 @@ module _ (o : Opening) (words : List ℕ) (views : List Seen) (h : Keeps o words
       let x : Value = value_for (now o h.events).world p.number object in
       let q = pointer_means (IsIn o h.born) at x (subst (λ w. Means (IsIn o h.born) w x) e (operand_is o words views h id v here p is object)) in
       first_fixed (record { at = at; name = q.0; node = q.2.0 }) q.2.1 offset lt
-  is_fixed at offset (inr (header, i, names, e, lt, never)) = subst (λ k. IsFixed o h.born at k) (sym e) (named_fixed at header i names lt never)
+  is_fixed at offset (inr (inl (header, i, names, e, lt, never))) = subst (λ k. IsFixed o h.born at k) (sym e) (named_fixed at header i names lt never)
+  is_fixed at offset (inr (inr (i, e, lt))) =
+      let fits = ((h.agrees id v here).parts 0 p (ap (λ l. get_elem? l 0) is.alone)).1 in
+      let m = word_means (IsIn o h.born) (hand_now o p).queue (state_of (now o h.events).world p.number).queue i (2 * at) fits.hand.queue e in
+      let q = pointer_means (IsIn o h.born) at m.0 m.1 in
+      first_fixed (record { at = at; name = q.0; node = q.2.0 }) q.2.1 offset lt
 
   -- a load without a place in the order
   pub fix_keeps : (at offset : ℕ) → CanFix o p at offset → Stays o words views h words (set views id (loaded v at offset (slice_index words (at + offset))))
@@ -148,7 +153,7 @@ module _ (o : Opening) (words : List ℕ) (views : List Seen) (h : Keeps o words
       safe_word (slice_index words (at + HEADER_WORDS + index)) t.value t.means
 
   -- the part after a command
-  is_doing : (c : Command) (a : Answer) → IsMutator (answered v c a) (doing p c a [])
+  pub is_doing : (c : Command) (a : Answer) → IsMutator (answered v c a) (doing p c a [])
   is_doing c a = record { alone = ap (λ (l : List Part). first_changed (λ q. doing q c a []) l) is.alone; no_collector = is.no_collector }
 
   is_telling : (c : Command) → IsMutator (told v c) (doing p c (told_by (hand_now v.opening p) p.fixed c) [])
@@ -158,7 +163,7 @@ module _ (o : Opening) (words : List ℕ) (views : List Seen) (h : Keeps o words
   }
 
 -- a view that changed twice
-twice : (o : Opening) (words : List ℕ) (views : List Seen) (id : ℕ) (a b : Seen) (es : List Happening) →
+pub twice : (o : Opening) (words : List ℕ) (views : List Seen) (id : ℕ) (a b : Seen) (es : List Happening) →
     (n : Keeps o words (set (set views id a) id b)) × (n.events ≡ es) → (n : Keeps o words (set views id b)) × (n.events ≡ es)
 twice o words views id a b es h = subst (λ (l : List Seen). (n : Keeps o words l) × (n.events ≡ es)) (set-set views id a b) h
 

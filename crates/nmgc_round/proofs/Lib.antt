@@ -1,4 +1,5 @@
 pub mod Allows
+pub mod Barred
 pub mod Beginnings
 pub mod Births
 pub mod Commands

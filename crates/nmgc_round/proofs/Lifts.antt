@@ -4,6 +4,7 @@ use prog.Atomic.{either}
 use Rattle.atomic_table.specs.Table.{Me, Allows, keeps}
 use Rattle.nmgc_graph.specs.declared.command.Command.{Command}
 use Rattle.nmgc_object.specs.declared.size.TheConstants.{HEADER_WORDS}
+use Rattle.nmgc_object.specs.declared.layout.TheConstants.{SHARED_PLACE}
 use Rattle.nmgc_round.specs.View.{Opening, Seen}
 use Rattle.nmgc_round.specs.Rule.{Keeps}
 use Rattle.nmgc_round.specs.Ready.{Mutates}
@@ -17,7 +18,8 @@ use Rattle.nmgc_round.proofs.Modes.{holding, within}
 use Rattle.nmgc_round.proofs.Keeping.{acts}
 use Rattle.nmgc_round.proofs.Exchanges.{exchange_keeps}
 use Rattle.nmgc_round.proofs.Thunks.{force_keeps, force_safe, update_keeps}
-use Rattle.nmgc_round.proofs.Pushes.{peek_keeps, slot_keeps, slot_safe, barred_keeps}
+use Rattle.nmgc_round.proofs.Barred.{barred_keeps}
+use Rattle.nmgc_round.proofs.Pushes.{peek_keeps, slot_keeps, slot_safe}
 use Rattle.nmgc_round.proofs.Weakens.{deref_keeps, deref_safe, finalise_keeps, finalise_safe}
 
 -- the words that a compare-exchange leaves
@@ -147,9 +149,12 @@ module _ (slots id : ℕ) (me : Me (Unit {0}) Seen) (bare : me.1 ≡ []) where
         ((refl, subst (λ (y : Opening). IsSafe y n) (sym is) (slot_safe o s.words s.views h id me.0 here can.0 can.1 at slot w c can')), bare),
       ))
 
-  pub barred_allows : (i at : ℕ) (c : Command) → Mutates (λ o p. IsRefusedSlot o p at c) me.0 → Steps i (λ n. n) (λ n u. u ≡ slot_refused me.0 c)
-  barred_allows i at c can = within slots id me bare i (λ n. n) (λ n u. u ≡ slot_refused me.0 c) (acts me.0 can.0 can.1) (λ o s h len here small.
-      let u : Seen = slot_refused me.0 c in
+  pub barred_allows : (at : ℕ) (c : Command) → Mutates (λ o p. IsRefusedSlot o p at c) me.0 →
+      Steps SHARED_PLACE (λ n. n) (λ n u. u ≡ slot_refused me.0 c n)
+  barred_allows at c can = within slots id me bare SHARED_PLACE (λ n. n) (λ n u. u ≡
+      slot_refused me.0 c n) (acts me.0 can.0 can.1) (λ o s h len here small.
+      let n : ℕ = slice_index s.words SHARED_PLACE in
+      let u : Seen = slot_refused me.0 c n in
       let is = (h.agrees id me.0 here).opening (acts me.0 can.0 can.1) in
       let k = barred_keeps o s.words s.views h id me.0 here can.0 can.1 at c (subst (λ (y : Opening). IsRefusedSlot y can.0 at c) is can.2) in
-      (u, keeps, tt, unchanged o s.words (set s.views id u) i k.1, (refl, bare)))
+      (u, keeps, tt, unchanged o s.words (set s.views id u) SHARED_PLACE k.1, (refl, bare)))

@@ -40,7 +40,7 @@ use Rattle.nmgc_round.specs.Rule.{now, Owes, IsHand, Fits, Rests, Keeps}
 use Rattle.nmgc_round.specs.Added.{Stays, AddsCommand}
 use Rattle.nmgc_round.specs.Ready.{IsMutator, CanGive, Names, operand_word}
 use Rattle.nmgc_round.specs.Told.{IsSafe}
-use Rattle.nmgc_round.specs.Stacks.{IsOwn, CanPeek, TellsSlot, CanPush, CanPop, CanSlot, slot_swapped, IsRefusedSlot, slot_refused}
+use Rattle.nmgc_round.specs.Stacks.{IsOwn, CanPeek, TellsSlot, CanPush, CanPop, CanSlot, slot_swapped, IsRefusedSlot, slot_refusal_reply}
 use Rattle.nmgc_round.proofs.Standing.{placed}
 use Rattle.nmgc_round.proofs.Lists.{list_append}
 use Rattle.nmgc_round.proofs.Frames.{IsSameState, node_frame}
@@ -464,9 +464,10 @@ module _ (o : Opening) (words : List ℕ) (views : List Seen) (h : Keeps o words
       λ a e. omega arith
   slot_safe at slot w c (inr (can, z)) = pop_safe at slot c can
 
-  -- a push onto a full stack, and a pop off an empty one
-  pub barred_keeps : (at : ℕ) (c : Command) → IsRefusedSlot o p at c → AddsCommand o words views h p.number c words (set views id (slot_refused v c))
-  barred_keeps at c (inl can) =
+  -- the answer of a push onto a full stack, and of a pop off an empty one
+  pub barred_answers : (at : ℕ) (c : Command) → IsRefusedSlot o p at c →
+      AddsCommand o words views h p.number c words (set views id (answered v c (plain (slot_refusal_reply c))))
+  barred_answers at c (inl can) =
       let f = found at can.stack in
       let x = f.thing in
       let st = h.stands.objects x f.there in
@@ -486,11 +487,11 @@ module _ (o : Opening) (words : List ℕ) (views : List Seen) (h : Keeps o words
       let does : step W p.number C ≡ (u, reply.StackFull) =
       step_push W p.number object can.value x.name st.node st.node reply.StackFull f.refers st.there pushes in
       let again = node_again o words views h id v here p is x f.there in
-      subst (λ (d : Command). AddsCommand o words views h p.number d words (set views id (slot_refused v d))) (sym can.command)
+      subst (λ (d : Command). AddsCommand o words views h p.number d words (set views id (answered v d (plain (slot_refusal_reply d))))) (sym can.command)
       (still_law o words views h id v here p is C reply.StackFull (plain reply.StackFull) u (subst (λ (d : Command).
       CanGive o p d) can.command can.gives) does again (owes_push W p.number object can.value x.name st.node f.refers st.there) refl
       (moves_kept o words views h id v here p is u (hand_now o p) (node_frame W x.name st.node st.node st.there p.number) fits.hand) refl)
-  barred_keeps at c (inr can) =
+  barred_answers at c (inr can) =
       let f = found at can.stack in
       let x = f.thing in
       let st = h.stands.objects x f.there in
@@ -512,7 +513,7 @@ module _ (o : Opening) (words : List ℕ) (views : List Seen) (h : Keeps o words
       let owes : owed_by W p.number C ≡ [] = owes_pop W p.number can.dest object x.name st.node f.refers st.there ∙
       ap (λ b. names_among (top_held b st.node)) mine ∙ ap (λ n. names_among (top_held true n)) was in
       let again = node_again o words views h id v here p is x f.there in
-      subst (λ (d : Command). AddsCommand o words views h p.number d words (set views id (slot_refused v d))) (sym can.command)
+      subst (λ (d : Command). AddsCommand o words views h p.number d words (set views id (answered v d (plain (slot_refusal_reply d))))) (sym can.command)
       (still_law o words views h id v here p is C reply.StackEmpty (plain reply.StackEmpty) u (subst (λ (d : Command).
       CanGive o p d) can.command can.gives) does again owes refl
       (moves_kept o words views h id v here p is u (hand_now o p) (node_frame W x.name st.node st.node st.there p.number) fits.hand) refl)

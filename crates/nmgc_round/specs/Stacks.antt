@@ -9,7 +9,8 @@ use Rattle.nmgc_graph.specs.declared.command.Reply.{Reply}
 use Rattle.nmgc_graph.specs.declared.command.Reply.TheVariants.{Fine, StackFull, StackEmpty}
 use Rattle.nmgc_object.specs.Words.{name_word, IsName}
 use Rattle.nmgc_object.specs.declared.words.Header.{Header}
-use Rattle.nmgc_round.specs.View.{plain, word, Opening, Part, Seen, hand_now, changing, doing, finding, owed_word, answered}
+use Rattle.nmgc_object.specs.declared.layout.TheConstants.{SHARED_PLACE}
+use Rattle.nmgc_round.specs.View.{plain, word, Opening, Part, Seen, hand_now, changing, doing, finding, owed_word, loaded, answered}
 use Rattle.nmgc_round.specs.Own.{slots_at}
 use Rattle.nmgc_round.specs.Ready.{CanGive, Names, operand_word}
 
@@ -90,6 +91,6 @@ abbrev pub slot_refusal_reply : Command → Reply
 slot_refusal_reply (Push object v) = StackFull
 slot_refusal_reply c = StackEmpty
 
--- the view after it
-abbrev pub slot_refused : Seen → Command → Seen
-slot_refused v c = answered v c (plain (slot_refusal_reply c))
+-- the view after it, which names the header of g, with this word
+abbrev pub slot_refused : Seen → Command → ℕ → Seen
+slot_refused v c w = loaded (answered v c (plain (slot_refusal_reply c))) SHARED_PLACE 0 w

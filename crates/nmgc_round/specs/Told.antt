@@ -112,12 +112,13 @@ pub record CanTell (o : Opening) (p : Part) (c : Command) : Type 0 where
 abbrev pub told : Seen → Command → Seen
 told v c = changing (λ p. doing p c (told_by (hand_now v.opening p) p.fixed c) []) v
 
--- a fixed word that the mutator may load: header or name of an object that an operand refers to, or a field that
--- never changes, of an object whose header it names
+-- a fixed word that the mutator may load: header or name of an object that it holds, since an operand or a word of its
+-- own finaliser queue refers to it, or a field that never changes, of an object whose header it names
 abbrev pub CanFix : Opening → Part → ℕ → ℕ → Type 0
 CanFix o p at offset =
     ((object : Operand) × (operand_word o p object ≡ 2 * at) × (offset < HEADER_WORDS))
     ⊎ ((header : Header) × (i : ℕ) × Names p at header × (offset ≡ HEADER_WORDS + i) × (i < header.fields) × (MayChange header.kind i → ⊥))
+    ⊎ ((i : ℕ) × (slice_get (hand_now o p).queue i ≡ Some (2 * at)) × (offset < HEADER_WORDS))
 
 -- a command takes its place at a fixed load: word 1, which is the header of g, or the field of a constructor that it reads
 abbrev pub CanTake : Opening → Part → ℕ → ℕ → Command → Type 0

@@ -13,6 +13,7 @@ ghost use Rattle.nmgc_graph.specs.declared.command.Command.{Command};
 ghost use Rattle.nmgc_graph.specs.declared.command.Reply.{Reply};
 ghost use Rattle.nmgc_graph.specs.History.{replayed, rows_of, IsLegal as IsLegalHistory};
 ghost use Rattle.nmgc_object.specs.declared.size.TheConstants.{HEADER_WORDS};
+ghost use Rattle.nmgc_object.specs.declared.layout.TheConstants.{SHARED_PLACE};
 ghost use Rattle.nmgc_object.specs.declared.layout.Layout.{Layout};
 ghost use Rattle.nmgc_object.specs.Places.{IsLayout};
 ghost use Rattle.nmgc_core.specs.State.{State};
@@ -125,11 +126,12 @@ pub fn slot_swap()
         (set views id (slot_swapped v c (slice_index words (at + HEADER_WORDS + slot)))) }
 {}
 
-/// A `push` onto a full own stack, or a `pop` off an empty one: no word changes, and one command that changes no
-/// node is added.
+/// A `push` onto a full own stack, or a `pop` off an empty one, at a load of the header of g: no word changes, and one
+/// command that changes no node is added.
 pub fn slot_refusal()
     ensures { (o : Opening) (words : List ℕ) (views : List Seen) (id : ℕ) (v : Seen) (p : Part) (at : ℕ) (c : Command) (k : Keeps o words views) →
-        get_elem? views id ≡ some v → IsMutator v p → IsRefusedSlot o p at c → AddsCommand o words views k p.number c words (set views id (slot_refused v c)) }
+        get_elem? views id ≡ some v → IsMutator v p → IsRefusedSlot o p at c → AddsCommand o words views k p.number c words
+        (set views id (slot_refused v c (slice_index words SHARED_PLACE))) }
 {}
 
 /// A store where no object is yet: that word changes, and no event is added.

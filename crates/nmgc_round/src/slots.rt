@@ -48,7 +48,7 @@ pub struct RefusesSlot<C> {
 }
 
 impl<C: Asked> Play<(), View> for RefusesSlot<C> {
-    ghost then = { λ s m n w. (w.0 ≡ slot_refused m.0 C.command) × (w.1 ≡ []) };
+    ghost then = { λ s m n w. (w.0 ≡ slot_refused m.0 C.command n) × (w.1 ≡ []) };
 }
 
 impl Round {
@@ -123,26 +123,26 @@ impl Round {
         self.slot_asked::<Brand>(seat, at, slot, word, command)
     }
 
-    fn bar_asked<C: Asked>(&self, seat: &mut MutatorSeat, command: &Command)
+    fn bar_asked<C: Asked>(&self, seat: &mut MutatorSeat, command: &Command) -> u64
         requires seat { IsAt self.now seat.old }
         requires asked { C.command ≡ command.now }
         requires ready { (at : ℕ) × Mutates (λ o p. IsRefusedSlot o p at command.now) (seen seat.old) }
         requires within { SHARED_PLACE < word_count self.now }
-        ensures { Knows self.now seat.old seat.new (slot_refused (seen seat.old) command.now) }
+        ensures { Knows self.now seat.old seat.new (slot_refused (seen seat.old) command.now result) }
     {
         let _ = command;
         self.table
             .shared
-            .load::<RefusesSlot<C>>(seat, SHARED_PLACE as usize);
+            .load::<RefusesSlot<C>>(seat, SHARED_PLACE as usize)
     }
 
     /// Loads the header of g, where a `push` onto a full stack of this mutator or a `pop` off an empty one takes its
-    /// place: its row answers so.
-    pub fn refuse_slot(&self, seat: &mut MutatorSeat, command: &Command)
+    /// place: its row answers so. Answers the word, and the seat's view names it from then on.
+    pub fn refuse_slot(&self, seat: &mut MutatorSeat, command: &Command) -> u64
         requires seat { IsAt self.now seat.old }
         requires ready { (at : ℕ) × Mutates (λ o p. IsRefusedSlot o p at command.now) (seen seat.old) }
         requires within { SHARED_PLACE < word_count self.now }
-        ensures { Knows self.now seat.old seat.new (slot_refused (seen seat.old) command.now) }
+        ensures { Knows self.now seat.old seat.new (slot_refused (seen seat.old) command.now result) }
     {
         self.bar_asked::<Brand>(seat, command)
     }
