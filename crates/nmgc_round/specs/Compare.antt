@@ -1,5 +1,5 @@
 -- Compare-exchange of a field: when it may be taken, and what its seat knows after it.
-use Rattle.std.specs.Prelude.{◌≡◌, ℕ, ◌*◌, ◌<◌, Bool, true, false, List, set, if◌then◌else◌}
+use Rattle.std.specs.Prelude.{◌≡◌, ◌≢◌, ℕ, ◌*◌, ◌<◌, Bool, true, false, List, set, if◌then◌else◌}
 use Rattle.nmgc_graph.specs.declared.command.Operand.{Operand}
 use Rattle.nmgc_graph.specs.declared.command.Command.{Command}
 use Rattle.nmgc_graph.specs.declared.command.Command.TheVariants.{Cas}
@@ -37,4 +37,9 @@ words_exchanged words i w hit = if hit then set words i w else words
 -- whether it wrote
 abbrev pub wrote : Exchanged → Bool
 wrote outcome.Yes = true
-wrote outcome.No = false
+wrote (outcome.No found) = false
+
+-- where it wrote nothing, the word that stood there isn't the expected one
+abbrev pub FoundOther : ℕ → Exchanged → Type 0
+FoundOther expected outcome.Yes = Unit {0}
+FoundOther expected (outcome.No found) = found ≢ expected

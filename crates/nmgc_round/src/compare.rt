@@ -5,7 +5,7 @@
 ghost use Rattle.std.specs.Prelude.{◌≡◌, ◌+◌, ◌<◌, ◌==◌, []};
 ghost use Rattle.nmgc_object.specs.declared.size.TheConstants.{HEADER_WORDS};
 ghost use Rattle.nmgc_round.specs.Ready.{Mutates};
-ghost use Rattle.nmgc_round.specs.Compare.{CanExchange, exchanged, wrote};
+ghost use Rattle.nmgc_round.specs.Compare.{CanExchange, FoundOther, exchanged, wrote};
 ghost use Rattle.nmgc_round.specs.Seat.{IsAt, Knows, seen, word_count};
 
 use crate::plays::Asked;
@@ -21,8 +21,8 @@ use std::marker::{Brand, PhantomData};
 pub enum Exchanged {
     /// It found the word that it expected, and wrote the other.
     Yes,
-    /// It found another word, and wrote nothing.
-    No,
+    /// It found this word, which is another, and wrote nothing.
+    No { found: u64 },
 }
 
 /// A field is compared by a command, and written where it has the expected word.
@@ -48,7 +48,8 @@ impl Round {
         requires asked { C.command ≡ command.now }
         requires ready { Mutates (λ o p. CanExchange o p at.0 field expected word command.now) (seen seat.old) }
         requires within { at.0 + HEADER_WORDS + field < word_count self.now }
-        ensures { Knows self.now seat.old seat.new (exchanged (seen seat.old) command.now expected (wrote result)) }
+        ensures view { Knows self.now seat.old seat.new (exchanged (seen seat.old) command.now expected (wrote result)) }
+        ensures found { FoundOther expected result }
     {
         let _ = command;
         let found = self.table.shared.compare_exchange::<Exchanges<C>>(
@@ -60,15 +61,15 @@ impl Round {
         if found == expected {
             Exchanged::Yes
         } else {
-            Exchanged::No
+            Exchanged::No { found }
         }
     }
 
     /// Stores another word into a field of a variable or an array, where the expected word stands there. The
     /// `cas` that asks for it takes its place here, and its row answers yes. Then the view has the expected
     /// word at the end of those that its swaps found, and while marking it is owed from this step on. `No`
-    /// comes exactly where another word stands there at this step, by the law `field_exchange`: the row answers no,
-    /// and nothing else changes.
+    /// comes exactly where another word stands there at this step, and has that word: the row answers no, and nothing
+    /// else changes.
     pub fn exchange_field(
         &self,
         seat: &mut MutatorSeat,
@@ -81,7 +82,8 @@ impl Round {
         requires seat { IsAt self.now seat.old }
         requires ready { Mutates (λ o p. CanExchange o p at.0 field expected word command.now) (seen seat.old) }
         requires within { at.0 + HEADER_WORDS + field < word_count self.now }
-        ensures { Knows self.now seat.old seat.new (exchanged (seen seat.old) command.now expected (wrote result)) }
+        ensures view { Knows self.now seat.old seat.new (exchanged (seen seat.old) command.now expected (wrote result)) }
+        ensures found { FoundOther expected result }
     {
         self.exchange_asked::<Brand>(seat, at, field, expected, word, command)
     }

@@ -10,7 +10,7 @@ ghost use Rattle.std.specs.Prelude.{◌≡◌, ◌≢◌, ◌+◌, ◌<◌, ◌=
 ghost use Rattle.nmgc_object.specs.declared.size.TheConstants.{HEADER_WORDS};
 ghost use Rattle.nmgc_round.specs.Ready.{Mutates};
 ghost use Rattle.nmgc_round.specs.Told.{IsSafe};
-ghost use Rattle.nmgc_round.specs.Compare.{wrote};
+ghost use Rattle.nmgc_round.specs.Compare.{FoundOther, wrote};
 ghost use Rattle.nmgc_round.specs.Results.{CanForce, CanUpdate, forced, updated};
 ghost use Rattle.nmgc_round.specs.Seat.{IsAt, Knows, seen, word_count};
 
@@ -82,7 +82,8 @@ impl Round {
         requires asked { C.command ≡ command.now }
         requires ready { Mutates (λ o p. CanUpdate o p at.0 word command.now) (seen seat.old) }
         requires within { at.0 + HEADER_WORDS < word_count self.now }
-        ensures { Knows self.now seat.old seat.new (updated (seen seat.old) at.0 command.now (wrote result)) }
+        ensures view { Knows self.now seat.old seat.new (updated (seen seat.old) at.0 command.now (wrote result)) }
+        ensures found { FoundOther 0 result }
     {
         let _ = command;
         let found = self
@@ -97,14 +98,14 @@ impl Round {
         if found == 0 {
             Exchanged::Yes
         } else {
-            Exchanged::No
+            Exchanged::No { found }
         }
     }
 
     /// Stores the result of a thunk that has none. The `update` that asks for it takes its place here, and its
     /// row answers that it was updated. The view then has the words of the free variables at the end of those
     /// that its steps took out, and while marking they are owed from this step on. `No` comes exactly where
-    /// there is a result at this step, by the law `result_exchange`: the row answers so, and nothing else changes.
+    /// there is a result at this step, and has its word: the row answers so, and nothing else changes.
     pub fn exchange_result(
         &self,
         seat: &mut MutatorSeat,
@@ -115,7 +116,8 @@ impl Round {
         requires seat { IsAt self.now seat.old }
         requires ready { Mutates (λ o p. CanUpdate o p at.0 word command.now) (seen seat.old) }
         requires within { at.0 + HEADER_WORDS < word_count self.now }
-        ensures { Knows self.now seat.old seat.new (updated (seen seat.old) at.0 command.now (wrote result)) }
+        ensures view { Knows self.now seat.old seat.new (updated (seen seat.old) at.0 command.now (wrote result)) }
+        ensures found { FoundOther 0 result }
     {
         self.update_asked::<Brand, Brand>(seat, at, word, command)
     }
