@@ -253,6 +253,7 @@ module _ (words : List ℕ) (h : HoldsYoung words) where
               IsObject small_layout places words young_place x) same young_object),
           λ dead. absurd (let e = same ∙ dead in cc),
         );
+    zeros = h.zeros;
   }
 
 registers_mean : AllMean (Contains places) young_registers 0 (state_of young_world 0).registers

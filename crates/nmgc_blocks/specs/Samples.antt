@@ -8,7 +8,7 @@ use Rattle.nmgc_limits.specs.declared.mutators.TheConstants.{REGISTERS, SHARED_M
 use Rattle.nmgc_object.specs.Places.{word_total, nursery_place}
 use Rattle.nmgc_object.specs.declared.layout.Nursery.{Nursery}
 use Rattle.nmgc_alloc.specs.Segments.{Segments, IsSegments, all_free}
-use Rattle.nmgc_heap.specs.Places.{Place, shared_place}
+use Rattle.nmgc_heap.specs.Places.{Place, HasZeros, shared_place}
 use Rattle.nmgc_heap.specs.Samples.{small_layout, after, own}
 use Rattle.nmgc_blocks.specs.Stopped.{Stopped, IsStopped}
 
@@ -24,7 +24,7 @@ young_place = record { at = nursery_place small_layout 0; name = own 0 }
 abbrev pub young_stop : Stopped
 young_stop = record { world = young_world; began = new_world 1; later = []; places = shared_place ∷ young_place ∷ []; serials = 1 ∷ [] }
 
--- g with nil in each slot, and the constructor's header, name and field
+-- g with nil in each slot, the constructor's header, name and field, and 0 where words belong to nobody
 pub record HoldsYoung (words : List ℕ) : Type 0 where
   pub total : length words ≡ word_total small_layout
   pub shared_header : slice_index words 1 ≡ 32771
@@ -33,6 +33,7 @@ pub record HoldsYoung (words : List ℕ) : Type 0 where
   pub header : slice_index words 2080 ≡ 2105
   pub name : slice_index words 2081 ≡ 0
   pub field : slice_index words 2082 ≡ 13
+  pub zeros : HasZeros words
 
 -- a pointer to the constructor, the number 5, and nil in the other registers
 abbrev pub young_registers : List ℕ

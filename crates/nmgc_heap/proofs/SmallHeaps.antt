@@ -1,9 +1,9 @@
 -- The two small heaps: each word is as it is said to be.
-use Rattle.std.proofs.Common.{◌-◌, ◌≡◌, inl, inr, ℕ, zero, suc, ◌+◌, ◌*◌, ◌<◌, List, [], ◌∷◌, ◌++◌, length, map, replicate, refl, sym, ap, subst, ◌∙◌, arith, slice_index, Option, Some, lit≤, lit<}
+use Rattle.std.proofs.Common.{◌-◌, ◌≡◌, inl, inr, ℕ, zero, suc, ◌+◌, ◌*◌, ◌<◌, List, [], ◌∷◌, ◌++◌, length, map, replicate, drop, refl, sym, ap, subst, ◌∙◌, arith, slice_index, Option, Some, lit≤, lit<}
 use Rattle.std.specs.Prelude.{slice_get, Contains}
 use Rattle.std.proofs.lemmas.Option.{slice_get-get_or}
 use Rattle.nmgc_graph.specs.declared.value.Name.{Name}
-use Rattle.nmgc_limits.specs.declared.mutators.TheConstants.{REGISTERS}
+use Rattle.nmgc_limits.specs.declared.mutators.TheConstants.{REGISTERS, SHARED_MAKER, SHARED_SLOTS}
 use Rattle.nmgc_graph.specs.declared.value.Value.{Value}
 use Rattle.nmgc_graph.specs.declared.value.Value.TheVariants.{Nil, Ref}
 use Rattle.nmgc_graph.specs.declared.node.Node.{Node}
@@ -25,6 +25,7 @@ use Rattle.nmgc_heap.specs.Samples.{small_layout, own, block, places_of, object_
 use Rattle.nmgc_heap.specs.laws.Kinds.{slots_mean}
 use Rattle.nmgc_heap.specs.laws.Tracking.{reached_in}
 use Rattle.nmgc_heap.specs.laws.Meanings.{placed_at}
+use Rattle.nmgc_heap.specs.laws.Zeros.{zeros_first}
 use Rattle.nmgc_heap.proofs.Stood.{Each, each_at, EachFills, fills_from, fills_nil, only_known, stands, sixteen}
 
 -- registers stand for their values, one by one
@@ -83,6 +84,7 @@ one_object rest count = (represents, roots, listed)
     represents = stands object_serials (lit≤ tt) (refl, tt) object_state [] (object_words rest) refl (omega (arith, count)) refl refl
         (refl, (refl, (refl, (refl, (refl, (refl, (refl, (refl, (refl, (refl, (refl, (refl, (refl, (refl, (refl, (refl, tt))))))))))))))))
         ((refl, (lit< tt, lit≤ tt), lit≤ tt, refl, (refl, tt), refl), tt)
+        (zeros_first 32771 SHARED_MAKER (replicate SHARED_SLOTS 1) (2105 ∷ 0 ∷ 13 ∷ rest) refl)
         none_earlier
 
     roots : RepresentsRoots (places_of object_serials) object_world (64 ∷ 13 ∷ 13 ∷ replicate (REGISTERS - 3) 1) ([] ∷ []) (1 ∷ [])
@@ -186,6 +188,7 @@ snapshot_stands rest count = (represents, roots)
             ),
           ),
         )
+        (zeros_first 32771 SHARED_MAKER (replicate SHARED_SLOTS 1) (drop 32 (chain_words 64 rest)) refl)
         none_earlier
 
     roots : RepresentsRoots (places_of chain_serials) snapshot (72 ∷ 13 ∷ 1 ∷ 184 ∷ replicate (REGISTERS - 4) 1) ([] ∷ []) (16 ∷ [])
@@ -289,6 +292,7 @@ later_stands rest count = stands chain_serials (lit≤ tt) (
         ),
       ),
     )
+    (zeros_first 32771 SHARED_MAKER (replicate SHARED_SLOTS 1) (drop 32 (chain_words 13 rest)) refl)
     no_thunk
 
 root_variable : IsWide snapshot (own 1)

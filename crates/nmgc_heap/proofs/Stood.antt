@@ -18,7 +18,7 @@ use Rattle.nmgc_object.specs.declared.words.TheConstants.{SERIAL_UNIT}
 use Rattle.nmgc_object.specs.Words.{header_word, IsHeader}
 use Rattle.nmgc_object.specs.Places.{InNursery, word_total}
 use Rattle.nmgc_heap.specs.Shape.{Slot, header_of, holds, size_of, slots_of, free_slots}
-use Rattle.nmgc_heap.specs.Places.{Place, Fills, HasSlots, LiesWell, LiesInSegment, shared_place}
+use Rattle.nmgc_heap.specs.Places.{Place, Fills, HasSlots, LiesWell, LiesInSegment, HasZeros, shared_place}
 use Rattle.nmgc_heap.specs.Represents.{NoNode, IsNamed, IsPlaced, Represents}
 use Rattle.nmgc_heap.specs.Samples.{small_layout, own, block, places_of}
 use Rattle.nmgc_heap.specs.laws.Moving.{contains_map, map_contains}
@@ -98,6 +98,7 @@ module _ (serials : List ℕ) (few : length serials ≤ 16) (each : Each (λ i x
     (g_header : slice_index words 1 ≡ 32771) (g_name : slice_index words 2 ≡
     SHARED_MAKER) (g_fields : EachFills (Contains (places_of serials)) (drop 3 words) (slots_of sixteen))
     (stood : Each (Stood (Contains (places_of serials)) words) 0 state.nodes)
+    (zeros : HasZeros words)
     (free : (e : World) (name : Name) (before : Node) → Contains earlier e → node_of e name ≡ Some before → free_slots before ≡ []) where
   abbrev w : World
   w = record { shared = sixteen; mutators = state ∷ [] }
@@ -232,4 +233,5 @@ module _ (serials : List ℕ) (few : length serials ≤ 16) (each : Each (λ i x
     tracked = λ n node t is. tracked n.maker n.serial node is;
     born = λ p node c young is. absurd (at_place (λ (q : Place). InNursery small_layout q.name.maker q.at →
         ⊥) (λ n. omega (arith, n.exists)) (λ k lt n. omega (arith, n.from, few)) p c young);
+    zeros = zeros;
   }

@@ -14,7 +14,7 @@ use Rattle.nmgc_object.specs.declared.layout.Layout.{Layout}
 use Rattle.nmgc_object.specs.declared.size.TheConstants.{HEADER_WORDS}
 use Rattle.nmgc_heap.specs.Shape.{Slot, holds, untold, header_of, size_of, slots_of, fixed_slots, free_slots, MayChange}
 use Rattle.nmgc_heap.specs.Tracked.{IsTracked}
-use Rattle.nmgc_heap.specs.Places.{Place, Fills, HasSlots, LiesWell}
+use Rattle.nmgc_heap.specs.Places.{Place, Fills, HasSlots, LiesWell, IsBetween}
 use Rattle.nmgc_heap.specs.Represents.{IsNamed, IsObject, IsEarlier}
 
 -- the collector may still speak of each of these worlds
@@ -39,18 +39,20 @@ pub record Remembers (w : World) (earlier later : List World) (K L : Name → No
   pub worlds : (e : World) → Contains later e → Contains (w ∷ earlier) e
   pub nodes : (name : Name) (node : Node) → L name node → K name node ⊎ (node_of w name ≡ Some node)
 
--- other words that are the same at every name, and in every object that is told
+-- other words that are the same at every name, in every object that is told, and where they belong to nobody
 pub record AgreeWhereTold (layout : Layout) (earlier : List World) (places : List Place) (w : World) (old new : List ℕ) : Type 0 where
   pub total : length new ≡ length old
   pub names : (p : Place) → Contains places p → slice_index new (p.at + 1) ≡ slice_index old (p.at + 1)
   pub objects : (p : Place) (node : Node) (i : ℕ) → Contains places p → IsTold layout earlier w p → node_of w p.name ≡ Some node → p.at ≤ i →
       i < p.at + size_of node → slice_index new i ≡ slice_index old i
+  pub between : (at : ℕ) → IsBetween at → slice_index new at ≡ slice_index old at
 
--- a word that is no name, and in no object that is told
+-- a word that is no name, in no object that is told, and none of those that belong to nobody
 pub record IsUnborn (layout : Layout) (earlier : List World) (places : List Place) (w : World) (i : ℕ) : Type 0 where
   pub names : (p : Place) → Contains places p → i ≢ p.at + 1
   pub objects : (p : Place) (node : Node) → Contains places p → IsTold layout earlier w p → node_of w p.name ≡ Some node → (i < p.at) ⊎
       (p.at + size_of node ≤ i)
+  pub owned : IsBetween i → ⊥
 
 -- at most this field of a node's object changes, and it may: the others are as before, or nothing is said of them any more
 pub record ChangesAt (i : ℕ) (node made : Node) : Type 0 where

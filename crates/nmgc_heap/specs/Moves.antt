@@ -13,7 +13,7 @@ use Rattle.nmgc_object.specs.declared.size.TheConstants.{HEADER_WORDS}
 use Rattle.nmgc_object.specs.declared.words.TheConstants.{NIL_WORD, ZERO_WORD}
 use Rattle.nmgc_heap.specs.Shape.{holds, header_of, size_of, slots_of}
 use Rattle.nmgc_heap.specs.Tracked.{IsTracked}
-use Rattle.nmgc_heap.specs.Places.{Place, LiesInSegment}
+use Rattle.nmgc_heap.specs.Places.{Place, LiesInSegment, IsBetween}
 use Rattle.nmgc_heap.specs.Represents.{IsEarlier}
 
 -- a move of an object: its name, the old place and the new one
@@ -74,6 +74,7 @@ pub record Moves (layout : Layout) (base : ℕ) (later : List World) (places : L
       Copies forward old new m.from m.to (header_of node).fields
   pub changed : (p : Place) (node : Node) → Contains places p → p.at < base → IsTracked w later p.name → node_of w p.name ≡ Some node →
       Keeps base places forward old new p.at node
+  pub between : (at : ℕ) → IsBetween at → slice_index new at ≡ slice_index old at
 
 -- the earlier worlds of which the collector still speaks afterwards: none had anything of what stood in the emptied part
 pub record StillSpoken (base : ℕ) (later earlier : List World) (places : List Place) (w : World) : Type 0 where

@@ -7,11 +7,12 @@ use Rattle.std.specs.Prelude.{ℕ, ◌≡◌, ◌≢◌, ◌+◌, ◌*◌, ◌<�
 use Rattle.nmgc_graph.specs.declared.value.Name.{Name}
 use Rattle.nmgc_graph.specs.declared.value.Value.{Value}
 use Rattle.nmgc_graph.specs.declared.value.Value.TheVariants as value
-use Rattle.nmgc_limits.specs.declared.mutators.TheConstants.{SHARED_MAKER}
+use Rattle.nmgc_limits.specs.declared.mutators.TheConstants.{SHARED_MAKER, SHARED_SLOTS}
 use Rattle.nmgc_graph.specs.Step.{shared_name}
 use Rattle.nmgc_object.specs.Places.{InSegment, InNursery}
 use Rattle.nmgc_object.specs.declared.layout.Layout.{Layout}
 use Rattle.nmgc_object.specs.declared.layout.TheConstants.{SHARED_PLACE, FIRST_PLACE}
+use Rattle.nmgc_object.specs.declared.size.TheConstants.{HEADER_WORDS}
 use Rattle.nmgc_object.specs.declared.words.TheConstants.{NIL_WORD, ZERO_WORD}
 use Rattle.nmgc_heap.specs.Shape.{Slot, holds, unset, untold}
 
@@ -61,8 +62,20 @@ LiesInSegment layout at size = (segment : ℕ) × ((i : ℕ) → at ≤ i → i 
 abbrev pub LiesInNursery : Layout → ℕ → ℕ → ℕ → Type 0
 LiesInNursery layout maker at size = (size ≤ layout.words) × ((i : ℕ) → at ≤ i → i < at + size → InNursery layout maker i)
 
+-- the first word behind those of g
+abbrev pub shared_end : ℕ
+shared_end = SHARED_PLACE + HEADER_WORDS + SHARED_SLOTS
+
+-- the word belongs to nobody: it comes before g, or between g and the first segment
+abbrev pub IsBetween : ℕ → Type 0
+IsBetween at = (at < SHARED_PLACE) ⊎ ((shared_end ≤ at) × (at < FIRST_PLACE))
+
+-- such words are 0
+abbrev pub HasZeros : List ℕ → Type 0
+HasZeros words = (at : ℕ) → IsBetween at → slice_index words at ≡ 0
+
 -- so many words from the place on lie where an object's may: those of g in its own words and nowhere else, another's in one segment or in its maker's nursery
 abbrev pub LiesWell : Layout → Place → ℕ → Type 0
 LiesWell layout p size =
-    ((p.name.maker ≡ SHARED_MAKER) × (p.at ≡ SHARED_PLACE) × (p.at + size ≤ FIRST_PLACE))
+    ((p.name.maker ≡ SHARED_MAKER) × (p.at ≡ SHARED_PLACE) × (p.at + size ≤ shared_end))
     ⊎ ((p.name.maker ≢ SHARED_MAKER) × (LiesInSegment layout p.at size ⊎ LiesInNursery layout p.name.maker p.at size))

@@ -13,7 +13,7 @@ use Rattle.nmgc_object.specs.Places.{InNursery, word_total}
 use Rattle.nmgc_object.specs.declared.layout.Layout.{Layout}
 use Rattle.nmgc_object.specs.declared.size.TheConstants.{HEADER_WORDS}
 use Rattle.nmgc_heap.specs.Shape.{header_of, size_of, slots_of, fixed_slots, free_slots}
-use Rattle.nmgc_heap.specs.Places.{Place, HasSlots, LiesWell}
+use Rattle.nmgc_heap.specs.Places.{Place, HasSlots, LiesWell, HasZeros}
 use Rattle.nmgc_heap.specs.Tracked.{IsTracked}
 
 -- a place, tracked or not: the name word there is that of a name of the world, and header and name lie where an object may
@@ -42,7 +42,7 @@ pub record IsPlaced (layout : Layout) (earlier : List World) (K : Name → Node 
   pub kept : (before : Node) → K name before → HasSlots (Contains places) words (at + HEADER_WORDS) (fixed_slots before)
 
 -- words represent a world, where of earlier worlds the collector still speaks, and K tells the nodes by which a round
--- knows its objects; an object born in a nursery has its header and extent even where nobody speaks of it
+-- knows its objects; an object born in a nursery has its header and extent even where nobody speaks of it, and words that belong to nobody are 0
 pub record Represents (layout : Layout) (earlier : List World) (K : Name → Node → Type 0) (places : List Place) (w : World) (words : List ℕ) : Type 0 where
   pub total : length words ≡ word_total layout
   pub one : (p q : Place) → Contains places p → Contains places q → (p.name ≡ q.name) ⊎ (p.at ≡ q.at) → p ≡ q
@@ -50,6 +50,7 @@ pub record Represents (layout : Layout) (earlier : List World) (K : Name → Nod
   pub tracked : (name : Name) (node : Node) → IsTracked w earlier name → node_of w name ≡ Some node → IsPlaced layout earlier K places words name node
   pub born : (p : Place) (node : Node) → Contains places p → InNursery layout p.name.maker p.at → node_of w p.name ≡ Some node →
       IsObject layout places words p node × (node ≡ Weak None → slice_index words (p.at + HEADER_WORDS + 1) ≡ 0)
+  pub zeros : HasZeros words
 
 -- between rounds no node is known for good; in a round K tells the first node of each object, the one at its opening or the one that it was born with
 abbrev pub NoNode : Name → Node → Type 0

@@ -11,3 +11,4 @@ pub mod Roots
 pub mod Slots
 pub mod Tracking
 pub mod Written
+pub mod Zeros

@@ -14,13 +14,15 @@ use Rattle.nmgc_object.specs.Words.{header_word, IsHeader}
 use Rattle.nmgc_object.specs.Places.{InSegment, nursery_place}
 use Rattle.nmgc_object.specs.declared.words.Header.{Header}
 use Rattle.nmgc_object.specs.declared.layout.Layout.{Layout}
+use Rattle.nmgc_object.specs.declared.layout.TheConstants.{FIRST_PLACE}
 use Rattle.nmgc_object.specs.declared.size.TheConstants.{HEADER_WORDS}
 use Rattle.nmgc_alloc.specs.Segments.{Segments, IsSegments}
 use Rattle.nmgc_heap.specs.Shape.{header_of, size_of, slots_of}
 use Rattle.nmgc_heap.specs.Tracked.{IsTracked}
-use Rattle.nmgc_heap.specs.Places.{Place}
+use Rattle.nmgc_heap.specs.Places.{Place, IsBetween}
 use Rattle.nmgc_heap.specs.Represents.{Represents, NoNode}
 use Rattle.nmgc_heap.specs.Moves.{Moved, Moves, Keeps, Forwards, StillSpoken, new_place, old_place, settled}
+use Rattle.nmgc_heap.specs.laws.Changes.{not_between}
 use Rattle.nmgc_heap.specs.laws.Slots.{slot_count}
 use Rattle.nmgc_heap.specs.laws.Tracking.{tracked_more}
 use Rattle.nmgc_blocks.specs.laws.Fields.{stands}
@@ -156,6 +158,26 @@ module _ (layout : Layout) (base : ℕ) (later earlier : List World) (places : L
         | inr f ↦ f.0
       ]
 
+  -- and so are words that belong to nobody
+  between : (at : ℕ) → IsBetween at → slice_index new at ≡ slice_index old at
+  between at nobody =
+      let low : at < FIRST_PLACE = elim nobody [ inl first ↦ omega (arith, first) | inr last ↦ last.1 ] in
+      let below : at < base = omega (arith, low, emptied) in
+      let out : IsOutside moves old at = λ d header cd h.
+      let other = node_at (old_place d) (taken d cd).0 in
+      let b = block_at d other.0 cd other.1 in
+      let fits = is_block s base d.to b.0 sound ends b.1 in
+      inl (omega (arith, low, fits.above)) in
+      let not_recorded : Contains inputs.recorded at → ⊥ = λ h.
+      let f = recorded_field at h in
+      let o = stands layout earlier NoNode places w old differ world r f.0.name f.1 f.0.at f.3 f.4 f.2 in
+      not_between layout f.0 (size_of f.1) at o.object.lies (omega (arith, f.5)) f.6 nobody in
+      let not_slot : IsSharedSlot at → ⊥ = λ h. elim nobody [ inl first ↦ omega (arith, first, h.0) | inr last ↦ omega (arith, last.0, h.1) ] in
+      elim (writes.others at below out) [
+        | inl f ↦ elim f.1 [ inl h ↦ absurd (not_recorded h) | inr h ↦ absurd (not_slot h) ]
+        | inr f ↦ f.0
+      ]
+
   keeps : (p : Place) (node : Node) → Contains places p → p.at < base → IsTracked w later p.name → node_of w p.name ≡ Some node →
       Keeps base places forward old new p.at node
   keeps p node c l t e = record {
@@ -283,4 +305,5 @@ module _ (layout : Layout) (base : ℕ) (later earlier : List World) (places : L
     still_named = λ p c l. unchanged p 1 c l (omega arith);
     copied = λ d node c t e. (writes.moved d (header_of node) c (header_at d node c e)).0;
     changed = keeps;
+    between = between;
   }

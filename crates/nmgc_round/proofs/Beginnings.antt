@@ -108,6 +108,7 @@ module _ (layout : Layout) (words : List ℕ) (is : IsLayout layout) (h : IsEmpt
     tracked = λ name node t e. let r = only_g name node e in subst (λ (n : Name × Node).
         IsPlaced layout [] NoNode (shared_place ∷ []) words n.0 n.1) (λ i. (r.0 i, r.1 i)) g_placed;
     born = λ p node c in_ e. absurd (let same : SHARED_PLACE ≡ p.at = ap (λ (q : Place). q.at) (one_is shared_place p c) in let from = in_.from in omega arith);
+    zeros = h.zeros;
   }
 
   -- g is no stack

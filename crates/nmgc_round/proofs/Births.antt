@@ -11,7 +11,7 @@ use Rattle.nmgc_object.specs.declared.layout.Layout.{Layout}
 use Rattle.nmgc_object.specs.declared.words.Header.{Header}
 use Rattle.nmgc_object.specs.declared.size.TheConstants.{HEADER_WORDS}
 use Rattle.nmgc_heap.specs.Shape.{header_of, size_of, slots_of, fixed_slots}
-use Rattle.nmgc_heap.specs.Places.{Place, HasSlots, LiesWell}
+use Rattle.nmgc_heap.specs.Places.{Place, HasSlots, LiesWell, IsBetween}
 use Rattle.nmgc_heap.specs.Represents.{IsNamed}
 use Rattle.nmgc_round.specs.View.{Opening}
 use Rattle.nmgc_round.specs.Objects.{KeepsOf, Object, place_of, end_of, IsObject, IsIn, IsPlace, IsLater, IsApart, IsStanding, RepresentsInRound, IsFree}
@@ -83,6 +83,7 @@ stands_free o born w ws i new free st = record {
       record { known = h.known; valid = h.valid; name = get_or-set_other ws i (p.at + 1) new 0 ne ∙ h.name; lies = h.lies };
   apart = st.apart;
   objects = λ y hy. still_stands o born born (λ p q. q) w w ws i new y (st.objects y hy) (free.objects y hy) refl;
+  zeros = λ at nobody. get_or-set_other ws i at new 0 (λ e. free.owned (subst IsBetween e nobody)) ∙ st.zeros at nobody;
 }
 
 -- an object is born: its name and its fields stood there, and its header is written
@@ -211,4 +212,5 @@ module _ (o : Opening) (born : List Object) (w v : World) (ws : List ℕ) (st : 
           (others y.name (unlike y.name (st.named (place_of y) (placed o born y a)).known))
       | inr e ↦ subst (IsStanding o more v vs) e new_standing
     ];
+    zeros = λ at nobody. away at (λ e. here.owned (subst IsBetween e nobody)) ∙ st.zeros at nobody;
   }

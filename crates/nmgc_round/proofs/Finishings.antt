@@ -251,6 +251,7 @@ module _ (o : Opening) (words : List ℕ) (v : Seen) (h : IsFinished o words v) 
                 subst (λ (q : Place). slice_index words (q.at + HEADER_WORDS + 1) ≡ 0) t.2 (f 1 unset refl),
           )
     ];
+    zeros = h.stands.zeros;
   }
     where
       kept_then : (x : Object) → IsObject o h.born x → {name : Name} → x.name ≡ name → (before : Node) → IsKeptThen o h.born name before →

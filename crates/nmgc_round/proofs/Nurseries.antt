@@ -9,7 +9,7 @@ use Rattle.nmgc_object.specs.declared.words.Header.{Header}
 use Rattle.nmgc_object.specs.declared.size.TheConstants.{HEADER_WORDS}
 use Rattle.nmgc_graph.specs.World.{World}
 use Rattle.nmgc_heap.specs.Shape.{header_of, size_of, MayChange}
-use Rattle.nmgc_heap.specs.Places.{Place, LiesWell}
+use Rattle.nmgc_heap.specs.Places.{Place, LiesWell, IsBetween}
 use Rattle.nmgc_graph.specs.laws.Orders.{contains_cases}
 use Rattle.nmgc_round.specs.View.{Opening, Part, UnbornWord, FixedWord, storing, bearing_object}
 use Rattle.nmgc_round.specs.Objects.{Object, place_of, end_of, IsObject, IsPlace, RepresentsInRound, IsFree}
@@ -60,8 +60,12 @@ module _ (o : Opening) where
     -- the rest of a nursery is in no object
     pub rest_free : (born : List Object) (w : World) (ws : List ℕ) (p : Part) → RepresentsInRound o born w ws →
         ((x : Object) → Contains born x → IsNew o x) → Rests o born ws p → (i : ℕ) → top_of o p ≤ i → i < limit_of o p.number → IsFree o born i
-    rest_free born w ws p st new r i lo hi = record { objects = objects; places = places }
+    rest_free born w ws p st new r i lo hi = record { objects = objects; places = places; owned = owned }
       where
+        owned : IsBetween i → ⊥
+        owned (inl first) = omega (arith, lo, first)
+        owned (inr last) = omega (arith, lo, last.1)
+
         born_apart : (x : Object) → Contains born x → (i < x.at) ⊎ (end_of x ≤ i)
         born_apart x hx =
             let n = new x hx in

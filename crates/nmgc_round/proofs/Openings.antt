@@ -155,6 +155,7 @@ module _ (o : Opening) (words : List ℕ) (h : CanOpen o words) where
       | inr c ↦ not_born x c
     ];
     objects = λ x hx. elim hx [ inl old ↦ old_standing x old | inr c ↦ not_born x c ];
+    zeros = h.represents.zeros;
   }
 
   shared_in : IsIn o [] (record { at = SHARED_PLACE; name = shared_name })

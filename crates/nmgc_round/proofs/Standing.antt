@@ -8,8 +8,9 @@ use Rattle.nmgc_graph.specs.declared.node.Node.{Node}
 use Rattle.nmgc_graph.specs.World.{World, node_of, IsSized}
 use Rattle.nmgc_object.specs.declared.words.Header.{Header}
 use Rattle.nmgc_object.specs.declared.size.TheConstants.{HEADER_WORDS}
-use Rattle.nmgc_heap.specs.Shape.{header_of, slots_of, MayChange}
-use Rattle.nmgc_heap.specs.Places.{Place, HasSlots}
+use Rattle.nmgc_heap.specs.Shape.{header_of, size_of, slots_of, MayChange}
+use Rattle.nmgc_heap.specs.Places.{Place, HasSlots, IsBetween}
+use Rattle.nmgc_heap.specs.laws.Changes.{not_between}
 use Rattle.nmgc_heap.specs.Represents.{IsNamed}
 use Rattle.nmgc_round.specs.View.{Opening}
 use Rattle.nmgc_round.specs.Objects.{Object, place_of, end_of, IsObject, IsIn, IsPlace, IsLater, IsStanding, RepresentsInRound}
@@ -144,6 +145,9 @@ module _ (o : Opening) (born : List Object) (w : World) (ws : List ℕ) (st : Re
         | inl e ↦ same_object y hy e.0 e.1
         | inr far ↦ other_object y hy far
       ];
+      zeros = λ at nobody.
+          away at (λ e. not_between o.layout (place_of x) (size_of x.node) (x.at + HEADER_WORDS + i) (st.apart x hx).lies (omega arith)
+          (omega (arith, within)) (subst IsBetween e nobody)) ∙ st.zeros at nobody;
     }
 
 -- the same words, in a world with the same nodes
@@ -163,4 +167,5 @@ stands_nodes o born w v ws same st = record {
     fields = h.fields;
     kept = h.kept;
   };
+  zeros = st.zeros;
 }

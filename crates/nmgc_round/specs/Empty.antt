@@ -14,19 +14,20 @@ use Rattle.nmgc_object.specs.declared.size.TheConstants.{HEADER_WORDS}
 use Rattle.nmgc_object.specs.declared.words.TheConstants.{NIL_WORD}
 use Rattle.nmgc_core.specs.State.{unmarked}
 use Rattle.nmgc_heap.specs.Shape.{header_of}
-use Rattle.nmgc_heap.specs.Places.{shared_place}
+use Rattle.nmgc_heap.specs.Places.{HasZeros, shared_place}
 use Rattle.nmgc_round.specs.View.{Hand, Opening}
 
 -- g, full of nil
 abbrev pub empty_array : Node
 empty_array = Arr (replicate SHARED_SLOTS Nil)
 
--- the words of the heap of which nothing was made: g's header, name and slots, and any words beyond
+-- the words of the heap of which nothing was made: g's header, name and slots; those that belong to nobody are 0, and any words stand from the first segment on
 pub record IsEmptyHeap (layout : Layout) (words : List ℕ) : Type 0 where
   pub total : length words ≡ word_total layout
   pub header : slice_index words SHARED_PLACE ≡ header_word (header_of empty_array)
   pub name : slice_index words (SHARED_PLACE + 1) ≡ name_word shared_name
   pub slots : (i : ℕ) → i < SHARED_SLOTS → slice_index words (SHARED_PLACE + HEADER_WORDS + i) ≡ NIL_WORD
+  pub zeros : HasZeros words
 
 -- what a mutator has that did nothing
 abbrev pub new_hand : Hand

@@ -17,7 +17,7 @@ use Rattle.nmgc_object.specs.declared.size.TheConstants.{HEADER_WORDS}
 use Rattle.nmgc_heap.specs.Shape.{header_of, size_of, slots_of, fixed_slots, free_slots}
 use Rattle.nmgc_heap.specs.Tracked.{IsTracked}
 use Rattle.nmgc_reach.specs.Wide.{IsWide}
-use Rattle.nmgc_heap.specs.Places.{Place, HasSlots, LiesWell}
+use Rattle.nmgc_heap.specs.Places.{Place, HasSlots, LiesWell, IsBetween, HasZeros}
 use Rattle.nmgc_heap.specs.Represents.{IsNamed}
 use Rattle.nmgc_round.specs.View.{Opening}
 
@@ -106,8 +106,10 @@ pub record RepresentsInRound (o : Opening) (born : List Object) (w : World) (wor
   pub named : (p : Place) → IsPlace o born p → IsNamed o.layout w words p
   pub apart : (x : Object) → IsObject o born x → IsApart o born x
   pub objects : (x : Object) → IsObject o born x → IsStanding o born w words x
+  pub zeros : HasZeros words
 
--- the word is in no object, and is neither the header nor the name of any place in use
+-- the word is in no object, is neither the header nor the name of any place in use, and is none of those that belong to nobody
 pub record IsFree (o : Opening) (born : List Object) (i : ℕ) : Type 0 where
   pub objects : (x : Object) → IsObject o born x → (i < x.at) ⊎ (end_of x ≤ i)
   pub places : (q : Place) → IsPlace o born q → (i < q.at) ⊎ (q.at + HEADER_WORDS ≤ i)
+  pub owned : IsBetween i → ⊥

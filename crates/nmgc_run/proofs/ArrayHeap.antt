@@ -23,13 +23,14 @@ use Rattle.nmgc_object.specs.declared.layout.Layout.{Layout}
 use Rattle.nmgc_alloc.specs.Segments.{HasNumber, all_free, block_place}
 use Rattle.nmgc_alloc.specs.AllocState.{AllocState, StandsFor, Shows, LiesIn, AreNames, all_empty, cells, no_cells, name_in}
 use Rattle.nmgc_heap.specs.Shape.{Slot, holds, size_of, free_slots}
-use Rattle.nmgc_heap.specs.Places.{Place, HasSlots, AllMean, ListMeans, LiesWell, shared_place}
+use Rattle.nmgc_heap.specs.laws.Zeros.{zeros_first}
+use Rattle.nmgc_heap.specs.Places.{Place, HasSlots, HasZeros, AllMean, ListMeans, LiesWell, shared_place}
 use Rattle.nmgc_heap.specs.Represents.{IsNamed, IsObject, IsPlaced, Represents, NoNode}
 use Rattle.nmgc_heap.specs.Roots.{RepresentsRoots, ListsWeaks}
 use Rattle.nmgc_run.specs.Heap.{IsPlaceAtStop, FitBlocks, HasAllRegisters, HeapStandsFor}
 use Rattle.nmgc_journal.specs.declared.report.MutatorEnd.{MutatorEnd}
 use Rattle.nmgc_run.specs.Samples.{object_name}
-use Rattle.nmgc_run.specs.Life.{array_layout, young_words, old_words, segments_of, waiting_segment, swept_segment}
+use Rattle.nmgc_run.specs.Life.{array_layout, array_words, young_words, old_words, segments_of, waiting_segment, swept_segment}
 use Rattle.nmgc_run.proofs.Array.{opened, born, held, only_block, not_g}
 use Rattle.nmgc_run.proofs.Listed.{all_same, none_in}
 use Rattle.nmgc_run.proofs.Reading.{some_is, not_known, shared_or, EachMeans, has_slots, all_mean, fills_nil, means_nil}
@@ -118,6 +119,7 @@ pub record HasWords (at : ℕ) (words : List ℕ) : Type 0 where
   pub second : slice_index words (at + 1) ≡ 0
   pub fields : HasSlots (Contains (places_at at)) words (at + 2) (map holds (replicate 7 Nil))
   pub high : 32 ≤ at
+  pub zeros : HasZeros words
   pub lies : (size : ℕ) → size ≤ 9 → LiesWell array_layout (array_place at) size
 
 own_maker : object_name.maker ≢ shared_name.maker
@@ -136,6 +138,7 @@ young_has = record {
       (replicate 16 1 ++ (replicate 301 0 ++
       (14339 ∷ 0 ∷ [])))) (replicate 7 1) (replicate 7 0) (map holds (replicate 7 Nil)) (fills_nil (Contains (places_at 320)) 7);
   high = lit≤ tt;
+  zeros = zeros_first 32771 SHARED_MAKER (replicate 16 1) (replicate 288 0 ++ (array_words ++ replicate 7 0)) refl;
   lies = λ size most. inr (
     own_maker,
     inr (
@@ -158,6 +161,7 @@ old_has = record {
       (replicate 16 1 ++ (replicate 13 0 ++
       (14339 ∷ 0 ∷ [])))) (replicate 7 1) (replicate 295 0) (map holds (replicate 7 Nil)) (fills_nil (Contains (places_at 32)) 7);
   high = lit≤ tt;
+  zeros = zeros_first 32771 SHARED_MAKER (replicate 16 1) (array_words ++ replicate 295 0) refl;
   lies = λ size most. inr (own_maker, inl (0, λ i from before. record { exists = lit< tt; from = omega (arith, from); before = omega (arith, before, most) }));
 }
 
@@ -219,6 +223,7 @@ module _ (at : ℕ) (words : List ℕ) (h : HasWords at words) (earlier : List W
         (record { known = refl; valid = (lit≤ tt, lit< tt, λ m. absurd (omega (arith, m))); name = h.second; lies = h.lies 2 (lit≤ tt) });
     tracked = λ n node t e. each_name Placed shared_placed array_placed n node e;
     born = born_objects;
+    zeros = h.zeros;
   }
     where
       born_objects : (p : Place) (node : Node) → Contains (places_at at) p → InNursery array_layout p.name.maker p.at →

@@ -28,6 +28,7 @@ use Rattle.nmgc_core.specs.Run.{Runs}
 use Rattle.nmgc_core.specs.State.{State as Core, opening, names_of}
 use Rattle.nmgc_core.specs.declared.event.Event.{Event}
 use Rattle.nmgc_core.specs.declared.event.Event.TheVariants as event
+use Rattle.nmgc_heap.specs.laws.Zeros.{zeros_first}
 use Rattle.nmgc_heap.specs.Places.{Place, AllMean, ListMeans, shared_place}
 use Rattle.nmgc_heap.specs.Represents.{IsNamed, IsPlaced, Represents, NoNode}
 use Rattle.nmgc_heap.specs.Roots.{RepresentsRoots, ListsWeaks}
@@ -89,6 +90,7 @@ new_represents = record {
   });
   tracked = λ n node t e. each_first (λ m x. IsPlaced array_layout [] NoNode alone new_words m x) shared_placed n node e;
   born = λ p node d inside there. absurd (only_place (λ q. InNursery array_layout q.name.maker q.at → ⊥) (λ k. omega (arith, k.exists)) p d inside);
+  zeros = zeros_first 32771 SHARED_MAKER (replicate 16 1) (replicate 304 0) refl;
 }
 
 new_roots : RepresentsRoots alone opened.world (replicate REGISTERS 1) ([] ∷ []) (0 ∷ [])

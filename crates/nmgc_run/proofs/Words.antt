@@ -2,7 +2,7 @@
 use Rattle.std.proofs.Common.{◌-◌, ℕ, zero, suc, ◌≡◌, ◌+◌, ◌*◌, ◌<◌, ◌≤◌, ◌⊎◌, ◌↔◌, List, [], ◌∷◌, ◌++◌, length, map, replicate, get_or, slice_index, arith, refl, sym, ap, subst, ◌∙◌, inl, inr, Option, Some, None, lit≤, lit<}
 use Rattle.std.specs.Prelude.{IsSome, Contains, slice_get, ◌==◌}
 use Rattle.std.proofs.lemmas.List.{get_or-replicate}
-use Rattle.nmgc_limits.specs.declared.mutators.TheConstants.{REGISTERS, SHARED_MAKER}
+use Rattle.nmgc_limits.specs.declared.mutators.TheConstants.{REGISTERS, SHARED_MAKER, SHARED_SLOTS}
 use Rattle.nmgc_graph.specs.declared.value.Name.{Name}
 use Rattle.nmgc_graph.specs.declared.value.Value.TheVariants.{Nil, Number}
 use Rattle.nmgc_graph.specs.declared.node.Node.{Node}
@@ -27,6 +27,7 @@ use Rattle.nmgc_run.specs.Collector.{EachMutator, IsAtRest}
 use Rattle.nmgc_run.specs.Seen.{nurseries_of}
 use Rattle.nmgc_alloc.specs.AllocState.{StandsFor, Shows, LiesIn, AreNames, all_empty, cells, no_cells, name_in}
 use Rattle.nmgc_heap.specs.Shape.{holds, size_of}
+use Rattle.nmgc_heap.specs.laws.Zeros.{zeros_first}
 use Rattle.nmgc_heap.specs.Places.{Place, HasSlots, AllMean, ListMeans, LiesWell, LiesInSegment, shared_place}
 use Rattle.nmgc_heap.specs.Represents.{IsNamed, IsPlaced, Represents, NoNode}
 use Rattle.nmgc_run.specs.State.{layout_of}
@@ -182,6 +183,7 @@ represents = record {
   tracked = λ n node t e. each_name Placed shared_placed object_placed n node e;
   born = λ p node c nursery there. absurd (each_place (λ q. InNursery layout q.name.maker q.at →
       ⊥) (λ n. omega (arith, n.exists)) (λ n. omega (arith, n.from)) p c nursery);
+  zeros = zeros_first 32771 SHARED_MAKER (replicate SHARED_SLOTS 1) (2105 ∷ 0 ∷ 13 ∷ replicate 2109 0) refl;
 }
 
 no_weak : (n : Name) (parts : Parts) → IsAlive worked.world n parts → ⊥

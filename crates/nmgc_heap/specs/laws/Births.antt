@@ -11,11 +11,11 @@ use Rattle.nmgc_object.specs.declared.layout.Layout.{Layout}
 use Rattle.nmgc_object.specs.declared.size.TheConstants.{HEADER_WORDS}
 use Rattle.nmgc_heap.specs.Shape.{Slot, unset, header_of, size_of, slots_of, fixed_slots}
 use Rattle.nmgc_heap.specs.Tracked.{IsTracked}
-use Rattle.nmgc_heap.specs.Places.{Place, Fills, HasSlots, LiesWell}
+use Rattle.nmgc_heap.specs.Places.{Place, Fills, HasSlots, LiesWell, IsBetween}
 use Rattle.nmgc_heap.specs.Represents.{IsNamed, IsObject, IsPlaced, Represents}
 use Rattle.nmgc_heap.specs.Changes.{AreEarlier, HaveHeaders, IsTold, IsBorn}
 use Rattle.nmgc_heap.specs.laws.Slots.{fixed_own, slots_more}
-use Rattle.nmgc_heap.specs.laws.Changes.{lies_within, still_object, still_placed}
+use Rattle.nmgc_heap.specs.laws.Changes.{lies_within, not_between, still_object, still_placed}
 
 -- fewer words lie well too
 pub lies_less : (layout : Layout) (p : Place) (size n : ℕ) → n ≤ size → LiesWell layout p size → LiesWell layout p n
@@ -170,4 +170,6 @@ module _ (layout : Layout) (earlier : List World) (K L : Name → Node →
           (subst (λ (n : Node). IsObject layout more us x n × (n ≡ Weak None → slice_index us (x.at + HEADER_WORDS + 1) ≡ 0)) m
           (new_object, λ dead. new_fields 1 unset (ap (λ (n : Node). slice_get (slots_of n) 1) dead)))
     ];
+    zeros = λ at nobody. away at (λ e.
+        not_between layout x (size_of made) x.at b.lies (omega arith) (omega arith) (subst IsBetween e nobody)) ∙ r.zeros at nobody;
   }

@@ -16,7 +16,7 @@ use Rattle.nmgc_object.specs.declared.words.Header.{Header}
 use Rattle.nmgc_object.specs.declared.layout.Layout.{Layout}
 use Rattle.nmgc_object.specs.declared.size.TheConstants.{HEADER_WORDS}
 use Rattle.nmgc_heap.specs.Shape.{Slot, unset, untold, header_of, size_of, slots_of, fixed_slots, free_slots, MayChange}
-use Rattle.nmgc_heap.specs.Places.{Place, Fills, HasSlots, LiesWell}
+use Rattle.nmgc_heap.specs.Places.{Place, Fills, HasSlots, LiesWell, IsBetween}
 use Rattle.nmgc_heap.specs.Represents.{IsObject, IsPlaced, Represents}
 use Rattle.nmgc_heap.specs.Changes.{AreEarlier, HaveHeaders, IsSameHeap, Remembers, AgreeWhereTold, IsUnborn, ChangesField, DropsPlaces, AddsPlaces}
 use Rattle.nmgc_heap.specs.laws.Slots.{slot_count, fixed_count, free_count, free_fixed, fixed_stays, fixed_own, slots_in, slots_more}
@@ -37,6 +37,15 @@ lies_within layout p size some (inr (own, inr n)) =
     let e : p.name.maker + 1 ≤ layout.mutators = let x = h.exists in omega (arith, x) in mul-le-mul_right layout.nursery e in
     omega (arith, h.before, up)
 
+-- no word where an object may lie belongs to nobody
+pub not_between : (layout : Layout) (p : Place) (size i : ℕ) → LiesWell layout p size → p.at ≤ i → i < p.at + size → IsBetween i → ⊥
+not_between layout p size i (inl g) from before (inl low) = omega (arith, g.1, from, low)
+not_between layout p size i (inl g) from before (inr high) = omega (arith, g.2, before, high.0)
+not_between layout p size i (inr (own, inl s)) from before (inl low) = let h = (s.1 i from before).from in omega (arith, h, low)
+not_between layout p size i (inr (own, inl s)) from before (inr high) = let h = (s.1 i from before).from in omega (arith, h, high.1)
+not_between layout p size i (inr (own, inr n)) from before (inl low) = let h = (n.1 i from before).from in omega (arith, h, low)
+not_between layout p size i (inr (own, inr n)) from before (inr high) = let h = (n.1 i from before).from in omega (arith, h, high.1)
+
 -- a world that has the same nodes, as far as the words tell
 pub same_heap : (layout : Layout) (earlier : List World) (K : Name → Node → Type 0) (places : List Place) (w v : World) (words : List ℕ) →
     IsSameHeap earlier places w v → Represents layout earlier K places w words → Represents layout earlier K places v words
@@ -46,6 +55,7 @@ same_heap layout earlier K places w v words same r = record {
   named = λ p c. let h = r.named p c in record { known = subst (λ y. IsSome y) (sym (same.nodes p c)) h.known; valid = h.valid; name = h.name; lies = h.lies };
   tracked = λ name node t is. let s = same.tracked name node t is in r.tracked name node s.0 s.1;
   born = λ p node c n is. r.born p node c n (sym (same.nodes p c) ∙ is);
+  zeros = r.zeros;
 }
 
 -- fewer earlier worlds and nodes, or the world itself and its nodes among them
@@ -79,6 +89,7 @@ remembered layout earlier later K L places w words more r = record {
         ];
       };
   born = r.born;
+  zeros = r.zeros;
 }
   where
     own_fixed : {name : Name} {node : Node} (p : IsPlaced layout earlier K places words name node) →
@@ -153,6 +164,7 @@ module _ (layout : Layout) (earlier : List World) (K : Name → Node →
           λ dead. let three : (header_of node).fields ≡ 3 = ap (λ (x : Node). (header_of x).fields) dead in
               same (p.at + HEADER_WORDS + 1) (omega arith) (omega arith) ∙ h.1 dead,
         );
+    zeros = λ at nobody. agree.between at nobody ∙ r.zeros at nobody;
   }
 
 -- a word of no object that is told changes
@@ -166,6 +178,7 @@ unborn_stored layout earlier K places w words i word world past heads free r =
       names = λ p c. get_or-set_other words i (p.at + 1) word 0 (λ e. free.names p c (sym e));
       objects = λ p node j c t is lo hi. get_or-set_other words i j word 0 (λ e.
           elim (free.objects p node c t is) [ inl l ↦ omega arith | inr l ↦ omega arith ]);
+      between = λ at nobody. get_or-set_other words i at word 0 (λ e. free.owned (subst IsBetween e nobody));
     })
     r
 
@@ -192,6 +205,7 @@ places_dropped layout earlier K places fewer w words drops r = record {
   born = λ p node c n is.
       let h = r.born p node (drops.old p c) n is in
       (record { header = h.0.header; valid = h.0.valid; lies = h.0.lies; alone = λ q d. h.0.alone q (drops.old q d) }, h.1);
+  zeros = r.zeros;
 }
 
 -- there are more places
@@ -220,6 +234,7 @@ places_added layout earlier K places more w words adds r = record {
             inr refl) (p.kept before k);
       };
   born = adds.born;
+  zeros = r.zeros;
 }
 
 -- one field of one object changes with its word
@@ -372,4 +387,7 @@ module _ (layout : Layout) (earlier : List World) (K : Name → Node →
                 away (q.at + HEADER_WORDS + 1) (beyond q n d ne h.0 (q.at + HEADER_WORDS + 1) (omega arith) (omega arith)) ∙ h.1 dead,
           )
     ];
+    zeros = λ at nobody.
+        let lt = c.at_one.within in
+        away at (λ e. not_between layout p (size_of node) cell object.lies (omega arith) (omega arith) (subst IsBetween e nobody)) ∙ r.zeros at nobody;
   }

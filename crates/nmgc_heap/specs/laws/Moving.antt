@@ -330,6 +330,7 @@ module _ (layout : Layout) (base : ℕ) (later earlier : List World) (K : Name �
           | inr g ↦ moved name node t is p g
         ];
     born = none_born;
+    zeros = λ at nobody. m.between at nobody ∙ r.zeros at nobody;
   }
 
   -- values that hold only references to such places are still meant by the words, forwarded

@@ -21,6 +21,7 @@ use std::process::Abort;
 use std::test::Fail;
 
 // Looks whether the words are those of the heap whose round made one object.
+#[tactic(auto, using(crate::proofs::Zeros::zeros_of))]
 fn check_young(rt: &impl Abort, words: &[u64])
     ensures { HoldsYoung words.now }
 {
@@ -29,6 +30,10 @@ fn check_young(rt: &impl Abort, words: &[u64])
     assert!(rt; words[2] == 32);
     for i in 0..16usize {
         assert!(rt; words[3 + i] == 1);
+    }
+    assert!(rt; words[0] == 0);
+    for at in 19..32usize {
+        assert!(rt; words[at] == 0);
     }
     assert!(rt; words[2080] == 2105);
     assert!(rt; words[2081] == 0);
@@ -100,6 +105,15 @@ fn compare_front(rt: &impl Abort, words: &[u64], from: usize, wanted: &[u64]) {
     }
 }
 
+// The words that belong to nobody become 0.
+fn clear_nobody(rt: &impl Abort, words: &mut [u64]) {
+    assert!(rt; words.len() == 2144);
+    words[0] = 0;
+    for at in 19..32usize {
+        words[at] = 0;
+    }
+}
+
 // A round made a constructor of tag 7 with the number 5. It moves from the beginning of the nursery to the
 // first block of the first segment.
 #[test]
@@ -116,6 +130,7 @@ fn one_object(rt: HostRuntime) -> Result<(), Fail> {
     words[2080] = 2105;
     words[2081] = 0;
     words[2082] = 13;
+    clear_nobody(&rt, words.as_mut_slice());
     check_young(&rt, words.as_slice());
     let mut words = List::from_vec(words)?;
     let mut segments = Segments::new(rt.alloc(), small)?;
