@@ -10,8 +10,8 @@
 //! Easy to get wrong: the number of a current segment may be of one that was filled or retired since,
 //! so its state is looked at; and the table is right about the absence of a current segment only
 //! because it is written each time that one becomes current.
-ghost use Rattle.std.specs.Prelude.{ℕ, ◌≡◌, ◌≢◌, ◌↔◌, ◌<◌, ◌≤◌, ◌/◌, ◌%◌, map, min, replicate, count_by, slice_set, IsTrue, IfOk, IfSome, IfNone};
-ghost use Rattle.nmgc_object.specs.Places.{IsLayout, IsSegmentSize};
+ghost use Rattle.std.specs.Prelude.{ℕ, ◌≡◌, ◌≢◌, ◌↔◌, ◌+◌, ◌<◌, ◌≤◌, ◌/◌, ◌%◌, map, min, replicate, count_by, slice_set, IsTrue, IfOk, IfSome, IfNone};
+ghost use Rattle.nmgc_object.specs.Places.{IsLayout, IsSegmentSize, segment_place};
 ghost use Rattle.nmgc_segment.specs.Marks.{IsEpoch};
 ghost use Rattle.nmgc_segment.specs.Segment.{free_segment, block_count};
 ghost use Rattle.nmgc_alloc.specs.CycleSteps.{prepared, carried_over, retired};
@@ -311,8 +311,8 @@ impl Segments {
         ensures some { IfSome result (λ p. IsBlockAt self.now p.0 p.1 at.0) }
         ensures none { IfNone result ((number block : ℕ) → IsBlockAt self.now number block at.0 → ⊥) }
     {
-        let (number, block) = self.candidate(at)?;
-        if self.begins(number, block, at) {
+        let (number, block, offset) = self.candidate(at)?;
+        if self.begins(number, block, offset) {
             Some((number, block))
         } else {
             None
@@ -328,7 +328,7 @@ impl Segments {
         ensures sound { IsSegments self.new }
     {
         match self.candidate(at) {
-            Some((number, block)) => self.mark(number, block, epoch),
+            Some((number, block, _)) => self.mark(number, block, epoch),
             None => unreachable!(),
         }
     }
@@ -363,29 +363,31 @@ impl Segments {
         cycle_steps::mark(segment, block, epoch)
     }
 
-    // The only block that may begin there.
-    fn candidate(&self, at: Address) -> Option<(u32, u32)>
+    // The only block that may begin there, and how far the place lies from the first word of the segment.
+    fn candidate(&self, at: Address) -> Option<(u32, u32, u32)>
         ensures some { IfSome result (λ p. HasNumber self.now p.0 ×
             ((number block : ℕ) → IsBlockAt self.now number block at.0 → (number ≡ p.0) × (block ≡ p.1))) }
+        ensures place { IfSome result (λ p. at.0 ≡ segment_place self.now.layout p.0 + p.2) }
         ensures none { IfNone result ((number block : ℕ) → IsBlockAt self.now number block at.0 → ⊥) }
     {
-        let distance = at.0.saturating_sub(FIRST_PLACE);
+        let distance = at.0.checked_sub(FIRST_PLACE)?;
         let (number, offset) = split(distance, self.layout.words);
         if number as usize >= self.segments.len() {
             return None;
         }
-        Some((number, self.segments[number as usize].block_of(offset)))
+        let block = self.segments[number as usize].block_of(offset);
+        Some((number, block, offset))
     }
 
-    // Whether a block of a segment that isn't free begins there.
-    fn begins(&self, number: u32, block: u32, at: Address) -> bool
+    // Whether a block of a segment that isn't free begins so far from the segment's first word.
+    fn begins(&self, number: u32, block: u32, offset: u32) -> bool
         requires { HasNumber self.now number }
-        ensures { IsTrue result ↔ IsBlockAt self.now number block at.0 }
+        ensures { IsTrue result ↔ IsBlockAt self.now number block (segment_place self.now.layout number + offset) }
     {
         let segment = &self.segments[number as usize];
         segment.state() != State::Free
             && block < segment.blocks()
-            && self.place_of(number, block).0 == at.0
+            && block * block_words(segment.class()) == offset
     }
 
     /// Where a block of a segment begins: the place of its first word.
