@@ -1,5 +1,5 @@
 -- The loop over the fields of one object, and over objects.
-use Rattle.std.proofs.Common.{◌≡◌, ℕ, suc, ◌+◌, ◌^◌, ◌<◌, ◌≤◌, true, false, List, [], ◌∷◌, ◌++◌, length, refl, sym, ap, subst, ◌∙◌, arith, append_assoc}
+use Rattle.std.proofs.Common.{◌≡◌, ℕ, suc, ◌+◌, ◌^◌, ◌<◌, ◌≤◌, Bool, true, false, not, ◌&&◌, eqb, List, [], ◌∷◌, ◌++◌, length, refl, sym, ap, subst, ◌∙◌, arith, append_assoc}
 use Rattle.std.proofs.lemmas.List.{append-nil}
 use Rattle.nmgc_graph.specs.declared.value.Name.{Name}
 use Rattle.nmgc_graph.specs.declared.node.Kind.{Kind}
@@ -20,7 +20,7 @@ use Rattle.nmgc_run.specs.Seen.{MarkerSeen}
 use Rattle.nmgc_run.specs.Marker.{HasRoomToMark}
 use Rattle.nmgc_mark.specs.Marker.{HasScanned, HasMarked, turned}
 use Rattle.nmgc_mark.specs.Tie.{IsTied}
-use Rattle.nmgc_mark.specs.Work.{IsScanning, IsCollector, IsLaterSeat, IsAtField, entry_now, marks_seen, rest_of, fields_scanned, is_result}
+use Rattle.nmgc_mark.specs.Work.{IsScanning, IsCollector, IsLaterSeat, IsAtField, entry_now, marks_seen, rest_of, fields_scanned, has_results, is_result}
 use Rattle.nmgc_mark.proofs.Scanning.{IsNode, IsTaken, goes_on, ends, not_last, header_more, field_last, result_last, fields_are}
 
 pub few : (k : Kind) (n : ℕ) → fields_scanned k n ≤ n
@@ -30,6 +30,14 @@ few kind.Arr n = omega arith
 few kind.Thunk n = omega arith
 few kind.Weak n = omega arith
 few kind.Stack n = omega arith
+
+and_false : (b : Bool) → (b && false) ≡ false
+and_false true = refl
+and_false false = refl
+
+-- what is no thunk has no result
+pub no_result : (k : Kind) (field w : ℕ) → has_results k ≡ false → is_result k field w ≡ false
+no_result k field w none = ap (λ (b : Bool). eqb field 0 && (b && not (eqb w 0))) none ∙ and_false (eqb field 0)
 
 pub scanned_none : (m : MarkerSeen) → HasScanned m m 0
 scanned_none m = record { epoch = refl; grows = omega arith; pace = omega arith; room = refl }

@@ -15,14 +15,14 @@ ghost use Rattle.nmgc_mark.specs.Tie.{IsTied};
 ghost use Rattle.nmgc_mark.specs.Work.{IsScanning, marks_seen};
 
 use crate::marker::Marker;
-use crate::work::{fields_scanned, is_result};
+use crate::work::{fields_scanned, has_results, is_result};
 use nmgc_alloc::Segments;
 use nmgc_heap::HeapWords;
 use nmgc_object::{Address, HEADER_WORDS, header_of};
 use nmgc_round::laws;
 
 impl Marker {
-    // Scans the object at a place, whose entry is the first.
+    // Scans the object at a place, whose entry is the first. Only in a thunk's fields a result is looked for.
     fn scan_stopped<W: HeapWords>(&mut self, words: &mut W, segments: &mut Segments, at: Address)
         requires room { HasRoomToMark segments.old self.old }
         requires scanning { (o : Opening) × (v : Seen) × IsAlone o (W.words words.old) v × IsScanning v segments.old self.old at.0 0 }
@@ -37,12 +37,19 @@ impl Marker {
         let header = header_of(words.load(at.0 as usize));
         let first = at.0 as usize + HEADER_WORDS as usize;
         let fields = fields_scanned(header);
-        for field in 0..fields {
-            let word = words.load(first + field as usize);
-            self.mark_word(segments, word);
-            if is_result(header, field, word) {
-                return;
+        if has_results(header) {
+            for field in 0..fields {
+                let word = words.load(first + field as usize);
+                self.mark_word(segments, word);
+                if is_result(header, field, word) {
+                    return;
+                }
             }
+            return;
+        }
+        for index in 0..fields {
+            let found = words.load(first + index as usize);
+            self.mark_word(segments, found);
         }
     }
 

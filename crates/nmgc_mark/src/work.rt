@@ -19,7 +19,7 @@ ghost use Rattle.nmgc_run.specs.Marker.{HasRoomToMark};
 ghost use Rattle.nmgc_updrem.specs.Rings.{HavePolled};
 ghost use Rattle.nmgc_mark.specs.Marker.{HasMarked, turned};
 ghost use Rattle.nmgc_mark.specs.Tie.{IsTied};
-ghost use Rattle.nmgc_mark.specs.Work.{IsCollector, IsScanning, HasWorked, marks_seen, rest_of, fields_scanned, is_result};
+ghost use Rattle.nmgc_mark.specs.Work.{IsCollector, IsScanning, HasWorked, marks_seen, rest_of, fields_scanned, has_results, is_result};
 
 use crate::marker::{Marker, Work};
 use nmgc_alloc::Segments;
@@ -35,6 +35,16 @@ pub(crate) fn fields_scanned(header: Header) -> u32
     match header.kind {
         Kind::Weak => 0,
         Kind::Con | Kind::Var | Kind::Arr | Kind::Thunk | Kind::Stack => header.fields,
+    }
+}
+
+/// Whether the object may have a result: it's a thunk.
+pub(crate) fn has_results(header: Header) -> bool
+    ensures { result ≡ has_results header.kind }
+{
+    match header.kind {
+        Kind::Thunk => true,
+        Kind::Con | Kind::Var | Kind::Arr | Kind::Weak | Kind::Stack => false,
     }
 }
 
@@ -83,7 +93,7 @@ impl Marker {
     }
 
     // Scans the object at a place, whose entry is the first: its header, and then field after field. A thunk
-    // with a result is done after that.
+    // with a result is done after that; in the fields of all other objects no result is looked for.
     fn scan(
         &mut self,
         round: &Round,
@@ -99,11 +109,17 @@ impl Marker {
     {
         let header = header_of(round.scan_load(seat, at, 0));
         let fields = fields_scanned(header);
-        for field in 0..fields {
-            let word = self.scan_field(round, seat, segments, at, field);
-            if is_result(header, field, word) {
-                return;
+        if has_results(header) {
+            for field in 0..fields {
+                let word = self.scan_field(round, seat, segments, at, field);
+                if is_result(header, field, word) {
+                    return;
+                }
             }
+            return;
+        }
+        for index in 0..fields {
+            self.scan_field(round, seat, segments, at, index);
         }
     }
 

@@ -13,3 +13,12 @@ invariant-loop-field g l = record {
   each : (o : Opening) (v : Seen) → IsAlone o (g.W.HeapWords.words l.fn.words) v → IsScanning v l.fn.segments l.fn.self l.fn.at.0 0 → (u : Seen) ×
       IsAlone o (g.W.HeapWords.words l.fn.words) u × IsAtField v u l.segments l.self l.fn.at.0 l.fields l.field;
 }
+
+abbrev pub invariant-loop-index : goal.invariant-loop-index
+invariant-loop-index g l = record {
+  words : g.W.HeapWords.words l.words ≡ g.W.HeapWords.words l.fn.words;
+  marked : HasMarked l.fn.segments l.segments l.fn.self l.self 0;
+  turns : l.self.turns ≡ l.fn.self.turns;
+  each : (o : Opening) (v : Seen) → IsAlone o (g.W.HeapWords.words l.fn.words) v → IsScanning v l.fn.segments l.fn.self l.fn.at.0 0 → (u : Seen) ×
+      IsAlone o (g.W.HeapWords.words l.fn.words) u × IsAtField v u l.segments l.self l.fn.at.0 l.fields l.index;
+}
