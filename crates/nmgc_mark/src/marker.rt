@@ -23,8 +23,12 @@ use nmgc_alloc::Segments;
 use nmgc_graph::{NoMemory, Room, SHARED_SLOTS};
 use nmgc_heap::{HeapWords, MutatorRoots};
 use nmgc_object::{Address, HEADER_WORDS, Layout, MIN_BLOCK_WORDS, SHARED_PLACE};
+use nmgc_round::Round;
 use std::alloc::Global;
 use std::marker::Model;
+
+// At how many headers the marker looks before it scans their objects.
+const AHEAD: u32 = 8;
 
 /// What the marker did in a round: how many objects it scanned, and whether none is left.
 #[derive(Clone, Copy, Debug, PartialEq, Eq)]
@@ -228,6 +232,20 @@ impl Marker {
         let at = self.found.items()[self.first as usize];
         self.first += 1;
         Some(at)
+    }
+
+    // Looks at the headers of the objects that are scanned next, so many at a time: as one object is scanned after the
+    // other, each header is far away, and here all of them are waited for at once. Nothing is told, and nothing changes.
+    pub(crate) fn look_ahead(&self, round: &Round, scanned: u32) {
+        if scanned % AHEAD != 0 {
+            return;
+        }
+        let found = self.found.items();
+        let first = self.first as usize;
+        let end = found.len().min(first + AHEAD as usize);
+        for index in first..end {
+            round.look_ahead(found[index]);
+        }
     }
 
     // Queues a place that was marked.

@@ -7,6 +7,9 @@
 //! Before each object the rings of all mutators are polled once: a block of remembered places that is there goes to the
 //! collector's own list, and is marked at the stop. So a mutator finds free slots again while the marker is at work.
 //!
+//! Marking waits for memory more than it computes: the next object's header lies somewhere else. So at every eighth
+//! object the headers of the next eight are looked at together (`Round::look_ahead`), which is no scan.
+//!
 //! Easy to get wrong: whether anything is left is told by the queue on return, and not by the quota: a round that
 //! scans its whole quota may leave nothing.
 ghost use Rattle.std.specs.Prelude.{◌≡◌, ◌+◌, ◌<◌, ◌≤◌, [], ◌↔◌, IsTrue, length};
@@ -127,6 +130,8 @@ impl Marker {
     /// by the scan load. Before each the gate is passed and counted, as the clause `turns` tells, and each mutator's
     /// ring is polled once. The inbox has a receiver for each mutator of the layout.
     ///
+    /// The headers of several objects are looked at before these are scanned, which tells nothing and changes nothing.
+    ///
     /// Marks and queue are the machine's before and after, as the collector's view tells them. Each object is
     /// scanned once in a cycle: what was marked and doesn't wait was scanned. `empty` is false exactly where
     /// `quota` objects were scanned and the queue isn't empty. Takes no memory, and waits for nobody but the gate.
@@ -152,6 +157,7 @@ impl Marker {
     {
         let mutators = segments.layout().mutators;
         for scanned in 0..quota {
+            self.look_ahead(round, scanned);
             match self.take_first() {
                 None => {
                     return Work {

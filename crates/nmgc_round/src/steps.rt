@@ -97,6 +97,15 @@ impl Round {
         }
     }
 
+    /// Loads the word at a place, if the round has one there, and forgets it. No seat is needed, nothing is told, and
+    /// nothing changes: whoever reads a word of that object soon finds it nearer. Takes no memory.
+    pub fn look_ahead(&self, at: Address) {
+        let place = at.0 as usize;
+        if place < self.table.word_count() {
+            self.table.shared.peek(place);
+        }
+    }
+
     /// Loads the word that the core machine's next scan reads: the first queue entry is the object at this
     /// place, and the word is its next position. The collector's view has that one scan more. Position 0 tells the
     /// header of the object as it is in the snapshot, and that its words are within the heap's; a field that is
