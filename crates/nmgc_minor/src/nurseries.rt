@@ -51,7 +51,7 @@ pub fn place_all<W: HeapWords>(
         let index = (at - base) as usize;
         if table[index] != 0 {
             let size = object_words(words, at);
-            let moved = place_object(words, segments, maker, at);
+            let moved = place_object(words, segments, maker, at, size);
             table[index] = moved.to.0;
             moves.add(moved);
             at += size;

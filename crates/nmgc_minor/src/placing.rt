@@ -37,16 +37,18 @@ pub fn object_words<W: HeapWords>(words: &mut W, from: u32) -> u32
     HEADER_WORDS + fields_of(words.load(from as usize))
 }
 
-/// Gives an object a block of the least class that holds it.
+/// Gives an object of so many words a block of the least class that holds it.
 pub fn place_object<W: HeapWords>(
     words: &mut W,
     segments: &mut Segments,
     maker: u8,
     from: u32,
+    size: u32,
 ) -> Move
     requires sound { IsSegments segments.old }
     requires maker { IsMutator segments.old.layout maker }
     requires object { CanPlace segments.old.layout maker (W.words words.old) from }
+    requires size { (header : Header) → HasHeaderWord (W.words words.old) from header → size ≡ HEADERS + header.fields }
     requires room { (class : ℕ) → IsClass segments.old.layout class → HasRoom segments.old maker class }
     ensures from { result.from.0 ≡ from }
     ensures sound { IsSegments segments.new }
@@ -54,7 +56,7 @@ pub fn place_object<W: HeapWords>(
     ensures places { PlacesOne segments.old segments.new (W.words words.old) maker result }
     ensures same { W.words words.new ≡ W.words words.old }
 {
-    let class = class_of(object_words(words, from));
+    let class = class_of(size);
     let name = name_of(words.load(from as usize + 1));
     let to = segments.allocate(maker, class);
     let _ = segments.layout();

@@ -44,7 +44,6 @@ place_object-moved-requires-clause-object g c =
     CanPlace l c.args.maker (g.W.HeapWords.words c.args.words.now) c.loop-at.at) (sym c.loop-at.invariant.layout)
     (c.requires.objects.each c.loop-at.at low test mark))
 
--- (the names of these goals are guesses)
 pub object_words-size-requires : goal.object_words-size-requires
 object_words-size-requires g c =
     let low = c.loop-at.invariant.low in
@@ -52,6 +51,9 @@ object_words-size-requires g c =
     let same = c.loop-at.invariant.placed.2.outside c.loop-at.at (omega (arith, low, above)) (inr (omega arith)) in
     let mark : IsMarked c.args.base c.args.table.now c.loop-at.at = λ e. c.if-table-index-ne0.true (same ∙ e) in
     rw (c.loop-at.invariant.same) (c.requires.objects.each c.loop-at.at low c.loop-at-test.true mark).object
+
+pub place_object-moved-requires-clause-size : goal.place_object-moved-requires-clause-size
+place_object-moved-requires-clause-size g c = rw c.object_words-size.ensures.same c.object_words-size.ensures.holds
 
 pub place_object-moved-requires-clause-room : goal.place_object-moved-requires-clause-room
 place_object-moved-requires-clause-room g c =
