@@ -155,7 +155,7 @@ impl<'a> Cursor<'a> {
         })
     }
 
-    // A number. `Bad` comes also where it has a leading zero, or more digits than any number of an image.
+    // A number. `Bad` comes also where it has a leading zero, or more than eighteen digits, which only few numbers have.
     fn number(&mut self) -> Result<u64, LineFault>
         ensures text { IfOk result (λ number. self.old.rest.now ≡ decimal number ++ self.new.rest.now) }
         ensures small { IfOk result (λ number. number < 10 ^ 18) }
