@@ -1,12 +1,13 @@
 //! What a mutator has outside the words, where it lies.
 //!
-//! At a stop registers and finaliser queues are roots, for promotion, for the snapshot of a cycle and for its closing,
-//! and with the nursery come the lists that the round left. All of it lies in the mutators, which stand above this crate. So
-//! whoever reads or changes it does so over this trait, one mutator after the other, and nothing is taken off
+//! At a stop registers and finaliser queues are roots, for promotion and for the snapshot of a cycle; a closing adds to
+//! the queues. With the nursery come the lists that the round left. All of it lies in the mutators, which stand above this
+//! crate. So whoever reads or changes it does so over this trait, one mutator after the other, and nothing is taken off
 //! a mutator and given back.
 //!
-//! Easy to get wrong: to change the registers is not to change the queue. The laws say so, and without them a caller that
-//! knows nothing of the mutator would know nothing of one part once another was changed.
+//! Easy to get wrong: to change the registers is not to change the queue, and neither changes what the round left. The
+//! laws say so, and without them a caller that knows nothing of the mutator would know nothing of one part once another
+//! was changed.
 ghost use Rattle.std.specs.Prelude.{◌≡◌, ℕ, List, [], length};
 ghost use Rattle.std.specs.Borrow.{sem, Lends, Array, u64};
 ghost use Rattle.nmgc_object.specs.FinQueue.{FinQueue as Queue};
@@ -19,6 +20,7 @@ use nmgc_object::{Address, FinQueue, Nursery};
 
 /// A mutator at a stop, as far as the collector reads and changes it. No call takes memory.
 pub trait MutatorRoots {
+    // What the calls below answer.
     ghost registers: { Self → List ℕ };
 
     ghost queue: { Self → Queue };
@@ -29,10 +31,13 @@ pub trait MutatorRoots {
 
     ghost young_weaks: { Self → List Place };
 
+    // The mutator with other words in its registers.
     ghost with_registers: { Self → List ℕ → Self };
 
+    // The mutator with another queue.
     ghost with_queue: { Self → Queue → Self };
 
+    // The mutator once its nursery was emptied, with its lists of the round.
     ghost after_stop: { Self → Self };
 
     /// The field words of its registers.
@@ -84,6 +89,14 @@ pub trait MutatorRoots {
     ghost registers_nursery: { (m : Self) (words : List ℕ) → nursery (with_registers m words) ≡ nursery m };
 
     ghost queue_nursery: { (m : Self) (q : Queue) → nursery (with_queue m q) ≡ nursery m };
+
+    ghost registers_recorded: { (m : Self) (words : List ℕ) → recorded (with_registers m words) ≡ recorded m };
+
+    ghost registers_young: { (m : Self) (words : List ℕ) → young_weaks (with_registers m words) ≡ young_weaks m };
+
+    ghost queue_recorded: { (m : Self) (q : Queue) → recorded (with_queue m q) ≡ recorded m };
+
+    ghost queue_young: { (m : Self) (q : Queue) → young_weaks (with_queue m q) ≡ young_weaks m };
 
     ghost registers_stay: { (m : Self) → registers (after_stop m) ≡ registers m };
 

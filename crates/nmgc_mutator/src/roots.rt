@@ -76,6 +76,14 @@ impl MutatorRoots for Mutator {
 
     ghost queue_nursery = { λ m q. refl };
 
+    ghost registers_recorded = { λ m words. refl };
+
+    ghost registers_young = { λ m words. refl };
+
+    ghost queue_recorded = { λ m q. refl };
+
+    ghost queue_young = { λ m q. refl };
+
     ghost registers_stay = { λ m. refl };
 
     ghost queue_stays = { λ m. refl };
