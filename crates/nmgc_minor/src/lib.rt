@@ -7,9 +7,9 @@
 //!    and the alive young weak pointers refer to are found, and what strong fields reach from them. A
 //!    table by nursery word says which were found; they wait in a list that is gone through once. Words
 //!    are only read.
-//! 2. *Place* (`nurseries`, `placing`). The table is read from its beginning to its end. A nursery's objects
-//!    lie in the order of their serials, and the nurseries in the order of their makers, so this is the
-//!    order of names. Each found object is given a block, whose place becomes its entry. Words are only
+//! 2. *Place* (`nurseries`, `placing`). The table is read from its beginning on, without the words of an object
+//!    that was found. A nursery's objects lie in the order of their serials, and the nurseries in the order of their
+//!    makers, so this is the order of names. Each found object is given a block, whose place becomes its entry. Words are only
 //!    read.
 //! 3. *Forward* (`forwarding`). The slots of g and the recorded fields are forwarded by the table; then
 //!    each found object is copied to its block, its fields forwarded; then the roots are.

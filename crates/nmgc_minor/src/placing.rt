@@ -1,8 +1,8 @@
 //! The second pass: each found object is given a block, in order of names.
 //!
 //! The words are only read here. A nursery's objects lie in the order of their serials, and the
-//! nurseries in the order of their makers, so the table is read from its beginning to its end, and no
-//! sort is needed.
+//! nurseries in the order of their makers, so the table is read from its beginning on, and no sort is
+//! needed.
 ghost use Rattle.std.specs.Prelude.{ℕ, ◌≡◌, ◌+◌, ◌<◌, ◌≤◌, ◌*◌, ◌++◌, List, length, slice_index};
 ghost use Rattle.nmgc_object.specs.Size.{block_size};
 ghost use Rattle.nmgc_object.specs.Words.{name_word};

@@ -79,14 +79,15 @@ impl Promotion {
     /// the roots, the slots of g, the recorded fields and the moved objects, so the words stand for the
     /// same world. The nurseries are empty afterwards. Takes no memory.
     ///
-    /// Its time goes with what it and the last promotion move, with the fields of that, with the roots, the two
-    /// lists and the used words of the nurseries, for which the table is read. Where a segment was filled, the
-    /// search for the next one comes to that. It grows neither with the heap nor with the unused words.
-    ///
-    /// What the mutators hold is read and changed where it lies: registers, queue and nursery, and the lists of the
+    /// What the mutators hold is read and changed where it lies: registers, queue and nursery, and the two lists of the
     /// round, which are empty afterwards. `recorded` of a mutator are the places of the fields of older objects that it
     /// gave a young one in the round, `young_weaks` the weak pointers that it made. At least as many segments are free as
     /// the layout's reserve, or no nursery has an object.
+    ///
+    /// Its time goes with what it and the last promotion move, with the fields of that, with the roots, the two
+    /// lists and the used words of the nurseries, for which the table is read, but for those behind an object that it
+    /// found. Where a segment was filled, the search for the next one comes to that. It grows neither with the heap nor
+    /// with the unused words.
     pub fn promote<W: HeapWords, M: MutatorRoots>(
         &mut self,
         words: &mut W,
@@ -99,7 +100,8 @@ impl Promotion {
         // What words, roots and blocks stand for; that exactly the promoted objects moved; and the state
         // of the segments.
         ensures settled { (t : Stopped) → IsStoppedBy M.nursery M.registers M.queue M.recorded M.young_weaks t segments.old (W.words words.old) mutators.old →
-            IsSettled t segments.new (W.words words.new) (flat_map M.registers mutators.new) (words_of (map M.queue mutators.new)) (map moved_of self.new.moves) }
+            IsSettled t segments.new (W.words words.new) (flat_map M.registers mutators.new) (words_of (map M.queue mutators.new))
+            (map moved_of self.new.moves) }
         ensures places { (t : Stopped) → IsStoppedBy M.nursery M.registers M.queue M.recorded M.young_weaks t segments.old (W.words words.old) mutators.old →
             (a : AllocState) → StandsFor segments.old (W.words words.old) a → (b : AllocState) ×
             PlacesEach segments.old.layout t.world a (map (λ m. m.name) (map moved_of self.new.moves)) b × StandsFor segments.new (W.words words.new) b }
