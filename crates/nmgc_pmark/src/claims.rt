@@ -38,8 +38,9 @@ pub struct Claims {
 /// side. Words, segments and roots stand for some stopped heap with empty nurseries; all markers read the words at once,
 /// and nobody writes them meanwhile. The lists together hold exactly the names that strong fields reach from the roots and
 /// the slots of g, each once, whatever the number of markers and whatever the schedule was. Each marker passes `gate` as
-/// its number before each object that it scans, and counts from 1. Takes memory for a word a block (twice that while the
-/// table is made), for 8 bytes a block and marker, and for the names.
+/// its number before each object that it scans, and counts from 1. The names of each marker's objects are then read and put
+/// in order in a thread too. Takes memory for a word a block (twice that while the table is made), for 8 bytes a block and
+/// marker, and for the names.
 pub fn mark_all<R: Threads + Sync, W: StillWords, G: Gate>(
     alloc: Global,
     rt: &R,
