@@ -10,7 +10,8 @@ use Rattle.nmgc_segment.specs.declared.state.State.TheVariants.{Free, Current}
 use Rattle.nmgc_segment.specs.Marks.{IsEpoch, carried, swept, IsFirstUnmarked}
 use Rattle.nmgc_object.specs.laws.Classes.{class_few, least_block}
 use Rattle.nmgc_segment.specs.laws.Segments.{few_blocks, mark-map, all_carried, carried_bounds, swept_bounds, swept_is, zero_swept}
-use Rattle.nmgc_segment.specs.Segment.{Segment, IsSegment, IsUnused, HasBlocks, TellsMarked, InUse, IsMarked, block_count, segment_words, mark_of}
+use Rattle.nmgc_segment.specs.Kept.{TellsMarked}
+use Rattle.nmgc_segment.specs.Segment.{Segment, IsSegment, IsUnused, HasBlocks, InUse, IsMarked, block_count, segment_words, mark_of}
 
 -- nothing is in use
 pub unused_from : (s : Segment) → ((b : ℕ) → InUse s b → ⊥) → IsUnused s

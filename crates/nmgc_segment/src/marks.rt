@@ -9,7 +9,7 @@ ghost use Rattle.std.specs.Prelude.{◌≡◌, ◌≢◌, ℕ, ◌↔◌, ◌+�
 ghost use Rattle.std.specs.List.{prefix_len};
 ghost use Rattle.std.specs.Simd.Lanes.{chunk, put_chunk};
 ghost use Rattle.nmgc_segment.specs.Marks.{IsEpoch, carried, swept, IsFirst, IsFirstUnmarked};
-ghost use Rattle.nmgc_segment.specs.Segment.{TellsMarked};
+ghost use Rattle.nmgc_segment.specs.Kept.{TellsMarked};
 
 use std::simd::prelude::*;
 
