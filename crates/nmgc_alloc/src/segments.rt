@@ -311,12 +311,8 @@ impl Segments {
         ensures some { IfSome result (λ p. IsBlockAt self.now p.0 p.1 at.0) }
         ensures none { IfNone result ((number block : ℕ) → IsBlockAt self.now number block at.0 → ⊥) }
     {
-        let (number, block, offset) = self.candidate(at)?;
-        if self.begins(number, block, offset) {
-            Some((number, block))
-        } else {
-            None
-        }
+        let (number, offset) = self.segment_at(at)?;
+        self.block_in(number, offset)
     }
 
     /// Marks the block that begins there, and answers whether it is in the snapshot and wasn't marked.
@@ -327,8 +323,8 @@ impl Segments {
         ensures marks { Marks self.old self.new at.0 epoch result }
         ensures sound { IsSegments self.new }
     {
-        match self.candidate(at) {
-            Some((number, block, _)) => self.mark(number, block, epoch),
+        match self.block_at(at) {
+            Some((number, block)) => self.mark(number, block, epoch),
             None => unreachable!(),
         }
     }
@@ -363,31 +359,41 @@ impl Segments {
         cycle_steps::mark(segment, block, epoch)
     }
 
-    // The only block that may begin there, and how far the place lies from the first word of the segment.
-    fn candidate(&self, at: Address) -> Option<(u32, u32, u32)>
-        ensures some { IfSome result (λ p. HasNumber self.now p.0 ×
-            ((number block : ℕ) → IsBlockAt self.now number block at.0 → (number ≡ p.0) × (block ≡ p.1))) }
-        ensures place { IfSome result (λ p. at.0 ≡ segment_place self.now.layout p.0 + p.2) }
+    // The segment in which a place lies, and how far it lies from the segment's first word.
+    fn segment_at(&self, at: Address) -> Option<(u32, u32)>
+        ensures some { IfSome result (λ p. HasNumber self.now p.0 × (p.1 < self.now.layout.words) × (at.0 ≡ segment_place self.now.layout p.0 + p.1)) }
         ensures none { IfNone result ((number block : ℕ) → IsBlockAt self.now number block at.0 → ⊥) }
     {
+        let _ = &self.segments;
         let distance = at.0.checked_sub(FIRST_PLACE)?;
         let (number, offset) = split(distance, self.layout.words);
         if number as usize >= self.segments.len() {
             return None;
         }
-        let block = self.segments[number as usize].block_of(offset);
-        Some((number, block, offset))
+        Some((number, offset))
     }
 
-    // Whether a block of a segment that isn't free begins so far from the segment's first word.
-    fn begins(&self, number: u32, block: u32, offset: u32) -> bool
-        requires { HasNumber self.now number }
-        ensures { IsTrue result ↔ IsBlockAt self.now number block (segment_place self.now.layout number + offset) }
+    // The segment and its block that begins so far from the segment's first word, unless the segment is free.
+    fn block_in(&self, number: u32, offset: u32) -> Option<(u32, u32)>
+        requires exists { HasNumber self.now number }
+        requires within { offset < self.now.layout.words }
+        ensures some { IfSome result (λ p. IsBlockAt self.now p.0 p.1 (segment_place self.now.layout number + offset)) }
+        ensures none { IfNone result ((other block : ℕ) → IsBlockAt self.now other block (segment_place self.now.layout number + offset) → ⊥) }
     {
-        let segment = &self.segments[number as usize];
-        segment.state() != State::Free
-            && block < segment.blocks()
-            && block * block_words(segment.class()) == offset
+        let _ = &self.segments;
+        if self.is_free(number) {
+            return None;
+        }
+        let block = self.segments[number as usize].block_at(offset)?;
+        Some((number, block))
+    }
+
+    // Whether a segment is free.
+    fn is_free(&self, number: u32) -> bool
+        requires { HasNumber self.now number }
+        ensures { IsTrue result ↔ ((nth self.now.segments number).state ≡ State.Free) }
+    {
+        self.segment(number).state() == State::Free
     }
 
     /// Where a block of a segment begins: the place of its first word.

@@ -1,7 +1,8 @@
--- A product and a shift in place of a division by the words of a block.
-use Rattle.std.proofs.Common.{ℕ, ◌≡◌, ◌+◌, ◌-◌, ◌*◌, ◌/◌, ◌%◌, ◌<◌, ◌≤◌, ◌∙◌, refl, ap, sym, arith, Bool, true, ◌&&◌, leb, ltb, get_or, mul-le-mul_right, div-add-mod'}
+-- A product in place of a division by the words of a block.
+use Rattle.std.proofs.Common.{ℕ, zero, suc, ◌≡◌, ◌↔◌, ◌+◌, ◌-◌, ◌*◌, ◌/◌, ◌%◌, ◌<◌, ◌≤◌, ◌∙◌, refl, ap, sym, arith, Bool, true, ◌&&◌, leb, ltb, get_or, mul-le-mul_right, div-add-mod'}
 use Rattle.std.proofs.lemmas.Bool.{agree_below_at, and_parts, leb-true, ltb-true}
-use Rattle.std.proofs.lemmas.Nat.{div-mul-add, le-div, mod_below}
+use Rattle.std.proofs.Math.Nat.{mul-mod_left}
+use Rattle.std.proofs.lemmas.Nat.{div-mul-add, mod-mul-add, le-div, mod_below}
 use Rattle.nmgc_object.specs.Size.{block_size}
 use Rattle.nmgc_object.specs.laws.Classes.{least_block}
 use Rattle.nmgc_segment.specs.declared.lookup.TheConstants.{RECIPROCALS}
@@ -29,8 +30,13 @@ reciprocal_of class le =
     let rest = and_parts _ _ parts.1 in
     record { up = leb-true _ _ parts.0; close = ltb-true _ _ rest.0; small = leb-true _ _ rest.1 }
 
--- a product, shifted, is the quotient
-quotient : (n d r : ℕ) → 0 < d → n < 4096 → IsReciprocal d r → n * r / 65536 ≡ n / d
+-- a share that is less than the factor is none
+none_left : (m r : ℕ) → m * r < r → m ≡ 0
+none_left zero r h = refl
+none_left (suc m) r h = absurd (let out : suc m * r ≡ m * r + r = grind arith in omega (arith, h, out))
+
+-- a product above the lowest digits is the quotient, and these are below the factor where nothing is left
+quotient : (n d r : ℕ) → 0 < d → n < 4096 → IsReciprocal d r → (n * r / 65536 ≡ n / d) × ((n * r % 65536 < r) ↔ (n % d ≡ 0))
 quotient n d r pos few h =
     let q : ℕ = n / d in
     let m : ℕ = n % d in
@@ -48,8 +54,38 @@ quotient n d r pos few h =
     let shares : q * (d * r) ≡ q * (65536 + e) = ap (λ (k : ℕ). q * k) whole in
     let shared : q * (65536 + e) ≡ q * 65536 + q * e = grind arith in
     let is : n * r ≡ q * 65536 + (q * e + m * r) = omega (arith, product, shares, shared) in
-    ap (λ (k : ℕ). k / 65536) is ∙ div-mul-add q 65536 (q * e + m * r) low
+    let digits : n * r % 65536 ≡ q * e + m * r = ap (λ (k : ℕ). k % 65536) is ∙ mod-mul-add q 65536 (q * e + m * r) low in (
+      ap (λ (k : ℕ). k / 65536) is ∙ div-mul-add q 65536 (q * e + m * r) low,
+      (
+        λ below. none_left m r (omega (arith, below, digits)),
+        λ none. let share : m * r ≡ 0 * r = ap (λ (k : ℕ). k * r) none in omega (arith, digits, share, errs, errs_out, h.close),
+      ),
+    )
 
--- the block with a word
-pub block_found : (n class : ℕ) → n < 4096 → class ≤ 20 → n * reciprocal class / 65536 ≡ n / block_size class
-block_found n class few le = quotient n (block_size class) (reciprocal class) (omega (arith, least_block class)) few (reciprocal_of class le)
+-- the block that begins there
+pub block_found : (n class : ℕ) → n < 4096 → class ≤ 20 → n * reciprocal class % 65536 < reciprocal class →
+    n ≡ n * reciprocal class / 65536 * block_size class
+block_found n class few le below =
+    let d = block_size class in
+    let found = quotient n d (reciprocal class) (omega (arith, least_block class)) few (reciprocal_of class le) in
+    let none : n % d ≡ 0 = found.1.0 below in
+    let whole : n / d * d + n % d ≡ n = div-add-mod' n d in
+    let same : n * reciprocal class / 65536 * d ≡ n / d * d = ap (λ (k : ℕ). k * d) found.0 in
+    omega (arith, none, whole, same)
+
+-- or none does
+pub none_found : (n class block : ℕ) → n < 4096 → class ≤ 20 → reciprocal class ≤ n * reciprocal class % 65536 → n ≡ block * block_size class → ⊥
+none_found n class block few le above is =
+    let d = block_size class in
+    let pos : 0 < d = omega (arith, least_block class) in
+    let found = quotient n d (reciprocal class) pos few (reciprocal_of class le) in
+    let none : n % d ≡ 0 = ap (λ (k : ℕ). k % d) is ∙ mul-mod_left block d in
+    let below = found.1.1 none in
+    omega (arith, above, below)
+
+-- of blocks that begin at one word there is one
+pub one_block : (n d k block blocks : ℕ) → 0 < d → n ≡ k * d → n ≡ block * d → k < blocks → blocks ≤ block → ⊥
+one_block n d k block blocks pos is found within past =
+    let more : (k + 1) * d ≤ block * d = mul-le-mul_right d (omega (arith, within, past)) in
+    let out : (k + 1) * d ≡ k * d + d = grind arith in
+    omega (arith, more, out, is, found)

@@ -1,9 +1,10 @@
-//! In which block of a segment a word lies, without a division: it is asked for each reference that is marked.
+//! Which block of a segment begins at a word, without a division: it is asked for each reference that is marked.
 //!
-//! The distance of the word from the segment's first one is multiplied by 65,536 / d, rounded up, for blocks of d words,
-//! and the lowest 16 binary digits are dropped. A segment has at most 4,096 words, and in so few the rounding never adds
-//! up to a block.
-ghost use Rattle.std.specs.Prelude.{◌≡◌, ◌<◌, ◌≤◌, ◌/◌};
+//! The distance of the word from the segment's first one is multiplied by 65,536 / d, rounded up, for blocks of d words.
+//! Above the lowest 16 binary digits stands the number of the block with the word, and these digits are below the factor
+//! exactly where the block begins there. A segment has at most 4,096 words, and in so few the rounding never adds up to
+//! the factor.
+ghost use Rattle.std.specs.Prelude.{ℕ, ◌≡◌, ◌≢◌, ◌*◌, ◌<◌, ◌≤◌, IfSome, IfNone};
 ghost use Rattle.nmgc_object.specs.Size.{block_size};
 ghost use Rattle.nmgc_object.specs.declared.size.TheConstants.{MAX_BLOCK_WORDS};
 
@@ -15,12 +16,20 @@ static RECIPROCALS: [u32; MAX_CLASS as usize + 1] = [
     512, 256, 128, 64, 32, 16,
 ];
 
-/// The number of the block, among blocks of the class, in which the word lies that comes so many words after the
-/// segment's first. Takes no memory, and constant time.
-pub fn block_with(offset: u32, class: u8) -> u32
+/// The number of the block, among blocks of the class, that begins so many words after the segment's first. `None` comes
+/// exactly where none begins there. Takes no memory, and constant time.
+pub fn block_with(offset: u32, class: u8) -> Option<u32>
     requires offset { offset < MAX_BLOCK_WORDS }
     requires class { class ≤ MAX_CLASS }
-    ensures { result ≡ offset / block_size class }
+    ensures some { IfSome result (λ block. offset ≡ block * block_size class) }
+    ensures none { IfNone result ((block : ℕ) → offset ≢ block * block_size class) }
 {
-    (offset * RECIPROCALS[usize::from(class)]) >> 16
+    let factor = RECIPROCALS[usize::from(class)];
+    let product = offset * factor;
+    let digits = product % 65536;
+    if digits < factor {
+        Some(product >> 16)
+    } else {
+        None
+    }
 }
