@@ -5,4 +5,3 @@ pub mod Samples
 pub mod SharedSlots
 mod Started
 pub mod TwoObjects
-pub mod Zeros

@@ -29,20 +29,27 @@ fn first_of(layout: &Layout) -> Chosen<Opened>
     Chosen::of::<Layout, First>(layout)
 }
 
-// The heap of which nothing was made. The header word of an array with 16 fields is 3 + 2048 * 16, the name
-// word of g is 32, and nil is 1.
-#[tactic(auto, using(crate::proofs::Zeros::zeros_of))]
-fn empty_heap(alloc: Global, layout: &Layout) -> Result<Words, NoMemory>
+// The words of the heap of which nothing was made. The header word of an array with 16 fields is 3 + 2048 * 16, the
+// name word of g is 32, and nil is 1.
+fn empty_words(alloc: Global, layout: &Layout) -> Result<Vec<u64>, NoMemory>
+    requires { IsLayout layout.now }
+    ensures { IfOk result (λ words. IsEmptyHeap layout.now words.items) }
+{
+    let mut words = Vec::from_elem(alloc, 0u64, layout.total() as usize)?;
+    words[1] = 32771;
+    words[2] = 32;
+    for slot in 0..16usize {
+        words[3 + slot] = 1;
+    }
+    Ok(words)
+}
+
+/// That heap.
+pub(crate) fn empty_heap(alloc: Global, layout: &Layout) -> Result<Words, NoMemory>
     requires { IsLayout layout.now }
     ensures { IfOk result (IsEmptyHeap layout.now) }
 {
-    let mut words = Vec::from_elem(alloc, 1u64, layout.total() as usize)?;
-    words[0] = 0;
-    words[1] = 32771;
-    words[2] = 32;
-    for at in 19..32usize {
-        words[at] = 0;
-    }
+    let words = empty_words(alloc, layout)?;
     Words::new(alloc, words.as_slice())
 }
 

@@ -1,8 +1,9 @@
 //! A promotion at a stop, as the run does it: what the words stand for is told by a law, and not by a walk.
-ghost use Rattle.std.specs.Prelude.{◌≡◌, ◌≤◌, [], ◌∷◌, IfOk};
+ghost use Rattle.std.specs.Prelude.{◌≡◌, ◌≤◌, [], ◌∷◌, IfOk, IsTrue, length};
 ghost use Rattle.nmgc_object.specs.Places.{IsLayout};
 ghost use Rattle.nmgc_mutator.specs.declared.mutator.Mutator.{Mutator as MutatorSeen};
 ghost use Rattle.nmgc_alloc.specs.Segments.{all_free};
+ghost use Rattle.nmgc_heap.specs.Places.{HasZeros};
 ghost use Rattle.nmgc_heap.specs.Samples.{small_layout};
 ghost use Rattle.nmgc_blocks.specs.Samples.{HoldsYoung};
 ghost use Rattle.nmgc_minor.specs.Promotion.{IsFor};
@@ -20,8 +21,23 @@ use std::alloc::Global;
 use std::process::Abort;
 use std::test::Fail;
 
+// Whether the words that belong to nobody are 0.
+fn are_zeros(words: &[u64]) -> bool
+    requires { 32 ≤ length words.now }
+    ensures { IsTrue result → HasZeros words.now }
+{
+    if words[0] != 0 {
+        return false;
+    }
+    for at in 19..32usize {
+        if words[at] != 0 {
+            return false;
+        }
+    }
+    true
+}
+
 // Looks whether the words are those of the heap whose round made one object.
-#[tactic(auto, using(crate::proofs::Zeros::zeros_of))]
 fn check_young(rt: &impl Abort, words: &[u64])
     ensures { HoldsYoung words.now }
 {
@@ -31,10 +47,7 @@ fn check_young(rt: &impl Abort, words: &[u64])
     for i in 0..16usize {
         assert!(rt; words[3 + i] == 1);
     }
-    assert!(rt; words[0] == 0);
-    for at in 19..32usize {
-        assert!(rt; words[at] == 0);
-    }
+    assert!(rt; are_zeros(words));
     assert!(rt; words[2080] == 2105);
     assert!(rt; words[2081] == 0);
     assert!(rt; words[2082] == 13);

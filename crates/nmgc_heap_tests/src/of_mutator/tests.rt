@@ -10,6 +10,7 @@ ghost use Rattle.nmgc_round.specs.Seating.{alone};
 ghost use Rattle.nmgc_mutator.specs.Ready.{IsNew};
 ghost use Rattle.nmgc_mutator.specs.Slice.{HasRoom};
 
+use crate::of_round::empty_heap;
 use nmgc_graph::{Command, List, MAKERS, Name, NoMemory, Operand, Place, Reply, Value};
 use nmgc_mutator::{Mutator, Slice, SliceEnd};
 use nmgc_object::Layout;
@@ -47,23 +48,6 @@ fn small(nursery: u32) -> Layout
         nursery,
         mutators: 1,
     }
-}
-
-// The heap of which nothing was made. The header word of an array with 16 fields is 3 + 2048 * 16, the name
-// word of g is 32, and nil is 1.
-#[tactic(auto, using(crate::proofs::Zeros::zeros_of))]
-fn empty_heap(alloc: Global, layout: &Layout) -> Result<Words, NoMemory>
-    requires { IsLayout layout.now }
-    ensures { IfOk result (IsEmptyHeap layout.now) }
-{
-    let mut words = Vec::from_elem(alloc, 1u64, layout.total() as usize)?;
-    words[0] = 0;
-    words[1] = 32771;
-    words[2] = 32;
-    for at in 19..32usize {
-        words[at] = 0;
-    }
-    Words::new(alloc, words.as_slice())
 }
 
 // Whether the command's numbers are within their limits, and it makes at most 16 words.
