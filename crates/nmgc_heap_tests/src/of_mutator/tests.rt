@@ -1,6 +1,6 @@
 //! Programs on the heap of which nothing was made: of one mutator by the tables of what each command does, and
 //! of two in threads of their own.
-ghost use Rattle.std.specs.Prelude.{ℕ, List, ◌≡◌, ◌<◌, ◌≤◌, [], All, IfOk, IsTrue, length, min, slice_index_or, vec_capacity};
+ghost use Rattle.std.specs.Prelude.{ℕ, List, ◌≡◌, ◌<◌, ◌≤◌, [], All, IsTrue, length, min, slice_index_or, vec_capacity};
 ghost use Rattle.nmgc_graph.specs.Command.{Fits, HasNumbers, words_made};
 ghost use Rattle.nmgc_object.specs.Places.{IsLayout};
 ghost use Rattle.nmgc_round.specs.Empty.{IsEmptyHeap, first_opening};
