@@ -1,6 +1,6 @@
 -- A product in place of a division by the words of a block.
-use Rattle.std.proofs.Common.{ℕ, zero, suc, ◌≡◌, ◌↔◌, ◌+◌, ◌-◌, ◌*◌, ◌/◌, ◌%◌, ◌<◌, ◌≤◌, ◌∙◌, refl, ap, sym, arith, Bool, true, ◌&&◌, leb, ltb, get_or, mul-le-mul_right, div-add-mod'}
-use Rattle.std.proofs.lemmas.Bool.{agree_below_at, and_parts, leb-true, ltb-true}
+use Rattle.std.proofs.Common.{ℕ, ◌≡◌, ◌↔◌, inl, inr, ◌+◌, ◌-◌, ◌*◌, ◌/◌, ◌%◌, ◌<◌, ◌≤◌, ◌∙◌, refl, ap, sym, arith, Bool, true, ◌&&◌, leb, ltb, get_or, mul-le-mul_right, div-add-mod'}
+use Rattle.std.proofs.lemmas.Bool.{agree_below_at, and_parts, cases_lt, leb-true, ltb-true}
 use Rattle.std.proofs.Math.Nat.{mul-mod_left}
 use Rattle.std.proofs.lemmas.Nat.{div-mul-add, mod-mul-add, le-div, mod_below}
 use Rattle.nmgc_object.specs.Size.{block_size}
@@ -32,8 +32,10 @@ reciprocal_of class le =
 
 -- a share that is less than the factor is none
 none_left : (m r : ℕ) → m * r < r → m ≡ 0
-none_left zero r h = refl
-none_left (suc m) r h = absurd (let out : suc m * r ≡ m * r + r = grind arith in omega (arith, h, out))
+none_left m r h = elim (cases_lt 0 m) [
+  | inl some ↦ absurd (let more : 1 * r ≤ m * r = mul-le-mul_right r (omega (arith, some)) in omega (arith, h, more))
+  | inr none ↦ omega (arith, none)
+]
 
 -- a product above the lowest digits is the quotient, and these are below the factor where nothing is left
 quotient : (n d r : ℕ) → 0 < d → n < 4096 → IsReciprocal d r → (n * r / 65536 ≡ n / d) × ((n * r % 65536 < r) ↔ (n % d ≡ 0))

@@ -13,8 +13,8 @@ returns-then-is_free-clause-none c = λ other block begins.
     let here = subst (λ (n : ℕ). IsBlockAt s n block place) same begins in
     here.used (c.is_free.ensures.0 c.if-is_free.true)
 
-pub block_at-block-requires : goal.block_at-block-requires
-block_at-block-requires c =
+pub block_at-requires : goal.block_at-requires
+block_at-requires c =
     inside_segment _ _ _ _ _ c.self.view_is c.self.invariant.0 c.requires.exists c.requires.within c.index.ensures
 
 pub returns-in_err-block-clause-none : goal.returns-in_err-block-clause-none
@@ -29,4 +29,4 @@ returns-in_err-block-clause-none c = rw c.from_residual.ensures (λ other block 
 pub returns-clause-some : goal.returns-clause-some
 returns-clause-some c =
     begins_there _ _ c.args.number c.in_ok-block.block c.args.offset _ c.self.view_is c.requires.exists c.index.ensures
-    (λ free. let yes = c.is_free.ensures.1 free in cc) c.in_ok-block.ensures.some
+    (λ free. let yes = c.is_free.ensures.1 free in let other = c.if-is_free.false in cc) c.in_ok-block.ensures.some

@@ -1,9 +1,13 @@
-use Rattle.std.proofs.Common.{ℕ, ◌≡◌, ◌*◌, ◌∙◌, ap, arith}
+use Rattle.std.proofs.Common.{ℕ, ◌≡◌, ◌*◌, ◌∙◌, ap, arith, sym}
 use Rattle.nmgc_object.specs.Size.{block_size}
 use Rattle.nmgc_object.specs.laws.Classes.{least_block}
 use Rattle.nmgc_segment.specs.Segment.{Segment, block_count}
 use Rattle.nmgc_segment.proofs.Reciprocals.{one_block}
 use Rattle.nmgc_segment.proofs.segment.Segment.block_at.Goals as goal
+
+pub returns-in_err-block-clause-none : goal.returns-in_err-block-clause-none
+returns-in_err-block-clause-none c = rw c.from_residual.ensures (λ k within is.
+    c.in_err-block.ensures.none k (is ∙ ap (λ (s : Segment). k * block_size s.class) (sym c.self.view_is)))
 
 pub returns-then-block-self-clause-some : goal.returns-then-block-self-clause-some
 returns-then-block-self-clause-some c =
