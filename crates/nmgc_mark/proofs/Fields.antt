@@ -20,7 +20,7 @@ use Rattle.nmgc_run.specs.Seen.{MarkerSeen}
 use Rattle.nmgc_run.specs.Marker.{HasRoomToMark}
 use Rattle.nmgc_mark.specs.Marker.{HasScanned, HasMarked, turned}
 use Rattle.nmgc_mark.specs.Tie.{IsTied}
-use Rattle.nmgc_mark.specs.Work.{IsScanning, IsCollector, IsLaterSeat, IsAtField, entry_now, marks_seen, rest_of, fields_scanned, has_results, is_result}
+use Rattle.nmgc_mark.specs.Work.{IsScanning, IsCollector, IsLaterSeat, IsAtField, HasWorked, entry_now, marks_seen, rest_of, fields_scanned, has_results, is_result}
 use Rattle.nmgc_mark.proofs.Scanning.{IsNode, IsTaken, goes_on, ends, not_last, header_more, field_last, result_last, fields_are}
 
 pub few : (k : Kind) (n : ℕ) → fields_scanned k n ≤ n
@@ -197,6 +197,16 @@ later_seat a b c x y = record {
 pub still_collector : (round : Round) (old new : RoundSeat) (w : ℕ) → IsCollector round old → Knows round old new (scanned_by (seen old) w) →
     IsCollector round new
 still_collector round old new w h k = (k.0, ap (λ (v : Seen). v.collects) k.2 ∙ h.1)
+
+-- a seat that looked at a word, and knows what it knew
+pub still_worked : (round : Round) (from old new : RoundSeat) (s t : Segments) (m n : MarkerSeen) (count : ℕ) → HasWorked round from old s t m n count →
+    Knows round old new (seen old) → HasWorked round from new s t m n count
+still_worked round from old new s t m n count w k = record {
+  collector = (k.0, ap (λ (v : Seen). v.collects) k.2 ∙ w.collector.1);
+  later = record { id = k.1 ∙ w.later.id; scans = w.later.scans; knows = k.2 ∙ w.later.knows };
+  marked = w.marked;
+  tied = subst (λ (v : Seen). IsTied v.opening (marks_seen v) t n) (sym k.2) w.tied;
+}
 
 -- the view of a round has as many words as the round
 pub words_in : (round : Round) (seat : RoundSeat) → IsAt round seat → word_total (seen seat).opening.layout ≡ word_count round

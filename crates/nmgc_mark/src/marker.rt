@@ -14,6 +14,7 @@ ghost use Rattle.nmgc_object.specs.Places.{IsLayout};
 ghost use Rattle.nmgc_core.specs.State.{opening};
 ghost use Rattle.nmgc_round.specs.View.{Opening};
 ghost use Rattle.nmgc_round.specs.Marking.{Marks, marks_of, with_name, name_meant};
+ghost use Rattle.nmgc_round.specs.Seat.{IsAt, Knows, seen};
 ghost use Rattle.nmgc_run.specs.Marker.{HasRoomToMark};
 ghost use Rattle.nmgc_mark.specs.Beginning.{IsBeginning, slots_of, queue_words, most_blocks};
 ghost use Rattle.nmgc_mark.specs.Marker.{MarksAt, HasMarked, places, blank};
@@ -23,7 +24,7 @@ use nmgc_alloc::Segments;
 use nmgc_graph::{NoMemory, Room, SHARED_SLOTS};
 use nmgc_heap::{HeapWords, MutatorRoots};
 use nmgc_object::{Address, HEADER_WORDS, Layout, MIN_BLOCK_WORDS, SHARED_PLACE};
-use nmgc_round::Round;
+use nmgc_round::{CollectorSeat, Round};
 use std::alloc::Global;
 use std::marker::Model;
 
@@ -235,8 +236,11 @@ impl Marker {
     }
 
     // Looks at the headers of the objects that are scanned next, so many at a time: as one object is scanned after the
-    // other, each header is far away, and here all of them are waited for at once. Nothing is told, and nothing changes.
-    pub(crate) fn look_ahead(&self, round: &Round, scanned: u32) {
+    // other, each header is far away, and here all of them are waited for at once. The seat knows what it knew.
+    pub(crate) fn look_ahead(&self, round: &Round, seat: &mut CollectorSeat, scanned: u32)
+        requires { IsAt round.now seat.old }
+        ensures { Knows round.now seat.old seat.new (seen seat.old) }
+    {
         if scanned % AHEAD != 0 {
             return;
         }
@@ -244,7 +248,7 @@ impl Marker {
         let first = self.first as usize;
         let end = found.len().min(first + AHEAD as usize);
         for index in first..end {
-            round.look_ahead(found[index]);
+            round.look_ahead(seat, found[index]);
         }
     }
 

@@ -130,7 +130,7 @@ impl Marker {
     /// by the scan load. Before each the gate is passed and counted, as the clause `turns` tells, and each mutator's
     /// ring is polled once. The inbox has a receiver for each mutator of the layout.
     ///
-    /// The headers of several objects are looked at before these are scanned, which tells nothing and changes nothing.
+    /// The headers of several objects are looked at before these are scanned, from which the seat learns nothing.
     ///
     /// Marks and queue are the machine's before and after, as the collector's view tells them. Each object is
     /// scanned once in a cycle: what was marked and doesn't wait was scanned. `empty` is false exactly where
@@ -157,7 +157,7 @@ impl Marker {
     {
         let mutators = segments.layout().mutators;
         for scanned in 0..quota {
-            self.look_ahead(round, scanned);
+            self.look_ahead(round, seat, scanned);
             match self.take_first() {
                 None => {
                     return Work {

@@ -141,6 +141,10 @@ module _ (slots id : ℕ) (me : Me (Unit {0}) Seen) (bare : me.1 ≡ []) where
       Holding (set s.words i (slice_index s.words i)) (set s.views id me.0)
   unchanged s i h here = subst (λ (y : List ℕ × List Seen). Holding y.0 y.1) (λ j. (sym (set_again s.words i) j, sym (same_view s.views here) j)) h
 
+  -- a load that is forgotten
+  pub look_allows : (i : ℕ) → Steps i (λ n. n) (λ n w. w ≡ me.0)
+  look_allows i s h len here small = (me.0, keeps, tt, unchanged s i h here, (refl, bare))
+
   module _ (ws : List ℕ) (is : me.0 ≡ exclusive ws) where
     stop : (s : State (Unit {0}) Seen) → holding s → get_elem? s.views id ≡ some me.0 → (ws ≡ s.words) ×
         ((j : ℕ) (u : Seen) → j ≢ id → get_elem? s.views j ≡ some u → IsIdle u)

@@ -118,6 +118,13 @@ impl<A: Located, C: Asked> Play<(), View> for Takes<A, C> {
     ghost then = { λ s m n w. ((w.0 ≡ taken m.0 A.at A.offset C.command n) × TellsField m.0.opening A.offset n × Mutates TellsQueue m.0) × (w.1 ≡ []) };
 }
 
+/// A word is loaded and forgotten.
+pub struct Looks;
+
+impl Play<(), View> for Looks {
+    ghost then = { λ s m n w. (w.0 ≡ m.0) × (w.1 ≡ []) };
+}
+
 /// The collector scans a word.
 pub struct Scans;
 

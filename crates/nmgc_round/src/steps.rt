@@ -23,7 +23,8 @@ ghost use Rattle.nmgc_round.specs.Told.{CanFix, CanTake, taken, Tells, TellsFiel
 ghost use Rattle.nmgc_round.specs.Seat.{IsAt, Knows, seen, word_count};
 
 use crate::plays::{
-    Asked, Births, Fixes, Hoped, Loads, Located, Meets, MeetsHeader, Scans, Stores, Swaps, Takes,
+    Asked, Births, Fixes, Hoped, Loads, Located, Looks, Meets, MeetsHeader, Scans, Stores, Swaps,
+    Takes,
 };
 use crate::table::{CollectorSeat, MutatorSeat, Round};
 use nmgc_graph::Command;
@@ -97,13 +98,17 @@ impl Round {
         }
     }
 
-    /// Loads the word at a place, if the round has one there, and forgets it. No seat is needed, nothing is told, and
-    /// nothing changes: whoever reads a word of that object soon finds it nearer. Takes no memory.
-    pub fn look_ahead(&self, at: Address) {
+    /// Loads the word at a place, if the round has one there, and forgets it: the seat knows what it knew. Whoever reads
+    /// a word near it soon waits less for memory.
+    pub fn look_ahead(&self, seat: &mut CollectorSeat, at: Address)
+        requires { IsAt self.now seat.old }
+        ensures { Knows self.now seat.old seat.new (seen seat.old) }
+    {
         let place = at.0 as usize;
-        if place < self.table.word_count() {
-            self.table.shared.peek(place);
+        if place >= self.table.word_count() {
+            return;
         }
+        self.table.shared.load::<Looks>(seat, place);
     }
 
     /// Loads the word that the core machine's next scan reads: the first queue entry is the object at this

@@ -1,9 +1,10 @@
-use Rattle.std.proofs.Common.{◌∙◌, ◌∷◌, ap, refl, sym}
+use Rattle.std.proofs.Common.{◌∙◌, ◌∷◌, ap, refl, subst, sym}
 use Rattle.nmgc_round.specs.Gate.{next_turn}
 use Rattle.nmgc_round.specs.Seat.{seen}
 use Rattle.nmgc_run.specs.Seen.{MarkerSeen}
+use Rattle.nmgc_mark.specs.Work.{HasWorked}
 use Rattle.nmgc_mark.proofs.Scanning.{begins}
-use Rattle.nmgc_mark.proofs.Fields.{marked_none, object_marked, room_taken, passed_taken, passed_more, same_seat, later_seat}
+use Rattle.nmgc_mark.proofs.Fields.{marked_none, object_marked, room_taken, passed_taken, passed_more, same_seat, later_seat, still_worked}
 use Rattle.nmgc_updrem.specs.laws.Polls.{polled_all_none, polled_all_then}
 use Rattle.nmgc_mark.proofs.marker.Marker.work.Goals as goal
 
@@ -19,6 +20,22 @@ loop-scanned-init g c = record {
   polled = polled_all_none c.args.inbox.now;
 }
 
+pub look_ahead-requires : goal.look_ahead-requires
+look_ahead-requires g c = c.loop-scanned.invariant.worked.collector.0
+
+pub returns-in-None-clause-worked : goal.returns-in-None-clause-worked
+returns-in-None-clause-worked g c =
+    subst (λ (m : MarkerSeen).
+    HasWorked c.args.round.now c.args.seat.now c.look_ahead.new.seat c.args.segments.now c.loop-scanned.segments c.args.self.now m
+    c.loop-scanned.scanned) (sym c.in-None.ensures.none.1)
+    (still_worked c.args.round.now c.args.seat.now c.loop-scanned.seat c.look_ahead.new.seat c.args.segments.now c.loop-scanned.segments
+    c.args.self.now c.loop-scanned.self c.loop-scanned.scanned c.loop-scanned.invariant.worked c.look_ahead.ensures)
+
+pub scan-requires-clause-collector : goal.scan-requires-clause-collector
+scan-requires-clause-collector g c =
+    (still_worked c.args.round.now c.args.seat.now c.loop-scanned.seat c.look_ahead.new.seat c.args.segments.now c.loop-scanned.segments
+    c.args.self.now c.loop-scanned.self c.loop-scanned.scanned c.loop-scanned.invariant.worked c.look_ahead.ensures).collector
+
 pub scan-requires-clause-room : goal.scan-requires-clause-room
 scan-requires-clause-room g c =
     room_taken c.loop-scanned.segments c.loop-scanned.self c.pass.new.self c.loop-scanned.invariant.worked.marked.room
@@ -28,20 +45,22 @@ pub scan-requires-clause-scanning : goal.scan-requires-clause-scanning
 scan-requires-clause-scanning g c =
     let s = c.in-Some.ensures.some in
     let first = s.0 ∙ ap (λ (m : MarkerSeen). c.in-Some.at.0 ∷ m.queue) (sym c.pass.ensures) in
-    begins (seen c.loop-scanned.seat) c.loop-scanned.segments c.loop-scanned.self c.pass.new.self c.in-Some.at.0
-    c.loop-scanned.invariant.worked.tied first (passed_taken c.loop-scanned.self c.take_first.new.self c.pass.new.self
-    (next_turn c.take_first.new.self.turns) s.1 c.pass.ensures)
+    let inv = still_worked c.args.round.now c.args.seat.now c.loop-scanned.seat c.look_ahead.new.seat c.args.segments.now
+    c.loop-scanned.segments c.args.self.now c.loop-scanned.self c.loop-scanned.scanned c.loop-scanned.invariant.worked c.look_ahead.ensures in
+    begins (seen c.look_ahead.new.seat) c.loop-scanned.segments c.loop-scanned.self c.pass.new.self c.in-Some.at.0 inv.tied first
+    (passed_taken c.loop-scanned.self c.take_first.new.self c.pass.new.self (next_turn c.take_first.new.self.turns) s.1 c.pass.ensures)
 
 pub loop-scanned-preserved : goal.loop-scanned-preserved
 loop-scanned-preserved g c =
     let s = c.in-Some.ensures.some in
     let first = s.0 ∙ ap (λ (m : MarkerSeen). c.in-Some.at.0 ∷ m.queue) (sym c.pass.ensures) in
-    let inv = c.loop-scanned.invariant.worked in
+    let inv = still_worked c.args.round.now c.args.seat.now c.loop-scanned.seat c.look_ahead.new.seat c.args.segments.now
+    c.loop-scanned.segments c.args.self.now c.loop-scanned.self c.loop-scanned.scanned c.loop-scanned.invariant.worked c.look_ahead.ensures in
     let done = c.scan.ensures.worked in
     record {
       worked = record {
         collector = done.collector;
-        later = later_seat c.args.seat.now c.loop-scanned.seat c.scan.new.seat inv.later done.later;
+        later = later_seat c.args.seat.now c.look_ahead.new.seat c.scan.new.seat inv.later done.later;
         marked = object_marked c.args.segments.now c.loop-scanned.segments c.scan.new.segments c.args.self.now c.loop-scanned.self c.pass.new.self
             c.scan.new.self c.in-Some.at.0 c.loop-scanned.scanned inv.marked first
             (passed_taken c.loop-scanned.self c.take_first.new.self c.pass.new.self (next_turn c.take_first.new.self.turns) s.1 c.pass.ensures) done.marked;
