@@ -40,6 +40,36 @@ fn counts(rt: &impl Abort, segments: &Segments, free: u32, filled: u32, sweep: u
     assert!(rt; segments.fresh() == fresh);
 }
 
+// Where blocks begin, and where none does: before the segments, within a block, in the four words that twelve blocks of
+// five words leave over, in a free segment, and behind the last one.
+fn blocks_begin(rt: &impl Abort, segments: &Segments) {
+    for (at, block) in [
+        (0, None),
+        (1, None),
+        (31, None),
+        (32, Some((0, 0))),
+        (33, None),
+        (38, None),
+        (92, Some((0, 15))),
+        (95, None),
+        (96, Some((1, 0))),
+        (160, Some((2, 0))),
+        (164, None),
+        (165, Some((2, 1))),
+        (215, Some((2, 11))),
+        (219, None),
+        (220, None),
+        (223, None),
+        (224, Some((3, 0))),
+        (288, None),
+        (2079, None),
+        (2080, None),
+        (4_294_967_295, None),
+    ] {
+        assert!(rt; segments.block_at(Address(at)) == block, "at {at}");
+    }
+}
+
 #[test]
 fn a_cycle(rt: HostRuntime) -> Result<(), Fail> {
     let layout = Layout {
@@ -66,11 +96,7 @@ fn a_cycle(rt: HostRuntime) -> Result<(), Fail> {
     for (at, marked) in [(36, true), (36, false), (96, true), (224, false)] {
         mark(&rt, &mut segments, at, 1, marked);
     }
-    assert!(rt; segments.block_at(Address(38)).is_none());
-    assert!(rt; segments.block_at(Address(288)).is_none());
-    // Twelve blocks of five words leave four words of their segment over.
-    assert!(rt; segments.block_at(Address(215)) == Some((2, 11)));
-    assert!(rt; segments.block_at(Address(220)).is_none());
+    blocks_begin(&rt, &segments);
     segments.carry(1);
     assert!(rt; segments.sweep_next(1) == Some(0));
     assert!(rt; segments.sweep_next(1) == None);
