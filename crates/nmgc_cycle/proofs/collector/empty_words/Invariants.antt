@@ -4,7 +4,6 @@ use Rattle.nmgc_object.specs.declared.size.TheConstants.{HEADER_WORDS}
 use Rattle.nmgc_object.specs.Words.{header_word, name_word}
 use Rattle.nmgc_limits.specs.declared.mutators.TheConstants.{SHARED_SLOTS}
 use Rattle.nmgc_graph.specs.Step.{shared_name}
-use Rattle.nmgc_heap.specs.Places.{HasZeros}
 use Rattle.nmgc_heap.specs.Shape.{header_of}
 use Rattle.nmgc_object.specs.declared.words.TheConstants.{NIL_WORD}
 use Rattle.nmgc_round.specs.Empty.{empty_array}
@@ -18,5 +17,4 @@ invariant-loop-slot l = record {
   name : slice_index l.words.items (SHARED_PLACE + 1) ≡ name_word shared_name;
   slots : (i : ℕ) → i < l.slot → slice_index l.words.items (SHARED_PLACE + HEADER_WORDS + i) ≡ NIL_WORD;
   zeros : (at : ℕ) → (at < SHARED_PLACE) ⊎ (SHARED_PLACE + HEADER_WORDS + SHARED_SLOTS ≤ at) → slice_index l.words.items at ≡ 0;
-  between : HasZeros l.words.items;
 }
