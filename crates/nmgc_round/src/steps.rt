@@ -7,8 +7,8 @@
 //!
 //! Each step that names an object has the condition that the seat holds it: it is g, or a register has the
 //! word of its place; a load of a header or a name also takes what the mutator's own finaliser queue refers to.
-//! A look ahead has none, since its seat learns nothing from it. What a reply rests on beside the word that is read is a header, which never changes: the
-//! seat has loaded it before, and its view names it.
+//! A look ahead has none, since its seat learns nothing from it. What a reply rests on beside the word that is
+//! read is a header, which never changes: the seat has loaded it before, and its view names it.
 //!
 //! A swap is the deletion barrier. While marking, the word that it takes out is owed from that very step on,
 //! so there is no moment at which an object of the snapshot is in no field and not yet owed.
