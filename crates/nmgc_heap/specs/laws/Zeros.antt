@@ -1,5 +1,5 @@
 -- Words that begin as those of a heap with g: word 0, g, and zeros up to the first segment.
-use Rattle.std.proofs.Common.{ℕ, zero, suc, ◌≡◌, ◌+◌, ◌-◌, ◌<◌, ◌≤◌, ◌∙◌, List, ◌∷◌, ◌++◌, length, replicate, slice_index, inl, inr, refl, ap, arith}
+use Rattle.std.proofs.Common.{ℕ, zero, suc, ◌≡◌, ◌+◌, ◌-◌, ◌<◌, ◌∙◌, List, ◌∷◌, ◌++◌, length, replicate, slice_index, inl, inr, refl, ap, arith}
 use Rattle.std.proofs.lemmas.List.{get_or_append_left, get_or-append-add, get_or-replicate}
 use Rattle.nmgc_limits.specs.declared.mutators.TheConstants.{SHARED_SLOTS}
 use Rattle.nmgc_heap.specs.Places.{HasZeros}
@@ -22,9 +22,3 @@ zeros_first header name slots rest long (suc (suc (suc i))) (inr last) =
     ∙ get_or-append-add slots (replicate 13 0 ++ rest) (i - 16) 0
     ∙ get_or_append_left (replicate 13 0) rest 0 (i - 16) within
     ∙ get_or-replicate 13 (i - 16) 0 0 within
-
--- so it is where word 0 is 0, and each between g and the first segment
-pub zeros_of : (words : List ℕ) → slice_index words 0 ≡ 0 → ((i : ℕ) → 19 ≤ i → i < 32 → slice_index words i ≡ 0) → HasZeros words
-zeros_of words first between zero nobody = first
-zeros_of words first between (suc i) (inl low) = absurd (omega (arith, low))
-zeros_of words first between (suc i) (inr high) = between (suc i) high.0 high.1
