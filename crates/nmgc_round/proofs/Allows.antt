@@ -2,14 +2,17 @@
 use Rattle.std.proofs.Common.{◌≡◌, ℕ, zero, suc, ◌+◌, inr, Bool, true, false, eqb, List, [], ◌∷◌, set, refl, sym, ap, subst}
 use Rattle.std.proofs.lemmas.Bool.{eqb-true}
 use Rattle.std.specs.Prelude.{slice_index}
+use mathlib.Core.Option.{some}
+use lib.ListN.{get_elem?}
 use Rattle.atomic_table.specs.Table.{State, Me, Allows, keeps}
 use Rattle.nmgc_graph.specs.declared.command.Command.{Command}
 use Rattle.nmgc_object.specs.declared.size.TheConstants.{HEADER_WORDS}
-use Rattle.nmgc_round.specs.View.{word, Opening, Seen, loaded, answered, swapped, met, met_at_birth, stored, gave_birth}
+use Rattle.nmgc_round.specs.View.{word, Opening, Part, Seen, loaded, answered, swapped, met, met_at_birth, stored, gave_birth}
 use Rattle.nmgc_core.specs.declared.event.Entry.{Entry}
 use Rattle.nmgc_round.specs.Marking.{marks_after}
 use Rattle.nmgc_round.specs.Rule.{Keeps}
-use Rattle.nmgc_round.specs.Ready.{CanScan, scanned_by, first_of, Mutates, CanLoad, CanSwap, CanStore, CanBear}
+use Rattle.nmgc_round.specs.Added.{Stays, AddsCommand, AddsIfMet}
+use Rattle.nmgc_round.specs.Ready.{IsMutator, CanScan, scanned_by, first_of, Mutates, CanLoad, CanSwap, CanStore, CanBear}
 use Rattle.nmgc_round.specs.Told.{CanFix, CanTake, taken, Tells, TellsField, TellsQueue, TellsEntry, TellsScan, IsSafe}
 use Rattle.nmgc_round.proofs.Fixes.{fix_keeps, fix_room, take_keeps, take_safe, queue_safe, load_safe, swap_safe}
 use Rattle.nmgc_round.proofs.Scans.{scan_keeps, scan_tells}
@@ -20,6 +23,40 @@ pub set_again : (ws : List ℕ) (i : ℕ) → set ws i (slice_index ws i) ≡ ws
 set_again [] i = refl
 set_again (w ∷ ws) zero = refl
 set_again (w ∷ ws) (suc i) = ap (λ (xs : List ℕ). w ∷ xs) (set_again ws i)
+
+-- a word that is stored again changes nothing
+pub stored_again : (ws : List ℕ) (i w : ℕ) → eqb (slice_index ws i) w ≡ true → set ws i w ≡ ws
+stored_again ws i w e = subst (λ (n : ℕ). set ws i n ≡ ws) (eqb-true (slice_index ws i) w e) (set_again ws i)
+
+-- a look where no object is yet is the store of the word that stands there, or nothing
+pub look_keeps : (o : Opening) (words : List ℕ) (views : List Seen) (h : Keeps o words views) (id : ℕ) (v : Seen) → get_elem? views id ≡ some v →
+    (p : Part) → IsMutator v p → (at w : ℕ) → CanStore o p at →
+    Stays o words views h words (set views id (met v at w (eqb (slice_index words at) w)))
+look_keeps o words views h id v here p is at w can = by_hit (eqb (slice_index words at) w) refl
+  where
+    by_hit : (hit : Bool) → eqb (slice_index words at) w ≡ hit → Stays o words views h words (set views id (met v at w hit))
+    by_hit true e = subst (λ (ws : List ℕ).
+        Stays o words views h ws (set views id (stored v at w))) (stored_again words at w e) (store_keeps o words views h id v here p is at w can)
+    by_hit false e = same_law o words views h id v here v (h.agrees id v here)
+
+-- a look at the header where an object is to begin is the birth, or nothing
+pub look_bears : (o : Opening) (words : List ℕ) (views : List Seen) (h : Keeps o words views) (id : ℕ) (v : Seen) → get_elem? views id ≡ some v →
+    (p : Part) → IsMutator v p → (at header : ℕ) (c : Command) → CanBear o p at header c →
+    AddsIfMet o words views h p.number c (eqb (slice_index words at) header) words (set views id (met_at_birth v at header c (eqb (slice_index words at) header)))
+look_bears o words views h id v here p is at header c can = by_hit (eqb (slice_index words at) header) refl
+  where
+    by_hit : (hit : Bool) → eqb (slice_index words at) header ≡ hit →
+        AddsIfMet o words views h p.number c hit words (set views id (met_at_birth v at header c hit))
+    by_hit true e = subst (λ (ws : List ℕ).
+        AddsCommand o words views h p.number c ws (set views id (gave_birth v at header c))) (stored_again words at header e)
+        (birth_keeps o words views h id v here p is at header c can)
+    by_hit false e = same_law o words views h id v here v (h.agrees id v here)
+
+-- so the rule holds again after it
+pub look_holds : (o : Opening) (words : List ℕ) (views : List Seen) (k : Keeps o words views) (m : ℕ) (c : Command) (hit : Bool) (others : List Seen) →
+    AddsIfMet o words views k m c hit words others → Keeps o words others
+look_holds o words views k m c true others adds = adds.1.0
+look_holds o words views k m c false others stays = stays.0
 
 module _ (o : Opening) where
   abbrev holds : State (Unit {0}) Seen → Type 0
@@ -92,35 +129,26 @@ module _ (o : Opening) where
         )
 
     pub meet_allows : (i wanted : ℕ) → Mutates (λ o p. CanStore o p i) me.0 → Steps i (λ n. n) (λ n w. w ≡ met me.0 i wanted (eqb n wanted))
-    meet_allows i wanted can s h len here small = (met me.0 i wanted (eqb n wanted), keeps, tt, kept (eqb n wanted) refl, (refl, bare))
-      where
-        n : ℕ
-        n = slice_index s.words i
-
-        is : me.0.opening ≡ o
-        is = (h.agrees id me.0 here).opening (acts me.0 can.0 can.1)
-
-        kept : (hit : Bool) → eqb n wanted ≡ hit → Keeps o (set s.words i n) (set s.views id (met me.0 i wanted hit))
-        kept true e = subst (λ (w : ℕ).
-            Keeps o (set s.words i w) (set s.views id (stored me.0 i wanted))) (sym (eqb-true n wanted e))
-            (store_keeps o s.words s.views h id me.0 here can.0 can.1 i wanted (subst (λ (y : Opening). CanStore y can.0 i) is can.2)).0
-        kept false e = unchanged s.words (set s.views id me.0) i (same_law o s.words s.views h id me.0 here me.0 (h.agrees id me.0 here)).0
+    meet_allows i wanted can s h len here small =
+        let w : Seen = met me.0 i wanted (eqb (slice_index s.words i) wanted) in
+        let is = (h.agrees id me.0 here).opening (acts me.0 can.0 can.1) in
+        let can' = subst (λ (y : Opening). CanStore y can.0 i) is can.2 in
+        (w, keeps, tt, unchanged s.words (set s.views id w) i (look_keeps o s.words s.views h id me.0 here can.0 can.1 i wanted can').0, (refl, bare))
 
     pub meet_birth_allows : (at header : ℕ) (c : Command) → Mutates (λ o p. CanBear o p at header c) me.0 →
         Steps at (λ n. n) (λ n w. w ≡ met_at_birth me.0 at header c (eqb n header))
-    meet_birth_allows at header c can s h len here small = (met_at_birth me.0 at header c (eqb n header), keeps, tt, kept (eqb n header) refl, (refl, bare))
-      where
-        n : ℕ
-        n = slice_index s.words at
-
-        is : me.0.opening ≡ o
-        is = (h.agrees id me.0 here).opening (acts me.0 can.0 can.1)
-
-        kept : (hit : Bool) → eqb n header ≡ hit → Keeps o (set s.words at n) (set s.views id (met_at_birth me.0 at header c hit))
-        kept true e = subst (λ (w : ℕ).
-            Keeps o (set s.words at w) (set s.views id (gave_birth me.0 at header c))) (sym (eqb-true n header e))
-            (birth_keeps o s.words s.views h id me.0 here can.0 can.1 at header c (subst (λ (y : Opening). CanBear y can.0 at header c) is can.2)).1
-        kept false e = unchanged s.words (set s.views id me.0) at (same_law o s.words s.views h id me.0 here me.0 (h.agrees id me.0 here)).0
+    meet_birth_allows at header c can s h len here small =
+        let hit : Bool = eqb (slice_index s.words at) header in
+        let w : Seen = met_at_birth me.0 at header c hit in
+        let is = (h.agrees id me.0 here).opening (acts me.0 can.0 can.1) in
+        let can' = subst (λ (y : Opening). CanBear y can.0 at header c) is can.2 in
+        let k = look_bears o s.words s.views h id me.0 here can.0 can.1 at header c can' in (
+          w,
+          keeps,
+          tt,
+          unchanged s.words (set s.views id w) at (look_holds o s.words s.views h can.0.number c hit (set s.views id w) k),
+          (refl, bare),
+        )
 
     pub fix_allows : (at offset : ℕ) → Mutates (λ o p. CanFix o p at offset) me.0 →
         Steps (at + offset) (λ n. n) (λ n w. (w ≡ loaded me.0 at offset n) × Tells me.0.opening at offset n)

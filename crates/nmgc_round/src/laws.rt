@@ -19,9 +19,9 @@ ghost use Rattle.nmgc_object.specs.Places.{IsLayout};
 ghost use Rattle.nmgc_core.specs.State.{State};
 ghost use Rattle.nmgc_core.specs.Machine.{Does};
 ghost use Rattle.nmgc_round.specs.Own.{OwnSlots};
-ghost use Rattle.nmgc_round.specs.View.{hand_of, Opening, Part, Seen, word, whole, exclusive, nobody, loaded, answered, swapped, stored, gave_birth};
+ghost use Rattle.nmgc_round.specs.View.{hand_of, Opening, Part, Seen, word, whole, exclusive, nobody, loaded, answered, swapped, met, met_at_birth, stored, gave_birth};
 ghost use Rattle.nmgc_round.specs.Rule.{Keeps, Stopped};
-ghost use Rattle.nmgc_round.specs.Added.{Stays, AddsCommand, AddsScan};
+ghost use Rattle.nmgc_round.specs.Added.{Stays, AddsCommand, AddsIfMet, AddsScan};
 ghost use Rattle.nmgc_round.specs.Seating.{CanSplit, keeps_rest, gives_first, mutates, collecting, together};
 ghost use Rattle.nmgc_round.specs.Ready.{IsMutator, CanLoad, CanSwap, CanStore, CanBear, CanScan, scanned_by};
 ghost use Rattle.nmgc_round.specs.Compare.{CanExchange, exchanged, words_exchanged};
@@ -140,11 +140,29 @@ pub fn unborn_store()
         get_elem? views id ≡ some v → IsMutator v p → CanStore o p at → Stays o words views k (set words at w) (set views id (stored v at w)) }
 {}
 
+/// A look where no object is yet: no word changes, and no event is added. Where the word that was to be stored stands
+/// there, the view is the one after that store, and else it is as before.
+pub fn unborn_look()
+    ensures { (o : Opening) (words : List ℕ) (views : List Seen) (id : ℕ) (v : Seen) (p : Part) (at w : ℕ) (k : Keeps o words views) →
+        get_elem? views id ≡ some v → IsMutator v p → CanStore o p at →
+        Stays o words views k words (set views id (met v at w (slice_index words at == w))) }
+{}
+
 /// A birth: a header is written, and one command that makes that node is added.
 pub fn birth()
     ensures { (o : Opening) (words : List ℕ) (views : List Seen) (id : ℕ) (v : Seen) (p : Part) (at header : ℕ) (c : Command)
         (k : Keeps o words views) → get_elem? views id ≡ some v → IsMutator v p → CanBear o p at header c →
         AddsCommand o words views k p.number c (set words at header) (set views id (gave_birth v at header c)) }
+{}
+
+/// A look at the header where an object is to begin: no word changes. Where that header stands there, this is the birth: one
+/// command that makes that node is added, and the view is the one after the birth. Else no event is added, and the view
+/// is as before.
+pub fn birth_look()
+    ensures { (o : Opening) (words : List ℕ) (views : List Seen) (id : ℕ) (v : Seen) (p : Part) (at header : ℕ) (c : Command)
+        (k : Keeps o words views) → get_elem? views id ≡ some v → IsMutator v p → CanBear o p at header c →
+        let hit = slice_index words at == header in
+        AddsIfMet o words views k p.number c hit words (set views id (met_at_birth v at header c hit)) }
 {}
 
 /// The collector's load: no word changes, and one scan is added.
