@@ -5,6 +5,7 @@ use Rattle.nmgc_graph.specs.Reach.{IsInOrder}
 use Rattle.nmgc_graph.specs.World.{World, node_of}
 use Rattle.nmgc_object.specs.Words.{header_word, IsHeader}
 use Rattle.nmgc_object.specs.declared.size.TheConstants.{HEADER_WORDS}
+use Rattle.nmgc_object.specs.declared.words.TheConstants.{WEAK_FIELDS}
 use Rattle.nmgc_object.specs.declared.words.Header.{Header}
 use Rattle.nmgc_object.specs.declared.layout.Nursery.{Nursery}
 use Rattle.nmgc_alloc.specs.Segments.{Segments}
@@ -17,7 +18,7 @@ use Rattle.nmgc_beside.specs.Stays.{places_after}
 
 -- the header of a weak pointer
 abbrev pub weak_header : Header
-weak_header = record { kind = kind.Weak; tag = 0; fields = 3 }
+weak_header = record { kind = kind.Weak; tag = 0; fields = WEAK_FIELDS }
 
 -- by its words a weak pointer stands at the place that is alive
 pub record IsAliveAt (words : List ℕ) (at : ℕ) : Type 0 where

@@ -7,6 +7,9 @@ use Rattle.nmgc_graph.specs.World.{World, new_world}
 use Rattle.nmgc_limits.specs.declared.mutators.TheConstants.{REGISTERS, SHARED_MAKER, SHARED_SLOTS}
 use Rattle.nmgc_object.specs.Places.{word_total, nursery_place}
 use Rattle.nmgc_object.specs.declared.layout.Nursery.{Nursery}
+use Rattle.nmgc_object.specs.declared.layout.TheConstants.{SHARED_PLACE}
+use Rattle.nmgc_object.specs.declared.size.TheConstants.{HEADER_WORDS, NAME_OFFSET}
+use Rattle.nmgc_object.specs.declared.words.TheConstants.{NIL_WORD}
 use Rattle.nmgc_alloc.specs.Segments.{Segments, IsSegments, all_free}
 use Rattle.nmgc_heap.specs.Places.{Place, HasZeros, shared_place}
 use Rattle.nmgc_heap.specs.Samples.{small_layout, after, own}
@@ -27,9 +30,9 @@ young_stop = record { world = young_world; began = new_world 1; later = []; plac
 -- g with nil in each slot, the constructor's header, name and field, and 0 where words belong to nobody
 pub record HoldsYoung (words : List ℕ) : Type 0 where
   pub total : length words ≡ word_total small_layout
-  pub shared_header : slice_index words 1 ≡ 32771
-  pub shared_name : slice_index words 2 ≡ SHARED_MAKER
-  pub slots : (i : ℕ) → i < SHARED_SLOTS → slice_index words (3 + i) ≡ 1
+  pub shared_header : slice_index words SHARED_PLACE ≡ 32771
+  pub shared_name : slice_index words (SHARED_PLACE + NAME_OFFSET) ≡ SHARED_MAKER
+  pub slots : (i : ℕ) → i < SHARED_SLOTS → slice_index words (SHARED_PLACE + HEADER_WORDS + i) ≡ NIL_WORD
   pub header : slice_index words 2080 ≡ 2105
   pub name : slice_index words 2081 ≡ 0
   pub field : slice_index words 2082 ≡ 13

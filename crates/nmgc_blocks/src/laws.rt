@@ -9,6 +9,7 @@ ghost use Rattle.nmgc_graph.specs.World.{World, IsWorld, node_of};
 ghost use Rattle.nmgc_graph.specs.Reach.{RefersTo, strong_fields};
 ghost use Rattle.nmgc_object.specs.Places.{nursery_place, InSegment};
 ghost use Rattle.nmgc_object.specs.declared.layout.Layout.{Layout};
+ghost use Rattle.nmgc_object.specs.declared.layout.TheConstants.{FIRST_PLACE};
 ghost use Rattle.nmgc_object.specs.Size.{block_size};
 ghost use Rattle.nmgc_alloc.specs.Segments.{Segments, IsSegments, Allocates};
 ghost use Rattle.nmgc_heap.specs.Tracked.{IsTracked};
@@ -26,7 +27,7 @@ pub fn blocks_lie_apart()
     ensures inside { (s : Segments) (at size : ℕ) → IsSegments s → (o : IsOccupied s at size) → (i : ℕ) → at ≤ i → i < at + size →
         InSegment s.layout o.number i }
     ensures apart { (s : Segments) (p a q b : ℕ) → IsSegments s → IsOccupied s p a → IsOccupied s q b → (p ≡ q) ⊎ ((p + a ≤ q) ⊎ (q + b ≤ p)) }
-    ensures above { (s : Segments) (at size : ℕ) → IsSegments s → IsOccupied s at size → 32 ≤ at }
+    ensures above { (s : Segments) (at size : ℕ) → IsSegments s → IsOccupied s at size → FIRST_PLACE ≤ at }
     ensures below { (s : Segments) (at size : ℕ) → IsSegments s → IsOccupied s at size → at + size ≤ nursery_place s.layout 0 }
 {}
 

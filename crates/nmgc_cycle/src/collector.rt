@@ -43,7 +43,7 @@ use nmgc_journal::{CycleRow, End, FinalWords, MutatorEnd, Report, RoundRows, Sto
 use nmgc_minor::Promotion;
 use nmgc_mutator::Mutator;
 use nmgc_object::layout::SHARED_PLACE;
-use nmgc_object::size::HEADER_WORDS;
+use nmgc_object::size::{HEADER_WORDS, NAME_OFFSET};
 use nmgc_object::words::{NIL_WORD, encode_header, encode_name};
 use nmgc_object::{Header, Layout};
 use nmgc_round::laws::empty_heap_opens;
@@ -139,7 +139,7 @@ fn empty_words(alloc: Global, layout: Layout) -> Result<Vec<u64>, NoMemory>
         tag: 0,
         fields: u32::from(SHARED_SLOTS),
     });
-    words[place + 1] = encode_name(Name::SHARED);
+    words[place + NAME_OFFSET as usize] = encode_name(Name::SHARED);
     let first = place + HEADER_WORDS as usize;
     for slot in 0..SHARED_SLOTS as usize {
         words[first + slot] = NIL_WORD;

@@ -22,7 +22,7 @@ use nmgc_graph::{Kind, List, Name, NoMemory};
 use nmgc_heap::HeapWords;
 use nmgc_minor::Move;
 use nmgc_mutator::Mutator;
-use nmgc_object::words::encode_header;
+use nmgc_object::words::{WEAK_FIELDS, encode_header};
 use nmgc_object::{Address, HEADER_WORDS, Header};
 use nmgc_weak::{Death, OldWeak, Weaks, queue_finalisers};
 use std::alloc::Global;
@@ -36,7 +36,7 @@ fn is_alive<W: HeapWords>(words: &mut W, at: Address) -> bool
     let header = encode_header(Header {
         kind: Kind::Weak,
         tag: 0,
-        fields: 3,
+        fields: WEAK_FIELDS,
     });
     words.load(at.0 as usize) == header
         && words.load(at.0 as usize + HEADER_WORDS as usize + 1) != 0

@@ -3,6 +3,9 @@ use Rattle.std.specs.List.{flat_map}
 use Rattle.std.specs.Prelude.{ℕ, ◌≡◌, ◌≢◌, ◌+◌, ◌*◌, ◌<◌, ◌≤◌, ◌⊎◌, List, [], length, map, slice_index, Contains}
 use Rattle.nmgc_object.specs.Words.{name_word, IsName}
 use Rattle.nmgc_object.specs.Places.{nursery_place}
+use Rattle.nmgc_object.specs.declared.layout.TheConstants.{FIRST_PLACE}
+use Rattle.nmgc_object.specs.declared.size.TheConstants.{HEADER_WORDS}
+use Rattle.nmgc_object.specs.declared.words.TheConstants.{WEAK_FIELDS}
 use Rattle.nmgc_object.specs.declared.layout.Nursery.{Nursery}
 use Rattle.nmgc_object.specs.declared.words.Address.{Address}
 use Rattle.nmgc_object.specs.FinQueue.{FinQueue}
@@ -25,10 +28,10 @@ pub record CanPromote (y : Young) (s : Segments) (words : List ℕ) (nurseries :
   pub sound : IsSegments s
   pub lists : IsYoung y
   pub empty : y.found.items ≡ []
-  pub above : 32 ≤ y.base
+  pub above : FIRST_PLACE ≤ y.base
   pub inside : y.base ≤ length words
   pub recorded : (at : ℕ) → Contains inputs.recorded at → at < y.base
-  pub weaks : (at : ℕ) → Contains inputs.weaks at → at + 5 ≤ length words
+  pub weaks : (at : ℕ) → Contains inputs.weaks at → at + (HEADER_WORDS + WEAK_FIELDS) ≤ length words
   pub within : (word : ℕ) → IsStart inputs words word → IsWithin y word
   pub can : (at : ℕ) → IsFound y.base words (IsStart inputs words) at → CanFollow y words at
   pub parts : (table : List ℕ) → length table ≡ length y.table.items →

@@ -8,6 +8,7 @@ ghost use Rattle.std.specs.List.{flat_map};
 ghost use Rattle.nmgc_minor.specs.Young.{HasHeader};
 ghost use Rattle.nmgc_minor.specs.Placing.{IsSharedSlot, HasHeaderWord};
 ghost use Rattle.nmgc_minor.specs.Forwarding.{forward_word, ForwardsAt, CopiesFields, CopiesObject, CanCopyAll, CopiesAll};
+ghost use Rattle.nmgc_object.specs.declared.layout.TheConstants.{FIRST_PLACE};
 ghost use Rattle.nmgc_object.specs.declared.words.Header.{Header};
 ghost use Rattle.nmgc_object.specs.declared.size.TheConstants.{HEADER_WORDS as HEADERS};
 
@@ -69,7 +70,7 @@ fn forward_at<W: HeapWords>(table: &[u32], base: u32, words: &mut W, at: usize)
 
 /// Forwards the slots of g.
 pub fn forward_shared<W: HeapWords>(table: &[u32], base: u32, words: &mut W)
-    requires { 32 ≤ length (W.words words.old) }
+    requires { FIRST_PLACE ≤ length (W.words words.old) }
     ensures { ForwardsAt (forward_word table.now base) (W.words words.old) (W.words words.new) IsSharedSlot }
 {
     let first = (SHARED_PLACE + HEADER_WORDS) as usize;

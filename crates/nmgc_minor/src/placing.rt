@@ -11,7 +11,7 @@ ghost use Rattle.nmgc_alloc.specs.Reserve.{KeepsReserve};
 ghost use Rattle.nmgc_alloc.specs.Segments.{IsSegments, IsMutator, IsClass, HasRoom};
 ghost use Rattle.nmgc_minor.specs.Young.{HasHeader};
 ghost use Rattle.nmgc_minor.specs.Placing.{CanPlace, PlacesOne, HasHeaderWord};
-ghost use Rattle.nmgc_object.specs.declared.size.TheConstants.{HEADER_WORDS as HEADERS};
+ghost use Rattle.nmgc_object.specs.declared.size.TheConstants.{HEADER_WORDS as HEADERS, MAX_BLOCK_WORDS};
 
 use nmgc_alloc::Segments;
 use nmgc_graph::{Name, Room};
@@ -30,8 +30,8 @@ pub struct Move {
 pub fn object_words<W: HeapWords>(words: &mut W, from: u32) -> u32
     requires { HasHeader (W.words words.old) from }
     ensures holds { (header : Header) → HasHeaderWord (W.words words.old) from header → result ≡ HEADERS + header.fields }
-    ensures least { 2 ≤ result }
-    ensures most { result ≤ 4096 }
+    ensures least { HEADERS ≤ result }
+    ensures most { result ≤ MAX_BLOCK_WORDS }
     ensures same { W.words words.new ≡ W.words words.old }
 {
     HEADER_WORDS + fields_of(words.load(from as usize))

@@ -2,6 +2,9 @@
 ghost use Rattle.std.specs.Prelude.{ℕ, ◌≡◌, ◌+◌, ◌≤◌, ◌<◌, List, [], length, map, slice_index, Contains};
 ghost use Rattle.std.specs.List.{flat_map};
 ghost use Rattle.nmgc_limits.specs.declared.mutators.TheConstants.{SHARED_SLOTS};
+ghost use Rattle.nmgc_object.specs.declared.layout.TheConstants.{SHARED_PLACE, FIRST_PLACE};
+ghost use Rattle.nmgc_object.specs.declared.size.TheConstants.{HEADER_WORDS};
+ghost use Rattle.nmgc_object.specs.declared.words.TheConstants.{WEAK_FIELDS};
 ghost use Rattle.nmgc_object.specs.declared.words.Address.{Address};
 ghost use Rattle.nmgc_object.specs.FinQueue.{FinQueue as Queue};
 ghost use Rattle.nmgc_minor.specs.Found.{IsStart, IsFound};
@@ -67,7 +70,7 @@ fn note_recorded<W: HeapWords, M: MutatorRoots>(young: &mut Young, words: &mut W
 // Notes a young weak pointer and its parts, if it is alive.
 fn note_weak<W: HeapWords>(young: &mut Young, words: &mut W, at: Address)
     requires young { IsYoung young.old }
-    requires inside { at.0 + 5 ≤ length (W.words words.old) }
+    requires inside { at.0 + (HEADER_WORDS + WEAK_FIELDS) ≤ length (W.words words.old) }
     requires within { (word : ℕ) → IsWeakStart (W.words words.old) at word → IsWithin young.old word }
     ensures notes { Notes young.old young.new (IsWeakStart (W.words words.old) at) }
     ensures same { W.words words.new ≡ W.words words.old }
@@ -82,7 +85,7 @@ fn note_weak<W: HeapWords>(young: &mut Young, words: &mut W, at: Address)
 // Notes the young weak pointers that are alive, and their parts.
 fn note_all_weaks<W: HeapWords>(young: &mut Young, words: &mut W, weaks: &[Address])
     requires young { IsYoung young.old }
-    requires inside { (at : Address) → Contains weaks.now at → at.0 + 5 ≤ length (W.words words.old) }
+    requires inside { (at : Address) → Contains weaks.now at → at.0 + (HEADER_WORDS + WEAK_FIELDS) ≤ length (W.words words.old) }
     requires within { (at : Address) (word : ℕ) → Contains weaks.now at → IsWeakStart (W.words words.old) at word → IsWithin young.old word }
     ensures notes { Notes young.old young.new (λ w. (at : Address) × Contains weaks.now at × IsWeakStart (W.words words.old) at w) }
     ensures same { W.words words.new ≡ W.words words.old }
@@ -95,7 +98,7 @@ fn note_all_weaks<W: HeapWords>(young: &mut Young, words: &mut W, weaks: &[Addre
 // Notes the young weak pointers of the mutators that are alive, and their parts.
 fn note_weaks<W: HeapWords, M: MutatorRoots>(young: &mut Young, words: &mut W, mutators: &[M])
     requires young { IsYoung young.old }
-    requires inside { (at : Address) → Contains (flat_map M.young_weaks mutators.now) at → at.0 + 5 ≤ length (W.words words.old) }
+    requires inside { (at : Address) → Contains (flat_map M.young_weaks mutators.now) at → at.0 + (HEADER_WORDS + WEAK_FIELDS) ≤ length (W.words words.old) }
     requires within { (at : Address) (word : ℕ) → Contains (flat_map M.young_weaks mutators.now) at → IsWeakStart (W.words words.old) at word →
         IsWithin young.old word }
     ensures notes { Notes young.old young.new (λ w. (at : Address) × Contains (flat_map M.young_weaks mutators.now) at ×
@@ -110,9 +113,9 @@ fn note_weaks<W: HeapWords, M: MutatorRoots>(young: &mut Young, words: &mut W, m
 // Notes what the slots of g hold.
 fn note_shared<W: HeapWords>(young: &mut Young, words: &mut W)
     requires young { IsYoung young.old }
-    requires inside { 32 ≤ length (W.words words.old) }
-    requires within { (i : ℕ) → i < SHARED_SLOTS → IsWithin young.old (slice_index (W.words words.old) (3 + i)) }
-    ensures notes { Notes young.old young.new (λ w. (i : ℕ) × (i < SHARED_SLOTS) × (slice_index (W.words words.old) (3 + i) ≡ w)) }
+    requires inside { FIRST_PLACE ≤ length (W.words words.old) }
+    requires within { (i : ℕ) → i < SHARED_SLOTS → IsWithin young.old (slice_index (W.words words.old) (SHARED_PLACE + HEADER_WORDS + i)) }
+    ensures notes { Notes young.old young.new (λ w. (i : ℕ) × (i < SHARED_SLOTS) × (slice_index (W.words words.old) (SHARED_PLACE + HEADER_WORDS + i) ≡ w)) }
     ensures same { W.words words.new ≡ W.words words.old }
 {
     let first = (SHARED_PLACE + HEADER_WORDS) as usize;
@@ -123,9 +126,9 @@ fn note_shared<W: HeapWords>(young: &mut Young, words: &mut W)
 pub fn mark<W: HeapWords, M: MutatorRoots>(young: &mut Young, words: &mut W, mutators: &[M])
     requires young { IsYoung young.old }
     requires empty { young.old.found.items ≡ [] }
-    requires inside { 32 ≤ length (W.words words.old) }
+    requires inside { FIRST_PLACE ≤ length (W.words words.old) }
     requires recorded { (at : Address) → Contains (flat_map M.recorded mutators.now) at → at.0 < length (W.words words.old) }
-    requires weaks { (at : Address) → Contains (flat_map M.young_weaks mutators.now) at → at.0 + 5 ≤ length (W.words words.old) }
+    requires weaks { (at : Address) → Contains (flat_map M.young_weaks mutators.now) at → at.0 + (HEADER_WORDS + WEAK_FIELDS) ≤ length (W.words words.old) }
     requires within { (word : ℕ) → IsStart (inputs_by M.registers M.queue M.recorded M.young_weaks mutators.now) (W.words words.old) word →
         IsWithin young.old word }
     requires can { (at : ℕ) → IsFound young.old.base (W.words words.old)

@@ -4,6 +4,8 @@ use Rattle.std.proofs.Math.Nat.{mul-le-mul_right}
 use Rattle.std.proofs.lemmas.Bool.{cases_eq}
 use Rattle.nmgc_object.specs.Size.{block_size}
 use Rattle.nmgc_object.specs.Places.{InSegment, nursery_place}
+use Rattle.nmgc_object.specs.declared.layout.TheConstants.{FIRST_PLACE}
+use Rattle.nmgc_object.specs.declared.size.TheConstants.{MIN_BLOCK_WORDS}
 use Rattle.nmgc_alloc.specs.Search.{nth}
 use Rattle.nmgc_alloc.specs.Segments.{Segments, IsSegments, block_place}
 use Rattle.nmgc_alloc.specs.laws.Apart.{blocks_lie_apart}
@@ -52,8 +54,8 @@ occupied_apart s p a q b sound o u = elim (cases_eq p q) [
 
 -- a block in use has at least four words, and lies above g and below the nurseries
 pub record IsBlock (base p size : ℕ) : Type 0 where
-  pub four : 4 ≤ size
-  pub above : 32 ≤ p
+  pub four : MIN_BLOCK_WORDS ≤ size
+  pub above : FIRST_PLACE ≤ p
   pub below : p + size ≤ base
 
 pub is_block : (s : Segments) (base p size : ℕ) → IsSegments s → base ≡ nursery_place s.layout 0 → IsOccupied s p size → IsBlock base p size
