@@ -15,6 +15,7 @@ use Rattle.nmgc_round.specs.Seat.{RoundSeat, seen}
 use Rattle.nmgc_round.specs.Seating.{collecting}
 use Rattle.nmgc_round.specs.Finishing.{Leaves}
 use Rattle.nmgc_round.specs.Gate.{passed}
+use Rattle.nmgc_mutator.specs.declared.mutator.TheConstants.{MOST_PUSHED}
 use Rattle.nmgc_mutator.specs.declared.mutator.Mutator.{Mutator}
 use Rattle.nmgc_mutator.specs.declared.mutator.SliceEnd.{SliceEnd}
 use Rattle.nmgc_mutator.specs.declared.mutator.SliceEnd.TheVariants as ending
@@ -32,7 +33,6 @@ use Rattle.nmgc_run.specs.Slice.{program_of, slice_of, some_asks, is_collect, is
 use Rattle.nmgc_run.specs.State.{State, Progress, marking}
 use Rattle.nmgc_cycle.specs.declared.collector.Collector.{Collector}
 use Rattle.nmgc_cycle.specs.declared.round.Lists.{Lists}
-use Rattle.nmgc_cycle.specs.declared.round.TheConstants.{PUSHED_MOST}
 use Rattle.nmgc_cycle.specs.declared.worker.Worker.{Worker}
 use Rattle.nmgc_cycle.specs.Cycles.{HasHelped}
 use Rattle.nmgc_cycle.specs.Keeps.{IsAfterStop}
@@ -121,7 +121,7 @@ pub record HaveRoom (count : ℕ) (lists : Lists) : Type 0 where
 pub record HasLists (count : ℕ) (m : Mutator) : Type 0 where
   pub replies : count ≤ m.replies.spare
   pub recorded : count ≤ m.recorded.spare
-  pub updrem : 8 * count ≤ m.updrem.spare
+  pub updrem : MOST_PUSHED * count ≤ m.updrem.spare
   pub young_weaks : count ≤ m.young_weaks.spare
 
 -- each mutator has room for its next slice
@@ -136,7 +136,7 @@ in_blocks entries = div_ceil entries BLOCK_ENTRIES * BLOCK_ENTRIES
 -- the inbox has room for what each mutator may send in its next slice: for the most that its commands push, in whole blocks
 abbrev pub HasInboxRoom : Script → List ℕ → List Receiver → Type 0
 HasInboxRoom script positions inbox = (k : ℕ) (r : Receiver) → slice_get inbox k ≡ Some r →
-    in_blocks (PUSHED_MOST * min script.config.slice (length (left_at script positions k))) ≤ r.taken.spare
+    in_blocks (MOST_PUSHED * min script.config.slice (length (left_at script positions k))) ≤ r.taken.spare
 
 -- mutators that are the same but for the room of their lists
 pub record AreReserved (old new : List Mutator) : Type 0 where

@@ -42,8 +42,8 @@ use nmgc_beside::laws::{
 };
 use nmgc_graph::{List, MAKERS, NoMemory, Place};
 use nmgc_journal::{Replies, RoundRows};
-use nmgc_mutator::Mutator;
 use nmgc_mutator::laws::a_round_finds_mutators_ready;
+use nmgc_mutator::mutator::{MOST_PUSHED, Mutator};
 use nmgc_round::chosen::Wanted;
 use nmgc_round::{Chosen, CollectorSeat, Finished, Gate, MutatorSeat, Opened, Round, Started};
 use nmgc_script::Script;
@@ -55,9 +55,6 @@ use nmgc_updrem::{BLOCK_ENTRIES, Inbox};
 use std::alloc::Global;
 use std::mem;
 use std::thread::Threads;
-
-// The most entries that a command pushes.
-const PUSHED_MOST: u32 = 8;
 
 // The lists that a round fills, and where the seats that it gives and takes will lie.
 #[derive(Drop)]
@@ -349,7 +346,7 @@ fn reserve_inbox(inbox: &mut Inbox, script: &Script, positions: &[u32]) -> Resul
         let program = script.threads.items()[number].items();
         let left = program.len().saturating_sub(positions[number] as usize);
         let commands = left.min(script.config.slice as usize) as u32;
-        let blocks = (PUSHED_MOST * commands).div_ceil(BLOCK_ENTRIES as u32);
+        let blocks = (MOST_PUSHED * commands).div_ceil(BLOCK_ENTRIES as u32);
         inbox.reserve(number as u8, blocks * BLOCK_ENTRIES as u32)?;
     }
     Ok(())

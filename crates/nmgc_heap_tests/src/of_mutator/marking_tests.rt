@@ -1,5 +1,6 @@
 //! A round while a cycle is marking: a variable holds the only reference to an object as the cycle begins. The
 //! collector reads the variable before the mutator overwrites it, or after.
+ghost use Rattle.nmgc_mutator.specs.declared.mutator.TheConstants.{MOST_PUSHED};
 ghost use Rattle.std.specs.Prelude.{◌≡◌, ◌*◌, ◌<◌, ◌≤◌, true, [], IfOk, IfSome, vec_capacity};
 ghost use Rattle.nmgc_heap.specs.Samples.{small_layout};
 ghost use Rattle.nmgc_object.specs.Places.{word_total};
@@ -73,7 +74,7 @@ pub(super) fn mutator_with(
     sender: UpdSender,
 ) -> Result<Mutator, NoMemory>
     ensures is { IfOk result IsSnapshotMutator }
-    ensures room { IfOk result (λ m. (commands ≤ m.replies.spare) × (commands ≤ m.recorded.spare) × (8 * commands ≤ m.updrem.spare)) }
+    ensures room { IfOk result (λ m. (commands ≤ m.replies.spare) × (commands ≤ m.recorded.spare) × (MOST_PUSHED * commands ≤ m.updrem.spare)) }
 {
     let layout = small();
     let mut mutator = Mutator::new(alloc, 0, layout, sender)?;

@@ -2,7 +2,7 @@ use Rattle.std.proofs.Common.{ℕ, ◌≡◌, ◌*◌, ◌≤◌, ◌∙◌, Lis
 use Rattle.nmgc_graph.specs.declared.command.Command.{Command}
 use Rattle.nmgc_updrem.specs.laws.Polls.{polled_all_none, polled_all_then}
 use Rattle.nmgc_cycle.specs.Working.{in_blocks, left_at}
-use Rattle.nmgc_cycle.specs.declared.round.TheConstants.{PUSHED_MOST}
+use Rattle.nmgc_mutator.specs.declared.mutator.TheConstants.{MOST_PUSHED}
 use Rattle.nmgc_cycle.proofs.InboxRoom.{inbox_more}
 use Rattle.nmgc_cycle.proofs.Lining.{all_reserved}
 use Rattle.nmgc_cycle.proofs.Reserving.{slice_left}
@@ -31,12 +31,12 @@ loop-number-preserved c =
     slice_left script positions n c.min-commands.result program (omega (arith, lt, threads, at)) is (c.min-commands.ensures ∙
     ap (λ (left : ℕ). min left script.config.slice) c.saturating_sub-left.ensures) in
     let blocks = c.div_ceil-blocks.ensures in
-    let enough : in_blocks (PUSHED_MOST * min script.config.slice (length (left_at script positions n))) ≤ c.div_ceil-blocks.result * 64 =
-    subst (λ (most : ℕ). in_blocks (PUSHED_MOST * most) ≤ c.div_ceil-blocks.result * 64) size (omega (arith, blocks)) in
+    let enough : in_blocks (MOST_PUSHED * min script.config.slice (length (left_at script positions n))) ≤ c.div_ceil-blocks.result * 64 =
+    subst (λ (most : ℕ). in_blocks (MOST_PUSHED * most) ≤ c.div_ceil-blocks.result * 64) size (omega (arith, blocks)) in
     let more = all_reserved _ n old new c.in_ok-reserve.ensures.ok in
     record {
       polled = polled_all_then c.args.inbox.now old new before.polled more;
       count = more.count ∙ before.count;
       room = inbox_more (λ (k : ℕ).
-          in_blocks (PUSHED_MOST * min script.config.slice (length (left_at script positions k)))) n _ old new c.in_ok-reserve.ensures.ok enough before.room;
+          in_blocks (MOST_PUSHED * min script.config.slice (length (left_at script positions k)))) n _ old new c.in_ok-reserve.ensures.ok enough before.room;
     }

@@ -2,7 +2,7 @@ use Rattle.std.proofs.Common.{◌≡◌, ℕ, ◌*◌, ◌<◌, ◌≤◌, lengt
 use Rattle.std.specs.Prelude.{slice_get}
 use Rattle.nmgc_updrem.specs.Rings.{Receiver, HavePolled}
 use Rattle.nmgc_cycle.specs.Working.{in_blocks, left_at}
-use Rattle.nmgc_cycle.specs.declared.round.TheConstants.{PUSHED_MOST}
+use Rattle.nmgc_mutator.specs.declared.mutator.TheConstants.{MOST_PUSHED}
 use Rattle.nmgc_cycle.proofs.round.reserve_inbox.Given as goal
 
 abbrev pub invariant-loop-number : goal.invariant-loop-number
@@ -10,5 +10,5 @@ invariant-loop-number l = record {
   polled : HavePolled l.initial.inbox l.inbox;
   count : length l.inbox ≡ length l.initial.inbox;
   room : (k : ℕ) (r : Receiver) → k < l.number → slice_get l.inbox k ≡ Some r →
-      in_blocks (PUSHED_MOST * min l.script.config.slice (length (left_at l.script l.positions k))) ≤ r.taken.spare;
+      in_blocks (MOST_PUSHED * min l.script.config.slice (length (left_at l.script l.positions k))) ≤ r.taken.spare;
 }
