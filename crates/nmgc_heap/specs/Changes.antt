@@ -11,7 +11,7 @@ use Rattle.nmgc_graph.specs.World.{World, node_of}
 use Rattle.nmgc_object.specs.Words.{name_word, IsHeader, IsName}
 use Rattle.nmgc_object.specs.Places.{InNursery}
 use Rattle.nmgc_object.specs.declared.layout.Layout.{Layout}
-use Rattle.nmgc_object.specs.declared.size.TheConstants.{HEADER_WORDS}
+use Rattle.nmgc_object.specs.declared.size.TheConstants.{HEADER_WORDS, NAME_OFFSET}
 use Rattle.nmgc_heap.specs.Shape.{Slot, holds, untold, header_of, size_of, slots_of, fixed_slots, free_slots, MayChange}
 use Rattle.nmgc_heap.specs.Tracked.{IsTracked}
 use Rattle.nmgc_heap.specs.Places.{Place, Fills, HasSlots, LiesWell, IsBetween}
@@ -42,14 +42,14 @@ pub record Remembers (w : World) (earlier later : List World) (K L : Name → No
 -- other words that are the same at every name, in every object that is told, and where they belong to nobody
 pub record AgreeWhereTold (layout : Layout) (earlier : List World) (places : List Place) (w : World) (old new : List ℕ) : Type 0 where
   pub total : length new ≡ length old
-  pub names : (p : Place) → Contains places p → slice_index new (p.at + 1) ≡ slice_index old (p.at + 1)
+  pub names : (p : Place) → Contains places p → slice_index new (p.at + NAME_OFFSET) ≡ slice_index old (p.at + NAME_OFFSET)
   pub objects : (p : Place) (node : Node) (i : ℕ) → Contains places p → IsTold layout earlier w p → node_of w p.name ≡ Some node → p.at ≤ i →
       i < p.at + size_of node → slice_index new i ≡ slice_index old i
   pub between : (at : ℕ) → IsBetween at → slice_index new at ≡ slice_index old at
 
 -- a word that is no name, in no object that is told, and none of those that belong to nobody
 pub record IsUnborn (layout : Layout) (earlier : List World) (places : List Place) (w : World) (i : ℕ) : Type 0 where
-  pub names : (p : Place) → Contains places p → i ≢ p.at + 1
+  pub names : (p : Place) → Contains places p → i ≢ p.at + NAME_OFFSET
   pub objects : (p : Place) (node : Node) → Contains places p → IsTold layout earlier w p → node_of w p.name ≡ Some node → (i < p.at) ⊎
       (p.at + size_of node ≤ i)
   pub owned : IsBetween i → ⊥
@@ -98,7 +98,7 @@ pub record IsBorn (layout : Layout) (earlier : List World) (K L : Name → Node 
   pub valid : IsHeader (header_of made)
   pub lies : LiesWell layout x (size_of made)
   pub apart : IsApart layout earlier places w x.at (size_of made)
-  pub name : slice_index words (x.at + 1) ≡ name_word x.name
+  pub name : slice_index words (x.at + NAME_OFFSET) ≡ name_word x.name
   pub fields : HasSlots (Contains more) words (x.at + HEADER_WORDS) (slots_of made)
 
 -- places go whose names nobody tracks, where nothing that is told for good refers to them

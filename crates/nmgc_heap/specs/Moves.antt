@@ -9,7 +9,7 @@ use Rattle.nmgc_graph.specs.declared.value.Value.TheVariants.{Ref}
 use Rattle.nmgc_graph.specs.declared.node.Node.{Node}
 use Rattle.nmgc_graph.specs.World.{World, node_of}
 use Rattle.nmgc_object.specs.declared.layout.Layout.{Layout}
-use Rattle.nmgc_object.specs.declared.size.TheConstants.{HEADER_WORDS}
+use Rattle.nmgc_object.specs.declared.size.TheConstants.{HEADER_WORDS, NAME_OFFSET}
 use Rattle.nmgc_object.specs.declared.words.TheConstants.{NIL_WORD, ZERO_WORD}
 use Rattle.nmgc_heap.specs.Shape.{holds, header_of, size_of, slots_of}
 use Rattle.nmgc_heap.specs.Tracked.{IsTracked}
@@ -68,8 +68,8 @@ pub record Moves (layout : Layout) (base : ℕ) (later : List World) (places : L
       (q.at ≤ m.to) ⊎ (m.to + size_of node ≤ q.at)
   pub spared : (p : Place) (node : Node) (m : Moved) → Contains places p → p.at < base → IsTracked w later p.name → node_of w p.name ≡ Some node →
       Contains moves m → (m.to ≤ p.at) ⊎ (p.at + size_of node ≤ m.to)
-  pub named : (m : Moved) → Contains moves m → slice_index new (m.to + 1) ≡ slice_index old (m.from + 1)
-  pub still_named : (p : Place) → Contains places p → p.at < base → slice_index new (p.at + 1) ≡ slice_index old (p.at + 1)
+  pub named : (m : Moved) → Contains moves m → slice_index new (m.to + NAME_OFFSET) ≡ slice_index old (m.from + NAME_OFFSET)
+  pub still_named : (p : Place) → Contains places p → p.at < base → slice_index new (p.at + NAME_OFFSET) ≡ slice_index old (p.at + NAME_OFFSET)
   pub copied : (m : Moved) (node : Node) → Contains moves m → IsTracked w later m.name → node_of w m.name ≡ Some node →
       Copies forward old new m.from m.to (header_of node).fields
   pub changed : (p : Place) (node : Node) → Contains places p → p.at < base → IsTracked w later p.name → node_of w p.name ≡ Some node →

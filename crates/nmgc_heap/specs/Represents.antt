@@ -11,7 +11,7 @@ use Rattle.nmgc_graph.specs.World.{World, node_of, IsWorld}
 use Rattle.nmgc_object.specs.Words.{header_word, name_word, IsHeader, IsName}
 use Rattle.nmgc_object.specs.Places.{InNursery, word_total}
 use Rattle.nmgc_object.specs.declared.layout.Layout.{Layout}
-use Rattle.nmgc_object.specs.declared.size.TheConstants.{HEADER_WORDS}
+use Rattle.nmgc_object.specs.declared.size.TheConstants.{HEADER_WORDS, NAME_OFFSET}
 use Rattle.nmgc_heap.specs.Shape.{header_of, size_of, slots_of, fixed_slots, free_slots}
 use Rattle.nmgc_heap.specs.Places.{Place, HasSlots, LiesWell, HasZeros}
 use Rattle.nmgc_heap.specs.Tracked.{IsTracked}
@@ -20,7 +20,7 @@ use Rattle.nmgc_heap.specs.Tracked.{IsTracked}
 pub record IsNamed (layout : Layout) (w : World) (words : List ℕ) (p : Place) : Type 0 where
   pub known : IsSome (node_of w p.name)
   pub valid : IsName p.name
-  pub name : slice_index words (p.at + 1) ≡ name_word p.name
+  pub name : slice_index words (p.at + NAME_OFFSET) ≡ name_word p.name
   pub lies : LiesWell layout p HEADER_WORDS
 
 -- an object of this node stands at the place: it has the node's header, lies where an object of its size may, and no other place is among its words

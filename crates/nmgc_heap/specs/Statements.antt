@@ -12,7 +12,7 @@ use Rattle.nmgc_object.specs.Places.{IsLayout, InNursery, nursery_place}
 use Rattle.nmgc_object.specs.declared.words.Field.{Field}
 use Rattle.nmgc_object.specs.declared.words.Field.TheVariants as field
 use Rattle.nmgc_object.specs.declared.layout.Layout.{Layout}
-use Rattle.nmgc_object.specs.declared.size.TheConstants.{HEADER_WORDS}
+use Rattle.nmgc_object.specs.declared.size.TheConstants.{HEADER_WORDS, NAME_OFFSET}
 use Rattle.nmgc_reach.specs.Limits.{IsSmall}
 use Rattle.nmgc_reach.specs.Wide.{IsWide}
 use Rattle.nmgc_heap.specs.Shape.{Slot, untold, header_of, slots_of}
@@ -66,7 +66,7 @@ OneNode K L = (layout : Layout) (earlier other : List World) (places : List Plac
 abbrev pub OneWording : (K L : Name → Node → Type 0) → Type 0
 OneWording K L = (layout : Layout) (earlier other : List World) (places : List Place) (w : World) (words us : List ℕ) →
     Represents layout earlier K places w words → Represents layout other L places w us → (p : Place) → Contains places p →
-    (slice_index us (p.at + 1) ≡ slice_index words (p.at + 1)) ×
+    (slice_index us (p.at + NAME_OFFSET) ≡ slice_index words (p.at + NAME_OFFSET)) ×
     ((node : Node) → IsTracked w earlier p.name → IsTracked w other p.name → node_of w p.name ≡ Some node →
     (slice_index us p.at ≡ slice_index words p.at) × ((i : ℕ) (slot : Slot) → slice_get (slots_of node) i ≡ Some slot → slot ≢ untold →
     slice_index us (p.at + HEADER_WORDS + i) ≡ slice_index words (p.at + HEADER_WORDS + i)))

@@ -11,15 +11,15 @@ use Rattle.nmgc_graph.specs.declared.node.Node.TheVariants.{Con, Var, Arr, Thunk
 use Rattle.nmgc_object.specs.Words.{header_word, name_word, IsHeader, IsName}
 use Rattle.nmgc_object.specs.declared.words.Header.{Header}
 use Rattle.nmgc_object.specs.declared.words.TheConstants.{MAX_FIELDS, NIL_WORD, SERIAL_UNIT}
-use Rattle.nmgc_object.specs.declared.size.TheConstants.{HEADER_WORDS}
+use Rattle.nmgc_object.specs.declared.size.TheConstants.{HEADER_WORDS, NAME_OFFSET}
 
 -- the name that stands at a place can be read, and the places of an object's fields are numbers of 32 bits
 pub record IsNamedAt (words : List ℕ) (at : ℕ) : Type 0 where
-  pub within : at + 1 < length words
+  pub within : at + NAME_OFFSET < length words
   pub small : at + MAX_FIELDS + HEADER_WORDS < 2 ^ 32
   pub name : Name
   pub valid : IsName name
-  pub word : name_word name ≡ slice_index words (at + 1)
+  pub word : name_word name ≡ slice_index words (at + NAME_OFFSET)
 
 -- the object that begins at a place can be read: it has a header, and its words are there
 pub record IsObjectAt (words : List ℕ) (at : ℕ) : Type 0 where
@@ -31,7 +31,7 @@ pub record IsObjectAt (words : List ℕ) (at : ℕ) : Type 0 where
 
 -- the name that stands at a place
 abbrev pub name_in : List ℕ → ℕ → Name
-name_in words at = record { maker = slice_index words (at + 1) % SERIAL_UNIT; serial = slice_index words (at + 1) / SERIAL_UNIT }
+name_in words at = record { maker = slice_index words (at + NAME_OFFSET) % SERIAL_UNIT; serial = slice_index words (at + NAME_OFFSET) / SERIAL_UNIT }
 
 -- the word is that of a pointer
 abbrev pub is_pointer : ℕ → Bool

@@ -9,7 +9,7 @@ use Rattle.nmgc_object.specs.declared.words.Header.{Header}
 use Rattle.nmgc_object.specs.Places.{nursery_place}
 use Rattle.nmgc_object.specs.declared.layout.Nursery.{Nursery}
 use Rattle.nmgc_object.specs.declared.layout.TheConstants.{SHARED_PLACE}
-use Rattle.nmgc_object.specs.declared.size.TheConstants.{HEADER_WORDS}
+use Rattle.nmgc_object.specs.declared.size.TheConstants.{HEADER_WORDS, NAME_OFFSET}
 use Rattle.nmgc_alloc.specs.Segments.{Segments, Allocates, block_place}
 use Rattle.nmgc_alloc.specs.AllocState.{AllocState, StandsFor, Places}
 use Rattle.nmgc_alloc.specs.Reserve.{KeepsReserve}
@@ -48,7 +48,7 @@ IsOutside moves words i = (m : Moved) (header : Header) → Contains moves m →
 pub record Rewrites (base : ℕ) (recorded : List ℕ) (moves : List Moved) (forward : ℕ → ℕ) (old new : List ℕ) : Type 0 where
   pub total : length new ≡ length old
   pub moved : (m : Moved) (header : Header) → Contains moves m → HasHeaderWord old m.from header →
-      Copies forward old new m.from m.to header.fields × (slice_index new (m.to + 1) ≡ slice_index old (m.from + 1))
+      Copies forward old new m.from m.to header.fields × (slice_index new (m.to + NAME_OFFSET) ≡ slice_index old (m.from + NAME_OFFSET))
   pub others : (i : ℕ) → i < base → IsOutside moves old i → ((slice_index new i ≡ forward (slice_index old i)) ×
       (Contains recorded i ⊎ IsSharedSlot i)) ⊎ ((slice_index new i ≡ slice_index old i) × ((Contains recorded i → ⊥) × (IsSharedSlot i → ⊥)))
 
@@ -59,7 +59,7 @@ pub record CanPlace (layout : Layout) (maker : ℕ) (words : List ℕ) (at : ℕ
   pub name : Name
   pub valid : IsName name
   pub made : name.maker ≡ maker
-  pub named : slice_index words (at + 1) ≡ name_word name
+  pub named : slice_index words (at + NAME_OFFSET) ≡ name_word name
 
 -- the class is that of the object at the place
 abbrev pub IsClassAt : List ℕ → ℕ → ℕ → Type 0
@@ -73,7 +73,7 @@ pub record PlacesOne (old new : Segments) (words : List ℕ) (maker : ℕ) (move
   pub fits : block_size class ≤ old.layout.words
   pub valid : IsName moved.name
   pub made : moved.name.maker ≡ maker
-  pub named : slice_index words (moved.from.0 + 1) ≡ name_word moved.name
+  pub named : slice_index words (moved.from.0 + NAME_OFFSET) ≡ name_word moved.name
 
 -- the moves stand in the order of their old places
 abbrev pub AreRising : List Move → Type 0
@@ -84,7 +84,7 @@ AreRising (m ∷ next ∷ moves) = (m.from.0 < next.from.0) × AreRising (next �
 -- words in which the new blocks have their names
 abbrev pub with_names : List ℕ → List Move → List ℕ
 with_names words [] = words
-with_names words (m ∷ moves) = with_names (slice_set words (m.to.0 + 1) (name_word m.name)) moves
+with_names words (m ∷ moves) = with_names (slice_set words (m.to.0 + NAME_OFFSET) (name_word m.name)) moves
 
 -- the names of the moves are placed one after the other, each for its maker and its class, and the moves tell where
 abbrev pub PlacesEach : Layout → List ℕ → AllocState → List Move → AllocState → Type 0
@@ -122,7 +122,7 @@ pub record PlacesRange (base : ℕ) (words : List ℕ) (s s' : Segments) (t t' :
   pub unmarked : (at : ℕ) → from ≤ at → at < to → (IsMarked base t at → ⊥) → slice_index t' (at - base) ≡ 0
   pub entries : (at : ℕ) → from ≤ at → at < to → IsMarked base t at → (m : Move) × Contains added m × (m.from.0 ≡ at) × (slice_index t' (at - base) ≡ m.to.0)
   pub marked : (m : Move) → Contains added m → (from ≤ m.from.0) × (m.from.0 < to) × IsMarked base t m.from.0
-  pub named : (m : Move) → Contains added m → IsName m.name × (slice_index words (m.from.0 + 1) ≡ name_word m.name)
+  pub named : (m : Move) → Contains added m → IsName m.name × (slice_index words (m.from.0 + NAME_OFFSET) ≡ name_word m.name)
   pub once : (a b : Move) → Contains added a → Contains added b → a.from.0 ≡ b.from.0 → a ≡ b
   pub stands : StandsAfter s s' words added
   pub rising : AreRising added

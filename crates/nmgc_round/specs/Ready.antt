@@ -8,7 +8,7 @@ use Rattle.nmgc_graph.specs.declared.command.Command.TheVariants.{Get, Set}
 use Rattle.nmgc_graph.specs.Command.{Fits, IsMaking, words_made}
 use Rattle.nmgc_object.specs.Words.{header_word, name_word, IsHeader}
 use Rattle.nmgc_object.specs.declared.words.Header.{Header}
-use Rattle.nmgc_object.specs.declared.size.TheConstants.{HEADER_WORDS}
+use Rattle.nmgc_object.specs.declared.size.TheConstants.{HEADER_WORDS, NAME_OFFSET}
 use Rattle.nmgc_graph.specs.Step.{shared_name}
 use Rattle.nmgc_core.specs.declared.event.Entry.{Entry}
 use Rattle.nmgc_core.specs.State.{entry_of}
@@ -90,7 +90,7 @@ pub record CanBear (o : Opening) (p : Part) (at header : ℕ) (c : Command) : Ty
   pub header_is : header ≡ header_word (header_made c)
   pub from : at ≡ top_of o p
   pub to : at + words_made c ≤ limit_of o p.number
-  pub name : Contains p.unborn (record { at = at + 1; word = name_word (next_of o p) })
+  pub name : Contains p.unborn (record { at = at + NAME_OFFSET; word = name_word (next_of o p) })
   pub fields : (i w : ℕ) → slice_get (fields_made (hand_now o p).registers c) i ≡ Some w → Contains p.unborn (record { at = at + HEADER_WORDS + i; word = w })
 
 -- the seat is one mutator's, and its part has this
