@@ -1,4 +1,4 @@
-//! Bytes in and out: sources, sinks and numbers as text.
+//! Bytes in and out: sources, sinks, numbers as text, and texts cut into parts.
 //!
 //! The program reads a script from a `Source` and writes a report to a `Sink`, and knows nothing else of
 //! the world outside. Both are traits whose contracts name the bytes that are left and taken, so that the
@@ -10,11 +10,12 @@
 //! - `memory_source`, `memory_sink`: both over memory, with faults where a caller wants them.
 //! - `standard`: both over any stream of the standard library, and so over the standard streams.
 //! - `transfer`: `read_all` and `write_all`.
-//! - `numbers`: decimal text of numbers, written and read.
+//! - `numbers`: decimal text of numbers, written and read. `cutting`: bytes cut at a separator, as lines and words are.
 //!
 //! It stands on `nmgc_lists` for `NoMemory` alone. The grammar, the report and the program stand on it.
 #![tactic(auto)]
 
+mod cutting;
 pub mod ends;
 pub mod memory_sink;
 pub mod memory_source;
@@ -24,6 +25,7 @@ pub mod source;
 pub mod standard;
 pub mod transfer;
 
+pub use cutting::cut;
 pub use ends::{Failed, ReadEnd, WriteEnd};
 pub use memory_sink::MemorySink;
 pub use memory_source::MemorySource;

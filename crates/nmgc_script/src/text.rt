@@ -4,10 +4,11 @@
 //! spaces in a row make an empty word. `Lines` goes over the lines that are read, and keeps the number
 //! of the next line of the text. Easy to get wrong: a line that is passed over still has a number, and
 //! where the text ends too early the line told is one that isn't there.
-ghost use Rattle.std.specs.Prelude.{◌≡◌, ◌≢◌, ◌+◌, ◌<◌, ◌≤◌, ◌^◌, [], ◌∷◌, ◌++◌, All, length, map, IfSome, IfNone, OnOk};
+ghost use Rattle.std.specs.Prelude.{◌≡◌, ◌+◌, ◌<◌, ◌≤◌, ◌^◌, [], ◌∷◌, length, map, IfSome, IfNone, OnOk};
 ghost use Rattle.nmgc_script.specs.Text.{lines_of, words_of, is_passed, kept_after, end_after, kept_lines, end_of};
 
 use nmgc_graph::NoMemory;
+use nmgc_io::cut;
 
 /// A place in a text: the beginning of a line.
 #[derive(Drop)]
@@ -95,17 +96,4 @@ pub fn cut_words<'a>(words: &mut Vec<&'a [u8]>, line: &'a [u8]) -> Result<(), No
     }
     words.push(rest)?;
     Ok(())
-}
-
-// What comes before the first such byte, and what comes after it.
-fn cut(bytes: &[u8], byte: u8) -> Option<(&[u8], &[u8])>
-    ensures parts { IfSome result (λ parts. bytes.now ≡ parts.0.now ++ byte ∷ parts.1.now) }
-    ensures first { IfSome result (λ parts. All (λ b. b ≢ byte) parts.0.now) }
-    ensures less { IfSome result (λ parts. length parts.1.now < length bytes.now) }
-    ensures none { IfNone result (All (λ b. b ≢ byte) bytes.now) }
-{
-    let Some(at) = bytes.iter().position(|b| *b == byte) else {
-        return None;
-    };
-    Some((&bytes[..at], &bytes[at + 1..]))
 }

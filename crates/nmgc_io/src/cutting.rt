@@ -1,0 +1,70 @@
+//! Bytes cut at their first separator.
+//!
+//! All texts that are read are cut into lines and words by this one call, and each of up to 16 MiB of bytes is looked at
+//! to find where a line ends. So sixteen are looked at together, as long as there are so many, and the rest one by one.
+//!
+//! Easy to get wrong: where the separator isn't found nothing is cut, and it is the caller who knows whether what is left is
+//! a last part.
+ghost use Rattle.std.specs.Prelude.{◌≡◌, ◌≢◌, ℕ, ◌+◌, ◌<◌, ◌≤◌, ◌==◌, not, ◌++◌, ◌∷◌, All, IfSome, IfNone, length, slice_index};
+ghost use Rattle.std.specs.List.{prefix_len};
+ghost use Rattle.std.specs.Simd.Lanes.{chunk};
+
+use std::simd::prelude::*;
+
+// How many bytes are looked at together.
+const LANES: usize = 16;
+
+// How many of the bytes from a place on, of as many as there are lanes, come before the first that is this one.
+#[inline(always)]
+fn run_before(bytes: &[u8], at: usize, byte: u8) -> usize
+    requires { at + LANES ≤ length bytes.now }
+    ensures { result ≡ prefix_len (λ b. not (b == byte)) (chunk at LANES bytes.now) }
+{
+    let found = u8x16::from_slice(&bytes[at..])
+        .simd_eq(u8x16::splat(byte))
+        .to_bitmask();
+    if found == 0 {
+        LANES
+    } else {
+        found.trailing_zeros() as usize
+    }
+}
+
+// The place of the first such byte, or how many bytes there are where there is none.
+#[inline(always)]
+fn first_of(bytes: &[u8], byte: u8) -> usize
+    ensures within { result ≤ length bytes.now }
+    ensures before { (k : ℕ) → k < result → slice_index bytes.now k ≢ byte }
+    ensures found { result < length bytes.now → slice_index bytes.now result ≡ byte }
+{
+    let mut at: usize = 0;
+    while bytes.len() - at >= LANES {
+        let run = run_before(bytes, at, byte);
+        if run < LANES {
+            return at + run;
+        }
+        at += LANES;
+    }
+    for rest in at..bytes.len() {
+        if bytes[rest] == byte {
+            return rest;
+        }
+    }
+    bytes.len()
+}
+
+/// What comes before the first such byte, and what comes after it. `None` comes exactly where there is none. Takes no
+/// memory, and time for the bytes up to the first.
+#[inline]
+pub fn cut(bytes: &[u8], byte: u8) -> Option<(&[u8], &[u8])>
+    ensures parts { IfSome result (λ parts. bytes.now ≡ parts.0.now ++ byte ∷ parts.1.now) }
+    ensures first { IfSome result (λ parts. All (λ b. b ≢ byte) parts.0.now) }
+    ensures less { IfSome result (λ parts. length parts.1.now < length bytes.now) }
+    ensures none { IfNone result (All (λ b. b ≢ byte) bytes.now) }
+{
+    let at = first_of(bytes, byte);
+    if at == bytes.len() {
+        return None;
+    }
+    Some((&bytes[..at], &bytes[at + 1..]))
+}
