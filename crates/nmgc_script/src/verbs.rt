@@ -2,6 +2,8 @@
 //!
 //! This is the one table of names, for reading and for printing. A name is looked up before anything
 //! else of its line is looked at, so an unknown name is told even where the line has too many words.
+//! Which verb a name may be is guessed by its first letters, and only where the guess was wrong all are compared: so
+//! nothing rests on the guess but the time of a long script.
 //! Easy to get wrong: a verb that is missing in `VERBS` could be printed and not be read.
 ghost use Rattle.std.specs.Prelude.{◌≡◌};
 ghost use Rattle.nmgc_script.specs.Reading.{Gives, first_named, verb_at};
@@ -100,10 +102,44 @@ impl Verb {
     }
 }
 
+// The verb that a name is, if it is any: no other verb's name begins with its letters. No clause speaks of the answer.
+fn likely(name: &[u8]) -> Verb {
+    match name {
+        [b'c', b'o', b'n', ..] => Verb::Con,
+        [b'g', ..] => Verb::Get,
+        [b's', b'e', ..] => Verb::Set,
+        [b's', b'h', ..] => Verb::Show,
+        [b's', b't', ..] => Verb::Stack,
+        [b's', ..] => Verb::Same,
+        [b'n', b'u', ..] => Verb::Num,
+        [b'n', b'i', ..] => Verb::Nil,
+        [b'n', ..] => Verb::NextFin,
+        [b'm', ..] => Verb::Mov,
+        [b'v', ..] => Verb::Var,
+        [b'a', ..] => Verb::Arr,
+        [b't', ..] => Verb::Thunk,
+        [b'w', ..] => Verb::Weak,
+        [b'c', b'a', ..] => Verb::Cas,
+        [b'c', ..] => Verb::Collect,
+        [b'u', ..] => Verb::Update,
+        [b'f', b'o', ..] => Verb::Force,
+        [b'f', b'i', ..] => Verb::Finalise,
+        [b'f', ..] => Verb::Full,
+        [b'p', b'u', ..] => Verb::Push,
+        [b'p', ..] => Verb::Pop,
+        [b'd', ..] => Verb::Deref,
+        _ => Verb::Yield,
+    }
+}
+
 /// The verb of a name. Takes no memory.
 pub fn verb_of(name: &[u8]) -> Result<Verb, LineFault>
     ensures { Gives result (verb_at name.now) }
 {
+    let verb = likely(name);
+    if name == verb.name() {
+        return Ok(verb);
+    }
     first_named(name, &VERBS)
 }
 
