@@ -1,5 +1,6 @@
 -- The value of a text of digits, read from its front.
-use Rattle.std.proofs.Common.{rules, ◌≡◌, ◌≤◌, ◌<◌, ◌∙◌, ℕ, zero, suc, ◌+◌, ◌-◌, ◌*◌, ◌^◌, List, [], ◌∷◌, true, arith, decimal, get_or, drop, length, ap, sym, drop-cons}
+use Rattle.std.proofs.Common.{rules, ◌≡◌, ◌≢◌, ◌≤◌, ◌<◌, ◌∙◌, ℕ, zero, suc, ◌+◌, ◌-◌, ◌*◌, ◌^◌, List, [], ◌∷◌, Option, Some, None, true, arith, decimal, get_or, drop, length, ap, sym, refl, drop-cons}
+use Rattle.std.specs.Prelude.{IfSome, IfNone}
 use Rattle.std.specs.Int.{IsInRange}
 use Rattle.std.specs.Str.{all_ascii_digits}
 use Rattle.std.proofs.lemmas.List.{drop_all}
@@ -58,3 +59,25 @@ reads_whole number i word small end value digits begin =
     let is_number : value_after 0 word ≡ number = value ∙ ap (value_after number) none in
     let all : all_ascii_digits word ≡ true = digits ∙ ap all_ascii_digits none in
     sym (decimal-digits_value numerals word all begin.0 begin.1 (omega arith)) ∙ ap decimal is_number
+
+-- a word of one byte
+pub single : (word : List ℕ) → length word ≡ 1 → word ≡ get_or word 0 0 ∷ []
+single [] one = absurd (omega (arith, one))
+single (b ∷ []) one = refl
+single (b ∷ c ∷ rest) one = absurd (omega (arith, one))
+
+-- is the text of the number that is read of it
+pub one_found : (word : List ℕ) (byte limit : ℕ) (read : Option ℕ) → word ≡ byte ∷ [] → IfSome read (λ n. IsInRange 48 57 byte × (n ≡ 10 * 0 + (byte - 48))) →
+    IfSome read (λ n. n ≤ limit) → IfSome read (λ n. (word ≡ decimal n) × (n ≤ limit))
+one_found word byte limit None is digit within = tt
+one_found word byte limit (Some n) is digit within =
+    let small : n < 10 = omega arith in
+    let same : byte ≡ 48 + n = omega arith in
+    (is ∙ ap (λ (b : ℕ). b ∷ []) same ∙ sym (decimal_digit n small), within)
+
+-- and no number's text where none is read
+pub one_none : (word : List ℕ) (limit : ℕ) (read : Option ℕ) → limit < 2 ^ 64 → length word ≡ 1 →
+    IfNone read (IsInRange 48 57 (get_or word 0 0) → limit < 10 * 0 + (get_or word 0 0 - 48)) → IfNone read ((n : ℕ) → n ≤ limit → word ≢ decimal n)
+one_none word limit (Some m) small one none = tt
+one_none word limit None small one none =
+    λ n le e. stops 0 limit n 0 word (omega (arith, small, le)) (omega (arith, one)) refl refl none le e

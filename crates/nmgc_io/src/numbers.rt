@@ -2,7 +2,8 @@
 //!
 //! A number is its decimal digits, without sign or leading zeros, so that it has one text and a text has
 //! one number. Both calls run once for each number of a script or a report of many megabytes: `itoa`
-//! writes two digits at a time, and the reading goes over the digits once, with the value so far.
+//! writes two digits at a time, and the reading goes over the digits once, with the value so far. Most numbers there have
+//! one digit, as registers, mutators and fields do, and need neither a buffer nor a loop.
 //! Easy to get wrong: the value is compared with the limit at each digit, since the text of a number past
 //! 64 bits must not wrap round to a small one.
 ghost use Rattle.std.specs.Prelude.{◌≡◌, ◌≢◌, ℕ, ◌+◌, ◌-◌, ◌*◌, ◌<◌, ◌≤◌, ◌++◌, decimal, IfSome, IfNone, IsTrue, ◌↔◌, OnOk, OnErr, length, slice_index};
@@ -16,6 +17,10 @@ pub fn push_number(out: &mut Vec<u8>, number: u64) -> Result<(), NoMemory>
     ensures ok { OnOk result (out.new.items ≡ out.old.items ++ decimal number) }
     ensures err { OnErr result (out.new.items ≡ out.old.items) }
 {
+    if number < 10 {
+        out.push(b'0' + number as u8)?;
+        return Ok(());
+    }
     out.extend_from_slice(Buffer::new().format(number).as_bytes())?;
     Ok(())
 }
@@ -26,6 +31,9 @@ pub fn read_number(word: &[u8], limit: u64) -> Option<u64>
     ensures found { IfSome result (λ n. (word.now ≡ decimal n) × (n ≤ limit)) }
     ensures none { IfNone result ((n : ℕ) → n ≤ limit → word.now ≢ decimal n) }
 {
+    if word.len() == 1 {
+        return with_digit(0, word[0], limit);
+    }
     if !begins_number(word) {
         return None;
     }
